@@ -1,0 +1,94 @@
+-- The order of stamps is a strict total order, and its tests mean what they say.
+use Rattle.std.proofs.Common.{◌≡◌, ℕ, Bool, true, false, ◌&&◌, ◌||◌, nat_lt, nat_eq, arith}
+use Rattle.std.proofs.lemmas.Bool.Decides.{nat_tests}
+use Rattle.fab_base.specs.declared.stamps.Stamp.{Stamp}
+use Rattle.fab_base.specs.Stamps.{stamp_below, stamp_same, first_stamp}
+
+-- one field before the rest keeps the order transitive
+below_rest : (x y z : ℕ) (p q r : Bool) → (p ≡ true → q ≡ true → r ≡ true)
+    → (nat_lt x y || (nat_eq x y && p)) ≡ true → (nat_lt y z || (nat_eq y z && q)) ≡ true → (nat_lt x z || (nat_eq x z && r)) ≡ true
+below_rest x y z p q r f h k = grind (arith, nat_tests)
+
+-- one field before the rest keeps "not below" transitive
+not_below_rest : (x y z : ℕ) (p q r : Bool) → (p ≡ false → q ≡ false → r ≡ false)
+    → (nat_lt y x || (nat_eq y x && p)) ≡ false → (nat_lt z y || (nat_eq z y && q)) ≡ false → (nat_lt z x || (nat_eq z x && r)) ≡ false
+not_below_rest x y z p q r f h k = grind (arith, nat_tests)
+
+-- one field before the rest keeps the order asymmetric
+asym_rest : (x y : ℕ) (p q : Bool) → (p ≡ true → q ≡ false)
+    → (nat_lt x y || (nat_eq x y && p)) ≡ true → (nat_lt y x || (nat_eq y x && q)) ≡ false
+asym_rest x y p q f h = grind (arith, nat_tests)
+
+-- the order of one field
+lt_trans : (x y z : ℕ) → nat_lt x y ≡ true → nat_lt y z ≡ true → nat_lt x z ≡ true
+lt_trans x y z h k = grind (arith, nat_tests)
+
+not_lt_trans : (x y z : ℕ) → nat_lt y x ≡ false → nat_lt z y ≡ false → nat_lt z x ≡ false
+not_lt_trans x y z h k = grind (arith, nat_tests)
+
+lt_asym : (x y : ℕ) → nat_lt x y ≡ true → nat_lt y x ≡ false
+lt_asym x y h = grind (arith, nat_tests)
+
+-- no stamp is below itself
+pub stamp_below_irrefl : (a : Stamp) → stamp_below a a ≡ false
+unfolding stamp_below
+stamp_below_irrefl a = grind (arith, nat_tests)
+
+-- the order is transitive
+pub stamp_below_trans : (a b c : Stamp) → stamp_below a b ≡ true → stamp_below b c ≡ true → stamp_below a c ≡ true
+unfolding stamp_below
+stamp_below_trans a b c =
+    below_rest a.view.0 b.view.0 c.view.0 _ _ _
+    (below_rest a.time b.time c.time _ _ _
+    (below_rest a.brick.0 b.brick.0 c.brick.0 _ _ _ (lt_trans a.boot b.boot c.boot)))
+
+-- at or above is transitive
+pub stamp_not_below_trans : (a b c : Stamp) → stamp_below b a ≡ false → stamp_below c b ≡ false → stamp_below c a ≡ false
+unfolding stamp_below
+stamp_not_below_trans a b c =
+    not_below_rest a.view.0 b.view.0 c.view.0 _ _ _
+    (not_below_rest a.time b.time c.time _ _ _
+    (not_below_rest a.brick.0 b.brick.0 c.brick.0 _ _ _ (not_lt_trans a.boot b.boot c.boot)))
+
+-- no two stamps are below each other
+pub stamp_below_asym : (a b : Stamp) → stamp_below a b ≡ true → stamp_below b a ≡ false
+unfolding stamp_below
+stamp_below_asym a b =
+    asym_rest a.view.0 b.view.0 _ _
+    (asym_rest a.time b.time _ _
+    (asym_rest a.brick.0 b.brick.0 _ _ (lt_asym a.boot b.boot)))
+
+-- no stamp is below the first one
+pub stamp_below_first : (a : Stamp) → stamp_below a first_stamp ≡ false
+unfolding stamp_below
+stamp_below_first a = grind (arith, nat_tests)
+
+-- a stamp is the same as itself
+pub stamp_same_refl : (a : Stamp) → stamp_same a a ≡ true
+unfolding stamp_same
+stamp_same_refl a = grind (arith, nat_tests)
+
+-- equal fields make equal stamps
+stamp_of_fields : (a b : Stamp) → a.view.0 ≡ b.view.0 → a.time ≡ b.time → a.brick.0 ≡ b.brick.0 → a.boot ≡ b.boot → a ≡ b
+stamp_of_fields a b v t k o = cc
+
+-- stamps that test the same are equal
+pub stamp_same_true : (a b : Stamp) → stamp_same a b ≡ true → a ≡ b
+unfolding stamp_same
+stamp_same_true a b h =
+    stamp_of_fields a b (grind (arith, nat_tests)) (grind (arith, nat_tests)) (grind (arith, nat_tests)) (grind (arith, nat_tests))
+
+-- one field before the rest: where neither side is below, the field is the same, and neither rest is below
+same_field : (x y : ℕ) (p q : Bool) → (nat_lt x y || (nat_eq x y && p)) ≡ false → (nat_lt y x || (nat_eq y x && q)) ≡ false
+    → (x ≡ y) × (p ≡ false) × (q ≡ false)
+same_field x y p q h k = (grind (arith, nat_tests), grind (arith, nat_tests), grind (arith, nat_tests))
+
+-- of two stamps neither of which is below the other, both are the same
+pub stamp_neither_below : (a b : Stamp) → stamp_below a b ≡ false → stamp_below b a ≡ false → a ≡ b
+unfolding stamp_below
+stamp_neither_below a b h k =
+    let views = same_field a.view.0 b.view.0 _ _ h k in
+    let times = same_field a.time b.time _ _ views.1 views.2 in
+    let bricks = same_field a.brick.0 b.brick.0 _ _ times.1 times.2 in
+    let boots : a.boot ≡ b.boot = grind (arith, nat_tests, bricks.1, bricks.2) in
+    stamp_of_fields a b views.0 times.0 bricks.0 boots
