@@ -1,5 +1,5 @@
 -- The order of stamps is a strict total order, and its tests mean what they say.
-use Rattle.std.proofs.Common.{◌≡◌, ℕ, Bool, true, false, ◌&&◌, ◌||◌, nat_lt, nat_eq, arith}
+use Rattle.std.proofs.Common.{◌≡◌, ℕ, Bool, true, false, ◌&&◌, ◌||◌, nat_lt, nat_eq, refl, sym, ◌∙◌, arith}
 use Rattle.std.proofs.lemmas.Bool.Decides.{nat_tests}
 use Rattle.fab_base.specs.declared.stamps.Stamp.{Stamp}
 use Rattle.fab_base.specs.Stamps.{stamp_below, stamp_same, first_stamp}
@@ -68,9 +68,18 @@ pub stamp_same_refl : (a : Stamp) → stamp_same a a ≡ true
 unfolding stamp_same
 stamp_same_refl a = grind (arith, nat_tests)
 
+-- the stamp of these fields
+stamp_of : ℕ → ℕ → ℕ → ℕ → Stamp
+stamp_of v t k o = record { view = record { 0 = v }; time = t; brick = record { 0 = k }; boot = o }
+
+-- a stamp is the stamp of its fields
+stamp_is : (a : Stamp) → a ≡ stamp_of a.view.0 a.time a.brick.0 a.boot
+unfolding stamp_of
+stamp_is a = refl
+
 -- equal fields make equal stamps
-stamp_of_fields : (a b : Stamp) → a.view.0 ≡ b.view.0 → a.time ≡ b.time → a.brick.0 ≡ b.brick.0 → a.boot ≡ b.boot → a ≡ b
-stamp_of_fields a b v t k o = cc
+pub stamp_of_fields : (a b : Stamp) → a.view.0 ≡ b.view.0 → a.time ≡ b.time → a.brick.0 ≡ b.brick.0 → a.boot ≡ b.boot → a ≡ b
+stamp_of_fields a b v t k o = stamp_is a ∙ (let e : stamp_of a.view.0 a.time a.brick.0 a.boot ≡ stamp_of b.view.0 b.time b.brick.0 b.boot = cc in e) ∙ sym (stamp_is b)
 
 -- stamps that test the same are equal
 pub stamp_same_true : (a b : Stamp) → stamp_same a b ≡ true → a ≡ b

@@ -9,10 +9,10 @@ unfoldable pub stamp_below : Stamp → Stamp → Bool
 stamp_below a b =
     nat_lt a.view.0 b.view.0
     || (nat_eq a.view.0 b.view.0
-        && (nat_lt a.time b.time
-            || (nat_eq a.time b.time
-                && (nat_lt a.brick.0 b.brick.0
-                    || (nat_eq a.brick.0 b.brick.0 && nat_lt a.boot b.boot)))))
+    && (nat_lt a.time b.time
+    || (nat_eq a.time b.time
+    && (nat_lt a.brick.0 b.brick.0
+    || (nat_eq a.brick.0 b.brick.0 && nat_lt a.boot b.boot)))))
 
 -- a and b are the same stamp
 unfoldable pub stamp_same : Stamp → Stamp → Bool
