@@ -1,0 +1,101 @@
+//! What a member answers to a coordinator.
+
+ghost use Rattle.std.specs.Prelude.{◌≡◌, IfOk};
+
+use crate::requests::Version;
+use fab_base::{Ballot, Members, NoMem, Stamp, ViewNo};
+use std::alloc::Global;
+
+/// The members of a view, and those of the view before.
+#[derive(Debug, Drop)]
+pub struct Lineage {
+    /// The view's members.
+    pub members: Members,
+    /// The members of the view before.
+    pub prior: Members,
+}
+
+impl Lineage {
+    /// An equal value.
+    pub fn copy(&self) -> Lineage
+        ensures { result ≡ self.now }
+    {
+        Lineage {
+            members: self.members.copy(),
+            prior: self.prior.copy(),
+        }
+    }
+}
+
+/// A list of members that was accepted as a view's successor.
+#[derive(Debug, Drop)]
+pub struct Choice {
+    /// The ballot that it was accepted under.
+    pub ballot: Ballot,
+    /// The members.
+    pub members: Members,
+}
+
+/// A member's reply to a request.
+#[derive(Debug, Drop)]
+pub enum Reply {
+    /// To a Read: the order stamp, and the newest version if there is one.
+    Found {
+        /// The order stamp.
+        order: Stamp,
+        /// The newest version.
+        newest: Option<Version>,
+    },
+    /// To an Order: promised.
+    Ordered,
+    /// To an OrderRead: promised, and the version that was found.
+    OrderedRead {
+        /// The version.
+        found: Option<Version>,
+    },
+    /// To a Write or Modify: the version is held.
+    Stored,
+    /// To a Modify: the newest version here is another than the base.
+    Behind {
+        /// The newest version's stamp.
+        newest: Option<Stamp>,
+    },
+    /// A later stamp was promised or stored here.
+    Later {
+        /// The later stamp.
+        stamp: Stamp,
+    },
+    /// The store has no room for another record.
+    Full {
+        /// How many live records it holds.
+        live: u32,
+    },
+    /// A later view was learnt or accepted here.
+    Moved {
+        /// The later view.
+        view: ViewNo,
+        /// Its members, where it was learnt.
+        lineage: Option<Lineage>,
+    },
+    /// To an OldRead: the version that was found.
+    Old {
+        /// The version.
+        found: Option<Version>,
+    },
+    /// To an OldRead: the old view's versions were dropped.
+    Retired,
+    /// To a Prepare: promised, and what was accepted before.
+    Promise {
+        /// What was accepted.
+        accepted: Option<Choice>,
+    },
+    /// To an Accept: accepted.
+    Accepted,
+    /// To a Prepare or Accept: a greater ballot was promised.
+    Outbid {
+        /// The greater ballot.
+        ballot: Ballot,
+    },
+    /// To a Prepare or Accept: the view's stripes are not all there yet.
+    NotSynced,
+}

@@ -1,0 +1,11 @@
+//! What it means that a stripe's blocks are plain registers: the marks that a run of the disk prints, the happenings that are
+//! claimed for them, and a check of the one against the other.
+//!
+//! Nothing here knows of stamps, quorums, messages or stored blocks. The notion is strict linearizability (Aguilera and
+//! Frølund, "Strict Linearizability and the Power of Aborting", 2003): an operation that was aborted, or whose coordinator
+//! crashed, has happened by then or never happens.
+#![tactic(auto)]
+
+pub mod marks;
+
+pub use marks::{Happening, Mark};

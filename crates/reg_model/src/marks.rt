@@ -1,0 +1,46 @@
+//! Marks and happenings.
+
+use fab_base::{Answer, Ask, BrickId};
+
+/// One thing that was seen from outside: an operation begins, an operation is answered, or a brick stops.
+///
+/// A mark carries its position, its place in the list of all marks of a run, from 0.
+#[derive(Debug, Drop)]
+pub enum Mark {
+    /// An operation begins at a brick, its coordinator.
+    Begin {
+        /// The mark's position.
+        position: u64,
+        /// The operation's number: operations are numbered 1, 2, .. by their Begins.
+        operation: u64,
+        /// The coordinator.
+        brick: BrickId,
+        /// What is asked, and of which stripe.
+        ask: Ask,
+    },
+    /// An operation is answered.
+    End {
+        /// The mark's position.
+        position: u64,
+        /// The operation's number.
+        operation: u64,
+        /// The answer.
+        answer: Answer,
+    },
+    /// A brick stops. The operations that it had open are interrupted.
+    Crash {
+        /// The mark's position.
+        position: u64,
+        /// The brick.
+        brick: BrickId,
+    },
+}
+
+/// That an operation happened, and where in the list of all marks: just after the mark of that position.
+#[derive(Clone, Copy, Debug, PartialEq, Eq)]
+pub struct Happening {
+    /// The operation's number.
+    pub operation: u64,
+    /// The position.
+    pub position: u64,
+}
