@@ -1,10 +1,10 @@
 -- What several reads or writes do to the bytes that the ends of a stream tell.
-use Rattle.std.proofs.Common.{◌≡◌, ℕ, ◌+◌, ◌≤◌, List, [], ◌++◌, Some, None, Option, sym, ap, ◌∙◌, subst, length, take, arith, append_assoc, append-nil, length-append, length-take-le, IfSome, Result, Ok, Err}
+use Rattle.std.proofs.Common.{◌≡◌, ℕ, ◌+◌, ◌≤◌, List, [], ◌++◌, Some, None, Option, sym, ap, ◌∙◌, subst, length, take, arith, append_assoc, append-nil, length-append, length-take-le, IfSome}
 use Rattle.std.proofs.lemmas.List.{take-append-le}
 use Rattle.std.proofs.Math.Seq.{take-length, take-append-add}
 use Rattle.std.specs.Io.KnownBytes.{Appends, Consumes, Keeps, IsAtEnd, prepend_known}
-use Rattle.std.proofs.KnownBytes.{Appends-trans, Appends-kept}
-use Rattle.fab_io.specs.Ends.{AppendsFront, WriteTakes}
+use Rattle.std.proofs.KnownBytes.{Appends-trans}
+use Rattle.fab_io.specs.Ends.{AppendsFront}
 
 -- all of the bytes are some of them
 pub AppendsFront-all : (a b : Option (List ℕ)) (bs : List ℕ) → Appends a b bs → AppendsFront a b bs
@@ -59,8 +59,3 @@ pub none_given_at_end : (new : Option (List ℕ)) (buffer : List ℕ) (n : ℕ) 
 none_given_at_end None buffer n within p = absurd p
 none_given_at_end (Some y) buffer n within p =
     omega (arith, ap length p, length-append (take n buffer) y, length-take-le n buffer within)
-
--- all was written, and then flushed
-pub WriteTakes-flushed : {T E : Type 0} (a b c : Option (List ℕ)) (r : Result T E) (bs : List ℕ) → Appends a b bs → Keeps b c → WriteTakes a c r bs
-WriteTakes-flushed a b c (Ok _) bs p q = Appends-kept a b c bs p q
-WriteTakes-flushed a b c (Err _) bs p q = AppendsFront-all a c bs (Appends-kept a b c bs p q)

@@ -1,3 +1,4 @@
-mod Copies
 pub mod Content
+mod Copies
 pub mod Keeping
+mod Pieces

@@ -1,3 +1,4 @@
-pub mod Ends
 pub mod Calls
+pub mod Ends
 pub mod Memory
+pub mod Standard

@@ -9,7 +9,9 @@ mod calls;
 mod ends;
 mod fault;
 mod memory;
+mod standard;
 
 pub use ends::{Sink, Source};
 pub use fault::IoFault;
 pub use memory::{MemSink, MemSource};
+pub use standard::{StdSink, StdSource};
