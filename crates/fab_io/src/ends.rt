@@ -47,8 +47,8 @@ pub trait Sink {
     // No call fails from here on.
     ghost sound: { Self → Type 0 };
 
-    /// Takes all the bytes, behind those that it took before. A sink that takes no more of a piece that is not used up
-    /// has failed.
+    /// Takes all the bytes, behind those that it took before. A sink that takes nothing more before the end of the
+    /// piece has failed.
     ///
     /// `Failed` comes only where the count of faults rose in this call, and then some of the bytes were taken, from
     /// their front: none, a part or all. `NoMemory` leaves what was taken as it was.

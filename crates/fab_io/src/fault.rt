@@ -17,6 +17,11 @@ pub enum IoFault {
 }
 
 impl fmt::Display for IoFault {
+    ghost use Rattle.std.specs.Prelude.{Some};
+    ghost use Rattle.fab_io.specs.Fault.{text_of};
+
+    ghost output = { λ fault. Some (text_of fault) };
+
     fn fmt<W: fmt::Write>(&self, f: &mut fmt::Formatter<W>) -> fmt::Result {
         match self {
             IoFault::Failed => write!(f, "input or output failed"),
