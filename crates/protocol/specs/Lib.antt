@@ -1,0 +1,5 @@
+pub mod Settings
+pub mod Replicas
+pub mod Coordinators
+pub mod Nodes
+pub mod Worlds
