@@ -1,5 +1,5 @@
 -- What a coordinator does with the replies to a phase (Frølund 2004, write-stripe and the fast path of read-stripe).
-use Rattle.std.specs.Prelude.{◌≡◌, ℕ, ◌+◌, ◌-◌, ◌^◌, Bool, true, false, not, nat_eq, nat_lt, ◌&&◌, ◌||◌, if◌then◌else◌, List, [], ◌∷◌, ◌++◌, length, Option, Some, None, is_some}
+use Rattle.std.specs.Prelude.{ℕ, ◌+◌, ◌-◌, ◌^◌, Bool, true, false, not, nat_eq, nat_lt, ◌&&◌, ◌||◌, if◌then◌else◌, List, [], ◌∷◌, ◌++◌, length, Option, Some, None}
 use Rattle.fab_base.specs.declared.identities.BrickId.{BrickId}
 use Rattle.fab_base.specs.declared.stamps.Stamp.{Stamp}
 use Rattle.fab_base.specs.declared.asks.Ask.{Ask}
@@ -10,14 +10,12 @@ use Rattle.fab_base.specs.declared.answers.Answer.TheVariants.{Data, Done, Abort
 use Rattle.fab_base.specs.declared.answers.Cause.TheVariants as Cause
 use Rattle.fab_base.specs.Stamps.{stamp_below, stamp_same}
 use Rattle.fab_wire.specs.declared.calls.Call.{Call}
-use Rattle.fab_wire.specs.declared.requests.Version.{Version}
-use Rattle.fab_wire.specs.declared.requests.Want.{Want}
-use Rattle.fab_wire.specs.declared.requests.Want.TheVariants.{Seat, All}
+use Rattle.fab_wire.specs.declared.requests.Want.TheVariants.{All}
 use Rattle.fab_wire.specs.declared.requests.Request.{Request}
-use Rattle.fab_wire.specs.declared.requests.Request.TheVariants.{Read, Order, OrderRead, Write, Modify, Collect, OldRead, Prepare, Accept}
+use Rattle.fab_wire.specs.declared.requests.Request.TheVariants.{Read, Order, Write}
 use Rattle.fab_wire.specs.declared.replies.Reply.{Reply}
-use Rattle.fab_wire.specs.declared.replies.Reply.TheVariants.{Found, Ordered, OrderedRead, Stored, Behind, Later, Full, Moved, Old, Retired, Promise, Accepted, Outbid, NotSynced}
-use Rattle.protocol.specs.Settings.{Setting, Layout, Group, Code, Piece, quorum_of, seat_in}
+use Rattle.fab_wire.specs.declared.replies.Reply.TheVariants.{Found, Ordered, Stored, Later}
+use Rattle.protocol.specs.Settings.{Group, Code, Piece, quorum_of, seat_in}
 
 -- A read looks. A write orders, and then stores. A read that is not fast stalls: it stays open, and counts no more replies.
 pub data Phase : Type 0 where

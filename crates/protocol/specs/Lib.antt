@@ -3,3 +3,5 @@ pub mod Replicas
 pub mod Coordinators
 pub mod Nodes
 pub mod Worlds
+pub mod Happenings
+pub mod Laws

@@ -1,5 +1,5 @@
 -- One brick: the members' parts of stripes that it keeps, and the operations that it coordinates.
-use Rattle.std.specs.Prelude.{◌≡◌, ℕ, ◌+◌, ◌-◌, ◌*◌, ◌^◌, Bool, true, false, not, nat_eq, nat_lt, ◌&&◌, ◌||◌, if◌then◌else◌, List, [], ◌∷◌, ◌++◌, length, Option, Some, None, max}
+use Rattle.std.specs.Prelude.{ℕ, ◌+◌, ◌-◌, ◌*◌, ◌^◌, Bool, true, false, not, nat_eq, nat_lt, ◌||◌, if◌then◌else◌, List, [], ◌∷◌, length, Option, Some, None, max}
 use Rattle.fab_base.specs.declared.identities.BrickId.{BrickId}
 use Rattle.fab_base.specs.declared.stamps.Stamp.{Stamp}
 use Rattle.fab_base.specs.declared.asks.Ask.{Ask}
@@ -7,18 +7,14 @@ use Rattle.fab_base.specs.declared.asks.Op.{Op}
 use Rattle.fab_base.specs.declared.asks.Op.TheVariants.{ReadBlock, WriteBlock, ReadStripe, WriteStripe}
 use Rattle.fab_base.specs.declared.answers.Answer.{Answer}
 use Rattle.fab_base.specs.declared.answers.Refusal.{Refusal}
-use Rattle.fab_base.specs.declared.answers.Refusal.TheVariants as Refusal
 use Rattle.fab_wire.specs.declared.calls.Call.{Call}
 use Rattle.fab_wire.specs.declared.messages.Message.{Message}
-use Rattle.fab_wire.specs.declared.messages.Message.TheVariants as Message
 use Rattle.fab_wire.specs.declared.messages.Packet.{Packet}
 use Rattle.fab_wire.specs.declared.requests.Request.{Request}
-use Rattle.fab_wire.specs.declared.requests.Request.TheVariants as Request
 use Rattle.fab_wire.specs.declared.replies.Reply.{Reply}
-use Rattle.fab_wire.specs.declared.replies.Reply.TheVariants as Reply
 use Rattle.protocol.specs.Settings.{Setting, Layout, Group, group_of, seat_in}
 use Rattle.protocol.specs.Replicas.{Replica, Reaction, first_replica, handle}
-use Rattle.protocol.specs.Coordinators.{Phase, Looks, Orders, Stores, Stalls, Coordinator, Next, Ignores, Waits, Sends, Ends, request_of, on_reply}
+use Rattle.protocol.specs.Coordinators.{Phase, Looks, Orders, Coordinator, Next, Ignores, Waits, Sends, Ends, request_of, on_reply}
 
 -- a function with one value changed
 abbrev pub put : {A : Type 0} → (ℕ → A) → ℕ → A → ℕ → A
@@ -137,7 +133,11 @@ new_coordinator me now node ask =
 abbrev pub opened : Node → Coordinator → Node
 opened node c =
     record {
-      boot = node.boot; seq = c.call.seq; known = c.stamp.time; busy = node.busy + 1; replicas = node.replicas;
+      boot = node.boot;
+      seq = c.call.seq;
+      known = c.stamp.time;
+      busy = node.busy + 1;
+      replicas = node.replicas;
       calls = put node.calls c.call.seq (Some c);
     }
 
@@ -160,7 +160,10 @@ replica_at node call = node.replicas call.group.0 call.stripe.0
 abbrev pub with_replica : Node → Call → Replica → Node
 with_replica node call replica =
     record {
-      boot = node.boot; seq = node.seq; known = node.known; busy = node.busy;
+      boot = node.boot;
+      seq = node.seq;
+      known = node.known;
+      busy = node.busy;
       replicas = put node.replicas call.group.0 (put (node.replicas call.group.0) call.stripe.0 replica);
       calls = node.calls;
     }

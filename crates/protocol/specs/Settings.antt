@@ -1,8 +1,9 @@
 -- What does not change while a disk runs: its bricks and groups, and the code that keeps a stripe.
-use Rattle.std.specs.Prelude.{◌≡◌, ℕ, ◌+◌, ◌*◌, ◌<◌, ◌≤◌, nat_eq, if◌then◌else◌, List, [], ◌∷◌, length, Option, Some, None, map, slice_get}
+use Rattle.std.specs.Prelude.{◌≡◌, ℕ, ◌+◌, ◌*◌, ◌<◌, ◌≤◌, nat_eq, if◌then◌else◌, List, [], ◌∷◌, length, Option, Some, None, map, slice_get, replicate}
 use Rattle.std.specs.Option.{option_map}
 use Rattle.std.specs.List.{IsDistinct}
 use Rattle.fab_base.specs.declared.identities.BrickId.{BrickId}
+use Rattle.reg_model.specs.Registers.{zero_registers}
 use Rattle.quorum.specs.Quorums.{q_of, IsWithinLimits}
 
 -- a group: the members of its view 1, by seat; the data blocks of a stripe; and how many stripes
@@ -57,8 +58,11 @@ abbrev pub seat_in : List BrickId → ℕ → Option ℕ
 seat_in [] brick = None
 seat_in (member ∷ members) brick = if nat_eq member.0 brick then Some 0 else option_map (λ seat. seat + 1) (seat_in members brick)
 
--- each group is within the limits of a quorum, and its code gives back what it encodes
+-- Each group is within the limits of a quorum, its members are distinct bricks, its code gives back what it encodes, and the zero content has zero blocks.
 pub record IsSound (setting : Setting) : Type 0 where
   pub limits : (g : ℕ) (group : Group) → group_of setting.layout g ≡ Some group → IsWithinLimits group.m (length group.members)
+  pub distinct : (g : ℕ) (group : Group) → group_of setting.layout g ≡ Some group → IsDistinct nat_eq (map (λ member. member.0) group.members)
   pub decodes : (g : ℕ) (group : Group) → group_of setting.layout g ≡ Some group
       → AnyBlocksDecode setting.code setting.layout.block group.m (length group.members)
+  pub zero_blocks : (g : ℕ) (group : Group) (seat : ℕ) → group_of setting.layout g ≡ Some group
+      → setting.code.encode group.m (zero_registers group.m setting.layout.block) seat ≡ replicate setting.layout.block 0
