@@ -15,20 +15,10 @@ use Rattle.fab_wire.specs.declared.requests.Request.{Request}
 use Rattle.fab_wire.specs.declared.requests.Request.TheVariants.{Read, Order, Write}
 use Rattle.fab_wire.specs.declared.replies.Reply.{Reply}
 use Rattle.fab_wire.specs.declared.replies.Reply.TheVariants.{Found, Ordered, Stored, Later}
+pub use Rattle.protocol.specs.declared.phases.Phase.{Phase}
+pub use Rattle.protocol.specs.declared.phases.Phase.TheVariants.{Looks, Orders, Stores, Stalls}
+pub use Rattle.protocol.specs.declared.phases.Counted.{Counted}
 use Rattle.protocol.specs.Settings.{Group, Code, Piece, quorum_of, seat_in}
-
--- A read looks. A write orders, and then stores. A read that is not fast stalls: it stays open, and counts no more replies.
-pub data Phase : Type 0 where
-  Looks : Phase
-  Orders : Phase
-  Stores : Phase
-  Stalls : Phase
-
--- a reply that counts in the present phase, by the seat of the member that sent it
-pub record Counted : Type 0 where
-  pub seat : ℕ
-  pub brick : BrickId
-  pub reply : Reply
 
 -- an open operation at its coordinator: what is asked, its stamp, the call of its present phase, and the replies that count in it
 pub record Coordinator : Type 0 where

@@ -12,6 +12,8 @@ use Rattle.fab_wire.specs.declared.messages.Message.{Message}
 use Rattle.fab_wire.specs.declared.messages.Packet.{Packet}
 use Rattle.fab_wire.specs.declared.requests.Request.{Request}
 use Rattle.fab_wire.specs.declared.replies.Reply.{Reply}
+pub use Rattle.protocol.specs.declared.tellings.Told.{Told}
+pub use Rattle.protocol.specs.declared.tellings.Told.TheVariants.{Nothing, Made, Answers}
 use Rattle.protocol.specs.Settings.{Setting, Layout, Group, group_of, seat_in}
 use Rattle.protocol.specs.Replicas.{Replica, Reaction, first_replica, handle}
 use Rattle.protocol.specs.Coordinators.{Phase, Looks, Orders, Coordinator, Next, Ignores, Waits, Sends, Ends, request_of, on_reply}
@@ -34,13 +36,7 @@ pub record Node : Type 0 where
 abbrev pub first_node : ℕ → Node
 first_node block = record { boot = 1; seq = 0; known = 0; busy = 0; replicas = λ g s. first_replica block; calls = λ k. None }
 
--- What a step tells outside: packets in the order of sending; the operation that it answers, by call number; the version that the
--- operation of a call number made, or saw by a fast read.
-pub data Told : Type 0 where
-  Nothing : Told
-  Made : (seq : ℕ) → (stamp : Stamp) → Told
-  Answers : (seq : ℕ) → (answer : Answer) → (seen : Option Stamp) → Told
-
+-- what a step leaves, the packets that it sends, in order, and what it tells of an operation
 pub record NodeStep : Type 0 where
   pub node : Node
   pub packets : List Packet
