@@ -1,41 +1,46 @@
 //! Groups and layouts.
 
-ghost use Rattle.std.specs.Prelude.{◌≡◌, option_copied};
-ghost use Rattle.protocol.specs.Settings.{group_of};
+ghost use Rattle.std.specs.Prelude.{◌≡◌, ◌↔◌, IsSome, IfSome, length, option_copied};
+ghost use Rattle.quorum.specs.Quorums.{IsWithinLimits};
+ghost use Rattle.protocol.specs.Settings.{group_of, quorum_of};
 
 use fab_base::{GroupId, Members};
+use quorum::Policy;
 use std::marker::Model;
 
-/// A group: stripes that are kept by the same members.
+/// A group: stripes that are kept by the same members, within the limits of a quorum.
 #[derive(Debug, Drop)]
 pub struct Group {
     members: Members,
-    m: u8,
+    policy: Policy,
     stripes: u32,
 }
 
 impl Model for Group {
+    ghost use Rattle.std.specs.Prelude.{◌≡◌, length};
     ghost use Rattle.protocol.specs.Settings.{Group};
 
     ghost Value = { Group };
 
-    ghost view = { λ group. record { members = group.members; m = group.m; stripes = group.stripes } };
+    ghost view = { λ group. record { members = group.members; m = group.policy.m; stripes = group.stripes } };
+
+    ghost invariant = { λ group. group.policy.n ≡ length group.members };
 }
 
 impl Group {
-    ghost use Rattle.std.specs.Prelude.{◌≡◌};
-
-    /// A group of these members, by seat, whose stripes have m data blocks.
-    pub fn new(members: Members, m: u8, stripes: u32) -> Group
-        ensures members { result.members ≡ members }
-        ensures m { result.m ≡ m }
-        ensures stripes { result.stripes ≡ stripes }
+    /// A group of these members, by seat, whose stripes have m data blocks. None exactly outside the limits
+    /// 1 <= m <= 16, m <= n <= 32 for n members.
+    pub fn new(members: Members, m: u8, stripes: u32) -> Option<Group>
+        ensures limits { IsSome result ↔ IsWithinLimits m (length members) }
+        ensures value { IfSome result (λ group. group ≡ record { members = members; m = m; stripes = stripes }) }
     {
-        Group {
+        let seats = members.as_slice().len() as u8;
+        let policy = Policy::new(m, seats)?;
+        Some(Group {
             members,
-            m,
+            policy,
             stripes,
-        }
+        })
     }
 
     /// The members, by seat.
@@ -49,7 +54,14 @@ impl Group {
     pub fn m(&self) -> u8
         ensures { result ≡ self.now.m }
     {
-        self.m
+        self.policy.m()
+    }
+
+    /// How many members make a quorum.
+    pub fn quorum(&self) -> u8
+        ensures { result ≡ quorum_of self.now }
+    {
+        self.policy.q()
     }
 
     /// How many stripes there are.

@@ -54,11 +54,10 @@ impl Layout {
         if text != THREE_COPIES {
             return Err(LayoutFault::Form);
         }
-        let Some(members) = Members::new(&[BrickId(0), BrickId(1), BrickId(2)]) else {
-            return Err(LayoutFault::NoMemory);
-        };
+        let members = Members::new(&[BrickId(0), BrickId(1), BrickId(2)]).unwrap();
+        let group = Group::new(members, 1, 4).unwrap();
         let mut groups = Vec::new(alloc);
-        groups.push(Group::new(members, 1, 4))?;
+        groups.push(group)?;
         Ok(Layout::new(1, 3, groups))
     }
 }

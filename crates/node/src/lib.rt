@@ -1,13 +1,6 @@
-// A library with one function.
+//! One brick: its parts of stripes, and the operations that it coordinates. Each step computes exactly what the protocol's
+//! machine says, from the brick's own state and the message alone.
 #![tactic(auto)]
 
-ghost use Rattle.std.specs.Prelude.{◌≡◌};
-ghost use Rattle.node.specs.Echo.{echo_of};
+pub mod replicas;
 
-// The `ensures` clause is the contract: what `echo` returns is `echo_of` of its argument, a definition
-// in `specs/Echo.antt`, which a caller's clause can cite too.
-pub fn echo(x: usize) -> usize
-    ensures { result ≡ echo_of x }
-{
-    x
-}

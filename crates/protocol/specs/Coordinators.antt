@@ -18,6 +18,7 @@ use Rattle.fab_wire.specs.declared.replies.Reply.TheVariants.{Found, Ordered, St
 pub use Rattle.protocol.specs.declared.phases.Phase.{Phase}
 pub use Rattle.protocol.specs.declared.phases.Phase.TheVariants.{Looks, Orders, Stores, Stalls}
 pub use Rattle.protocol.specs.declared.phases.Counted.{Counted}
+pub use Rattle.protocol.specs.declared.phases.Refuser.{Refuser}
 use Rattle.protocol.specs.Settings.{Group, Code, Piece, quorum_of, seat_in}
 
 -- an open operation at its coordinator: what is asked, its stamp, the call of its present phase, and the replies that count in it
@@ -96,12 +97,7 @@ abbrev pub pieces_of : List Counted → List Piece
 pieces_of [] = []
 pieces_of (c ∷ counted) = record { seat = c.seat; bytes = found_bytes c.reply } ∷ pieces_of counted
 
--- a member that told a later stamp
-pub record Refuser : Type 0 where
-  pub seat : ℕ
-  pub brick : BrickId
-  pub stamp : Stamp
-
+-- the member that told a later stamp, if this one did
 abbrev pub refuser_of : Counted → Option Refuser
 refuser_of c = refuser_with c.reply
   where

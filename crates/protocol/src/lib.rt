@@ -5,5 +5,5 @@
 pub mod phases;
 pub mod tellings;
 
-pub use phases::{Counted, Phase};
+pub use phases::{Counted, Phase, Refuser};
 pub use tellings::Told;

@@ -1,6 +1,6 @@
 //! The phases of an operation at its coordinator, and the replies that count in them.
 
-use fab_base::BrickId;
+use fab_base::{BrickId, Stamp};
 use fab_wire::Reply;
 
 /// The phase that an operation is in (Frølund 2004: a read looks; a write orders, and then stores).
@@ -25,4 +25,15 @@ pub struct Counted {
     pub brick: BrickId,
     /// What it said.
     pub reply: Reply,
+}
+
+/// A member that told a later stamp.
+#[derive(Clone, Copy, Debug, PartialEq, Eq)]
+pub struct Refuser {
+    /// The member's seat.
+    pub seat: u8,
+    /// The member.
+    pub brick: BrickId,
+    /// The later stamp.
+    pub stamp: Stamp,
 }

@@ -1,0 +1,12 @@
+-- The code of a stripe of one data block: each seat keeps a copy of it.
+use Rattle.std.specs.Prelude.{ℕ, List, [], ◌∷◌}
+use Rattle.protocol.specs.Settings.{Piece, Code}
+
+-- the bytes of the first piece
+abbrev pub first_bytes : List Piece → List ℕ
+first_bytes [] = []
+first_bytes (piece ∷ pieces) = piece.bytes
+
+-- every seat's block is the content, and any block gives it back
+abbrev pub copies : Code
+copies = record { encode = λ m content seat. content; decode = λ m pieces. first_bytes pieces }
