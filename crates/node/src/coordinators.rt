@@ -1,12 +1,12 @@
 //! An open operation at its coordinator (Frølund 2004, write-stripe and the fast path of read-stripe).
 
 ghost use Rattle.std.specs.Prelude.{◌≡◌, ◌+◌, ◌<◌, ◌≤◌, ◌^◌, [], length, IfOk, IfSome, IsTrue, Some, None, option_copied};
-ghost use Rattle.protocol.specs.Settings.{seat_in, quorum_of};
-ghost use Rattle.protocol.specs.Coordinators.{call_same, answers_phase, has_seat, counts_at, tells, all_tell, fast_version, pieces_of, refuser_of, greater_refuser, greatest_refuser, written_content, request_of, decided, on_reply, first_coordinator};
+ghost use Rattle.protocol.specs.Settings.{seat_in};
+ghost use Rattle.protocol.specs.Coordinators.{call_same, answers_phase, has_seat, counts_at, tells, all_tell, fast_version, pieces_of, refuser_of, greater_refuser, greatest_refuser, written_content, request_of, decided, on_reply};
 ghost use Rattle.protocol.specs.Nodes.{to_members};
 ghost use Rattle.node.specs.Copies.{copies};
 
-use fab_base::{Answer, Ask, BrickId, Bytes, Cause, NoMem, Op, Stamp, ViewNo};
+use fab_base::{Answer, Ask, BrickId, Bytes, Cause, GroupId, NoMem, Op, Stamp};
 use fab_wire::{Call, Message, Packet, Reply, Request, Want};
 use layout::Group;
 use protocol::{Counted, Phase, Refuser};
@@ -52,7 +52,7 @@ pub enum Next {
 }
 
 /// The seat of a brick among the members, the first if there are several.
-fn seat_of(members: &[BrickId], brick: BrickId) -> Option<u8>
+pub fn seat_of(members: &[BrickId], brick: BrickId) -> Option<u8>
     requires { length members.now ≤ 32 }
     ensures { result ≡ seat_in members.now brick.0 }
 {

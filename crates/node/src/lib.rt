@@ -2,5 +2,9 @@
 //! machine says, from the brick's own state and the message alone.
 #![tactic(auto)]
 
+pub mod coordinators;
+pub mod nodes;
 pub mod replicas;
 
+pub use coordinators::StripeOp;
+pub use nodes::{Begun, Node, Outs};
