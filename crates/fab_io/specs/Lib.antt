@@ -1,0 +1,5 @@
+pub mod Calls
+pub mod Ends
+pub mod Fault
+pub mod Memory
+pub mod Standard
