@@ -1,0 +1,5 @@
+pub mod Numbers
+pub mod HexTokens
+pub mod Arguments
+pub mod FirstWords
+pub mod LineLengths
