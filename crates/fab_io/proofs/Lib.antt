@@ -1,0 +1,4 @@
+pub mod Content
+mod Copies
+pub mod Keeping
+mod Pieces

@@ -1,0 +1,136 @@
+// Adapters over the readers and writers of std, as standard input and output.
+ghost use Rattle.std.specs.Prelude.{◌≡◌};
+ghost use Rattle.std.specs.Io.{ReadsAtMost};
+ghost use Rattle.std.specs.Io.KnownBytes.{ReadConsumes};
+ghost use Rattle.fab_io.specs.Ends.{WriteTakes};
+
+use crate::ends::{Sink, Source};
+use crate::fault::{IoFault, raise};
+use std::io;
+use std::io::{ErrorKind, Read, Write};
+use std::marker::Model;
+
+/// A source over a reader of std, as `StdSource::new(rt.reader())` over the runtime's standard input.
+///
+/// It tells what its reader tells, and standard input tells nothing. Each error of the reader but an interruption is a
+/// fault. Nothing is promised of the outside, so it is never sound.
+#[derive(Drop)]
+pub struct StdSource<R: Read> {
+    input: R,
+    faults: u64,
+}
+
+impl<R: Read> Model for StdSource<R> {
+    ghost use Rattle.fab_io.specs.Standard.{Adapter};
+
+    ghost Value = { Adapter };
+
+    ghost view = { λ s. record { told = R.remaining s.input; faults = s.faults } };
+}
+
+impl<R: Read> StdSource<R> {
+    /// A source that gives what the reader gives from here on.
+    pub fn new(input: R) -> StdSource<R>
+        ensures { result ≡ record { told = R.remaining input; faults = 0 } }
+    {
+        StdSource { input, faults: 0 }
+    }
+}
+
+impl<R: Read> Source for StdSource<R> {
+    ghost faults = { λ s. s.faults };
+
+    ghost told = { λ s. s.told };
+
+    ghost sound = { λ _. ⊥ };
+
+    fn read(&mut self, into: &mut [u8]) -> Result<usize, IoFault> {
+        match read_once(&mut self.input, into) {
+            Ok(count) => Ok(count),
+            Err(_) => Err(raise(&mut self.faults)),
+        }
+    }
+}
+
+/// One read, asked again where a signal interrupted it.
+fn read_once<R: Read>(input: &mut R, into: &mut [u8]) -> io::Result<usize>
+    ensures within { ReadsAtMost result into.new }
+    ensures content { ReadConsumes (R.remaining input.old) (R.remaining input.new) result into.new }
+{
+    for _ in 0..u64::MAX {
+        match input.read(into) {
+            Ok(count) => return Ok(count),
+            Err(error) => {
+                if error.kind() != ErrorKind::Interrupted {
+                    return Err(error);
+                }
+            }
+        }
+    }
+    Err(io::Error::from(ErrorKind::Interrupted))
+}
+
+/// A sink over a writer of std, as `StdSink::new(io::writer(&rt))` over the runtime's standard output.
+///
+/// It tells what its writer tells, and standard output tells nothing. Each write is flushed before it is answered, so
+/// that nothing taken is lost when the process ends. Each error but an interruption is a fault, and so is a writer that
+/// takes nothing more. Nothing is promised of the outside, so it is never sound.
+#[derive(Drop)]
+pub struct StdSink<W: Write> {
+    output: W,
+    faults: u64,
+}
+
+impl<W: Write> Model for StdSink<W> {
+    ghost use Rattle.fab_io.specs.Standard.{Adapter};
+
+    ghost Value = { Adapter };
+
+    ghost view = { λ s. record { told = W.contents s.output; faults = s.faults } };
+}
+
+impl<W: Write> StdSink<W> {
+    /// A sink whose bytes the writer takes from here on.
+    pub fn new(output: W) -> StdSink<W>
+        ensures { result ≡ record { told = W.contents output; faults = 0 } }
+    {
+        StdSink { output, faults: 0 }
+    }
+}
+
+impl<W: Write> Sink for StdSink<W> {
+    ghost faults = { λ s. s.faults };
+
+    ghost told = { λ s. s.told };
+
+    ghost sound = { λ _. ⊥ };
+
+    fn write(&mut self, from: &[u8]) -> Result<(), IoFault> {
+        match write_out(&mut self.output, from) {
+            Ok(()) => Ok(()),
+            Err(_) => Err(raise(&mut self.faults)),
+        }
+    }
+}
+
+/// Writes all the bytes and flushes them. A write that a signal interrupted is asked again.
+fn write_out<W: Write>(output: &mut W, from: &[u8]) -> io::Result<()>
+    ensures { WriteTakes (W.contents output.old) (W.contents output.new) result from.now }
+{
+    let mut rest = from;
+    for _ in 0..u64::MAX {
+        if rest.is_empty() {
+            return output.flush();
+        }
+        match output.write(rest) {
+            Ok(0) => return Err(io::Error::from(ErrorKind::WriteZero)),
+            Ok(count) => rest = &rest[count..],
+            Err(error) => {
+                if error.kind() != ErrorKind::Interrupted {
+                    return Err(error);
+                }
+            }
+        }
+    }
+    Err(io::Error::from(ErrorKind::Interrupted))
+}
