@@ -1,16 +1,15 @@
 -- What an answer says of an input, from what it did to the bytes that were read of it.
 use Rattle.std.proofs.Common.{◌≡◌, ℕ, ◌+◌, ◌-◌, ◌<◌, ◌≤◌, List, [], ◌∷◌, ◌++◌, length, take, drop, Option, Some, None, IfSome, refl, sym, ap, ◌∙◌, subst, arith, append-nil}
-use Rattle.std.specs.List.{position, position_or_len}
+use Rattle.std.specs.List.{position}
 use Rattle.std.specs.Io.KnownBytes.{Keeps, IsAtEnd, prepend_known}
 use Rattle.std.proofs.KnownBytes.{Keeps-refl, prepend_known-end}
-use Rattle.std.proofs.lemmas.Bool.{cases_lt}
 use Rattle.std.proofs.lemmas.Bool.Decides.{nat_tests}
-use Rattle.lines.specs.Lines.{is_line_feed, raw_lines, content}
+use Rattle.lines.specs.Lines.{is_line_feed, raw_lines}
 use Rattle.lines.specs.Reading.{Passes, BeginsLong, Says}
 use Rattle.lines.specs.Unread.{Takes, TakesLast}
 use Rattle.lines.specs.declared.reader.Piece.{Piece}
 use Rattle.lines.specs.declared.reader.Piece.TheVariants.{Whole, Long, Ended}
-use Rattle.lines.proofs.RawLines.{feed, Begins, raw_lines-feed, raw_lines-last, begins, content_length}
+use Rattle.lines.proofs.RawLines.{feed, raw_lines-feed, raw_lines-last, begins, content_length}
 
 -- the place that a search found
 pub feed_found : (bytes : List ℕ) (at : ℕ) → position is_line_feed bytes ≡ Some at → (feed bytes ≡ at) × (feed bytes < length bytes)

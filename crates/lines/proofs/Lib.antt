@@ -6,3 +6,5 @@ pub mod LineLengths
 pub mod RawLines
 pub mod Passing
 pub mod Answering
+pub mod HeadLines
+pub mod ScheduleLines

@@ -1,6 +1,5 @@
 -- What is known of an input after some of its lines were taken.
-use Rattle.std.proofs.Common.{ℕ, ◌≡◌, List, [], ◌∷◌, ◌++◌, Option, Some, None, IfSome, refl, sym, ap, ◌∙◌, append_assoc, append-nil}
-use Rattle.std.specs.List.{concat}
+use Rattle.std.proofs.Common.{ℕ, ◌≡◌, List, [], ◌++◌, Option, Some, None, IfSome, sym, ap, ◌∙◌, append_assoc, append-nil}
 use Rattle.std.specs.Io.KnownBytes.{Keeps, IsAtEnd}
 use Rattle.lines.specs.Lines.{raw_lines}
 use Rattle.lines.specs.Reading.{Passes}

@@ -1,10 +1,9 @@
 -- How an input splits into lines, by its first line feed.
-use Rattle.std.proofs.Common.{◌≡◌, ℕ, suc, ◌+◌, ◌-◌, ◌<◌, ◌≤◌, ◌==◌, Bool, true, false, not, cond, List, [], ◌∷◌, ◌++◌, length, take, drop, min, slice_index, refl, sym, ap, ◌∙◌, subst, arith, append-nil, length-append, length-take}
+use Rattle.std.proofs.Common.{◌≡◌, ℕ, suc, ◌+◌, ◌-◌, ◌<◌, ◌≤◌, ◌==◌, true, false, not, cond, List, [], ◌∷◌, ◌++◌, length, take, drop, slice_index, refl, ap, ◌∙◌, arith, length-take}
 use Rattle.std.specs.List.{position_or_len, onto_first, concat}
 use Rattle.std.specs.Str.Lines.{strip_carriage_return}
-use Rattle.std.proofs.lemmas.Bool.{cond_both, cases_Bool}
+use Rattle.std.proofs.lemmas.Bool.{cond_both}
 use Rattle.lines.specs.Lines.{is_line_feed, raw_lines, content}
-use Rattle.lines.specs.Reading.{BeginsLong}
 
 -- the place of the first line feed, or the length
 abbrev pub feed : List ℕ → ℕ

@@ -1,7 +1,8 @@
 -- What is read of an input when its next line is asked for.
-use Rattle.std.specs.Prelude.{◌≡◌, ℕ, ◌<◌, ◌≤◌, List, [], ◌∷◌, ◌++◌, length, ⊤, Option, Some, None, IfSome}
+use Rattle.std.specs.Prelude.{◌≡◌, ℕ, ◌<◌, ◌≤◌, false, List, [], ◌∷◌, ◌++◌, length, map, ⊤, Option, Some, None, IfSome}
+use Rattle.std.specs.List.{list_any, concat}
 use Rattle.std.specs.Io.KnownBytes.{Keeps, IsAtEnd}
-use Rattle.lines.specs.Lines.{raw_lines, content}
+use Rattle.lines.specs.Lines.{raw_lines, content, ends_layout, parts}
 use Rattle.lines.specs.declared.reader.Piece.{Piece}
 use Rattle.lines.specs.declared.reader.Piece.TheVariants.{Whole, Long, Ended}
 
@@ -20,3 +21,20 @@ abbrev pub Says : ℕ → Option (List ℕ) → Option (List ℕ) → Piece → 
 Says limit before now (Whole line) = (length (content line) ≤ limit) × Passes before now (line ∷ [])
 Says limit before now Long = Keeps before now × IfSome before (BeginsLong limit)
 Says limit before now Ended = IsAtEnd before × IsAtEnd now
+
+-- lines were taken of an input, these bytes in all, and none of them ends its layout
+abbrev pub ReadsHead : Option (List ℕ) → Option (List ℕ) → List ℕ → Type 0
+ReadsHead start now head =
+    (lines : List (List ℕ)) × Passes start now lines × (list_any ends_layout lines ≡ false) × (head ≡ concat lines)
+
+-- this layout was taken of an input, the line that ends it, and these lines of its schedule
+abbrev pub ReadsSchedule : Option (List ℕ) → Option (List ℕ) → List ℕ → List (List ℕ) → Type 0
+ReadsSchedule None now layout lines = ⊤
+ReadsSchedule (Some input) None layout lines = ⊥
+ReadsSchedule (Some input) (Some left) layout lines =
+    parts input ≡ Some (record { layout = layout; schedule = lines ++ map content (raw_lines left) })
+
+-- an input has this layout, and its schedule begins with these lines and then this one
+abbrev pub GoesOn : List ℕ → List (List ℕ) → List ℕ → List ℕ → Type 0
+GoesOn layout lines line input =
+    (rest : List (List ℕ)) × (parts input ≡ Some (record { layout = layout; schedule = lines ++ line ∷ rest }))

@@ -1,4 +1,4 @@
-use Rattle.std.proofs.Common.{ℕ, ◌+◌, ◌-◌, ◌≤◌, length, max}
+use Rattle.std.proofs.Common.{◌+◌, ◌-◌, ◌≤◌, length, max}
 use Rattle.std.specs.Io.KnownBytes.{Keeps, prepend_known}
 use Rattle.fab_io.specs.Ends.{Kept}
 use Rattle.lines.proofs.reader.Unread.next_line.Given as goal
