@@ -58,7 +58,7 @@ says_found limit at start now old new (Whole line) k found (is, left, short) =
 says_found limit at start now old new Long k found (same, over) = (
   subst (λ l. Keeps start (prepend_known l now)) (sym same) k,
   at_known start now old (BeginsLong limit) k
-  (λ more _. (take (at + 1) old, raw_lines (drop (at + 1) old ++ more), first_taken at old (drop (at + 1) old) more (take (at + 1) old) found refl refl, over)),
+      (λ more _. (take (at + 1) old, raw_lines (drop (at + 1) old ++ more), first_taken at old (drop (at + 1) old) more (take (at + 1) old) found refl refl, over)),
 )
 says_found limit at start now old new Ended k found t = absurd t
 

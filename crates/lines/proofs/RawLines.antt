@@ -15,8 +15,8 @@ pub raw_lines-feed : (bytes more : List ℕ) → feed bytes < length bytes
 raw_lines-feed [] more within = absurd (omega arith)
 raw_lines-feed (b ∷ rest) more within =
     (elim (is_line_feed b) as (λ t. cond (not t) (1 + feed rest) 0 < suc (length rest)
-        → cond t ((b ∷ []) ∷ raw_lines (rest ++ more)) (onto_first b (raw_lines (rest ++ more)))
-        ≡ take (cond (not t) (1 + feed rest) 0 + 1) (b ∷ rest) ∷ raw_lines (drop (cond (not t) (1 + feed rest) 0 + 1) (b ∷ rest) ++ more)) [
+    → cond t ((b ∷ []) ∷ raw_lines (rest ++ more)) (onto_first b (raw_lines (rest ++ more)))
+    ≡ take (cond (not t) (1 + feed rest) 0 + 1) (b ∷ rest) ∷ raw_lines (drop (cond (not t) (1 + feed rest) 0 + 1) (b ∷ rest) ++ more)) [
       | true ↦ λ h. refl
       | false ↦ λ h.
           let next : (1 + feed rest) + 1 ≡ suc (feed rest + 1) = omega arith in
@@ -33,7 +33,7 @@ raw_lines-last (b ∷ []) some none =
     ]) none
 raw_lines-last (b ∷ c ∷ rest) some none =
     (elim (is_line_feed b) as (λ t. suc (suc (length rest)) ≤ cond (not t) (1 + feed (c ∷ rest)) 0
-        → cond t ((b ∷ []) ∷ raw_lines (c ∷ rest)) (onto_first b (raw_lines (c ∷ rest))) ≡ (b ∷ c ∷ rest) ∷ []) [
+    → cond t ((b ∷ []) ∷ raw_lines (c ∷ rest)) (onto_first b (raw_lines (c ∷ rest))) ≡ (b ∷ c ∷ rest) ∷ []) [
       | true ↦ λ h. absurd (omega arith)
       | false ↦ λ h. let one = raw_lines-last (c ∷ rest) (omega arith) (omega arith) in ap (onto_first b) one
     ]) none
@@ -60,7 +60,7 @@ begins (b ∷ []) more some none =
     ]) none
 begins (b ∷ c ∷ front) more some none =
     (elim (is_line_feed b) as (λ t. suc (suc (length front)) ≤ cond (not t) (1 + feed (c ∷ front)) 0
-        → Begins (suc (suc (length front))) (cond t ((b ∷ []) ∷ raw_lines ((c ∷ front) ++ more)) (onto_first b (raw_lines ((c ∷ front) ++ more))))) [
+    → Begins (suc (suc (length front))) (cond t ((b ∷ []) ∷ raw_lines ((c ∷ front) ++ more)) (onto_first b (raw_lines ((c ∷ front) ++ more))))) [
       | true ↦ λ h. absurd (omega arith)
       | false ↦ λ h. onto_line b (suc (length front)) (raw_lines ((c ∷ front) ++ more)) (begins (c ∷ front) more (omega arith) (omega arith))
     ]) none

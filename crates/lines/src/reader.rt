@@ -62,11 +62,7 @@ impl Unread {
     /// [`READ_LEN`] and two more bytes are held.
     ///
     /// `Failed` comes only where the source failed, and `NoMemory` where there was no memory. Neither takes anything.
-    pub fn next_line<S: Source>(
-        &mut self,
-        source: &mut S,
-        limit: usize,
-    ) -> Result<Piece, IoFault>
+    pub fn next_line<S: Source>(&mut self, source: &mut S, limit: usize) -> Result<Piece, IoFault>
         ensures says { IfOk result (λ piece. Says limit (prepend_known self.old (S.told source.old))
             (prepend_known self.new (S.told source.new)) piece) }
         ensures err { OnErr result (Keeps (prepend_known self.old (S.told source.old))
