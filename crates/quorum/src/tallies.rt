@@ -1,0 +1,4 @@
+//! Replies of a phase.
+pub struct Tally {
+    _n: u8,
+}
