@@ -89,9 +89,9 @@ last_or_lower : (n : ℕ) (p : ℕ → Bool) → 1 ≤ count n p + one_if (p n) 
 last_or_lower n p some lower = ⊎_elim
     (λ (is : p n ≡ true). (n, omega arith, is))
     (λ (isnt : p n ≡ false).
-        let none : one_if (p n) ≡ 0 = one_if-false (p n) isnt in
-        let seat : (k : ℕ) × (k < n) × (p k ≡ true) = lower (omega (arith, none, some)) in
-        (seat.0, omega (arith, seat.1), seat.2))
+    let none : one_if (p n) ≡ 0 = one_if-false (p n) isnt in
+    let seat : (k : ℕ) × (k < n) × (p k ≡ true) = lower (omega (arith, none, some)) in
+    (seat.0, omega (arith, seat.1), seat.2))
     (cases_Bool (p n))
 
 -- a set that counts a seat has one
@@ -123,14 +123,14 @@ unfolding count
 count_with_seat zero seat p lt isnt = absurd (omega arith)
 count_with_seat (suc n) seat p lt isnt = ⊎_elim
     (λ (last : n ≡ seat).
-        let lower : count n (with_seat seat p) ≡ count n p = count_same n (with_seat seat p) p (λ k below. with_seat_other k seat p (omega arith)) in
-        let now : one_if (with_seat seat p n) ≡ 1 = one_if-true (with_seat seat p n) (with_seat_same n seat p last) in
-        let before : one_if (p n) ≡ 0 = one_if-false (p n) (ap p last ∙ isnt) in
-        omega (arith, lower, now, before))
+    let lower : count n (with_seat seat p) ≡ count n p = count_same n (with_seat seat p) p (λ k below. with_seat_other k seat p (omega arith)) in
+    let now : one_if (with_seat seat p n) ≡ 1 = one_if-true (with_seat seat p n) (with_seat_same n seat p last) in
+    let before : one_if (p n) ≡ 0 = one_if-false (p n) (ap p last ∙ isnt) in
+    omega (arith, lower, now, before))
     (λ (other : n ≢ seat).
-        let below : seat < n = omega arith in
-        let now : one_if (with_seat seat p n) ≡ one_if (p n) = ap (λ b. one_if b) (with_seat_other n seat p other) in
-        omega (arith, now, count_with_seat n seat p below isnt))
+    let below : seat < n = omega arith in
+    let now : one_if (with_seat seat p n) ≡ one_if (p n) = ap (λ b. one_if b) (with_seat_other n seat p other) in
+    omega (arith, now, count_with_seat n seat p below isnt))
     (cases_eq n seat)
 
 -- whether a seat is in the list

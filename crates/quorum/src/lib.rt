@@ -6,7 +6,10 @@
 #![tactic(auto)]
 
 pub mod policies;
+mod seat_lists;
+pub mod seats;
 pub mod tallies;
 
 pub use policies::{Policy, quorums_meet};
+pub use seats::Seat;
 pub use tallies::Tally;
