@@ -1,8 +1,7 @@
 -- Counts of sets of seats.
-use Rattle.std.proofs.Common.{◌≡◌, ◌≢◌, ℕ, List, [], ◌∷◌, length, add-one, zero, suc, ◌+◌, ◌-◌, ◌*◌, ◌/◌, ◌<◌, ◌≤◌, ◌⊎◌, inl, inr, ⊎_elim, Bool, true, false, ◌&&◌, ◌||◌, nat_eq, refl, sym, ap, ◌∙◌, arith}
-use Rattle.std.proofs.lemmas.Bool.{false≢true, cases_Bool, cases_eq, ne_eqb, eq-eqb}
-use Rattle.std.proofs.lemmas.Bool.Decides.{nat_tests}
-use Rattle.quorum.specs.Quorums.{count, one_if, both, with_seat, q_of, f_of, QuorumsMeet}
+use Rattle.std.proofs.Common.{◌≡◌, ◌≢◌, ℕ, List, [], ◌∷◌, length, add-one, zero, suc, ◌+◌, ◌<◌, ◌≤◌, ⊎_elim, Bool, true, false, ◌&&◌, ◌||◌, refl, sym, ap, ◌∙◌, arith}
+use Rattle.std.proofs.lemmas.Bool.{cases_Bool, cases_eq, ne_eqb, eq-eqb}
+use Rattle.quorum.specs.Quorums.{count, one_if, both, with_seat, QuorumsMeet}
 
 -- no seats, and one more seat
 pub count_none : (test : ℕ → Bool) → count 0 test ≡ 0
@@ -110,11 +109,11 @@ count_has (suc n) k p lt is = ⊎_elim
     (cases_eq k n)
 
 -- a seat that is not the added one is in as before
-with_seat_other : (k seat : ℕ) (p : ℕ → Bool) → k ≢ seat → with_seat seat p k ≡ p k
+pub with_seat_other : (k seat : ℕ) (p : ℕ → Bool) → k ≢ seat → with_seat seat p k ≡ p k
 with_seat_other k seat p other = ap (λ b. b || p k) (ne_eqb k seat other)
 
 -- the added seat is in
-with_seat_same : (k seat : ℕ) (p : ℕ → Bool) → k ≡ seat → with_seat seat p k ≡ true
+pub with_seat_same : (k seat : ℕ) (p : ℕ → Bool) → k ≡ seat → with_seat seat p k ≡ true
 with_seat_same k seat p same = ap (λ b. b || p k) (eq-eqb k seat same)
 
 -- one more seat is one more

@@ -1,8 +1,8 @@
 //! Looking over a list of seats.
 
-ghost use Rattle.std.specs.Prelude.{◌≡◌, ◌≤◌, length, find, count_by};
+ghost use Rattle.std.specs.Prelude.{◌≡◌, ◌≤◌, length, find, option_and_then, count_by};
 ghost use Rattle.std.specs.List.{list_all};
-ghost use Rattle.quorum.specs.Tallies.{is_counted, reports, fits};
+ghost use Rattle.quorum.specs.Tallies.{is_counted, reports, fits, mark_of};
 
 use crate::seats::Seat;
 use fab_base::Stamp;
@@ -22,11 +22,14 @@ pub fn seats_with(seats: &[Seat], stamp: Stamp) -> usize
     seats.iter().filter(|seat| seat.reports(stamp)).count()
 }
 
-// The first counted seat.
-pub fn first_counted(seats: &[Seat]) -> Option<Seat>
-    ensures { result ≡ find is_counted seats.now }
+// What the first counted seat reports.
+pub fn first_mark(seats: &[Seat]) -> Option<Stamp>
+    ensures { result ≡ option_and_then mark_of (find is_counted seats.now) }
 {
-    seats.iter().find(|seat| seat.is_counted()).copied()
+    match seats.iter().find(|seat| seat.is_counted()) {
+        None => None,
+        Some(seat) => seat.mark(),
+    }
 }
 
 // Whether each seat may stand in a tally that agrees on the stamp.

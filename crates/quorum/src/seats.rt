@@ -14,7 +14,7 @@ pub enum Seat {
 }
 
 impl Seat {
-    ghost use Rattle.quorum.specs.Tallies.{is_counted, reports, fits, mark_of};
+    ghost use Rattle.quorum.specs.Tallies.{is_counted, reports, fits, after_reply, mark_of};
 
     pub(crate) fn is_counted(&self) -> bool
         ensures { result ≡ is_counted self.now }
@@ -25,12 +25,14 @@ impl Seat {
         }
     }
 
+    // Whether the seat's counted reply reported the stamp.
+    #[tactic(auto, unfolding(fab_base::specs::Stamps::stamp_same))]
     pub(crate) fn reports(&self, stamp: Stamp) -> bool
         ensures { result ≡ reports stamp self.now }
     {
-        match self {
-            Seat::Silent | Seat::Counted(None) => false,
-            Seat::Counted(Some(reported)) => *reported == stamp,
+        match self.mark() {
+            None => false,
+            Some(reported) => reported == stamp,
         }
     }
 
@@ -41,6 +43,17 @@ impl Seat {
         !self.is_counted() || self.reports(stamp)
     }
 
+    // What the seat has said after a reply.
+    pub(crate) fn after_reply(self, mark: Option<Stamp>) -> Seat
+        ensures { result ≡ after_reply self mark }
+    {
+        match self {
+            Seat::Silent => Seat::Counted(mark),
+            Seat::Counted(first) => Seat::Counted(first),
+        }
+    }
+
+    // The stamp that the seat's counted reply reported.
     pub(crate) fn mark(&self) -> Option<Stamp>
         ensures { result ≡ mark_of self.now }
     {

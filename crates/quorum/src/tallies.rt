@@ -1,11 +1,11 @@
 //! The count of a phase's replies, by seat.
 
-ghost use Rattle.std.specs.Prelude.{◌≡◌, ◌<◌, ◌↔◌, IsTrue, MatchOption, length};
+ghost use Rattle.std.specs.Prelude.{◌≡◌, ◌<◌, ◌≤◌, ◌↔◌, true, IsTrue, MatchOption, length};
 ghost use Rattle.fab_base.specs.declared.stamps.Stamp.{Stamp};
-ghost use Rattle.quorum.specs.Quorums.{IsWithinLimits, count, q_of};
+ghost use Rattle.quorum.specs.Quorums.{count};
 
 use crate::policies::Policy;
-use crate::seat_lists::{all_fit, counted_seats, first_counted, seats_with};
+use crate::seat_lists::{all_fit, counted_seats, first_mark, seats_with};
 use crate::seats::Seat;
 use fab_base::Stamp;
 use std::marker::Model;
@@ -13,17 +13,20 @@ use std::marker::Model;
 /// The first reply of each seat of one phase. No call takes memory.
 #[derive(Debug, Drop)]
 pub struct Tally {
-    policy: Policy,
+    n: u8,
+    q: u8,
     seats: [Seat; 32],
 }
 
 impl Model for Tally {
-    ghost use Rattle.std.specs.Prelude.{take};
+    ghost use Rattle.std.specs.Prelude.{◌≤◌, take};
     ghost use Rattle.quorum.specs.Tallies.{Votes};
 
     ghost Value = { Votes };
 
-    ghost view = { λ tally. record { scheme = tally.policy; seats = take tally.policy.n tally.seats } };
+    ghost view = { λ tally. record { n = tally.n; q = tally.q; seats = take tally.n tally.seats } };
+
+    ghost invariant = { λ tally. tally.n ≤ 32 };
 }
 
 impl Tally {
@@ -33,30 +36,29 @@ impl Tally {
     pub fn new(policy: Policy) -> Tally
         ensures { result ≡ no_votes policy }
     {
-        let _ = policy.n();
         Tally {
-            policy,
+            n: policy.n(),
+            q: policy.q(),
             seats: [Seat::Silent; 32],
         }
     }
 
     /// Counts a seat's reply, with the stamp that it reports, if any. A seat that is counted keeps its first reply.
     pub fn add(&mut self, seat: u8, mark: Option<Stamp>)
-        requires { seat < self.old.scheme.n }
-        ensures { self.new ≡ with_vote self.old seat mark }
+        requires { seat < self.old.n }
+        ensures vote { self.new ≡ with_vote self.old seat mark }
+        ensures first_stays { counted self.old seat ≡ true → self.new ≡ self.old }
+        ensures places { length self.new.seats ≡ self.new.n }
     {
-        let _ = self.policy.n();
-        let place = &mut self.seats[usize::from(seat)];
-        if !place.is_counted() {
-            *place = Seat::Counted(mark);
-        }
+        let place = usize::from(seat);
+        self.seats[place] = self.seats[place].after_reply(mark);
     }
 
     /// Whether exactly a quorum of seats is counted.
     pub fn full(&self) -> bool
-        ensures { IsTrue result ↔ (count self.now.scheme.n (counted self.now) ≡ q_of self.now.scheme.m self.now.scheme.n) }
+        ensures { IsTrue result ↔ (count self.now.n (counted self.now) ≡ self.now.q) }
     {
-        counted_seats(self.replies()) == usize::from(self.policy.q())
+        counted_seats(self.replies()) == usize::from(self.q)
     }
 
     /// Whether the counted seats all report one stamp, none of them missing. An empty tally is not unanimous, since
@@ -72,17 +74,21 @@ impl Tally {
         ensures { MatchOption result ((v : Stamp) → ¬ (IsUnanimous self.now v)) (IsUnanimous self.now) }
     {
         let replies = self.replies();
-        let first = first_counted(replies)?.mark()?;
-        if all_fit(replies, first) {
-            Some(first)
-        } else {
-            None
+        match first_mark(replies) {
+            None => None,
+            Some(first) => {
+                if all_fit(replies, first) {
+                    Some(first)
+                } else {
+                    None
+                }
+            }
         }
     }
 
     /// How many counted seats report this stamp.
     pub fn with_stamp(&self, stamp: Stamp) -> u8
-        ensures { result ≡ count self.now.scheme.n (counted_with self.now stamp) }
+        ensures { result ≡ count self.now.n (counted_with self.now stamp) }
     {
         seats_with(self.replies(), stamp) as u8
     }
@@ -90,9 +96,29 @@ impl Tally {
     // What each seat below n has said.
     fn replies(&self) -> &[Seat]
         ensures value { result.now ≡ self.now.seats }
-        ensures len { length result.now ≡ self.now.scheme.n }
-        ensures limits { IsWithinLimits self.now.scheme.m self.now.scheme.n }
+        ensures len { length result.now ≡ self.now.n }
+        ensures few { self.now.n ≤ 32 }
     {
-        &self.seats[..usize::from(self.policy.n())]
+        &self.seats[..usize::from(self.n)]
+    }
+}
+
+#[cfg(test)]
+mod tests {
+    use super::*;
+    use std::test::Fail;
+
+    #[test]
+    fn counts_first_replies(rt: HostRuntime) -> Result<(), Fail> {
+        let mut tally = Tally::new(Policy::new(2, 4).ok_or("limits")?);
+        assert!(rt; !tally.unanimous() && !tally.full());
+        tally.add(3, Some(Stamp::FIRST));
+        tally.add(0, Some(Stamp::FIRST));
+        tally.add(0, None);
+        assert!(rt; tally.unanimous() && !tally.full());
+        tally.add(1, None);
+        assert!(rt; !tally.unanimous() && tally.full());
+        assert_eq!(rt; tally.with_stamp(Stamp::FIRST), 2);
+        Ok(())
     }
 }
