@@ -75,8 +75,40 @@ impl Policy {
 }
 
 /// Any two quorums of one view share at least m seats. The call does nothing: its contract is the law.
+<<<<<<< HEAD
 pub fn quorums_meet(policy: Policy)
     ensures { QuorumsMeet policy.m policy.n }
 {
     let _ = policy.m();
+=======
+pub fn quorums_meet(m: u8, n: u8)
+    requires { IsWithinLimits m n }
+    ensures { QuorumsMeet m n }
+{}
+
+#[cfg(test)]
+mod tests {
+    use super::*;
+    use std::test::Fail;
+
+    #[test]
+    fn quorum_sizes(rt: HostRuntime) -> Result<(), Fail> {
+        for (n, m, q) in [
+            (3, 1, 2),
+            (4, 2, 3),
+            (5, 3, 4),
+            (6, 2, 4),
+            (5, 2, 4),
+            (1, 1, 1),
+        ] {
+            assert_eq!(rt;
+                Policy::new(m, n).ok_or("limits")?.q(),
+                q,
+                "{n} seats, {m} blocks"
+            );
+        }
+        assert_eq!(rt; Policy::new(2, 1), None);
+        Ok(())
+    }
+>>>>>>> 571a384d76b6e6e4a418a50381d5ea60b28b610c
 }
