@@ -1,14 +1,7 @@
 -- Counts of sets of seats.
-<<<<<<< HEAD
-use Rattle.std.proofs.Common.{◌≡◌, ◌≢◌, ℕ, List, [], ◌∷◌, length, add-one, zero, suc, ◌+◌, ◌-◌, ◌*◌, ◌/◌, ◌<◌, ◌≤◌, ◌⊎◌, inl, inr, ⊎_elim, Bool, true, false, ◌&&◌, ◌||◌, nat_eq, refl, sym, ap, ◌∙◌, arith}
-use Rattle.std.proofs.lemmas.Bool.{false≢true, cases_Bool, cases_eq, ne_eqb, eq-eqb}
-use Rattle.std.proofs.lemmas.Bool.Decides.{nat_tests}
-use Rattle.quorum.specs.Quorums.{count, one_if, both, with_seat, q_of, f_of, QuorumsMeet}
-=======
 use Rattle.std.proofs.Common.{◌≡◌, ◌≢◌, ℕ, List, [], ◌∷◌, length, add-one, zero, suc, ◌+◌, ◌<◌, ◌≤◌, ⊎_elim, Bool, true, false, ◌&&◌, ◌||◌, refl, sym, ap, ◌∙◌, arith}
 use Rattle.std.proofs.lemmas.Bool.{cases_Bool, cases_eq, ne_eqb, eq-eqb}
 use Rattle.quorum.specs.Quorums.{count, one_if, both, with_seat, QuorumsMeet}
->>>>>>> 571a384d76b6e6e4a418a50381d5ea60b28b610c
 
 -- no seats, and one more seat
 pub count_none : (test : ℕ → Bool) → count 0 test ≡ 0
@@ -95,15 +88,9 @@ last_or_lower : (n : ℕ) (p : ℕ → Bool) → 1 ≤ count n p + one_if (p n) 
 last_or_lower n p some lower = ⊎_elim
     (λ (is : p n ≡ true). (n, omega arith, is))
     (λ (isnt : p n ≡ false).
-<<<<<<< HEAD
-        let none : one_if (p n) ≡ 0 = one_if-false (p n) isnt in
-        let seat : (k : ℕ) × (k < n) × (p k ≡ true) = lower (omega (arith, none, some)) in
-        (seat.0, omega (arith, seat.1), seat.2))
-=======
     let none : one_if (p n) ≡ 0 = one_if-false (p n) isnt in
     let seat : (k : ℕ) × (k < n) × (p k ≡ true) = lower (omega (arith, none, some)) in
     (seat.0, omega (arith, seat.1), seat.2))
->>>>>>> 571a384d76b6e6e4a418a50381d5ea60b28b610c
     (cases_Bool (p n))
 
 -- a set that counts a seat has one
@@ -122,19 +109,11 @@ count_has (suc n) k p lt is = ⊎_elim
     (cases_eq k n)
 
 -- a seat that is not the added one is in as before
-<<<<<<< HEAD
-with_seat_other : (k seat : ℕ) (p : ℕ → Bool) → k ≢ seat → with_seat seat p k ≡ p k
-with_seat_other k seat p other = ap (λ b. b || p k) (ne_eqb k seat other)
-
--- the added seat is in
-with_seat_same : (k seat : ℕ) (p : ℕ → Bool) → k ≡ seat → with_seat seat p k ≡ true
-=======
 pub with_seat_other : (k seat : ℕ) (p : ℕ → Bool) → k ≢ seat → with_seat seat p k ≡ p k
 with_seat_other k seat p other = ap (λ b. b || p k) (ne_eqb k seat other)
 
 -- the added seat is in
 pub with_seat_same : (k seat : ℕ) (p : ℕ → Bool) → k ≡ seat → with_seat seat p k ≡ true
->>>>>>> 571a384d76b6e6e4a418a50381d5ea60b28b610c
 with_seat_same k seat p same = ap (λ b. b || p k) (eq-eqb k seat same)
 
 -- one more seat is one more
@@ -143,16 +122,6 @@ unfolding count
 count_with_seat zero seat p lt isnt = absurd (omega arith)
 count_with_seat (suc n) seat p lt isnt = ⊎_elim
     (λ (last : n ≡ seat).
-<<<<<<< HEAD
-        let lower : count n (with_seat seat p) ≡ count n p = count_same n (with_seat seat p) p (λ k below. with_seat_other k seat p (omega arith)) in
-        let now : one_if (with_seat seat p n) ≡ 1 = one_if-true (with_seat seat p n) (with_seat_same n seat p last) in
-        let before : one_if (p n) ≡ 0 = one_if-false (p n) (ap p last ∙ isnt) in
-        omega (arith, lower, now, before))
-    (λ (other : n ≢ seat).
-        let below : seat < n = omega arith in
-        let now : one_if (with_seat seat p n) ≡ one_if (p n) = ap (λ b. one_if b) (with_seat_other n seat p other) in
-        omega (arith, now, count_with_seat n seat p below isnt))
-=======
     let lower : count n (with_seat seat p) ≡ count n p = count_same n (with_seat seat p) p (λ k below. with_seat_other k seat p (omega arith)) in
     let now : one_if (with_seat seat p n) ≡ 1 = one_if-true (with_seat seat p n) (with_seat_same n seat p last) in
     let before : one_if (p n) ≡ 0 = one_if-false (p n) (ap p last ∙ isnt) in
@@ -161,7 +130,6 @@ count_with_seat (suc n) seat p lt isnt = ⊎_elim
     let below : seat < n = omega arith in
     let now : one_if (with_seat seat p n) ≡ one_if (p n) = ap (λ b. one_if b) (with_seat_other n seat p other) in
     omega (arith, now, count_with_seat n seat p below isnt))
->>>>>>> 571a384d76b6e6e4a418a50381d5ea60b28b610c
     (cases_eq n seat)
 
 -- whether a seat is in the list

@@ -6,16 +6,10 @@
 #![tactic(auto)]
 
 pub mod policies;
-<<<<<<< HEAD
-pub mod tallies;
-
-pub use policies::{Policy, quorums_meet};
-=======
 mod seat_lists;
 pub mod seats;
 pub mod tallies;
 
 pub use policies::{Policy, quorums_meet};
 pub use seats::Seat;
->>>>>>> 571a384d76b6e6e4a418a50381d5ea60b28b610c
 pub use tallies::Tally;

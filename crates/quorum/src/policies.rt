@@ -75,12 +75,6 @@ impl Policy {
 }
 
 /// Any two quorums of one view share at least m seats. The call does nothing: its contract is the law.
-<<<<<<< HEAD
-pub fn quorums_meet(policy: Policy)
-    ensures { QuorumsMeet policy.m policy.n }
-{
-    let _ = policy.m();
-=======
 pub fn quorums_meet(m: u8, n: u8)
     requires { IsWithinLimits m n }
     ensures { QuorumsMeet m n }
@@ -110,5 +104,4 @@ mod tests {
         assert_eq!(rt; Policy::new(2, 1), None);
         Ok(())
     }
->>>>>>> 571a384d76b6e6e4a418a50381d5ea60b28b610c
 }

@@ -1,8 +1,3 @@
-<<<<<<< HEAD
-//! Replies of a phase.
-pub struct Tally {
-    _n: u8,
-=======
 //! The count of a phase's replies, by seat.
 
 ghost use Rattle.std.specs.Prelude.{◌≡◌, ◌<◌, ◌≤◌, ◌↔◌, true, IsTrue, MatchOption, length};
@@ -126,5 +121,4 @@ mod tests {
         assert_eq!(rt; tally.with_stamp(Stamp::FIRST), 2);
         Ok(())
     }
->>>>>>> 571a384d76b6e6e4a418a50381d5ea60b28b610c
 }
