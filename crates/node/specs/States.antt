@@ -1,9 +1,14 @@
 -- A brick's state, as the machine sees it.
-use Rattle.std.specs.Prelude.{◌≡◌, ℕ, unwrap_or}
-use Rattle.std.specs.Ordering.{Ordering, nat_cmp, ordering_then}
+use Rattle.std.specs.Prelude.{◌≡◌, ℕ, unwrap_or, Option, Some, None, Result, Ok, Err}
+use Rattle.std.specs.declared.cmp.Ordering.{Ordering}
+use Rattle.std.specs.Ordering.{nat_cmp, ordering_then}
 use Rattle.std.specs.BTreeMap.{get, btree_map_len}
 use Rattle.node.specs.declared.nodes.Node.{Node}
 use Rattle.node.specs.declared.nodes.Outs.{Outs}
+use Rattle.node.specs.declared.nodes.Begun.{Begun}
+use Rattle.node.specs.declared.nodes.NodeFault.{NodeFault}
+use Rattle.node.specs.declared.nodes.NodeFault.TheVariants.{Refused, NoMemory}
+use Rattle.fab_base.specs.declared.answers.Refusal.{Refusal}
 use Rattle.protocol.specs.Replicas.{first_replica}
 use Rattle.protocol.specs.Nodes as machine
 
@@ -19,6 +24,18 @@ state_of block node =
       replicas = λ g s. unwrap_or (get stripe_cmp node.replicas (g, s)) (first_replica block);
       calls = λ k. get nat_cmp node.calls k;
     }
+
+-- a refusal is the machine's, and there is none where the operation begins
+abbrev pub RefusesAs : Result Begun NodeFault → Option Refusal → Type 0
+RefusesAs (Ok begun) refusal = refusal ≡ None
+RefusesAs (Err (Refused reason)) refusal = refusal ≡ Some reason
+RefusesAs (Err NoMemory) refusal = Unit {0}
+
+-- what a new operation sends is the machine's, its call is the brick's last, and the brick's new state is the machine's
+pub record BeginsAs (block : ℕ) (node : Node) (step : machine.NodeStep) (begun : Begun) : Type 0 where
+  pub packets : begun.packets.items ≡ step.packets
+  pub seq : begun.seq ≡ step.node.seq
+  pub state : state_of block node ≡ step.node
 
 -- what a step sends and tells is the machine's, and the brick's new state is the machine's
 pub record StepsAs (block : ℕ) (node : Node) (step : machine.NodeStep) (outs : Outs) : Type 0 where

@@ -1,6 +1,6 @@
 //! An open operation at its coordinator (Frølund 2004, write-stripe and the fast path of read-stripe).
 
-ghost use Rattle.std.specs.Prelude.{◌≡◌, ◌+◌, ◌<◌, ◌≤◌, ◌^◌, [], length, IfOk, IfSome, IsTrue, Some, None, option_copied};
+ghost use Rattle.std.specs.Prelude.{◌≡◌, ◌-◌, ◌<◌, ◌≤◌, ◌^◌, [], length, IfOk};
 ghost use Rattle.protocol.specs.Settings.{seat_in};
 ghost use Rattle.protocol.specs.Coordinators.{call_same, answers_phase, has_seat, counts_at, tells, all_tell, fast_version, pieces_of, refuser_of, greater_refuser, greatest_refuser, written_content, request_of, decided, on_reply};
 ghost use Rattle.protocol.specs.Nodes.{to_members};

@@ -1,6 +1,6 @@
 //! A brick's steps.
 
-ghost use Rattle.std.specs.Prelude.{◌≡◌, ℕ, IfOk, OnOk, OnErr, MatchResult};
+ghost use Rattle.std.specs.Prelude.{◌≡◌, ℕ, [], None, IfOk, OnOk, OnErr};
 ghost use Rattle.protocol.specs.Nodes.{has_block, has_length, first_phase, known_after, collect_packets};
 ghost use Rattle.node.specs.Nexts.{machine_next};
 
@@ -43,6 +43,26 @@ pub struct Begun {
     pub seq: u64,
     /// The packets, in the order of sending.
     pub packets: Vec<Packet>,
+}
+
+/// Why an operation is not begun. Nothing has changed then.
+#[derive(Clone, Copy, Debug, PartialEq, Eq)]
+pub enum NodeFault {
+    /// The brick refuses it.
+    Refused(Refusal),
+    /// No memory was left.
+    NoMemory,
+}
+
+impl From<NoMem> for NodeFault {
+    ghost use Rattle.std.specs.Prelude.{◌≡◌};
+    ghost use Rattle.node.specs.declared.nodes.NodeFault.TheVariants.{NoMemory};
+
+    ghost from_gives = { λ _ e. e ≡ NoMemory };
+
+    fn from(_error: NoMem) -> NodeFault {
+        NodeFault::NoMemory
+    }
 }
 
 /// Whether the data block that is asked for is one of the m data blocks.
@@ -124,10 +144,10 @@ impl Outs {
 }
 
 impl Node {
-    ghost use Rattle.std.specs.Prelude.{◌≡◌, ℕ, IfOk, OnOk, OnErr, MatchResult};
+    ghost use Rattle.std.specs.Prelude.{◌≡◌, ◌+◌, ◌-◌, ◌^◌, ◌<◌, ◌≤◌, ℕ, true, IfOk, OnErr, vec_len};
     ghost use Rattle.protocol.specs.Nodes.{first_node, is_stripe_op, refusal_of, invoked, requested, replied, received};
     ghost use Rattle.node.specs.Copies.{copying, KeepsCopies};
-    ghost use Rattle.node.specs.States.{state_of, Refuses, StepsAs};
+    ghost use Rattle.node.specs.States.{state_of, RefusesAs, BeginsAs, StepsAs};
 
     /// A brick whose fresh store was just opened.
     pub fn new(alloc: Global, me: BrickId) -> Node
@@ -154,7 +174,7 @@ impl Node {
 
     /// Why the brick does not begin an operation, the first reason there is: there is no such group or stripe; no such data
     /// block; the bytes are not one block, or m blocks; 64 operations are open; no later time or call number is left.
-    pub fn refusal(&self, layout: &Layout, ask: &Ask) -> Option<Refusal>
+    fn refusal(&self, layout: &Layout, ask: &Ask) -> Option<Refusal>
         ensures { result ≡ refusal_of layout.now (state_of layout.now.block self.now) ask.now }
     {
         let Some(group) = layout.group(ask.group) else {
@@ -175,24 +195,40 @@ impl Node {
         }
     }
 
-    /// Begins an operation on a whole stripe that [`Node::refusal`] does not refuse, at a clock's reading. After a refusal for want of
-    /// memory nothing has changed.
+    /// The number of the brick's next call.
+    pub fn next_seq(&self) -> u64
+        requires { (state_of 0 self.now).seq < 2 ^ 64 - 1 }
+        ensures { (block : ℕ) → result ≡ (state_of block self.now).seq + 1 }
+    {
+        self.seq + 1
+    }
+
+    /// Begins an operation on a whole stripe, at a clock's reading.
+    ///
+    /// # Errors
+    ///
+    /// `Refused` exactly where the brick does not begin it, with the first reason there is: there is no such group or stripe; no such
+    /// data block; the bytes are not one block, or m blocks; 64 operations are open; no later time or call number is left. `NoMemory`
+    /// where no memory was left.
     pub fn invoke(
         &mut self,
         alloc: Global,
         layout: &Layout,
         now: u64,
         ask: &Ask,
-    ) -> Result<Begun, NoMem>
-        requires begins { refusal_of layout.now (state_of layout.now.block self.old) ask.now ≡ None }
+    ) -> Result<Begun, NodeFault>
+        requires stripe { is_stripe_op ask.now.op ≡ true }
         requires copies { KeepsCopies layout.now }
 
-        ensures packets { IfOk result (λ begun. begun.packets.items ≡ (invoked (copying layout.now) self.old.me now (state_of layout.now.block self.old) ask.now).packets) }
-        ensures state { OnOk result (state_of layout.now.block self.new ≡ (invoked (copying layout.now) self.old.me now (state_of layout.now.block self.old) ask.now).node) }
-        ensures seq { IfOk result (λ begun. begun.seq ≡ (invoked (copying layout.now) self.old.me now (state_of layout.now.block self.old) ask.now).node.seq) }
-        ensures err { OnErr result (state_of layout.now.block self.new ≡ state_of layout.now.block self.old) }
+        ensures refused { RefusesAs result (refusal_of layout.now (state_of layout.now.block self.old) ask.now) }
+        ensures begun { IfOk result (BeginsAs layout.now.block self.new (invoked (copying layout.now) self.old.me now (state_of layout.now.block self.old) ask.now)) }
+        ensures err { OnErr result ((block : ℕ) → state_of block self.new ≡ state_of block self.old) }
         ensures me { self.new.me ≡ self.old.me }
+        ensures few { IfOk result (λ begun. vec_len begun.packets ≤ 32) }
     {
+        if let Some(refusal) = self.refusal(layout, ask) {
+            return Err(NodeFault::Refused(refusal));
+        }
         let group = layout.group(ask.group).unwrap();
         let seq = self.seq + 1;
         let time = now.max(self.known + 1);
@@ -228,7 +264,7 @@ impl Node {
         request: &Request,
     ) -> Result<Outs, NoMem>
         ensures step { IfOk result (StepsAs layout.now.block self.new (requested (copying layout.now) self.old.me from (state_of layout.now.block self.old) call request.now)) }
-        ensures err { OnErr result (state_of layout.now.block self.new ≡ state_of layout.now.block self.old) }
+        ensures err { OnErr result ((block : ℕ) → state_of block self.new ≡ state_of block self.old) }
         ensures me { self.new.me ≡ self.old.me }
     {
         let Some(group) = layout.group(call.group) else {
@@ -283,7 +319,7 @@ impl Node {
     ) -> Result<Outs, NoMem>
         requires { KeepsCopies layout.now }
         ensures step { IfOk result (StepsAs layout.now.block self.new (replied (copying layout.now) self.old.me from (state_of layout.now.block self.old) call reply.now)) }
-        ensures err { OnErr result (state_of layout.now.block self.new ≡ state_of layout.now.block self.old) }
+        ensures err { OnErr result ((block : ℕ) → state_of block self.new ≡ state_of block self.old) }
         ensures me { self.new.me ≡ self.old.me }
     {
         let Some(open) = self.calls.get(&call.seq) else {
@@ -346,7 +382,8 @@ impl Node {
     ) -> Result<Outs, NoMem>
         requires { KeepsCopies layout.now }
         ensures step { IfOk result (StepsAs layout.now.block self.new (received (copying layout.now) self.old.me (state_of layout.now.block self.old) packet.now)) }
-        ensures err { OnErr result (state_of layout.now.block self.new ≡ state_of layout.now.block self.old) }
+        ensures err { OnErr result ((block : ℕ) → state_of block self.new ≡ state_of block self.old) }
+        ensures few { IfOk result (λ outs. vec_len outs.packets ≤ 32) }
         ensures me { self.new.me ≡ self.old.me }
     {
         match &packet.message {
