@@ -1,6 +1,6 @@
 //! A brick's steps.
 
-ghost use Rattle.std.specs.Prelude.{◌≡◌, ℕ, [], None, IfOk, OnOk, OnErr};
+ghost use Rattle.std.specs.Prelude.{◌≡◌, ℕ, [], IfOk, OnOk, OnErr};
 ghost use Rattle.protocol.specs.Nodes.{has_block, has_length, first_phase, known_after, collect_packets};
 ghost use Rattle.node.specs.Nexts.{machine_next};
 
@@ -145,6 +145,7 @@ impl Outs {
 
 impl Node {
     ghost use Rattle.std.specs.Prelude.{◌≡◌, ◌+◌, ◌-◌, ◌^◌, ◌<◌, ◌≤◌, ℕ, true, IfOk, OnErr, vec_len};
+    ghost use Rattle.std.specs.Option.{SomeIff};
     ghost use Rattle.protocol.specs.Nodes.{first_node, is_stripe_op, refusal_of, invoked, requested, replied, received};
     ghost use Rattle.node.specs.Copies.{copying, KeepsCopies};
     ghost use Rattle.node.specs.States.{state_of, RefusesAs, BeginsAs, StepsAs};
@@ -195,12 +196,11 @@ impl Node {
         }
     }
 
-    /// The number of the brick's next call.
-    pub fn next_seq(&self) -> u64
-        requires { (state_of 0 self.now).seq < 2 ^ 64 - 1 }
-        ensures { (block : ℕ) → result ≡ (state_of block self.now).seq + 1 }
+    /// The number of the brick's next call. None where no number is left.
+    pub fn next_seq(&self) -> Option<u64>
+        ensures { (block : ℕ) → SomeIff result ((state_of block self.now).seq + 1 < 2 ^ 64) ((state_of block self.now).seq + 1) }
     {
-        self.seq + 1
+        self.seq.checked_add(1)
     }
 
     /// Begins an operation on a whole stripe, at a clock's reading.
