@@ -1,9 +1,8 @@
 //! An open operation at its coordinator (Frølund 2004, write-stripe and the fast path of read-stripe).
 
-ghost use Rattle.std.specs.Prelude.{◌≡◌, ◌-◌, ◌<◌, ◌≤◌, ◌^◌, [], length, IfOk};
+ghost use Rattle.std.specs.Prelude.{◌≡◌, ◌≤◌, length, IfOk};
 ghost use Rattle.protocol.specs.Settings.{seat_in};
-ghost use Rattle.protocol.specs.Coordinators.{call_same, answers_phase, has_seat, counts_at, tells, all_tell, fast_version, pieces_of, refuser_of, greater_refuser, greatest_refuser, written_content, request_of, decided, on_reply};
-ghost use Rattle.protocol.specs.Nodes.{to_members};
+ghost use Rattle.protocol.specs.Coordinators.{call_same, answers_phase, has_seat, tells, all_tell, fast_version, pieces_of, refuser_of, greater_refuser, greatest_refuser, written_content};
 ghost use Rattle.node.specs.Copies.{copies};
 
 use fab_base::{Answer, Ask, BrickId, Bytes, Cause, GroupId, NoMem, Op, Stamp};
@@ -124,6 +123,7 @@ fn is_told_by_all(version: Stamp, counted: &[Counted]) -> bool
 }
 
 /// The version that a read may answer at once: the one that all replies tell.
+#[tactic(auto, unfolding(protocol::specs::Coordinators::fast_version))]
 fn version_told_by_all(counted: &[Counted]) -> Option<Stamp>
     ensures { result ≡ fast_version counted.now }
 {
@@ -206,6 +206,10 @@ fn greatest(counted: &[Counted]) -> Option<Refuser>
 }
 
 impl StripeOp {
+    ghost use Rattle.std.specs.Prelude.{◌≡◌, ◌-◌, ◌<◌, ◌^◌, [], None, Some, IfOk};
+    ghost use Rattle.protocol.specs.Coordinators.{Sends, Ends, storing, unless_refused, answered_fast, counts_at, fast_version, greatest_refuser, request_of, decided, on_reply};
+    ghost use Rattle.protocol.specs.Nodes.{to_members};
+    ghost use Rattle.node.specs.Copies.{copies};
     ghost use Rattle.node.specs.Nexts.{machine_next};
 
     /// A new operation of a brick's call, at this time.
@@ -268,6 +272,7 @@ impl StripeOp {
     }
 
     /// The seat at which a reply counts: it is to this very phase, answers it, and is its seat's first.
+    #[tactic(auto, unfolding(protocol::specs::Coordinators::counts_at))]
     fn seat_to_count(
         &self,
         block: u16,
@@ -293,6 +298,8 @@ impl StripeOp {
 
     /// Goes on to store, unless a member told a later stamp.
     fn store_unless_refused(mut self, alloc: Global) -> Next
+        requires { self.call.phase < 2 ^ 32 - 1 }
+        ensures { machine_next result ≡ unless_refused (greatest_refuser self.counted) (Sends (storing self)) }
     {
         match greatest(self.counted.as_slice()) {
             Some(refuser) => Next::Ends {
@@ -314,6 +321,7 @@ impl StripeOp {
 
     /// Is done, unless a member told a later stamp.
     fn end_unless_refused(self) -> Next
+        ensures { machine_next result ≡ unless_refused (greatest_refuser self.counted) (Ends Answer.Done None (Some self.stamp)) }
     {
         match greatest(self.counted.as_slice()) {
             Some(refuser) => Next::Ends {
@@ -334,6 +342,7 @@ impl StripeOp {
 
     /// Answers a read whose version all replies tell. Another read stays open.
     fn answer_if_fast(mut self, alloc: Global) -> Result<Next, NoMem>
+        ensures { IfOk result (λ next. machine_next next ≡ answered_fast copies 1 self (fast_version self.counted)) }
     {
         match version_told_by_all(self.counted.as_slice()) {
             None => {
@@ -349,6 +358,7 @@ impl StripeOp {
     }
 
     /// What a quorum of replies decides.
+    #[tactic(auto, unfolding(protocol::specs::Coordinators::decided))]
     fn decide(self, alloc: Global) -> Result<Next, NoMem>
         requires { self.call.phase < 2 ^ 32 - 1 }
         ensures { IfOk result (λ next. machine_next next ≡ decided copies 1 self) }
@@ -362,6 +372,7 @@ impl StripeOp {
     }
 
     /// What the coordinator does with a reply of a member of the group, each of whose seats keeps a copy of the content.
+    #[tactic(auto, unfolding(protocol::specs::Coordinators::on_reply))]
     pub fn on_reply(
         mut self,
         alloc: Global,
@@ -389,6 +400,7 @@ impl StripeOp {
     }
 
     /// What the present phase asks of the member at a seat.
+    #[tactic(auto, unfolding(protocol::specs::Coordinators::request_of))]
     fn request(&self, alloc: Global, seat: u8) -> Result<Request, NoMem>
         ensures { IfOk result (λ request. request ≡ request_of copies 1 self.now seat) }
     {

@@ -10,7 +10,7 @@ use fab_base::{Ask, BrickId, GroupId, NoMem, Op, Refusal, Stamp, StripeNo, ViewN
 use fab_wire::{Call, Message, Packet, Reply, Request, Version};
 use layout::{Group, Layout};
 use protocol::{Phase, Told};
-use std::alloc::Global;
+use std::alloc::{AllocFailed, Global};
 use std::collections::BTreeMap;
 
 /// How many operations a brick may have open.
@@ -61,6 +61,17 @@ impl From<NoMem> for NodeFault {
     ghost from_gives = { λ _ e. e ≡ NoMemory };
 
     fn from(_error: NoMem) -> NodeFault {
+        NodeFault::NoMemory
+    }
+}
+
+impl<T: Drop> From<AllocFailed<T>> for NodeFault {
+    ghost use Rattle.std.specs.Prelude.{◌≡◌};
+    ghost use Rattle.node.specs.declared.nodes.NodeFault.TheVariants.{NoMemory};
+
+    ghost from_gives = { λ _ e. e ≡ NoMemory };
+
+    fn from(_error: AllocFailed<T>) -> NodeFault {
         NodeFault::NoMemory
     }
 }
