@@ -116,6 +116,13 @@ impl Layout {
         self.bricks
     }
 
+    /// How many groups there are: numbers 0 to one below this.
+    pub fn group_count(&self) -> usize
+        ensures { result ≡ length self.now.groups }
+    {
+        self.groups.len()
+    }
+
     /// The group of this number, if there is one.
     pub fn group(&self, group: GroupId) -> Option<&Group>
         ensures { option_copied result ≡ group_of self.now group.0 }

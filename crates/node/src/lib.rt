@@ -6,5 +6,6 @@ pub mod coordinators;
 pub mod nodes;
 pub mod replicas;
 
-pub use coordinators::StripeOp;
-pub use nodes::{Begun, Node, Outs};
+
+pub use nodes::{Begun, Node, NodeFault, Outs};
+pub use replicas::Replica;

@@ -4,6 +4,7 @@
 mod rooms;
 mod states;
 mod texts;
+mod walks;
 mod worlds;
 
 pub use worlds::{StepFault, World};

@@ -1,15 +1,12 @@
 //! What a world keeps: its bricks, every message, every mark, and what is known of each operation.
 
-ghost use Rattle.std.specs.Prelude.{◌≡◌, ◌<◌, ◌≤◌, None, IfOk, OnOk, OnErr, length, option_copied};
-ghost use Rattle.protocol.specs.Settings.{Layout};
-ghost use Rattle.protocol.specs.Worlds.{packet_of};
 
 use crate::rooms::{put, put_all};
 use fab_base::{Answer, Ask, BrickId, GroupId, NoMem, Op, Refusal, Stamp, StripeNo};
 use fab_wire::Packet;
 use layout::Layout;
 use lines::Line;
-use node::{Node, Outs};
+use node::{Node, NodeFault, Outs};
 use protocol::Told;
 use reg_model::Mark;
 use std::alloc::Global;
@@ -58,7 +55,6 @@ pub enum Outcome {
 
 /// The packet of a number, counted from 1.
 fn packet_at(sent: &[Packet], number: u64) -> Option<&Packet>
-    ensures { option_copied result ≡ packet_of sent.now number }
 {
     if number == 0 {
         return None;
@@ -129,30 +125,31 @@ impl State {
             stripe: StripeNo(stripe as u32),
             op: op.copy(alloc)?,
         };
-        if let Some(refusal) = self.nodes[brick as usize].refusal(layout, &ask) {
-            return Ok(Outcome::Refused(refusal));
-        }
-        self.begin(alloc, layout, BrickId(brick as u16), ask)?;
-        Ok(Outcome::Marks)
+        self.begin(alloc, layout, BrickId(brick as u16), ask)
     }
 
-    /// A brick begins an operation that it does not refuse.
+    /// A brick begins an operation, or refuses it.
     fn begin(
         &mut self,
         alloc: Global,
         layout: &Layout,
         brick: BrickId,
         ask: Ask,
-    ) -> Result<(), NoMem>
-    {
+    ) -> Result<Outcome, NoMem> {
         self.sent.reserve(MOST_PACKETS)?;
         self.marks.reserve(1)?;
         self.operations.reserve(1)?;
         let position = self.marks.len() as u64;
         let operation = self.operations.len() as u64 + 1;
         let node = &mut self.nodes[brick.0 as usize];
-        self.numbers.insert((brick.0, node.next_seq()), operation)?;
-        let packets = node.invoke(alloc, layout, 0, &ask)?.packets;
+        if let Some(seq) = node.next_seq() {
+            self.numbers.insert((brick.0, seq), operation)?;
+        }
+        let packets = match node.invoke(alloc, layout, 0, &ask) {
+            Ok(begun) => begun.packets,
+            Err(NodeFault::Refused(refusal)) => return Ok(Outcome::Refused(refusal)),
+            Err(NodeFault::NoMemory) => return Err(NoMem::NoMemory),
+        };
         put_all(&mut self.sent, packets);
         let known = Known {
             begin: position,
@@ -172,7 +169,7 @@ impl State {
                 ask,
             },
         );
-        Ok(())
+        Ok(Outcome::Marks)
     }
 
     /// Delivers the message of a number.

@@ -1,22 +1,17 @@
 //! The world: a run of lines over the disk of a layout.
 
-ghost use Rattle.std.specs.Prelude.{◌≡◌, [], IfOk, IsErrOf, None, Some};
-ghost use Rattle.lines.specs.Grammar.{line_of};
-ghost use Rattle.protocol.specs.Settings.{IsSound, Group, group_of};
-ghost use Rattle.protocol.specs.Happenings.{happenings_of};
-ghost use Rattle.node.specs.Copies.{copying, KeepsCopies};
-ghost use Rattle.world.specs.Runs.{Run, world_of};
-ghost use Rattle.world.specs.Steps.{RanLine, IsStrictStripe};
 
 use crate::states::{Outcome, State};
+use crate::rooms::put;
 use crate::texts::{idle_text, marks_text, refusal_text};
-use fab_base::{GroupId, NoMem, StripeNo};
-use fab_wire::Packet;
+use crate::walks;
+use fab_base::{BrickId, Bytes, GroupId, NoMem, StripeNo};
+use fab_wire::{Packet, Version};
+use node::Replica;
 use layout::Layout;
 use lines::{Line, parse};
-use reg_model::{Entry, Happening, Mark};
+use reg_model::{Happening, Mark};
 use std::alloc::{AllocError, Global};
-use std::marker::Model;
 
 /// The whole disk of a layout over simulated bricks, and the lines that it ran: it stands for that run.
 #[derive(Drop)]
@@ -25,21 +20,7 @@ pub struct World {
     layout: Layout,
     lines: Vec<Line>,
     state: State,
-}
-
-impl Model for World {
-    ghost use Rattle.std.specs.Prelude.{◌×◌};
-    ghost use Rattle.node.specs.Copies.{copying, KeepsCopies};
-    ghost use Rattle.protocol.specs.Settings.{IsSound};
-    ghost use Rattle.world.specs.Runs.{Run, world_of};
-
-    ghost Value = { Run };
-
-    ghost use Rattle.world.specs.States.{Shows};
-
-    ghost view = { λ w. record { layout = w.layout; lines = w.lines.items } };
-
-    ghost invariant = { λ w. Shows w.layout w.state (world_of (record { layout = w.layout; lines = w.lines.items })) };
+    fresh: Replica,
 }
 
 /// Why a line was not run to its end.
@@ -67,7 +48,9 @@ impl World {
     /// All bricks up, their stores fresh, and nothing sent.
     pub fn new(alloc: Global, layout: Layout) -> Result<World, NoMem> {
         let state = State::new(alloc, &layout)?;
+        let fresh = Replica::first(alloc, layout.block())?;
         Ok(World {
+            fresh,
             alloc,
             layout,
             lines: Vec::new(alloc),
@@ -113,21 +96,24 @@ impl World {
     }
 
     /// The log of a brick's part of a stripe, oldest version first. None exactly where there is no such brick, group or stripe.
-    pub fn log_of(
-        &self,
-        brick: BrickId,
-        group: GroupId,
-        stripe: StripeNo,
-    ) -> Result<Option<Vec<Version>>, NoMem> {
-        todo
+    pub fn log_of(&self, brick: BrickId, group: GroupId, stripe: StripeNo) -> Option<&[Version]> {
+        let stripes = self.layout.group(group)?.stripes();
+        if stripe.0 >= stripes {
+            return None;
+        }
+        let node = self.state.nodes.get(brick.0 as usize)?;
+        match node.log(group, stripe) {
+            Some(log) => Some(log),
+            None => Some(self.fresh.log()),
+        }
     }
 
-    /// The happenings of a stripe.
+    /// The happenings of a stripe, in order.
     pub fn happenings(
         &self,
         group: GroupId,
         stripe: StripeNo,
     ) -> Result<Vec<Happening>, NoMem> {
-        happened(self.alloc, self.state.operations.as_slice(), group, stripe)
+        walks::happenings(self.alloc, self.state.operations.as_slice(), group, stripe)
     }
 }
