@@ -1,7 +1,7 @@
 //! Stamps, which order the versions of a stripe, and ballots, which order proposals of a view.
 
 ghost use Rattle.std.specs.Prelude.{◌≡◌};
-ghost use Rattle.fab_base.specs.Stamps.{stamp_below, first_stamp, stamp_text, ballot_text};
+ghost use Rattle.fab_base.specs.Stamps.{stamp_below, stamp_same, first_stamp, stamp_text, ballot_text};
 
 use crate::identities::{BrickId, ViewNo};
 use std::fmt;
@@ -34,6 +34,13 @@ impl Stamp {
         ensures { result ≡ stamp_below self other }
     {
         self < other
+    }
+
+    /// Whether this stamp and the other are the same.
+    pub fn is_same(self, other: Stamp) -> bool
+        ensures { result ≡ stamp_same self other }
+    {
+        self == other
     }
 }
 

@@ -36,6 +36,18 @@ pub struct Choice {
     pub members: Members,
 }
 
+impl Choice {
+    /// An equal value.
+    pub fn copy(&self) -> Choice
+        ensures { result ≡ self.now }
+    {
+        Choice {
+            ballot: self.ballot,
+            members: self.members.copy(),
+        }
+    }
+}
+
 /// A member's reply to a request.
 #[derive(Debug, Drop)]
 pub enum Reply {
@@ -98,4 +110,70 @@ pub enum Reply {
     },
     /// To a Prepare or Accept: the view's stripes are not all there yet.
     NotSynced,
+}
+
+/// An equal version, if there is one.
+fn copy_version(alloc: Global, version: &Option<Version>) -> Result<Option<Version>, NoMem>
+    ensures { IfOk result (λ made. made ≡ version.now) }
+{
+    match version {
+        None => Ok(None),
+        Some(version) => Ok(Some(version.copy(alloc)?)),
+    }
+}
+
+/// An equal lineage, if there is one.
+fn copy_lineage(lineage: &Option<Lineage>) -> Option<Lineage>
+    ensures { result ≡ lineage.now }
+{
+    match lineage {
+        None => None,
+        Some(lineage) => Some(lineage.copy()),
+    }
+}
+
+/// An equal choice, if there is one.
+fn copy_choice(choice: &Option<Choice>) -> Option<Choice>
+    ensures { result ≡ choice.now }
+{
+    match choice {
+        None => None,
+        Some(choice) => Some(choice.copy()),
+    }
+}
+
+impl Reply {
+    /// An equal value.
+    pub fn copy(&self, alloc: Global) -> Result<Reply, NoMem>
+        ensures { IfOk result (λ made. made ≡ self.now) }
+    {
+        Ok(match self {
+            Reply::Found { order, newest } => Reply::Found {
+                order: *order,
+                newest: copy_version(alloc, newest)?,
+            },
+            Reply::Ordered => Reply::Ordered,
+            Reply::OrderedRead { found } => Reply::OrderedRead {
+                found: copy_version(alloc, found)?,
+            },
+            Reply::Stored => Reply::Stored,
+            Reply::Behind { newest } => Reply::Behind { newest: *newest },
+            Reply::Later { stamp } => Reply::Later { stamp: *stamp },
+            Reply::Full { live } => Reply::Full { live: *live },
+            Reply::Moved { view, lineage } => Reply::Moved {
+                view: *view,
+                lineage: copy_lineage(lineage),
+            },
+            Reply::Old { found } => Reply::Old {
+                found: copy_version(alloc, found)?,
+            },
+            Reply::Retired => Reply::Retired,
+            Reply::Promise { accepted } => Reply::Promise {
+                accepted: copy_choice(accepted),
+            },
+            Reply::Accepted => Reply::Accepted,
+            Reply::Outbid { ballot } => Reply::Outbid { ballot: *ballot },
+            Reply::NotSynced => Reply::NotSynced,
+        })
+    }
 }

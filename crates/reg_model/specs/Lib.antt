@@ -1,3 +1,4 @@
 pub mod Marks
 pub mod Registers
 pub mod Strict
+pub mod Walk

@@ -6,6 +6,8 @@
 //! crashed, has happened by then or never happens.
 #![tactic(auto)]
 
+pub mod entries;
 pub mod marks;
 
+pub use entries::Entry;
 pub use marks::{Happening, Mark};

@@ -1,0 +1,58 @@
+-- What stands behind a line's first word, where there are so many words of it.
+use Rattle.std.proofs.Common.{◌≡◌, ◌≢◌, ℕ, List, [], ◌∷◌, length, map, get_or, Bor, None, refl, arith}
+use Rattle.lines.specs.Grammar.{write_all, read_all, deliver}
+
+-- the words that stand in a slice
+abbrev pub words : List (Bor (List ℕ)) → List (List ℕ)
+words found = map (λ token. token.now) found
+
+-- the word at a place
+abbrev pub word_at : List (Bor (List ℕ)) → ℕ → List ℕ
+word_at found place = (get_or found place (record { ref_ptr = (0, 0); now = [] })).now
+
+-- one word, three words and four words are what stands at their places
+pub one_word : (found : List (Bor (List ℕ))) → length found ≡ 1 → words found ≡ word_at found 0 ∷ []
+one_word [] count = absurd (omega arith)
+one_word (x ∷ []) count = refl
+one_word (x ∷ y ∷ more) count = absurd (omega arith)
+
+pub three_words : (found : List (Bor (List ℕ))) → length found ≡ 3
+    → words found ≡ word_at found 0 ∷ word_at found 1 ∷ word_at found 2 ∷ []
+three_words [] count = absurd (omega arith)
+three_words (x ∷ []) count = absurd (omega arith)
+three_words (x ∷ y ∷ []) count = absurd (omega arith)
+three_words (x ∷ y ∷ z ∷ []) count = refl
+three_words (x ∷ y ∷ z ∷ w ∷ more) count = absurd (omega arith)
+
+pub four_words : (found : List (Bor (List ℕ))) → length found ≡ 4
+    → words found ≡ word_at found 0 ∷ word_at found 1 ∷ word_at found 2 ∷ word_at found 3 ∷ []
+four_words [] count = absurd (omega arith)
+four_words (x ∷ []) count = absurd (omega arith)
+four_words (x ∷ y ∷ []) count = absurd (omega arith)
+four_words (x ∷ y ∷ z ∷ []) count = absurd (omega arith)
+four_words (x ∷ y ∷ z ∷ w ∷ []) count = refl
+four_words (x ∷ y ∷ z ∷ w ∷ v ∷ more) count = absurd (omega arith)
+
+-- with another count of words a form is none
+pub deliver_count : (found : List (Bor (List ℕ))) → length found ≢ 1 → None ≡ deliver (words found)
+unfolding deliver
+deliver_count [] other = refl
+deliver_count (k ∷ []) other = absurd (other refl)
+deliver_count (k ∷ a ∷ more) other = refl
+
+pub read_all_count : (found : List (Bor (List ℕ))) → length found ≢ 3 → None ≡ read_all (words found)
+unfolding read_all
+read_all_count [] other = refl
+read_all_count (b ∷ []) other = refl
+read_all_count (b ∷ g ∷ []) other = refl
+read_all_count (b ∷ g ∷ s ∷ []) other = absurd (other refl)
+read_all_count (b ∷ g ∷ s ∷ a ∷ more) other = refl
+
+pub write_all_count : (found : List (Bor (List ℕ))) → length found ≢ 4 → None ≡ write_all (words found)
+unfolding write_all
+write_all_count [] other = refl
+write_all_count (b ∷ []) other = refl
+write_all_count (b ∷ g ∷ []) other = refl
+write_all_count (b ∷ g ∷ s ∷ []) other = refl
+write_all_count (b ∷ g ∷ s ∷ t ∷ []) other = absurd (other refl)
+write_all_count (b ∷ g ∷ s ∷ t ∷ a ∷ more) other = refl

@@ -1,0 +1,14 @@
+use Rattle.std.proofs.Common.{◌+◌, ◌-◌, ◌≤◌, length, max}
+use Rattle.std.specs.Io.KnownBytes.{Keeps, prepend_known}
+use Rattle.fab_io.specs.Ends.{Kept}
+use Rattle.lines.proofs.reader.Unread.next_line.Given as goal
+
+abbrev pub invariant-loop-at : goal.invariant-loop-at
+invariant-loop-at g l = record {
+  left : Keeps (prepend_known l.initial.self (g.S.Source.told l.initial.source)) (prepend_known l.self (g.S.Source.told l.source));
+  ends : Kept (g.S.Source.faults l.initial.source) (g.S.Source.faults l.source) (g.S.Source.sound l.initial.source) (g.S.Source.sound l.source) ⊥;
+  held : length l.self ≤ max (length l.initial.self) (l.limit + 2 + 4096);
+}
+
+abbrev pub decreases-loop-at : goal.decreases-loop-at
+decreases-loop-at g l = l.limit + 3 - length l.self

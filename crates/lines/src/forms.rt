@@ -1,0 +1,132 @@
+// The forms of a line.
+ghost use Rattle.std.specs.Prelude.{◌≡◌, map, IfOk};
+ghost use Rattle.lines.specs.Grammar.{line_of, line_of_tokens, form, write_all, read_all, invoke, deliver};
+
+use crate::tokens::{parse_hex, parse_number, split};
+use fab_base::{NoMem, Op};
+use std::alloc::Global;
+
+/// The most bytes of a line, not counting its line feed and the one carriage return before that.
+pub const LINE_LIMIT: usize = 70_000;
+
+/// What a line of a schedule says. Its numbers are any below 2^64: whether there is such a brick, group, stripe or
+/// message is for the one who runs the line to find.
+#[derive(Debug, Drop)]
+pub enum Line {
+    /// Nothing: the line is blank, or its first token begins with `#`.
+    Nothing,
+    /// An operation on a stripe is to begin: `writeall B G S HEX` or `readall B G S`.
+    Invoke {
+        /// The brick that is asked.
+        brick: u64,
+        /// The group.
+        group: u64,
+        /// The stripe within the group.
+        stripe: u64,
+        /// The operation.
+        op: Op,
+    },
+    /// A message is to be handled by its receiver: `deliver K`.
+    Deliver {
+        /// The number of the message, in the order of sending.
+        message: u64,
+    },
+}
+
+/// What a line says. The bytes are those of the line without its line feed and the one carriage return before that.
+///
+/// Tokens are separated by spaces, of any number; spaces at the ends are dropped, and any other byte is part of a
+/// token. A number is 1 to 20 decimal digits with a value below 2^64, and HEX is an even number of at least 2 hex
+/// digits of either case. `None` is a bad line: one that is not of these forms, or has more than [`LINE_LIMIT`]
+/// bytes.
+pub fn parse(alloc: Global, content: &[u8]) -> Result<Option<Line>, NoMem>
+    ensures { IfOk result (λ line. line ≡ line_of content.now) }
+{
+    if content.len() > LINE_LIMIT {
+        return Ok(None);
+    }
+    let tokens = split(alloc, content)?;
+    parse_tokens(alloc, &tokens)
+}
+
+/// What the tokens of a line say.
+fn parse_tokens(alloc: Global, tokens: &[&[u8]]) -> Result<Option<Line>, NoMem>
+    ensures { IfOk result (λ line. line ≡ line_of_tokens (map (λ token. token.now) tokens.now)) }
+{
+    let [word, arguments @ ..] = tokens else {
+        return Ok(Some(Line::Nothing));
+    };
+    if word.starts_with(b"#") {
+        return Ok(Some(Line::Nothing));
+    }
+    parse_form(alloc, word, arguments)
+}
+
+/// What a line says whose first word and the words behind it are these.
+#[tactic(auto, unfolding(crate::specs::Grammar::form))]
+fn parse_form(alloc: Global, word: &[u8], arguments: &[&[u8]]) -> Result<Option<Line>, NoMem>
+    ensures { IfOk result (λ line. line ≡ form word.now (map (λ token. token.now) arguments.now)) }
+{
+    if word == b"writeall".as_slice() {
+        parse_write_all(alloc, arguments)
+    } else if word == b"readall".as_slice() {
+        Ok(parse_read_all(arguments))
+    } else if word == b"deliver".as_slice() {
+        Ok(parse_deliver(arguments))
+    } else {
+        Ok(None)
+    }
+}
+
+/// `writeall B G S HEX`, behind its first word.
+fn parse_write_all(alloc: Global, arguments: &[&[u8]]) -> Result<Option<Line>, NoMem>
+    ensures { IfOk result (λ line. line ≡ write_all (map (λ token. token.now) arguments.now)) }
+{
+    if arguments.len() != 4 {
+        return Ok(None);
+    }
+    let Some(bytes) = parse_hex(alloc, arguments[3])? else {
+        return Ok(None);
+    };
+    Ok(parse_invoke(
+        arguments[0],
+        arguments[1],
+        arguments[2],
+        Op::WriteStripe(bytes),
+    ))
+}
+
+/// `readall B G S`, behind its first word.
+fn parse_read_all(arguments: &[&[u8]]) -> Option<Line>
+    ensures { result ≡ read_all (map (λ token. token.now) arguments.now) }
+{
+    if arguments.len() != 3 {
+        return None;
+    }
+    parse_invoke(arguments[0], arguments[1], arguments[2], Op::ReadStripe)
+}
+
+/// An operation on the stripe that the tokens `B G S` name.
+#[tactic(auto, unfolding(crate::specs::Grammar::invoke))]
+fn parse_invoke(brick: &[u8], group: &[u8], stripe: &[u8], op: Op) -> Option<Line>
+    ensures { result ≡ invoke brick.now group.now stripe.now op }
+{
+    Some(Line::Invoke {
+        brick: parse_number(brick)?,
+        group: parse_number(group)?,
+        stripe: parse_number(stripe)?,
+        op,
+    })
+}
+
+/// `deliver K`, behind its first word.
+fn parse_deliver(arguments: &[&[u8]]) -> Option<Line>
+    ensures { result ≡ deliver (map (λ token. token.now) arguments.now) }
+{
+    if arguments.len() != 1 {
+        return None;
+    }
+    Some(Line::Deliver {
+        message: parse_number(arguments[0])?,
+    })
+}

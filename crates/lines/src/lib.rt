@@ -1,0 +1,13 @@
+//! The lines of a schedule: what each says, and how they are read one after another from a source of bytes.
+#![tactic(auto)]
+
+mod contents;
+mod forms;
+mod reader;
+#[cfg(test)]
+mod tests;
+mod tokens;
+
+pub use contents::{content_of, is_layout_end};
+pub use forms::{LINE_LIMIT, Line, parse};
+pub use reader::{Piece, READ_LEN, Unread};

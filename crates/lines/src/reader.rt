@@ -1,0 +1,158 @@
+// Reading an input line by line.
+ghost use Rattle.std.specs.Prelude.{◌≡◌, ◌+◌, ◌<◌, ◌≤◌, [], ◌==◌, length, IfOk, OnOk, OnErr, position, max};
+ghost use Rattle.std.specs.Io.KnownBytes.{Keeps, IsAtEnd, prepend_known};
+ghost use Rattle.fab_io.specs.Ends.{Kept};
+ghost use Rattle.lines.specs.Lines.{is_line_feed};
+ghost use Rattle.lines.specs.Reading.{Says};
+ghost use Rattle.lines.specs.Unread.{Takes, TakesLast};
+
+use crate::contents::content_of;
+use fab_base::Bytes;
+use fab_io::{IoFault, Source};
+use std::alloc::{AllocError, Global};
+use std::marker::Model;
+
+/// How many bytes are asked of a source at a time.
+pub const READ_LEN: usize = 4096;
+
+/// An answer to the question for the next line.
+#[derive(Debug, Drop)]
+pub enum Piece {
+    /// The next line, with its line feed, which a last line may lack. It was taken.
+    Whole(Bytes),
+    /// The next line has more bytes than the limit allows. Nothing was taken.
+    Long,
+    /// No line is left.
+    Ended,
+}
+
+/// Bytes that were read from a source and not yet taken. They are the first of what is left of the input; the others
+/// are still in the source.
+#[derive(Drop)]
+pub struct Unread {
+    bytes: Vec<u8>,
+    taken: usize,
+}
+
+impl Model for Unread {
+    ghost use Rattle.std.specs.Prelude.{List, ℕ, ◌≤◌, drop, length};
+
+    ghost Value = { List ℕ };
+
+    ghost view = { λ u. drop u.taken u.bytes.items };
+
+    ghost invariant = { λ u. u.taken ≤ length u.bytes.items };
+}
+
+impl Unread {
+    /// Nothing was read so far.
+    pub fn new(alloc: Global) -> Unread
+        ensures { result ≡ [] }
+    {
+        Unread {
+            bytes: Vec::new(alloc),
+            taken: 0,
+        }
+    }
+
+    /// Takes the next line of the input, which is these bytes and then those of the source.
+    ///
+    /// A line has at most `limit` bytes, its line feed and the one carriage return before that not counted. Where the
+    /// next one has more, the answer is [`Piece::Long`], as soon as that is seen. No more than the limit and
+    /// [`READ_LEN`] and two more bytes are held.
+    ///
+    /// `Failed` comes only where the source failed, and `NoMemory` where there was no memory. Neither takes anything.
+    pub fn next_line<S: Source>(&mut self, source: &mut S, limit: usize) -> Result<Piece, IoFault>
+        ensures says { IfOk result (λ piece. Says limit (prepend_known self.old (S.told source.old))
+            (prepend_known self.new (S.told source.new)) piece) }
+        ensures err { OnErr result (Keeps (prepend_known self.old (S.told source.old))
+            (prepend_known self.new (S.told source.new))) }
+        ensures held { length self.new ≤ max (length self.old) (limit + 2 + READ_LEN) }
+        ensures kept { Kept (S.faults source.old) (S.faults source.new) (S.sound source.old) (S.sound source.new)
+            (result ≡ Err IoFault.Failed) }
+    {
+        loop {
+            if let Some(at) = first_line_feed(self.as_slice()) {
+                return Ok(self.take(at + 1, limit)?);
+            }
+            let held = self.as_slice().len();
+            if held.saturating_sub(2) > limit {
+                return Ok(Piece::Long);
+            }
+            if self.fill(source)? == 0 {
+                return Ok(self.take_last(limit)?);
+            }
+        }
+    }
+
+    /// The bytes.
+    fn as_slice(&self) -> &[u8]
+        ensures value { result.now ≡ self.now }
+        ensures len { length result.now ≡ length self.now }
+    {
+        &self.bytes[self.taken..]
+    }
+
+    /// Takes the first bytes, as a line, where that is within the limit.
+    fn take(&mut self, len: usize, limit: usize) -> Result<Piece, AllocError>
+        requires { len ≤ length self.old }
+        ensures ok { IfOk result (λ piece. Takes limit len self.old self.new piece) }
+        ensures err { OnErr result (self.new ≡ self.old) }
+    {
+        let alloc: Global = *self.bytes.allocator();
+        let line = &self.bytes[self.taken..self.taken + len];
+        if content_of(line).len() > limit {
+            return Ok(Piece::Long);
+        }
+        let line = Vec::from_slice(alloc, line)?;
+        self.taken += len;
+        Ok(Piece::Whole(Bytes::from_vec(line)))
+    }
+
+    /// Takes all the bytes, as a line, where there are any and that is within the limit.
+    fn take_last(&mut self, limit: usize) -> Result<Piece, AllocError>
+        ensures ok { IfOk result (λ piece. TakesLast limit self.old self.new piece) }
+        ensures err { OnErr result (self.new ≡ self.old) }
+    {
+        let held = self.as_slice().len();
+        if held == 0 {
+            return Ok(Piece::Ended);
+        }
+        self.take(held, limit)
+    }
+
+    /// Reads once more, and answers how many bytes came.
+    fn fill<S: Source>(&mut self, source: &mut S) -> Result<usize, IoFault>
+        ensures content { Keeps (prepend_known self.old (S.told source.old)) (prepend_known self.new (S.told source.new)) }
+        ensures grows { IfOk result (λ came. length self.new ≡ length self.old + came) }
+        ensures within { IfOk result (λ came. came ≤ READ_LEN) }
+        ensures end { IfOk result (λ came. came ≡ 0 → (self.new ≡ self.old) × IsAtEnd (S.told source.new)) }
+        ensures err { OnErr result (self.new ≡ self.old) }
+        ensures kept { Kept (S.faults source.old) (S.faults source.new) (S.sound source.old) (S.sound source.new)
+            (result ≡ Err IoFault.Failed) }
+    {
+        self.compact();
+        self.bytes.reserve(READ_LEN)?;
+        let mut piece = [0; READ_LEN];
+        let came = source.read(&mut piece)?;
+        self.bytes.extend_from_slice(&piece[..came])?;
+        Ok(came)
+    }
+
+    /// Gives up the room of the bytes that were taken.
+    fn compact(&mut self)
+        ensures { self.new ≡ self.old }
+    {
+        let held = self.bytes.len() - self.taken;
+        self.bytes.rotate_left(self.taken);
+        self.bytes.truncate(held);
+        self.taken = 0;
+    }
+}
+
+/// The place of the first line feed.
+fn first_line_feed(bytes: &[u8]) -> Option<usize>
+    ensures { result ≡ position is_line_feed bytes.now }
+{
+    bytes.iter().position(|byte| *byte == b'\n')
+}

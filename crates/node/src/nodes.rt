@@ -1,0 +1,413 @@
+//! A brick's steps.
+
+ghost use Rattle.std.specs.Prelude.{◌≡◌, ℕ, [], IfOk, OnOk, OnErr};
+ghost use Rattle.protocol.specs.Nodes.{has_block, has_length, first_phase, known_after, collect_packets};
+ghost use Rattle.node.specs.Nexts.{machine_next};
+
+use crate::coordinators::{Next, StripeOp, seat_of};
+use crate::replicas::Replica;
+use fab_base::{Ask, BrickId, GroupId, NoMem, Op, Refusal, Stamp, StripeNo, ViewNo};
+use fab_wire::{Call, Message, Packet, Reply, Request, Version};
+use layout::{Group, Layout};
+use protocol::{Phase, Told};
+use std::alloc::{AllocFailed, Global};
+use std::collections::BTreeMap;
+
+/// How many operations a brick may have open.
+pub const MOST_OPEN: usize = 64;
+
+/// A running brick: its parts of stripes, and the operations that it coordinates.
+#[derive(Drop)]
+pub struct Node {
+    me: BrickId,
+    boot: u32,
+    seq: u64,
+    known: u64,
+    replicas: BTreeMap<(u32, u32), Replica>,
+    calls: BTreeMap<u64, StripeOp>,
+}
+
+/// What a step sends, in order, and what it tells of an operation.
+#[derive(Debug, Drop)]
+pub struct Outs {
+    /// The packets, in the order of sending.
+    pub packets: Vec<Packet>,
+    /// What is told.
+    pub told: Told,
+}
+
+/// A new operation: the number of its call, and the packets that it sends, in order.
+#[derive(Debug, Drop)]
+pub struct Begun {
+    /// The number of the call since the brick's store was opened.
+    pub seq: u64,
+    /// The packets, in the order of sending.
+    pub packets: Vec<Packet>,
+}
+
+/// Why an operation is not begun. Nothing has changed then.
+#[derive(Clone, Copy, Debug, PartialEq, Eq)]
+pub enum NodeFault {
+    /// The brick refuses it.
+    Refused(Refusal),
+    /// No memory was left.
+    NoMemory,
+}
+
+impl From<NoMem> for NodeFault {
+    ghost use Rattle.std.specs.Prelude.{◌≡◌};
+    ghost use Rattle.node.specs.declared.nodes.NodeFault.TheVariants.{NoMemory};
+
+    ghost from_gives = { λ _ e. e ≡ NoMemory };
+
+    fn from(_error: NoMem) -> NodeFault {
+        NodeFault::NoMemory
+    }
+}
+
+impl<T: Drop> From<AllocFailed<T>> for NodeFault {
+    ghost use Rattle.std.specs.Prelude.{◌≡◌};
+    ghost use Rattle.node.specs.declared.nodes.NodeFault.TheVariants.{NoMemory};
+
+    ghost from_gives = { λ _ e. e ≡ NoMemory };
+
+    fn from(_error: AllocFailed<T>) -> NodeFault {
+        NodeFault::NoMemory
+    }
+}
+
+/// Whether the data block that is asked for is one of the m data blocks.
+fn has_block(m: u8, op: &Op) -> bool
+    ensures { result ≡ has_block m op.now }
+{
+    match op {
+        Op::ReadBlock(block) | Op::WriteBlock(block, _) => *block < m,
+        Op::ReadStripe | Op::WriteStripe(_) => true,
+    }
+}
+
+/// Whether the bytes to write are one block, or m blocks.
+fn has_length(m: u8, block: u16, op: &Op) -> bool
+    ensures { result ≡ has_length m block op.now }
+{
+    match op {
+        Op::ReadBlock(_) | Op::ReadStripe => true,
+        Op::WriteBlock(_, bytes) => bytes.len() == block as usize,
+        Op::WriteStripe(bytes) => bytes.len() == m as usize * block as usize,
+    }
+}
+
+/// The first phase of an operation: a read looks, a write orders.
+fn first_phase(op: &Op) -> Phase
+    ensures { result ≡ first_phase op.now }
+{
+    match op {
+        Op::ReadBlock(_) | Op::ReadStripe => Phase::Looks,
+        Op::WriteBlock(_, _) | Op::WriteStripe(_) => Phase::Orders,
+    }
+}
+
+/// The time that a reply makes known.
+fn known_after(known: u64, reply: &Reply) -> u64
+    ensures { result ≡ known_after known reply.now }
+{
+    match reply {
+        Reply::Later { stamp } => known.max(stamp.time),
+        _ => known,
+    }
+}
+
+/// The packets that let all members collect what is below a version.
+fn collect_packets(
+    alloc: Global,
+    me: BrickId,
+    group: &Group,
+    call: Call,
+    stored: Option<Stamp>,
+) -> Result<Vec<Packet>, NoMem>
+    ensures { IfOk result (λ packets. packets.items ≡ collect_packets group.now me call stored) }
+{
+    let mut packets = Vec::new(alloc);
+    let Some(stamp) = stored else {
+        return Ok(packets);
+    };
+    for member in group.members().as_slice() {
+        packets.push(Packet {
+            from: me,
+            to: *member,
+            message: Message::Request(call, Request::Collect { stamp }),
+        })?;
+    }
+    Ok(packets)
+}
+
+impl Outs {
+    /// Nothing is sent, and nothing told.
+    fn nothing(alloc: Global) -> Outs
+        ensures packets { result.packets.items ≡ [] }
+        ensures told { result.told ≡ Told.Nothing }
+    {
+        Outs {
+            packets: Vec::new(alloc),
+            told: Told::Nothing,
+        }
+    }
+}
+
+impl Node {
+    ghost use Rattle.std.specs.Prelude.{◌≡◌, ◌+◌, ◌-◌, ◌^◌, ◌<◌, ◌≤◌, ℕ, true, IfOk, OnErr, vec_len};
+    ghost use Rattle.std.specs.Option.{SomeIff};
+    ghost use Rattle.protocol.specs.Nodes.{first_node, is_stripe_op, refusal_of, invoked, requested, replied, received};
+    ghost use Rattle.node.specs.Copies.{copying, KeepsCopies};
+    ghost use Rattle.node.specs.States.{state_of, RefusesAs, BeginsAs, StepsAs};
+
+    /// A brick whose fresh store was just opened.
+    pub fn new(alloc: Global, me: BrickId) -> Node
+        ensures me { result.me ≡ me }
+        ensures state { (block : ℕ) → state_of block result ≡ first_node block }
+    {
+        Node {
+            me,
+            boot: 1,
+            seq: 0,
+            known: 0,
+            replicas: BTreeMap::new(alloc),
+            calls: BTreeMap::new(alloc),
+        }
+    }
+
+    /// The log of the brick's part of a stripe, oldest version first. None where the stripe was never asked for here: its log
+    /// is then that of a fresh stripe.
+    pub fn log(&self, group: GroupId, stripe: StripeNo) -> Option<&[Version]>
+    {
+        let replica = self.replicas.get(&(group.0, stripe.0))?;
+        Some(replica.log())
+    }
+
+    /// Why the brick does not begin an operation, the first reason there is: there is no such group or stripe; no such data
+    /// block; the bytes are not one block, or m blocks; 64 operations are open; no later time or call number is left.
+    fn refusal(&self, layout: &Layout, ask: &Ask) -> Option<Refusal>
+        ensures { result ≡ refusal_of layout.now (state_of layout.now.block self.now) ask.now }
+    {
+        let Some(group) = layout.group(ask.group) else {
+            return Some(Refusal::NoStripe);
+        };
+        if ask.stripe.0 >= group.stripes() {
+            Some(Refusal::NoStripe)
+        } else if !has_block(group.m(), &ask.op) {
+            Some(Refusal::NoBlock)
+        } else if !has_length(group.m(), layout.block(), &ask.op) {
+            Some(Refusal::Length)
+        } else if self.calls.len() >= MOST_OPEN {
+            Some(Refusal::Busy)
+        } else if self.known == u64::MAX || self.seq == u64::MAX {
+            Some(Refusal::Spent)
+        } else {
+            None
+        }
+    }
+
+    /// The number of the brick's next call. None where no number is left.
+    pub fn next_seq(&self) -> Option<u64>
+        ensures { (block : ℕ) → SomeIff result ((state_of block self.now).seq + 1 < 2 ^ 64) ((state_of block self.now).seq + 1) }
+    {
+        self.seq.checked_add(1)
+    }
+
+    /// Begins an operation on a whole stripe, at a clock's reading.
+    ///
+    /// # Errors
+    ///
+    /// `Refused` exactly where the brick does not begin it, with the first reason there is: there is no such group or stripe; no such
+    /// data block; the bytes are not one block, or m blocks; 64 operations are open; no later time or call number is left. `NoMemory`
+    /// where no memory was left.
+    pub fn invoke(
+        &mut self,
+        alloc: Global,
+        layout: &Layout,
+        now: u64,
+        ask: &Ask,
+    ) -> Result<Begun, NodeFault>
+        requires stripe { is_stripe_op ask.now.op ≡ true }
+        requires copies { KeepsCopies layout.now }
+
+        ensures refused { RefusesAs result (refusal_of layout.now (state_of layout.now.block self.old) ask.now) }
+        ensures begun { IfOk result (BeginsAs layout.now.block self.new (invoked (copying layout.now) self.old.me now (state_of layout.now.block self.old) ask.now)) }
+        ensures err { OnErr result ((block : ℕ) → state_of block self.new ≡ state_of block self.old) }
+        ensures me { self.new.me ≡ self.old.me }
+        ensures few { IfOk result (λ begun. vec_len begun.packets ≤ 32) }
+    {
+        if let Some(refusal) = self.refusal(layout, ask) {
+            return Err(NodeFault::Refused(refusal));
+        }
+        let group = layout.group(ask.group).unwrap();
+        let seq = self.seq + 1;
+        let time = now.max(self.known + 1);
+        let stamp = Stamp {
+            view: ViewNo(1),
+            time,
+            brick: self.me,
+            boot: self.boot,
+        };
+        let call = Call {
+            boot: self.boot,
+            seq,
+            phase: 1,
+            group: ask.group,
+            view: ViewNo(1),
+            stripe: ask.stripe,
+        };
+        let op = StripeOp::begin(ask.copy(alloc)?, stamp, call, first_phase(&ask.op), alloc);
+        let packets = op.packets(alloc, self.me, group)?;
+        self.calls.insert(seq, op)?;
+        self.seq = seq;
+        self.known = time;
+        Ok(Begun { seq, packets })
+    }
+
+    /// Handles a request, as a member of its group; another brick ignores it.
+    fn on_request(
+        &mut self,
+        alloc: Global,
+        layout: &Layout,
+        from: BrickId,
+        call: Call,
+        request: &Request,
+    ) -> Result<Outs, NoMem>
+        ensures step { IfOk result (StepsAs layout.now.block self.new (requested (copying layout.now) self.old.me from (state_of layout.now.block self.old) call request.now)) }
+        ensures err { OnErr result ((block : ℕ) → state_of block self.new ≡ state_of block self.old) }
+        ensures me { self.new.me ≡ self.old.me }
+    {
+        let Some(group) = layout.group(call.group) else {
+            return Ok(Outs::nothing(alloc));
+        };
+        let Some(seat) = seat_of(group.members().as_slice(), self.me) else {
+            return Ok(Outs::nothing(alloc));
+        };
+        let mut packets = Vec::with_capacity(alloc, 1)?;
+        let reply = self.handle(alloc, layout.block(), seat, call, request)?;
+        if let Some(reply) = reply {
+            packets.push(Packet {
+                from: self.me,
+                to: from,
+                message: Message::Reply(call, reply),
+            })?;
+        }
+        Ok(Outs {
+            packets,
+            told: Told::Nothing,
+        })
+    }
+
+    /// What the brick's part of the call's stripe does with a request, as the member at a seat.
+    fn handle(
+        &mut self,
+        alloc: Global,
+        block: u16,
+        seat: u8,
+        call: Call,
+        request: &Request,
+    ) -> Result<Option<Reply>, NoMem>
+    {
+        let key = (call.group.0, call.stripe.0);
+        if let Some(replica) = self.replicas.get_mut(&key) {
+            return replica.handle(alloc, seat, request);
+        }
+        let mut replica = Replica::first(alloc, block)?;
+        let reply = replica.handle(alloc, seat, request)?;
+        self.replicas.insert(key, replica)?;
+        Ok(reply)
+    }
+
+    /// Handles a reply: the operation of its call counts it, or leaves it out.
+    fn on_reply(
+        &mut self,
+        alloc: Global,
+        layout: &Layout,
+        from: BrickId,
+        call: Call,
+        reply: &Reply,
+    ) -> Result<Outs, NoMem>
+        requires { KeepsCopies layout.now }
+        ensures step { IfOk result (StepsAs layout.now.block self.new (replied (copying layout.now) self.old.me from (state_of layout.now.block self.old) call reply.now)) }
+        ensures err { OnErr result ((block : ℕ) → state_of block self.new ≡ state_of block self.old) }
+        ensures me { self.new.me ≡ self.old.me }
+    {
+        let Some(open) = self.calls.get(&call.seq) else {
+            self.known = known_after(self.known, reply);
+            return Ok(Outs::nothing(alloc));
+        };
+        let Some(group) = layout.group(open.group()) else {
+            return Ok(Outs::nothing(alloc));
+        };
+        let last = open.call();
+        let next = open.copy(alloc)?.on_reply(alloc, layout.block(), group, from, call, reply)?;
+        let outs = match &next {
+            Next::Ignores | Next::Waits(_) => Outs::nothing(alloc),
+            Next::Sends(op) => Outs {
+                packets: op.packets(alloc, self.me, group)?,
+                told: Told::Made {
+                    seq: last.seq,
+                    stamp: op.stamp(),
+                },
+            },
+            Next::Ends {
+                answer,
+                seen,
+                stored,
+            } => Outs {
+                packets: collect_packets(alloc, self.me, group, last, *stored)?,
+                told: Told::Answers {
+                    seq: last.seq,
+                    answer: answer.copy(alloc)?,
+                    seen: *seen,
+                },
+            },
+        };
+        self.known = known_after(self.known, reply);
+        self.put(last.seq, next);
+        Ok(outs)
+    }
+
+    /// Puts in place what became of an open operation.
+    fn put(&mut self, seq: u64, next: Next) {
+        match next {
+            Next::Ignores => {}
+            Next::Waits(op) | Next::Sends(op) => {
+                if let Some(open) = self.calls.get_mut(&seq) {
+                    *open = op;
+                }
+            }
+            Next::Ends { .. } => {
+                self.calls.remove(&seq);
+            }
+        }
+    }
+
+    /// Handles a message. After a refusal for want of memory nothing has changed.
+    pub fn on_message(
+        &mut self,
+        alloc: Global,
+        layout: &Layout,
+        packet: &Packet,
+    ) -> Result<Outs, NoMem>
+        requires { KeepsCopies layout.now }
+        ensures step { IfOk result (StepsAs layout.now.block self.new (received (copying layout.now) self.old.me (state_of layout.now.block self.old) packet.now)) }
+        ensures err { OnErr result ((block : ℕ) → state_of block self.new ≡ state_of block self.old) }
+        ensures few { IfOk result (λ outs. vec_len outs.packets ≤ 32) }
+        ensures me { self.new.me ≡ self.old.me }
+    {
+        match &packet.message {
+            Message::Request(call, request) => {
+                self.on_request(alloc, layout, packet.from, *call, request)
+            }
+            Message::Reply(call, reply) => {
+                self.on_reply(alloc, layout, packet.from, *call, reply)
+            }
+            Message::Learn { .. }
+            | Message::Synced { .. }
+            | Message::Client(_)
+            | Message::ClientReply { .. } => Ok(Outs::nothing(alloc)),
+        }
+    }
+}

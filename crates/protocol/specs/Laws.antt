@@ -1,0 +1,121 @@
+-- The laws of the disk, as they hold in every world that a run reaches. Quorums are counted by seat.
+use Rattle.std.specs.Prelude.{◌≡◌, ℕ, ◌<◌, ◌≤◌, Bool, true, false, not, List, length, ◌⊎◌, Some, slice_get, slice_index_or}
+use Rattle.fab_base.specs.declared.identities.BrickId.{BrickId}
+use Rattle.fab_base.specs.declared.stamps.Stamp.{Stamp}
+use Rattle.fab_base.specs.declared.answers.Answer.TheVariants.{Aborted}
+use Rattle.fab_base.specs.declared.answers.Cause.TheVariants as Cause
+use Rattle.fab_base.specs.Stamps.{stamp_below}
+use Rattle.fab_wire.specs.declared.calls.Call.{Call}
+use Rattle.fab_wire.specs.declared.messages.Message.{Message}
+use Rattle.fab_wire.specs.declared.messages.Packet.{Packet}
+use Rattle.fab_wire.specs.declared.requests.Request.TheVariants as Request
+use Rattle.fab_wire.specs.declared.replies.Reply.TheVariants as Reply
+use Rattle.quorum.specs.Quorums.{count}
+use Rattle.reg_model.specs.declared.marks.Mark.TheVariants.{End}
+use Rattle.reg_model.specs.Marks.{life_of, stripe_marks, IsWellFormed}
+use Rattle.reg_model.specs.Strict.{IsStrict}
+use Rattle.reg_model.specs.Walk.{last_of}
+use Rattle.protocol.specs.Settings.{Setting, Group, group_of, quorum_of, IsSound}
+use Rattle.protocol.specs.Replicas.{Replica, top_of, is_held}
+use Rattle.protocol.specs.Worlds.{World, Event, Operation, first_world, happens, run}
+use Rattle.protocol.specs.Happenings.{is_of, happenings_of}
+
+-- the packet was sent
+abbrev pub WasSent : World → Packet → Type 0
+WasSent w packet = (k : ℕ) × (slice_get w.packets k ≡ Some packet)
+
+-- the brick at a seat
+abbrev pub brick_at : Group → ℕ → ℕ
+brick_at group seat = (slice_index_or group.members seat (record { 0 = 0 })).0
+
+-- a brick's part of a stripe
+abbrev pub part_of : World → ℕ → ℕ → ℕ → Replica
+part_of w g s i = (w.nodes i).replicas g s
+
+-- a test holds at a quorum of the group's seats
+abbrev pub AtQuorum : Group → (ℕ → Bool) → Type 0
+AtQuorum group test = quorum_of group ≤ count (length group.members) test
+
+-- at a quorum of the group's seats, the stripe's order stamp or newest version is at or above t
+abbrev pub IsGuarded : World → ℕ → ℕ → Group → Stamp → Type 0
+IsGuarded w g s group t = AtQuorum group (λ seat. not (stamp_below (top_of (part_of w g s (brick_at group seat))) t))
+
+-- a write of version t of this stripe was sent, under a call, to a brick, with this block
+abbrev pub WriteSent : World → Call → BrickId → BrickId → Stamp → List ℕ → Type 0
+WriteSent w call from to t block = WasSent w (record { from = from; to = to; message = Message.Request call (Request.Write t block) })
+
+-- One stamp has one content: each block of version t that was sent or is kept is its seat's block of the content of t.
+pub record OneContent (setting : Setting) (w : World) : Type 0 where
+  pub sent : (call : Call) (from to : BrickId) (t : Stamp) (block : List ℕ) (group : Group)
+      → group_of setting.layout call.group.0 ≡ Some group → WriteSent w call from to t block
+      → (seat : ℕ) × (seat < length group.members) × (brick_at group seat ≡ to.0)
+      × (block ≡ setting.code.encode group.m (w.contents call.group.0 call.stripe.0 t) seat)
+
+-- Before a write of version t was sent, a quorum had promised t, or stored something later, and has so ever since.
+abbrev pub WritesAreGuarded : Setting → World → Type 0
+WritesAreGuarded setting w =
+    (call : Call) (from to : BrickId) (t : Stamp) (block : List ℕ) (group : Group)
+    → group_of setting.layout call.group.0 ≡ Some group → WriteSent w call from to t block → IsGuarded w call.group.0 call.stripe.0 group t
+
+-- no step lowers what a brick has promised or stored
+abbrev pub NeverFalls : World → World → Type 0
+NeverFalls old new = (g s i : ℕ) → stamp_below (top_of (part_of new g s i)) (top_of (part_of old g s i)) ≡ false
+
+-- a member says that it stored a version only where it was asked to, and holds it
+abbrev pub StoredIsHeld : World → Type 0
+StoredIsHeld w =
+    (call : Call) (from to : BrickId) → WasSent w (record { from = from; to = to; message = Message.Reply call Reply.Stored })
+    → (t : Stamp) × (block : List ℕ) × WriteSent w call to from t block
+    × (is_held t (part_of w call.group.0 call.stripe.0 from.0).log ≡ true)
+
+-- Versions follow real time: where one operation of a stripe ended before another began, its version is below the other's, or it is the
+-- version that the other read.
+abbrev pub FollowsRealTime : World → ℕ → ℕ → Type 0
+FollowsRealTime w g s =
+    (a b : ℕ) (earlier later : Operation) (u v : Stamp) → w.operations a ≡ Some earlier → w.operations b ≡ Some later
+    → is_of g s earlier ≡ true → is_of g s later ≡ true → earlier.version ≡ Some u → later.version ≡ Some v
+    → last_of (life_of w.marks a) < later.begin
+    → (stamp_below u v ≡ true) ⊎ ((u ≡ v) × (later.made ≡ false))
+
+-- an order or a write of stamp t was sent
+abbrev pub AskedAt : World → Call → BrickId → BrickId → Stamp → Type 0
+AskedAt w call from to t =
+    WasSent w (record { from = from; to = to; message = Message.Request call (Request.Order t) })
+    ⊎ ((block : List ℕ) × WriteSent w call from to t block)
+
+-- What an abort shows: the brick had told the coordinator of the later stamp, in a phase of this very operation, which was asked at a lower one.
+pub record Evidence (w : World) (o : Operation) (brick : BrickId) (x : Stamp) : Type 0 where
+  pub call : Call
+  pub stamp : Stamp
+  pub own : call.seq ≡ o.seq
+  pub asked : AskedAt w call o.brick brick stamp
+  pub told : WasSent w (record { from = brick; to = o.brick; message = Message.Reply call (Reply.Later x) })
+  pub above : stamp_below stamp x ≡ true
+
+-- every abort shows its evidence
+abbrev pub AbortsShow : World → Type 0
+AbortsShow w =
+    (k p n : ℕ) (brick : BrickId) (x : Stamp) → slice_get w.marks k ≡ Some (End p n (Aborted (Cause.Later brick x)))
+    → (o : Operation) × (w.operations n ≡ Some o) × Evidence w o brick x
+
+-- The laws of a world.
+pub record Laws (setting : Setting) (w : World) : Type 0 where
+  pub one_content : OneContent setting w
+  pub guarded : WritesAreGuarded setting w
+  pub stored : StoredIsHeld w
+  pub real_time : (g s : ℕ) → FollowsRealTime w g s
+  pub aborts : AbortsShow w
+  pub well_formed : IsWellFormed w.marks
+  pub stripe_well_formed : (g s : ℕ) → IsWellFormed (stripe_marks g s w.marks)
+  pub strict : (g s : ℕ) (group : Group) → group_of setting.layout g ≡ Some group
+      → IsStrict group.m setting.layout.block (stripe_marks g s w.marks) (happenings_of w g s)
+
+-- the laws hold in every world that a run reaches, for every layout within the limits and every code that gives back what it encodes
+abbrev pub EveryRunKeepsTheLaws : Type 0
+EveryRunKeepsTheLaws = (setting : Setting) (events : List Event) → IsSound setting → Laws setting (run setting events (first_world setting.layout))
+
+-- no event of any run lowers what a brick has promised or stored
+abbrev pub NoEventLowers : Type 0
+NoEventLowers =
+    (setting : Setting) (events : List Event) (event : Event) → IsSound setting
+    → (let w = run setting events (first_world setting.layout) in NeverFalls w (happens setting w event))

@@ -1,0 +1,7 @@
+pub mod Settings
+pub mod Replicas
+pub mod Coordinators
+pub mod Nodes
+pub mod Worlds
+pub mod Happenings
+pub mod Laws

@@ -1,0 +1,237 @@
+-- One brick: the members' parts of stripes that it keeps, and the operations that it coordinates.
+use Rattle.std.specs.Prelude.{ℕ, ◌+◌, ◌-◌, ◌*◌, ◌^◌, Bool, true, false, not, nat_eq, nat_lt, ◌||◌, if◌then◌else◌, List, [], ◌∷◌, length, Option, Some, None, max}
+use Rattle.fab_base.specs.declared.identities.BrickId.{BrickId}
+use Rattle.fab_base.specs.declared.stamps.Stamp.{Stamp}
+use Rattle.fab_base.specs.declared.asks.Ask.{Ask}
+use Rattle.fab_base.specs.declared.asks.Op.{Op}
+use Rattle.fab_base.specs.declared.asks.Op.TheVariants.{ReadBlock, WriteBlock, ReadStripe, WriteStripe}
+use Rattle.fab_base.specs.declared.answers.Answer.{Answer}
+use Rattle.fab_base.specs.declared.answers.Refusal.{Refusal}
+use Rattle.fab_wire.specs.declared.calls.Call.{Call}
+use Rattle.fab_wire.specs.declared.messages.Message.{Message}
+use Rattle.fab_wire.specs.declared.messages.Packet.{Packet}
+use Rattle.fab_wire.specs.declared.requests.Request.{Request}
+use Rattle.fab_wire.specs.declared.replies.Reply.{Reply}
+pub use Rattle.protocol.specs.declared.tellings.Told.{Told}
+pub use Rattle.protocol.specs.declared.tellings.Told.TheVariants.{Nothing, Made, Answers}
+use Rattle.protocol.specs.Settings.{Setting, Layout, Group, group_of, seat_in}
+use Rattle.protocol.specs.Replicas.{Replica, Reaction, first_replica, handle}
+use Rattle.protocol.specs.Coordinators.{Phase, Looks, Orders, Coordinator, Next, Ignores, Waits, Sends, Ends, request_of, on_reply}
+
+-- a function with one value changed
+abbrev pub put : {A : Type 0} → (ℕ → A) → ℕ → A → ℕ → A
+put f k v i = if nat_eq i k then v else f i
+
+-- a brick: how often its store was opened, its last call number, the greatest time that it knows, how many operations it has open, its
+-- part of each stripe (by group and stripe), and its open operations (by call number)
+pub record Node : Type 0 where
+  pub boot : ℕ
+  pub seq : ℕ
+  pub known : ℕ
+  pub busy : ℕ
+  pub replicas : ℕ → ℕ → Replica
+  pub calls : ℕ → Option Coordinator
+
+-- a brick whose fresh store was just opened
+abbrev pub first_node : ℕ → Node
+first_node block = record { boot = 1; seq = 0; known = 0; busy = 0; replicas = λ g s. first_replica block; calls = λ k. None }
+
+-- what a step leaves, the packets that it sends, in order, and what it tells of an operation
+pub record NodeStep : Type 0 where
+  pub node : Node
+  pub packets : List Packet
+  pub told : Told
+
+abbrev pub no_step : Node → NodeStep
+no_step node = record { node = node; packets = []; told = Nothing }
+
+-- one request to each member, in the order of seats, the first of them at this seat
+abbrev pub to_members : BrickId → Call → (ℕ → Request) → ℕ → List BrickId → List Packet
+to_members me call request seat [] = []
+to_members me call request seat (member ∷ members) =
+    record { from = me; to = member; message = Message.Request call (request seat) } ∷ to_members me call request (seat + 1) members
+
+-- what the coordinator's phase sends
+abbrev pub phase_packets : Setting → Group → BrickId → Coordinator → List Packet
+phase_packets setting group me c = to_members me c.call (request_of setting.code group.m c) 0 group.members
+
+-- the version that was stored may be collected by all members
+abbrev pub collect_packets : Group → BrickId → Call → Option Stamp → List Packet
+collect_packets group me call None = []
+collect_packets group me call (Some t) = to_members me call (λ seat. Request.Collect t) 0 group.members
+
+-- a whole stripe is read or written
+abbrev pub is_stripe_op : Op → Bool
+is_stripe_op (ReadBlock j) = false
+is_stripe_op (WriteBlock j bytes) = false
+is_stripe_op ReadStripe = true
+is_stripe_op (WriteStripe bytes) = true
+
+-- the block that is asked for is one of the m data blocks
+abbrev pub has_block : ℕ → Op → Bool
+has_block m (ReadBlock j) = nat_lt j m
+has_block m (WriteBlock j bytes) = nat_lt j m
+has_block m ReadStripe = true
+has_block m (WriteStripe bytes) = true
+
+-- the bytes to write are one block, or m blocks
+abbrev pub has_length : ℕ → ℕ → Op → Bool
+has_length m block (ReadBlock j) = true
+has_length m block (WriteBlock j bytes) = nat_eq (length bytes) block
+has_length m block ReadStripe = true
+has_length m block (WriteStripe bytes) = nat_eq (length bytes) (m * block)
+
+-- no later time, or no further call number
+abbrev pub is_spent : Node → Bool
+is_spent node = nat_eq node.known (2 ^ 64 - 1) || nat_eq node.seq (2 ^ 64 - 1)
+
+-- how many operations a brick may have open
+abbrev pub most_open : ℕ
+most_open = 64
+
+-- why a running brick does not begin an operation, the first reason of these
+abbrev pub refusal_in : ℕ → Node → Ask → Option Group → Option Refusal
+refusal_in block node ask None = Some Refusal.NoStripe
+refusal_in block node ask (Some group) =
+    if not (nat_lt ask.stripe.0 group.stripes) then Some Refusal.NoStripe
+    else if not (has_block group.m ask.op) then Some Refusal.NoBlock
+    else if not (has_length group.m block ask.op) then Some Refusal.Length
+    else if not (nat_lt node.busy most_open) then Some Refusal.Busy
+    else if is_spent node then Some Refusal.Spent
+    else None
+
+unfoldable pub refusal_of : Layout → Node → Ask → Option Refusal
+refusal_of layout node ask = refusal_in layout.block node ask (group_of layout ask.group.0)
+
+-- a read looks first, and a write orders
+abbrev pub first_phase : Op → Phase
+first_phase (ReadBlock j) = Looks
+first_phase (WriteBlock j bytes) = Orders
+first_phase ReadStripe = Looks
+first_phase (WriteStripe bytes) = Orders
+
+-- a new stamp has the clock's time, or the first that is above all that the brick knows
+abbrev pub next_time : ℕ → ℕ → ℕ
+next_time now known = max now (known + 1)
+
+-- the coordinator of a new operation
+abbrev pub new_coordinator : BrickId → ℕ → Node → Ask → Coordinator
+new_coordinator me now node ask =
+    record {
+      ask = ask;
+      stamp = record { view = record { 0 = 1 }; time = next_time now node.known; brick = me; boot = node.boot };
+      call = record { boot = node.boot; seq = node.seq + 1; phase = 1; group = ask.group; view = record { 0 = 1 }; stripe = ask.stripe };
+      phase = first_phase ask.op;
+      counted = [];
+    }
+
+-- the brick with a new open operation
+abbrev pub opened : Node → Coordinator → Node
+opened node c =
+    record {
+      boot = node.boot;
+      seq = c.call.seq;
+      known = c.stamp.time;
+      busy = node.busy + 1;
+      replicas = node.replicas;
+      calls = put node.calls c.call.seq (Some c);
+    }
+
+abbrev pub began_in : Setting → Group → BrickId → Node → Coordinator → NodeStep
+began_in setting group me node c = record { node = opened node c; packets = phase_packets setting group me c; told = Nothing }
+
+-- A brick begins an operation that is not refused: what is told of it is the number of its call, the brick's last.
+abbrev pub began : Setting → BrickId → ℕ → Node → Ask → Option Group → NodeStep
+began setting me now node ask None = no_step node
+began setting me now node ask (Some group) = began_in setting group me node (new_coordinator me now node ask)
+
+unfoldable pub invoked : Setting → BrickId → ℕ → Node → Ask → NodeStep
+invoked setting me now node ask = began setting me now node ask (group_of setting.layout ask.group.0)
+
+-- the brick's part of a stripe
+abbrev pub replica_at : Node → Call → Replica
+replica_at node call = node.replicas call.group.0 call.stripe.0
+
+-- the brick with its part of a stripe changed
+abbrev pub with_replica : Node → Call → Replica → Node
+with_replica node call replica =
+    record {
+      boot = node.boot;
+      seq = node.seq;
+      known = node.known;
+      busy = node.busy;
+      replicas = put node.replicas call.group.0 (put (node.replicas call.group.0) call.stripe.0 replica);
+      calls = node.calls;
+    }
+
+-- the reply goes back with the request's call
+abbrev pub reply_packets : BrickId → BrickId → Call → Option Reply → List Packet
+reply_packets me to call None = []
+reply_packets me to call (Some reply) = record { from = me; to = to; message = Message.Reply call reply } ∷ []
+
+abbrev pub reacted : BrickId → BrickId → Node → Call → Reaction → NodeStep
+reacted me from node call reaction =
+    record { node = with_replica node call reaction.replica; packets = reply_packets me from call reaction.reply; told = Nothing }
+
+-- a member handles a request; another brick ignores it
+abbrev pub requested_at : BrickId → BrickId → Node → Call → Request → Option ℕ → NodeStep
+requested_at me from node call request None = no_step node
+requested_at me from node call request (Some seat) = reacted me from node call (handle seat (replica_at node call) request)
+
+abbrev pub requested_in : BrickId → BrickId → Node → Call → Request → Option Group → NodeStep
+requested_in me from node call request None = no_step node
+requested_in me from node call request (Some group) = requested_at me from node call request (seat_in group.members me.0)
+
+-- a brick handles a request
+unfoldable pub requested : Setting → BrickId → BrickId → Node → Call → Request → NodeStep
+requested setting me from node call request = requested_in me from node call request (group_of setting.layout call.group.0)
+
+-- the time that a reply makes known
+abbrev pub known_after : ℕ → Reply → ℕ
+known_after known (Reply.Later t) = max known t.time
+known_after known reply = known
+
+-- the brick knows this time, and has this operation open, or ended
+abbrev pub with_call : Node → ℕ → ℕ → ℕ → Option Coordinator → Node
+with_call node known busy seq call =
+    record { boot = node.boot; seq = node.seq; known = known; busy = busy; replicas = node.replicas; calls = put node.calls seq call }
+
+-- the brick knows this time
+abbrev pub with_known : Node → ℕ → Node
+with_known node known = record { boot = node.boot; seq = node.seq; known = known; busy = node.busy; replicas = node.replicas; calls = node.calls }
+
+-- what a brick does with what its coordinator decided
+abbrev pub carried_out : Setting → Group → BrickId → Node → ℕ → Coordinator → Next → NodeStep
+carried_out setting group me node known c Ignores = no_step (with_known node known)
+carried_out setting group me node known c (Waits d) =
+    record { node = with_call node known node.busy c.call.seq (Some d); packets = []; told = Nothing }
+carried_out setting group me node known c (Sends d) =
+    record { node = with_call node known node.busy c.call.seq (Some d); packets = phase_packets setting group me d; told = Made c.call.seq d.stamp }
+carried_out setting group me node known c (Ends answer seen stored) =
+    record {
+      node = with_call node known (node.busy - 1) c.call.seq None;
+      packets = collect_packets group me c.call stored;
+      told = Answers c.call.seq answer seen;
+    }
+
+abbrev pub replied_to : Setting → BrickId → BrickId → Node → Call → Reply → Coordinator → Option Group → NodeStep
+replied_to setting me from node call reply c None = no_step node
+replied_to setting me from node call reply c (Some group) =
+    carried_out setting group me node (known_after node.known reply) c (on_reply setting.layout.block setting.code group c from call reply)
+
+abbrev pub replied_at : Setting → BrickId → BrickId → Node → Call → Reply → Option Coordinator → NodeStep
+replied_at setting me from node call reply None = no_step (with_known node (known_after node.known reply))
+replied_at setting me from node call reply (Some c) = replied_to setting me from node call reply c (group_of setting.layout c.ask.group.0)
+
+-- a brick handles a reply
+unfoldable pub replied : Setting → BrickId → BrickId → Node → Call → Reply → NodeStep
+replied setting me from node call reply = replied_at setting me from node call reply (node.calls call.seq)
+
+-- a brick handles a message
+unfoldable pub received : Setting → BrickId → Node → Packet → NodeStep
+received setting me node packet = received_as packet.message
+  where
+    received_as : Message → NodeStep
+    received_as (Message.Request call request) = requested setting me packet.from node call request
+    received_as (Message.Reply call reply) = replied setting me packet.from node call reply
+    received_as message = no_step node

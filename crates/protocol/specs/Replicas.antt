@@ -1,0 +1,86 @@
+-- A member's part of a stripe, and what it does with each request (Frølund 2004, the storage replica).
+use Rattle.std.specs.Prelude.{ℕ, Bool, true, false, nat_eq, ◌||◌, if◌then◌else◌, List, [], ◌∷◌, ◌++◌, Option, Some, None, replicate}
+use Rattle.fab_base.specs.declared.stamps.Stamp.{Stamp}
+use Rattle.fab_base.specs.Stamps.{stamp_below, stamp_same, first_stamp}
+use Rattle.fab_wire.specs.declared.requests.Version.{Version}
+use Rattle.fab_wire.specs.declared.requests.Want.{Want}
+use Rattle.fab_wire.specs.declared.requests.Want.TheVariants.{Seat, All}
+use Rattle.fab_wire.specs.declared.requests.Request.{Request}
+use Rattle.fab_wire.specs.declared.requests.Request.TheVariants.{Read, Order, OrderRead, Write, Modify, Collect, OldRead, Prepare, Accept}
+use Rattle.fab_wire.specs.declared.replies.Reply.{Reply}
+use Rattle.fab_wire.specs.declared.replies.Reply.TheVariants.{Found, Ordered, Stored, Later}
+
+-- the stamp that the member has promised to take nothing below, and its log of versions, oldest first
+pub record Replica : Type 0 where
+  pub order : Stamp
+  pub log : List Version
+
+-- what a stripe begins with: a zero block of the first stamp
+abbrev pub first_replica : ℕ → Replica
+first_replica block = record { order = first_stamp; log = record { stamp = first_stamp; block = replicate block 0 } ∷ [] }
+
+-- the last version of a log
+abbrev pub newest_of : List Version → Option Version
+newest_of [] = None
+newest_of (version ∷ []) = Some version
+newest_of (version ∷ (next ∷ log)) = newest_of (next ∷ log)
+
+-- a version of this stamp is in the log
+abbrev pub is_held : Stamp → List Version → Bool
+is_held t [] = false
+is_held t (version ∷ log) = stamp_same version.stamp t || is_held t log
+
+-- the greater of two stamps
+abbrev pub stamp_max : Stamp → Stamp → Stamp
+stamp_max a b = if stamp_below a b then b else a
+
+-- the greater of the order stamp and the newest version's
+unfoldable pub top_of : Replica → Stamp
+top_of replica = top_from replica.order (newest_of replica.log)
+  where
+    top_from : Stamp → Option Version → Stamp
+    top_from order None = order
+    top_from order (Some version) = stamp_max order version.stamp
+
+-- whether this seat's block is wanted
+abbrev pub is_wanted : Want → ℕ → Bool
+is_wanted (Seat k) seat = nat_eq k seat
+is_wanted All seat = true
+
+-- the version to tell: without its bytes where they are not wanted
+abbrev pub told_version : Bool → Option Version → Option Version
+told_version wanted None = None
+told_version true (Some version) = Some version
+told_version false (Some version) = Some (record { stamp = version.stamp; block = [] })
+
+-- the member's part after a request, and its reply
+pub record Reaction : Type 0 where
+  pub replica : Replica
+  pub reply : Option Reply
+
+-- promise to take nothing below t, unless something later was promised or stored
+abbrev pub ordered : Replica → Stamp → Reaction
+ordered replica t =
+    if stamp_below t (top_of replica)
+    then record { replica = replica; reply = Some (Later (top_of replica)) }
+    else record { replica = record { order = t; log = replica.log }; reply = Some Ordered }
+
+-- store a version, unless something later was promised or stored; one that is held already is stored
+abbrev pub written : Replica → Stamp → List ℕ → Reaction
+written replica t block =
+    if is_held t replica.log then record { replica = replica; reply = Some Stored }
+    else if stamp_below t (top_of replica) then record { replica = replica; reply = Some (Later (top_of replica)) }
+    else record { replica = record { order = replica.order; log = replica.log ++ (record { stamp = t; block = block } ∷ []) }; reply = Some Stored }
+
+-- What the member at a seat does with a request. Versions are not collected yet, and no coordinator sends the requests that are ignored here.
+unfoldable pub handle : ℕ → Replica → Request → Reaction
+handle seat replica (Read want) =
+    record { replica = replica; reply = Some (Found replica.order (told_version (is_wanted want seat) (newest_of replica.log))) }
+handle seat replica (Order t) = ordered replica t
+handle seat replica (Write t block) = written replica t block
+handle seat replica (OrderRead t look want) = record { replica = replica; reply = None }
+handle seat replica (Modify t base j delta) = record { replica = replica; reply = None }
+handle seat replica (Collect t) = record { replica = replica; reply = None }
+handle seat replica (OldRead bound) = record { replica = replica; reply = None }
+handle seat replica (Prepare ballot) = record { replica = replica; reply = None }
+handle seat replica (Accept ballot members) = record { replica = replica; reply = None }

@@ -1,0 +1,68 @@
+-- What does not change while a disk runs: its bricks and groups, and the code that keeps a stripe.
+use Rattle.std.specs.Prelude.{◌≡◌, ℕ, ◌+◌, ◌*◌, ◌<◌, ◌≤◌, nat_eq, if◌then◌else◌, List, [], ◌∷◌, length, Option, Some, None, map, slice_get, replicate}
+use Rattle.std.specs.Option.{option_map}
+use Rattle.std.specs.List.{IsDistinct}
+use Rattle.fab_base.specs.declared.identities.BrickId.{BrickId}
+use Rattle.reg_model.specs.Registers.{zero_registers}
+use Rattle.quorum.specs.Quorums.{q_of, IsWithinLimits}
+
+-- a group: the members of its view 1, by seat; the data blocks of a stripe; and how many stripes
+pub record Group : Type 0 where
+  pub members : List BrickId
+  pub m : ℕ
+  pub stripes : ℕ
+
+-- the bytes of a block, the number of bricks, and the groups by number
+pub record Layout : Type 0 where
+  pub block : ℕ
+  pub bricks : ℕ
+  pub groups : List Group
+
+-- a block that was found at a seat
+pub record Piece : Type 0 where
+  pub seat : ℕ
+  pub bytes : List ℕ
+
+-- A code: the block of a stripe's content at a seat, and the content that pieces at some seats give back. Both are told m, the number of data blocks.
+pub record Code : Type 0 where
+  pub encode : ℕ → List ℕ → ℕ → List ℕ
+  pub decode : ℕ → List Piece → List ℕ
+
+-- the pieces are at distinct seats below n, each that seat's block of the content
+pub record ArePiecesOf (code : Code) (m n : ℕ) (content : List ℕ) (pieces : List Piece) : Type 0 where
+  pub distinct : IsDistinct nat_eq (map (λ piece. piece.seat) pieces)
+  pub seats : (k : ℕ) (piece : Piece) → slice_get pieces k ≡ Some piece → piece.seat < n
+  pub blocks : (k : ℕ) (piece : Piece) → slice_get pieces k ≡ Some piece → piece.bytes ≡ code.encode m content piece.seat
+
+-- any m pieces of a content of m blocks give it back
+abbrev pub AnyBlocksDecode : Code → ℕ → ℕ → ℕ → Type 0
+AnyBlocksDecode code block m n =
+    (content : List ℕ) (pieces : List Piece) → length content ≡ m * block → ArePiecesOf code m n content pieces → m ≤ length pieces
+    → code.decode m pieces ≡ content
+
+-- a disk: its layout, and its code
+pub record Setting : Type 0 where
+  pub layout : Layout
+  pub code : Code
+
+-- the group of a number, if there is one
+abbrev pub group_of : Layout → ℕ → Option Group
+group_of layout g = slice_get layout.groups g
+
+-- the quorum of a group
+abbrev pub quorum_of : Group → ℕ
+quorum_of group = q_of group.m (length group.members)
+
+-- the seat of a brick in a list of members, the first if there are several
+abbrev pub seat_in : List BrickId → ℕ → Option ℕ
+seat_in [] brick = None
+seat_in (member ∷ members) brick = if nat_eq member.0 brick then Some 0 else option_map (λ seat. seat + 1) (seat_in members brick)
+
+-- Each group is within the limits of a quorum, its members are distinct bricks, its code gives back what it encodes, and the zero content has zero blocks.
+pub record IsSound (setting : Setting) : Type 0 where
+  pub limits : (g : ℕ) (group : Group) → group_of setting.layout g ≡ Some group → IsWithinLimits group.m (length group.members)
+  pub distinct : (g : ℕ) (group : Group) → group_of setting.layout g ≡ Some group → IsDistinct nat_eq (map (λ member. member.0) group.members)
+  pub decodes : (g : ℕ) (group : Group) → group_of setting.layout g ≡ Some group
+      → AnyBlocksDecode setting.code setting.layout.block group.m (length group.members)
+  pub zero_blocks : (g : ℕ) (group : Group) (seat : ℕ) → group_of setting.layout g ≡ Some group
+      → setting.code.encode group.m (zero_registers group.m setting.layout.block) seat ≡ replicate setting.layout.block 0

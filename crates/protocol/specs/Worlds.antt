@@ -1,0 +1,190 @@
+-- The whole disk, and what a schedule of steps makes of it. Every message that was ever sent may be delivered, once, often or never,
+-- in any order: that is all that a network may do to it.
+use Rattle.std.specs.Prelude.{ℕ, zero, suc, ◌+◌, Bool, true, false, not, nat_lt, ◌&&◌, if◌then◌else◌, List, [], ◌∷◌, ◌++◌, length, Option, Some, None, is_some, slice_get}
+use Rattle.fab_base.specs.declared.identities.BrickId.{BrickId}
+use Rattle.fab_base.specs.declared.stamps.Stamp.{Stamp}
+use Rattle.fab_base.specs.declared.asks.Ask.{Ask}
+use Rattle.fab_base.specs.declared.answers.Answer.{Answer}
+use Rattle.fab_base.specs.declared.answers.Answer.TheVariants.{Data, Done, Aborted}
+use Rattle.fab_base.specs.Stamps.{stamp_same}
+use Rattle.fab_wire.specs.declared.messages.Packet.{Packet}
+use Rattle.reg_model.specs.declared.marks.Mark.{Mark}
+use Rattle.reg_model.specs.declared.marks.Mark.TheVariants.{Begin, End}
+use Rattle.reg_model.specs.Registers.{zero_registers}
+use Rattle.protocol.specs.Settings.{Setting, Layout, Group, group_of}
+use Rattle.protocol.specs.Replicas.{top_of}
+use Rattle.protocol.specs.Coordinators.{written_content}
+use Rattle.protocol.specs.Nodes.{Node, NodeStep, Told, Nothing, Made, Answers, put, first_node, is_stripe_op, refusal_of, invoked, received}
+
+-- what happens next: a brick is asked for an operation, or the message of a number, counted from 1 in the order of sending, is delivered
+pub data Event : Type 0 where
+  Invokes : (brick : BrickId) → (ask : Ask) → Event
+  Delivers : (number : ℕ) → Event
+
+-- What is known of an operation, by number: its coordinator and call number, where it begins, what it asks, the version that it made or
+-- read, whether it made it, whether it was answered; and, for the proof alone, how far each brick's part of the stripe had come when it began.
+pub record Operation : Type 0 where
+  pub brick : BrickId
+  pub seq : ℕ
+  pub begin : ℕ
+  pub ask : Ask
+  pub version : Option Stamp
+  pub made : Bool
+  pub answered : Bool
+  pub floor : ℕ → Stamp
+
+-- The whole disk: its bricks; every message that was ever sent, in order; the marks; how many operations have begun, and each by its
+-- number; the number of the operation of each brick's call; and, for the proof alone, the content of each version (by group, stripe and stamp).
+pub record World : Type 0 where
+  pub nodes : ℕ → Node
+  pub packets : List Packet
+  pub marks : List Mark
+  pub begun : ℕ
+  pub operations : ℕ → Option Operation
+  pub numbers : ℕ → ℕ → ℕ
+  pub contents : ℕ → ℕ → Stamp → List ℕ
+
+-- the zero bytes of a group's stripe
+abbrev pub zero_content : ℕ → Option Group → List ℕ
+zero_content block None = []
+zero_content block (Some group) = zero_registers group.m block
+
+-- all bricks up, their stores fresh, and nothing sent
+abbrev pub first_world : Layout → World
+first_world layout =
+    record {
+      nodes = λ i. first_node layout.block;
+      packets = [];
+      marks = [];
+      begun = 0;
+      operations = λ n. None;
+      numbers = λ i k. 0;
+      contents = λ g s t. zero_content layout.block (group_of layout g);
+    }
+
+-- a brick of the layout
+abbrev pub is_brick : Layout → BrickId → Bool
+is_brick layout brick = nat_lt brick.0 layout.bricks
+
+-- the brick begins an operation that is a whole stripe's and is not refused
+abbrev pub may_begin : Setting → World → BrickId → Ask → Bool
+may_begin setting w brick ask =
+    is_brick setting.layout brick && (is_stripe_op ask.op && not (is_some (refusal_of setting.layout (w.nodes brick.0) ask)))
+
+-- the world after a brick began an operation
+abbrev pub world_began : World → BrickId → Ask → NodeStep → World
+world_began w brick ask step =
+    record {
+      nodes = put w.nodes brick.0 step.node;
+      packets = w.packets ++ step.packets;
+      marks = w.marks ++ (Begin (length w.marks) (w.begun + 1) brick ask ∷ []);
+      begun = w.begun + 1;
+      operations = put w.operations (w.begun + 1) (Some (record {
+        brick = brick;
+        seq = step.node.seq;
+        begin = length w.marks;
+        ask = ask;
+        version = None;
+        made = false;
+        answered = false;
+        floor = λ i. top_of ((w.nodes i).replicas ask.group.0 ask.stripe.0);
+      }));
+      numbers = put w.numbers brick.0 (put (w.numbers brick.0) step.node.seq (w.begun + 1));
+      contents = w.contents;
+    }
+
+-- an operation was answered, and not aborted
+abbrev pub is_answer : Answer → Bool
+is_answer (Data bytes) = true
+is_answer Done = true
+is_answer (Aborted cause) = false
+
+-- the operation has made a version
+abbrev pub with_made : Stamp → Option Operation → Option Operation
+with_made t None = None
+with_made t (Some o) =
+    Some (record { brick = o.brick; seq = o.seq; begin = o.begin; ask = o.ask; version = Some t; made = true; answered = o.answered; floor = o.floor })
+
+-- the version that an operation made, else the one that it saw
+abbrev pub version_after : Option Stamp → Option Stamp → Option Stamp
+version_after made None = made
+version_after made (Some v) = Some v
+
+-- the operation is answered
+abbrev pub with_answer : Answer → Option Stamp → Option Operation → Option Operation
+with_answer answer seen None = None
+with_answer answer seen (Some o) =
+    Some (record {
+      brick = o.brick;
+      seq = o.seq;
+      begin = o.begin;
+      ask = o.ask;
+      version = version_after o.version seen;
+      made = o.made;
+      answered = is_answer answer;
+      floor = o.floor;
+    })
+
+-- the contents with that of a new version
+abbrev pub with_content : (ℕ → ℕ → Stamp → List ℕ) → Stamp → Option Operation → ℕ → ℕ → Stamp → List ℕ
+with_content contents t None = contents
+with_content contents t (Some o) =
+    put contents o.ask.group.0 (put (contents o.ask.group.0) o.ask.stripe.0
+    (λ u. if stamp_same u t then written_content o.ask.op else contents o.ask.group.0 o.ask.stripe.0 u))
+
+-- the world after a brick's step on a message
+abbrev pub world_stepped : World → BrickId → NodeStep → Told → World
+world_stepped w brick step Nothing =
+    record {
+      nodes = put w.nodes brick.0 step.node;
+      packets = w.packets ++ step.packets;
+      marks = w.marks;
+      begun = w.begun;
+      operations = w.operations;
+      numbers = w.numbers;
+      contents = w.contents;
+    }
+world_stepped w brick step (Made seq t) =
+    record {
+      nodes = put w.nodes brick.0 step.node;
+      packets = w.packets ++ step.packets;
+      marks = w.marks;
+      begun = w.begun;
+      operations = put w.operations (w.numbers brick.0 seq) (with_made t (w.operations (w.numbers brick.0 seq)));
+      numbers = w.numbers;
+      contents = with_content w.contents t (w.operations (w.numbers brick.0 seq));
+    }
+world_stepped w brick step (Answers seq answer seen) =
+    record {
+      nodes = put w.nodes brick.0 step.node;
+      packets = w.packets ++ step.packets;
+      marks = w.marks ++ (End (length w.marks) (w.numbers brick.0 seq) answer ∷ []);
+      begun = w.begun;
+      operations = put w.operations (w.numbers brick.0 seq) (with_answer answer seen (w.operations (w.numbers brick.0 seq)));
+      numbers = w.numbers;
+      contents = w.contents;
+    }
+
+-- a packet is delivered to a brick of the layout
+abbrev pub delivered : Setting → World → Option Packet → World
+delivered setting w None = w
+delivered setting w (Some packet) =
+    if is_brick setting.layout packet.to
+    then (let step = received setting packet.to (w.nodes packet.to.0) packet in world_stepped w packet.to step step.told)
+    else w
+
+-- the packet of a number, from 1
+abbrev pub packet_of : List Packet → ℕ → Option Packet
+packet_of packets zero = None
+packet_of packets (suc k) = slice_get packets k
+
+-- the world after an event; an operation that is refused and a number that was not sent change nothing
+unfoldable pub happens : Setting → World → Event → World
+happens setting w (Invokes brick ask) =
+    if may_begin setting w brick ask then world_began w brick ask (invoked setting brick 0 (w.nodes brick.0) ask) else w
+happens setting w (Delivers number) = delivered setting w (packet_of w.packets number)
+
+-- the world after a schedule
+abbrev pub run : Setting → List Event → World → World
+run setting [] w = w
+run setting (event ∷ events) w = run setting events (happens setting w event)

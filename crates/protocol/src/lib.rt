@@ -1,0 +1,9 @@
+//! The storage protocol as a machine: what a member does with a request, what a coordinator does with a reply, and what a
+//! schedule of such steps makes of the whole disk.
+#![tactic(auto)]
+
+pub mod phases;
+pub mod tellings;
+
+pub use phases::{Counted, Phase, Refuser};
+pub use tellings::Told;

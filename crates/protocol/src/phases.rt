@@ -1,0 +1,39 @@
+//! The phases of an operation at its coordinator, and the replies that count in them.
+
+use fab_base::{BrickId, Stamp};
+use fab_wire::Reply;
+
+/// The phase that an operation is in (Frølund 2004: a read looks; a write orders, and then stores).
+#[derive(Clone, Copy, Debug, PartialEq, Eq)]
+pub enum Phase {
+    /// A read has asked each member for its newest version.
+    Looks,
+    /// A write has asked each member to promise its stamp.
+    Orders,
+    /// A write has sent each member its block.
+    Stores,
+    /// A read that cannot answer at once: it stays open, and counts no more replies.
+    Stalls,
+}
+
+/// A reply that counts in the present phase.
+#[derive(Debug, Drop)]
+pub struct Counted {
+    /// The seat of the member that sent it.
+    pub seat: u8,
+    /// The member.
+    pub brick: BrickId,
+    /// What it said.
+    pub reply: Reply,
+}
+
+/// A member that told a later stamp.
+#[derive(Clone, Copy, Debug, PartialEq, Eq)]
+pub struct Refuser {
+    /// The member's seat.
+    pub seat: u8,
+    /// The member.
+    pub brick: BrickId,
+    /// The later stamp.
+    pub stamp: Stamp,
+}

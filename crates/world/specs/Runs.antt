@@ -1,0 +1,44 @@
+-- A run: the lines of a schedule, one after another, over the disk of a layout.
+use Rattle.std.specs.Prelude.{ℕ, Bool, not, if◌then◌else◌, List, [], ◌∷◌, Option, Some, None}
+use Rattle.fab_base.specs.declared.identities.BrickId.{BrickId}
+use Rattle.fab_base.specs.declared.asks.Ask.{Ask}
+use Rattle.fab_base.specs.declared.asks.Op.{Op}
+use Rattle.fab_base.specs.declared.answers.Refusal.{Refusal}
+use Rattle.fab_base.specs.declared.answers.Refusal.TheVariants.{Down}
+use Rattle.lines.specs.declared.forms.Line.{Line}
+use Rattle.lines.specs.declared.forms.Line.TheVariants.{Nothing, Invoke, Deliver}
+use Rattle.protocol.specs.Settings.{Setting, Layout}
+use Rattle.protocol.specs.Nodes.{refusal_of}
+use Rattle.protocol.specs.Worlds.{World, Invokes, Delivers, first_world, is_brick, happens}
+use Rattle.node.specs.Copies.{copying}
+
+-- the lines that were run over the disk of this layout
+pub record Run : Type 0 where
+  pub layout : Layout
+  pub lines : List Line
+
+-- the brick of a number
+abbrev pub brick_of : ℕ → BrickId
+brick_of b = record { 0 = b }
+
+-- the operation on a stripe of a group
+abbrev pub ask_of : ℕ → ℕ → Op → Ask
+ask_of g s op = record { group = record { 0 = g }; stripe = record { 0 = s }; op = op }
+
+-- the world after a line: each line is at most one event
+abbrev pub after_line : Setting → World → Line → World
+after_line setting w Nothing = w
+after_line setting w (Invoke b g s op) = happens setting w (Invokes (brick_of b) (ask_of g s op))
+after_line setting w (Deliver k) = happens setting w (Delivers k)
+
+abbrev pub after_lines : Setting → World → List Line → World
+after_lines setting w [] = w
+after_lines setting w (line ∷ lines) = after_lines setting (after_line setting w line) lines
+
+-- the world that a run leaves
+abbrev pub world_of : Run → World
+world_of r = after_lines (copying r.layout) (first_world r.layout) r.lines
+
+-- why a brick does not begin an operation, where it does not: it is not up, or it refuses
+abbrev pub refusal_at : Setting → World → BrickId → Ask → Option Refusal
+refusal_at setting w brick ask = if is_brick setting.layout brick then refusal_of setting.layout (w.nodes brick.0) ask else Some Down

@@ -1,0 +1,99 @@
+-- The text that a line prints.
+use Rattle.std.specs.Prelude.{ℕ, Bool, true, false, not, if◌then◌else◌, List, [], ◌∷◌, ◌++◌, length, drop, codes, Option, Some, None}
+use Rattle.std.specs.Fmt.{decimal}
+use Rattle.hex.specs.Hex.{encode_lower}
+use Rattle.fab_base.specs.declared.identities.BrickId.{BrickId}
+use Rattle.fab_base.specs.declared.asks.Ask.{Ask}
+use Rattle.fab_base.specs.declared.asks.Op.{Op}
+use Rattle.fab_base.specs.declared.asks.Op.TheVariants.{ReadBlock, WriteBlock, ReadStripe, WriteStripe}
+use Rattle.fab_base.specs.declared.answers.Answer.{Answer}
+use Rattle.fab_base.specs.declared.answers.Answer.TheVariants.{Data, Done, Aborted}
+use Rattle.fab_base.specs.declared.answers.Cause.{Cause}
+use Rattle.fab_base.specs.declared.answers.Cause.TheVariants.{Later, Gone, Full, Moved}
+use Rattle.fab_base.specs.declared.answers.Refusal.{Refusal}
+use Rattle.fab_base.specs.declared.answers.Refusal.TheVariants.{Down, NoStripe, NoBlock, Length, Busy, Spent}
+use Rattle.fab_base.specs.Stamps.{stamp_text}
+use Rattle.reg_model.specs.declared.marks.Mark.{Mark}
+use Rattle.reg_model.specs.declared.marks.Mark.TheVariants.{Begin, End, Crash}
+use Rattle.lines.specs.declared.forms.Line.{Line}
+use Rattle.lines.specs.declared.forms.Line.TheVariants.{Nothing, Invoke, Deliver}
+use Rattle.fab_wire.specs.declared.messages.Packet.{Packet}
+use Rattle.protocol.specs.Settings.{Setting}
+use Rattle.protocol.specs.Worlds.{World, is_brick, packet_of}
+use Rattle.world.specs.Runs.{after_line, brick_of, ask_of, refusal_at}
+
+-- the end of a line
+abbrev pub newline : List ℕ
+newline = 10 ∷ []
+
+-- what is asked
+abbrev pub ask_text : Ask → List ℕ
+ask_text ask = op_text ask.op
+  where
+    place : List ℕ → List ℕ
+    place rest = decimal ask.group.0 ++ (codes " " ++ (decimal ask.stripe.0 ++ rest))
+    op_text : Op → List ℕ
+    op_text (ReadBlock j) = codes "read " ++ place (codes " " ++ (decimal j ++ newline))
+    op_text (WriteBlock j bytes) = codes "write " ++ place (codes " " ++ (decimal j ++ (codes " " ++ (encode_lower bytes ++ newline))))
+    op_text ReadStripe = codes "readall " ++ place newline
+    op_text (WriteStripe bytes) = codes "writeall " ++ place (codes " " ++ (encode_lower bytes ++ newline))
+
+-- why an operation was aborted
+abbrev pub cause_text : Cause → List ℕ
+cause_text (Later brick stamp) = codes "later " ++ (decimal brick.0 ++ (codes " " ++ (stamp_text stamp ++ newline)))
+cause_text (Gone brick) = codes "gone " ++ (decimal brick.0 ++ newline)
+cause_text (Full brick live) = codes "full " ++ (decimal brick.0 ++ (codes " " ++ (decimal live ++ newline)))
+cause_text (Moved brick view) = codes "moved " ++ (decimal brick.0 ++ (codes " " ++ (decimal view.0 ++ newline)))
+
+-- an answer
+abbrev pub answer_text : Answer → List ℕ
+answer_text (Data bytes) = codes "data " ++ (encode_lower bytes ++ newline)
+answer_text Done = codes "done" ++ newline
+answer_text (Aborted cause) = codes "aborted " ++ cause_text cause
+
+-- a mark, on a line of its own
+abbrev pub mark_text : Mark → List ℕ
+mark_text (Begin p n brick ask) =
+    decimal p ++ (codes " begin " ++ (decimal n ++ (codes " " ++ (decimal brick.0 ++ (codes " " ++ ask_text ask)))))
+mark_text (End p n answer) = decimal p ++ (codes " end " ++ (decimal n ++ (codes " " ++ answer_text answer)))
+mark_text (Crash p brick) = decimal p ++ (codes " crash " ++ (decimal brick.0 ++ newline))
+
+-- marks, in order
+abbrev pub marks_text : List Mark → List ℕ
+marks_text [] = []
+marks_text (mark ∷ marks) = mark_text mark ++ marks_text marks
+
+-- why an operation is not begun
+abbrev pub refusal_text : Refusal → List ℕ
+refusal_text Down = codes "refused down" ++ newline
+refusal_text NoStripe = codes "refused nostripe" ++ newline
+refusal_text NoBlock = codes "refused noblock" ++ newline
+refusal_text Length = codes "refused length" ++ newline
+refusal_text Busy = codes "refused busy" ++ newline
+refusal_text Spent = codes "refused spent" ++ newline
+
+-- a line that finds nothing to do
+abbrev pub idle_text : List ℕ
+idle_text = codes "idle" ++ newline
+
+-- the message of a number was sent, to a brick that is up
+abbrev pub is_deliverable : Setting → Option Packet → Bool
+is_deliverable setting None = false
+is_deliverable setting (Some packet) = is_brick setting.layout packet.to
+
+-- the marks that a world has after another
+abbrev pub new_marks : World → World → List Mark
+new_marks old new = drop (length old.marks) new.marks
+
+-- a refusal, or the marks that the line made
+abbrev pub refused_or_marks : Option Refusal → List Mark → List ℕ
+refused_or_marks None marks = marks_text marks
+refused_or_marks (Some refusal) marks = refusal_text refusal
+
+-- What a line prints: its marks; or why it was refused; or that it found nothing to do.
+abbrev pub text_of : Setting → World → Line → List ℕ
+text_of setting w Nothing = []
+text_of setting w (Invoke b g s op) =
+    refused_or_marks (refusal_at setting w (brick_of b) (ask_of g s op)) (new_marks w (after_line setting w (Invoke b g s op)))
+text_of setting w (Deliver k) =
+    if is_deliverable setting (packet_of w.packets k) then marks_text (new_marks w (after_line setting w (Deliver k))) else idle_text

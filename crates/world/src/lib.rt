@@ -1,0 +1,10 @@
+//! The whole disk over simulated bricks: a schedule's lines are run one after another, and each tells what it marks.
+#![tactic(auto)]
+
+mod rooms;
+mod states;
+mod texts;
+mod walks;
+mod worlds;
+
+pub use worlds::{StepFault, World};

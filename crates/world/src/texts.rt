@@ -1,0 +1,120 @@
+//! The text of marks and refusals, a line each.
+
+ghost use Rattle.std.specs.Prelude.{◌≡◌, IfOk, string_bytes};
+ghost use Rattle.world.specs.Texts.{mark_text, marks_text, answer_text, ask_text, cause_text, refusal_text, idle_text};
+
+use fab_base::{Answer, Ask, Bytes, Cause, NoMem, Op, Refusal};
+use reg_model::Mark;
+use std::alloc::Global;
+
+/// Why an operation was aborted.
+fn cause_text(alloc: Global, cause: &Cause) -> Result<String, NoMem>
+    ensures { IfOk result (λ text. string_bytes text ≡ cause_text cause.now) }
+{
+    Ok(match cause {
+        Cause::Later { brick, stamp } => format!(in alloc; "later {brick} {stamp}\n")?,
+        Cause::Gone { brick } => format!(in alloc; "gone {brick}\n")?,
+        Cause::Full { brick, live } => format!(in alloc; "full {brick} {live}\n")?,
+        Cause::Moved { brick, view } => {
+            let view = view.0;
+            format!(in alloc; "moved {brick} {view}\n")?
+        }
+    })
+}
+
+/// An answer.
+fn answer_text(alloc: Global, answer: &Answer) -> Result<String, NoMem>
+    ensures { IfOk result (λ text. string_bytes text ≡ answer_text answer.now) }
+{
+    match answer {
+        Answer::Data(bytes) => {
+            let bytes = hex::encode(alloc, bytes.as_slice())?;
+            Ok(format!(in alloc; "data {bytes}\n")?)
+        }
+        Answer::Done => Ok(format!(in alloc; "done\n")?),
+        Answer::Aborted(cause) => {
+            let cause = cause_text(alloc, cause)?;
+            Ok(format!(in alloc; "aborted {cause}")?)
+        }
+    }
+}
+
+/// What is asked.
+fn ask_text(alloc: Global, ask: &Ask) -> Result<String, NoMem>
+    ensures { IfOk result (λ text. string_bytes text ≡ ask_text ask.now) }
+{
+    let group = ask.group.0;
+    let stripe = ask.stripe.0;
+    Ok(match &ask.op {
+        Op::ReadBlock(block) => format!(in alloc; "read {group} {stripe} {block}\n")?,
+        Op::WriteBlock(block, bytes) => {
+            let bytes = hex::encode(alloc, bytes.as_slice())?;
+            format!(in alloc; "write {group} {stripe} {block} {bytes}\n")?
+        }
+        Op::ReadStripe => format!(in alloc; "readall {group} {stripe}\n")?,
+        Op::WriteStripe(bytes) => {
+            let bytes = hex::encode(alloc, bytes.as_slice())?;
+            format!(in alloc; "writeall {group} {stripe} {bytes}\n")?
+        }
+    })
+}
+
+/// A mark, on a line of its own.
+fn mark_text(alloc: Global, mark: &Mark) -> Result<String, NoMem>
+    ensures { IfOk result (λ text. string_bytes text ≡ mark_text mark.now) }
+{
+    match mark {
+        Mark::Begin {
+            position,
+            operation,
+            brick,
+            ask,
+        } => {
+            let ask = ask_text(alloc, ask)?;
+            Ok(format!(in alloc; "{position} begin {operation} {brick} {ask}")?)
+        }
+        Mark::End {
+            position,
+            operation,
+            answer,
+        } => {
+            let answer = answer_text(alloc, answer)?;
+            Ok(format!(in alloc; "{position} end {operation} {answer}")?)
+        }
+        Mark::Crash { position, brick } => Ok(format!(in alloc; "{position} crash {brick}\n")?),
+    }
+}
+
+/// Marks, in order.
+pub fn marks_text(alloc: Global, marks: &[Mark]) -> Result<String, NoMem>
+    ensures { IfOk result (λ text. string_bytes text ≡ marks_text marks.now) }
+{
+    let mut text = String::new(alloc);
+    for mark in marks {
+        let line = mark_text(alloc, mark)?;
+        text.push_str(line.as_str())?;
+    }
+    Ok(text)
+}
+
+/// Why an operation is not begun.
+pub fn refusal_text(alloc: Global, refusal: Refusal) -> Result<String, NoMem>
+    ensures { IfOk result (λ text. string_bytes text ≡ refusal_text refusal) }
+{
+    let text = match refusal {
+        Refusal::Down => "refused down\n",
+        Refusal::NoStripe => "refused nostripe\n",
+        Refusal::NoBlock => "refused noblock\n",
+        Refusal::Length => "refused length\n",
+        Refusal::Busy => "refused busy\n",
+        Refusal::Spent => "refused spent\n",
+    };
+    Ok(String::from_str(alloc, text)?)
+}
+
+/// A line that found nothing to do.
+pub fn idle_text(alloc: Global) -> Result<String, NoMem>
+    ensures { IfOk result (λ text. string_bytes text ≡ idle_text) }
+{
+    Ok(String::from_str(alloc, "idle\n")?)
+}
