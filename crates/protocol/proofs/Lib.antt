@@ -1,1 +1,3 @@
 pub mod Books
+pub mod Said
+pub mod QuorumFacts
