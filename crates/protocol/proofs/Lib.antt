@@ -1,3 +1,4 @@
 pub mod Books
 pub mod Said
+pub mod Lives
 pub mod QuorumFacts
