@@ -1,4 +1,6 @@
 pub mod Books
 pub mod Said
 pub mod Lives
+pub mod Tables
+pub mod Reactions
 pub mod QuorumFacts
