@@ -3,4 +3,5 @@ pub mod Said
 pub mod Lives
 pub mod Tables
 pub mod Reactions
+pub mod Counting
 pub mod QuorumFacts

@@ -227,3 +227,47 @@ handle_says seat replica (Collect t) = tt
 handle_says seat replica (OldRead bound) = tt
 handle_says seat replica (Prepare ballot) = tt
 handle_says seat replica (Accept ballot members) = tt
+
+-- a request does not lower the top
+pub after_top : (replica : Replica) (request : Request) (next : Replica) → IsAfter replica request next → stamp_below (top_of next) (top_of replica) ≡ false
+after_top replica request next (inl same) = subst (λ (z : Replica). stamp_below (top_of z) (top_of replica) ≡ false) (sym same) (stamp_below_irrefl (top_of replica))
+after_top replica request next (inr (inl p)) =
+    let top : top_of next ≡ p.stamp = ap (λ z. top_of z) p.next_is ∙ top_promised replica p.stamp p.above in
+    subst (λ (z : Stamp). stamp_below z (top_of replica) ≡ false) (sym top) p.above
+after_top replica request next (inr (inr p)) =
+    let top : top_of next ≡ p.stamp = ap (λ z. top_of z) p.next_is ∙ top_written replica p.stamp p.block p.above in
+    subst (λ (z : Stamp). stamp_below z (top_of replica) ≡ false) (sym top) p.above
+
+-- a request leaves what is held
+pub after_held : (replica : Replica) (request : Request) (next : Replica) (t : Stamp) → IsAfter replica request next → is_held t replica.log ≡ true
+    → is_held t next.log ≡ true
+after_held replica request next t (inl same) held = subst (λ (z : Replica). is_held t z.log ≡ true) (sym same) held
+after_held replica request next t (inr (inl p)) held = subst (λ (z : Replica). is_held t z.log ≡ true) (sym p.next_is) held
+after_held replica request next t (inr (inr p)) held =
+    subst (λ (z : Replica). is_held t z.log ≡ true) (sym p.next_is) (held_kept t replica.log (record { stamp = p.stamp; block = p.block } ∷ []) held)
+
+-- the top is as before, or the stamp that was asked for
+pub after_asked : (replica : Replica) (request : Request) (next : Replica) → IsAfter replica request next
+    → (top_of next ≡ top_of replica) ⊎ IsAsked request (top_of next)
+after_asked replica request next (inl same) = inl (ap (λ z. top_of z) same)
+after_asked replica request next (inr (inl p)) =
+    let top : top_of next ≡ p.stamp = ap (λ z. top_of z) p.next_is ∙ top_promised replica p.stamp p.above in
+    inr (subst (λ (z : Stamp). IsAsked request z) (sym top) (inl p.request_is))
+after_asked replica request next (inr (inr p)) =
+    let top : top_of next ≡ p.stamp = ap (λ z. top_of z) p.next_is ∙ top_written replica p.stamp p.block p.above in
+    inr (subst (λ (z : Stamp). IsAsked request z) (sym top) (inr (p.block, p.request_is)))
+
+-- a version in the log was there, or was written
+pub after_log : (replica : Replica) (request : Request) (next : Replica) (k : ℕ) (version : Version) → IsAfter replica request next
+    → slice_get next.log k ≡ Some version → (slice_get replica.log k ≡ Some version) ⊎ (request ≡ Write version.stamp version.block)
+after_log replica request next k version (inl same) is = inl (subst (λ (z : Replica). slice_get z.log k ≡ Some version) same is)
+after_log replica request next k version (inr (inl p)) is = inl (subst (λ (z : Replica). slice_get z.log k ≡ Some version) p.next_is is)
+after_log replica request next k version (inr (inr p)) is =
+    let grown : slice_get (replica.log ++ (record { stamp = p.stamp; block = p.block } ∷ [])) k ≡ Some version
+    = subst (λ (z : Replica). slice_get z.log k ≡ Some version) p.next_is is in
+    ⊎_elim
+    (λ (old : slice_get replica.log k ≡ Some version). inl old)
+    (λ (new : (j : ℕ) × (slice_get (record { stamp = p.stamp; block = p.block } ∷ []) j ≡ Some version)).
+    let same : record { stamp = p.stamp; block = p.block } ≡ version = get_one (record { stamp = p.stamp; block = p.block }) version new.0 new.1 in
+    inr (p.request_is ∙ ap (λ (z : Version). Write z.stamp z.block) same))
+    (get_grown replica.log (record { stamp = p.stamp; block = p.block } ∷ []) k version grown)
