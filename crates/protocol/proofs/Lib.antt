@@ -4,4 +4,5 @@ pub mod Lives
 pub mod Tables
 pub mod Reactions
 pub mod Counting
+pub mod Growth
 pub mod QuorumFacts
