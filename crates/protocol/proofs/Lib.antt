@@ -5,4 +5,5 @@ pub mod Tables
 pub mod Reactions
 pub mod Counting
 pub mod Growth
+pub mod Steps
 pub mod QuorumFacts
