@@ -145,7 +145,7 @@ module _ (setting : Setting) (w next : World) (stamps later : Stamping) (books :
   write_made from to call t block says =
       inr (w.numbers from call.seq, says.operation, says.called.is, says.called.group, says.called.stripe, says.made, says.version)
 
-  stays_write : (from to : ℕ) (call : Call) (t : Stamp) (block : List ℕ) → WriteSays setting w stamps from to call t block
+  pub stays_write : (from to : ℕ) (call : Call) (t : Stamp) (block : List ℕ) → WriteSays setting w stamps from to call t block
       → WriteSays setting next later from to call t block
   stays_write from to call t block says =
       let goes = stays_called from call says.operation says.called in
@@ -160,14 +160,14 @@ module _ (setting : Setting) (w next : World) (stamps later : Stamping) (books :
         is_block = stays_block call.group.0 call.stripe.0 to t block (write_made from to call t block says) says.is_block;
       }
 
-  stays_request : (i j : ℕ) (call : Call) (request : Request) → RequestSays setting w stamps i j call request → RequestSays setting next later i j call request
+  pub stays_request : (i j : ℕ) (call : Call) (request : Request) → RequestSays setting w stamps i j call request → RequestSays setting next later i j call request
   stays_request i j call (Request.Read want) says = let goes = stays_called i call says.1.0 says.1.1 in (says.0, (goes.0, goes.1))
   stays_request i j call (Request.Order t) says =
       let goes = stays_called i call says.1.0 says.1.1 in (says.0 ∙ stays_stamp i call says.1.0 says.1.1, (goes.0, goes.1))
   stays_request i j call (Request.Write t block) says = stays_write i j call t block says
   stays_request i j call request says = tt
 
-  stays_ordered : (j i : ℕ) (call : Call) → OrderedSays w stamps j i call → OrderedSays next later j i call
+  pub stays_ordered : (j i : ℕ) (call : Call) → OrderedSays w stamps j i call → OrderedSays next later j i call
   stays_ordered j i call says =
       let goes = stays_called i call says.operation says.called in
       let stamp : stamps i call.seq ≡ later i call.seq = stays_stamp i call says.operation says.called in
@@ -180,7 +180,7 @@ module _ (setting : Setting) (w next : World) (stamps later : Stamping) (books :
         (subst (λ (f : ℕ → Stamp). stamp_below (stamps i call.seq) (f j) ≡ false) (sym goes.2.floor) says.floor);
       }
 
-  stays_found : (j i : ℕ) (call : Call) (order : Stamp) (version : Version) → FoundSays setting w j i call order version → FoundSays setting next j i call order version
+  pub stays_found : (j i : ℕ) (call : Call) (order : Stamp) (version : Version) → FoundSays setting w j i call order version → FoundSays setting next j i call order version
   stays_found j i call order version says =
       let goes = stays_called i call says.operation says.called in
       record {
@@ -197,7 +197,7 @@ module _ (setting : Setting) (w next : World) (stamps later : Stamping) (books :
   stays_asked call from to t (inr sent) =
       inr (sent.0, grows.sent (record { from = from; to = to; message = Message.Request call (Request.Write t sent.0) }) sent.1)
 
-  stays_reply : (from to : BrickId) (call : Call) (reply : Reply) → ReplySays setting w stamps from to call reply → ReplySays setting next later from to call reply
+  pub stays_reply : (from to : BrickId) (call : Call) (reply : Reply) → ReplySays setting w stamps from to call reply → ReplySays setting next later from to call reply
   stays_reply from to call (Reply.Found order (Some version)) says = stays_found from.0 to.0 call order version says
   stays_reply from to call Reply.Ordered says = stays_ordered from.0 to.0 call says
   stays_reply from to call Reply.Stored says =
@@ -210,7 +210,7 @@ module _ (setting : Setting) (w next : World) (stamps later : Stamping) (books :
   stays_reply from to call (Reply.Later x) says = (says.0, stays_asked call to from says.0 says.1, says.2)
   stays_reply from to call reply says = tt
 
-  stays_message : (from to : BrickId) (message : Message) → MessageSays setting w stamps from to message → MessageSays setting next later from to message
+  pub stays_message : (from to : BrickId) (message : Message) → MessageSays setting w stamps from to message → MessageSays setting next later from to message
   stays_message from to (Message.Request call request) says = stays_request from.0 to.0 call request says
   stays_message from to (Message.Reply call reply) says = stays_reply from to call reply says
   stays_message from to message says = tt
@@ -250,7 +250,7 @@ module _ (setting : Setting) (w next : World) (stamps later : Stamping) (books :
         answered = says.answered;
       }
 
-  stays_counted : (i : ℕ) (c : Coordinator) (x : Counted) → CountedSays setting w i c x → CountedSays setting next i c x
+  pub stays_counted : (i : ℕ) (c : Coordinator) (x : Counted) → CountedSays setting w i c x → CountedSays setting next i c x
   stays_counted i c x says = record {
     sent = grows.sent (record { from = x.brick; to = record { 0 = i }; message = Message.Reply c.call x.reply }) says.sent;
     answers = says.answers;
@@ -283,7 +283,7 @@ module _ (setting : Setting) (w next : World) (stamps later : Stamping) (books :
     above = shown.above;
   }
 
-  stays_shown : (said : (n : ℕ) (o : Operation) → IsOperation w n o → OperationSays setting w stamps n o) (n : ℕ) (bytes : List ℕ) → DataShown w n bytes
+  pub stays_shown : (said : (n : ℕ) (o : Operation) → IsOperation w n o → OperationSays setting w stamps n o) (n : ℕ) (bytes : List ℕ) → DataShown w n bytes
       → DataShown next n bytes
   stays_shown said n bytes shown =
       let goes = grows.operations n shown.operation shown.is in

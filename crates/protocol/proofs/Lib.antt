@@ -6,4 +6,5 @@ pub mod Reactions
 pub mod Counting
 pub mod Growth
 pub mod Steps
+pub mod Requests
 pub mod QuorumFacts
