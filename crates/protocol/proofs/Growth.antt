@@ -257,19 +257,26 @@ module _ (setting : Setting) (w next : World) (stamps later : Stamping) (books :
     seat = says.seat;
   }
 
-  -- what an open operation's coordinator says stays said
-  pub stays_call : (i k : ℕ) (c : Coordinator) → IsCall w i k c → CallSays setting w stamps i k c → CallSays setting next later i k c
-  stays_call i k c is says =
+  -- what a coordinator says stays said
+  pub stays_open : (i k : ℕ) (c : Coordinator) → k ≤ (w.nodes i).seq → CallSays setting w stamps i k c → CallSays setting next later i k c
+  stays_open i k c here says = record {
+    stamp = says.stamp ∙ sym (grows.stamped i k here);
+    fits = says.fits;
+    counted = each_then (CountedSays setting w i c) (CountedSays setting next i c) c.counted (λ x h. stays_counted i c x h) says.counted;
+    once = says.once;
+  }
+
+  -- the number of an open call is one of its brick's
+  pub call_within : (i k : ℕ) (c : Coordinator) → IsCall w i k c → k ≤ (w.nodes i).seq
+  call_within i k c is =
       let its : CallBooks setting w i k c = books.calls i k c is in
       let within : its.operation.seq ≤ (w.nodes its.operation.brick.0).seq = (books.operations (w.numbers i k) its.operation its.operation_is).called.1 in
       let at : its.operation.seq ≤ (w.nodes i).seq = subst (λ (j : ℕ). its.operation.seq ≤ (w.nodes j).seq) its.brick within in
-      let here : k ≤ (w.nodes i).seq = subst (λ (j : ℕ). j ≤ (w.nodes i).seq) its.seq at in
-      record {
-        stamp = says.stamp ∙ sym (grows.stamped i k here);
-        fits = says.fits;
-        counted = each_then (CountedSays setting w i c) (CountedSays setting next i c) c.counted (λ x h. stays_counted i c x h) says.counted;
-        once = says.once;
-      }
+      subst (λ (j : ℕ). j ≤ (w.nodes i).seq) its.seq at
+
+  -- what an open operation's coordinator says stays said
+  pub stays_call : (i k : ℕ) (c : Coordinator) → IsCall w i k c → CallSays setting w stamps i k c → CallSays setting next later i k c
+  stays_call i k c is says = stays_open i k c (call_within i k c is) says
 
   -- evidence stays
   pub stays_evidence : (o p : Operation) (brick : BrickId) (x : Stamp) → Continues o p → Evidence w o brick x → Evidence next p brick x

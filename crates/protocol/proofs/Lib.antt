@@ -7,4 +7,5 @@ pub mod Counting
 pub mod Growth
 pub mod Steps
 pub mod Requests
+pub mod Decisions
 pub mod QuorumFacts

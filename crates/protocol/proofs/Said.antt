@@ -156,7 +156,7 @@ FitsPhase Stalls op = op ≡ ReadStripe
 -- a reply that counts at a coordinator of brick i
 pub record CountedSays (setting : Setting) (w : World) (i : ℕ) (c : Coordinator) (x : Counted) : Type 0 where
   pub sent : WasSent w (record { from = x.brick; to = record { 0 = i }; message = Message.Reply c.call x.reply })
-  pub answers : answers_phase setting.layout.block c.phase x.reply ≡ true
+  pub answers : c.phase ≡ Orders → answers_phase setting.layout.block Orders x.reply ≡ true
   pub seat : (group : Group) → group_of setting.layout c.ask.group.0 ≡ Some group → seat_in group.members x.brick.0 ≡ Some x.seat
 
 -- each reply that counts
