@@ -8,4 +8,5 @@ pub mod Growth
 pub mod Steps
 pub mod Requests
 pub mod Decisions
+pub mod Operated
 pub mod QuorumFacts
