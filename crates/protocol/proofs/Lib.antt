@@ -9,4 +9,6 @@ pub mod Steps
 pub mod Requests
 pub mod Decisions
 pub mod Operated
+pub mod OwnStamps
+pub mod Stores
 pub mod QuorumFacts
