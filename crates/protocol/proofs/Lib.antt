@@ -11,4 +11,5 @@ pub mod Decisions
 pub mod Operated
 pub mod OwnStamps
 pub mod Stores
+pub mod Ends
 pub mod QuorumFacts
