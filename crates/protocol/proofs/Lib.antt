@@ -12,4 +12,5 @@ pub mod Operated
 pub mod OwnStamps
 pub mod Stores
 pub mod Ends
+pub mod Replies
 pub mod QuorumFacts
