@@ -13,4 +13,5 @@ pub mod OwnStamps
 pub mod Stores
 pub mod Ends
 pub mod Replies
+pub mod Begins
 pub mod QuorumFacts
