@@ -14,4 +14,5 @@ pub mod Stores
 pub mod Ends
 pub mod Replies
 pub mod Begins
+pub mod SaidAlways
 pub mod QuorumFacts
