@@ -15,4 +15,5 @@ pub mod Ends
 pub mod Replies
 pub mod Begins
 pub mod SaidAlways
+pub mod Falls
 pub mod QuorumFacts

@@ -34,6 +34,16 @@ parts_each Q node call part new old g s =
     (put_each (Q call.group.0) (node.replicas call.group.0) call.stripe.0 part new (λ r other. old call.group.0 r))
     (λ h other r. old h r) g s
 
+-- a request lowers no part, and leaves what is held
+pub parts_keep : (node : Node) (call : Call) (request : Request) (part : Replica) → IsAfter (node.replicas call.group.0 call.stripe.0) request part
+    → KeepsParts node (with_replica node call part)
+parts_keep node call request part after = record {
+  tops = parts_each (λ g s r. stamp_below (top_of r) (top_of (node.replicas g s)) ≡ false) node call part
+  (after_top (node.replicas call.group.0 call.stripe.0) request part after) (λ g s. stamp_below_irrefl (top_of (node.replicas g s)));
+  held = λ g s t. parts_each (λ h r x. is_held t (node.replicas h r).log ≡ true → is_held t x.log ≡ true) node call part
+  (λ held. after_held (node.replicas call.group.0 call.stripe.0) request part t after held) (λ h r held. held) g s;
+}
+
 -- the changed part
 pub part_now : (node : Node) (call : Call) (part : Replica) → (with_replica node call part).replicas call.group.0 call.stripe.0 ≡ part
 part_now node call part =
@@ -76,12 +86,7 @@ module _ (setting : Setting) (w : World) (stamps : Stamping) (me from : BrickId)
     next = quiet w me (with_replica (w.nodes me.0) call part) (reply_packets me from call reply)
 
     keeps : KeepsParts (w.nodes me.0) (with_replica (w.nodes me.0) call part)
-    keeps = record {
-      tops = parts_each (λ g s r. stamp_below (top_of r) (top_of ((w.nodes me.0).replicas g s)) ≡ false) (w.nodes me.0) call part
-      (after_top before request part after) (λ g s. stamp_below_irrefl (top_of ((w.nodes me.0).replicas g s)));
-      held = λ g s t. parts_each (λ h r x. is_held t ((w.nodes me.0).replicas h r).log ≡ true → is_held t x.log ≡ true) (w.nodes me.0) call part
-      (λ held. after_held before request part t after held) (λ h r held. held) g s;
-    }
+    keeps = parts_keep (w.nodes me.0) call request part after
 
     grows : Grows w next stamps stamps
     grows = quiet_grows w stamps me (with_replica (w.nodes me.0) call part) (reply_packets me from call reply) keeps refl
