@@ -56,6 +56,22 @@ pub record Grows (w next : World) (stamps later : Stamping) : Type 0 where
   pub numbered : (i k : ℕ) → k ≤ (w.nodes i).seq → next.numbers i k ≡ w.numbers i k
   pub marks : length w.marks ≤ length next.marks
 
+-- where no top falls, what is at or above t stays so
+pub above_stays : (w next : World) → NeverFalls w next → (g s i : ℕ) (t : Stamp) → stamp_below (top_of (part_of w g s i)) t ≡ false
+    → stamp_below (top_of (part_of next g s i)) t ≡ false
+above_stays w next tops g s i t above = stamp_not_below_trans t (top_of (part_of w g s i)) (top_of (part_of next g s i)) above (tops g s i)
+
+-- and what is guarded stays guarded
+pub guarded_stays : (w next : World) → NeverFalls w next → (g s : ℕ) (group : Group) (t : Stamp) → IsGuarded w g s group t → IsGuarded next g s group t
+guarded_stays w next tops g s group t guarded =
+    let more = count_monotone (length group.members)
+    (λ seat. not (stamp_below (top_of (part_of w g s (brick_at group seat))) t))
+    (λ seat. not (stamp_below (top_of (part_of next g s (brick_at group seat))) t))
+    (λ k below is.
+    not_from_false (stamp_below (top_of (part_of next g s (brick_at group k))) t)
+    (above_stays w next tops g s (brick_at group k) t (not-true (stamp_below (top_of (part_of w g s (brick_at group k))) t) is))) in
+    omega (arith, guarded, more)
+
 module _ (setting : Setting) (w next : World) (stamps later : Stamping) (books : Books setting w) (grows : Grows w next stamps later) where
 
   -- a version that was made stays made
@@ -115,18 +131,11 @@ module _ (setting : Setting) (w next : World) (stamps later : Stamping) (books :
 
   -- what is at or above t stays so
   pub stays_above : (g s i : ℕ) (t : Stamp) → stamp_below (top_of (part_of w g s i)) t ≡ false → stamp_below (top_of (part_of next g s i)) t ≡ false
-  stays_above g s i t above = stamp_not_below_trans t (top_of (part_of w g s i)) (top_of (part_of next g s i)) above (grows.tops g s i)
+  stays_above g s i t above = above_stays w next grows.tops g s i t above
 
   -- what is guarded stays guarded
   pub stays_guarded : (g s : ℕ) (group : Group) (t : Stamp) → IsGuarded w g s group t → IsGuarded next g s group t
-  stays_guarded g s group t guarded =
-      let more = count_monotone (length group.members)
-      (λ seat. not (stamp_below (top_of (part_of w g s (brick_at group seat))) t))
-      (λ seat. not (stamp_below (top_of (part_of next g s (brick_at group seat))) t))
-      (λ k below is.
-      not_from_false (stamp_below (top_of (part_of next g s (brick_at group k))) t)
-      (stays_above g s (brick_at group k) t (not-true (stamp_below (top_of (part_of w g s (brick_at group k))) t) is))) in
-      omega (arith, guarded, more)
+  stays_guarded g s group t guarded = guarded_stays w next grows.tops g s group t guarded
 
   -- a block stays the block of its version
   pub stays_block : (g s i : ℕ) (t : Stamp) (block : List ℕ) → IsMadeOrFirst w g s t → IsBlockOf setting w g s i t block → IsBlockOf setting next g s i t block
