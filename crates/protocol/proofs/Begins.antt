@@ -1,5 +1,5 @@
 -- A brick begins an operation, with a stamp that no part of any stripe has.
-use Rattle.std.proofs.Common.{◌≡◌, ◌≢◌, ℕ, zero, suc, ◌+◌, ◌-◌, ◌<◌, ◌≤◌, ◌⊎◌, inl, inr, Bool, true, false, cond, List, [], ◌∷◌, ◌++◌, length, Option, Some, None, max, refl, sym, ap, ◌∙◌, subst, ⊎_elim, arith}
+use Rattle.std.proofs.Common.{◌≡◌, ◌≢◌, ℕ, ◌+◌, ◌<◌, ◌≤◌, ◌⊎◌, inl, inr, true, false, List, [], ◌∷◌, length, Some, None, refl, sym, ap, ◌∙◌, subst, ⊎_elim, arith}
 use Rattle.std.specs.Prelude.{slice_get, nat_eq}
 use Rattle.std.proofs.lemmas.Bool.{ne_eqb, cond-false, false≢true}
 use Rattle.std.proofs.lemmas.List.{length-append}
@@ -8,28 +8,22 @@ use Rattle.fab_base.specs.declared.stamps.Stamp.{Stamp}
 use Rattle.fab_base.specs.declared.asks.Ask.{Ask}
 use Rattle.fab_base.specs.declared.asks.Op.{Op}
 use Rattle.fab_base.specs.declared.asks.Op.TheVariants.{ReadBlock, WriteBlock, ReadStripe, WriteStripe}
-use Rattle.fab_base.specs.declared.answers.Answer.{Answer}
-use Rattle.fab_base.specs.Stamps.{stamp_below, first_stamp}
-use Rattle.fab_base.proofs.StampOrder.{stamp_below_irrefl}
-use Rattle.fab_wire.specs.declared.calls.Call.{Call}
-use Rattle.fab_wire.specs.declared.messages.Message.TheVariants as Message
+use Rattle.fab_base.specs.Stamps.{first_stamp}
 use Rattle.fab_wire.specs.declared.messages.Packet.{Packet}
 use Rattle.fab_wire.specs.declared.requests.Request.{Request}
-use Rattle.fab_wire.specs.declared.requests.Request.TheVariants as Request
 use Rattle.fab_wire.specs.declared.requests.Want.TheVariants as Want
-use Rattle.fab_wire.specs.declared.requests.Version.{Version}
 use Rattle.reg_model.specs.declared.marks.Mark.{Mark}
 use Rattle.reg_model.specs.declared.marks.Mark.TheVariants.{Begin, End}
 use Rattle.reg_model.specs.Marks.{life_of, position_of}
 use Rattle.reg_model.specs.Walk.{last_of}
 use Rattle.protocol.specs.Settings.{Setting, Code, Group, group_of}
-use Rattle.protocol.specs.Replicas.{Replica, top_of}
+use Rattle.protocol.specs.Replicas.{top_of}
 use Rattle.protocol.specs.Coordinators.{Coordinator, Phase, Looks, Orders, request_of}
-use Rattle.protocol.specs.Nodes.{Node, NodeStep, put, is_stripe_op, first_phase, next_time, new_coordinator, opened, began_in, phase_packets}
+use Rattle.protocol.specs.Nodes.{Node, put, is_stripe_op, first_phase, new_coordinator, opened, began_in, phase_packets}
 use Rattle.protocol.specs.Worlds.{World, Operation, world_began}
 use Rattle.protocol.specs.Laws.{part_of, IsGuarded}
-use Rattle.protocol.proofs.Books.{Books, IsOperation, IsCall}
-use Rattle.protocol.proofs.Said.{Stamping, Said, IsMadeOrFirst, IsKnown, IsStampOf, IsCalled, FitsPhase, FloorsAtLeast, RequestSays, PacketSays, OperationSays, CallSays, EndShows, IsInOrder}
+use Rattle.protocol.proofs.Books.{Books, IsOperation}
+use Rattle.protocol.proofs.Said.{Stamping, Said, IsStampOf, IsCalled, FitsPhase, FloorsAtLeast, RequestSays, PacketSays, OperationSays, CallSays, IsInOrder}
 use Rattle.protocol.proofs.Tables.{put_each, put_same, get_grown, get_one, sent_to_member}
 use Rattle.protocol.proofs.Lives.{last_grows}
 use Rattle.protocol.proofs.Growth.{Grows, continues_same}
@@ -57,8 +51,7 @@ op_cases (ReadBlock j) is = absurd (false≢true is)
 op_cases (WriteBlock j bytes) is = absurd (false≢true is)
 
 module _ (setting : Setting) (w : World) (stamps : Stamping) (me : BrickId) (ask : Ask) (group : Group) (books : Books setting w)
-  (said : Said setting w stamps) (group_is : group_of setting.layout ask.group.0 ≡ Some group) (stripe_op : is_stripe_op ask.op ≡ true) where
-
+    (said : Said setting w stamps) (group_is : group_of setting.layout ask.group.0 ≡ Some group) (stripe_op : is_stripe_op ask.op ≡ true) where
   -- the brick before
   abbrev old : Node
   old = w.nodes me.0
@@ -273,27 +266,27 @@ module _ (setting : Setting) (w : World) (stamps : Stamping) (me : BrickId) (ask
         stamps_rise = stamps_rise;
         tops = λ g s i. inl (put_each (λ j x. top_of (x.replicas g s) ≡ top_of ((w.nodes j).replicas g s)) w.nodes me.0 node refl (λ j other. refl) i);
         logs = λ g s i k version is. inl
-        (put_each (λ j x. slice_get (x.replicas g s).log k ≡ Some version → slice_get ((w.nodes j).replicas g s).log k ≡ Some version) w.nodes me.0 node
-        (λ has. has) (λ j other has. has) i is);
+            (put_each (λ j x. slice_get (x.replicas g s).log k ≡ Some version → slice_get ((w.nodes j).replicas g s).log k ≡ Some version) w.nodes me.0 node
+            (λ has. has) (λ j other has. has) i is);
         packets = λ k packet is. ⊎_elim
-        (λ (there : slice_get w.packets k ≡ Some packet). inl there)
-        (λ (sent : (j : ℕ) × (slice_get (phase_packets setting group me c) j ≡ Some packet)).
-        let to = sent_to_member me c.call (request_of setting.code group.m c) 0 group.members sent.0 packet sent.1 in
-        inr (subst (λ (z : Packet). PacketSays setting next later z) (sym to.2) (request_says to.0.0 (0 + sent.0))))
-        (get_grown w.packets (phase_packets setting group me c) k packet is);
+            (λ (there : slice_get w.packets k ≡ Some packet). inl there)
+            (λ (sent : (j : ℕ) × (slice_get (phase_packets setting group me c) j ≡ Some packet)).
+            let to = sent_to_member me c.call (request_of setting.code group.m c) 0 group.members sent.0 packet sent.1 in
+            inr (subst (λ (z : Packet). PacketSays setting next later z) (sym to.2) (request_says to.0.0 (0 + sent.0))))
+            (get_grown w.packets (phase_packets setting group me c) k packet is);
         operations = λ a e.
-        put_each (λ i x. x ≡ Some e → IsOperation w i e ⊎ OperationSays setting next later i e) w.operations (w.begun + 1) (Some new)
-        (λ is. let same : new ≡ e = cc in inr (subst (λ (z : Operation). OperationSays setting next later (w.begun + 1) z) same operation_says))
-        (λ i other is. inl is) a;
+            put_each (λ i x. x ≡ Some e → IsOperation w i e ⊎ OperationSays setting next later i e) w.operations (w.begun + 1) (Some new)
+            (λ is. let same : new ≡ e = cc in inr (subst (λ (z : Operation). OperationSays setting next later (w.begun + 1) z) same operation_says))
+            (λ i other is. inl is) a;
         calls = λ i k d.
-        put_each (λ j x. x.calls k ≡ Some d → ((w.nodes j).calls k ≡ Some d) ⊎ CallSays setting next later j k d)
-        w.nodes me.0 node (calls k d) (λ j other is. inl is) i;
+            put_each (λ j x. x.calls k ≡ Some d → ((w.nodes j).calls k ≡ Some d) ⊎ CallSays setting next later j k d)
+            w.nodes me.0 node (calls k d) (λ j other is. inl is) i;
         ends = λ k q a answer at. ⊎_elim
-        (λ (there : slice_get w.marks k ≡ Some (End q a answer)). inl there)
-        (λ (added : (j : ℕ) × (slice_get (Begin (length w.marks) (w.begun + 1) me ask ∷ []) j ≡ Some (End q a answer))).
-        let bad : Begin (length w.marks) (w.begun + 1) me ask ≡ End q a answer
-        = get_one (Begin (length w.marks) (w.begun + 1) me ask) (End q a answer) added.0 added.1 in
-        absurd (let no : ⊥ = cc in no))
-        (get_grown w.marks (Begin (length w.marks) (w.begun + 1) me ask ∷ []) k (End q a answer) at);
+            (λ (there : slice_get w.marks k ≡ Some (End q a answer)). inl there)
+            (λ (added : (j : ℕ) × (slice_get (Begin (length w.marks) (w.begun + 1) me ask ∷ []) j ≡ Some (End q a answer))).
+            let bad : Begin (length w.marks) (w.begun + 1) me ask ≡ End q a answer
+            = get_one (Begin (length w.marks) (w.begun + 1) me ask) (End q a answer) added.0 added.1 in
+            absurd (let no : ⊥ = cc in no))
+            (get_grown w.marks (Begin (length w.marks) (w.begun + 1) me ask ∷ []) k (End q a answer) at);
         order = in_order;
       })

@@ -1,15 +1,13 @@
 -- The replies that count at a coordinator: how many seats they are, and what they tell together.
-use Rattle.std.proofs.Common.{◌≡◌, ◌≢◌, ℕ, zero, suc, ◌+◌, ◌<◌, ◌≤◌, nat_lt, ◌⊎◌, inl, inr, Bool, true, false, not, cond, ◌||◌, ◌&&◌, List, [], ◌∷◌, ◌++◌, length, map, Option, Some, None, refl, sym, ap, ◌∙◌, subst, ⊎_elim, arith}
+use Rattle.std.proofs.Common.{◌≡◌, ℕ, zero, suc, ◌+◌, ◌<◌, ◌≤◌, nat_lt, ◌⊎◌, inl, inr, Bool, true, false, not, cond, ◌||◌, List, [], ◌∷◌, ◌++◌, length, map, Option, Some, None, refl, sym, ap, ◌∙◌, subst, ⊎_elim, arith}
 use Rattle.std.specs.Prelude.{slice_get, nat_eq}
 use Rattle.std.specs.List.{IsDistinct, AllByRecursion}
-use Rattle.std.proofs.lemmas.List.{length-append}
-use Rattle.std.proofs.lemmas.Bool.{cond_both, cases_eq, eqb-true, eqb-false, eq-eqb, ne_eqb, false≢true, or_cases, or_parts, or_from, or_left, or_right, and_parts, cases_Bool, not-true}
+use Rattle.std.proofs.lemmas.Bool.{cond_both, cases_eq, eqb-true, eqb-false, eq-eqb, ne_eqb, false≢true, or_cases, or_parts, or_from, and_parts, not-true}
 use Rattle.fab_base.specs.declared.stamps.Stamp.{Stamp}
 use Rattle.fab_base.specs.Stamps.{stamp_below, stamp_same}
 use Rattle.fab_base.proofs.StampOrder.{stamp_same_true}
 use Rattle.fab_wire.specs.declared.requests.Version.{Version}
 use Rattle.fab_wire.specs.declared.replies.Reply.{Reply}
-use Rattle.fab_wire.specs.declared.replies.Reply.TheVariants as Reply
 use Rattle.quorum.specs.Quorums.{count, with_seat}
 use Rattle.quorum.proofs.Counts.{count_same, count_empty, count_monotone, count_with_seat}
 use Rattle.protocol.specs.Settings.{Group, Code, Piece, ArePiecesOf, quorum_of}
@@ -218,11 +216,11 @@ pub are_pieces : (code : Code) (m n : ℕ) (content : List ℕ) (counted : List 
 are_pieces code m n content counted each once = record {
   distinct = pieces_distinct counted once;
   seats = λ k piece is.
-  let found = piece_reply (IsPieceOf code m n content) counted k piece each is in
-  subst (λ (z : Piece). z.seat < n) (sym found.2) found.1.0;
+      let found = piece_reply (IsPieceOf code m n content) counted k piece each is in
+      subst (λ (z : Piece). z.seat < n) (sym found.2) found.1.0;
   blocks = λ k piece is.
-  let found = piece_reply (IsPieceOf code m n content) counted k piece each is in
-  subst (λ (z : Piece). z.bytes ≡ code.encode m content z.seat) (sym found.2) found.1.1;
+      let found = piece_reply (IsPieceOf code m n content) counted k piece each is in
+      subst (λ (z : Piece). z.bytes ≡ code.encode m content z.seat) (sym found.2) found.1.1;
 }
 
 -- there is a piece for each reply

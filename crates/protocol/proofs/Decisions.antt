@@ -1,22 +1,18 @@
 -- What the replies that count show of the operation, when they are a quorum.
-use Rattle.std.proofs.Common.{◌≡◌, ◌≢◌, ℕ, zero, suc, ◌+◌, ◌-◌, ◌*◌, ◌/◌, ◌<◌, ◌≤◌, ◌⊎◌, inl, inr, Bool, true, false, not, List, [], ◌∷◌, ◌++◌, length, replicate, Option, Some, None, refl, sym, ap, ◌∙◌, subst, ⊎_elim, arith}
-use Rattle.std.specs.Prelude.{slice_get, nat_eq}
+use Rattle.std.proofs.Common.{◌≡◌, ℕ, ◌-◌, ◌*◌, ◌/◌, ◌<◌, ◌≤◌, inl, inr, true, false, not, List, [], ◌∷◌, length, Option, Some, None, refl, sym, ap, ◌∙◌, subst, arith}
 use Rattle.std.proofs.lemmas.Bool.{false≢true, not_from_false, eqb-true}
 use Rattle.std.proofs.lemmas.List.{length-replicate}
 use Rattle.fab_base.specs.declared.identities.BrickId.{BrickId}
 use Rattle.fab_base.specs.declared.stamps.Stamp.{Stamp}
 use Rattle.fab_base.specs.declared.asks.Op.{Op}
-use Rattle.fab_base.specs.declared.asks.Op.TheVariants.{ReadStripe, WriteStripe}
-use Rattle.fab_base.specs.Stamps.{stamp_below, first_stamp}
+use Rattle.fab_base.specs.declared.asks.Op.TheVariants.{WriteStripe}
+use Rattle.fab_base.specs.Stamps.{stamp_below}
 use Rattle.fab_base.proofs.StampOrder.{stamp_below_irrefl, stamp_not_below_trans}
 use Rattle.fab_wire.specs.declared.calls.Call.{Call}
 use Rattle.fab_wire.specs.declared.messages.Message.TheVariants as Message
-use Rattle.fab_wire.specs.declared.messages.Packet.{Packet}
 use Rattle.fab_wire.specs.declared.requests.Version.{Version}
 use Rattle.fab_wire.specs.declared.replies.Reply.{Reply}
-use Rattle.fab_wire.specs.declared.replies.Reply.TheVariants as Reply
 use Rattle.quorum.specs.Quorums.{IsWithinLimits}
-use Rattle.reg_model.specs.Registers.{zero_registers}
 use Rattle.protocol.specs.Settings.{Setting, Group, group_of, quorum_of, IsSound, seat_in}
 use Rattle.protocol.specs.Replicas.{top_of, stamp_max}
 use Rattle.protocol.specs.Coordinators.{Coordinator, Counted, Refuser, Orders, answers_phase, refuser_of, greatest_refuser, fast_version, found_bytes, pieces_of}
@@ -24,7 +20,7 @@ use Rattle.protocol.specs.Worlds.{World, Operation, zero_content}
 use Rattle.protocol.specs.Nodes.{has_length}
 use Rattle.protocol.specs.Laws.{WasSent, AskedAt, Evidence, part_of, brick_at, IsGuarded}
 use Rattle.protocol.proofs.Books.{Books, OperationBooks, CallBooks, IsOperation, IsCall}
-use Rattle.protocol.proofs.Said.{Stamping, Said, IsMadeOrFirst, IsCalled, FloorsAtMost, OrderedSays, FoundSays, ReplySays, OperationSays, CountedSays, CallSays, EachCounted, AreOnce}
+use Rattle.protocol.proofs.Said.{Stamping, Said, IsMadeOrFirst, FloorsAtMost, OrderedSays, FoundSays, ReplySays, OperationSays, CountedSays, EachCounted, AreOnce}
 use Rattle.protocol.proofs.Tables.{seat_within, brick_at_seat}
 use Rattle.protocol.proofs.Reactions.{max_right, max_most}
 use Rattle.protocol.proofs.Counting.{each_then, each_both, at_quorum, TellsVersion, fast_each, none_refuses, refuser_counted, IsPieceOf, are_pieces, pieces_length}
@@ -61,11 +57,11 @@ found_at setting w j i call o order version is says =
       top = subst (λ (t : Stamp). stamp_below t (stamp_max order version.stamp) ≡ false) (sym part) says.top;
       floor = subst (λ (p : Operation). stamp_below (stamp_max order version.stamp) (p.floor j) ≡ false) same says.floor;
       made = subst (λ (g : ℕ). IsMadeOrFirst w g o.ask.stripe.0 version.stamp) (sym group)
-      (subst (λ (s : ℕ). IsMadeOrFirst w call.group.0 s version.stamp) (sym stripe) says.says.made);
+          (subst (λ (s : ℕ). IsMadeOrFirst w call.group.0 s version.stamp) (sym stripe) says.says.made);
       block = λ its seat its_is at.
-      says.says.block its seat (ap (group_of setting.layout) (sym group) ∙ its_is) at
-      ∙ ap (λ content. setting.code.encode its.m content seat)
-      (ap (λ (g : ℕ). w.contents g call.stripe.0 version.stamp) (sym group) ∙ ap (λ (s : ℕ). w.contents o.ask.group.0 s version.stamp) (sym stripe));
+          says.says.block its seat (ap (group_of setting.layout) (sym group) ∙ its_is) at
+          ∙ ap (λ content. setting.code.encode its.m content seat)
+          (ap (λ (g : ℕ). w.contents g call.stripe.0 version.stamp) (sym group) ∙ ap (λ (s : ℕ). w.contents o.ask.group.0 s version.stamp) (sym stripe));
     }
 
 -- a reply to an order that does not refuse it
@@ -83,11 +79,10 @@ quorum_enough : (m n : ℕ) → m ≤ n → m ≤ n - (n - m) / 2
 quorum_enough m n le = omega arith
 
 module _ (setting : Setting) (sound : IsSound setting) (w : World) (stamps : Stamping) (me : BrickId) (c : Coordinator) (group : Group)
-  (books : Books setting w) (said : Said setting w stamps) (is : IsCall w me.0 c.call.seq c)
-  (group_is : group_of setting.layout c.ask.group.0 ≡ Some group)
-  (counted : List Counted) (each : EachCounted (CountedSays setting w me.0 c) counted) (once : AreOnce counted)
-  (many : quorum_of group ≤ length counted) where
-
+    (books : Books setting w) (said : Said setting w stamps) (is : IsCall w me.0 c.call.seq c)
+    (group_is : group_of setting.layout c.ask.group.0 ≡ Some group)
+    (counted : List Counted) (each : EachCounted (CountedSays setting w me.0 c) counted) (once : AreOnce counted)
+    (many : quorum_of group ≤ length counted) where
   abbrev its : CallBooks setting w me.0 c.call.seq c
   its = books.calls me.0 c.call.seq c is
 
@@ -170,9 +165,9 @@ module _ (setting : Setting) (sound : IsSound setting) (w : World) (stamps : Sta
         stamp = told.0;
         own = sym its.seq;
         asked = subst (λ (b : BrickId). AskedAt w c.call b r.brick told.0) (sym brick)
-        (subst (λ (b : BrickId). AskedAt w c.call (record { 0 = me.0 }) b told.0) found.3 told.1);
+            (subst (λ (b : BrickId). AskedAt w c.call (record { 0 = me.0 }) b told.0) found.3 told.1);
         told = subst (λ (b : BrickId). WasSent w (record { from = r.brick; to = b; message = Message.Reply c.call (Reply.Later r.stamp) })) (sym brick)
-        (subst (λ (b : BrickId). WasSent w (record { from = b; to = record { 0 = me.0 }; message = Message.Reply c.call (Reply.Later r.stamp) })) found.3 sent);
+            (subst (λ (b : BrickId). WasSent w (record { from = b; to = record { 0 = me.0 }; message = Message.Reply c.call (Reply.Later r.stamp) })) found.3 sent);
         above = told.2;
       }
 
@@ -200,13 +195,13 @@ module _ (setting : Setting) (sound : IsSound setting) (w : World) (stamps : Sta
       record {
         within = (seat_fits x says).0;
         top = subst (λ (j : ℕ). stamp_below (top_of (part_of w its_operation.ask.group.0 its_operation.ask.stripe.0 j)) v ≡ false) (sym brick)
-        (stamp_not_below_trans v most (top_of (part_of w its_operation.ask.group.0 its_operation.ask.stripe.0 x.brick.0)) above at.top);
+            (stamp_not_below_trans v most (top_of (part_of w its_operation.ask.group.0 its_operation.ask.stripe.0 x.brick.0)) above at.top);
         floor = subst (λ (j : ℕ). stamp_below v (its_operation.floor j) ≡ false) (sym brick)
-        (stamp_not_below_trans (its_operation.floor x.brick.0) most v at.floor below);
+            (stamp_not_below_trans (its_operation.floor x.brick.0) most v at.floor below);
         made = subst (λ (t : Stamp). IsMadeOrFirst w its_operation.ask.group.0 its_operation.ask.stripe.0 t) tells.stamp at.made;
         block = ap found_bytes tells.reply_is
-        ∙ at.block group x.seat its_group (says.seat group group_is)
-        ∙ ap (λ (t : Stamp). setting.code.encode group.m (w.contents its_operation.ask.group.0 its_operation.ask.stripe.0 t) x.seat) tells.stamp;
+            ∙ at.block group x.seat its_group (says.seat group group_is)
+            ∙ ap (λ (t : Stamp). setting.code.encode group.m (w.contents its_operation.ask.group.0 its_operation.ask.stripe.0 t) x.seat) tells.stamp;
       }
 
   all_tell_at : (v : Stamp) → fast_version counted ≡ Some v → EachCounted (TellsAt v) counted

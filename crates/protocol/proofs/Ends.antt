@@ -1,5 +1,5 @@
 -- A coordinator ends its operation.
-use Rattle.std.proofs.Common.{◌≡◌, ◌≢◌, ℕ, zero, suc, ◌+◌, ◌-◌, ◌<◌, ◌≤◌, ◌⊎◌, inl, inr, Bool, true, false, List, [], ◌∷◌, ◌++◌, length, Option, Some, None, refl, sym, ap, ◌∙◌, subst, ⊎_elim, arith}
+use Rattle.std.proofs.Common.{◌≡◌, ℕ, ◌+◌, ◌-◌, ◌≤◌, ◌⊎◌, inl, inr, true, false, List, [], ◌∷◌, ◌++◌, length, Option, Some, None, refl, sym, ap, subst, ⊎_elim, arith}
 use Rattle.std.specs.Prelude.{slice_get}
 use Rattle.std.proofs.lemmas.List.{length-append}
 use Rattle.fab_base.specs.declared.identities.BrickId.{BrickId}
@@ -8,26 +8,21 @@ use Rattle.fab_base.specs.declared.asks.Op.TheVariants.{WriteStripe}
 use Rattle.fab_base.specs.declared.answers.Answer.{Answer}
 use Rattle.fab_base.specs.declared.answers.Answer.TheVariants.{Data, Done, Aborted}
 use Rattle.fab_base.specs.declared.answers.Cause.{Cause}
-use Rattle.fab_base.specs.declared.answers.Cause.TheVariants as Cause
-use Rattle.fab_wire.specs.declared.calls.Call.{Call}
-use Rattle.fab_wire.specs.declared.messages.Message.TheVariants as Message
 use Rattle.fab_wire.specs.declared.messages.Packet.{Packet}
 use Rattle.fab_wire.specs.declared.requests.Request.TheVariants as Request
 use Rattle.reg_model.specs.declared.marks.Mark.{Mark}
 use Rattle.reg_model.specs.declared.marks.Mark.TheVariants.{End}
-use Rattle.reg_model.specs.Marks.{life_of}
-use Rattle.reg_model.specs.Walk.{last_of}
-use Rattle.protocol.specs.Settings.{Setting, Group, group_of}
+use Rattle.protocol.specs.Settings.{Setting, Group}
 use Rattle.protocol.specs.Coordinators.{Coordinator}
-use Rattle.protocol.specs.Nodes.{Node, NodeStep, Answers, put, with_call, collect_packets}
+use Rattle.protocol.specs.Nodes.{Node, Answers, put, with_call, collect_packets}
 use Rattle.protocol.specs.Worlds.{World, Operation, world_stepped, with_answer, version_after, is_answer}
 use Rattle.protocol.specs.Laws.{Evidence}
-use Rattle.protocol.proofs.Books.{Books, CallBooks, IsOperation, IsCall}
-use Rattle.protocol.proofs.Said.{Stamping, Said, IsMadeOrFirst, PacketSays, HasVersion, OperationSays, CallSays, EndShows}
+use Rattle.protocol.proofs.Books.{Books, CallBooks, IsCall}
+use Rattle.protocol.proofs.Said.{Stamping, Said, PacketSays, HasVersion, OperationSays, CallSays, EndShows}
 use Rattle.protocol.proofs.Tables.{put_each, put_same, get_grown, get_one, sent_to_member}
 use Rattle.protocol.proofs.Lives.{last_grows}
 use Rattle.protocol.proofs.Growth.{Grows, Continues, stays_operation, stays_has_version, stays_evidence}
-use Rattle.protocol.proofs.Operated.{operated, OperatedKeeps, operated_grows, OperatedOwes, said_operated}
+use Rattle.protocol.proofs.Operated.{operated, OperatedKeeps, operated_grows, said_operated}
 use Rattle.protocol.proofs.Stores.{open_until}
 
 -- what must be known of an operation that ends by this answer, having seen this version
@@ -39,9 +34,8 @@ WillShow w o seen (Aborted (Cause.Later brick x)) = Evidence w o brick x
 WillShow w o seen (Aborted cause) = Unit {0}
 
 module _ (setting : Setting) (w : World) (stamps : Stamping) (me : BrickId) (c : Coordinator) (group : Group) (known : ℕ)
-  (books : Books setting w) (said : Said setting w stamps) (is : IsCall w me.0 c.call.seq c)
-  (more_known : (w.nodes me.0).known ≤ known) (answer : Answer) (seen stored : Option Stamp) where
-
+    (books : Books setting w) (said : Said setting w stamps) (is : IsCall w me.0 c.call.seq c)
+    (more_known : (w.nodes me.0).known ≤ known) (answer : Answer) (seen stored : Option Stamp) where
   abbrev its : CallBooks setting w me.0 c.call.seq c
   its = books.calls me.0 c.call.seq c is
 
@@ -89,10 +83,9 @@ module _ (setting : Setting) (w : World) (stamps : Stamping) (me : BrickId) (c :
       its.operation_is
 
   module _ (keeps_version : (v : Stamp) → o.version ≡ Some v → version_after o.version seen ≡ Some v)
-    (has_version : (v : Stamp) → version_after o.version seen ≡ Some v → HasVersion setting w o v)
-    (answered_made : is_answer answer ≡ true → (bytes : List ℕ) → o.ask.op ≡ WriteStripe bytes → o.made ≡ true)
-    (shows : WillShow w o seen answer) where
-
+      (has_version : (v : Stamp) → version_after o.version seen ≡ Some v → HasVersion setting w o v)
+      (answered_made : is_answer answer ≡ true → (bytes : List ℕ) → o.ask.op ≡ WriteStripe bytes → o.made ≡ true)
+      (shows : WillShow w o seen answer) where
     on : Continues o ended
     on = record { brick = refl; seq = refl; begin = refl; ask = refl; floor = refl; version = keeps_version; made = λ v has. refl }
 
@@ -107,9 +100,9 @@ module _ (setting : Setting) (w : World) (stamps : Stamping) (me : BrickId) (c :
       longer = (let longer : length marks ≡ length w.marks + 1 = length-append w.marks (End (length w.marks) n answer ∷ []) in omega arith);
       lasts = λ a. last_grows w.marks (End (length w.marks) n answer) a (λ k mark at. let place = books.places k mark at in omega (arith, place)) refl;
       unended =
-      let before = open_until setting w me.0 c.call.seq c books is in
-      let later = last_grows w.marks (End (length w.marks) n answer) n (λ k mark at. let place = books.places k mark at in omega (arith, place)) refl in
-      omega (arith, before, later);
+          let before = open_until setting w me.0 c.call.seq c books is in
+          let later = last_grows w.marks (End (length w.marks) n answer) n (λ k mark at. let place = books.places k mark at in omega (arith, place)) refl in
+          omega (arith, before, later);
     }
 
     grows : Grows w next stamps stamps

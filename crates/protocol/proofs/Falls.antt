@@ -1,5 +1,5 @@
 -- No event lowers what a brick has promised or stored, or drops a version that it holds.
-use Rattle.std.proofs.Common.{◌≡◌, ℕ, zero, suc, Bool, true, false, cond, List, [], ◌∷◌, ◌++◌, Option, Some, None, refl, sym, ap, ◌∙◌, subst}
+use Rattle.std.proofs.Common.{◌≡◌, ℕ, true, Option, Some, None, refl}
 use Rattle.std.proofs.lemmas.Bool.{cond_both}
 use Rattle.fab_base.specs.declared.identities.BrickId.{BrickId}
 use Rattle.fab_base.specs.declared.asks.Ask.{Ask}
@@ -7,14 +7,13 @@ use Rattle.fab_base.specs.declared.stamps.Stamp.{Stamp}
 use Rattle.fab_base.proofs.StampOrder.{stamp_below_irrefl}
 use Rattle.fab_wire.specs.declared.calls.Call.{Call}
 use Rattle.fab_wire.specs.declared.messages.Message.{Message}
-use Rattle.fab_wire.specs.declared.messages.Message.TheVariants as Message
 use Rattle.fab_wire.specs.declared.messages.Packet.{Packet}
 use Rattle.fab_wire.specs.declared.requests.Request.{Request}
 use Rattle.fab_wire.specs.declared.replies.Reply.{Reply}
 use Rattle.protocol.specs.Settings.{Setting, Group, group_of, seat_in}
 use Rattle.protocol.specs.Replicas.{top_of, is_held, handle}
 use Rattle.protocol.specs.Coordinators.{Coordinator, Next, Ignores, Waits, Sends, Ends, on_reply}
-use Rattle.protocol.specs.Nodes.{Node, NodeStep, Told, Nothing, Made, Answers, put, no_step, began, invoked, replica_at, requested_at, requested_in, requested, known_after, carried_out, replied_to, replied_at, replied, received}
+use Rattle.protocol.specs.Nodes.{Node, NodeStep, Told, Nothing, Made, Answers, put, began, invoked, replica_at, requested_at, requested_in, requested, known_after, carried_out, replied_to, replied_at, replied, received}
 use Rattle.protocol.specs.Worlds.{World, Event, Invokes, Delivers, is_brick, may_begin, world_began, world_stepped, delivered, packet_of, happens, first_world, run}
 use Rattle.protocol.specs.Laws.{NeverFalls, NoEventLowers, IsGuarded, part_of}
 use Rattle.protocol.proofs.Reactions.{handle_after}
@@ -45,6 +44,7 @@ reply_keeps setting me from node call reply = at_call (node.calls call.seq)
     in_group c None = keeps_same node node refl
     in_group c (Some group) =
         decision_keeps setting group me node (known_after node.known reply) c (on_reply setting.layout.block setting.code group c from call reply)
+
     at_call : (z : Option Coordinator) → KeepsParts node (replied_at setting me from node call reply z).node
     at_call None = keeps_same node (replied_at setting me from node call reply None).node refl
     at_call (Some c) = in_group c (group_of setting.layout c.ask.group.0)
@@ -58,6 +58,7 @@ request_keeps setting me from node call request = in_group (group_of setting.lay
     at_seat None = keeps_same node node refl
     at_seat (Some seat) =
         parts_keep node call request (handle seat (replica_at node call) request).replica (handle_after seat (replica_at node call) request)
+
     in_group : (z : Option Group) → KeepsParts node (requested_in me from node call request z).node
     in_group None = keeps_same node node refl
     in_group (Some group) = at_seat (seat_in group.members me.0)

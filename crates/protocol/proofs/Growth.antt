@@ -1,31 +1,26 @@
 -- What was said stays said: nothing falls, messages and versions stay, and a version's content does not change.
-use Rattle.std.proofs.Common.{◌≡◌, ◌≢◌, ℕ, zero, suc, ◌+◌, ◌<◌, ◌≤◌, ◌⊎◌, inl, inr, Bool, true, false, not, List, [], ◌∷◌, length, Option, Some, None, refl, sym, ap, ◌∙◌, subst, ⊎_elim, arith}
-use Rattle.std.specs.Prelude.{slice_get}
-use Rattle.std.proofs.lemmas.Bool.{false≢true, not-true, not_from_false}
+use Rattle.std.proofs.Common.{◌≡◌, ℕ, ◌≤◌, inl, inr, true, false, not, List, length, Some, refl, sym, ap, ◌∙◌, subst, arith}
+use Rattle.std.proofs.lemmas.Bool.{not-true, not_from_false}
 use Rattle.fab_base.specs.declared.identities.BrickId.{BrickId}
 use Rattle.fab_base.specs.declared.stamps.Stamp.{Stamp}
-use Rattle.fab_base.specs.declared.asks.Op.TheVariants.{ReadStripe, WriteStripe}
+use Rattle.fab_base.specs.declared.asks.Op.TheVariants.{WriteStripe}
 use Rattle.fab_base.specs.declared.answers.Answer.{Answer}
 use Rattle.fab_base.specs.declared.answers.Answer.TheVariants.{Data, Done, Aborted}
 use Rattle.fab_base.specs.declared.answers.Cause.{Cause}
-use Rattle.fab_base.specs.declared.answers.Cause.TheVariants as Cause
-use Rattle.fab_base.specs.Stamps.{stamp_below, first_stamp}
+use Rattle.fab_base.specs.Stamps.{stamp_below}
 use Rattle.fab_base.proofs.StampOrder.{stamp_not_below_trans}
 use Rattle.fab_wire.specs.declared.calls.Call.{Call}
 use Rattle.fab_wire.specs.declared.messages.Message.{Message}
-use Rattle.fab_wire.specs.declared.messages.Message.TheVariants as Message
 use Rattle.fab_wire.specs.declared.messages.Packet.{Packet}
 use Rattle.fab_wire.specs.declared.requests.Request.{Request}
-use Rattle.fab_wire.specs.declared.requests.Request.TheVariants as Request
 use Rattle.fab_wire.specs.declared.requests.Version.{Version}
 use Rattle.fab_wire.specs.declared.replies.Reply.{Reply}
-use Rattle.fab_wire.specs.declared.replies.Reply.TheVariants as Reply
 use Rattle.quorum.proofs.Counts.{count_monotone}
-use Rattle.protocol.specs.Settings.{Setting, Group, group_of, seat_in}
+use Rattle.protocol.specs.Settings.{Setting, Group}
 use Rattle.protocol.specs.Replicas.{top_of, is_held, stamp_max}
 use Rattle.protocol.specs.Coordinators.{Coordinator, Counted}
 use Rattle.protocol.specs.Worlds.{World, Operation}
-use Rattle.protocol.specs.Laws.{WasSent, WriteSent, AskedAt, Evidence, NeverFalls, part_of, brick_at, AtQuorum, IsGuarded}
+use Rattle.protocol.specs.Laws.{WasSent, AskedAt, Evidence, NeverFalls, part_of, brick_at, IsGuarded}
 use Rattle.protocol.proofs.Books.{Books, OperationBooks, CallBooks, IsOperation, IsCall}
 use Rattle.protocol.proofs.Said.{Stamping, IsMadeOrFirst, IsKnown, IsCalled, IsBlockOf, VersionSays, WriteSays, RequestSays, OrderedSays, FoundSays, ReplySays, MessageSays, PacketSays, HasVersion, OperationSays, CountedSays, CallSays, DataShown, EndShows}
 use Rattle.protocol.proofs.Counting.{each_then}
@@ -73,7 +68,6 @@ guarded_stays w next tops g s group t guarded =
     omega (arith, guarded, more)
 
 module _ (setting : Setting) (w next : World) (stamps later : Stamping) (books : Books setting w) (grows : Grows w next stamps later) where
-
   -- a version that was made stays made
   pub stays_made : (g s : ℕ) (t : Stamp) → IsMadeOrFirst w g s t → IsMadeOrFirst next g s t
   stays_made g s t (inl first) = inl first
@@ -112,8 +106,7 @@ module _ (setting : Setting) (w next : World) (stamps later : Stamping) (books :
       let goes = grows.operations (w.numbers i call.seq) o called.is in
       let p : Operation = goes.0 in
       let on : Continues o p = goes.2 in
-      let number : next.numbers i call.seq ≡ w.numbers i call.seq = grows.numbered i call.seq (called_within i call o called) in
-      (
+      let number : next.numbers i call.seq ≡ w.numbers i call.seq = grows.numbered i call.seq (called_within i call o called) in (
         p,
         record {
           is = subst (λ (n : ℕ). IsOperation next n p) (sym number) goes.1;
@@ -184,9 +177,9 @@ module _ (setting : Setting) (w next : World) (stamps later : Stamping) (books :
         operation = goes.0;
         called = goes.1;
         promised = subst (λ (t : Stamp). stamp_below (top_of (part_of next call.group.0 call.stripe.0 j)) t ≡ false) stamp
-        (stays_above call.group.0 call.stripe.0 j (stamps i call.seq) says.promised);
+            (stays_above call.group.0 call.stripe.0 j (stamps i call.seq) says.promised);
         floor = subst (λ (t : Stamp). stamp_below t (goes.0.floor j) ≡ false) stamp
-        (subst (λ (f : ℕ → Stamp). stamp_below (stamps i call.seq) (f j) ≡ false) (sym goes.2.floor) says.floor);
+            (subst (λ (f : ℕ → Stamp). stamp_below (stamps i call.seq) (f j) ≡ false) (sym goes.2.floor) says.floor);
       }
 
   pub stays_found : (j i : ℕ) (call : Call) (order : Stamp) (version : Version) → FoundSays setting w j i call order version → FoundSays setting next j i call order version
@@ -209,13 +202,12 @@ module _ (setting : Setting) (w next : World) (stamps later : Stamping) (books :
   pub stays_reply : (from to : BrickId) (call : Call) (reply : Reply) → ReplySays setting w stamps from to call reply → ReplySays setting next later from to call reply
   stays_reply from to call (Reply.Found order (Some version)) says = stays_found from.0 to.0 call order version says
   stays_reply from to call Reply.Ordered says = stays_ordered from.0 to.0 call says
-  stays_reply from to call Reply.Stored says =
-      (
-        says.0,
-        says.1,
-        grows.sent (record { from = to; to = from; message = Message.Request call (Request.Write says.0 says.1) }) says.2,
-        grows.held call.group.0 call.stripe.0 from.0 says.0 says.3,
-      )
+  stays_reply from to call Reply.Stored says = (
+    says.0,
+    says.1,
+    grows.sent (record { from = to; to = from; message = Message.Request call (Request.Write says.0 says.1) }) says.2,
+    grows.held call.group.0 call.stripe.0 from.0 says.0 says.3,
+  )
   stays_reply from to call (Reply.Later x) says = (says.0, stays_asked call to from says.0 says.1, says.2)
   stays_reply from to call reply says = tt
 
@@ -250,11 +242,11 @@ module _ (setting : Setting) (w next : World) (stamps later : Stamping) (books :
         fresh = λ i same. says.fresh i (same ∙ sym stamp);
         made = λ made. says.made made ∙ ap (λ (t : Stamp). Some t) stamp;
         content = λ made.
-        let content : next.contents o.ask.group.0 o.ask.stripe.0 (stamps o.brick.0 o.seq) ≡ w.contents o.ask.group.0 o.ask.stripe.0 (stamps o.brick.0 o.seq)
-        = grows.contents o.ask.group.0 o.ask.stripe.0 (stamps o.brick.0 o.seq) (inr (n, o, is, refl, refl, made, says.made made)) in
-        says.content made
-        ∙ ap (λ (bytes : List ℕ). WriteStripe bytes)
-        (sym content ∙ ap (λ (t : Stamp). next.contents o.ask.group.0 o.ask.stripe.0 t) stamp);
+            let content : next.contents o.ask.group.0 o.ask.stripe.0 (stamps o.brick.0 o.seq) ≡ w.contents o.ask.group.0 o.ask.stripe.0 (stamps o.brick.0 o.seq)
+            = grows.contents o.ask.group.0 o.ask.stripe.0 (stamps o.brick.0 o.seq) (inr (n, o, is, refl, refl, made, says.made made)) in
+            says.content made
+            ∙ ap (λ (bytes : List ℕ). WriteStripe bytes)
+            (sym content ∙ ap (λ (t : Stamp). next.contents o.ask.group.0 o.ask.stripe.0 t) stamp);
         version = λ v has. stays_has_version o v (says.version v has);
         answered = says.answered;
       }
@@ -295,7 +287,7 @@ module _ (setting : Setting) (w next : World) (stamps later : Stamping) (books :
     own = shown.own ∙ sym on.seq;
     asked = subst (λ (b : BrickId). AskedAt next shown.call b brick shown.stamp) (sym on.brick) (stays_asked shown.call o.brick brick shown.stamp shown.asked);
     told = subst (λ (b : BrickId). WasSent next (record { from = brick; to = b; message = Message.Reply shown.call (Reply.Later x) })) (sym on.brick)
-    (grows.sent (record { from = brick; to = o.brick; message = Message.Reply shown.call (Reply.Later x) }) shown.told);
+        (grows.sent (record { from = brick; to = o.brick; message = Message.Reply shown.call (Reply.Later x) }) shown.told);
     above = shown.above;
   }
 
@@ -312,8 +304,8 @@ module _ (setting : Setting) (w next : World) (stamps later : Stamping) (books :
         version_is = goes.2.version shown.version shown.version_is;
         unmade = goes.2.made shown.version shown.version_is ∙ shown.unmade;
         bytes_are = shown.bytes_are
-        ∙ sym (grows.contents shown.operation.ask.group.0 shown.operation.ask.stripe.0 shown.version made)
-        ∙ ap (λ a. next.contents a.group.0 a.stripe.0 shown.version) (sym goes.2.ask);
+            ∙ sym (grows.contents shown.operation.ask.group.0 shown.operation.ask.stripe.0 shown.version made)
+            ∙ ap (λ a. next.contents a.group.0 a.stripe.0 shown.version) (sym goes.2.ask);
       }
 
   -- what an end shows stays shown

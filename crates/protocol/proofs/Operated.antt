@@ -1,5 +1,5 @@
 -- One operation changes, with messages and marks beside it.
-use Rattle.std.proofs.Common.{◌≡◌, ◌≢◌, ℕ, zero, suc, ◌+◌, ◌<◌, ◌≤◌, ◌⊎◌, inl, inr, Bool, true, false, List, [], ◌∷◌, ◌++◌, length, Option, Some, None, refl, sym, ap, ◌∙◌, subst, ⊎_elim, arith}
+use Rattle.std.proofs.Common.{◌≡◌, ℕ, ◌≤◌, ◌⊎◌, inl, inr, List, ◌++◌, length, Some, refl, sym, ap, ◌∙◌, subst, ⊎_elim, arith}
 use Rattle.std.specs.Prelude.{slice_get}
 use Rattle.fab_base.specs.declared.identities.BrickId.{BrickId}
 use Rattle.fab_base.specs.declared.stamps.Stamp.{Stamp}
@@ -14,12 +14,11 @@ use Rattle.protocol.specs.Replicas.{top_of}
 use Rattle.protocol.specs.Coordinators.{Coordinator}
 use Rattle.protocol.specs.Nodes.{Node, put}
 use Rattle.protocol.specs.Worlds.{World, Operation}
-use Rattle.protocol.specs.Laws.{part_of}
-use Rattle.protocol.proofs.Books.{Books, IsOperation, IsCall}
-use Rattle.protocol.proofs.Said.{Stamping, Said, IsMadeOrFirst, IsKnown, VersionSays, PacketSays, OperationSays, CallSays, EndShows, IsInOrder, FloorsAtLeast}
-use Rattle.protocol.proofs.Tables.{put_each, put_same, get_grown}
+use Rattle.protocol.proofs.Books.{Books, IsOperation}
+use Rattle.protocol.proofs.Said.{Stamping, Said, IsMadeOrFirst, PacketSays, OperationSays, CallSays, EndShows, IsInOrder, FloorsAtLeast}
+use Rattle.protocol.proofs.Tables.{put_each, get_grown}
 use Rattle.protocol.proofs.Growth.{Grows, Continues, continues_same}
-use Rattle.protocol.proofs.Steps.{KeepsParts, keeps_same, never_falls_by, held_by, sent_by, seqs_by, known_by, stamps_are_by, stamps_rise_by, said_after}
+use Rattle.protocol.proofs.Steps.{keeps_same, never_falls_by, held_by, sent_by, seqs_by, known_by, stamps_are_by, stamps_rise_by, said_after}
 
 -- the world after an operation changed
 abbrev pub operated : World → BrickId → Node → List Packet → List Mark → ℕ → Operation → (ℕ → ℕ → Stamp → List ℕ) → World
@@ -47,8 +46,7 @@ pub record OperatedKeeps (w : World) (me : BrickId) (node : Node) (marks : List 
   pub unended : length w.marks ≤ last_of (life_of marks n)
 
 module _ (setting : Setting) (w : World) (stamps : Stamping) (me : BrickId) (node : Node) (more : List Packet) (marks : List Mark) (n : ℕ) (o p : Operation)
-  (contents : ℕ → ℕ → Stamp → List ℕ) (keeps : OperatedKeeps w me node marks n o p contents) where
-
+    (contents : ℕ → ℕ → Stamp → List ℕ) (keeps : OperatedKeeps w me node marks n o p contents) where
   abbrev next : World
   next = operated w me node more marks n p contents
 
@@ -126,21 +124,21 @@ said_operated setting w stamps me node more marks n o p contents books said keep
       stamps_are = stamps_are_by setting w after stamps said seqs (known_by w after me.0 node refl keeps.known);
       stamps_rise = stamps_rise_by setting w after stamps said seqs;
       tops = λ g s i. inl (put_each (λ j x. top_of (x.replicas g s) ≡ top_of ((w.nodes j).replicas g s)) w.nodes me.0 node
-      (ap (λ r. top_of (r g s)) keeps.replicas) (λ j other. refl) i);
+          (ap (λ r. top_of (r g s)) keeps.replicas) (λ j other. refl) i);
       logs = λ g s i k version is. inl
-      (put_each (λ j x. slice_get (x.replicas g s).log k ≡ Some version → slice_get ((w.nodes j).replicas g s).log k ≡ Some version) w.nodes me.0 node
-      (λ has. ap (λ r. slice_get (r g s).log k) (sym keeps.replicas) ∙ has) (λ j other has. has) i is);
+          (put_each (λ j x. slice_get (x.replicas g s).log k ≡ Some version → slice_get ((w.nodes j).replicas g s).log k ≡ Some version) w.nodes me.0 node
+          (λ has. ap (λ r. slice_get (r g s).log k) (sym keeps.replicas) ∙ has) (λ j other has. has) i is);
       packets = λ k packet is. ⊎_elim
-      (λ (old : slice_get w.packets k ≡ Some packet). inl old)
-      (λ (new : (j : ℕ) × (slice_get more j ≡ Some packet)). inr (owes.packets new.0 packet new.1))
-      (get_grown w.packets more k packet is);
+          (λ (old : slice_get w.packets k ≡ Some packet). inl old)
+          (λ (new : (j : ℕ) × (slice_get more j ≡ Some packet)). inr (owes.packets new.0 packet new.1))
+          (get_grown w.packets more k packet is);
       operations = λ a e.
-      put_each (λ i x. x ≡ Some e → IsOperation w i e ⊎ OperationSays setting after stamps i e) w.operations n (Some p)
-      (λ is. let same : p ≡ e = cc in inr (subst (λ (z : Operation). OperationSays setting after stamps n z) same owes.operation))
-      (λ i other is. inl is) a;
+          put_each (λ i x. x ≡ Some e → IsOperation w i e ⊎ OperationSays setting after stamps i e) w.operations n (Some p)
+          (λ is. let same : p ≡ e = cc in inr (subst (λ (z : Operation). OperationSays setting after stamps n z) same owes.operation))
+          (λ i other is. inl is) a;
       calls = λ i k c.
-      put_each (λ j x. x.calls k ≡ Some c → ((w.nodes j).calls k ≡ Some c) ⊎ CallSays setting after stamps j k c)
-      w.nodes me.0 node (owes.calls k c) (λ j other is. inl is) i;
+          put_each (λ j x. x.calls k ≡ Some c → ((w.nodes j).calls k ≡ Some c) ⊎ CallSays setting after stamps j k c)
+          w.nodes me.0 node (owes.calls k c) (λ j other is. inl is) i;
       ends = owes.ends;
       order = stays_in_order setting w stamps me node more marks n o p contents keeps said;
     })

@@ -1,12 +1,12 @@
 -- Each call has a stamp of its own.
-use Rattle.std.proofs.Common.{◌≡◌, ◌≢◌, ℕ, zero, suc, ◌+◌, ◌<◌, ◌≤◌, ◌⊎◌, inl, inr, Bool, true, false, List, Option, Some, None, refl, sym, ap, ◌∙◌, subst, ⊎_elim, arith}
+use Rattle.std.proofs.Common.{◌≡◌, ℕ, ◌<◌, ◌≤◌, ◌⊎◌, inl, inr, true, false, Some, sym, ap, ◌∙◌, subst, ⊎_elim, arith}
 use Rattle.std.proofs.lemmas.Bool.{cases_order}
 use Rattle.fab_base.specs.declared.stamps.Stamp.{Stamp}
 use Rattle.fab_base.specs.Stamps.{first_stamp}
 use Rattle.protocol.specs.Settings.{Setting}
 use Rattle.protocol.specs.Worlds.{World, Operation}
 use Rattle.protocol.proofs.Books.{Books, OperationBooks, IsOperation}
-use Rattle.protocol.proofs.Said.{Stamping, Said, IsMadeOrFirst, IsStampOf, OperationSays}
+use Rattle.protocol.proofs.Said.{Stamping, Said, IsMadeOrFirst, IsStampOf}
 
 -- a brick's stamp is not the first one
 pub not_first : (known i : ℕ) (t : Stamp) → IsStampOf known i t → t ≡ first_stamp → ⊥
@@ -21,15 +21,14 @@ stamps_unique setting w stamps said i j k l some_k most_k some_l most_l same =
     let brick : j ≡ i = sym there ∙ ap (λ (t : Stamp). t.brick.0) (sym same) ∙ here in
     let most : l ≤ (w.nodes i).seq = subst (λ (b : ℕ). l ≤ (w.nodes b).seq) brick most_l in
     let times : (stamps i k).time ≡ (stamps i l).time
-    = ap (λ (t : Stamp). t.time) same ∙ ap (λ (b : ℕ). (stamps b l).time) brick in
-    (
+    = ap (λ (t : Stamp). t.time) same ∙ ap (λ (b : ℕ). (stamps b l).time) brick in (
       sym brick,
       ⊎_elim (λ (equal : k ≡ l). equal)
-      (λ (apart : (k < l) ⊎ (l < k)). ⊎_elim
-      (λ (less : k < l). absurd (let rise : (stamps i k).time < (stamps i l).time = said.stamps_rise i k l some_k less most in omega arith))
-      (λ (more : l < k). absurd (let rise : (stamps i l).time < (stamps i k).time = said.stamps_rise i l k some_l more most_k in omega arith))
-      apart)
-      (cases_order k l),
+          (λ (apart : (k < l) ⊎ (l < k)). ⊎_elim
+          (λ (less : k < l). absurd (let rise : (stamps i k).time < (stamps i l).time = said.stamps_rise i k l some_k less most in omega arith))
+          (λ (more : l < k). absurd (let rise : (stamps i l).time < (stamps i k).time = said.stamps_rise i l k some_l more most_k in omega arith))
+          apart)
+          (cases_order k l),
     )
 
 -- the stamp of an operation is its brick's

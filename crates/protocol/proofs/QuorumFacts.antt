@@ -1,6 +1,6 @@
 -- What quorums make true of the versions of a world, for the walk along them.
-use Rattle.std.proofs.Common.{◌≡◌, ℕ, ◌<◌, ◌≤◌, ◌⊎◌, inl, inr, Bool, true, false, not, List, length, Option, Some, None, refl, sym, ap, ◌∙◌, subst, ⊎_elim, arith}
-use Rattle.std.specs.Prelude.{slice_get, nat_eq}
+use Rattle.std.proofs.Common.{◌≡◌, ℕ, ◌≤◌, ◌⊎◌, inl, inr, true, false, not, List, length, Option, Some, sym, ap, ◌∙◌, subst, ⊎_elim, arith}
+use Rattle.std.specs.Prelude.{nat_eq}
 use Rattle.std.proofs.lemmas.Bool.{and_parts, cases_Bool, eqb-true, not-true}
 use Rattle.fab_base.specs.declared.identities.BrickId.{BrickId}
 use Rattle.fab_base.specs.declared.stamps.Stamp.{Stamp}
@@ -58,7 +58,6 @@ pub record QuorumFacts (setting : Setting) (w : World) : Type 0 where
   pub aborts : AbortsShow w
 
 module _ (setting : Setting) (sound : IsSound setting) (w : World) (stamps : Stamping) (books : Books setting w) (said : Said setting w stamps) where
-
   -- of two versions between which a quorum's floors lie, the lower is not above the other, nor equal to it where the later operation made it
   shared_floor : (b : ℕ) (later : Operation) (u v : Stamp) (i : ℕ) → IsOperation w b later → later.version ≡ Some v
       → stamp_below (later.floor i) u ≡ false → stamp_below v (later.floor i) ≡ false → (stamp_below u v ≡ true) ⊎ ((u ≡ v) × (later.made ≡ false))
@@ -106,7 +105,7 @@ module _ (setting : Setting) (sound : IsSound setting) (w : World) (stamps : Sta
       let own : t ≡ stamps o.brick.0 o.seq = maker_stamp setting w stamps said n o t is made version in
       record {
         op = (said.operations n o is).content made
-        ∙ ap (λ (u : Stamp). WriteStripe (w.contents o.ask.group.0 o.ask.stripe.0 u)) (sym own);
+            ∙ ap (λ (u : Stamp). WriteStripe (w.contents o.ask.group.0 o.ask.stripe.0 u)) (sym own);
         later = λ first. not_first (w.nodes o.brick.0).known o.brick.0 (stamps o.brick.0 o.seq) (own_stamp setting w stamps books said n o is) (sym own ∙ first);
       }
 
@@ -117,14 +116,14 @@ module _ (setting : Setting) (sound : IsSound setting) (w : World) (stamps : Sta
         op = has.reader unmade;
         made = has.made;
         answered = λ life p bytes life_is ending.
-        let end = answered_has_end w.marks n p (Data bytes) life life_is ending in
-        let shown : DataShown w n bytes = said.ends end.0 p n (Data bytes) end.1 in
-        let same : shown.operation ≡ o = (let e : Some shown.operation ≡ Some o = sym shown.is ∙ is in cc) in
-        let stamp : shown.version ≡ t
-        = (let e : Some shown.version ≡ Some t = sym shown.version_is ∙ ap (λ (z : Operation). z.version) same ∙ version in cc) in
-        shown.bytes_are
-        ∙ ap (λ (z : Operation). w.contents z.ask.group.0 z.ask.stripe.0 shown.version) same
-        ∙ ap (λ (u : Stamp). w.contents o.ask.group.0 o.ask.stripe.0 u) stamp;
+            let end = answered_has_end w.marks n p (Data bytes) life life_is ending in
+            let shown : DataShown w n bytes = said.ends end.0 p n (Data bytes) end.1 in
+            let same : shown.operation ≡ o = (let e : Some shown.operation ≡ Some o = sym shown.is ∙ is in cc) in
+            let stamp : shown.version ≡ t
+            = (let e : Some shown.version ≡ Some t = sym shown.version_is ∙ ap (λ (z : Operation). z.version) same ∙ version in cc) in
+            shown.bytes_are
+            ∙ ap (λ (z : Operation). w.contents z.ask.group.0 z.ask.stripe.0 shown.version) same
+            ∙ ap (λ (u : Stamp). w.contents o.ask.group.0 o.ask.stripe.0 u) stamp;
       }
 
   -- a write that was sent says what it should
@@ -138,8 +137,8 @@ module _ (setting : Setting) (sound : IsSound setting) (w : World) (stamps : Sta
   facts = record {
     real_time = real_time_holds;
     maker_unique = λ a b one other t one_is other_is one_made other_made one_version other_version.
-    operation_unique setting w stamps books said a b one other one_is other_is
-    (sym (maker_stamp setting w stamps said a one t one_is one_made one_version) ∙ maker_stamp setting w stamps said b other t other_is other_made other_version);
+        operation_unique setting w stamps books said a b one other one_is other_is
+        (sym (maker_stamp setting w stamps said a one t one_is one_made one_version) ∙ maker_stamp setting w stamps said b other t other_is other_made other_version);
     made_version = λ n o is made. (stamps o.brick.0 o.seq, (said.operations n o is).made made);
     maker = maker_holds;
     reader = reader_holds;
@@ -147,14 +146,13 @@ module _ (setting : Setting) (sound : IsSound setting) (w : World) (stamps : Sta
     first = λ g s group group_is. said.first g s ∙ ap (λ (z : Option Group). zero_content setting.layout.block z) group_is;
     one_content = record {
       sent = λ call from to t block group group_is sent.
-      let says : WriteSays setting w stamps from.0 to.0 call t block = write_says call from to t block sent in
-      let seat : (k : ℕ) × (seat_in group.members to.0 ≡ Some k) = says.member group group_is in
-      (
-        seat.0,
-        seat_within group to.0 seat.0 seat.1,
-        brick_at_seat group to.0 seat.0 seat.1,
-        says.is_block group seat.0 group_is seat.1,
-      );
+          let says : WriteSays setting w stamps from.0 to.0 call t block = write_says call from to t block sent in
+          let seat : (k : ℕ) × (seat_in group.members to.0 ≡ Some k) = says.member group group_is in (
+            seat.0,
+            seat_within group to.0 seat.0 seat.1,
+            brick_at_seat group to.0 seat.0 seat.1,
+            says.is_block group seat.0 group_is seat.1,
+          );
     };
     guarded = λ call from to t block group group_is sent. (write_says call from to t block sent).guarded group group_is;
     stored = λ call from to sent. said.packets sent.0 (record { from = from; to = to; message = Message.Reply call Reply.Stored }) sent.1;

@@ -1,10 +1,10 @@
 -- What a member's part of a stripe keeps through a request: its stamps never fall, and its log only grows.
-use Rattle.std.proofs.Common.{◌≡◌, ◌≢◌, ℕ, zero, suc, ◌⊎◌, inl, inr, Bool, true, false, cond, ◌||◌, List, [], ◌∷◌, ◌++◌, Option, Some, None, refl, sym, ap, ◌∙◌, subst, ⊎_elim}
+use Rattle.std.proofs.Common.{◌≡◌, ℕ, suc, ◌⊎◌, inl, inr, Bool, true, false, cond, List, [], ◌∷◌, ◌++◌, Option, Some, None, refl, sym, ap, ◌∙◌, subst, ⊎_elim}
 use Rattle.std.specs.Prelude.{slice_get}
-use Rattle.std.proofs.lemmas.Bool.{cond_both, cond-false, cond-true, cases_Bool, false≢true, or_left, or_right, or_cases}
+use Rattle.std.proofs.lemmas.Bool.{cond_both, cond-false, false≢true, or_left, or_right, or_cases}
 use Rattle.fab_base.specs.declared.stamps.Stamp.{Stamp}
 use Rattle.fab_base.specs.Stamps.{stamp_below, stamp_same}
-use Rattle.fab_base.proofs.StampOrder.{stamp_below_irrefl, stamp_below_asym, stamp_not_below_trans, stamp_neither_below, stamp_same_refl, stamp_same_true}
+use Rattle.fab_base.proofs.StampOrder.{stamp_below_irrefl, stamp_below_asym, stamp_not_below_trans, stamp_neither_below, stamp_same_refl}
 use Rattle.fab_wire.specs.declared.requests.Version.{Version}
 use Rattle.fab_wire.specs.declared.requests.Want.{Want}
 use Rattle.fab_wire.specs.declared.requests.Want.TheVariants.{Seat, All}

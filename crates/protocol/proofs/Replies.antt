@@ -1,29 +1,26 @@
 -- A coordinator takes a reply: what it then decides keeps the invariant.
-use Rattle.std.proofs.Common.{◌≡◌, ◌≢◌, ℕ, zero, suc, ◌+◌, ◌-◌, ◌<◌, ◌≤◌, nat_lt, ◌⊎◌, inl, inr, Bool, true, false, cond, ◌&&◌, List, [], ◌∷◌, ◌++◌, length, Option, Some, None, max, refl, sym, ap, ◌∙◌, subst, ⊎_elim, arith}
-use Rattle.std.specs.Prelude.{slice_get, nat_eq, ◌^◌}
+use Rattle.std.proofs.Common.{◌≡◌, ℕ, ◌-◌, ◌≤◌, nat_lt, ◌⊎◌, inl, inr, true, false, ◌&&◌, List, [], length, Option, Some, None, refl, sym, ap, ◌∙◌, subst, ⊎_elim, arith}
+use Rattle.std.specs.Prelude.{nat_eq, ◌^◌}
 use Rattle.std.proofs.lemmas.Bool.{cond_both, false≢true, eqb-true, and_parts, ltb-false}
 use Rattle.fab_base.specs.declared.identities.BrickId.{BrickId}
 use Rattle.fab_base.specs.declared.stamps.Stamp.{Stamp}
 use Rattle.fab_base.specs.declared.asks.Op.TheVariants.{ReadStripe, WriteStripe}
 use Rattle.fab_base.specs.declared.answers.Answer.TheVariants.{Data, Done, Aborted}
 use Rattle.fab_base.specs.declared.answers.Cause.TheVariants as Cause
-use Rattle.fab_base.proofs.StampOrder.{stamp_below_irrefl}
 use Rattle.fab_wire.specs.declared.calls.Call.{Call}
 use Rattle.fab_wire.specs.declared.messages.Message.TheVariants as Message
-use Rattle.fab_wire.specs.declared.messages.Packet.{Packet}
 use Rattle.fab_wire.specs.declared.replies.Reply.{Reply}
-use Rattle.fab_wire.specs.declared.replies.Reply.TheVariants as Reply
 use Rattle.protocol.specs.Settings.{Setting, Code, Group, group_of, quorum_of, IsSound, seat_in}
-use Rattle.protocol.specs.Coordinators.{Coordinator, Counted, Refuser, Phase, Looks, Orders, Stores, Stalls, Next, Ignores, Waits, Sends, Ends, call_same, answers_phase, has_seat, new_seat, counts_at, fast_version, pieces_of, greatest_refuser, storing, stalled, unless_refused, answered_fast, decided, with_reply, once_full, counted_at, on_reply}
-use Rattle.protocol.specs.Nodes.{Node, NodeStep, put, known_after, with_known, with_call, carried_out}
+use Rattle.protocol.specs.Coordinators.{Coordinator, Counted, Refuser, Phase, Looks, Orders, Stores, Stalls, Next, Waits, Sends, Ends, call_same, answers_phase, has_seat, new_seat, counts_at, fast_version, pieces_of, greatest_refuser, storing, stalled, unless_refused, answered_fast, decided, with_reply, once_full, counted_at, on_reply}
+use Rattle.protocol.specs.Nodes.{Node, known_after, with_known, with_call, carried_out}
 use Rattle.protocol.specs.Worlds.{World, Operation, world_stepped}
 use Rattle.protocol.specs.Laws.{WasSent, IsGuarded}
-use Rattle.protocol.proofs.Books.{Books, CallBooks, MadeInPhase, IsOperation, IsCall}
+use Rattle.protocol.proofs.Books.{Books, CallBooks, MadeInPhase, IsCall}
 use Rattle.protocol.proofs.Said.{Stamping, Said, EachCounted, AreOnce, FitsPhase, FloorsAtMost, HasVersion, CountedSays, CallSays}
 use Rattle.protocol.proofs.Tables.{put_each}
 use Rattle.protocol.proofs.Counting.{each_then, each_more, once_more}
 use Rattle.protocol.proofs.Growth.{Grows, stays_open, call_within}
-use Rattle.protocol.proofs.Steps.{KeepsParts, keeps_same, quiet, quiet_grows, QuietOwes, said_quiet}
+use Rattle.protocol.proofs.Steps.{keeps_same, quiet, quiet_grows, said_quiet}
 use Rattle.protocol.proofs.Decisions.{ordered_guards, ordered_floors, refusal_shows, fast_guards, fast_floors, fast_made, fast_decodes}
 use Rattle.protocol.proofs.Stores.{said_made}
 use Rattle.protocol.proofs.Ends.{said_ended}
@@ -128,9 +125,8 @@ phase_cases Stores = inr (inr (inl refl))
 phase_cases Stalls = inr (inr (inr refl))
 
 module _ (setting : Setting) (sound : IsSound setting) (w : World) (stamps : Stamping) (me : BrickId) (c : Coordinator) (group : Group) (known : ℕ)
-  (books : Books setting w) (said : Said setting w stamps) (is : IsCall w me.0 c.call.seq c)
-  (group_is : group_of setting.layout c.ask.group.0 ≡ Some group) (more_known : (w.nodes me.0).known ≤ known) where
-
+    (books : Books setting w) (said : Said setting w stamps) (is : IsCall w me.0 c.call.seq c)
+    (group_is : group_of setting.layout c.ask.group.0 ≡ Some group) (more_known : (w.nodes me.0).known ≤ known) where
   abbrev its : CallBooks setting w me.0 c.call.seq c
   its = books.calls me.0 c.call.seq c is
 
@@ -157,12 +153,12 @@ module _ (setting : Setting) (sound : IsSound setting) (w : World) (stamps : Sta
         tops = λ g s. inl refl;
         logs = λ g s k version at. inl at;
         calls = λ k e.
-        put_each (λ j x. x ≡ Some e → ((w.nodes me.0).calls j ≡ Some e) ⊎ CallSays setting (quiet w me node []) stamps me.0 j e) (w.nodes me.0).calls c.call.seq (Some d)
-        (λ at. let same : d ≡ e = cc in
-        inr (subst (λ (z : Coordinator). CallSays setting (quiet w me node []) stamps me.0 c.call.seq z) same
-        (stays_open setting w (quiet w me node []) stamps stamps books grows me.0 c.call.seq d
-        (call_within setting w (quiet w me node []) stamps stamps books grows me.0 c.call.seq c is) d_says)))
-        (λ j other at. inl at) k;
+            put_each (λ j x. x ≡ Some e → ((w.nodes me.0).calls j ≡ Some e) ⊎ CallSays setting (quiet w me node []) stamps me.0 j e) (w.nodes me.0).calls c.call.seq (Some d)
+            (λ at. let same : d ≡ e = cc in
+            inr (subst (λ (z : Coordinator). CallSays setting (quiet w me node []) stamps me.0 c.call.seq z) same
+            (stays_open setting w (quiet w me node []) stamps stamps books grows me.0 c.call.seq d
+            (call_within setting w (quiet w me node []) stamps stamps books grows me.0 c.call.seq c is) d_says)))
+            (λ j other at. inl at) k;
         packets = λ k packet at. cc;
       })
 
@@ -181,9 +177,8 @@ module _ (setting : Setting) (sound : IsSound setting) (w : World) (stamps : Sta
   its_group = ap (λ a. group_of setting.layout a.group.0) (sym its.ask) ∙ group_is
 
   module _ (from : BrickId) (reply : Reply) (seat : ℕ) (sent : WasSent w (record { from = from; to = me; message = Message.Reply c.call reply }))
-    (answers : answers_phase setting.layout.block c.phase reply ≡ true) (seat_is : seat_in group.members from.0 ≡ Some seat)
-    (first : has_seat seat c.counted ≡ false) where
-
+      (answers : answers_phase setting.layout.block c.phase reply ≡ true) (seat_is : seat_in group.members from.0 ≡ Some seat)
+      (first : has_seat seat c.counted ≡ false) where
     -- the coordinator with the reply
     abbrev d : Coordinator
     d = with_reply c seat from reply
@@ -193,8 +188,8 @@ module _ (setting : Setting) (sound : IsSound setting) (w : World) (stamps : Sta
       sent = sent;
       answers = λ orders. subst (λ (p : Phase). answers_phase setting.layout.block p reply ≡ true) orders answers;
       seat = λ other other_is.
-      let same : group ≡ other = (let e : Some group ≡ Some other = sym group_is ∙ other_is in cc) in
-      subst (λ (z : Group). seat_in z.members from.0 ≡ Some seat) same seat_is;
+          let same : group ≡ other = (let e : Some group ≡ Some other = sym group_is ∙ other_is in cc) in
+          subst (λ (z : Group). seat_in z.members from.0 ≡ Some seat) same seat_is;
     }
 
     each : EachCounted (CountedSays setting w me.0 c) d.counted
@@ -209,18 +204,17 @@ module _ (setting : Setting) (sound : IsSound setting) (w : World) (stamps : Sta
       stamp = says.stamp;
       fits = says.fits;
       counted = each_then (CountedSays setting w me.0 c) (CountedSays setting w me.0 d) d.counted
-      (λ x h. record { sent = h.sent; answers = h.answers; seat = h.seat }) each;
+          (λ x h. record { sent = h.sent; answers = h.answers; seat = h.seat }) each;
       once = once;
     }
 
     module _ (many : quorum_of group ≤ length d.counted) where
-
       stalled_says : c.phase ≡ Looks → CallSays setting w stamps me.0 c.call.seq (stalled d)
       stalled_says looks = record {
         stamp = says.stamp;
         fits = subst (λ (p : Phase). FitsPhase p c.ask.op) looks says.fits;
         counted = each_then (CountedSays setting w me.0 c) (CountedSays setting w me.0 (stalled d)) d.counted
-        (λ x h. record { sent = h.sent; answers = λ bad. cc; seat = h.seat }) each;
+            (λ x h. record { sent = h.sent; answers = λ bad. cc; seat = h.seat }) each;
         once = once;
       }
 
@@ -235,13 +229,13 @@ module _ (setting : Setting) (sound : IsSound setting) (w : World) (stamps : Sta
             made = fast_made setting sound w stamps me c group books said is group_is d.counted each once many v fast;
             reader = λ isnt. reads;
             guarded = λ other other_is.
-            let same : group ≡ other = (let e : Some group ≡ Some other = sym its_group ∙ other_is in cc) in
-            subst (λ (z : Group). IsGuarded w o.ask.group.0 o.ask.stripe.0 z v) same
-            (fast_guards setting sound w stamps me c group books said is group_is d.counted each once many v fast);
+                let same : group ≡ other = (let e : Some group ≡ Some other = sym its_group ∙ other_is in cc) in
+                subst (λ (z : Group). IsGuarded w o.ask.group.0 o.ask.stripe.0 z v) same
+                (fast_guards setting sound w stamps me c group books said is group_is d.counted each once many v fast);
             floors = λ other other_is.
-            let same : group ≡ other = (let e : Some group ≡ Some other = sym its_group ∙ other_is in cc) in
-            subst (λ (z : Group). FloorsAtMost o z v) same
-            (fast_floors setting sound w stamps me c group books said is group_is d.counted each once many v fast);
+                let same : group ≡ other = (let e : Some group ≡ Some other = sym its_group ∙ other_is in cc) in
+                subst (λ (z : Group). FloorsAtMost o z v) same
+                (fast_floors setting sound w stamps me c group books said is group_is d.counted each once many v fast);
           } in
           said_ended setting w stamps me c group known books said is more_known (Data (setting.code.decode group.m (pieces_of d.counted))) (Some v) None
           (λ u old. let e : Some u ≡ None = sym old ∙ unmade.0 in cc)

@@ -1,30 +1,27 @@
 -- A member handles a request: what its part of the stripe, and its reply, then say.
-use Rattle.std.proofs.Common.{◌≡◌, ◌≢◌, ℕ, zero, suc, ◌+◌, ◌<◌, ◌≤◌, ◌⊎◌, inl, inr, Bool, true, false, List, [], ◌∷◌, ◌++◌, length, Option, Some, None, refl, sym, ap, ◌∙◌, subst, ⊎_elim, arith}
+use Rattle.std.proofs.Common.{◌≡◌, ℕ, ◌≤◌, ◌⊎◌, inl, inr, true, false, Option, Some, None, refl, sym, ap, ◌∙◌, subst, ⊎_elim, arith}
 use Rattle.std.specs.Prelude.{slice_get}
 use Rattle.fab_base.specs.declared.identities.BrickId.{BrickId}
 use Rattle.fab_base.specs.declared.stamps.Stamp.{Stamp}
-use Rattle.fab_base.specs.Stamps.{stamp_below, first_stamp}
+use Rattle.fab_base.specs.Stamps.{stamp_below}
 use Rattle.fab_base.proofs.StampOrder.{stamp_below_irrefl, stamp_not_below_trans}
 use Rattle.fab_wire.specs.declared.calls.Call.{Call}
 use Rattle.fab_wire.specs.declared.messages.Message.TheVariants as Message
 use Rattle.fab_wire.specs.declared.messages.Packet.{Packet}
 use Rattle.fab_wire.specs.declared.requests.Request.{Request}
-use Rattle.fab_wire.specs.declared.requests.Request.TheVariants as Request
 use Rattle.fab_wire.specs.declared.requests.Version.{Version}
 use Rattle.fab_wire.specs.declared.replies.Reply.{Reply}
-use Rattle.fab_wire.specs.declared.replies.Reply.TheVariants as Reply
 use Rattle.protocol.specs.Settings.{Setting}
-use Rattle.protocol.specs.Replicas.{Replica, Reaction, newest_of, top_of, is_held, stamp_max, handle}
-use Rattle.protocol.specs.Coordinators.{Coordinator}
+use Rattle.protocol.specs.Replicas.{Replica, newest_of, top_of, is_held, stamp_max}
 use Rattle.protocol.specs.Nodes.{Node, put, with_replica, reply_packets}
 use Rattle.protocol.specs.Worlds.{World, Operation}
 use Rattle.protocol.specs.Laws.{WasSent, AskedAt, part_of}
-use Rattle.protocol.proofs.Books.{Books, OperationBooks, IsOperation, IsCall}
-use Rattle.protocol.proofs.Said.{Stamping, Said, IsKnown, IsCalled, VersionSays, WriteSays, RequestSays, OrderedSays, FoundSays, ReplySays, PacketSays, CallSays}
+use Rattle.protocol.proofs.Books.{Books, OperationBooks}
+use Rattle.protocol.proofs.Said.{Stamping, Said, IsKnown, IsCalled, VersionSays, WriteSays, RequestSays, OrderedSays, FoundSays, ReplySays, PacketSays}
 use Rattle.protocol.proofs.Tables.{put_each, put_same, get_one}
 use Rattle.protocol.proofs.Reactions.{IsAfter, IsAsked, ReactionSays, SaysIf, after_top, after_held, after_asked, after_log, top_is, newest_stands}
-use Rattle.protocol.proofs.Growth.{Grows, stays_known, stays_version, stays_called, stays_stamp, stays_found, write_made}
-use Rattle.protocol.proofs.Steps.{KeepsParts, quiet, quiet_grows, QuietOwes, said_quiet}
+use Rattle.protocol.proofs.Growth.{Grows, stays_known, stays_version, stays_called, stays_found}
+use Rattle.protocol.proofs.Steps.{KeepsParts, quiet, quiet_grows, said_quiet}
 
 -- what holds of the changed part, and of each part as it was
 pub parts_each : (Q : ℕ → ℕ → Replica → Type 0) (node : Node) (call : Call) (part : Replica) → Q call.group.0 call.stripe.0 part
@@ -39,9 +36,9 @@ pub parts_keep : (node : Node) (call : Call) (request : Request) (part : Replica
     → KeepsParts node (with_replica node call part)
 parts_keep node call request part after = record {
   tops = parts_each (λ g s r. stamp_below (top_of r) (top_of (node.replicas g s)) ≡ false) node call part
-  (after_top (node.replicas call.group.0 call.stripe.0) request part after) (λ g s. stamp_below_irrefl (top_of (node.replicas g s)));
+      (after_top (node.replicas call.group.0 call.stripe.0) request part after) (λ g s. stamp_below_irrefl (top_of (node.replicas g s)));
   held = λ g s t. parts_each (λ h r x. is_held t (node.replicas h r).log ≡ true → is_held t x.log ≡ true) node call part
-  (λ held. after_held (node.replicas call.group.0 call.stripe.0) request part t after held) (λ h r held. held) g s;
+      (λ held. after_held (node.replicas call.group.0 call.stripe.0) request part t after held) (λ h r held. held) g s;
 }
 
 -- the changed part
@@ -51,8 +48,7 @@ part_now node call part =
     ∙ put_same (node.replicas call.group.0) call.stripe.0 part
 
 module _ (setting : Setting) (w : World) (stamps : Stamping) (me from : BrickId) (call : Call) (request : Request) (books : Books setting w)
-  (said : Said setting w stamps) (sent : WasSent w (record { from = from; to = me; message = Message.Request call request })) where
-
+    (said : Said setting w stamps) (sent : WasSent w (record { from = from; to = me; message = Message.Request call request })) where
   -- the member's part before the request
   abbrev before : Replica
   before = part_of w call.group.0 call.stripe.0 me.0
@@ -80,7 +76,6 @@ module _ (setting : Setting) (w : World) (stamps : Stamping) (me from : BrickId)
       called_known t says.operation says.called says.stamp
 
   module _ (part : Replica) (reply : Option Reply) (after : IsAfter before request part) (tells : SaysIf before request part reply) where
-
     -- the world after it
     abbrev next : World
     next = quiet w me (with_replica (w.nodes me.0) call part) (reply_packets me from call reply)
@@ -169,7 +164,7 @@ module _ (setting : Setting) (w : World) (stamps : Stamping) (me from : BrickId)
           called = goes.1;
           promised = subst (λ (t : Stamp). stamp_below t (stamps from.0 call.seq) ≡ false) (sym top) (stamp_below_irrefl (stamps from.0 call.seq));
           floor = subst (λ (f : ℕ → Stamp). stamp_below (stamps from.0 call.seq) (f me.0) ≡ false) (sym goes.2.floor)
-          (stamp_not_below_trans (says.1.0.floor me.0) (top_of before) (stamps from.0 call.seq) (floor_below says.1.0 says.1.1) above);
+              (stamp_not_below_trans (says.1.0.floor me.0) (top_of before) (stamps from.0 call.seq) (floor_below says.1.0 says.1.1) above);
         }
 
     later_asked : (t : Stamp) → IsAsked request t → AskedAt next call from me t
@@ -177,21 +172,23 @@ module _ (setting : Setting) (w : World) (stamps : Stamping) (me from : BrickId)
         inl (grows.sent (record { from = from; to = me; message = Message.Request call (Request.Order t) })
         (subst (λ (r : Request). WasSent w (record { from = from; to = me; message = Message.Request call r })) is sent))
     later_asked t (inr is) =
-        inr (is.0, grows.sent (record { from = from; to = me; message = Message.Request call (Request.Write t is.0) })
-        (subst (λ (r : Request). WasSent w (record { from = from; to = me; message = Message.Request call r })) is.1 sent))
+        inr (
+          is.0,
+          grows.sent (record { from = from; to = me; message = Message.Request call (Request.Write t is.0) })
+              (subst (λ (r : Request). WasSent w (record { from = from; to = me; message = Message.Request call r })) is.1 sent),
+        )
 
     reply_says : (r : Reply) → ReactionSays before request part r → ReplySays setting next stamps me from call r
     reply_says (Reply.Found order (Some version)) told =
         stays_found setting w next stamps stamps books grows me.0 from.0 call order version (found_says order version told)
     reply_says Reply.Ordered told = ordered_says told
-    reply_says Reply.Stored told =
-        (
-          told.0,
-          told.1,
-          grows.sent (record { from = from; to = me; message = Message.Request call (Request.Write told.0 told.1) })
+    reply_says Reply.Stored told = (
+      told.0,
+      told.1,
+      grows.sent (record { from = from; to = me; message = Message.Request call (Request.Write told.0 told.1) })
           (subst (λ (r : Request). WasSent w (record { from = from; to = me; message = Message.Request call r })) told.2 sent),
-          subst (λ (r : Replica). is_held told.0 r.log ≡ true) (sym now) told.3,
-        )
+      subst (λ (r : Replica). is_held told.0 r.log ≡ true) (sym now) told.3,
+    )
     reply_says (Reply.Later x) told = (told.0, later_asked told.0 told.1, told.2)
     reply_says r told = tt
 

@@ -1,26 +1,24 @@
 -- What is said is so in every world that a run reaches.
-use Rattle.std.proofs.Common.{◌≡◌, ◌≢◌, ℕ, zero, suc, ◌+◌, ◌-◌, ◌<◌, ◌≤◌, ◌⊎◌, inl, inr, Bool, true, false, not, cond, ◌&&◌, List, [], ◌∷◌, ◌++◌, length, replicate, Option, Some, None, refl, sym, ap, ◌∙◌, subst, ⊎_elim, arith}
-use Rattle.std.specs.Prelude.{slice_get, is_some}
+use Rattle.std.proofs.Common.{◌≡◌, ℕ, zero, suc, inl, true, not, ◌&&◌, List, [], ◌∷◌, replicate, Option, Some, None, refl, sym, ap, ◌∙◌, subst, arith}
+use Rattle.std.specs.Prelude.{is_some}
 use Rattle.std.proofs.lemmas.Bool.{cond_both, cond-false, false≢true, and_parts}
 use Rattle.fab_base.specs.declared.identities.BrickId.{BrickId}
-use Rattle.fab_base.specs.declared.stamps.Stamp.{Stamp}
 use Rattle.fab_base.specs.declared.asks.Ask.{Ask}
 use Rattle.fab_base.specs.Stamps.{stamp_below, first_stamp}
 use Rattle.fab_base.proofs.StampOrder.{stamp_below_irrefl}
 use Rattle.fab_wire.specs.declared.calls.Call.{Call}
 use Rattle.fab_wire.specs.declared.messages.Message.{Message}
-use Rattle.fab_wire.specs.declared.messages.Message.TheVariants as Message
 use Rattle.fab_wire.specs.declared.messages.Packet.{Packet}
 use Rattle.fab_wire.specs.declared.requests.Request.{Request}
 use Rattle.fab_wire.specs.declared.requests.Version.{Version}
 use Rattle.fab_wire.specs.declared.replies.Reply.{Reply}
 use Rattle.protocol.specs.Settings.{Setting, Group, group_of, IsSound, seat_in}
-use Rattle.protocol.specs.Replicas.{Replica, first_replica, top_of, handle}
+use Rattle.protocol.specs.Replicas.{first_replica, top_of, handle}
 use Rattle.protocol.specs.Coordinators.{Coordinator}
-use Rattle.protocol.specs.Nodes.{Node, NodeStep, no_step, is_stripe_op, refusal_in, refusal_of, new_coordinator, began, invoked, requested_at, requested_in, requested, known_after, replied_to, replied_at, replied, received}
+use Rattle.protocol.specs.Nodes.{Node, NodeStep, no_step, is_stripe_op, refusal_in, refusal_of, began, invoked, requested_at, requested_in, requested, known_after, replied_to, replied_at, replied, received}
 use Rattle.protocol.specs.Worlds.{World, Event, Invokes, Delivers, first_world, zero_content, is_brick, may_begin, world_began, world_stepped, delivered, packet_of, happens, run}
 use Rattle.protocol.specs.Laws.{WasSent, part_of}
-use Rattle.protocol.proofs.Books.{Books, CallBooks, IsCall}
+use Rattle.protocol.proofs.Books.{Books, IsCall}
 use Rattle.protocol.proofs.Said.{Stamping, Said, VersionSays}
 use Rattle.protocol.proofs.Tables.{get_one}
 use Rattle.protocol.proofs.Reactions.{top_is, handle_after, handle_says}
@@ -56,6 +54,7 @@ request_said setting w stamps me from call request books said sent = in_group (g
         (handle seat (part_of w call.group.0 call.stripe.0 me.0) request).reply
         (handle_after seat (part_of w call.group.0 call.stripe.0 me.0) request)
         (handle_says seat (part_of w call.group.0 call.stripe.0 me.0) request)
+
     in_group : (z : Option Group) → Said setting (stepped w me (requested_in me from (w.nodes me.0) call request z)) stamps
     in_group None = nothing_said setting w stamps me books said
     in_group (Some group) = at_seat (seat_in group.members me.0)
@@ -73,6 +72,7 @@ reply_said setting w stamps me from call reply sound books said sent = at_call (
     in_group c is (Some group) group_is =
         said_after_reply setting sound w stamps me c group (known_after (w.nodes me.0).known reply) books said is group_is
         (known_more (w.nodes me.0).known reply) from call reply sent
+
     at_call : (z : Option Coordinator) → (w.nodes me.0).calls call.seq ≡ z → Said setting (stepped w me (replied_at setting me from (w.nodes me.0) call reply z)) stamps
     at_call None none = said_known setting w stamps me (known_after (w.nodes me.0).known reply) books said (known_more (w.nodes me.0).known reply)
     at_call (Some c) is =
@@ -142,14 +142,14 @@ said_first setting sound = (
     stamps_rise = λ i k l some less most. absurd (omega arith);
     tops = λ g s i. inl (first_top setting.layout.block);
     logs = λ g s i k version is.
-    let same : record { stamp = first_stamp; block = replicate setting.layout.block 0 } ≡ version
-    = get_one (record { stamp = first_stamp; block = replicate setting.layout.block 0 }) version k is in
-    subst (λ (z : Version). VersionSays setting (first_world setting.layout) g s i z) same (record {
-      made = inl refl;
-      block = λ group seat group_is at.
-      sym (sound.zero_blocks g group seat group_is)
-      ∙ ap (λ (z : Option Group). setting.code.encode group.m (zero_content setting.layout.block z) seat) (sym group_is);
-    });
+        let same : record { stamp = first_stamp; block = replicate setting.layout.block 0 } ≡ version
+        = get_one (record { stamp = first_stamp; block = replicate setting.layout.block 0 }) version k is in
+        subst (λ (z : Version). VersionSays setting (first_world setting.layout) g s i z) same (record {
+          made = inl refl;
+          block = λ group seat group_is at.
+              sym (sound.zero_blocks g group seat group_is)
+              ∙ ap (λ (z : Option Group). setting.code.encode group.m (zero_content setting.layout.block z) seat) (sym group_is);
+        });
     packets = λ k packet is. cc;
     operations = λ n o is. cc;
     calls = λ i k c is. cc;

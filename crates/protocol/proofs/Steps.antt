@@ -1,5 +1,5 @@
 -- What an event owes to the invariant: only what is new.
-use Rattle.std.proofs.Common.{◌≡◌, ◌≢◌, ℕ, zero, suc, ◌+◌, ◌<◌, ◌≤◌, ◌⊎◌, inl, inr, Bool, true, false, List, [], ◌∷◌, ◌++◌, length, Option, Some, None, refl, sym, ap, ◌∙◌, subst, ⊎_elim, arith}
+use Rattle.std.proofs.Common.{◌≡◌, ℕ, ◌<◌, ◌≤◌, ◌⊎◌, inl, inr, true, false, List, ◌++◌, Some, refl, sym, ◌∙◌, subst, ⊎_elim, arith}
 use Rattle.std.specs.Prelude.{slice_get}
 use Rattle.fab_base.specs.declared.identities.BrickId.{BrickId}
 use Rattle.fab_base.specs.declared.stamps.Stamp.{Stamp}
@@ -12,13 +12,13 @@ use Rattle.fab_base.proofs.StampOrder.{stamp_below_irrefl}
 use Rattle.protocol.specs.Settings.{Setting}
 use Rattle.protocol.specs.Replicas.{Replica, top_of, is_held}
 use Rattle.protocol.specs.Coordinators.{Coordinator}
-use Rattle.protocol.specs.Nodes.{Node, NodeStep, Nothing, put}
+use Rattle.protocol.specs.Nodes.{Node, Nothing, put}
 use Rattle.protocol.specs.Worlds.{World, Operation, world_stepped}
 use Rattle.protocol.specs.Laws.{WasSent, NeverFalls, part_of}
 use Rattle.protocol.proofs.Books.{Books, IsOperation, IsCall}
-use Rattle.protocol.proofs.Said.{Stamping, Said, IsMadeOrFirst, IsKnown, IsStampOf, VersionSays, PacketSays, OperationSays, CallSays, EndShows, IsInOrder}
+use Rattle.protocol.proofs.Said.{Stamping, Said, IsKnown, IsStampOf, VersionSays, PacketSays, OperationSays, CallSays, EndShows, IsInOrder}
 use Rattle.protocol.proofs.Tables.{put_each, get_kept, get_grown}
-use Rattle.protocol.proofs.Growth.{Grows, continues_same, stays_made, stays_known, stays_version, stays_packet, stays_operation, stays_call, stays_end}
+use Rattle.protocol.proofs.Growth.{Grows, continues_same, stays_known, stays_version, stays_packet, stays_operation, stays_call, stays_end}
 
 -- what is new in the next world says what it should
 pub record Owes (setting : Setting) (w next : World) (stamps later : Stamping) : Type 0 where
@@ -42,32 +42,32 @@ said_after setting w next stamps later books said grows owes = record {
   stamps_are = owes.stamps_are;
   stamps_rise = owes.stamps_rise;
   tops = λ g s i. ⊎_elim
-  (λ (same : top_of (part_of next g s i) ≡ top_of (part_of w g s i)).
-  subst (λ (t : Stamp). IsKnown next later t) (sym same) (stays_known setting w next stamps later books grows (top_of (part_of w g s i)) (said.tops g s i)))
-  (λ (new : IsKnown next later (top_of (part_of next g s i))). new)
-  (owes.tops g s i);
+      (λ (same : top_of (part_of next g s i) ≡ top_of (part_of w g s i)).
+      subst (λ (t : Stamp). IsKnown next later t) (sym same) (stays_known setting w next stamps later books grows (top_of (part_of w g s i)) (said.tops g s i)))
+      (λ (new : IsKnown next later (top_of (part_of next g s i))). new)
+      (owes.tops g s i);
   logs = λ g s i k version is. ⊎_elim
-  (λ (old : slice_get (part_of w g s i).log k ≡ Some version).
-  stays_version setting w next stamps later books grows g s i version (said.logs g s i k version old))
-  (λ (new : VersionSays setting next g s i version). new)
-  (owes.logs g s i k version is);
+      (λ (old : slice_get (part_of w g s i).log k ≡ Some version).
+      stays_version setting w next stamps later books grows g s i version (said.logs g s i k version old))
+      (λ (new : VersionSays setting next g s i version). new)
+      (owes.logs g s i k version is);
   packets = λ k packet is. ⊎_elim
-  (λ (old : slice_get w.packets k ≡ Some packet). stays_packet setting w next stamps later books grows packet (said.packets k packet old))
-  (λ (new : PacketSays setting next later packet). new)
-  (owes.packets k packet is);
+      (λ (old : slice_get w.packets k ≡ Some packet). stays_packet setting w next stamps later books grows packet (said.packets k packet old))
+      (λ (new : PacketSays setting next later packet). new)
+      (owes.packets k packet is);
   operations = λ n o is. ⊎_elim
-  (λ (old : IsOperation w n o). stays_operation setting w next stamps later books grows n o old (said.operations n o old))
-  (λ (new : OperationSays setting next later n o). new)
-  (owes.operations n o is);
+      (λ (old : IsOperation w n o). stays_operation setting w next stamps later books grows n o old (said.operations n o old))
+      (λ (new : OperationSays setting next later n o). new)
+      (owes.operations n o is);
   calls = λ i k c is. ⊎_elim
-  (λ (old : IsCall w i k c). stays_call setting w next stamps later books grows i k c old (said.calls i k c old))
-  (λ (new : CallSays setting next later i k c). new)
-  (owes.calls i k c is);
+      (λ (old : IsCall w i k c). stays_call setting w next stamps later books grows i k c old (said.calls i k c old))
+      (λ (new : CallSays setting next later i k c). new)
+      (owes.calls i k c is);
   ends = λ k p n answer is. ⊎_elim
-  (λ (old : slice_get w.marks k ≡ Some (End p n answer)).
-  stays_end setting w next stamps later books grows said.operations n answer (said.ends k p n answer old))
-  (λ (new : EndShows next n answer). new)
-  (owes.ends k p n answer is);
+      (λ (old : slice_get w.marks k ≡ Some (End p n answer)).
+      stays_end setting w next stamps later books grows said.operations n answer (said.ends k p n answer old))
+      (λ (new : EndShows next n answer). new)
+      (owes.ends k p n answer is);
   order = owes.order;
   first = λ g s. grows.contents g s first_stamp (inl refl) ∙ said.first g s;
 }
@@ -81,7 +81,7 @@ pub record KeepsParts (node next : Node) : Type 0 where
 pub keeps_same : (node next : Node) → next.replicas ≡ node.replicas → KeepsParts node next
 keeps_same node next same = record {
   tops = λ g s.
-  subst (λ (r : ℕ → ℕ → Replica). stamp_below (top_of (r g s)) (top_of (node.replicas g s)) ≡ false) (sym same) (stamp_below_irrefl (top_of (node.replicas g s)));
+      subst (λ (r : ℕ → ℕ → Replica). stamp_below (top_of (r g s)) (top_of (node.replicas g s)) ≡ false) (sym same) (stamp_below_irrefl (top_of (node.replicas g s)));
   held = λ g s t held. subst (λ (r : ℕ → ℕ → Replica). is_held t (r g s).log ≡ true) (sym same) held;
 }
 
@@ -169,20 +169,20 @@ said_quiet setting w stamps me node more books said owes =
       stamps_are = stamps_are_by setting w next stamps said seqs (known_by w next me.0 node refl owes.known);
       stamps_rise = stamps_rise_by setting w next stamps said seqs;
       tops = λ g s i.
-      put_each (λ j x. (top_of (x.replicas g s) ≡ top_of ((w.nodes j).replicas g s)) ⊎ IsKnown (quiet w me node more) stamps (top_of (x.replicas g s)))
-      w.nodes me.0 node (owes.tops g s) (λ j other. inl refl) i;
+          put_each (λ j x. (top_of (x.replicas g s) ≡ top_of ((w.nodes j).replicas g s)) ⊎ IsKnown (quiet w me node more) stamps (top_of (x.replicas g s)))
+          w.nodes me.0 node (owes.tops g s) (λ j other. inl refl) i;
       logs = λ g s i k version.
-      put_each (λ j x. slice_get (x.replicas g s).log k ≡ Some version
-      → (slice_get ((w.nodes j).replicas g s).log k ≡ Some version) ⊎ VersionSays setting (quiet w me node more) g s j version)
-      w.nodes me.0 node (owes.logs g s k version) (λ j other is. inl is) i;
+          put_each (λ j x. slice_get (x.replicas g s).log k ≡ Some version
+          → (slice_get ((w.nodes j).replicas g s).log k ≡ Some version) ⊎ VersionSays setting (quiet w me node more) g s j version)
+          w.nodes me.0 node (owes.logs g s k version) (λ j other is. inl is) i;
       packets = λ k packet is. ⊎_elim
-      (λ (old : slice_get w.packets k ≡ Some packet). inl old)
-      (λ (new : (j : ℕ) × (slice_get more j ≡ Some packet)). inr (owes.packets new.0 packet new.1))
-      (get_grown w.packets more k packet is);
+          (λ (old : slice_get w.packets k ≡ Some packet). inl old)
+          (λ (new : (j : ℕ) × (slice_get more j ≡ Some packet)). inr (owes.packets new.0 packet new.1))
+          (get_grown w.packets more k packet is);
       operations = λ n o is. inl is;
       calls = λ i k c.
-      put_each (λ j x. x.calls k ≡ Some c → ((w.nodes j).calls k ≡ Some c) ⊎ CallSays setting (quiet w me node more) stamps j k c)
-      w.nodes me.0 node (owes.calls k c) (λ j other is. inl is) i;
+          put_each (λ j x. x.calls k ≡ Some c → ((w.nodes j).calls k ≡ Some c) ⊎ CallSays setting (quiet w me node more) stamps j k c)
+          w.nodes me.0 node (owes.calls k c) (λ j other is. inl is) i;
       ends = λ k p n answer is. inl is;
       order = said.order;
     })

@@ -1,31 +1,27 @@
 -- A coordinator whose order was promised by a quorum makes its version, and sends it.
-use Rattle.std.proofs.Common.{◌≡◌, ◌≢◌, ℕ, zero, suc, ◌+◌, ◌<◌, ◌≤◌, ◌⊎◌, inl, inr, Bool, true, false, cond, List, [], ◌∷◌, ◌++◌, length, Option, Some, None, refl, sym, ap, ◌∙◌, subst, ⊎_elim, arith}
+use Rattle.std.proofs.Common.{◌≡◌, ℕ, ◌+◌, ◌≤◌, ◌⊎◌, inl, inr, true, false, cond, List, ◌++◌, length, Option, Some, None, refl, sym, ap, ◌∙◌, subst, arith}
 use Rattle.std.specs.Prelude.{slice_get}
 use Rattle.std.proofs.lemmas.Bool.{cond_both, cond-true, true≢false}
 use Rattle.fab_base.specs.declared.identities.BrickId.{BrickId}
 use Rattle.fab_base.specs.declared.stamps.Stamp.{Stamp}
 use Rattle.fab_base.specs.declared.asks.Op.{Op}
 use Rattle.fab_base.specs.declared.asks.Op.TheVariants.{WriteStripe}
-use Rattle.fab_base.specs.Stamps.{stamp_below, stamp_same}
+use Rattle.fab_base.specs.Stamps.{stamp_same}
 use Rattle.fab_base.proofs.StampOrder.{stamp_same_refl, stamp_same_true}
-use Rattle.fab_wire.specs.declared.calls.Call.{Call}
-use Rattle.fab_wire.specs.declared.messages.Message.TheVariants as Message
 use Rattle.fab_wire.specs.declared.messages.Packet.{Packet}
-use Rattle.fab_wire.specs.declared.requests.Request.TheVariants as Request
-use Rattle.reg_model.specs.declared.marks.Mark.{Mark}
-use Rattle.reg_model.specs.Marks.{life_of, Life}
+use Rattle.reg_model.specs.Marks.{life_of}
 use Rattle.reg_model.specs.Walk.{last_of}
 use Rattle.protocol.specs.Settings.{Setting, Group, group_of, IsSound, seat_in}
-use Rattle.protocol.specs.Coordinators.{Coordinator, Phase, Orders, Stores, storing, request_of, written_content}
-use Rattle.protocol.specs.Nodes.{Node, NodeStep, Made, put, with_call, phase_packets}
+use Rattle.protocol.specs.Coordinators.{Coordinator, Phase, Orders, storing, request_of, written_content}
+use Rattle.protocol.specs.Nodes.{Node, Made, put, with_call, phase_packets}
 use Rattle.protocol.specs.Worlds.{World, Operation, world_stepped, with_made, with_content}
 use Rattle.protocol.specs.Laws.{IsGuarded}
-use Rattle.protocol.proofs.Books.{Books, OperationBooks, CallBooks, MadeInPhase, IsOperation, IsCall}
-use Rattle.protocol.proofs.Said.{Stamping, Said, IsMadeOrFirst, FitsPhase, FloorsAtMost, IsCalled, WriteSays, PacketSays, HasVersion, OperationSays, CallSays}
+use Rattle.protocol.proofs.Books.{Books, OperationBooks, CallBooks, MadeInPhase, IsCall}
+use Rattle.protocol.proofs.Said.{Stamping, Said, IsMadeOrFirst, FitsPhase, FloorsAtMost, WriteSays, PacketSays, HasVersion, OperationSays, CallSays}
 use Rattle.protocol.proofs.Tables.{put_each, put_same, seat_of_member, sent_to_member}
 use Rattle.protocol.proofs.Lives.{open_last}
-use Rattle.protocol.proofs.Growth.{Grows, Continues, stays_guarded, stays_operation}
-use Rattle.protocol.proofs.Operated.{operated, OperatedKeeps, operated_grows, OperatedOwes, said_operated}
+use Rattle.protocol.proofs.Growth.{Grows, stays_guarded, stays_operation}
+use Rattle.protocol.proofs.Operated.{operated, OperatedKeeps, operated_grows, said_operated}
 use Rattle.protocol.proofs.OwnStamps.{not_made_yet}
 
 -- an open operation may happen up to one past the last mark
@@ -40,9 +36,8 @@ open_until setting w i k c books is =
     omega arith
 
 module _ (setting : Setting) (sound : IsSound setting) (w : World) (stamps : Stamping) (me : BrickId) (c : Coordinator) (group : Group) (known : ℕ)
-  (books : Books setting w) (said : Said setting w stamps) (is : IsCall w me.0 c.call.seq c)
-  (group_is : group_of setting.layout c.ask.group.0 ≡ Some group) (more_known : (w.nodes me.0).known ≤ known) (orders : c.phase ≡ Orders) where
-
+    (books : Books setting w) (said : Said setting w stamps) (is : IsCall w me.0 c.call.seq c)
+    (group_is : group_of setting.layout c.ask.group.0 ≡ Some group) (more_known : (w.nodes me.0).known ≤ known) (orders : c.phase ≡ Orders) where
   abbrev its : CallBooks setting w me.0 c.call.seq c
   its = books.calls me.0 c.call.seq c is
 
@@ -162,7 +157,6 @@ module _ (setting : Setting) (sound : IsSound setting) (w : World) (stamps : Sta
   call_stripe = ap (λ a. a.stripe.0) (sym its.ask) ∙ ap (λ s. s.0) (sym its.call_stripe)
 
   module _ (guarded : IsGuarded w o.ask.group.0 o.ask.stripe.0 group c.stamp) (floors : FloorsAtMost o group c.stamp) where
-
     guarded_by : (other : Group) → group_of setting.layout o.ask.group.0 ≡ Some other → IsGuarded next o.ask.group.0 o.ask.stripe.0 other c.stamp
     guarded_by other other_is =
         let same : group ≡ other = (let e : Some group ≡ Some other = sym its_group ∙ other_is in cc) in
@@ -179,19 +173,19 @@ module _ (setting : Setting) (sound : IsSound setting) (w : World) (stamps : Sta
           fresh = old.fresh;
           made = λ is_made. ap (λ (t : Stamp). Some t) own;
           content = λ is_made.
-          writes.1
-          ∙ ap (λ (bytes : List ℕ). WriteStripe bytes)
-          (ap (λ (op : Op). written_content op) (sym writes.1) ∙ sym content_now
-          ∙ ap (λ (t : Stamp). contents o.ask.group.0 o.ask.stripe.0 t) own);
+              writes.1
+              ∙ ap (λ (bytes : List ℕ). WriteStripe bytes)
+              (ap (λ (op : Op). written_content op) (sym writes.1) ∙ sym content_now
+              ∙ ap (λ (t : Stamp). contents o.ask.group.0 o.ask.stripe.0 t) own);
           version = λ v has.
-          let same : c.stamp ≡ v = cc in
-          subst (λ (t : Stamp). HasVersion setting next made t) same (record {
-            made = inr (n, made, put_same w.operations n (Some made), refl, refl, refl, refl);
-            reader = λ isnt. absurd (true≢false isnt);
-            guarded = guarded_by;
-            floors = λ other other_is.
-            subst (λ (z : Group). FloorsAtMost o z c.stamp) (let e : Some group ≡ Some other = sym its_group ∙ other_is in let same : group ≡ other = cc in same) floors;
-          });
+              let same : c.stamp ≡ v = cc in
+              subst (λ (t : Stamp). HasVersion setting next made t) same (record {
+                made = inr (n, made, put_same w.operations n (Some made), refl, refl, refl, refl);
+                reader = λ isnt. absurd (true≢false isnt);
+                guarded = guarded_by;
+                floors = λ other other_is.
+                    subst (λ (z : Group). FloorsAtMost o z c.stamp) (let e : Some group ≡ Some other = sym its_group ∙ other_is in let same : group ≡ other = cc in same) floors;
+              });
           answered = λ answered bytes op. refl;
         }
 
@@ -213,26 +207,26 @@ module _ (setting : Setting) (sound : IsSound setting) (w : World) (stamps : Sta
           made = refl;
           version = refl;
           member = λ other other_is.
-          let same : group ≡ other
-          = (let e : Some group ≡ Some other = sym its_group ∙ ap (group_of setting.layout) call_group ∙ other_is in cc) in
-          (k, subst (λ (z : Group). seat_in z.members member.0 ≡ Some k) same seat);
+              let same : group ≡ other
+              = (let e : Some group ≡ Some other = sym its_group ∙ ap (group_of setting.layout) call_group ∙ other_is in cc) in
+              (k, subst (λ (z : Group). seat_in z.members member.0 ≡ Some k) same seat);
           guarded = λ other other_is.
-          subst (λ (g : ℕ). IsGuarded next g c.call.stripe.0 other c.stamp) call_group
-          (subst (λ (s : ℕ). IsGuarded next o.ask.group.0 s other c.stamp) call_stripe
-          (guarded_by other (ap (group_of setting.layout) call_group ∙ other_is)));
+              subst (λ (g : ℕ). IsGuarded next g c.call.stripe.0 other c.stamp) call_group
+              (subst (λ (s : ℕ). IsGuarded next o.ask.group.0 s other c.stamp) call_stripe
+              (guarded_by other (ap (group_of setting.layout) call_group ∙ other_is)));
           is_block = λ other j other_is at_j.
-          let same : group ≡ other
-          = (let e : Some group ≡ Some other = sym its_group ∙ ap (group_of setting.layout) call_group ∙ other_is in cc) in
-          let place : k ≡ j
-          = (let e : Some k ≡ Some j = sym seat ∙ (ap (λ (z : Group). seat_in z.members member.0) same ∙ at_j) in cc) in
-          let zero : 0 + k ≡ j = omega arith in
-          let content : written_content c.ask.op ≡ contents c.call.group.0 c.call.stripe.0 c.stamp
-          = ap (λ a. written_content a.op) its.ask ∙ sym content_now
-          ∙ ap (λ (g : ℕ). contents g o.ask.stripe.0 c.stamp) call_group
-          ∙ ap (λ (s : ℕ). contents c.call.group.0 s c.stamp) call_stripe in
-          ap (λ (z : Group). setting.code.encode z.m (written_content c.ask.op) (0 + k)) same
-          ∙ ap (λ (z : List ℕ). setting.code.encode other.m z (0 + k)) content
-          ∙ ap (setting.code.encode other.m (contents c.call.group.0 c.call.stripe.0 c.stamp)) zero;
+              let same : group ≡ other
+              = (let e : Some group ≡ Some other = sym its_group ∙ ap (group_of setting.layout) call_group ∙ other_is in cc) in
+              let place : k ≡ j
+              = (let e : Some k ≡ Some j = sym seat ∙ (ap (λ (z : Group). seat_in z.members member.0) same ∙ at_j) in cc) in
+              let zero : 0 + k ≡ j = omega arith in
+              let content : written_content c.ask.op ≡ contents c.call.group.0 c.call.stripe.0 c.stamp
+              = ap (λ a. written_content a.op) its.ask ∙ sym content_now
+              ∙ ap (λ (g : ℕ). contents g o.ask.stripe.0 c.stamp) call_group
+              ∙ ap (λ (s : ℕ). contents c.call.group.0 s c.stamp) call_stripe in
+              ap (λ (z : Group). setting.code.encode z.m (written_content c.ask.op) (0 + k)) same
+              ∙ ap (λ (z : List ℕ). setting.code.encode other.m z (0 + k)) content
+              ∙ ap (setting.code.encode other.m (contents c.call.group.0 c.call.stripe.0 c.stamp)) zero;
         }
 
     packets : (k : ℕ) (packet : Packet) → slice_get (phase_packets setting group me (storing c)) k ≡ Some packet → PacketSays setting next stamps packet
