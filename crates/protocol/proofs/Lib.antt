@@ -1,1 +1,5 @@
 pub mod Books
+pub mod BooksKept
+pub mod Lives
+pub mod MarkLists
+pub mod Puts

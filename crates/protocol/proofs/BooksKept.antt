@@ -1,0 +1,134 @@
+-- What a step leaves as it was stays in the books.
+use Rattle.std.proofs.Common.{◌≡◌, ◌≢◌, ℕ, ◌<◌, ◌≤◌, ◌⊎◌, inl, inr, ⊎_elim, Bool, true, false, List, Option, Some, None, refl, sym, ap, ◌∙◌, subst, arith}
+use Rattle.std.proofs.lemmas.Option.{same_Some}
+use Rattle.std.proofs.lemmas.Bool.{cases_eq, both_ways}
+use Rattle.fab_base.specs.declared.asks.Op.{Op}
+use Rattle.fab_base.specs.declared.stamps.Stamp.{Stamp}
+use Rattle.fab_wire.specs.declared.messages.Packet.{Packet}
+use Rattle.reg_model.specs.declared.marks.Mark.{Mark}
+use Rattle.reg_model.specs.Marks.{Life, life_of, IsOpen, IsUnended}
+use Rattle.reg_model.specs.Strict.{IsAnswered}
+use Rattle.protocol.specs.Settings.{Setting}
+use Rattle.protocol.specs.Coordinators.{Coordinator, Phase, Looks, Orders, Stores, Stalls}
+use Rattle.protocol.specs.Nodes.{Node}
+use Rattle.protocol.specs.Worlds.{World, Operation}
+use Rattle.protocol.proofs.Books.{Books, OperationBooks, CallBooks, IsOperation, IsCall, IsStampOf, HasStamp, ByVersion, ByCall, MadeInPhase, PhaseFits, WritesStripe}
+use Rattle.protocol.proofs.Lives.{Stays, Stays-refl, LifeStays, EndingStays-answered, EndingStays-answered_before, EndingStays-open, EndingStays-open_before}
+
+-- a stamp that a brick made stays its own, as what it knows grows
+pub IsStampOf-kept : (w later : World) (i : ℕ) (t : Stamp) → (w.nodes i).known ≤ (later.nodes i).known → IsStampOf w i t → IsStampOf later i t
+IsStampOf-kept w later i t grows is = record { brick = is.brick; view = is.view; boot = is.boot; from_one = is.from_one; known = omega arith }
+
+-- the books of an operation that a step leaves alone
+pub operation_kept : (setting : Setting) (w later : World) (n : ℕ) (o : Operation) → OperationBooks setting w n o
+    → w.begun ≤ later.begun → later.numbers o.brick.0 o.seq ≡ w.numbers o.brick.0 o.seq
+    → (w.nodes o.brick.0).seq ≤ (later.nodes o.brick.0).seq → (w.nodes o.brick.0).known ≤ (later.nodes o.brick.0).known
+    → Stays (life_of w.marks n) (life_of later.marks n)
+    → ((c : Coordinator) → IsCall w o.brick.0 o.seq c → (d : Coordinator) × IsCall later o.brick.0 o.seq d)
+    → OperationBooks setting later n o
+operation_kept setting w later n o books begun number seq known life call =
+    let stays : (l : Life) × (life_of later.marks n ≡ Some l) × LifeStays books.life l =
+        subst (λ (x : Option Life). Stays x (life_of later.marks n)) books.life_is life in
+    record {
+      from_one = books.from_one;
+      begun = omega (arith, books.begun);
+      number = number ∙ books.number;
+      called = (books.called.0, omega (arith, books.called.1));
+      is_stripe_op = books.is_stripe_op;
+      group = books.group;
+      group_is = books.group_is;
+      stripe = books.stripe;
+      length_fits = books.length_fits;
+      life = stays.0;
+      life_is = stays.1;
+      begin = stays.2.begin ∙ books.begin;
+      brick = stays.2.brick ∙ books.brick;
+      ask = stays.2.ask ∙ books.ask;
+      answered = λ is. EndingStays-answered books.life.ending stays.0.ending stays.2.ending (books.answered is);
+      answered_only = λ is. books.answered_only (EndingStays-answered_before books.life.ending stays.0.ending stays.2.ending is);
+      answered_version = books.answered_version;
+      open_call = λ is. (let old : (c : Coordinator) × IsCall w o.brick.0 o.seq c =
+          books.open_call (EndingStays-open_before books.life.ending stays.0.ending stays.2.ending is) in call old.0 old.1);
+      made_writes = books.made_writes;
+      made_stamp = λ t made version. IsStampOf-kept w later o.brick.0 t known (books.made_stamp t made version);
+      read_only = books.read_only;
+    }
+
+-- the books of a call that a step leaves alone
+pub call_kept : (setting : Setting) (w later : World) (i k : ℕ) (c : Coordinator) → CallBooks setting w i k c
+    → later.numbers i k ≡ w.numbers i k → later.operations (w.numbers i k) ≡ w.operations (w.numbers i k)
+    → (w.nodes i).known ≤ (later.nodes i).known → Stays (life_of w.marks (w.numbers i k)) (life_of later.marks (w.numbers i k))
+    → ((o : Operation) → IsOperation w (w.numbers i k) o → (life : Life) × (life_of w.marks (w.numbers i k) ≡ Some life))
+    → CallBooks setting later i k c
+call_kept setting w later i k c books number operation known stays begun =
+    record {
+      operation = books.operation;
+      operation_is = subst (λ (n : ℕ). IsOperation later n books.operation) (sym number) (operation ∙ books.operation_is);
+      brick = books.brick;
+      seq = books.seq;
+      ask = books.ask;
+      stamp_brick = books.stamp_brick;
+      stamp_view = books.stamp_view;
+      stamp_boot = books.stamp_boot;
+      stamp_known = (books.stamp_known.0, omega (arith, books.stamp_known.1));
+      call_boot = books.call_boot;
+      call_seq = books.call_seq;
+      call_group = books.call_group;
+      call_view = books.call_view;
+      call_stripe = books.call_stripe;
+      made = books.made;
+      phase_fits = books.phase_fits;
+      unended = λ life is.
+          let old : (l : Life) × (life_of w.marks (w.numbers i k) ≡ Some l) = begun books.operation books.operation_is in
+          let goes : (l : Life) × (life_of later.marks (w.numbers i k) ≡ Some l) × LifeStays old.0 l =
+              subst (λ (x : Option Life). Stays x (life_of later.marks (w.numbers i k))) old.1 stays in
+          let same : goes.0 ≡ life = same_Some goes.0 life (sym goes.1 ∙ ap (λ (n : ℕ). life_of later.marks n) (sym number) ∙ is) in
+          subst (λ (l : Life). IsOpen (Some l)) same (EndingStays-open old.0.ending goes.0.ending goes.2.ending (books.unended old.0 old.1));
+      unanswered = books.unanswered;
+    }
+
+-- two calls of one operation are one call
+pub calls_apart : (setting : Setting) (w : World) (i k j l : ℕ) (c d : Coordinator) → CallBooks setting w i k c → CallBooks setting w j l d
+    → w.numbers j l ≡ w.numbers i k → (j ≡ i) × (l ≡ k)
+calls_apart setting w i k j l c d first second same =
+    let there : w.operations (w.numbers i k) ≡ Some second.operation = subst (λ (n : ℕ). IsOperation w n second.operation) same second.operation_is in
+    let one : first.operation ≡ second.operation = same_Some first.operation second.operation (sym first.operation_is ∙ there) in
+    (sym second.brick ∙ ap (λ (o : Operation). o.brick.0) (sym one) ∙ first.brick, sym second.seq ∙ ap (λ (o : Operation). o.seq) (sym one) ∙ first.seq)
+
+-- a version that a coordinator's operation made is of its stamp
+pub made_stamp_is : (c : Coordinator) (o : Operation) (p : Phase) (t : Stamp) → MadeInPhase c o p → o.made ≡ true → o.version ≡ Some t → c.stamp ≡ t
+made_stamp_is c o Looks t fits made version = absurd (both_ways o.made fits.1 made)
+made_stamp_is c o Orders t fits made version = absurd (both_ways o.made fits.1 made)
+made_stamp_is c o Stores t fits made version = same_Some c.stamp t (sym fits.0 ∙ version)
+made_stamp_is c o Stalls t fits made version = absurd (both_ways o.made fits.1 made)
+
+-- an open operation that made a version writes its stripe
+pub made_writes_in : (c : Coordinator) (o : Operation) (p : Phase) (op : Op) → MadeInPhase c o p → PhaseFits p op → o.made ≡ true → WritesStripe op
+made_writes_in c o Looks op fits phase made = absurd (both_ways o.made fits.1 made)
+made_writes_in c o Orders op fits phase made = phase
+made_writes_in c o Stores op fits phase made = phase
+made_writes_in c o Stalls op fits phase made = absurd (both_ways o.made fits.1 made)
+
+-- an open operation that made no version has none
+pub open_has_none : (c : Coordinator) (o : Operation) (p : Phase) (t : Stamp) → MadeInPhase c o p → o.made ≡ false → o.version ≡ Some t → ⊥
+open_has_none c o Looks t fits made version = let e : None ≡ Some t = sym fits.0 ∙ version in cc
+open_has_none c o Orders t fits made version = let e : None ≡ Some t = sym fits.0 ∙ version in cc
+open_has_none c o Stores t fits made version = both_ways o.made made fits.1
+open_has_none c o Stalls t fits made version = let e : None ≡ Some t = sym fits.0 ∙ version in cc
+
+-- the stamp of an open operation is its brick's
+pub IsStampOf-call : (setting : Setting) (w : World) (i k : ℕ) (c : Coordinator) → CallBooks setting w i k c → IsStampOf w i c.stamp
+IsStampOf-call setting w i k c books =
+    record {
+      brick = ap (λ b. b.0) books.stamp_brick ∙ books.brick;
+      view = books.stamp_view;
+      boot = books.stamp_boot;
+      from_one = books.stamp_known.0;
+      known = books.stamp_known.1;
+    }
+
+-- a brick whose call numbers stay, and that knows no less
+pub record KeepsNumbers (node later : Node) : Type 0 where
+  pub boot : later.boot ≡ node.boot
+  pub seq : later.seq ≡ node.seq
+  pub known : node.known ≤ later.known
