@@ -1,14 +1,11 @@
 -- What a world's books say: operations, calls, numbers and marks agree, at every moment of every run.
-use Rattle.std.proofs.Common.{◌≡◌, ℕ, ◌<◌, ◌≤◌, ◌⊎◌, true, false, Some, None}
+use Rattle.std.proofs.Common.{◌≡◌, ℕ, ◌<◌, ◌≤◌, true, false, Some, None}
 use Rattle.std.specs.Prelude.{slice_get}
-use Rattle.fab_base.specs.declared.asks.Op.{Op}
-use Rattle.fab_base.specs.declared.stamps.Stamp.{Stamp}
 use Rattle.reg_model.specs.declared.marks.Mark.{Mark}
 use Rattle.reg_model.specs.Marks.{Life, life_of, IsOpen, IsWellFormed, position_of}
 use Rattle.reg_model.specs.Strict.{IsAnswered}
-use Rattle.reg_model.specs.Walk.{Makes, OnlyReads}
 use Rattle.protocol.specs.Settings.{Setting, Group, group_of}
-use Rattle.protocol.specs.Coordinators.{Coordinator, Phase, Looks, Orders, Stores, Stalls, written_content}
+use Rattle.protocol.specs.Coordinators.{Coordinator, Phase, Stores}
 use Rattle.protocol.specs.Nodes.{is_stripe_op, has_length}
 use Rattle.protocol.specs.Worlds.{World, Operation}
 
@@ -24,30 +21,6 @@ IsCall w i k c = (w.nodes i).calls k ≡ Some c
 abbrev pub MadeInPhase : Coordinator → Operation → Phase → Type 0
 MadeInPhase c o Stores = (o.version ≡ Some c.stamp) × (o.made ≡ true)
 MadeInPhase c o phase = (o.version ≡ None) × (o.made ≡ false)
-
--- the operation writes a whole stripe
-abbrev pub WritesStripe : Op → Type 0
-WritesStripe op = Makes (written_content op) op
-
--- only a read looks or stalls, and only a write of the whole stripe orders and stores
-abbrev pub PhaseFits : Phase → Op → Type 0
-PhaseFits Looks op = OnlyReads op
-PhaseFits Orders op = WritesStripe op
-PhaseFits Stores op = WritesStripe op
-PhaseFits Stalls op = OnlyReads op
-
--- a stamp that a brick made, at a time that it knows
-pub record IsStampOf (w : World) (i : ℕ) (t : Stamp) : Type 0 where
-  pub brick : t.brick.0 ≡ i
-  pub view : t.view.0 ≡ 1
-  pub boot : t.boot ≡ 1
-  pub from_one : 1 ≤ t.time
-  pub known : t.time ≤ (w.nodes i).known
-
--- stamp t is operation n's: it made version t, or is open with this stamp
-pub data HasStamp (w : World) (n : ℕ) (t : Stamp) : Type 0 where
-  ByVersion : (o : Operation) → IsOperation w n o → o.made ≡ true → o.version ≡ Some t → HasStamp w n t
-  ByCall : (i k : ℕ) (c : Coordinator) → IsCall w i k c → w.numbers i k ≡ n → c.stamp ≡ t → HasStamp w n t
 
 -- operation n, and its marks
 pub record OperationBooks (setting : Setting) (w : World) (n : ℕ) (o : Operation) : Type 0 where
@@ -69,9 +42,6 @@ pub record OperationBooks (setting : Setting) (w : World) (n : ℕ) (o : Operati
   pub answered_only : IsAnswered life.ending → o.answered ≡ true
   pub answered_version : o.answered ≡ true → (v : _) × (o.version ≡ Some v)
   pub open_call : IsOpen (Some life) → (c : Coordinator) × IsCall w o.brick.0 o.seq c
-  pub made_writes : o.made ≡ true → WritesStripe o.ask.op
-  pub made_stamp : (t : Stamp) → o.made ≡ true → o.version ≡ Some t → IsStampOf w o.brick.0 t
-  pub read_only : (t : Stamp) → o.made ≡ false → o.version ≡ Some t → OnlyReads o.ask.op × (o.answered ≡ true)
 
 -- call k of brick i, whose coordinator is c, and its operation
 pub record CallBooks (setting : Setting) (w : World) (i k : ℕ) (c : Coordinator) : Type 0 where
@@ -90,7 +60,6 @@ pub record CallBooks (setting : Setting) (w : World) (i k : ℕ) (c : Coordinato
   pub call_view : c.call.view.0 ≡ 1
   pub call_stripe : c.call.stripe ≡ c.ask.stripe
   pub made : MadeInPhase c operation c.phase
-  pub phase_fits : PhaseFits c.phase c.ask.op
   pub unended : (life : Life) → life_of w.marks (w.numbers i k) ≡ Some life → IsOpen (Some life)
   pub unanswered : operation.answered ≡ false
 
@@ -104,4 +73,3 @@ pub record Books (setting : Setting) (w : World) : Type 0 where
   pub calls : (i k : ℕ) (c : Coordinator) → IsCall w i k c → CallBooks setting w i k c
   pub fresh_calls : (i k : ℕ) → (w.nodes i).seq < k → (w.nodes i).calls k ≡ None
   pub lives : (n : ℕ) (life : Life) → life_of w.marks n ≡ Some life → (1 ≤ n) × (n ≤ w.begun)
-  pub own_stamps : (a b : ℕ) (t : Stamp) → HasStamp w a t → HasStamp w b t → a ≡ b

@@ -12,21 +12,17 @@ use Rattle.protocol.specs.Settings.{Setting}
 use Rattle.protocol.specs.Coordinators.{Coordinator, Phase, Looks, Orders, Stores, Stalls}
 use Rattle.protocol.specs.Nodes.{Node}
 use Rattle.protocol.specs.Worlds.{World, Operation}
-use Rattle.protocol.proofs.Books.{Books, OperationBooks, CallBooks, IsOperation, IsCall, IsStampOf, HasStamp, ByVersion, ByCall, MadeInPhase, PhaseFits, WritesStripe}
-use Rattle.protocol.proofs.Lives.{Stays, Stays-refl, LifeStays, EndingStays-answered, EndingStays-answered_before, EndingStays-open, EndingStays-open_before}
-
--- a stamp that a brick made stays its own, as what it knows grows
-pub IsStampOf-kept : (w later : World) (i : ℕ) (t : Stamp) → (w.nodes i).known ≤ (later.nodes i).known → IsStampOf w i t → IsStampOf later i t
-IsStampOf-kept w later i t grows is = record { brick = is.brick; view = is.view; boot = is.boot; from_one = is.from_one; known = omega arith }
+use Rattle.protocol.proofs.Books.{Books, OperationBooks, CallBooks, IsOperation, IsCall}
+use Rattle.protocol.proofs.OnwardLives.{Stays, Stays-refl, LifeStays, EndingStays-answered, EndingStays-answered_before, EndingStays-open, EndingStays-open_before}
 
 -- the books of an operation that a step leaves alone
 pub operation_kept : (setting : Setting) (w later : World) (n : ℕ) (o : Operation) → OperationBooks setting w n o
     → w.begun ≤ later.begun → later.numbers o.brick.0 o.seq ≡ w.numbers o.brick.0 o.seq
-    → (w.nodes o.brick.0).seq ≤ (later.nodes o.brick.0).seq → (w.nodes o.brick.0).known ≤ (later.nodes o.brick.0).known
+    → (w.nodes o.brick.0).seq ≤ (later.nodes o.brick.0).seq
     → Stays (life_of w.marks n) (life_of later.marks n)
     → ((c : Coordinator) → IsCall w o.brick.0 o.seq c → (d : Coordinator) × IsCall later o.brick.0 o.seq d)
     → OperationBooks setting later n o
-operation_kept setting w later n o books begun number seq known life call =
+operation_kept setting w later n o books begun number seq life call =
     let stays : (l : Life) × (life_of later.marks n ≡ Some l) × LifeStays books.life l =
         subst (λ (x : Option Life). Stays x (life_of later.marks n)) books.life_is life in
     record {
@@ -49,9 +45,6 @@ operation_kept setting w later n o books begun number seq known life call =
       answered_version = books.answered_version;
       open_call = λ is. (let old : (c : Coordinator) × IsCall w o.brick.0 o.seq c =
           books.open_call (EndingStays-open_before books.life.ending stays.0.ending stays.2.ending is) in call old.0 old.1);
-      made_writes = books.made_writes;
-      made_stamp = λ t made version. IsStampOf-kept w later o.brick.0 t known (books.made_stamp t made version);
-      read_only = books.read_only;
     }
 
 -- the books of a call that a step leaves alone
@@ -77,7 +70,6 @@ call_kept setting w later i k c books number operation known stays begun =
       call_view = books.call_view;
       call_stripe = books.call_stripe;
       made = books.made;
-      phase_fits = books.phase_fits;
       unended = λ life is.
           let old : (l : Life) × (life_of w.marks (w.numbers i k) ≡ Some l) = begun books.operation books.operation_is in
           let goes : (l : Life) × (life_of later.marks (w.numbers i k) ≡ Some l) × LifeStays old.0 l =
@@ -94,38 +86,6 @@ calls_apart setting w i k j l c d first second same =
     let there : w.operations (w.numbers i k) ≡ Some second.operation = subst (λ (n : ℕ). IsOperation w n second.operation) same second.operation_is in
     let one : first.operation ≡ second.operation = same_Some first.operation second.operation (sym first.operation_is ∙ there) in
     (sym second.brick ∙ ap (λ (o : Operation). o.brick.0) (sym one) ∙ first.brick, sym second.seq ∙ ap (λ (o : Operation). o.seq) (sym one) ∙ first.seq)
-
--- a version that a coordinator's operation made is of its stamp
-pub made_stamp_is : (c : Coordinator) (o : Operation) (p : Phase) (t : Stamp) → MadeInPhase c o p → o.made ≡ true → o.version ≡ Some t → c.stamp ≡ t
-made_stamp_is c o Looks t fits made version = absurd (both_ways o.made fits.1 made)
-made_stamp_is c o Orders t fits made version = absurd (both_ways o.made fits.1 made)
-made_stamp_is c o Stores t fits made version = same_Some c.stamp t (sym fits.0 ∙ version)
-made_stamp_is c o Stalls t fits made version = absurd (both_ways o.made fits.1 made)
-
--- an open operation that made a version writes its stripe
-pub made_writes_in : (c : Coordinator) (o : Operation) (p : Phase) (op : Op) → MadeInPhase c o p → PhaseFits p op → o.made ≡ true → WritesStripe op
-made_writes_in c o Looks op fits phase made = absurd (both_ways o.made fits.1 made)
-made_writes_in c o Orders op fits phase made = phase
-made_writes_in c o Stores op fits phase made = phase
-made_writes_in c o Stalls op fits phase made = absurd (both_ways o.made fits.1 made)
-
--- an open operation that made no version has none
-pub open_has_none : (c : Coordinator) (o : Operation) (p : Phase) (t : Stamp) → MadeInPhase c o p → o.made ≡ false → o.version ≡ Some t → ⊥
-open_has_none c o Looks t fits made version = let e : None ≡ Some t = sym fits.0 ∙ version in cc
-open_has_none c o Orders t fits made version = let e : None ≡ Some t = sym fits.0 ∙ version in cc
-open_has_none c o Stores t fits made version = both_ways o.made made fits.1
-open_has_none c o Stalls t fits made version = let e : None ≡ Some t = sym fits.0 ∙ version in cc
-
--- the stamp of an open operation is its brick's
-pub IsStampOf-call : (setting : Setting) (w : World) (i k : ℕ) (c : Coordinator) → CallBooks setting w i k c → IsStampOf w i c.stamp
-IsStampOf-call setting w i k c books =
-    record {
-      brick = ap (λ b. b.0) books.stamp_brick ∙ books.brick;
-      view = books.stamp_view;
-      boot = books.stamp_boot;
-      from_one = books.stamp_known.0;
-      known = books.stamp_known.1;
-    }
 
 -- a brick whose call numbers stay, and that knows no less
 pub record KeepsNumbers (node later : Node) : Type 0 where

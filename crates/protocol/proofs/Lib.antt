@@ -1,5 +1,7 @@
 pub mod Books
 pub mod BooksKept
-pub mod Lives
+pub mod BooksQuiet
+pub mod BooksTurns
+pub mod OnwardLives
 pub mod MarkLists
 pub mod Puts
