@@ -87,6 +87,13 @@ calls_apart setting w i k j l c d first second same =
     let one : first.operation ≡ second.operation = same_Some first.operation second.operation (sym first.operation_is ∙ there) in
     (sym second.brick ∙ ap (λ (o : Operation). o.brick.0) (sym one) ∙ first.brick, sym second.seq ∙ ap (λ (o : Operation). o.seq) (sym one) ∙ first.seq)
 
+-- this call, or another
+pub cases_call : (i k j l : ℕ) → ((j ≡ i) × (l ≡ k)) ⊎ (j ≡ i → l ≡ k → ⊥)
+cases_call i k j l = ⊎_elim
+    (λ (same : j ≡ i). ⊎_elim (λ (seq : l ≡ k). inl (same, seq)) (λ (other : l ≢ k). inr (λ e f. other f)) (cases_eq l k))
+    (λ (other : j ≢ i). inr (λ e f. other e))
+    (cases_eq j i)
+
 -- a brick whose call numbers stay, and that knows no less
 pub record KeepsNumbers (node later : Node) : Type 0 where
   pub boot : later.boot ≡ node.boot

@@ -10,7 +10,7 @@ use Rattle.protocol.specs.Coordinators.{Coordinator}
 use Rattle.protocol.specs.Nodes.{Node}
 use Rattle.protocol.specs.Worlds.{World, Operation}
 use Rattle.protocol.proofs.Books.{Books, OperationBooks, CallBooks, IsOperation, IsCall, MadeInPhase}
-use Rattle.protocol.proofs.BooksKept.{KeepsNumbers, operation_kept, call_kept, calls_apart}
+use Rattle.protocol.proofs.BooksKept.{KeepsNumbers, operation_kept, call_kept, calls_apart, cases_call}
 use Rattle.protocol.proofs.OnwardLives.{Stays-refl}
 
 -- the coordinator of the same operation, in the same call
@@ -48,13 +48,6 @@ pub record Turned (w : World) (i k : ℕ) (c d : Coordinator) (before o : Operat
 abbrev pub turned_world : World → (ℕ → Node) → List Packet → (ℕ → Option Operation) → (ℕ → ℕ → Stamp → List ℕ) → World
 turned_world w nodes packets operations contents =
     record { nodes = nodes; packets = packets; marks = w.marks; begun = w.begun; operations = operations; numbers = w.numbers; contents = contents }
-
--- this call, or another
-pub cases_call : (i k j l : ℕ) → ((j ≡ i) × (l ≡ k)) ⊎ (j ≡ i → l ≡ k → ⊥)
-cases_call i k j l = ⊎_elim
-    (λ (same : j ≡ i). ⊎_elim (λ (seq : l ≡ k). inl (same, seq)) (λ (other : l ≢ k). inr (λ e f. other f)) (cases_eq l k))
-    (λ (other : j ≢ i). inr (λ e f. other e))
-    (cases_eq j i)
 
 module _ (setting : Setting) (w : World) (i k : ℕ) (c d : Coordinator) (before o : Operation) (nodes : ℕ → Node) (packets : List Packet)
     (operations : ℕ → Option Operation) (contents : ℕ → ℕ → Stamp → List ℕ) (books : Books setting w)

@@ -1,5 +1,7 @@
 pub mod Books
 pub mod BooksKept
+pub mod BooksBegins
+pub mod BooksEnds
 pub mod BooksQuiet
 pub mod BooksTurns
 pub mod OnwardLives

@@ -154,3 +154,8 @@ life_of-end marks p n answer life is open' =
     life_of-append marks (End p n answer ∷ []) n
     ∙ ap (λ (l : Option Life). life_onward l (End p n answer ∷ []) n) is
     ∙ ap (λ (e : Ending). Some (with_ending life e)) (end_ending life.ending p n life.brick answer open')
+
+-- what lives after more marks lived before, where the marks left it alone
+pub Stays-before : (old later : Option Life) (life : Life) → Stays old later → later ≡ Some life → (l : Life) × (old ≡ Some l)
+Stays-before None later life stays is = absurd (let never : None ≡ Some life = sym stays ∙ is in cc)
+Stays-before (Some l) later life stays is = (l, refl)
