@@ -11,17 +11,8 @@ use Rattle.protocol.specs.Nodes.{Node}
 use Rattle.protocol.specs.Worlds.{World, Operation}
 use Rattle.protocol.proofs.Books.{Books, OperationBooks, CallBooks, IsOperation, IsCall, MadeInPhase}
 use Rattle.protocol.proofs.BooksKept.{KeepsNumbers, operation_kept, call_kept, calls_apart, cases_call}
+use Rattle.protocol.proofs.Outcomes.{SameOperation}
 use Rattle.protocol.proofs.OnwardLives.{Stays-refl}
-
--- the coordinator of the same operation, in the same call
-pub record SameOperation (c d : Coordinator) : Type 0 where
-  pub ask : d.ask ≡ c.ask
-  pub stamp : d.stamp ≡ c.stamp
-  pub boot : d.call.boot ≡ c.call.boot
-  pub seq : d.call.seq ≡ c.call.seq
-  pub group : d.call.group ≡ c.call.group
-  pub view : d.call.view ≡ c.call.view
-  pub stripe : d.call.stripe ≡ c.call.stripe
 
 -- what is known of an operation that is open, but for its version
 pub record SameAsk (o later : Operation) : Type 0 where

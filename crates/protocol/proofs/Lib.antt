@@ -6,4 +6,5 @@ pub mod BooksQuiet
 pub mod BooksTurns
 pub mod OnwardLives
 pub mod MarkLists
+pub mod Outcomes
 pub mod Puts
