@@ -2,6 +2,7 @@ pub mod Books
 pub mod BooksKept
 pub mod BooksBegins
 pub mod BooksEnds
+pub mod BooksEvents
 pub mod BooksQuiet
 pub mod BooksTurns
 pub mod OnwardLives
