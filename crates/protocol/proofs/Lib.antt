@@ -9,3 +9,4 @@ pub mod OnwardLives
 pub mod MarkLists
 pub mod Outcomes
 pub mod Puts
+pub mod RisingMarks
