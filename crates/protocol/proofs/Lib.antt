@@ -10,3 +10,4 @@ pub mod MarkLists
 pub mod Outcomes
 pub mod Puts
 pub mod RisingMarks
+pub mod StripeLives
