@@ -6,8 +6,10 @@ pub mod BooksEvents
 pub mod BooksQuiet
 pub mod BooksTurns
 pub mod OnwardLives
+pub mod Entries
 pub mod MarkLists
 pub mod Outcomes
 pub mod Puts
 pub mod RisingMarks
+pub mod Sorting
 pub mod StripeLives
