@@ -23,3 +23,4 @@ pub mod Sorting
 pub mod Steps
 pub mod StripeLives
 pub mod Tables
+pub mod Walks
