@@ -8,9 +8,11 @@ pub mod BooksTurns
 pub mod Counting
 pub mod Decisions
 pub mod Entries
+pub mod EveryRun
 pub mod Growth
 pub mod Lives
 pub mod MarkLists
+pub mod NeverLowers
 pub mod OnwardLives
 pub mod Outcomes
 pub mod Puts
