@@ -10,7 +10,7 @@ use Rattle.std.proofs.lemmas.List.Quantifiers.{all_pairs_push}
 use Rattle.std.proofs.lemmas.List.Kept.{AllPairs-filter}
 use Rattle.std.proofs.lemmas.Map.Keys.{IsDistinct-from_apart, any_passes_from_place}
 use Rattle.fab_base.specs.declared.stamps.Stamp.{Stamp}
-use Rattle.fab_base.specs.Stamps.{stamp_same}
+use Rattle.fab_base.specs.Stamps.{stamp_same, first_stamp}
 use Rattle.fab_base.proofs.StampOrder.{stamp_same_refl}
 use Rattle.reg_model.specs.declared.entries.Entry.{Entry}
 use Rattle.protocol.specs.Worlds.{Operation}
@@ -103,7 +103,7 @@ entries_distinct operations g s n test =
     let long : length (map (λ (e : Entry). e.operation) entries) ≡ length entries = length-map entries (λ (e : Entry). e.operation) in
     IsDistinct-from_apart eqb (map (λ (e : Entry). e.operation) entries)
     (λ i j d lt le.
-        let e : Entry = record { stamp = Rattle.fab_base.specs.Stamps.first_stamp; reader = true; operation = 0 } in
+        let e : Entry = record { stamp = first_stamp; reader = true; operation = 0 } in
         let one : get_or (map (λ (e : Entry). e.operation) entries) i d ≡ (get_or entries i e).operation =
             get_or-map (λ (e : Entry). e.operation) entries i e d (omega arith) in
         let other : get_or (map (λ (e : Entry). e.operation) entries) j d ≡ (get_or entries j e).operation =
@@ -141,6 +141,12 @@ Contains-filter test (y ∷ xs) x (suc k, lt, is) pass =
     let rest : Contains (filter test xs) x = Contains-filter test xs x (k, omega arith, is) pass in
     cond_both (test y) (y ∷ filter test xs) (filter test xs) (λ l. Contains l x)
     (λ kept. (suc rest.0, (let within : rest.0 < length (filter test xs) = rest.1 in omega arith), rest.2)) (λ left. rest)
+
+-- the number of an entry that stands in a list stands among the numbers
+pub Contains-number : (entries : List Entry) (e : Entry) → Contains entries e → Contains (map (λ x. x.operation) entries) e.operation
+Contains-number entries e (k, lt, is) =
+    let long : length (map (λ (x : Entry). x.operation) entries) ≡ length entries = length-map entries (λ (x : Entry). x.operation) in
+    (k, omega arith, get_or-map (λ (x : Entry). x.operation) entries k e e.operation lt ∙ ap (λ (x : Entry). x.operation) is)
 
 -- a test that an element passes passes on the list
 pub any_passes : {A : Type 0} (test : A → Bool) (xs : List A) (x : A) → Contains xs x → test x ≡ true → list_any test xs ≡ true

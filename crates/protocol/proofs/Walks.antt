@@ -27,7 +27,7 @@ use Rattle.protocol.specs.Worlds.{World, Operation}
 use Rattle.protocol.specs.Happenings.{is_of, entries_to, is_effective, ascending, walk_of, happenings_of}
 use Rattle.protocol.specs.Laws.{FollowsRealTime}
 use Rattle.protocol.proofs.Books.{Books, OperationBooks, IsOperation}
-use Rattle.protocol.proofs.Entries.{IsEntryOf, entry_of, entries_of, entries_distinct, entries_have, Contains-filter, reader_effective, answered_effective, read_effective}
+use Rattle.protocol.proofs.Entries.{IsEntryOf, entry_of, entries_of, entries_distinct, entries_have, Contains-filter, Contains-number, answered_effective, read_effective}
 use Rattle.protocol.proofs.OnwardLives.{EndingStays, EndingStays-answered_before, LifeStays}
 use Rattle.protocol.proofs.QuorumFacts.{QuorumFacts, MakerFacts, ReaderFacts}
 use Rattle.protocol.proofs.RisingMarks.{RisesFrom, RisesFrom-increasing, RisesFrom-filter, NumbersRise, NumbersRise-increasing, NumbersRise-filter, life_within, begins_before_open, begins_in_order}
@@ -229,10 +229,7 @@ module _ (setting : Setting) (w : World) (g s : ℕ) (books : Books setting w) (
               (subst (λ (x : Life). IsAnswered x.ending) same ended)) in
           let version = (books.operations n o.0 o.1).answered_version was in
           let e : Entry = entry_of n o.0 version.0 in
-          let has : Contains walk e = walk_contains e (has_entry n o.0 version.0 o.1 o.2 version.1) (answered_effective w.operations entries e o.0 o.1 was) in
-          (has.0, (let long : length (map (λ (x : Entry). x.operation) walk) ≡ length walk = length-map walk (λ (x : Entry). x.operation) in
-              omega (arith, has.1)),
-          get_or-map (λ (x : Entry). x.operation) walk has.0 e n has.1 ∙ ap (λ (x : Entry). x.operation) has.2)
+          Contains-number walk e (walk_contains e (has_entry n o.0 version.0 o.1 o.2 version.1) (answered_effective w.operations entries e o.0 o.1 was))
 
   -- an operation that ended did not end before one that stands no later in the walk began
   in_time_ended : (a b : Entry) (first : IsOurs a) (second : IsOurs b) (one : StripeLife a.operation first.operation) (other : StripeLife b.operation second.operation)
