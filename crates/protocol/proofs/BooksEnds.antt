@@ -1,12 +1,11 @@
 -- The books of a world where an open operation ended.
-use Rattle.std.proofs.Common.{◌≡◌, ◌≢◌, ℕ, ◌+◌, ◌<◌, ◌≤◌, ◌⊎◌, inl, inr, ⊎_elim, true, false, Option, Some, None, refl, sym, ap, ◌∙◌, subst, arith, List, [], ◌∷◌, ◌++◌, length}
+use Rattle.std.proofs.Common.{◌≡◌, ◌≢◌, ℕ, ◌<◌, ⊎_elim, true, false, Option, Some, None, refl, sym, ap, ◌∙◌, subst, arith, List, [], ◌∷◌, ◌++◌, length}
 use Rattle.std.proofs.lemmas.Option.{same_Some}
-use Rattle.std.proofs.lemmas.Bool.{cases_eq, both_ways}
+use Rattle.std.proofs.lemmas.Bool.{cases_eq}
 use Rattle.fab_base.specs.declared.answers.Answer.{Answer}
 use Rattle.fab_base.specs.declared.answers.Answer.TheVariants.{Data, Done, Aborted}
 use Rattle.fab_base.specs.declared.asks.Ask.{Ask}
 use Rattle.fab_wire.specs.declared.messages.Packet.{Packet}
-use Rattle.reg_model.specs.declared.marks.Mark.{Mark}
 use Rattle.reg_model.specs.declared.marks.Mark.TheVariants.{End}
 use Rattle.reg_model.specs.Marks.{Life, Answered, life_of, IsOpen}
 use Rattle.reg_model.specs.Strict.{IsAnswered}
@@ -61,7 +60,6 @@ ended_world w nodes packets operations n answer =
 
 module _ (setting : Setting) (w : World) (i k : ℕ) (c : Coordinator) (before o : Operation) (answer : Answer) (nodes : ℕ → Node) (packets : List Packet)
     (operations : ℕ → Option Operation) (books : Books setting w) (ended : Ended w i k c before o answer nodes operations) where
-
   -- the world after the end
   abbrev later : World
   later = ended_world w nodes packets operations (w.numbers i k) answer
@@ -99,7 +97,7 @@ module _ (setting : Setting) (w : World) (i k : ℕ) (c : Coordinator) (before o
         begun = own.begun;
         number = ap (λ (j : ℕ). w.numbers j o.seq) at ∙ ap (λ (l : ℕ). w.numbers before.brick.0 l) ended.seq ∙ own.number;
         called = (let seqs : (nodes o.brick.0).seq ≡ (w.nodes before.brick.0).seq =
-                (ended.keeps o.brick.0).seq ∙ ap (λ (j : ℕ). (w.nodes j).seq) at in
+            (ended.keeps o.brick.0).seq ∙ ap (λ (j : ℕ). (w.nodes j).seq) at in
             let seq : o.seq ≡ before.seq = ended.seq in
             (omega (arith, own.called.0), omega (arith, own.called.1)));
         is_stripe_op = ap (λ (a : Ask). is_stripe_op a.op) ended.ask ∙ own.is_stripe_op;
@@ -129,44 +127,47 @@ module _ (setting : Setting) (w : World) (i k : ℕ) (c : Coordinator) (before o
         all_begun = λ n low high. ⊎_elim
             (λ (mine : n ≡ w.numbers i k). (o, subst (λ (m : ℕ). IsOperation later m o) (sym mine) ended.operation_is))
             (λ (other : n ≢ w.numbers i k).
-                let old : (x : Operation) × IsOperation w n x = books.all_begun n low high in
-                (old.0, ended.other_operations n other ∙ old.1))
+            let old : (x : Operation) × IsOperation w n x = books.all_begun n low high in
+            (old.0, ended.other_operations n other ∙ old.1))
             (cases_eq n (w.numbers i k));
         operations = λ n x is. ⊎_elim
             (λ (mine : n ≡ w.numbers i k).
-                let one : o ≡ x = same_Some o x (sym ended.operation_is ∙ ap operations (sym mine) ∙ is) in
-                subst (λ (m : ℕ). OperationBooks setting later m x) (sym mine) (subst (λ (y : Operation). OperationBooks setting later (w.numbers i k) y) one own_books))
+            let one : o ≡ x = same_Some o x (sym ended.operation_is ∙ ap operations (sym mine) ∙ is) in
+            subst (λ (m : ℕ). OperationBooks setting later m x) (sym mine) (subst (λ (y : Operation). OperationBooks setting later (w.numbers i k) y) one own_books))
             (λ (other : n ≢ w.numbers i k).
-                let old : IsOperation w n x = sym (ended.other_operations n other) ∙ is in
-                let mine : OperationBooks setting w n x = books.operations n x old in
-                let seqs : (nodes x.brick.0).seq ≡ (w.nodes x.brick.0).seq = (ended.keeps x.brick.0).seq in
-                operation_kept setting w later n x mine (omega arith) refl (omega arith) (other_life n other)
-                (λ e was. (e, ended.other_calls x.brick.0 x.seq
-                    (λ at seq. other (sym mine.number ∙ ap (λ (j : ℕ). w.numbers j x.seq) at ∙ ap (λ (l : ℕ). w.numbers i l) seq)) ∙ was)))
+            let old : IsOperation w n x = sym (ended.other_operations n other) ∙ is in
+            let mine : OperationBooks setting w n x = books.operations n x old in
+            let seqs : (nodes x.brick.0).seq ≡ (w.nodes x.brick.0).seq = (ended.keeps x.brick.0).seq in
+            operation_kept setting w later n x mine (omega arith) refl (omega arith) (other_life n other)
+            (λ e was. (
+              e,
+              ended.other_calls x.brick.0 x.seq
+                  (λ at seq. other (sym mine.number ∙ ap (λ (j : ℕ). w.numbers j x.seq) at ∙ ap (λ (l : ℕ). w.numbers i l) seq)) ∙ was,
+            )))
             (cases_eq n (w.numbers i k));
         calls = λ j l e is. ⊎_elim
             (λ (mine : (j ≡ i) × (l ≡ k)).
-                let at : (nodes i).calls k ≡ Some e = subst (λ (x : ℕ). (nodes x).calls k ≡ Some e) mine.0 (subst (λ (y : ℕ). (nodes j).calls y ≡ Some e) mine.1 is) in
-                let never : None ≡ Some e = sym ended.call_is ∙ at in
-                absurd (let e : ⊥ = cc in e))
+            let at : (nodes i).calls k ≡ Some e = subst (λ (x : ℕ). (nodes x).calls k ≡ Some e) mine.0 (subst (λ (y : ℕ). (nodes j).calls y ≡ Some e) mine.1 is) in
+            let never : None ≡ Some e = sym ended.call_is ∙ at in
+            absurd (let e : ⊥ = cc in e))
             (λ (other : j ≡ i → l ≡ k → ⊥).
-                let old : IsCall w j l e = sym (ended.other_calls j l other) ∙ is in
-                let number : w.numbers j l ≢ w.numbers i k = other_number j l e old other in
-                call_kept setting w later j l e (books.calls j l e old) refl (ended.other_operations (w.numbers j l) number) (ended.keeps j).known
-                (other_life (w.numbers j l) number)
-                (λ x at. ((books.operations (w.numbers j l) x at).life, (books.operations (w.numbers j l) x at).life_is)))
+            let old : IsCall w j l e = sym (ended.other_calls j l other) ∙ is in
+            let number : w.numbers j l ≢ w.numbers i k = other_number j l e old other in
+            call_kept setting w later j l e (books.calls j l e old) refl (ended.other_operations (w.numbers j l) number) (ended.keeps j).known
+            (other_life (w.numbers j l) number)
+            (λ x at. ((books.operations (w.numbers j l) x at).life, (books.operations (w.numbers j l) x at).life_is)))
             (cases_call i k j l);
         fresh_calls = λ j l lt. ⊎_elim
             (λ (mine : (j ≡ i) × (l ≡ k)).
-                subst (λ (x : ℕ). (nodes x).calls l ≡ None) (sym mine.0) (subst (λ (y : ℕ). (nodes i).calls y ≡ None) (sym mine.1) ended.call_is))
+            subst (λ (x : ℕ). (nodes x).calls l ≡ None) (sym mine.0) (subst (λ (y : ℕ). (nodes i).calls y ≡ None) (sym mine.1) ended.call_is))
             (λ (other : j ≡ i → l ≡ k → ⊥).
-                let seqs : (nodes j).seq ≡ (w.nodes j).seq = (ended.keeps j).seq in
-                ended.other_calls j l other ∙ books.fresh_calls j l (omega arith))
+            let seqs : (nodes j).seq ≡ (w.nodes j).seq = (ended.keeps j).seq in
+            ended.other_calls j l other ∙ books.fresh_calls j l (omega arith))
             (cases_call i k j l);
         lives = λ n life is. ⊎_elim
             (λ (mine : n ≡ w.numbers i k). (omega (arith, own.from_one), omega (arith, own.begun)))
             (λ (other : n ≢ w.numbers i k).
-                let old : (l : Life) × (life_of w.marks n ≡ Some l) = Stays-before (life_of w.marks n) (life_of later.marks n) life (other_life n other) is in
-                books.lives n old.0 old.1)
+            let old : (l : Life) × (life_of w.marks n ≡ Some l) = Stays-before (life_of w.marks n) (life_of later.marks n) life (other_life n other) is in
+            books.lives n old.0 old.1)
             (cases_eq n (w.numbers i k));
       }

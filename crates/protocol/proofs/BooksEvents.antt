@@ -1,8 +1,7 @@
 -- Every event keeps the books.
-use Rattle.std.proofs.Common.{◌≡◌, ◌≢◌, ℕ, zero, suc, ◌+◌, ◌-◌, ◌<◌, ◌≤◌, max, ◌⊎◌, inl, inr, ⊎_elim, Bool, true, false, not, ◌&&◌, cond, is_some, Option, Some, None, refl, sym, ap, ◌∙◌, subst, arith, List, [], ◌∷◌, ◌++◌}
+use Rattle.std.proofs.Common.{◌≡◌, ℕ, ◌-◌, ◌<◌, ◌≤◌, ◌⊎◌, inl, inr, Bool, true, false, not, ◌&&◌, cond, is_some, Option, Some, None, refl, sym, ap, ◌∙◌, subst, arith, List, [], ◌∷◌, ◌++◌}
 use Rattle.std.specs.Prelude.{nat_lt}
-use Rattle.std.proofs.lemmas.Bool.{cond_both, and_parts, cases_Bool, not-true, not-false, ltb-true, both_ways}
-use Rattle.std.proofs.lemmas.Option.{same_Some}
+use Rattle.std.proofs.lemmas.Bool.{cond_both, and_parts, not-true, not-false, ltb-true, both_ways}
 use Rattle.fab_base.specs.declared.identities.BrickId.{BrickId}
 use Rattle.fab_base.specs.declared.asks.Ask.{Ask}
 use Rattle.fab_base.specs.declared.stamps.Stamp.{Stamp}
@@ -16,18 +15,18 @@ use Rattle.fab_wire.specs.declared.messages.Packet.{Packet}
 use Rattle.fab_wire.specs.declared.requests.Request.{Request}
 use Rattle.fab_wire.specs.declared.replies.Reply.{Reply}
 use Rattle.fab_wire.specs.declared.replies.Reply.TheVariants as Reply
-use Rattle.protocol.specs.Settings.{Setting, Layout, Group, group_of, seat_in}
-use Rattle.protocol.specs.Replicas.{Reaction, handle}
+use Rattle.protocol.specs.Settings.{Setting, Group, group_of, seat_in}
+use Rattle.protocol.specs.Replicas.{handle}
 use Rattle.protocol.specs.Coordinators.{Phase, Looks, Orders, Stores, Stalls, Coordinator, Next, Ignores, Waits, Sends, Ends, on_reply}
-use Rattle.protocol.specs.Nodes.{Node, NodeStep, Told, Nothing, Made, Answers, put, no_step, is_stripe_op, has_block, has_length, is_spent, most_open, refusal_in, refusal_of, began, began_in, new_coordinator, invoked, with_replica, replica_at, reply_packets, reacted, requested_at, requested_in, requested, known_after, with_call, with_known, carried_out, phase_packets, collect_packets, replied_to, replied_at, replied, received}
+use Rattle.protocol.specs.Nodes.{Node, NodeStep, Nothing, put, no_step, is_stripe_op, has_block, has_length, refusal_in, refusal_of, began, invoked, with_replica, replica_at, reply_packets, requested_at, requested_in, requested, known_after, with_call, with_known, carried_out, phase_packets, collect_packets, replied_to, replied_at, replied, received}
 use Rattle.protocol.specs.Worlds.{World, Operation, Event, Invokes, Delivers, is_answer, version_after, first_world, is_brick, may_begin, world_began, world_stepped, with_made, with_answer, with_content, delivered, packet_of, happens, run}
-use Rattle.protocol.proofs.Books.{Books, CallBooks, IsOperation, IsCall, MadeInPhase}
+use Rattle.protocol.proofs.Books.{Books, CallBooks, IsCall, MadeInPhase}
 use Rattle.protocol.proofs.BooksKept.{KeepsNumbers}
 use Rattle.protocol.proofs.BooksQuiet.{books_quiet}
-use Rattle.protocol.proofs.BooksTurns.{Turned, SameAsk, books_turned}
-use Rattle.protocol.proofs.BooksEnds.{Ended, books_ended}
+use Rattle.protocol.proofs.BooksTurns.{books_turned}
+use Rattle.protocol.proofs.BooksEnds.{books_ended}
 use Rattle.protocol.proofs.BooksBegins.{books_began}
-use Rattle.protocol.proofs.Outcomes.{SameOperation, EndFits, NextFits, on_reply_fits}
+use Rattle.protocol.proofs.Outcomes.{EndFits, NextFits, on_reply_fits}
 use Rattle.protocol.proofs.Puts.{put_same, put_other, put_both}
 
 -- a brick that keeps its numbers, among those that stay
@@ -106,7 +105,6 @@ ends_version c o Stalls answer seen made fits is = absurd fits
 
 module _ (setting : Setting) (group : Group) (w : World) (me : BrickId) (c : Coordinator) (known : ℕ) (books : Books setting w)
     (is_call : IsCall w me.0 c.call.seq c) (grows : (w.nodes me.0).known ≤ known) where
-
   abbrev i : ℕ
   i = me.0
 
@@ -153,15 +151,15 @@ module _ (setting : Setting) (group : Group) (w : World) (me : BrickId) (c : Coo
       })
   books_carried_out (Sends d) fits =
       let o : Operation = record {
-          brick = mine.operation.brick;
-          seq = mine.operation.seq;
-          begin = mine.operation.begin;
-          ask = mine.operation.ask;
-          version = Some d.stamp;
-          made = true;
-          answered = mine.operation.answered;
-          floor = mine.operation.floor;
-        } in
+        brick = mine.operation.brick;
+        seq = mine.operation.seq;
+        begin = mine.operation.begin;
+        ask = mine.operation.ask;
+        version = Some d.stamp;
+        made = true;
+        answered = mine.operation.answered;
+        floor = mine.operation.floor;
+      } in
       let n : ℕ = w.numbers i k in
       books_turned setting w i k c d mine.operation o (put w.nodes i (with_call node known node.busy k (Some d)))
       (w.packets ++ phase_packets setting group me d) (put w.operations n (with_made d.stamp (w.operations n)))
@@ -181,15 +179,15 @@ module _ (setting : Setting) (group : Group) (w : World) (me : BrickId) (c : Coo
       })
   books_carried_out (Ends answer seen stored) fits =
       let o : Operation = record {
-          brick = mine.operation.brick;
-          seq = mine.operation.seq;
-          begin = mine.operation.begin;
-          ask = mine.operation.ask;
-          version = version_after mine.operation.version seen;
-          made = mine.operation.made;
-          answered = is_answer answer;
-          floor = mine.operation.floor;
-        } in
+        brick = mine.operation.brick;
+        seq = mine.operation.seq;
+        begin = mine.operation.begin;
+        ask = mine.operation.ask;
+        version = version_after mine.operation.version seen;
+        made = mine.operation.made;
+        answered = is_answer answer;
+        floor = mine.operation.floor;
+      } in
       let n : ℕ = w.numbers i k in
       books_ended setting w i k c mine.operation o answer (put w.nodes i (with_call node known (node.busy - 1) k None))
       (w.packets ++ collect_packets group me c.call stored) (put w.operations n (with_answer answer seen (w.operations n))) books
@@ -292,19 +290,19 @@ books_kept setting w (Delivers number) books = books_delivered setting w (packet
 -- at first nothing is booked
 books_first : (setting : Setting) → Books setting (first_world setting.layout)
 books_first setting = record {
-    well_formed = record {
-        positions_rise = λ k lt. absurd (omega arith);
-        numbers_rise = λ k lt. absurd (omega arith);
-        ends_are_of_open = λ i p n answer is. absurd (let never : None ≡ Some _ = is in cc);
-      };
-    places = λ k mark is. absurd (let never : None ≡ Some mark = is in cc);
-    boots = λ i. refl;
-    all_begun = λ n low high. absurd (omega arith);
-    operations = λ n o is. absurd (let never : None ≡ Some o = is in cc);
-    calls = λ i k c is. absurd (let never : None ≡ Some c = is in cc);
-    fresh_calls = λ i k lt. refl;
-    lives = λ n life is. absurd (let never : None ≡ Some life = is in cc);
-  }
+  well_formed = record {
+    positions_rise = λ k lt. absurd (omega arith);
+    numbers_rise = λ k lt. absurd (omega arith);
+    ends_are_of_open = λ i p n answer is. absurd (let never : None ≡ Some _ = is in cc);
+  };
+  places = λ k mark is. absurd (let never : None ≡ Some mark = is in cc);
+  boots = λ i. refl;
+  all_begun = λ n low high. absurd (omega arith);
+  operations = λ n o is. absurd (let never : None ≡ Some o = is in cc);
+  calls = λ i k c is. absurd (let never : None ≡ Some c = is in cc);
+  fresh_calls = λ i k lt. refl;
+  lives = λ n life is. absurd (let never : None ≡ Some life = is in cc);
+}
 
 books_run : (setting : Setting) (events : List Event) (w : World) → Books setting w → Books setting (run setting events w)
 books_run setting [] w books = books

@@ -1,19 +1,14 @@
 -- What a step leaves as it was stays in the books.
-use Rattle.std.proofs.Common.{◌≡◌, ◌≢◌, ℕ, ◌<◌, ◌≤◌, ◌⊎◌, inl, inr, ⊎_elim, Bool, true, false, List, Option, Some, None, refl, sym, ap, ◌∙◌, subst, arith}
+use Rattle.std.proofs.Common.{◌≡◌, ◌≢◌, ℕ, ◌≤◌, ◌⊎◌, inl, inr, ⊎_elim, Option, Some, sym, ap, ◌∙◌, subst, arith}
 use Rattle.std.proofs.lemmas.Option.{same_Some}
-use Rattle.std.proofs.lemmas.Bool.{cases_eq, both_ways}
-use Rattle.fab_base.specs.declared.asks.Op.{Op}
-use Rattle.fab_base.specs.declared.stamps.Stamp.{Stamp}
-use Rattle.fab_wire.specs.declared.messages.Packet.{Packet}
-use Rattle.reg_model.specs.declared.marks.Mark.{Mark}
-use Rattle.reg_model.specs.Marks.{Life, life_of, IsOpen, IsUnended}
-use Rattle.reg_model.specs.Strict.{IsAnswered}
+use Rattle.std.proofs.lemmas.Bool.{cases_eq}
+use Rattle.reg_model.specs.Marks.{Life, life_of, IsOpen}
 use Rattle.protocol.specs.Settings.{Setting}
-use Rattle.protocol.specs.Coordinators.{Coordinator, Phase, Looks, Orders, Stores, Stalls}
+use Rattle.protocol.specs.Coordinators.{Coordinator}
 use Rattle.protocol.specs.Nodes.{Node}
 use Rattle.protocol.specs.Worlds.{World, Operation}
-use Rattle.protocol.proofs.Books.{Books, OperationBooks, CallBooks, IsOperation, IsCall}
-use Rattle.protocol.proofs.OnwardLives.{Stays, Stays-refl, LifeStays, EndingStays-answered, EndingStays-answered_before, EndingStays-open, EndingStays-open_before}
+use Rattle.protocol.proofs.Books.{OperationBooks, CallBooks, IsOperation, IsCall}
+use Rattle.protocol.proofs.OnwardLives.{Stays, LifeStays, EndingStays-answered, EndingStays-answered_before, EndingStays-open, EndingStays-open_before}
 
 -- the books of an operation that a step leaves alone
 pub operation_kept : (setting : Setting) (w later : World) (n : ℕ) (o : Operation) → OperationBooks setting w n o
@@ -24,7 +19,7 @@ pub operation_kept : (setting : Setting) (w later : World) (n : ℕ) (o : Operat
     → OperationBooks setting later n o
 operation_kept setting w later n o books begun number seq life call =
     let stays : (l : Life) × (life_of later.marks n ≡ Some l) × LifeStays books.life l =
-        subst (λ (x : Option Life). Stays x (life_of later.marks n)) books.life_is life in
+    subst (λ (x : Option Life). Stays x (life_of later.marks n)) books.life_is life in
     record {
       from_one = books.from_one;
       begun = omega (arith, books.begun);
@@ -73,7 +68,7 @@ call_kept setting w later i k c books number operation known stays begun =
       unended = λ life is.
           let old : (l : Life) × (life_of w.marks (w.numbers i k) ≡ Some l) = begun books.operation books.operation_is in
           let goes : (l : Life) × (life_of later.marks (w.numbers i k) ≡ Some l) × LifeStays old.0 l =
-              subst (λ (x : Option Life). Stays x (life_of later.marks (w.numbers i k))) old.1 stays in
+          subst (λ (x : Option Life). Stays x (life_of later.marks (w.numbers i k))) old.1 stays in
           let same : goes.0 ≡ life = same_Some goes.0 life (sym goes.1 ∙ ap (λ (n : ℕ). life_of later.marks n) (sym number) ∙ is) in
           subst (λ (l : Life). IsOpen (Some l)) same (EndingStays-open old.0.ending goes.0.ending goes.2.ending (books.unended old.0 old.1));
       unanswered = books.unanswered;

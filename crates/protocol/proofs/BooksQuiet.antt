@@ -1,13 +1,11 @@
 -- The books of a world where a brick changed its part of a stripe, or learnt of a time.
-use Rattle.std.proofs.Common.{◌≡◌, ◌≢◌, ℕ, ◌<◌, ◌≤◌, Some, None, refl, sym, ap, ◌∙◌, subst, arith, List}
-use Rattle.fab_base.specs.declared.stamps.Stamp.{Stamp}
+use Rattle.std.proofs.Common.{◌≡◌, ℕ, refl, sym, ◌∙◌, arith, List}
 use Rattle.fab_wire.specs.declared.messages.Packet.{Packet}
-use Rattle.reg_model.specs.Marks.{Life, life_of, IsOpen}
+use Rattle.reg_model.specs.Marks.{life_of}
 use Rattle.protocol.specs.Settings.{Setting}
-use Rattle.protocol.specs.Coordinators.{Coordinator}
 use Rattle.protocol.specs.Nodes.{Node}
-use Rattle.protocol.specs.Worlds.{World, Operation}
-use Rattle.protocol.proofs.Books.{Books, OperationBooks, CallBooks, IsOperation, IsCall}
+use Rattle.protocol.specs.Worlds.{World}
+use Rattle.protocol.proofs.Books.{Books, OperationBooks}
 use Rattle.protocol.proofs.BooksKept.{KeepsNumbers, operation_kept, call_kept}
 use Rattle.protocol.proofs.OnwardLives.{Stays-refl}
 

@@ -1,10 +1,10 @@
 -- The books of a world where an open operation went on at its coordinator.
-use Rattle.std.proofs.Common.{◌≡◌, ◌≢◌, ℕ, ◌<◌, ◌≤◌, ◌⊎◌, inl, inr, ⊎_elim, true, false, Option, Some, None, refl, sym, ap, ◌∙◌, subst, arith, List}
+use Rattle.std.proofs.Common.{◌≡◌, ◌≢◌, ℕ, ◌<◌, ◌≤◌, ⊎_elim, false, Option, Some, None, refl, sym, ap, ◌∙◌, subst, arith, List}
 use Rattle.std.proofs.lemmas.Option.{same_Some}
 use Rattle.std.proofs.lemmas.Bool.{cases_eq, both_ways}
 use Rattle.fab_base.specs.declared.stamps.Stamp.{Stamp}
 use Rattle.fab_wire.specs.declared.messages.Packet.{Packet}
-use Rattle.reg_model.specs.Marks.{Life, life_of, IsOpen, IsUnended}
+use Rattle.reg_model.specs.Marks.{life_of}
 use Rattle.protocol.specs.Settings.{Setting}
 use Rattle.protocol.specs.Coordinators.{Coordinator}
 use Rattle.protocol.specs.Nodes.{Node}
@@ -43,7 +43,6 @@ turned_world w nodes packets operations contents =
 module _ (setting : Setting) (w : World) (i k : ℕ) (c d : Coordinator) (before o : Operation) (nodes : ℕ → Node) (packets : List Packet)
     (operations : ℕ → Option Operation) (contents : ℕ → ℕ → Stamp → List ℕ) (books : Books setting w)
     (turned : Turned w i k c d before o nodes operations) where
-
   -- the world after the turn
   abbrev later : World
   later = turned_world w nodes packets operations contents
@@ -127,45 +126,48 @@ module _ (setting : Setting) (w : World) (i k : ℕ) (c d : Coordinator) (before
   -- the turn of one open operation keeps the books
   pub books_turned : Books setting later
   books_turned = record {
-      well_formed = books.well_formed;
-      places = books.places;
-      boots = λ j. (turned.keeps j).boot ∙ books.boots j;
-      all_begun = λ n low high. ⊎_elim
-          (λ (mine : n ≡ w.numbers i k). (o, subst (λ (m : ℕ). IsOperation later m o) (sym mine) turned.operation_is))
-          (λ (other : n ≢ w.numbers i k).
-              let old : (x : Operation) × IsOperation w n x = books.all_begun n low high in
-              (old.0, turned.other_operations n other ∙ old.1))
-          (cases_eq n (w.numbers i k));
-      operations = λ n x is. ⊎_elim
-          (λ (mine : n ≡ w.numbers i k).
-              let one : o ≡ x = same_Some o x (sym turned.operation_is ∙ ap operations (sym mine) ∙ is) in
-              subst (λ (m : ℕ). OperationBooks setting later m x) (sym mine) (subst (λ (y : Operation). OperationBooks setting later (w.numbers i k) y) one own_books))
-          (λ (other : n ≢ w.numbers i k).
-              let old : IsOperation w n x = sym (turned.other_operations n other) ∙ is in
-              let mine : OperationBooks setting w n x = books.operations n x old in
-              let seqs : (nodes x.brick.0).seq ≡ (w.nodes x.brick.0).seq = (turned.keeps x.brick.0).seq in
-              operation_kept setting w later n x mine (omega arith) refl (omega arith) (Stays-refl (life_of w.marks n))
-              (λ e was. (e, turned.other_calls x.brick.0 x.seq
-                  (λ at seq. other (sym mine.number ∙ ap (λ (j : ℕ). w.numbers j x.seq) at ∙ ap (λ (l : ℕ). w.numbers i l) seq)) ∙ was)))
-          (cases_eq n (w.numbers i k));
-      calls = λ j l e is. ⊎_elim
-          (λ (mine : (j ≡ i) × (l ≡ k)).
-              let at : (nodes i).calls k ≡ Some e = subst (λ (x : ℕ). (nodes x).calls k ≡ Some e) mine.0 (subst (λ (y : ℕ). (nodes j).calls y ≡ Some e) mine.1 is) in
-              let one : d ≡ e = same_Some d e (sym turned.call_is ∙ at) in
-              subst (λ (x : ℕ). CallBooks setting later x l e) (sym mine.0) (subst (λ (y : ℕ). CallBooks setting later i y e) (sym mine.1)
-              (subst (λ (y : Coordinator). CallBooks setting later i k y) one call_books)))
-          (λ (other : j ≡ i → l ≡ k → ⊥).
-              let old : IsCall w j l e = sym (turned.other_calls j l other) ∙ is in
-              let number : w.numbers j l ≢ w.numbers i k = other_number j l e old other in
-              call_kept setting w later j l e (books.calls j l e old) refl (turned.other_operations (w.numbers j l) number) (turned.keeps j).known
-              (Stays-refl (life_of w.marks (w.numbers j l)))
-              (λ x at. ((books.operations (w.numbers j l) x at).life, (books.operations (w.numbers j l) x at).life_is)))
-          (cases_call i k j l);
-      fresh_calls = λ j l lt.
-          (let seqs : (nodes j).seq ≡ (w.nodes j).seq = (turned.keeps j).seq in
-          let fresh : (w.nodes j).calls l ≡ None = books.fresh_calls j l (omega arith) in
-          turned.other_calls j l (λ at seq. (let mine : (w.nodes i).calls k ≡ None =
-              subst (λ (x : ℕ). (w.nodes x).calls k ≡ None) at (subst (λ (y : ℕ). (w.nodes j).calls y ≡ None) seq fresh) in
-              let never : None ≡ Some c = sym mine ∙ turned.was in cc)) ∙ fresh);
-      lives = books.lives;
-    }
+    well_formed = books.well_formed;
+    places = books.places;
+    boots = λ j. (turned.keeps j).boot ∙ books.boots j;
+    all_begun = λ n low high. ⊎_elim
+        (λ (mine : n ≡ w.numbers i k). (o, subst (λ (m : ℕ). IsOperation later m o) (sym mine) turned.operation_is))
+        (λ (other : n ≢ w.numbers i k).
+        let old : (x : Operation) × IsOperation w n x = books.all_begun n low high in
+        (old.0, turned.other_operations n other ∙ old.1))
+        (cases_eq n (w.numbers i k));
+    operations = λ n x is. ⊎_elim
+        (λ (mine : n ≡ w.numbers i k).
+        let one : o ≡ x = same_Some o x (sym turned.operation_is ∙ ap operations (sym mine) ∙ is) in
+        subst (λ (m : ℕ). OperationBooks setting later m x) (sym mine) (subst (λ (y : Operation). OperationBooks setting later (w.numbers i k) y) one own_books))
+        (λ (other : n ≢ w.numbers i k).
+        let old : IsOperation w n x = sym (turned.other_operations n other) ∙ is in
+        let mine : OperationBooks setting w n x = books.operations n x old in
+        let seqs : (nodes x.brick.0).seq ≡ (w.nodes x.brick.0).seq = (turned.keeps x.brick.0).seq in
+        operation_kept setting w later n x mine (omega arith) refl (omega arith) (Stays-refl (life_of w.marks n))
+        (λ e was. (
+          e,
+          turned.other_calls x.brick.0 x.seq
+              (λ at seq. other (sym mine.number ∙ ap (λ (j : ℕ). w.numbers j x.seq) at ∙ ap (λ (l : ℕ). w.numbers i l) seq)) ∙ was,
+        )))
+        (cases_eq n (w.numbers i k));
+    calls = λ j l e is. ⊎_elim
+        (λ (mine : (j ≡ i) × (l ≡ k)).
+        let at : (nodes i).calls k ≡ Some e = subst (λ (x : ℕ). (nodes x).calls k ≡ Some e) mine.0 (subst (λ (y : ℕ). (nodes j).calls y ≡ Some e) mine.1 is) in
+        let one : d ≡ e = same_Some d e (sym turned.call_is ∙ at) in
+        subst (λ (x : ℕ). CallBooks setting later x l e) (sym mine.0) (subst (λ (y : ℕ). CallBooks setting later i y e) (sym mine.1)
+        (subst (λ (y : Coordinator). CallBooks setting later i k y) one call_books)))
+        (λ (other : j ≡ i → l ≡ k → ⊥).
+        let old : IsCall w j l e = sym (turned.other_calls j l other) ∙ is in
+        let number : w.numbers j l ≢ w.numbers i k = other_number j l e old other in
+        call_kept setting w later j l e (books.calls j l e old) refl (turned.other_operations (w.numbers j l) number) (turned.keeps j).known
+        (Stays-refl (life_of w.marks (w.numbers j l)))
+        (λ x at. ((books.operations (w.numbers j l) x at).life, (books.operations (w.numbers j l) x at).life_is)))
+        (cases_call i k j l);
+    fresh_calls = λ j l lt.
+        (let seqs : (nodes j).seq ≡ (w.nodes j).seq = (turned.keeps j).seq in
+        let fresh : (w.nodes j).calls l ≡ None = books.fresh_calls j l (omega arith) in
+        turned.other_calls j l (λ at seq. (let mine : (w.nodes i).calls k ≡ None =
+        subst (λ (x : ℕ). (w.nodes x).calls k ≡ None) at (subst (λ (y : ℕ). (w.nodes j).calls y ≡ None) seq fresh) in
+        let never : None ≡ Some c = sym mine ∙ turned.was in cc)) ∙ fresh);
+    lives = books.lives;
+  }

@@ -1,9 +1,8 @@
 -- The entries of a stripe's operations: which operation each is of, and which operations have one.
-use Rattle.std.proofs.Common.{◌≡◌, ◌≢◌, ℕ, zero, suc, ◌+◌, ◌<◌, ◌≤◌, ◌⊎◌, inl, inr, ⊎_elim, Bool, true, false, not, ◌&&◌, ◌||◌, cond, eqb, List, [], ◌∷◌, ◌++◌, length, get_or, map, Option, Some, None, refl, sym, ap, ◌∙◌, subst, arith}
-use Rattle.std.specs.Prelude.{slice_get}
+use Rattle.std.proofs.Common.{◌≡◌, ◌≢◌, ℕ, zero, suc, ◌<◌, ◌≤◌, ◌⊎◌, inl, inr, ⊎_elim, Bool, true, not, ◌&&◌, cond, eqb, List, [], ◌∷◌, ◌++◌, length, get_or, map, Option, Some, None, refl, sym, ap, ◌∙◌, subst, arith}
 use Rattle.std.specs.List.{All, AllPairs, Contains, IsDistinct, filter, list_any}
-use Rattle.std.proofs.lemmas.Bool.{cond_both, cases_Bool, cases_eq, ne_eqb, or_left, or_right}
-use Rattle.std.proofs.lemmas.Option.{none-some, same_Some, slice_get-get_or}
+use Rattle.std.proofs.lemmas.Bool.{cond_both, cases_eq, ne_eqb, or_left, or_right}
+use Rattle.std.proofs.lemmas.Option.{slice_get-get_or}
 use Rattle.std.proofs.lemmas.List.{get_or-map, length-map, append-nil}
 use Rattle.std.proofs.lemmas.List.Elements.{All-cons, All-nil, All-append, All-weaker, Contains-append_left, Contains-append_right}
 use Rattle.std.proofs.lemmas.List.Quantifiers.{all_pairs_push}
@@ -103,18 +102,18 @@ entries_distinct operations g s n test =
     let long : length (map (λ (e : Entry). e.operation) entries) ≡ length entries = length-map entries (λ (e : Entry). e.operation) in
     IsDistinct-from_apart eqb (map (λ (e : Entry). e.operation) entries)
     (λ i j d lt le.
-        let e : Entry = record { stamp = first_stamp; reader = true; operation = 0 } in
-        let one : get_or (map (λ (e : Entry). e.operation) entries) i d ≡ (get_or entries i e).operation =
-            get_or-map (λ (e : Entry). e.operation) entries i e d (omega arith) in
-        let other : get_or (map (λ (e : Entry). e.operation) entries) j d ≡ (get_or entries j e).operation =
-            get_or-map (λ (e : Entry). e.operation) entries j e d (omega arith) in
-        let apart : (get_or entries i e).operation < (get_or entries j e).operation = rise i j e lt (omega arith) in
-        ne_eqb (get_or (map (λ (e : Entry). e.operation) entries) i d) (get_or (map (λ (e : Entry). e.operation) entries) j d) (λ same. omega arith))
+    let e : Entry = record { stamp = first_stamp; reader = true; operation = 0 } in
+    let one : get_or (map (λ (e : Entry). e.operation) entries) i d ≡ (get_or entries i e).operation =
+    get_or-map (λ (e : Entry). e.operation) entries i e d (omega arith) in
+    let other : get_or (map (λ (e : Entry). e.operation) entries) j d ≡ (get_or entries j e).operation =
+    get_or-map (λ (e : Entry). e.operation) entries j e d (omega arith) in
+    let apart : (get_or entries i e).operation < (get_or entries j e).operation = rise i j e lt (omega arith) in
+    ne_eqb (get_or (map (λ (e : Entry). e.operation) entries) i d) (get_or (map (λ (e : Entry). e.operation) entries) j d) (λ same. omega arith))
 
 at_has : (g s n : ℕ) (o : Operation) (t : Stamp) → is_of g s o ≡ true → o.version ≡ Some t → Contains (entry_at g s n (Some o)) (entry_of n o t)
 at_has g s n o t of version =
     let is : entry_at g s n (Some o) ≡ entry_of n o t ∷ [] =
-        ap (λ (b : Bool). cond b (entry_with n (not o.made) o.version) []) of ∙ ap (λ (v : Option Stamp). entry_with n (not o.made) v) version in
+    ap (λ (b : Bool). cond b (entry_with n (not o.made) o.version) []) of ∙ ap (λ (v : Option Stamp). entry_with n (not o.made) v) version in
     subst (λ (l : List Entry). Contains l (entry_of n o t)) (sym is) (0, omega arith, refl)
 
 -- each operation of the stripe that made or read a version has its entry
@@ -123,13 +122,13 @@ pub entries_have : (operations : ℕ → Option Operation) (g s n k : ℕ) (o : 
 entries_have operations g s zero k o t low high is of version = absurd (omega arith)
 entries_have operations g s (suc n) k o t low high is of version = ⊎_elim
     (λ (last : k ≡ suc n).
-        let has : Contains (entry_at g s k (operations k)) (entry_of k o t) =
-            subst (λ (x : Option Operation). Contains (entry_at g s k x) (entry_of k o t)) (sym is) (at_has g s k o t of version) in
-        Contains-append_right (entries_to operations g s n) (entry_at g s (suc n) (operations (suc n))) (entry_of k o t)
-        (subst (λ (m : ℕ). Contains (entry_at g s m (operations m)) (entry_of k o t)) last has))
+    let has : Contains (entry_at g s k (operations k)) (entry_of k o t) =
+    subst (λ (x : Option Operation). Contains (entry_at g s k x) (entry_of k o t)) (sym is) (at_has g s k o t of version) in
+    Contains-append_right (entries_to operations g s n) (entry_at g s (suc n) (operations (suc n))) (entry_of k o t)
+    (subst (λ (m : ℕ). Contains (entry_at g s m (operations m)) (entry_of k o t)) last has))
     (λ (other : k ≢ suc n).
-        Contains-append_left (entries_to operations g s n) (entry_at g s (suc n) (operations (suc n))) (entry_of k o t)
-        (entries_have operations g s n k o t low (omega arith) is of version))
+    Contains-append_left (entries_to operations g s n) (entry_at g s (suc n) (operations (suc n))) (entry_of k o t)
+    (entries_have operations g s n k o t low (omega arith) is of version))
     (cases_eq k (suc n))
 
 -- what stands in a list and passes the test is kept
@@ -169,4 +168,4 @@ pub read_effective : (operations : ℕ → Option Operation) (entries : List Ent
 read_effective operations entries e r has reads same =
     or_right e.reader _ (or_right (was_answered (operations e.operation)) _
     (any_passes (λ (x : Entry). x.reader && stamp_same x.stamp e.stamp) entries r has
-        (ap (λ (b : Bool). b && stamp_same r.stamp e.stamp) reads ∙ subst (λ (t : Stamp). stamp_same r.stamp t ≡ true) same (stamp_same_refl r.stamp))))
+    (ap (λ (b : Bool). b && stamp_same r.stamp e.stamp) reads ∙ subst (λ (t : Stamp). stamp_same r.stamp t ≡ true) same (stamp_same_refl r.stamp))))

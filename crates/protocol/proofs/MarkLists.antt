@@ -1,5 +1,5 @@
 -- Marks stay well formed as marks are added at their end.
-use Rattle.std.proofs.Common.{◌≡◌, ◌≢◌, ℕ, zero, suc, ◌+◌, ◌<◌, ◌≤◌, ◌⊎◌, inl, inr, ⊎_elim, Bool, true, false, cond, nat_eq, List, [], ◌∷◌, ◌++◌, length, get_or, map, take, Option, Some, None, refl, sym, ap, ◌∙◌, subst, arith, append-nil, length-append}
+use Rattle.std.proofs.Common.{◌≡◌, ◌≢◌, ℕ, zero, suc, ◌+◌, ◌<◌, ◌≤◌, ◌⊎◌, inl, inr, ⊎_elim, Bool, true, false, cond, nat_eq, List, [], ◌∷◌, ◌++◌, length, get_or, map, take, Some, refl, sym, ap, ◌∙◌, subst, arith, append-nil}
 use Rattle.std.specs.Prelude.{slice_get}
 use Rattle.std.specs.List.{All}
 use Rattle.std.specs.List.Sorted.{IsStrictlyIncreasing}
@@ -73,13 +73,13 @@ increasing_push xs y up below k lt =
     let left : get_or (xs ++ (y ∷ [])) k 0 ≡ get_or xs k 0 = get_or_append_left xs (y ∷ []) 0 k (omega arith) in
     ⊎_elim
     (λ (last : k + 1 ≡ length xs).
-        let right : get_or (xs ++ (y ∷ [])) (k + 1) 0 ≡ y = get_or_push xs y 0 (k + 1) (sym last) in
-        let lower : get_or xs k 0 < y = below k 0 (omega arith) in
-        omega arith)
+    let right : get_or (xs ++ (y ∷ [])) (k + 1) 0 ≡ y = get_or_push xs y 0 (k + 1) (sym last) in
+    let lower : get_or xs k 0 < y = below k 0 (omega arith) in
+    omega arith)
     (λ (inner : k + 1 ≢ length xs).
-        let right : get_or (xs ++ (y ∷ [])) (k + 1) 0 ≡ get_or xs (k + 1) 0 = get_or_append_left xs (y ∷ []) 0 (k + 1) (omega arith) in
-        let rise : get_or xs k 0 < get_or xs (k + 1) 0 = up k (omega arith) in
-        omega arith)
+    let right : get_or (xs ++ (y ∷ [])) (k + 1) 0 ≡ get_or xs (k + 1) 0 = get_or_append_left xs (y ∷ []) 0 (k + 1) (omega arith) in
+    let rise : get_or xs k 0 < get_or xs (k + 1) 0 = up k (omega arith) in
+    omega arith)
     (cases_eq (k + 1) (length xs))
 
 -- one more mark, which an open operation's End may be
@@ -89,24 +89,24 @@ pub ends_push : (marks : List Mark) (mark : Mark)
     → (i p n : ℕ) (answer : Answer) → slice_get (marks ++ (mark ∷ [])) i ≡ Some (End p n answer) → IsOpen (life_of (take i (marks ++ (mark ∷ []))) n)
 ends_push marks mark old new i p n answer h = ⊎_elim
     (λ (is : slice_get marks i ≡ Some (End p n answer)).
-        let within : i < length marks = slice_get_within marks i (End p n answer) is in
-        let same : take i (marks ++ (mark ∷ [])) ≡ take i marks = take-append-le i marks (mark ∷ []) (omega arith) in
-        subst (λ (l : List Mark). IsOpen (life_of l n)) (sym same) (old i p n answer is))
+    let within : i < length marks = slice_get_within marks i (End p n answer) is in
+    let same : take i (marks ++ (mark ∷ [])) ≡ take i marks = take-append-le i marks (mark ∷ []) (omega arith) in
+    subst (λ (l : List Mark). IsOpen (life_of l n)) (sym same) (old i p n answer is))
     (λ (is : (i ≡ length marks) × (mark ≡ End p n answer)).
-        let same : take i (marks ++ (mark ∷ [])) ≡ marks = take_at marks (mark ∷ []) i (sym is.0) in
-        subst (λ (l : List Mark). IsOpen (life_of l n)) (sym same) (new p n answer is.1))
+    let same : take i (marks ++ (mark ∷ [])) ≡ marks = take_at marks (mark ∷ []) i (sym is.0) in
+    subst (λ (l : List Mark). IsOpen (life_of l n)) (sym same) (new p n answer is.1))
     (slice_get_push marks mark (End p n answer) i h)
 
 -- an End of an open operation keeps marks well formed
 pub well_formed_end : (marks : List Mark) (p n : ℕ) (answer : Answer) → IsWellFormed marks → Places (marks ++ (End p n answer ∷ []))
     → IsOpen (life_of marks n) → IsWellFormed (marks ++ (End p n answer ∷ []))
 well_formed_end marks p n answer well places open' = record {
-    positions_rise = positions_rise (marks ++ (End p n answer ∷ [])) places;
-    numbers_rise = subst (λ (xs : List ℕ). IsStrictlyIncreasing xs)
-        (sym (begun_numbers-append marks (End p n answer ∷ []) ∙ append-nil (begun_numbers marks))) well.numbers_rise;
-    ends_are_of_open = ends_push marks (End p n answer) well.ends_are_of_open
-        (λ q k a is. let same : n ≡ k = cc in subst (λ (x : ℕ). IsOpen (life_of marks x)) same open');
-  }
+  positions_rise = positions_rise (marks ++ (End p n answer ∷ [])) places;
+  numbers_rise = subst (λ (xs : List ℕ). IsStrictlyIncreasing xs)
+      (sym (begun_numbers-append marks (End p n answer ∷ []) ∙ append-nil (begun_numbers marks))) well.numbers_rise;
+  ends_are_of_open = ends_push marks (End p n answer) well.ends_are_of_open
+      (λ q k a is. let same : n ≡ k = cc in subst (λ (x : ℕ). IsOpen (life_of marks x)) same open');
+}
 
 -- the number of each Begin has a life
 pub begun_lives : (marks : List Mark) (k : ℕ) → k < length (begun_numbers marks)
@@ -136,8 +136,8 @@ numbers_below marks b most k d lt =
 pub well_formed_begin : (marks : List Mark) (p n : ℕ) (b : BrickId) (ask : Ask) → IsWellFormed marks → Places (marks ++ (Begin p n b ask ∷ []))
     → All (λ (x : ℕ). x < n) (begun_numbers marks) → IsWellFormed (marks ++ (Begin p n b ask ∷ []))
 well_formed_begin marks p n b ask well places above = record {
-    positions_rise = positions_rise (marks ++ (Begin p n b ask ∷ [])) places;
-    numbers_rise = subst (λ (xs : List ℕ). IsStrictlyIncreasing xs)
-        (sym (begun_numbers-append marks (Begin p n b ask ∷ []))) (increasing_push (begun_numbers marks) n well.numbers_rise above);
-    ends_are_of_open = ends_push marks (Begin p n b ask) well.ends_are_of_open (λ q k a is. absurd (let never : Begin p n b ask ≡ End q k a = is in cc));
-  }
+  positions_rise = positions_rise (marks ++ (Begin p n b ask ∷ [])) places;
+  numbers_rise = subst (λ (xs : List ℕ). IsStrictlyIncreasing xs)
+      (sym (begun_numbers-append marks (Begin p n b ask ∷ []))) (increasing_push (begun_numbers marks) n well.numbers_rise above);
+  ends_are_of_open = ends_push marks (Begin p n b ask) well.ends_are_of_open (λ q k a is. absurd (let never : Begin p n b ask ≡ End q k a = is in cc));
+}

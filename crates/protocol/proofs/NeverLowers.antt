@@ -1,5 +1,5 @@
 -- No event lowers what a brick has promised or stored.
-use Rattle.std.proofs.Common.{◌≡◌, ℕ, Bool, true, false, Option, Some, None, refl, sym, ap, ◌∙◌, subst}
+use Rattle.std.proofs.Common.{◌≡◌, ℕ, true, false, Option, Some, None, refl}
 use Rattle.std.proofs.lemmas.Bool.{cond_both}
 use Rattle.fab_base.specs.declared.identities.BrickId.{BrickId}
 use Rattle.fab_base.specs.declared.asks.Ask.{Ask}
@@ -15,7 +15,7 @@ use Rattle.fab_wire.specs.declared.replies.Reply.{Reply}
 use Rattle.protocol.specs.Settings.{Setting, Group, group_of, seat_in}
 use Rattle.protocol.specs.Replicas.{Replica, top_of, is_held, handle}
 use Rattle.protocol.specs.Coordinators.{Coordinator, Next, Ignores, Waits, Sends, Ends, on_reply}
-use Rattle.protocol.specs.Nodes.{Node, NodeStep, Told, Nothing, Made, Answers, put, replica_at, requested_at, requested_in, requested, known_after, carried_out, replied_to, replied_at, replied, received, new_coordinator, began, invoked}
+use Rattle.protocol.specs.Nodes.{Node, NodeStep, Told, Nothing, Made, Answers, put, replica_at, requested_at, requested_in, requested, known_after, carried_out, replied_to, replied_at, replied, received, began, invoked}
 use Rattle.protocol.specs.Worlds.{World, Event, Invokes, Delivers, is_brick, may_begin, world_began, world_stepped, delivered, packet_of, happens}
 use Rattle.protocol.specs.Laws.{NeverFalls}
 use Rattle.protocol.proofs.Reactions.{handle_after, after_top, after_held}
@@ -103,7 +103,7 @@ never_falls_delivered setting w (Some packet) =
     let step : NodeStep = received setting packet.to (w.nodes packet.to.0) packet in
     cond_both (is_brick setting.layout packet.to) (world_stepped w packet.to step step.told) w (λ (x : World). NeverFalls w x)
     (λ member. never_falls_by w (world_stepped w packet.to step step.told) packet.to.0 step.node (stepped_nodes w packet.to step step.told)
-        (keeps_received setting packet.to packet.from packet.to (w.nodes packet.to.0) packet.message))
+    (keeps_received setting packet.to packet.from packet.to (w.nodes packet.to.0) packet.message))
     (λ stranger. falls_not w)
 
 -- no event lowers what a brick has promised or stored

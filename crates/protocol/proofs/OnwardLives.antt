@@ -6,7 +6,7 @@ use Rattle.fab_base.specs.declared.asks.Ask.{Ask}
 use Rattle.fab_base.specs.declared.answers.Answer.{Answer}
 use Rattle.reg_model.specs.declared.marks.Mark.{Mark}
 use Rattle.reg_model.specs.declared.marks.Mark.TheVariants.{Begin, End, Crash}
-use Rattle.reg_model.specs.Marks.{Ending, Answered, Interrupted, Unended, ending_of, Life, life_of, IsUnended, IsOpen}
+use Rattle.reg_model.specs.Marks.{Ending, Answered, Interrupted, Unended, ending_of, Life, life_of, IsUnended}
 use Rattle.reg_model.specs.Strict.{IsAnswered}
 
 -- an ending once more marks have come
@@ -43,9 +43,10 @@ pub life_of-append : (marks more : List Mark) (n : ℕ) → life_of (marks ++ mo
 life_of-append [] more n = refl
 life_of-append (Begin p k b ask ∷ marks) more n =
     elim (nat_eq k n) as (λ t. cond t (Some (record { begin = p; brick = b.0; ask = ask; ending = ending_of (marks ++ more) n b.0 (p + 1) })) (life_of (marks ++ more) n)
-    ≡ life_onward (cond t (Some (record { begin = p; brick = b.0; ask = ask; ending = ending_of marks n b.0 (p + 1) })) (life_of marks n)) more n)
-    [ true ↦ ap (λ (e : Ending). Some (record { begin = p; brick = b.0; ask = ask; ending = e })) (ending_of-append marks more n b.0 (p + 1))
-    | false ↦ life_of-append marks more n ]
+    ≡ life_onward (cond t (Some (record { begin = p; brick = b.0; ask = ask; ending = ending_of marks n b.0 (p + 1) })) (life_of marks n)) more n) [
+      | true ↦ ap (λ (e : Ending). Some (record { begin = p; brick = b.0; ask = ask; ending = e })) (ending_of-append marks more n b.0 (p + 1))
+      | false ↦ life_of-append marks more n
+    ]
 life_of-append (End p k answer ∷ marks) more n = life_of-append marks more n
 life_of-append (Crash p b ∷ marks) more n = life_of-append marks more n
 
@@ -125,9 +126,11 @@ alone_none (Crash q b) n alone = refl
 
 alone_life : (life : Option Life) (mark : Mark) (n : ℕ) → LeavesAlone n mark → Stays life (life_onward life (mark ∷ []) n)
 alone_life None mark n alone = alone_none mark n alone
-alone_life (Some life) mark n alone =
-    (with_ending life (onward life.ending (mark ∷ []) n life.brick), refl,
-    record { begin = refl; brick = refl; ask = refl; ending = alone_ending life.ending mark n life.brick alone })
+alone_life (Some life) mark n alone = (
+  with_ending life (onward life.ending (mark ∷ []) n life.brick),
+  refl,
+  record { begin = refl; brick = refl; ask = refl; ending = alone_ending life.ending mark n life.brick alone },
+)
 
 -- another operation's mark leaves an operation's life as it was
 pub Stays-push : (marks : List Mark) (mark : Mark) (n : ℕ) → LeavesAlone n mark → Stays (life_of marks n) (life_of (marks ++ (mark ∷ [])) n)

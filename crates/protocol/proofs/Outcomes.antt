@@ -1,5 +1,5 @@
 -- What a coordinator does with a reply, by its phase.
-use Rattle.std.proofs.Common.{◌≡◌, ℕ, ◌⊎◌, inl, inr, Bool, true, false, cond, List, length, Option, Some, None, refl}
+use Rattle.std.proofs.Common.{◌≡◌, ℕ, ◌⊎◌, inl, inr, false, List, length, Option, Some, None, refl}
 use Rattle.std.specs.Prelude.{nat_lt}
 use Rattle.std.proofs.lemmas.Bool.{cond_both}
 use Rattle.fab_base.specs.declared.identities.BrickId.{BrickId}
@@ -9,7 +9,7 @@ use Rattle.fab_base.specs.declared.answers.Answer.{Answer}
 use Rattle.fab_wire.specs.declared.calls.Call.{Call}
 use Rattle.fab_wire.specs.declared.replies.Reply.{Reply}
 use Rattle.protocol.specs.Settings.{Group, Code, quorum_of}
-use Rattle.protocol.specs.Coordinators.{Phase, Looks, Orders, Stores, Stalls, Counted, Coordinator, Refuser, Next, Ignores, Waits, Sends, Ends, storing, stalled, unless_refused, answered_fast, greatest_refuser, fast_version, decided, with_reply, once_full, counted_at, counts_at, on_reply}
+use Rattle.protocol.specs.Coordinators.{Phase, Looks, Orders, Stores, Stalls, Counted, Coordinator, Refuser, Next, Ignores, Waits, Sends, Ends, storing, unless_refused, answered_fast, greatest_refuser, fast_version, decided, with_reply, once_full, counted_at, counts_at, on_reply}
 use Rattle.protocol.specs.Worlds.{is_answer}
 
 -- the coordinator of the same operation, in the same call
@@ -76,12 +76,15 @@ once_full_fits code group c =
 recounted : (ask : Ask) (stamp : Stamp) (call : Call) (phase : Phase) (one other : List Counted) (next : Next)
     → NextFits (at ask stamp call phase one) next → NextFits (at ask stamp call phase other) next
 recounted ask stamp call phase one other Ignores fits = tt
-recounted ask stamp call phase one other (Waits d) fits =
-    (record { ask = fits.0.ask; stamp = fits.0.stamp; boot = fits.0.boot; seq = fits.0.seq; group = fits.0.group; view = fits.0.view; stripe = fits.0.stripe },
-    fits.1)
-recounted ask stamp call phase one other (Sends d) fits =
-    (record { ask = fits.0.ask; stamp = fits.0.stamp; boot = fits.0.boot; seq = fits.0.seq; group = fits.0.group; view = fits.0.view; stripe = fits.0.stripe },
-    fits.1, fits.2)
+recounted ask stamp call phase one other (Waits d) fits = (
+  record { ask = fits.0.ask; stamp = fits.0.stamp; boot = fits.0.boot; seq = fits.0.seq; group = fits.0.group; view = fits.0.view; stripe = fits.0.stripe },
+  fits.1,
+)
+recounted ask stamp call phase one other (Sends d) fits = (
+  record { ask = fits.0.ask; stamp = fits.0.stamp; boot = fits.0.boot; seq = fits.0.seq; group = fits.0.group; view = fits.0.view; stripe = fits.0.stripe },
+  fits.1,
+  fits.2,
+)
 recounted ask stamp call phase one other (Ends answer seen stored) fits = fits
 
 counted_at_fits : (code : Code) (group : Group) (c : Coordinator) (from : BrickId) (reply : Reply) (seat : Option ℕ)

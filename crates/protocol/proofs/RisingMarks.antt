@@ -1,8 +1,8 @@
 -- Marks whose positions and numbers rise: what lies before and after in them.
-use Rattle.std.proofs.Common.{◌≡◌, ◌≢◌, ℕ, zero, suc, ◌+◌, ◌<◌, ◌≤◌, ◌⊎◌, inl, inr, ⊎_elim, Bool, true, false, cond, nat_eq, List, [], ◌∷◌, ◌++◌, length, get_or, map, Option, Some, None, refl, sym, ap, ◌∙◌, subst, arith}
+use Rattle.std.proofs.Common.{◌≡◌, ◌≢◌, ℕ, suc, ◌+◌, ◌<◌, ◌≤◌, ◌⊎◌, inl, inr, ⊎_elim, Bool, true, false, cond, nat_eq, List, [], ◌∷◌, get_or, map, Option, Some, None, refl, sym, ap, ◌∙◌, subst, arith}
 use Rattle.std.specs.List.{All, AllPairs, filter}
 use Rattle.std.specs.List.Sorted.{IsStrictlyIncreasing}
-use Rattle.std.proofs.lemmas.Bool.{cond_both, cases_eq, eq-eqb, ne_eqb, eqb-true}
+use Rattle.std.proofs.lemmas.Bool.{cond_both, cases_eq, eq-eqb, ne_eqb}
 use Rattle.std.proofs.lemmas.Option.{same_Some}
 use Rattle.std.proofs.lemmas.List.Elements.{All-cons, All-nil}
 use Rattle.std.proofs.lemmas.List.Kept.{AllPairs-cons, AllPairs-from_increasing}
@@ -28,11 +28,12 @@ increasing_from_pairs xs pairs k lt = pairs k (k + 1) 0 (omega arith) lt
 
 rises_from : (marks : List Mark) (a : ℕ) → All (λ (x : ℕ). a ≤ x) (map position_of marks) → AllPairs (λ x y. x < y) (map position_of marks) → RisesFrom a marks
 rises_from [] a low pairs = tt
-rises_from (mark ∷ marks) a low pairs =
-    (low 0 0 (omega arith),
-    rises_from marks (position_of mark + 1)
-    (λ k d lt. (let below : position_of mark < get_or (map position_of marks) k d = pairs 0 (suc k) d (omega arith) (omega arith) in omega arith))
-    (λ i j d lt le. pairs (suc i) (suc j) d (omega arith) (omega arith)))
+rises_from (mark ∷ marks) a low pairs = (
+  low 0 0 (omega arith),
+  rises_from marks (position_of mark + 1)
+      (λ k d lt. (let below : position_of mark < get_or (map position_of marks) k d = pairs 0 (suc k) d (omega arith) (omega arith) in omega arith))
+      (λ i j d lt le. pairs (suc i) (suc j) d (omega arith) (omega arith)),
+)
 
 -- positions that rise
 pub RisesFrom-increasing : (marks : List Mark) → IsStrictlyIncreasing (map position_of marks) → RisesFrom 0 marks
@@ -43,7 +44,7 @@ RisesFrom-all [] a rises = All-nil (λ (x : ℕ). a ≤ x)
 RisesFrom-all (mark ∷ marks) a rises =
     All-cons (λ (x : ℕ). a ≤ x) (position_of mark) (map position_of marks) rises.0
     (λ k d lt. (let later : position_of mark + 1 ≤ get_or (map position_of marks) k d = RisesFrom-all marks (position_of mark + 1) rises.1 k d lt in
-        let first : a ≤ position_of mark = rises.0 in omega arith))
+    let first : a ≤ position_of mark = rises.0 in omega arith))
 
 RisesFrom-pairs : (marks : List Mark) (a : ℕ) → RisesFrom a marks → AllPairs (λ x y. x < y) (map position_of marks)
 RisesFrom-pairs [] a rises = λ i j d lt le. absurd (omega arith)
@@ -70,9 +71,10 @@ RisesFrom-filter test (mark ∷ marks) a rises =
 
 numbers_rise : (marks : List Mark) (a : ℕ) → All (λ (x : ℕ). a < x) (begun_numbers marks) → AllPairs (λ x y. x < y) (begun_numbers marks) → NumbersRise a marks
 numbers_rise [] a low pairs = tt
-numbers_rise (Begin p n b ask ∷ marks) a low pairs =
-    (low 0 0 (omega arith),
-    numbers_rise marks n (λ k d lt. pairs 0 (suc k) d (omega arith) (omega arith)) (λ i j d lt le. pairs (suc i) (suc j) d (omega arith) (omega arith)))
+numbers_rise (Begin p n b ask ∷ marks) a low pairs = (
+  low 0 0 (omega arith),
+  numbers_rise marks n (λ k d lt. pairs 0 (suc k) d (omega arith) (omega arith)) (λ i j d lt le. pairs (suc i) (suc j) d (omega arith) (omega arith)),
+)
 numbers_rise (End p n answer ∷ marks) a low pairs = numbers_rise marks a low pairs
 numbers_rise (Crash p b ∷ marks) a low pairs = numbers_rise marks a low pairs
 
@@ -85,7 +87,7 @@ NumbersRise-all [] a rises = All-nil (λ (x : ℕ). a < x)
 NumbersRise-all (Begin p n b ask ∷ marks) a rises =
     All-cons (λ (x : ℕ). a < x) n (begun_numbers marks) rises.0
     (λ k d lt. (let later : n < get_or (begun_numbers marks) k d = NumbersRise-all marks n rises.1 k d lt in
-        let first : a < n = rises.0 in omega arith))
+    let first : a < n = rises.0 in omega arith))
 NumbersRise-all (End p n answer ∷ marks) a rises = NumbersRise-all marks a rises
 NumbersRise-all (Crash p b ∷ marks) a rises = NumbersRise-all marks a rises
 
@@ -161,12 +163,12 @@ pub life_within : (marks : List Mark) (a n : ℕ) (life : Life) → RisesFrom a 
 life_within [] a n life rises is = absurd (let never : None ≡ Some life = is in cc)
 life_within (Begin p k b ask ∷ marks) a n life rises is = ⊎_elim
     (λ (here : (k ≡ n) × (record { begin = p; brick = b.0; ask = ask; ending = ending_of marks n b.0 (p + 1) } ≡ life)).
-        subst (λ (l : Life). (a ≤ l.begin) × (l.begin < end_of l.ending)) here.1
-        (rises.0, (let ends : p + 1 ≤ end_of (ending_of marks n b.0 (p + 1)) = end_after marks n b.0 (p + 1) rises.1 in omega arith)))
+    subst (λ (l : Life). (a ≤ l.begin) × (l.begin < end_of l.ending)) here.1
+    (rises.0, (let ends : p + 1 ≤ end_of (ending_of marks n b.0 (p + 1)) = end_after marks n b.0 (p + 1) rises.1 in omega arith)))
     (λ (there : (k ≢ n) × (life_of marks n ≡ Some life)).
-        let rest : (p + 1 ≤ life.begin) × (life.begin < end_of life.ending) = life_within marks (p + 1) n life rises.1 there.1 in
-        let first : a ≤ p = rises.0 in
-        (omega (arith, rest.0), rest.1))
+    let rest : (p + 1 ≤ life.begin) × (life.begin < end_of life.ending) = life_within marks (p + 1) n life rises.1 there.1 in
+    let first : a ≤ p = rises.0 in
+    (omega (arith, rest.0), rest.1))
     (begin_cases p k n _ (life_of marks n) life is)
 life_within (End p k answer ∷ marks) a n life rises is =
     let rest : (p + 1 ≤ life.begin) × (life.begin < end_of life.ending) = life_within marks (p + 1) n life rises.1 is in
@@ -183,10 +185,10 @@ open_after : (marks : List Mark) (n brick past q m : ℕ) (life : Life) → Rise
 open_after [] n brick past q m life rises ending is = absurd (let never : None ≡ Some life = is in cc)
 open_after (Begin p k b ask ∷ marks) n brick past q m life rises ending is = ⊎_elim
     (λ (here : (k ≡ m) × (record { begin = p; brick = b.0; ask = ask; ending = ending_of marks m b.0 (p + 1) } ≡ life)).
-        let at : p ≡ life.begin = ap (λ (l : Life). l.begin) here.1 in
-        let ends : p + 1 ≤ end_of (ending_of marks n brick (p + 1)) = end_after marks n brick (p + 1) rises.1 in
-        let past : end_of (ending_of marks n brick (p + 1)) ≡ q = ap (λ (e : Ending). end_of e) ending in
-        omega arith)
+    let at : p ≡ life.begin = ap (λ (l : Life). l.begin) here.1 in
+    let ends : p + 1 ≤ end_of (ending_of marks n brick (p + 1)) = end_after marks n brick (p + 1) rises.1 in
+    let past : end_of (ending_of marks n brick (p + 1)) ≡ q = ap (λ (e : Ending). end_of e) ending in
+    omega arith)
     (λ (there : (k ≢ m) × (life_of marks m ≡ Some life)). open_after marks n brick (p + 1) q m life rises.1 ending there.1)
     (begin_cases p k m _ (life_of marks m) life is)
 open_after (End p k answer ∷ marks) n brick past q m life rises ending is =
@@ -202,15 +204,15 @@ pub begins_before_open : (marks : List Mark) (a n q m : ℕ) (one other : Life) 
 begins_before_open [] a n q m one other rises is ending at = absurd (let never : None ≡ Some one = is in cc)
 begins_before_open (Begin p k b ask ∷ marks) a n q m one other rises is ending at = ⊎_elim
     (λ (mine : (k ≡ n) × (record { begin = p; brick = b.0; ask = ask; ending = ending_of marks n b.0 (p + 1) } ≡ one)).
-        open_after (Begin p k b ask ∷ marks) n b.0 a q m other rises (ap (λ (l : Life). l.ending) mine.1 ∙ ending) at)
+    open_after (Begin p k b ask ∷ marks) n b.0 a q m other rises (ap (λ (l : Life). l.ending) mine.1 ∙ ending) at)
     (λ (rest : (k ≢ n) × (life_of marks n ≡ Some one)). ⊎_elim
-        (λ (theirs : (k ≡ m) × (record { begin = p; brick = b.0; ask = ask; ending = ending_of marks m b.0 (p + 1) } ≡ other)).
-            let at' : p ≡ other.begin = ap (λ (l : Life). l.begin) theirs.1 in
-            let within : (p + 1 ≤ one.begin) × (one.begin < end_of one.ending) = life_within marks (p + 1) n one rises.1 rest.1 in
-            let past : end_of one.ending ≡ q = ap (λ (e : Ending). end_of e) ending in
-            omega (arith, within.0, within.1))
-        (λ (further : (k ≢ m) × (life_of marks m ≡ Some other)). begins_before_open marks (p + 1) n q m one other rises.1 rest.1 ending further.1)
-        (begin_cases p k m _ (life_of marks m) other at))
+    (λ (theirs : (k ≡ m) × (record { begin = p; brick = b.0; ask = ask; ending = ending_of marks m b.0 (p + 1) } ≡ other)).
+    let at' : p ≡ other.begin = ap (λ (l : Life). l.begin) theirs.1 in
+    let within : (p + 1 ≤ one.begin) × (one.begin < end_of one.ending) = life_within marks (p + 1) n one rises.1 rest.1 in
+    let past : end_of one.ending ≡ q = ap (λ (e : Ending). end_of e) ending in
+    omega (arith, within.0, within.1))
+    (λ (further : (k ≢ m) × (life_of marks m ≡ Some other)). begins_before_open marks (p + 1) n q m one other rises.1 rest.1 ending further.1)
+    (begin_cases p k m _ (life_of marks m) other at))
     (begin_cases p k n _ (life_of marks n) one is)
 begins_before_open (End p k answer ∷ marks) a n q m one other rises is ending at =
     begins_before_open marks (p + 1) n q m one other rises.1 is ending at
@@ -223,19 +225,19 @@ pub begins_in_order : (marks : List Mark) (a b n m : ℕ) (one other : Life) →
 begins_in_order [] a b n m one other rises rise lt is at = absurd (let never : None ≡ Some one = is in cc)
 begins_in_order (Begin p k c ask ∷ marks) a b n m one other rises rise lt is at = ⊎_elim
     (λ (theirs : (k ≡ m) × (record { begin = p; brick = c.0; ask = ask; ending = ending_of marks m c.0 (p + 1) } ≡ other)).
-        absurd (⊎_elim
-        (λ (mine : (k ≡ n) × (record { begin = p; brick = c.0; ask = ask; ending = ending_of marks n c.0 (p + 1) } ≡ one)). omega (arith, mine.0, theirs.0))
-        (λ (rest : (k ≢ n) × (life_of marks n ≡ Some one)).
-            let none : life_of marks n ≡ None = NumbersRise-none marks k n (omega (arith, theirs.0)) rise.1 in
-            let never : None ≡ Some one = sym none ∙ rest.1 in cc)
-        (begin_cases p k n _ (life_of marks n) one is)))
+    absurd (⊎_elim
+    (λ (mine : (k ≡ n) × (record { begin = p; brick = c.0; ask = ask; ending = ending_of marks n c.0 (p + 1) } ≡ one)). omega (arith, mine.0, theirs.0))
+    (λ (rest : (k ≢ n) × (life_of marks n ≡ Some one)).
+    let none : life_of marks n ≡ None = NumbersRise-none marks k n (omega (arith, theirs.0)) rise.1 in
+    let never : None ≡ Some one = sym none ∙ rest.1 in cc)
+    (begin_cases p k n _ (life_of marks n) one is)))
     (λ (further : (k ≢ m) × (life_of marks m ≡ Some other)). ⊎_elim
-        (λ (mine : (k ≡ n) × (record { begin = p; brick = c.0; ask = ask; ending = ending_of marks n c.0 (p + 1) } ≡ one)).
-            let here : p ≡ one.begin = ap (λ (l : Life). l.begin) mine.1 in
-            let within : (p + 1 ≤ other.begin) × (other.begin < end_of other.ending) = life_within marks (p + 1) m other rises.1 further.1 in
-            omega (arith, within.0))
-        (λ (rest : (k ≢ n) × (life_of marks n ≡ Some one)). begins_in_order marks (p + 1) k n m one other rises.1 rise.1 lt rest.1 further.1)
-        (begin_cases p k n _ (life_of marks n) one is))
+    (λ (mine : (k ≡ n) × (record { begin = p; brick = c.0; ask = ask; ending = ending_of marks n c.0 (p + 1) } ≡ one)).
+    let here : p ≡ one.begin = ap (λ (l : Life). l.begin) mine.1 in
+    let within : (p + 1 ≤ other.begin) × (other.begin < end_of other.ending) = life_within marks (p + 1) m other rises.1 further.1 in
+    omega (arith, within.0))
+    (λ (rest : (k ≢ n) × (life_of marks n ≡ Some one)). begins_in_order marks (p + 1) k n m one other rises.1 rise.1 lt rest.1 further.1)
+    (begin_cases p k n _ (life_of marks n) one is))
     (begin_cases p k m _ (life_of marks m) other at)
 begins_in_order (End p k answer ∷ marks) a b n m one other rises rise lt is at =
     begins_in_order marks (p + 1) b n m one other rises.1 rise lt is at

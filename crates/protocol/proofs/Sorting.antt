@@ -1,5 +1,5 @@
 -- Entries in ascending order: the same entries, each before the next.
-use Rattle.std.proofs.Common.{◌≡◌, ◌≢◌, ℕ, zero, suc, ◌+◌, ◌<◌, ◌≤◌, ◌⊎◌, inl, inr, ⊎_elim, Bool, true, false, ◌&&◌, ◌||◌, cond, eqb, nat_lt, List, [], ◌∷◌, length, get_or, map, refl, sym, ap, ◌∙◌, subst, arith}
+use Rattle.std.proofs.Common.{◌≡◌, suc, ◌+◌, false, eqb, List, [], ◌∷◌, get_or, map, arith}
 use Rattle.std.specs.List.{All, AllPairs, IsDistinct}
 use Rattle.std.specs.List.Sorted.{IsPermutation, IsSortedBy}
 use Rattle.std.proofs.lemmas.Bool.{cond_both}
@@ -20,7 +20,7 @@ inserted_permutation e (x ∷ entries) =
     cond_both (entry_below e x) (e ∷ (x ∷ entries)) (x ∷ inserted e entries) (λ (l : List Entry). IsPermutation (e ∷ (x ∷ entries)) l)
     (λ below. IsPermutation-refl (e ∷ (x ∷ entries)))
     (λ above. IsPermutation-trans (e ∷ (x ∷ entries)) (x ∷ (e ∷ entries)) (x ∷ inserted e entries) (IsPermutation-middle (e ∷ []) x entries)
-        (IsPermutation-cons x (e ∷ entries) (inserted e entries) (inserted_permutation e entries)))
+    (IsPermutation-cons x (e ∷ entries) (inserted e entries) (inserted_permutation e entries)))
 
 -- in ascending order stand the same entries
 pub ascending_permutation : (entries : List Entry) → IsPermutation entries (ascending entries)
@@ -46,16 +46,16 @@ inserted_order e (x ∷ entries) order =
     let rest : All (λ (y : Entry). entry_below y x ≡ false) entries = AllPairs-head x entries order in
     cond_both (entry_below e x) (e ∷ (x ∷ entries)) (x ∷ inserted e entries) (λ (l : List Entry). InOrder l)
     (λ below.
-        let after : entry_below x e ≡ false = entry_order.one_way e x below in
-        AllPairs-cons (λ (a b : Entry). entry_below b a ≡ false) e (x ∷ entries)
-        (All-cons (λ (y : Entry). entry_below y e ≡ false) x entries after
-            (λ k d lt. entry_order.chain (get_or entries k d) x e (rest k d lt) after))
-        order)
+    let after : entry_below x e ≡ false = entry_order.one_way e x below in
+    AllPairs-cons (λ (a b : Entry). entry_below b a ≡ false) e (x ∷ entries)
+    (All-cons (λ (y : Entry). entry_below y e ≡ false) x entries after
+    (λ k d lt. entry_order.chain (get_or entries k d) x e (rest k d lt) after))
+    order)
     (λ above.
-        AllPairs-cons (λ (a b : Entry). entry_below b a ≡ false) x (inserted e entries)
-        (All-permutation (λ (y : Entry). entry_below y x ≡ false) (e ∷ entries) (inserted e entries) (inserted_permutation e entries)
-            (All-cons (λ (y : Entry). entry_below y x ≡ false) e entries above rest))
-        (inserted_order e entries (AllPairs-tail x entries order)))
+    AllPairs-cons (λ (a b : Entry). entry_below b a ≡ false) x (inserted e entries)
+    (All-permutation (λ (y : Entry). entry_below y x ≡ false) (e ∷ entries) (inserted e entries) (inserted_permutation e entries)
+    (All-cons (λ (y : Entry). entry_below y x ≡ false) e entries above rest))
+    (inserted_order e entries (AllPairs-tail x entries order)))
 
 -- ascending entries are in order
 pub ascending_order : (entries : List Entry) → InOrder (ascending entries)

@@ -1,17 +1,16 @@
 -- The marks of a stripe: well formed, and with the lives of the stripe's operations.
-use Rattle.std.proofs.Common.{◌≡◌, ◌≢◌, ℕ, zero, suc, ◌+◌, ◌<◌, ◌≤◌, ◌⊎◌, inl, inr, ⊎_elim, Bool, true, false, ◌&&◌, cond, nat_eq, List, [], ◌∷◌, ◌++◌, length, get_or, take, drop, Option, Some, None, refl, sym, ap, ◌∙◌, subst, arith}
+use Rattle.std.proofs.Common.{◌≡◌, ◌≢◌, ℕ, zero, suc, ◌+◌, ◌<◌, ◌≤◌, ⊎_elim, Bool, true, false, ◌&&◌, cond, nat_eq, List, [], ◌∷◌, get_or, take, drop, Option, Some, None, refl, sym, ap, ◌∙◌, subst, arith}
 use Rattle.std.specs.Prelude.{slice_get}
 use Rattle.std.specs.List.{All, filter}
-use Rattle.std.proofs.lemmas.Bool.{cond_both, cases_eq, cases_Bool, eq-eqb, ne_eqb, eqb-true}
+use Rattle.std.proofs.lemmas.Bool.{cond_both, eq-eqb, ne_eqb, eqb-true}
 use Rattle.std.proofs.lemmas.Option.{none-some, same_Some}
 use Rattle.std.proofs.lemmas.List.{take-append-drop, get_or_default}
-use Rattle.fab_base.specs.declared.answers.Answer.{Answer}
 use Rattle.fab_base.specs.declared.asks.Ask.{Ask}
 use Rattle.reg_model.specs.declared.marks.Mark.{Mark}
 use Rattle.reg_model.specs.declared.marks.Mark.TheVariants.{Begin, End, Crash}
-use Rattle.reg_model.specs.Marks.{Ending, Answered, Interrupted, Unended, ending_of, Life, life_of, IsUnended, IsOpen, IsWellFormed, position_of, begun_numbers, is_of_stripe, concerns, stripe_marks}
+use Rattle.reg_model.specs.Marks.{Ending, Answered, Interrupted, ending_of, Life, life_of, IsUnended, IsOpen, IsWellFormed, begun_numbers, is_of_stripe, concerns, stripe_marks}
 use Rattle.protocol.proofs.OnwardLives.{EndingStays, EndingStays-open, LifeStays, with_ending, onward, life_onward, life_of-append}
-use Rattle.protocol.proofs.RisingMarks.{RisesFrom, RisesFrom-filter, increasing_positions, NumbersRise, NumbersRise-filter, NumbersRise-none, NumbersRise-increasing, RisesFrom-increasing, increasing_numbers, begin_cases}
+use Rattle.protocol.proofs.RisingMarks.{RisesFrom-filter, increasing_positions, NumbersRise, NumbersRise-filter, NumbersRise-none, NumbersRise-increasing, RisesFrom-increasing, increasing_numbers, begin_cases}
 use Rattle.protocol.proofs.MarkLists.{begun_lives}
 
 -- a function of a choice
@@ -55,10 +54,11 @@ KeepsLife marks n life = (l : Life) × (life_of marks n ≡ Some l) × LifeStays
 
 keeps_begin : (p k n : ℕ) (mine : Life) (rest : List Mark) (b : _) (ask : Ask) (life : Life) → k ≢ n → KeepsLife rest n life
     → KeepsLife (Begin p k b ask ∷ rest) n life
-keeps_begin p k n mine rest b ask life other keeps =
-    (keeps.0,
-    ap (λ (t : Bool). cond t (Some (record { begin = p; brick = b.0; ask = ask; ending = ending_of rest n b.0 (p + 1) })) (life_of rest n)) (ne_eqb k n other) ∙ keeps.1,
-    keeps.2)
+keeps_begin p k n mine rest b ask life other keeps = (
+  keeps.0,
+  ap (λ (t : Bool). cond t (Some (record { begin = p; brick = b.0; ask = ask; ending = ending_of rest n b.0 (p + 1) })) (life_of rest n)) (ne_eqb k n other) ∙ keeps.1,
+  keeps.2,
+)
 
 -- the life of an operation of the stripe, in the stripe's marks
 pub life_filtered : (g s : ℕ) (all : List Mark) (n : ℕ) → is_of_stripe g s (life_of all n) ≡ true → (marks : List Mark) (life : Life)
@@ -70,17 +70,21 @@ life_filtered g s all n own (Begin p k b ask ∷ marks) life is of =
     let full : Life = record { begin = p; brick = b.0; ask = ask; ending = ending_of marks n b.0 (p + 1) } in
     ⊎_elim
     (λ (here : (k ≡ n) × (full ≡ life)).
-        let mine : Life = record { begin = p; brick = b.0; ask = ask; ending = ending_of rest n b.0 (p + 1) } in
-        let kept : (nat_eq ask.group.0 g && nat_eq ask.stripe.0 s) ≡ true = ap (λ (l : Life). is_of_stripe g s (Some l)) here.1 ∙ of in
-        let found : life_of (Begin p k b ask ∷ rest) n ≡ Some mine = ap (λ (t : Bool). cond t (Some mine) (life_of rest n)) (eq-eqb k n here.0) in
-        let stays : LifeStays full mine = record {
-            begin = refl; brick = refl; ask = refl; ending = ending_filtered g s all n own marks b.0 (p + 1) (p + 1) } in
-        subst (λ (t : Bool). KeepsLife (cond t (Begin p k b ask ∷ rest) rest) n life) (sym kept)
-        (subst (λ (l : Life). KeepsLife (Begin p k b ask ∷ rest) n l) here.1 (mine, found, stays)))
+    let mine : Life = record { begin = p; brick = b.0; ask = ask; ending = ending_of rest n b.0 (p + 1) } in
+    let kept : (nat_eq ask.group.0 g && nat_eq ask.stripe.0 s) ≡ true = ap (λ (l : Life). is_of_stripe g s (Some l)) here.1 ∙ of in
+    let found : life_of (Begin p k b ask ∷ rest) n ≡ Some mine = ap (λ (t : Bool). cond t (Some mine) (life_of rest n)) (eq-eqb k n here.0) in
+    let stays : LifeStays full mine = record {
+      begin = refl;
+      brick = refl;
+      ask = refl;
+      ending = ending_filtered g s all n own marks b.0 (p + 1) (p + 1);
+    } in
+    subst (λ (t : Bool). KeepsLife (cond t (Begin p k b ask ∷ rest) rest) n life) (sym kept)
+    (subst (λ (l : Life). KeepsLife (Begin p k b ask ∷ rest) n l) here.1 (mine, found, stays)))
     (λ (there : (k ≢ n) × (life_of marks n ≡ Some life)).
-        let keeps : KeepsLife rest n life = life_filtered g s all n own marks life there.1 of in
-        cond_both (nat_eq ask.group.0 g && nat_eq ask.stripe.0 s) (Begin p k b ask ∷ rest) rest (λ (x : List Mark). KeepsLife x n life)
-        (λ kept. keeps_begin p k n full rest b ask life there.0 keeps) (λ left. keeps))
+    let keeps : KeepsLife rest n life = life_filtered g s all n own marks life there.1 of in
+    cond_both (nat_eq ask.group.0 g && nat_eq ask.stripe.0 s) (Begin p k b ask ∷ rest) rest (λ (x : List Mark). KeepsLife x n life)
+    (λ kept. keeps_begin p k n full rest b ask life there.0 keeps) (λ left. keeps))
     (begin_cases p k n full (life_of marks n) life is)
 life_filtered g s all n own (End p k answer ∷ marks) life is of =
     let keeps : KeepsLife (filter (concerns g s all) marks) n life = life_filtered g s all n own marks life is of in
@@ -100,7 +104,7 @@ none_filtered test (Begin p k b ask ∷ marks) n none =
     let rest : life_of (filter test marks) n ≡ None = none_filtered test marks n parts.1 in
     cond_both (test (Begin p k b ask)) (Begin p k b ask ∷ filter test marks) (filter test marks) (λ (x : List Mark). life_of x n ≡ None)
     (λ kept. ap (λ (t : Bool). cond t (Some (record { begin = p; brick = b.0; ask = ask; ending = ending_of (filter test marks) n b.0 (p + 1) }))
-        (life_of (filter test marks) n)) parts.0 ∙ rest)
+    (life_of (filter test marks) n)) parts.0 ∙ rest)
     (λ left. rest)
 none_filtered test (End p k answer ∷ marks) n none =
     let rest : life_of (filter test marks) n ≡ None = none_filtered test marks n none in
@@ -118,15 +122,15 @@ others_filtered g s all (Begin p k b ask ∷ marks) a n life rises is other =
     let full : Life = record { begin = p; brick = b.0; ask = ask; ending = ending_of marks n b.0 (p + 1) } in
     ⊎_elim
     (λ (here : (k ≡ n) × (full ≡ life)).
-        let left : (nat_eq ask.group.0 g && nat_eq ask.stripe.0 s) ≡ false = ap (λ (l : Life). is_of_stripe g s (Some l)) here.1 ∙ other in
-        subst (λ (t : Bool). life_of (cond t (Begin p k b ask ∷ rest) rest) n ≡ None) (sym left)
-        (NumbersRise-none rest k n (omega (arith, here.0)) (NumbersRise-filter (concerns g s all) marks k rises.1)))
+    let left : (nat_eq ask.group.0 g && nat_eq ask.stripe.0 s) ≡ false = ap (λ (l : Life). is_of_stripe g s (Some l)) here.1 ∙ other in
+    subst (λ (t : Bool). life_of (cond t (Begin p k b ask ∷ rest) rest) n ≡ None) (sym left)
+    (NumbersRise-none rest k n (omega (arith, here.0)) (NumbersRise-filter (concerns g s all) marks k rises.1)))
     (λ (there : (k ≢ n) × (life_of marks n ≡ Some life)).
-        let none : life_of rest n ≡ None = others_filtered g s all marks k n life rises.1 there.1 other in
-        cond_both (nat_eq ask.group.0 g && nat_eq ask.stripe.0 s) (Begin p k b ask ∷ rest) rest (λ (x : List Mark). life_of x n ≡ None)
-        (λ kept. ap (λ (t : Bool). cond t (Some (record { begin = p; brick = b.0; ask = ask; ending = ending_of rest n b.0 (p + 1) })) (life_of rest n))
-            (ne_eqb k n there.0) ∙ none)
-        (λ left. none))
+    let none : life_of rest n ≡ None = others_filtered g s all marks k n life rises.1 there.1 other in
+    cond_both (nat_eq ask.group.0 g && nat_eq ask.stripe.0 s) (Begin p k b ask ∷ rest) rest (λ (x : List Mark). life_of x n ≡ None)
+    (λ kept. ap (λ (t : Bool). cond t (Some (record { begin = p; brick = b.0; ask = ask; ending = ending_of rest n b.0 (p + 1) })) (life_of rest n))
+    (ne_eqb k n there.0) ∙ none)
+    (λ left. none))
     (begin_cases p k n full (life_of marks n) life is)
 others_filtered g s all (End p k answer ∷ marks) a n life rises is other =
     let none : life_of (filter (concerns g s all) marks) n ≡ None = others_filtered g s all marks a n life rises is other in
@@ -143,15 +147,19 @@ kept_first : {A : Type 0} (test : A → Bool) (x : A) (xs : List A) → ((i : �
     → KeptAt test (x ∷ xs) i y (cond t (x ∷ filter test xs) (filter test xs))
 kept_first test x xs rest zero y true is found = (0, found, refl, subst (λ z. test z ≡ true) (same_Some x y found) is)
 kept_first test x xs rest (suc i) y true is found =
-    let old : KeptAt test xs i y (filter test xs) = rest i y found in
-    (suc old.0, old.1,
-    ap (λ l. x ∷ l) old.2 ∙ sym (ap (λ (t : Bool). cond t (x ∷ filter test (take old.0 xs)) (filter test (take old.0 xs))) is),
-    old.3)
+    let old : KeptAt test xs i y (filter test xs) = rest i y found in (
+      suc old.0,
+      old.1,
+      ap (λ l. x ∷ l) old.2 ∙ sym (ap (λ (t : Bool). cond t (x ∷ filter test (take old.0 xs)) (filter test (take old.0 xs))) is),
+      old.3,
+    )
 kept_first test x xs rest i y false is found =
-    let old : KeptAt test xs i y (filter test xs) = rest i y found in
-    (suc old.0, old.1,
-    old.2 ∙ sym (ap (λ (t : Bool). cond t (x ∷ filter test (take old.0 xs)) (filter test (take old.0 xs))) is),
-    old.3)
+    let old : KeptAt test xs i y (filter test xs) = rest i y found in (
+      suc old.0,
+      old.1,
+      old.2 ∙ sym (ap (λ (t : Bool). cond t (x ∷ filter test (take old.0 xs)) (filter test (take old.0 xs))) is),
+      old.3,
+    )
 
 pub filter_place : {A : Type 0} (test : A → Bool) (xs : List A) (i : ℕ) (y : A) → slice_get (filter test xs) i ≡ Some y
     → (j : ℕ) × (slice_get xs j ≡ Some y) × (take i (filter test xs) ≡ filter test (take j xs)) × (test y ≡ true)
@@ -169,8 +177,8 @@ open_filtered : (g s : ℕ) (marks : List Mark) (j n : ℕ) → is_of_stripe g s
 open_filtered g s marks j n own open' =
     let life = open_life (life_of (take j marks) n) open' in
     let all : life_of marks n ≡ Some (with_ending life.0 (onward life.0.ending (drop j marks) n life.0.brick)) =
-        ap (λ (l : List Mark). life_of l n) (sym (take-append-drop j marks)) ∙ life_of-append (take j marks) (drop j marks) n
-        ∙ ap (λ (l : Option Life). life_onward l (drop j marks) n) life.1 in
+    ap (λ (l : List Mark). life_of l n) (sym (take-append-drop j marks)) ∙ life_of-append (take j marks) (drop j marks) n
+    ∙ ap (λ (l : Option Life). life_onward l (drop j marks) n) life.1 in
     let of : is_of_stripe g s (Some life.0) ≡ true = sym (ap (λ (l : Option Life). is_of_stripe g s l) all) ∙ own in
     let kept = life_filtered g s marks n own (take j marks) life.0 life.1 of in
     subst (λ (l : Option Life). IsOpen l) (sym kept.1) (EndingStays-open life.0.ending kept.0.ending kept.2.ending life.2)
@@ -186,12 +194,12 @@ numbers_from_one marks least k d lt =
 -- the marks of a stripe are well formed
 pub well_formed_stripe : (g s : ℕ) (marks : List Mark) → IsWellFormed marks → All (λ (x : ℕ). 0 < x) (begun_numbers marks) → IsWellFormed (stripe_marks g s marks)
 well_formed_stripe g s marks well low = record {
-    positions_rise = increasing_positions (stripe_marks g s marks) 0
-        (RisesFrom-filter (concerns g s marks) marks 0 (RisesFrom-increasing marks well.positions_rise));
-    numbers_rise = increasing_numbers (stripe_marks g s marks) 0
-        (NumbersRise-filter (concerns g s marks) marks 0 (NumbersRise-increasing marks low well.numbers_rise));
-    ends_are_of_open = λ i p n answer is.
-        (let place = filter_place (concerns g s marks) marks i (End p n answer) is in
-        subst (λ (l : List Mark). IsOpen (life_of l n)) (sym place.2)
-        (open_filtered g s marks place.0 n place.3 (well.ends_are_of_open place.0 p n answer place.1)));
-  }
+  positions_rise = increasing_positions (stripe_marks g s marks) 0
+      (RisesFrom-filter (concerns g s marks) marks 0 (RisesFrom-increasing marks well.positions_rise));
+  numbers_rise = increasing_numbers (stripe_marks g s marks) 0
+      (NumbersRise-filter (concerns g s marks) marks 0 (NumbersRise-increasing marks low well.numbers_rise));
+  ends_are_of_open = λ i p n answer is.
+      (let place = filter_place (concerns g s marks) marks i (End p n answer) is in
+      subst (λ (l : List Mark). IsOpen (life_of l n)) (sym place.2)
+      (open_filtered g s marks place.0 n place.3 (well.ends_are_of_open place.0 p n answer place.1)));
+}

@@ -1,19 +1,17 @@
 -- The walk along a stripe's effective versions, and why its happenings are strict.
-use Rattle.std.proofs.Common.{◌≡◌, ◌≢◌, ℕ, zero, suc, ◌+◌, ◌<◌, ◌≤◌, ◌⊎◌, inl, inr, ⊎_elim, Bool, true, false, not, ◌&&◌, eqb, nat_eq, List, [], ◌∷◌, length, get_or, map, Option, Some, None, refl, sym, ap, ◌∙◌, subst, arith}
-use Rattle.std.specs.List.{All, Any, Contains, IsDistinct, filter}
+use Rattle.std.proofs.Common.{◌≡◌, ◌≢◌, ℕ, ◌<◌, ◌≤◌, ◌⊎◌, inl, inr, ⊎_elim, Bool, true, false, not, ◌&&◌, nat_eq, List, length, get_or, map, Option, Some, None, refl, sym, ap, ◌∙◌, subst, arith}
+use Rattle.std.specs.List.{All, Contains, filter}
 use Rattle.std.proofs.lemmas.Bool.{cases_Bool, cases_eq, cases_lt, both_ways, not-true, or_parts, and_parts, and_from, and_cases, eqb-true, eq-eqb, ltb-false}
-use Rattle.std.proofs.lemmas.Bool.Decides.{nat_tests}
 use Rattle.std.proofs.lemmas.Option.{none-some, same_Some}
-use Rattle.std.proofs.lemmas.List.{length-map, get_or-map, get_or_default}
-use Rattle.std.proofs.lemmas.List.Elements.{All-filter, All-weaker, All-contains, All-contains_itself, filter_passes}
-use Rattle.std.proofs.lemmas.List.Sorted.{All-permutation, Contains-permutation, sorted_far, IsPermutation-sym, IsPermutation-map}
+use Rattle.std.proofs.lemmas.List.Elements.{All-filter, All-weaker, All-contains_itself}
+use Rattle.std.proofs.lemmas.List.Sorted.{All-permutation, Contains-permutation, sorted_far}
 use Rattle.fab_base.specs.declared.stamps.Stamp.{Stamp}
 use Rattle.fab_base.specs.declared.asks.Op.{Op}
 use Rattle.fab_base.specs.declared.asks.Op.TheVariants.{ReadStripe, WriteStripe}
 use Rattle.fab_base.specs.declared.answers.Answer.{Answer}
 use Rattle.fab_base.specs.declared.answers.Answer.TheVariants.{Data, Done, Aborted}
 use Rattle.fab_base.specs.Stamps.{stamp_below, stamp_same, first_stamp}
-use Rattle.fab_base.proofs.StampOrder.{stamp_below_asym, stamp_same_refl}
+use Rattle.fab_base.proofs.StampOrder.{stamp_same_refl}
 use Rattle.reg_model.specs.declared.marks.Mark.{Mark}
 use Rattle.reg_model.specs.declared.entries.Entry.{Entry}
 use Rattle.reg_model.specs.Marks.{Ending, Answered, Interrupted, Unended, Life, life_of, IsUnended, end_of, is_of_stripe, concerns, stripe_marks}
@@ -25,7 +23,6 @@ use Rattle.reg_model.proofs.Walk.{walk_is_strict}
 use Rattle.protocol.specs.Settings.{Setting, Group, group_of}
 use Rattle.protocol.specs.Worlds.{World, Operation}
 use Rattle.protocol.specs.Happenings.{is_of, entries_to, is_effective, ascending, walk_of, happenings_of}
-use Rattle.protocol.specs.Laws.{FollowsRealTime}
 use Rattle.protocol.proofs.Books.{Books, OperationBooks, IsOperation}
 use Rattle.protocol.proofs.Entries.{IsEntryOf, entry_of, entries_of, entries_distinct, entries_have, Contains-filter, Contains-number, answered_effective, read_effective}
 use Rattle.protocol.proofs.OnwardLives.{EndingStays, EndingStays-answered_before, LifeStays}
@@ -63,7 +60,7 @@ not_before a b h =
       parts.0,
       λ same. ⊎_elim
           (λ (differ : stamp_same b.stamp a.stamp ≡ false). absurd (both_ways (stamp_same b.stamp a.stamp) differ
-              (subst (λ (t : Stamp). stamp_same b.stamp t ≡ true) same (stamp_same_refl b.stamp))))
+          (subst (λ (t : Stamp). stamp_same b.stamp t ≡ true) same (stamp_same_refl b.stamp))))
           (λ (turn : turn_below b.reader b.operation a.reader a.operation ≡ false). turn)
           (and_cases _ _ parts.1),
     )
@@ -74,7 +71,6 @@ reader_after false k n h = absurd (let never : true ≡ false = h in cc)
 reader_after true k n h = ltb-false k n h
 
 module _ (setting : Setting) (w : World) (g s : ℕ) (books : Books setting w) (facts : QuorumFacts setting w) where
-
   -- the stripe's marks, all entries, those that are effective, and the walk
   abbrev marks : List Mark
   marks = stripe_marks g s w.marks
@@ -134,8 +130,8 @@ module _ (setting : Setting) (w : World) (g s : ℕ) (books : Books setting w) (
           ⊎_elim
           (λ (of : is_of g s begun.0 ≡ true). (begun.0, begun.1, of))
           (λ (other : is_of g s begun.0 ≡ false).
-              let foreign : is_of_stripe g s (Some mine.life) ≡ false = ap (λ a. nat_eq a.group.0 g && nat_eq a.stripe.0 s) mine.ask ∙ other in
-              absurd (none-some l (sym (others_filtered g s w.marks w.marks 0 n mine.life all_numbers mine.life_is foreign) ∙ is)))
+          let foreign : is_of_stripe g s (Some mine.life) ≡ false = ap (λ a. nat_eq a.group.0 g && nat_eq a.stripe.0 s) mine.ask ∙ other in
+          absurd (none-some l (sym (others_filtered g s w.marks w.marks 0 n mine.life all_numbers mine.life_is foreign) ∙ is)))
           (cases_Bool (is_of g s begun.0))
 
   -- an operation of the stripe is of its group and number
@@ -179,17 +175,19 @@ module _ (setting : Setting) (w : World) (g s : ℕ) (books : Books setting w) (
       let at : (o.ask.group.0 ≡ g) × (o.ask.stripe.0 ≡ s) = stripe_of o of in
       let same : w.contents o.ask.group.0 o.ask.stripe.0 t ≡ w.contents g s t = ap (λ (x : ℕ). w.contents x o.ask.stripe.0 t) at.0 ∙ ap (λ (y : ℕ). w.contents g y t) at.1 in
       let op : l.life.ask.op ≡ ReadStripe = ap (λ a. a.op) (l.stays.ask ∙ l.ask) ∙ reader.op in
-      subst (λ (x : Op). OnlyReads x × IsRead (read_of setting.layout.block x (w.contents g s t)) (data_of l.life.ending)) (sym op)
-      (tt, reads_data (w.contents g s t) l.life.ending
-          (λ p bytes ending. reader.answered l.full p bytes l.full_is (answer_before l.full.ending l.life.ending p (Data bytes) l.stays.ending ending) ∙ same))
+      subst (λ (x : Op). OnlyReads x × IsRead (read_of setting.layout.block x (w.contents g s t)) (data_of l.life.ending)) (sym op) (
+        tt,
+        reads_data (w.contents g s t) l.life.ending
+            (λ p bytes ending. reader.answered l.full p bytes l.full_is (answer_before l.full.ending l.life.ending p (Data bytes) l.stays.ending ending) ∙ same),
+      )
 
   walk_turns : All (λ (e : Entry). HasTurn setting.layout.block (w.contents g s e.stamp) e.reader (life_of marks e.operation)) walk
   walk_turns = All-weaker IsOurs (λ (e : Entry). HasTurn setting.layout.block (w.contents g s e.stamp) e.reader (life_of marks e.operation))
       (λ e ours.
-          let l : StripeLife e.operation ours.operation = stripe_life e.operation ours.operation ours.is ours.of in
-          subst (λ (x : Option Life). HasTurn setting.layout.block (w.contents g s e.stamp) e.reader x) (sym l.life_is)
-          (subst (λ (x : Bool). HasTurn setting.layout.block (w.contents g s e.stamp) x (Some l.life)) (sym ours.reader)
-          (turn_of e.operation ours.operation e.stamp l ours.operation.made ours.is ours.of ours.version refl)))
+      let l : StripeLife e.operation ours.operation = stripe_life e.operation ours.operation ours.is ours.of in
+      subst (λ (x : Option Life). HasTurn setting.layout.block (w.contents g s e.stamp) e.reader x) (sym l.life_is)
+      (subst (λ (x : Bool). HasTurn setting.layout.block (w.contents g s e.stamp) x (Some l.life)) (sym ours.reader)
+      (turn_of e.operation ours.operation e.stamp l ours.operation.made ours.is ours.of ours.version refl)))
       walk walk_ours
 
   -- an entry that reads was made by no operation
@@ -205,7 +203,7 @@ module _ (setting : Setting) (w : World) (g s : ℕ) (books : Books setting w) (
       let of : is_of g s o ≡ true = and_from _ _ (eq-eqb o.ask.group.0 g (group ∙ at.0)) (eq-eqb o.ask.stripe.0 s (stripe ∙ at.1)) in
       let maker : Entry = entry_of n o e.stamp in
       let stands : Contains walk maker = walk_contains maker (has_entry n o e.stamp is of version)
-          (read_effective w.operations entries maker e has reads refl) in
+      (read_effective w.operations entries maker e has reads refl) in
       inr (stands.0, maker, stands.1, stands.2, (ap not made, refl))
 
   walk_read : All (λ (e : Entry). e.reader ≡ true → (e.stamp ≡ first_stamp) ⊎ IsMade walk e.stamp) walk
@@ -213,7 +211,7 @@ module _ (setting : Setting) (w : World) (g s : ℕ) (books : Books setting w) (
       let e : Entry = get_or walk k d in
       let ours : IsOurs e = walk_ours k d lt in
       let reader : ReaderFacts w e.operation ours.operation e.stamp =
-          facts.reader e.operation ours.operation e.stamp ours.is (reader_made e ours reads) ours.version in
+      facts.reader e.operation ours.operation e.stamp ours.is (reader_made e ours reads) ours.version in
       read_made e ours (walk_entries k d lt) reads reader.made
 
   walk_answered : (n : ℕ) → WasAnswered (life_of marks n) → Contains (map (λ (e : Entry). e.operation) walk) n
@@ -226,7 +224,7 @@ module _ (setting : Setting) (w : World) (g s : ℕ) (books : Books setting w) (
           let l : StripeLife n o.0 = stripe_life n o.0 o.1 o.2 in
           let same : life ≡ l.life = same_Some life l.life (sym is ∙ l.life_is) in
           let was : o.0.answered ≡ true = l.answered (EndingStays-answered_before l.full.ending l.life.ending l.stays.ending
-              (subst (λ (x : Life). IsAnswered x.ending) same ended)) in
+          (subst (λ (x : Life). IsAnswered x.ending) same ended)) in
           let version = (books.operations n o.0 o.1).answered_version was in
           let e : Entry = entry_of n o.0 version.0 in
           Contains-number walk e (walk_contains e (has_entry n o.0 version.0 o.1 o.2 version.1) (answered_effective w.operations entries e o.0 o.1 was))
@@ -236,29 +234,29 @@ module _ (setting : Setting) (w : World) (g s : ℕ) (books : Books setting w) (
       → entry_below b a ≡ false → end_of other.life.ending ≡ end_of other.full.ending → one.life.begin ≤ end_of other.life.ending
   in_time_ended a b first second one other order ends = ⊎_elim
       (λ (late : end_of other.life.ending < one.life.begin).
-          let last : last_of (life_of w.marks b.operation) ≡ end_of other.life.ending = ap last_of other.full_is ∙ sym ends in
-          let begin : one.life.begin ≡ first.operation.begin = one.stays.begin ∙ one.begin in
-          let parts = not_before a b order in
-          ⊎_elim
-          (λ (below : stamp_below b.stamp a.stamp ≡ true). absurd (both_ways (stamp_below b.stamp a.stamp) parts.0 below))
-          (λ (same : (b.stamp ≡ a.stamp) × (first.operation.made ≡ false)).
-              let reads : a.reader ≡ true = first.reader ∙ ap not same.1 in
-              let turn : turn_below b.reader b.operation true a.operation ≡ false =
-                  subst (λ (x : Bool). turn_below b.reader b.operation x a.operation ≡ false) reads (parts.1 same.0) in
-              let numbered : a.operation ≤ b.operation = reader_after b.reader b.operation a.operation turn in
-              let within : (0 ≤ other.life.begin) × (other.life.begin < end_of other.life.ending) = life_within marks 0 b.operation other.life rise other.life_is in
-              ⊎_elim
-              (λ (equal : a.operation ≡ b.operation).
-                  let alike : one.life ≡ other.life = same_Some one.life other.life (sym one.life_is ∙ ap (λ (n : ℕ). life_of marks n) equal ∙ other.life_is) in
-                  let begins : one.life.begin ≡ other.life.begin = ap (λ (x : Life). x.begin) alike in
-                  omega (arith, within.1))
-              (λ (differ : a.operation ≢ b.operation).
-                  let begins : one.life.begin < other.life.begin =
-                      begins_in_order marks 0 0 a.operation b.operation one.life other.life rise numbers (omega arith) one.life_is other.life_is in
-                  omega (arith, within.1))
-              (cases_eq a.operation b.operation))
-          (facts.real_time g s b.operation a.operation second.operation first.operation b.stamp a.stamp second.is first.is second.of first.of second.version first.version
-              (omega arith)))
+      let last : last_of (life_of w.marks b.operation) ≡ end_of other.life.ending = ap last_of other.full_is ∙ sym ends in
+      let begin : one.life.begin ≡ first.operation.begin = one.stays.begin ∙ one.begin in
+      let parts = not_before a b order in
+      ⊎_elim
+      (λ (below : stamp_below b.stamp a.stamp ≡ true). absurd (both_ways (stamp_below b.stamp a.stamp) parts.0 below))
+      (λ (same : (b.stamp ≡ a.stamp) × (first.operation.made ≡ false)).
+      let reads : a.reader ≡ true = first.reader ∙ ap not same.1 in
+      let turn : turn_below b.reader b.operation true a.operation ≡ false =
+      subst (λ (x : Bool). turn_below b.reader b.operation x a.operation ≡ false) reads (parts.1 same.0) in
+      let numbered : a.operation ≤ b.operation = reader_after b.reader b.operation a.operation turn in
+      let within : (0 ≤ other.life.begin) × (other.life.begin < end_of other.life.ending) = life_within marks 0 b.operation other.life rise other.life_is in
+      ⊎_elim
+      (λ (equal : a.operation ≡ b.operation).
+      let alike : one.life ≡ other.life = same_Some one.life other.life (sym one.life_is ∙ ap (λ (n : ℕ). life_of marks n) equal ∙ other.life_is) in
+      let begins : one.life.begin ≡ other.life.begin = ap (λ (x : Life). x.begin) alike in
+      omega (arith, within.1))
+      (λ (differ : a.operation ≢ b.operation).
+      let begins : one.life.begin < other.life.begin =
+      begins_in_order marks 0 0 a.operation b.operation one.life other.life rise numbers (omega arith) one.life_is other.life_is in
+      omega (arith, within.1))
+      (cases_eq a.operation b.operation))
+      (facts.real_time g s b.operation a.operation second.operation first.operation b.stamp a.stamp second.is first.is second.of first.of second.version first.version
+      (omega arith)))
       (λ (early : one.life.begin ≤ end_of other.life.ending). early)
       (cases_lt (end_of other.life.ending) one.life.begin)
 
@@ -272,7 +270,7 @@ module _ (setting : Setting) (w : World) (g s : ℕ) (books : Books setting w) (
       (ap end_of ends ∙ sym (ap end_of (interrupted_before other.full.ending other.life.ending p other.stays.ending ends)))
   in_time a b first second one other order (Unended past) ends =
       let before : one.life.begin < past =
-          begins_before_open marks 0 b.operation past a.operation other.life one.life rise other.life_is ends one.life_is in
+      begins_before_open marks 0 b.operation past a.operation other.life one.life rise other.life_is ends one.life_is in
       let at : end_of other.life.ending ≡ past = ap end_of ends in
       omega arith
 
@@ -295,14 +293,14 @@ module _ (setting : Setting) (w : World) (g s : ℕ) (books : Books setting w) (
       → WalkFacts group.m setting.layout.block marks (w.contents g s) (walk_of w g s)
   unfolding walk_of
   walk_facts group is = record {
-      ascending = IsSortedBy-from_order walk (ascending_order kept);
-      once = distinct_ascending kept (entries_distinct w.operations g s w.begun (is_effective w.operations entries));
-      turns = walk_turns;
-      read_is_made = walk_read;
-      first_is_zero = facts.first g s group is;
-      answered_stand = walk_answered;
-      real_time = walk_real_time;
-    }
+    ascending = IsSortedBy-from_order walk (ascending_order kept);
+    once = distinct_ascending kept (entries_distinct w.operations g s w.begun (is_effective w.operations entries));
+    turns = walk_turns;
+    read_is_made = walk_read;
+    first_is_zero = facts.first g s group is;
+    answered_stand = walk_answered;
+    real_time = walk_real_time;
+  }
 
   -- the stripe's happenings are strict
   pub happenings_strict : (group : Group) → group_of setting.layout g ≡ Some group

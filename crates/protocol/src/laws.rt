@@ -19,12 +19,10 @@ ghost use Rattle.protocol.specs.Laws.{EveryRunKeepsTheLaws, NoEventLowers};
 /// - Marks are well formed: positions and numbers rise, and only an operation that is open ends.
 pub fn every_run_keeps_the_laws()
     ensures { EveryRunKeepsTheLaws }
-{
-}
+{}
 
 /// No event of any run lowers what a brick has promised or stored: the greater of a stripe's order stamp and its newest
 /// version's stamp never falls (Frølund et al., DSN 2004).
 pub fn no_event_lowers()
     ensures { NoEventLowers }
-{
-}
+{}
