@@ -17,7 +17,8 @@ use Rattle.protocol.proofs.Books.{Books, OperationBooks, CallBooks, IsOperation,
 use Rattle.protocol.proofs.BooksKept.{operation_kept, call_kept, cases_call}
 use Rattle.protocol.proofs.OnwardLives.{Stays, Stays-push, Stays-before, life_of-begin}
 use Rattle.protocol.proofs.MarkLists.{Places-push, well_formed_begin, numbers_below}
-use Rattle.protocol.proofs.Puts.{put_same, put_other, put_both}
+use Rattle.protocol.proofs.Puts.{put_other}
+use Rattle.protocol.proofs.Tables.{put_each, put_same}
 
 -- a new operation has made nothing
 fresh_made : (c : Coordinator) (o : Operation) (op : Op) → o.version ≡ None → o.made ≡ false → MadeInPhase c o (first_phase op)
@@ -77,36 +78,36 @@ module _ (setting : Setting) (w : World) (brick : BrickId) (ask : Ask) (group : 
   other_life m other = Stays-push w.marks (Begin (length w.marks) n brick ask) m (λ same. other (sym same))
 
   call_is : (later.nodes i).calls k ≡ Some c
-  call_is = ap (λ (x : Node). x.calls k) (put_same w.nodes i (opened node c) i refl) ∙ put_same node.calls k (Some c) k refl
+  call_is = ap (λ (x : Node). x.calls k) (put_same w.nodes i (opened node c)) ∙ put_same node.calls k (Some c)
 
   other_calls : (j l : ℕ) → (j ≡ i → l ≡ k → ⊥) → (later.nodes j).calls l ≡ (w.nodes j).calls l
-  other_calls j l other = put_both (λ (x : ℕ) (y : Node). (x ≡ i → l ≡ k → ⊥) → y.calls l ≡ (w.nodes x).calls l) w.nodes i (opened node c)
+  other_calls j l other = put_each (λ (x : ℕ) (y : Node). (x ≡ i → l ≡ k → ⊥) → y.calls l ≡ (w.nodes x).calls l) w.nodes i (opened node c)
       (λ apart. put_other node.calls k (Some c) l (λ same. apart refl same)) (λ x at apart. refl) j other
 
   number_is : later.numbers i k ≡ n
-  number_is = ap (λ (f : ℕ → ℕ). f k) (put_same w.numbers i (put (w.numbers i) k n) i refl) ∙ put_same (w.numbers i) k n k refl
+  number_is = ap (λ (f : ℕ → ℕ). f k) (put_same w.numbers i (put (w.numbers i) k n)) ∙ put_same (w.numbers i) k n
 
   other_numbers : (j l : ℕ) → (j ≡ i → l ≡ k → ⊥) → later.numbers j l ≡ w.numbers j l
-  other_numbers j l other = put_both (λ (x : ℕ) (f : ℕ → ℕ). (x ≡ i → l ≡ k → ⊥) → f l ≡ w.numbers x l) w.numbers i (put (w.numbers i) k n)
+  other_numbers j l other = put_each (λ (x : ℕ) (f : ℕ → ℕ). (x ≡ i → l ≡ k → ⊥) → f l ≡ w.numbers x l) w.numbers i (put (w.numbers i) k n)
       (λ apart. put_other (w.numbers i) k n l (λ same. apart refl same)) (λ x at apart. refl) j other
 
   operation_is : later.operations n ≡ Some o
-  operation_is = put_same w.operations n (Some o) n refl
+  operation_is = put_same w.operations n (Some o)
 
   other_operations : (m : ℕ) → m ≢ n → later.operations m ≡ w.operations m
   other_operations m other = put_other w.operations n (Some o) m other
 
   seqs : (j : ℕ) → (w.nodes j).seq ≤ (later.nodes j).seq
-  seqs j = put_both (λ (x : ℕ) (y : Node). (w.nodes x).seq ≤ y.seq) w.nodes i (opened node c) (omega arith) (λ x at. omega arith) j
+  seqs j = put_each (λ (x : ℕ) (y : Node). (w.nodes x).seq ≤ y.seq) w.nodes i (opened node c) (omega arith) (λ x at. omega arith) j
 
   knows : (j : ℕ) → (w.nodes j).known ≤ (later.nodes j).known
-  knows j = put_both (λ (x : ℕ) (y : Node). (w.nodes x).known ≤ y.known) w.nodes i (opened node c) (omega arith) (λ x at. omega arith) j
+  knows j = put_each (λ (x : ℕ) (y : Node). (w.nodes x).known ≤ y.known) w.nodes i (opened node c) (omega arith) (λ x at. omega arith) j
 
   own_seq : (later.nodes i).seq ≡ k
-  own_seq = ap (λ (x : Node). x.seq) (put_same w.nodes i (opened node c) i refl)
+  own_seq = ap (λ (x : Node). x.seq) (put_same w.nodes i (opened node c))
 
   own_known : (later.nodes i).known ≡ c.stamp.time
-  own_known = ap (λ (x : Node). x.known) (put_same w.nodes i (opened node c) i refl)
+  own_known = ap (λ (x : Node). x.known) (put_same w.nodes i (opened node c))
 
   -- the new operation's books
   own_books : OperationBooks setting later n o
@@ -164,7 +165,7 @@ module _ (setting : Setting) (w : World) (brick : BrickId) (ask : Ask) (group : 
         well_formed = well_formed_begin w.marks (length w.marks) n brick ask books.well_formed places
             (numbers_below w.marks w.begun (λ m life is. (books.lives m life is).1));
         places = places;
-        boots = λ j. put_both (λ (x : ℕ) (y : Node). y.boot ≡ 1) w.nodes i (opened node c) (books.boots i) (λ x at. books.boots x) j;
+        boots = λ j. put_each (λ (x : ℕ) (y : Node). y.boot ≡ 1) w.nodes i (opened node c) (books.boots i) (λ x at. books.boots x) j;
         all_begun = λ m low high. ⊎_elim
             (λ (mine : m ≡ n). (o, subst (λ (x : ℕ). IsOperation later x o) (sym mine) operation_is))
             (λ (other : m ≢ n).

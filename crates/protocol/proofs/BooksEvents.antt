@@ -27,12 +27,13 @@ use Rattle.protocol.proofs.BooksTurns.{books_turned}
 use Rattle.protocol.proofs.BooksEnds.{books_ended}
 use Rattle.protocol.proofs.BooksBegins.{books_began}
 use Rattle.protocol.proofs.Outcomes.{EndFits, NextFits, on_reply_fits}
-use Rattle.protocol.proofs.Puts.{put_same, put_other, put_both}
+use Rattle.protocol.proofs.Puts.{put_other}
+use Rattle.protocol.proofs.Tables.{put_each, put_same}
 
 -- a brick that keeps its numbers, among those that stay
 keeps_put : (w : World) (i : ℕ) (node : Node) → KeepsNumbers (w.nodes i) node → (j : ℕ) → KeepsNumbers (w.nodes j) (put w.nodes i node j)
 keeps_put w i node keeps j =
-    put_both (λ (x : ℕ) (y : Node). KeepsNumbers (w.nodes x) y) w.nodes i node keeps
+    put_each (λ (x : ℕ) (y : Node). KeepsNumbers (w.nodes x) y) w.nodes i node keeps
     (λ x other. record { boot = refl; seq = refl; known = omega arith }) j
 
 -- a step that tells nothing and keeps a brick's calls and numbers keeps the books
@@ -41,7 +42,7 @@ books_nothing : (setting : Setting) (w : World) (brick : BrickId) (node : Node) 
     → Books setting (world_stepped w brick (record { node = node; packets = packets; told = Nothing }) Nothing)
 books_nothing setting w brick node packets books keeps calls =
     books_quiet setting w (put w.nodes brick.0 node) (w.packets ++ packets) books (keeps_put w brick.0 node keeps)
-    (λ j l. put_both (λ (x : ℕ) (y : Node). y.calls l ≡ (w.nodes x).calls l) w.nodes brick.0 node (calls l) (λ x other. refl) j)
+    (λ j l. put_each (λ (x : ℕ) (y : Node). y.calls l ≡ (w.nodes x).calls l) w.nodes brick.0 node (calls l) (λ x other. refl) j)
 
 -- a brick that changes nothing
 books_no_step : (setting : Setting) (w : World) (brick : BrickId) → Books setting w
@@ -120,12 +121,12 @@ module _ (setting : Setting) (group : Group) (w : World) (me : BrickId) (c : Coo
   -- brick i with this call changed
   call_put : (busy : ℕ) (d : Option Coordinator) → (put w.nodes i (with_call node known busy k d) i).calls k ≡ d
   call_put busy d =
-      ap (λ (x : Node). x.calls k) (put_same w.nodes i (with_call node known busy k d) i refl) ∙ put_same node.calls k d k refl
+      ap (λ (x : Node). x.calls k) (put_same w.nodes i (with_call node known busy k d)) ∙ put_same node.calls k d
 
   other_put : (busy : ℕ) (d : Option Coordinator) (j l : ℕ) → (j ≡ i → l ≡ k → ⊥)
       → (put w.nodes i (with_call node known busy k d) j).calls l ≡ (w.nodes j).calls l
   other_put busy d j l other =
-      put_both (λ (x : ℕ) (y : Node). (x ≡ i → l ≡ k → ⊥) → y.calls l ≡ (w.nodes x).calls l) w.nodes i (with_call node known busy k d)
+      put_each (λ (x : ℕ) (y : Node). (x ≡ i → l ≡ k → ⊥) → y.calls l ≡ (w.nodes x).calls l) w.nodes i (with_call node known busy k d)
       (λ apart. put_other node.calls k d l (λ same. apart refl same)) (λ x at apart. refl) j other
 
   keeps_call : (busy : ℕ) (d : Option Coordinator) (j : ℕ) → KeepsNumbers (w.nodes j) (put w.nodes i (with_call node known busy k d) j)
@@ -173,7 +174,7 @@ module _ (setting : Setting) (group : Group) (w : World) (me : BrickId) (c : Coo
         keeps = keeps_call node.busy (Some d);
         call_is = call_put node.busy (Some d);
         other_calls = other_put node.busy (Some d);
-        operation_is = put_same w.operations n (with_made d.stamp (w.operations n)) n refl
+        operation_is = put_same w.operations n (with_made d.stamp (w.operations n))
             ∙ ap (λ (x : Option Operation). with_made d.stamp x) mine.operation_is;
         other_operations = λ m other. put_other w.operations n (with_made d.stamp (w.operations n)) m other;
       })
@@ -203,7 +204,7 @@ module _ (setting : Setting) (group : Group) (w : World) (me : BrickId) (c : Coo
         keeps = keeps_call (node.busy - 1) None;
         call_is = call_put (node.busy - 1) None;
         other_calls = other_put (node.busy - 1) None;
-        operation_is = put_same w.operations n (with_answer answer seen (w.operations n)) n refl
+        operation_is = put_same w.operations n (with_answer answer seen (w.operations n))
             ∙ ap (λ (x : Option Operation). with_answer answer seen x) mine.operation_is;
         other_operations = λ m other. put_other w.operations n (with_answer answer seen (w.operations n)) m other;
       })

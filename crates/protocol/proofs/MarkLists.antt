@@ -4,7 +4,7 @@ use Rattle.std.specs.Prelude.{slice_get}
 use Rattle.std.specs.List.{All}
 use Rattle.std.specs.List.Sorted.{IsStrictlyIncreasing}
 use Rattle.std.proofs.lemmas.List.{get_or_append_left, get_or_push, get_or-map, get_or_default, length-map, take-append-le, take_at, length_push}
-use Rattle.std.proofs.lemmas.Option.{slice_get-get_or, slice_get_within, same_Some, none-some}
+use Rattle.std.proofs.lemmas.Option.{slice_get-get_or, slice_get_within, same_Some}
 use Rattle.std.proofs.lemmas.Bool.{cases_eq, eq-eqb}
 use Rattle.fab_base.specs.declared.identities.BrickId.{BrickId}
 use Rattle.fab_base.specs.declared.asks.Ask.{Ask}
@@ -27,17 +27,6 @@ slice_get_push (z ∷ xs) x y (suc k) h = ⊎_elim
     (λ (old : slice_get xs k ≡ Some y). inl old)
     (λ (new : (k ≡ length xs) × (x ≡ y)). inr (ap suc new.0, new.1))
     (slice_get_push xs x y k h)
-
--- an old element stays at its place
-pub slice_get_old : {A : Type 0} (xs more : List A) (y : A) (k : ℕ) → slice_get xs k ≡ Some y → slice_get (xs ++ more) k ≡ Some y
-slice_get_old [] more y k h = absurd (none-some y h)
-slice_get_old (z ∷ xs) more y zero h = h
-slice_get_old (z ∷ xs) more y (suc k) h = slice_get_old xs more y k h
-
--- the new element is at the end
-pub slice_get_new : {A : Type 0} (xs : List A) (x : A) → slice_get (xs ++ (x ∷ [])) (length xs) ≡ Some x
-slice_get_new [] x = refl
-slice_get_new (z ∷ xs) x = slice_get_new xs x
 
 -- one more mark, of the next position
 pub Places-push : (marks : List Mark) (mark : Mark) → Places marks → position_of mark ≡ length marks → Places (marks ++ (mark ∷ []))
