@@ -7,6 +7,7 @@ pub mod BooksQuiet
 pub mod BooksTurns
 pub mod Counting
 pub mod Decisions
+pub mod Ends
 pub mod Entries
 pub mod EveryRun
 pub mod Growth
@@ -14,15 +15,19 @@ pub mod Lives
 pub mod MarkLists
 pub mod NeverLowers
 pub mod OnwardLives
+pub mod Operated
 pub mod Outcomes
+pub mod OwnStamps
 pub mod Puts
 pub mod QuorumFacts
 pub mod Reactions
+pub mod Replies
 pub mod Requests
 pub mod RisingMarks
 pub mod Said
 pub mod Sorting
 pub mod Steps
+pub mod Stores
 pub mod StripeLives
 pub mod Tables
 pub mod Walks
