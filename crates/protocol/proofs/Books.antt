@@ -72,3 +72,4 @@ pub record Books (setting : Setting) (w : World) : Type 0 where
   pub operations : (n : ℕ) (o : Operation) → IsOperation w n o → OperationBooks setting w n o
   pub calls : (i k : ℕ) (c : Coordinator) → IsCall w i k c → CallBooks setting w i k c
   pub fresh_calls : (i k : ℕ) → (w.nodes i).seq < k → (w.nodes i).calls k ≡ None
+  pub lives : (n : ℕ) (life : Life) → life_of w.marks n ≡ Some life → (1 ≤ n) × (n ≤ w.begun)

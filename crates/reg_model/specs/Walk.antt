@@ -2,7 +2,8 @@
 -- begin so far. What must be known of the versions so that these happenings are strict: a record of facts, which speaks of
 -- stamps and contents and of no message.
 use Rattle.std.specs.Prelude.{◌≡◌, ℕ, ◌≤◌, ◌<◌, max, eqb, nat_lt, Bool, true, false, ◌&&◌, ◌||◌, ◌⊎◌, List, [], ◌∷◌, length, slice_index_or, Option, Some, None, map, All, Any, Contains}
-use Rattle.std.specs.List.{IsDistinct, AllAdjacentBelow}
+use Rattle.std.specs.List.{IsDistinct}
+use Rattle.std.specs.List.Sorted.{IsSortedBy}
 use Rattle.fab_base.specs.declared.asks.Op.{Op}
 use Rattle.fab_base.specs.declared.asks.Op.TheVariants.{ReadBlock, WriteBlock, ReadStripe, WriteStripe}
 use Rattle.fab_base.specs.declared.stamps.Stamp.{Stamp}
@@ -25,10 +26,6 @@ turn_below true k true n = nat_lt k n
 unfoldable pub entry_below : Entry → Entry → Bool
 entry_below a b =
     stamp_below a.stamp b.stamp || (stamp_same a.stamp b.stamp && turn_below a.reader a.operation b.reader b.operation)
-
--- each entry is before the next
-abbrev pub IsAscending : List Entry → Type 0
-IsAscending entries = AllAdjacentBelow (λ a b. entry_below a b ≡ true) entries (length entries)
 
 -- where an operation begins
 abbrev pub begin_of : Option Life → ℕ
@@ -77,7 +74,7 @@ IsMade entries stamp = Any (λ e. (e.reader ≡ false) × (e.stamp ≡ stamp)) e
 -- or reads its version's content. What is read was made, or is the zero version. Every answered operation stands there. In real time,
 -- no operation that began after the end of another stands before it.
 pub record WalkFacts (m block : ℕ) (marks : List Mark) (content : Stamp → List ℕ) (entries : List Entry) : Type 0 where
-  pub ascending : IsAscending entries
+  pub ascending : IsSortedBy entry_below entries
   pub once : IsDistinct eqb (map (λ e. e.operation) entries)
   pub turns : All (λ e. HasTurn block (content e.stamp) e.reader (life_of marks e.operation)) entries
   pub read_is_made : All (λ e. e.reader ≡ true → (e.stamp ≡ first_stamp) ⊎ IsMade entries e.stamp) entries

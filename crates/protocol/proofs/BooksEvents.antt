@@ -1,0 +1,314 @@
+-- Every event keeps the books.
+use Rattle.std.proofs.Common.{◌≡◌, ℕ, ◌-◌, ◌<◌, ◌≤◌, ◌⊎◌, inl, inr, Bool, true, false, not, ◌&&◌, cond, is_some, Option, Some, None, refl, sym, ap, ◌∙◌, subst, arith, List, [], ◌∷◌, ◌++◌}
+use Rattle.std.specs.Prelude.{nat_lt}
+use Rattle.std.proofs.lemmas.Bool.{cond_both, and_parts, not-true, not-false, ltb-true, both_ways}
+use Rattle.fab_base.specs.declared.identities.BrickId.{BrickId}
+use Rattle.fab_base.specs.declared.asks.Ask.{Ask}
+use Rattle.fab_base.specs.declared.stamps.Stamp.{Stamp}
+use Rattle.fab_base.specs.declared.answers.Answer.{Answer}
+use Rattle.fab_base.specs.declared.answers.Refusal.{Refusal}
+use Rattle.fab_base.specs.declared.answers.Refusal.TheVariants as Refusal
+use Rattle.fab_wire.specs.declared.calls.Call.{Call}
+use Rattle.fab_wire.specs.declared.messages.Message.{Message}
+use Rattle.fab_wire.specs.declared.messages.Message.TheVariants as Message
+use Rattle.fab_wire.specs.declared.messages.Packet.{Packet}
+use Rattle.fab_wire.specs.declared.requests.Request.{Request}
+use Rattle.fab_wire.specs.declared.replies.Reply.{Reply}
+use Rattle.fab_wire.specs.declared.replies.Reply.TheVariants as Reply
+use Rattle.protocol.specs.Settings.{Setting, Group, group_of, seat_in}
+use Rattle.protocol.specs.Replicas.{handle}
+use Rattle.protocol.specs.Coordinators.{Phase, Looks, Orders, Stores, Stalls, Coordinator, Next, Ignores, Waits, Sends, Ends, on_reply}
+use Rattle.protocol.specs.Nodes.{Node, NodeStep, Nothing, put, no_step, is_stripe_op, has_block, has_length, refusal_in, refusal_of, began, invoked, with_replica, replica_at, reply_packets, requested_at, requested_in, requested, known_after, with_call, with_known, carried_out, phase_packets, collect_packets, replied_to, replied_at, replied, received}
+use Rattle.protocol.specs.Worlds.{World, Operation, Event, Invokes, Delivers, is_answer, version_after, first_world, is_brick, may_begin, world_began, world_stepped, with_made, with_answer, with_content, delivered, packet_of, happens, run}
+use Rattle.protocol.proofs.Books.{Books, CallBooks, IsCall, MadeInPhase}
+use Rattle.protocol.proofs.BooksKept.{KeepsNumbers}
+use Rattle.protocol.proofs.BooksQuiet.{books_quiet}
+use Rattle.protocol.proofs.BooksTurns.{books_turned}
+use Rattle.protocol.proofs.BooksEnds.{books_ended}
+use Rattle.protocol.proofs.BooksBegins.{books_began}
+use Rattle.protocol.proofs.Outcomes.{EndFits, NextFits, on_reply_fits}
+use Rattle.protocol.proofs.Puts.{put_other}
+use Rattle.protocol.proofs.Tables.{put_each, put_same}
+
+-- a brick that keeps its numbers, among those that stay
+keeps_put : (w : World) (i : ℕ) (node : Node) → KeepsNumbers (w.nodes i) node → (j : ℕ) → KeepsNumbers (w.nodes j) (put w.nodes i node j)
+keeps_put w i node keeps j =
+    put_each (λ (x : ℕ) (y : Node). KeepsNumbers (w.nodes x) y) w.nodes i node keeps
+    (λ x other. record { boot = refl; seq = refl; known = omega arith }) j
+
+-- a step that tells nothing and keeps a brick's calls and numbers keeps the books
+books_nothing : (setting : Setting) (w : World) (brick : BrickId) (node : Node) (packets : List Packet) → Books setting w
+    → KeepsNumbers (w.nodes brick.0) node → ((l : ℕ) → node.calls l ≡ (w.nodes brick.0).calls l)
+    → Books setting (world_stepped w brick (record { node = node; packets = packets; told = Nothing }) Nothing)
+books_nothing setting w brick node packets books keeps calls =
+    books_quiet setting w (put w.nodes brick.0 node) (w.packets ++ packets) books (keeps_put w brick.0 node keeps)
+    (λ j l. put_each (λ (x : ℕ) (y : Node). y.calls l ≡ (w.nodes x).calls l) w.nodes brick.0 node (calls l) (λ x other. refl) j)
+
+-- a brick that changes nothing
+books_no_step : (setting : Setting) (w : World) (brick : BrickId) → Books setting w
+    → Books setting (world_stepped w brick (no_step (w.nodes brick.0)) Nothing)
+books_no_step setting w brick books =
+    books_nothing setting w brick (w.nodes brick.0) [] books (record { boot = refl; seq = refl; known = omega arith }) (λ l. refl)
+
+-- a brick that learns of a time
+books_known : (setting : Setting) (w : World) (brick : BrickId) (known : ℕ) → Books setting w → (w.nodes brick.0).known ≤ known
+    → Books setting (world_stepped w brick (no_step (with_known (w.nodes brick.0) known)) Nothing)
+books_known setting w brick known books grows =
+    books_nothing setting w brick (with_known (w.nodes brick.0) known) [] books (record { boot = refl; seq = refl; known = grows }) (λ l. refl)
+
+-- the world after a brick's step
+abbrev stepped : World → BrickId → NodeStep → World
+stepped w brick step = world_stepped w brick step step.told
+
+-- a request
+books_requested_at : (setting : Setting) (w : World) (me from : BrickId) (call : Call) (request : Request) (seat : Option ℕ) → Books setting w
+    → Books setting (stepped w me (requested_at me from (w.nodes me.0) call request seat))
+books_requested_at setting w me from call request None books = books_no_step setting w me books
+books_requested_at setting w me from call request (Some seat) books =
+    let reaction = handle seat (replica_at (w.nodes me.0) call) request in
+    books_nothing setting w me (with_replica (w.nodes me.0) call reaction.replica) (reply_packets me from call reaction.reply) books
+    (record { boot = refl; seq = refl; known = omega arith }) (λ l. refl)
+
+books_requested_in : (setting : Setting) (w : World) (me from : BrickId) (call : Call) (request : Request) (group : Option Group) → Books setting w
+    → Books setting (stepped w me (requested_in me from (w.nodes me.0) call request group))
+books_requested_in setting w me from call request None books = books_no_step setting w me books
+books_requested_in setting w me from call request (Some group) books =
+    books_requested_at setting w me from call request (seat_in group.members me.0) books
+
+books_requested : (setting : Setting) (w : World) (me from : BrickId) (call : Call) (request : Request) → Books setting w
+    → Books setting (stepped w me (requested setting me from (w.nodes me.0) call request))
+unfolding requested
+books_requested setting w me from call request books =
+    books_requested_in setting w me from call request (group_of setting.layout call.group.0) books
+
+-- what an operation made is of its stamp, whatever else its coordinator holds
+made_same : (c d : Coordinator) (o : Operation) (p q : Phase) → d.stamp ≡ c.stamp → q ≡ p → MadeInPhase c o p → MadeInPhase d o q
+made_same c d o Looks q stamp phase made = subst (λ (x : Phase). MadeInPhase d o x) (sym phase) made
+made_same c d o Orders q stamp phase made = subst (λ (x : Phase). MadeInPhase d o x) (sym phase) made
+made_same c d o Stores q stamp phase made =
+    subst (λ (x : Phase). MadeInPhase d o x) (sym phase) (made.0 ∙ ap (λ (t : Stamp). Some t) (sym stamp), made.1)
+made_same c d o Stalls q stamp phase made = subst (λ (x : Phase). MadeInPhase d o x) (sym phase) made
+
+made_waits : (c d : Coordinator) (o : Operation) (p : Phase) → d.stamp ≡ c.stamp → MadeInPhase c o p
+    → (d.phase ≡ p) ⊎ ((p ≡ Looks) × (d.phase ≡ Stalls)) → MadeInPhase d o d.phase
+made_waits c d o p stamp made (inl same) = made_same c d o p d.phase stamp same made
+made_waits c d o p stamp made (inr (looks, stalls)) =
+    subst (λ (x : Phase). MadeInPhase d o x) (sym stalls) (subst (λ (x : Phase). MadeInPhase c o x) looks made)
+
+-- an operation that is answered has a version
+ends_version : (c : Coordinator) (o : Operation) (p : Phase) (answer : Answer) (seen : Option Stamp) → MadeInPhase c o p → EndFits p answer seen
+    → is_answer answer ≡ true → (v : Stamp) × (version_after o.version seen ≡ Some v)
+ends_version c o Looks answer seen made fits is = (fits.0, ap (λ (x : Option Stamp). version_after o.version x) fits.1)
+ends_version c o Orders answer seen made fits is = absurd (both_ways (is_answer answer) fits is)
+ends_version c o Stores answer None made fits is = (c.stamp, made.0)
+ends_version c o Stores answer (Some v) made fits is = (v, refl)
+ends_version c o Stalls answer seen made fits is = absurd fits
+
+module _ (setting : Setting) (group : Group) (w : World) (me : BrickId) (c : Coordinator) (known : ℕ) (books : Books setting w)
+    (is_call : IsCall w me.0 c.call.seq c) (grows : (w.nodes me.0).known ≤ known) where
+  abbrev i : ℕ
+  i = me.0
+
+  abbrev k : ℕ
+  k = c.call.seq
+
+  abbrev node : Node
+  node = w.nodes i
+
+  mine : CallBooks setting w i k c
+  mine = books.calls i k c is_call
+
+  -- brick i with this call changed
+  call_put : (busy : ℕ) (d : Option Coordinator) → (put w.nodes i (with_call node known busy k d) i).calls k ≡ d
+  call_put busy d =
+      ap (λ (x : Node). x.calls k) (put_same w.nodes i (with_call node known busy k d)) ∙ put_same node.calls k d
+
+  other_put : (busy : ℕ) (d : Option Coordinator) (j l : ℕ) → (j ≡ i → l ≡ k → ⊥)
+      → (put w.nodes i (with_call node known busy k d) j).calls l ≡ (w.nodes j).calls l
+  other_put busy d j l other =
+      put_each (λ (x : ℕ) (y : Node). (x ≡ i → l ≡ k → ⊥) → y.calls l ≡ (w.nodes x).calls l) w.nodes i (with_call node known busy k d)
+      (λ apart. put_other node.calls k d l (λ same. apart refl same)) (λ x at apart. refl) j other
+
+  keeps_call : (busy : ℕ) (d : Option Coordinator) (j : ℕ) → KeepsNumbers (w.nodes j) (put w.nodes i (with_call node known busy k d) j)
+  keeps_call busy d = keeps_put w i (with_call node known busy k d) (record { boot = refl; seq = refl; known = grows })
+
+  -- what a brick does with what its coordinator decided
+  books_carried_out : (next : Next) → NextFits c next → Books setting (stepped w me (carried_out setting group me node known c next))
+  books_carried_out Ignores fits = books_known setting w me known books grows
+  books_carried_out (Waits d) fits =
+      books_turned setting w i k c d mine.operation mine.operation (put w.nodes i (with_call node known node.busy k (Some d))) (w.packets ++ [])
+      w.operations w.contents books
+      (record {
+        was = is_call;
+        operation_was = mine.operation_is;
+        same = fits.0;
+        same_ask = record { brick = refl; seq = refl; begin = refl; ask = refl; answered = refl };
+        made = made_waits c d mine.operation c.phase fits.0.stamp mine.made fits.1;
+        keeps = keeps_call node.busy (Some d);
+        call_is = call_put node.busy (Some d);
+        other_calls = other_put node.busy (Some d);
+        operation_is = mine.operation_is;
+        other_operations = λ m other. refl;
+      })
+  books_carried_out (Sends d) fits =
+      let o : Operation = record {
+        brick = mine.operation.brick;
+        seq = mine.operation.seq;
+        begin = mine.operation.begin;
+        ask = mine.operation.ask;
+        version = Some d.stamp;
+        made = true;
+        answered = mine.operation.answered;
+        floor = mine.operation.floor;
+      } in
+      let n : ℕ = w.numbers i k in
+      books_turned setting w i k c d mine.operation o (put w.nodes i (with_call node known node.busy k (Some d)))
+      (w.packets ++ phase_packets setting group me d) (put w.operations n (with_made d.stamp (w.operations n)))
+      (with_content w.contents d.stamp (w.operations n)) books
+      (record {
+        was = is_call;
+        operation_was = mine.operation_is;
+        same = fits.0;
+        same_ask = record { brick = refl; seq = refl; begin = refl; ask = refl; answered = refl };
+        made = subst (λ (x : Phase). MadeInPhase d o x) (sym fits.2) (refl, refl);
+        keeps = keeps_call node.busy (Some d);
+        call_is = call_put node.busy (Some d);
+        other_calls = other_put node.busy (Some d);
+        operation_is = put_same w.operations n (with_made d.stamp (w.operations n))
+            ∙ ap (λ (x : Option Operation). with_made d.stamp x) mine.operation_is;
+        other_operations = λ m other. put_other w.operations n (with_made d.stamp (w.operations n)) m other;
+      })
+  books_carried_out (Ends answer seen stored) fits =
+      let o : Operation = record {
+        brick = mine.operation.brick;
+        seq = mine.operation.seq;
+        begin = mine.operation.begin;
+        ask = mine.operation.ask;
+        version = version_after mine.operation.version seen;
+        made = mine.operation.made;
+        answered = is_answer answer;
+        floor = mine.operation.floor;
+      } in
+      let n : ℕ = w.numbers i k in
+      books_ended setting w i k c mine.operation o answer (put w.nodes i (with_call node known (node.busy - 1) k None))
+      (w.packets ++ collect_packets group me c.call stored) (put w.operations n (with_answer answer seen (w.operations n))) books
+      (record {
+        was = is_call;
+        operation_was = mine.operation_is;
+        brick = refl;
+        seq = refl;
+        begin = refl;
+        ask = refl;
+        answered = refl;
+        answered_version = λ is. ends_version c mine.operation c.phase answer seen mine.made fits is;
+        keeps = keeps_call (node.busy - 1) None;
+        call_is = call_put (node.busy - 1) None;
+        other_calls = other_put (node.busy - 1) None;
+        operation_is = put_same w.operations n (with_answer answer seen (w.operations n))
+            ∙ ap (λ (x : Option Operation). with_answer answer seen x) mine.operation_is;
+        other_operations = λ m other. put_other w.operations n (with_answer answer seen (w.operations n)) m other;
+      })
+
+-- what a reply makes known is no less
+known_grows : (known : ℕ) (reply : Reply) → known ≤ known_after known reply
+known_grows known (Reply.Later t) = omega arith
+known_grows known reply = omega arith
+
+-- a reply
+books_replied_to : (setting : Setting) (w : World) (me from : BrickId) (call : Call) (reply : Reply) (c : Coordinator) (group : Option Group)
+    → Books setting w → IsCall w me.0 c.call.seq c → Books setting (stepped w me (replied_to setting me from (w.nodes me.0) call reply c group))
+books_replied_to setting w me from call reply c None books is_call = books_no_step setting w me books
+books_replied_to setting w me from call reply c (Some group) books is_call =
+    books_carried_out setting group w me c (known_after (w.nodes me.0).known reply) books is_call (known_grows (w.nodes me.0).known reply)
+    (on_reply setting.layout.block setting.code group c from call reply) (on_reply_fits setting.layout.block setting.code group c from call reply)
+
+books_replied_at : (setting : Setting) (w : World) (me from : BrickId) (call : Call) (reply : Reply) (found : Option Coordinator)
+    → Books setting w → (w.nodes me.0).calls call.seq ≡ found → Books setting (stepped w me (replied_at setting me from (w.nodes me.0) call reply found))
+books_replied_at setting w me from call reply None books is =
+    books_known setting w me (known_after (w.nodes me.0).known reply) books (known_grows (w.nodes me.0).known reply)
+books_replied_at setting w me from call reply (Some c) books is =
+    let seq : c.call.seq ≡ call.seq = (books.calls me.0 call.seq c is).call_seq in
+    books_replied_to setting w me from call reply c (group_of setting.layout c.ask.group.0) books
+    (subst (λ (l : ℕ). IsCall w me.0 l c) (sym seq) is)
+
+books_replied : (setting : Setting) (w : World) (me from : BrickId) (call : Call) (reply : Reply) → Books setting w
+    → Books setting (stepped w me (replied setting me from (w.nodes me.0) call reply))
+unfolding replied
+books_replied setting w me from call reply books =
+    books_replied_at setting w me from call reply ((w.nodes me.0).calls call.seq) books refl
+
+-- a message
+books_received : (setting : Setting) (w : World) (me from to : BrickId) (message : Message) → Books setting w
+    → Books setting (stepped w me (received setting me (w.nodes me.0) (record { from = from; to = to; message = message })))
+unfolding received
+books_received setting w me from to (Message.Request call request) books = books_requested setting w me from call request books
+books_received setting w me from to (Message.Reply call reply) books = books_replied setting w me from call reply books
+books_received setting w me from to message books = books_no_step setting w me books
+
+books_delivered : (setting : Setting) (w : World) (packet : Option Packet) → Books setting w → Books setting (delivered setting w packet)
+books_delivered setting w None books = books
+books_delivered setting w (Some packet) books =
+    cond_both (is_brick setting.layout packet.to) _ _ (λ (x : World). Books setting x)
+    (λ member. books_received setting w packet.to packet.from packet.to packet.message books) (λ stranger. books)
+
+-- where no reason to refuse is found, the group is there, and the ask fits it
+cond_none : (b : Bool) (r : Refusal) (rest : Option Refusal) → cond b (Some r) rest ≡ None → (b ≡ false) × (rest ≡ None)
+cond_none true r rest h = absurd (let never : Some r ≡ None = h in cc)
+cond_none false r rest h = (refl, h)
+
+not_refused : (block : ℕ) (node : Node) (ask : Ask) (found : Option Group) → refusal_in block node ask found ≡ None
+    → (group : Group) × (found ≡ Some group) × (ask.stripe.0 < group.stripes) × (has_length group.m block ask.op ≡ true)
+not_refused block node ask None h = absurd (let never : Some Refusal.NoStripe ≡ None = h in cc)
+not_refused block node ask (Some group) h =
+    let first = cond_none (not (nat_lt ask.stripe.0 group.stripes)) Refusal.NoStripe _ h in
+    let second = cond_none (not (has_block group.m ask.op)) Refusal.NoBlock _ first.1 in
+    let third = cond_none (not (has_length group.m block ask.op)) Refusal.Length _ second.1 in
+    (group, refl, ltb-true ask.stripe.0 group.stripes (not-false _ first.0), not-false _ third.0)
+
+no_value : (r : Option Refusal) → is_some r ≡ false → r ≡ None
+no_value None h = refl
+no_value (Some r) h = absurd (let never : true ≡ false = h in cc)
+
+-- an invocation
+books_invoked : (setting : Setting) (w : World) (brick : BrickId) (ask : Ask) → Books setting w → may_begin setting w brick ask ≡ true
+    → Books setting (world_began w brick ask (invoked setting brick 0 (w.nodes brick.0) ask))
+unfolding invoked refusal_of
+books_invoked setting w brick ask books may =
+    let both = and_parts (is_brick setting.layout brick) (is_stripe_op ask.op && not (is_some (refusal_of setting.layout (w.nodes brick.0) ask))) may in
+    let rest = and_parts (is_stripe_op ask.op) (not (is_some (refusal_of setting.layout (w.nodes brick.0) ask))) both.1 in
+    let none : refusal_of setting.layout (w.nodes brick.0) ask ≡ None = no_value (refusal_of setting.layout (w.nodes brick.0) ask) (not-true _ rest.1) in
+    let fits = not_refused setting.layout.block (w.nodes brick.0) ask (group_of setting.layout ask.group.0) none in
+    subst (λ (found : Option Group). Books setting (world_began w brick ask (began setting brick 0 (w.nodes brick.0) ask found))) (sym fits.1)
+    (books_began setting w brick ask fits.0 books rest.0 fits.1 fits.2 fits.3)
+
+-- every event keeps the books
+pub books_kept : (setting : Setting) (w : World) (event : Event) → Books setting w → Books setting (happens setting w event)
+unfolding happens
+books_kept setting w (Invokes brick ask) books =
+    cond_both (may_begin setting w brick ask) _ _ (λ (x : World). Books setting x) (λ may. books_invoked setting w brick ask books may) (λ refused. books)
+books_kept setting w (Delivers number) books = books_delivered setting w (packet_of w.packets number) books
+
+-- at first nothing is booked
+books_first : (setting : Setting) → Books setting (first_world setting.layout)
+books_first setting = record {
+  well_formed = record {
+    positions_rise = λ k lt. absurd (omega arith);
+    numbers_rise = λ k lt. absurd (omega arith);
+    ends_are_of_open = λ i p n answer is. absurd (let never : None ≡ Some _ = is in cc);
+  };
+  places = λ k mark is. absurd (let never : None ≡ Some mark = is in cc);
+  boots = λ i. refl;
+  all_begun = λ n low high. absurd (omega arith);
+  operations = λ n o is. absurd (let never : None ≡ Some o = is in cc);
+  calls = λ i k c is. absurd (let never : None ≡ Some c = is in cc);
+  fresh_calls = λ i k lt. refl;
+  lives = λ n life is. absurd (let never : None ≡ Some life = is in cc);
+}
+
+books_run : (setting : Setting) (events : List Event) (w : World) → Books setting w → Books setting (run setting events w)
+books_run setting [] w books = books
+books_run setting (event ∷ events) w books = books_run setting events (happens setting w event) (books_kept setting w event books)
+
+-- the books hold in every world that a run reaches
+pub books : (setting : Setting) (events : List Event) → Books setting (run setting events (first_world setting.layout))
+books setting events = books_run setting events (first_world setting.layout) (books_first setting)

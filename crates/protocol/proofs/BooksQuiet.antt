@@ -1,0 +1,38 @@
+-- The books of a world where a brick changed its part of a stripe, or learnt of a time.
+use Rattle.std.proofs.Common.{◌≡◌, ℕ, refl, sym, ◌∙◌, arith, List}
+use Rattle.fab_wire.specs.declared.messages.Packet.{Packet}
+use Rattle.reg_model.specs.Marks.{life_of}
+use Rattle.protocol.specs.Settings.{Setting}
+use Rattle.protocol.specs.Nodes.{Node}
+use Rattle.protocol.specs.Worlds.{World}
+use Rattle.protocol.proofs.Books.{Books, OperationBooks}
+use Rattle.protocol.proofs.BooksKept.{KeepsNumbers, operation_kept, call_kept}
+use Rattle.protocol.proofs.OnwardLives.{Stays-refl}
+
+-- the world with other bricks and more packets
+abbrev pub quiet_world : World → (ℕ → Node) → List Packet → World
+quiet_world w nodes packets =
+    record { nodes = nodes; packets = packets; marks = w.marks; begun = w.begun; operations = w.operations; numbers = w.numbers; contents = w.contents }
+
+-- bricks that keep their calls and numbers keep the books
+pub books_quiet : (setting : Setting) (w : World) (nodes : ℕ → Node) (packets : List Packet) → Books setting w
+    → ((i : ℕ) → KeepsNumbers (w.nodes i) (nodes i)) → ((i k : ℕ) → (nodes i).calls k ≡ (w.nodes i).calls k)
+    → Books setting (quiet_world w nodes packets)
+books_quiet setting w nodes packets books keeps calls =
+    let later : World = quiet_world w nodes packets in
+    record {
+      well_formed = books.well_formed;
+      places = books.places;
+      boots = λ i. (keeps i).boot ∙ books.boots i;
+      all_begun = books.all_begun;
+      operations = λ n o is. (let mine : OperationBooks setting w n o = books.operations n o is in
+          let seqs : (nodes o.brick.0).seq ≡ (w.nodes o.brick.0).seq = (keeps o.brick.0).seq in
+          operation_kept setting w later n o mine (omega arith) refl (omega arith) (Stays-refl (life_of w.marks n))
+          (λ c call. (c, calls o.brick.0 o.seq ∙ call)));
+      calls = λ i k c is. call_kept setting w later i k c (books.calls i k c (sym (calls i k) ∙ is)) refl refl (keeps i).known
+          (Stays-refl (life_of w.marks (w.numbers i k)))
+          (λ o at. ((books.operations (w.numbers i k) o at).life, (books.operations (w.numbers i k) o at).life_is));
+      fresh_calls = λ i k lt. (let seqs : (nodes i).seq ≡ (w.nodes i).seq = (keeps i).seq in
+          calls i k ∙ books.fresh_calls i k (omega arith));
+      lives = books.lives;
+    }

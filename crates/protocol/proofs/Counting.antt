@@ -1,0 +1,229 @@
+-- The replies that count at a coordinator: how many seats they are, and what they tell together.
+use Rattle.std.proofs.Common.{◌≡◌, ℕ, zero, suc, ◌+◌, ◌<◌, ◌≤◌, nat_lt, ◌⊎◌, inl, inr, Bool, true, false, not, cond, ◌||◌, List, [], ◌∷◌, ◌++◌, length, map, Option, Some, None, refl, sym, ap, ◌∙◌, subst, ⊎_elim, arith}
+use Rattle.std.specs.Prelude.{slice_get, nat_eq}
+use Rattle.std.specs.List.{IsDistinct, AllByRecursion}
+use Rattle.std.proofs.lemmas.Bool.{cond_both, cases_eq, eqb-true, eqb-false, eq-eqb, ne_eqb, false≢true, or_cases, or_parts, or_from, and_parts, not-true}
+use Rattle.fab_base.specs.declared.stamps.Stamp.{Stamp}
+use Rattle.fab_base.specs.Stamps.{stamp_below, stamp_same}
+use Rattle.fab_base.proofs.StampOrder.{stamp_same_true}
+use Rattle.fab_wire.specs.declared.requests.Version.{Version}
+use Rattle.fab_wire.specs.declared.replies.Reply.{Reply}
+use Rattle.quorum.specs.Quorums.{count, with_seat}
+use Rattle.quorum.proofs.Counts.{count_same, count_empty, count_monotone, count_with_seat}
+use Rattle.protocol.specs.Settings.{Group, Code, Piece, ArePiecesOf, quorum_of}
+use Rattle.protocol.specs.Coordinators.{Counted, Refuser, has_seat, fast_version, newest_stamp, tells, all_tell, told_by_all, found_bytes, pieces_of, refuser_of, greater_refuser, greatest_refuser}
+use Rattle.protocol.specs.Laws.{AtQuorum}
+use Rattle.protocol.proofs.Said.{EachCounted, AreOnce}
+
+-- what follows of each
+pub each_then : (P Q : Counted → Type 0) (counted : List Counted) → ((x : Counted) → P x → Q x) → EachCounted P counted → EachCounted Q counted
+each_then P Q [] then each = tt
+each_then P Q (x ∷ counted) then each = (then x each.0, each_then P Q counted then each.1)
+
+-- two facts of each
+pub each_both : (P Q : Counted → Type 0) (counted : List Counted) → EachCounted P counted → EachCounted Q counted → EachCounted (λ x. P x × Q x) counted
+each_both P Q [] p q = tt
+each_both P Q (x ∷ counted) p q = ((p.0, q.0), each_both P Q counted p.1 q.1)
+
+-- one more reply
+pub each_more : (P : Counted → Type 0) (counted : List Counted) (x : Counted) → EachCounted P counted → P x → EachCounted P (counted ++ (x ∷ []))
+each_more P [] x each here = (here, tt)
+each_more P (y ∷ counted) x each here = (each.0, each_more P counted x each.1 here)
+
+-- the seats with one more reply
+has_more : (k : ℕ) (counted : List Counted) (x : Counted) → has_seat k counted ≡ false → nat_eq x.seat k ≡ false → has_seat k (counted ++ (x ∷ [])) ≡ false
+has_more k [] x isnt other = or_from (nat_eq x.seat k) false other refl
+has_more k (y ∷ counted) x isnt other =
+    let parts = or_parts (nat_eq y.seat k) (has_seat k counted) isnt in
+    or_from (nat_eq y.seat k) (has_seat k (counted ++ (x ∷ []))) parts.0 (has_more k counted x parts.1 other)
+
+-- a seat with no reply yet counts once
+pub once_more : (counted : List Counted) (x : Counted) → AreOnce counted → has_seat x.seat counted ≡ false → AreOnce (counted ++ (x ∷ []))
+once_more [] x once isnt = (refl, tt)
+once_more (y ∷ counted) x once isnt =
+    let parts = or_parts (nat_eq y.seat x.seat) (has_seat x.seat counted) isnt in
+    let other : nat_eq x.seat y.seat ≡ false = ne_eqb x.seat y.seat (λ e. eqb-false y.seat x.seat parts.0 (sym e)) in
+    (has_more y.seat counted x once.0 other, once_more counted x once.1 parts.1)
+
+-- a seat that counts has its reply
+pub seat_reply : (P : Counted → Type 0) (counted : List Counted) (k : ℕ) → EachCounted P counted → has_seat k counted ≡ true
+    → (x : Counted) × P x × (x.seat ≡ k)
+seat_reply P [] k each has = absurd (false≢true has)
+seat_reply P (x ∷ counted) k each has = ⊎_elim
+    (λ (here : nat_eq x.seat k ≡ true). (x, each.0, eqb-true x.seat k here))
+    (λ (there : has_seat k counted ≡ true). seat_reply P counted k each.1 there)
+    (or_cases (nat_eq x.seat k) (has_seat k counted) has)
+
+-- a seat is the same as another whichever is named first
+same_seat : (a b : ℕ) → nat_eq a b ≡ nat_eq b a
+same_seat a b = ⊎_elim
+    (λ (is : a ≡ b). eq-eqb a b is ∙ sym (eq-eqb b a (sym is)))
+    (λ (isnt : a ≡ b → ⊥). ne_eqb a b isnt ∙ sym (ne_eqb b a (λ e. isnt (sym e))))
+    (cases_eq a b)
+
+-- the seats are as many as the replies
+count_seats : (n : ℕ) (counted : List Counted) → EachCounted (λ x. x.seat < n) counted → AreOnce counted → count n (λ k. has_seat k counted) ≡ length counted
+count_seats n [] within once = count_empty n (λ k. has_seat k []) (λ k below. refl)
+count_seats n (x ∷ counted) within once =
+    let more : count n (λ k. has_seat k (x ∷ counted)) ≡ count n (with_seat x.seat (λ k. has_seat k counted))
+    = count_same n (λ k. has_seat k (x ∷ counted)) (with_seat x.seat (λ k. has_seat k counted)) (λ k below. ap (λ b. b || has_seat k counted) (same_seat x.seat k)) in
+    let one : count n (with_seat x.seat (λ k. has_seat k counted)) ≡ count n (λ k. has_seat k counted) + 1
+    = count_with_seat n x.seat (λ k. has_seat k counted) within.0 once.0 in
+    let rest : count n (λ k. has_seat k counted) ≡ length counted = count_seats n counted within.1 once.1 in
+    omega arith
+
+-- what each of a quorum of replies shows of its seat holds at a quorum
+pub at_quorum : (group : Group) (counted : List Counted) (test : ℕ → Bool)
+    → EachCounted (λ x. (x.seat < length group.members) × (test x.seat ≡ true)) counted → AreOnce counted → quorum_of group ≤ length counted
+    → AtQuorum group test
+at_quorum group counted test each once many =
+    let n : ℕ = length group.members in
+    let P : Counted → Type 0 = λ x. (x.seat < n) × (test x.seat ≡ true) in
+    let seats : count n (λ k. has_seat k counted) ≡ length counted
+    = count_seats n counted (each_then P (λ x. x.seat < n) counted (λ x h. h.0) each) once in
+    let fewer : count n (λ k. has_seat k counted) ≤ count n test
+    = count_monotone n (λ k. has_seat k counted) test (λ k below has.
+    let found : (x : Counted) × P x × (x.seat ≡ k) = seat_reply P counted k each has in
+    subst (λ (j : ℕ). test j ≡ true) found.2 found.1.1) in
+    omega arith
+
+-- a reply that tells version v
+pub record TellsVersion (v : Stamp) (reply : Reply) : Type 0 where
+  pub order : Stamp
+  pub version : Version
+  pub reply_is : reply ≡ Reply.Found order (Some version)
+  pub stamp : version.stamp ≡ v
+  pub not_above : stamp_below v order ≡ false
+
+tells_version : (v : Stamp) (reply : Reply) → tells v reply ≡ true → TellsVersion v reply
+tells_version v (Reply.Found order (Some version)) is =
+    let parts = and_parts (stamp_same version.stamp v) (not (stamp_below v order)) is in
+    record {
+      order = order;
+      version = version;
+      reply_is = refl;
+      stamp = stamp_same_true version.stamp v parts.0;
+      not_above = not-true (stamp_below v order) parts.1;
+    }
+tells_version v reply is = absurd (false≢true is)
+
+all_tell_each : (v : Stamp) (counted : List Counted) → all_tell v counted ≡ true → EachCounted (λ x. TellsVersion v x.reply) counted
+all_tell_each v [] is = tt
+all_tell_each v (x ∷ counted) is =
+    let parts = and_parts (tells v x.reply) (all_tell v counted) is in
+    (tells_version v x.reply parts.0, all_tell_each v counted parts.1)
+
+told_each : (o : Option Stamp) (v : Stamp) (counted : List Counted) → told_by_all o counted ≡ Some v → EachCounted (λ x. TellsVersion v x.reply) counted
+told_each None v counted is = cc
+told_each (Some u) v counted is =
+    cond_both (all_tell u counted) (Some u) None
+    (λ (z : Option Stamp). z ≡ Some v → EachCounted (λ x. TellsVersion v x.reply) counted)
+    (λ all e.
+    let same : u ≡ v = cc in
+    subst (λ (z : Stamp). EachCounted (λ x. TellsVersion z x.reply) counted) same (all_tell_each u counted all))
+    (λ none e. cc)
+    is
+
+-- a version that may be answered at once is told by each reply
+pub fast_each : (counted : List Counted) (v : Stamp) → fast_version counted ≡ Some v → EachCounted (λ x. TellsVersion v x.reply) counted
+unfolding fast_version
+fast_each [] v is = tt
+fast_each (x ∷ counted) v is = told_each (newest_stamp x.reply) v (x ∷ counted) is
+
+-- of two refusers one is the greater
+greater_one : (a b : Refuser) → (greater_refuser (Some a) (Some b) ≡ Some a) ⊎ (greater_refuser (Some a) (Some b) ≡ Some b)
+greater_one a b =
+    cond_both (stamp_below a.stamp b.stamp) (Some b)
+    (cond (stamp_below b.stamp a.stamp) (Some a) (cond (nat_lt b.seat a.seat) (Some b) (Some a)))
+    (λ (z : Option Refuser). (z ≡ Some a) ⊎ (z ≡ Some b))
+    (λ below. inr refl)
+    (λ _. cond_both (stamp_below b.stamp a.stamp) (Some a) (cond (nat_lt b.seat a.seat) (Some b) (Some a))
+    (λ (z : Option Refuser). (z ≡ Some a) ⊎ (z ≡ Some b))
+    (λ above. inl refl)
+    (λ _. cond_both (nat_lt b.seat a.seat) (Some b) (Some a) (λ (z : Option Refuser). (z ≡ Some a) ⊎ (z ≡ Some b)) (λ _. inr refl) (λ _. inl refl)))
+
+-- no reply tells a later stamp where there is no refuser
+no_refuser : (a b : Option Refuser) → greater_refuser a b ≡ None → (a ≡ None) × (b ≡ None)
+no_refuser None b is = (refl, is)
+no_refuser (Some a) None is = cc
+no_refuser (Some a) (Some b) is =
+    ⊎_elim (λ (one : greater_refuser (Some a) (Some b) ≡ Some a). let e : Some a ≡ None = sym one ∙ is in cc)
+    (λ (other : greater_refuser (Some a) (Some b) ≡ Some b). let e : Some b ≡ None = sym other ∙ is in cc)
+    (greater_one a b)
+
+pub none_refuses : (counted : List Counted) → greatest_refuser counted ≡ None → EachCounted (λ x. refuser_of x ≡ None) counted
+none_refuses [] is = tt
+none_refuses (x ∷ counted) is =
+    let both = no_refuser (refuser_of x) (greatest_refuser counted) is in
+    (both.0, none_refuses counted both.1)
+
+-- the greatest refuser is one of them
+one_refuser : (a b : Option Refuser) (r : Refuser) → greater_refuser a b ≡ Some r → (a ≡ Some r) ⊎ (b ≡ Some r)
+one_refuser None b r is = inr is
+one_refuser (Some a) None r is = inl is
+one_refuser (Some a) (Some b) r is =
+    ⊎_elim (λ (one : greater_refuser (Some a) (Some b) ≡ Some a). inl (sym one ∙ is))
+    (λ (other : greater_refuser (Some a) (Some b) ≡ Some b). inr (sym other ∙ is))
+    (greater_one a b)
+
+-- a refuser's reply
+refuser_reply : (x : Counted) (r : Refuser) → refuser_of x ≡ Some r → (x.reply ≡ Reply.Later r.stamp) × (x.brick ≡ r.brick)
+refuser_reply x r is = told x.reply refl is
+  where
+    told : (reply : Reply) → x.reply ≡ reply → refuser_of (record { seat = x.seat; brick = x.brick; reply = reply }) ≡ Some r
+        → (x.reply ≡ Reply.Later r.stamp) × (x.brick ≡ r.brick)
+    told (Reply.Later t) e is =
+        let same : record { seat = x.seat; brick = x.brick; stamp = t } ≡ r = cc in
+        (e ∙ ap (λ (z : Refuser). Reply.Later z.stamp) same, ap (λ (z : Refuser). z.brick) same)
+    told reply e is = cc
+
+-- the greatest refuser's reply is one of those that count
+pub refuser_counted : (P : Counted → Type 0) (counted : List Counted) (r : Refuser) → EachCounted P counted → greatest_refuser counted ≡ Some r
+    → (x : Counted) × P x × (x.reply ≡ Reply.Later r.stamp) × (x.brick ≡ r.brick)
+refuser_counted P [] r each is = cc
+refuser_counted P (x ∷ counted) r each is =
+    ⊎_elim (λ (here : refuser_of x ≡ Some r). let told = refuser_reply x r here in (x, each.0, told.0, told.1))
+    (λ (there : greatest_refuser counted ≡ Some r). refuser_counted P counted r each.1 there)
+    (one_refuser (refuser_of x) (greatest_refuser counted) r is)
+
+-- a reply's bytes are its seat's block of the content
+abbrev pub IsPieceOf : Code → ℕ → ℕ → List ℕ → Counted → Type 0
+IsPieceOf code m n content x = (x.seat < n) × (found_bytes x.reply ≡ code.encode m content x.seat)
+
+-- a seat with no reply is not among the pieces'
+not_among : (counted : List Counted) (seat : ℕ) → has_seat seat counted ≡ false
+    → AllByRecursion (λ y. nat_eq seat y ≡ false) (map (λ (piece : Piece). piece.seat) (pieces_of counted))
+not_among [] seat isnt = tt
+not_among (x ∷ counted) seat isnt =
+    let parts = or_parts (nat_eq x.seat seat) (has_seat seat counted) isnt in
+    (same_seat seat x.seat ∙ parts.0, not_among counted seat parts.1)
+
+pieces_distinct : (counted : List Counted) → AreOnce counted → IsDistinct nat_eq (map (λ (piece : Piece). piece.seat) (pieces_of counted))
+unfolding IsDistinct
+pieces_distinct [] once = tt
+pieces_distinct (x ∷ counted) once = (not_among counted x.seat once.0, pieces_distinct counted once.1)
+
+-- a piece is that of a reply
+piece_reply : (P : Counted → Type 0) (counted : List Counted) (k : ℕ) (piece : Piece) → EachCounted P counted → slice_get (pieces_of counted) k ≡ Some piece
+    → (x : Counted) × P x × (piece ≡ record { seat = x.seat; bytes = found_bytes x.reply })
+piece_reply P [] k piece each is = cc
+piece_reply P (x ∷ counted) zero piece each is = (x, each.0, cc)
+piece_reply P (x ∷ counted) (suc k) piece each is = piece_reply P counted k piece each.1 is
+
+-- replies that tell blocks of one content are pieces of it
+pub are_pieces : (code : Code) (m n : ℕ) (content : List ℕ) (counted : List Counted) → EachCounted (IsPieceOf code m n content) counted → AreOnce counted
+    → ArePiecesOf code m n content (pieces_of counted)
+are_pieces code m n content counted each once = record {
+  distinct = pieces_distinct counted once;
+  seats = λ k piece is.
+      let found = piece_reply (IsPieceOf code m n content) counted k piece each is in
+      subst (λ (z : Piece). z.seat < n) (sym found.2) found.1.0;
+  blocks = λ k piece is.
+      let found = piece_reply (IsPieceOf code m n content) counted k piece each is in
+      subst (λ (z : Piece). z.bytes ≡ code.encode m content z.seat) (sym found.2) found.1.1;
+}
+
+-- there is a piece for each reply
+pub pieces_length : (counted : List Counted) → length (pieces_of counted) ≡ length counted
+pieces_length [] = refl
+pieces_length (x ∷ counted) = ap suc (pieces_length counted)

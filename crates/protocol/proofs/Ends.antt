@@ -1,0 +1,174 @@
+-- A coordinator ends its operation.
+use Rattle.std.proofs.Common.{◌≡◌, ℕ, ◌+◌, ◌-◌, ◌≤◌, ◌⊎◌, inl, inr, true, false, List, [], ◌∷◌, ◌++◌, length, Option, Some, None, refl, sym, ap, subst, ⊎_elim, arith}
+use Rattle.std.specs.Prelude.{slice_get}
+use Rattle.std.proofs.lemmas.List.{length-append}
+use Rattle.fab_base.specs.declared.identities.BrickId.{BrickId}
+use Rattle.fab_base.specs.declared.stamps.Stamp.{Stamp}
+use Rattle.fab_base.specs.declared.asks.Op.TheVariants.{WriteStripe}
+use Rattle.fab_base.specs.declared.answers.Answer.{Answer}
+use Rattle.fab_base.specs.declared.answers.Answer.TheVariants.{Data, Done, Aborted}
+use Rattle.fab_base.specs.declared.answers.Cause.{Cause}
+use Rattle.fab_wire.specs.declared.messages.Packet.{Packet}
+use Rattle.fab_wire.specs.declared.requests.Request.TheVariants as Request
+use Rattle.reg_model.specs.declared.marks.Mark.{Mark}
+use Rattle.reg_model.specs.declared.marks.Mark.TheVariants.{End}
+use Rattle.protocol.specs.Settings.{Setting, Group}
+use Rattle.protocol.specs.Coordinators.{Coordinator}
+use Rattle.protocol.specs.Nodes.{Node, Answers, put, with_call, collect_packets}
+use Rattle.protocol.specs.Worlds.{World, Operation, world_stepped, with_answer, version_after, is_answer}
+use Rattle.protocol.specs.Laws.{Evidence}
+use Rattle.protocol.proofs.Books.{Books, CallBooks, IsCall}
+use Rattle.protocol.proofs.Said.{Stamping, Said, PacketSays, HasVersion, OperationSays, CallSays, EndShows}
+use Rattle.protocol.proofs.Tables.{put_each, put_same, get_grown, get_one, sent_to_member}
+use Rattle.protocol.proofs.Lives.{last_grows}
+use Rattle.protocol.proofs.Growth.{Grows, Continues, stays_operation, stays_has_version, stays_evidence}
+use Rattle.protocol.proofs.Operated.{operated, OperatedKeeps, operated_grows, said_operated}
+use Rattle.protocol.proofs.Stores.{open_until}
+
+-- what must be known of an operation that ends by this answer, having seen this version
+abbrev pub WillShow : World → Operation → Option Stamp → Answer → Type 0
+WillShow w o seen (Data bytes) =
+    (v : Stamp) × (version_after o.version seen ≡ Some v) × (o.made ≡ false) × (bytes ≡ w.contents o.ask.group.0 o.ask.stripe.0 v)
+WillShow w o seen Done = Unit {0}
+WillShow w o seen (Aborted (Cause.Later brick x)) = Evidence w o brick x
+WillShow w o seen (Aborted cause) = Unit {0}
+
+module _ (setting : Setting) (w : World) (stamps : Stamping) (me : BrickId) (c : Coordinator) (group : Group) (known : ℕ)
+    (books : Books setting w) (said : Said setting w stamps) (is : IsCall w me.0 c.call.seq c)
+    (more_known : (w.nodes me.0).known ≤ known) (answer : Answer) (seen stored : Option Stamp) where
+  abbrev its : CallBooks setting w me.0 c.call.seq c
+  its = books.calls me.0 c.call.seq c is
+
+  abbrev o : Operation
+  o = (books.calls me.0 c.call.seq c is).operation
+
+  abbrev n : ℕ
+  n = w.numbers me.0 c.call.seq
+
+  -- the operation that ended
+  abbrev ended : Operation
+  ended =
+      record {
+        brick = o.brick;
+        seq = o.seq;
+        begin = o.begin;
+        ask = o.ask;
+        version = version_after o.version seen;
+        made = o.made;
+        answered = is_answer answer;
+        floor = o.floor;
+      }
+
+  abbrev node : Node
+  node = with_call (w.nodes me.0) known ((w.nodes me.0).busy - 1) c.call.seq None
+
+  abbrev marks : List Mark
+  marks = w.marks ++ (End (length w.marks) n answer ∷ [])
+
+  abbrev next : World
+  next = operated w me node (collect_packets group me c.call stored) marks n ended w.contents
+
+  next_is : world_stepped w me (record { node = node; packets = collect_packets group me c.call stored; told = Answers c.call.seq answer seen }) (Answers c.call.seq answer seen) ≡ next
+  next_is =
+      ap (λ (x : Option Operation).
+      record {
+        nodes = put w.nodes me.0 node;
+        packets = w.packets ++ collect_packets group me c.call stored;
+        marks = marks;
+        begun = w.begun;
+        operations = put w.operations n (with_answer answer seen x);
+        numbers = w.numbers;
+        contents = w.contents;
+      })
+      its.operation_is
+
+  module _ (keeps_version : (v : Stamp) → o.version ≡ Some v → version_after o.version seen ≡ Some v)
+      (has_version : (v : Stamp) → version_after o.version seen ≡ Some v → HasVersion setting w o v)
+      (answered_made : is_answer answer ≡ true → (bytes : List ℕ) → o.ask.op ≡ WriteStripe bytes → o.made ≡ true)
+      (shows : WillShow w o seen answer) where
+    on : Continues o ended
+    on = record { brick = refl; seq = refl; begin = refl; ask = refl; floor = refl; version = keeps_version; made = λ v has. refl }
+
+    keeps : OperatedKeeps w me node marks n o ended w.contents
+    keeps = record {
+      replicas = refl;
+      seq = refl;
+      known = more_known;
+      is = its.operation_is;
+      continues = on;
+      kept = λ g s t made. refl;
+      longer = (let longer : length marks ≡ length w.marks + 1 = length-append w.marks (End (length w.marks) n answer ∷ []) in omega arith);
+      lasts = λ a. last_grows w.marks (End (length w.marks) n answer) a (λ k mark at. let place = books.places k mark at in omega (arith, place)) refl;
+      unended =
+          let before = open_until setting w me.0 c.call.seq c books is in
+          let later = last_grows w.marks (End (length w.marks) n answer) n (λ k mark at. let place = books.places k mark at in omega (arith, place)) refl in
+          omega (arith, before, later);
+    }
+
+    grows : Grows w next stamps stamps
+    grows = operated_grows setting w stamps me node (collect_packets group me c.call stored) marks n o ended w.contents keeps
+
+    ended_has : (v : Stamp) → version_after o.version seen ≡ Some v → HasVersion setting next ended v
+    ended_has v has =
+        let old : HasVersion setting next o v = stays_has_version setting w next stamps stamps books grows o v (has_version v has) in
+        record { made = old.made; reader = old.reader; guarded = old.guarded; floors = old.floors }
+
+    operation_says : OperationSays setting next stamps n ended
+    operation_says =
+        let old : OperationSays setting next stamps n o
+        = stays_operation setting w next stamps stamps books grows n o its.operation_is (said.operations n o its.operation_is) in
+        record {
+          begin = old.begin;
+          floors = old.floors;
+          fresh = old.fresh;
+          made = λ made. keeps_version (stamps o.brick.0 o.seq) (old.made made);
+          content = old.content;
+          version = ended_has;
+          answered = answered_made;
+        }
+
+    calls : (k : ℕ) (d : Coordinator) → node.calls k ≡ Some d → ((w.nodes me.0).calls k ≡ Some d) ⊎ CallSays setting next stamps me.0 k d
+    calls k d =
+        put_each (λ j x. x ≡ Some d → ((w.nodes me.0).calls j ≡ Some d) ⊎ CallSays setting next stamps me.0 j d) (w.nodes me.0).calls c.call.seq None
+        (λ at. cc) (λ j other at. inl at) k
+
+    packets : (o : Option Stamp) (k : ℕ) (packet : Packet) → slice_get (collect_packets group me c.call o) k ≡ Some packet → PacketSays setting next stamps packet
+    packets None k packet at = cc
+    packets (Some t) k packet at =
+        let sent = sent_to_member me c.call (λ seat. Request.Collect t) 0 group.members k packet at in
+        subst (λ (z : Packet). PacketSays setting next stamps z) (sym sent.2) tt
+
+    end_shows : (a : Answer) → a ≡ answer → EndShows next n a
+    end_shows (Data bytes) same =
+        let told : WillShow w o seen (Data bytes) = subst (λ (z : Answer). WillShow w o seen z) (sym same) shows in
+        record {
+          operation = ended;
+          is = put_same w.operations n (Some ended);
+          version = told.0;
+          version_is = told.1;
+          unmade = told.2;
+          bytes_are = told.3;
+        }
+    end_shows Done same = tt
+    end_shows (Aborted (Cause.Later brick x)) same =
+        let told : WillShow w o seen (Aborted (Cause.Later brick x)) = subst (λ (z : Answer). WillShow w o seen z) (sym same) shows in
+        (ended, put_same w.operations n (Some ended), stays_evidence setting w next stamps stamps books grows o ended brick x on told)
+    end_shows (Aborted cause) same = tt
+
+    ends : (k q a : ℕ) (other : Answer) → slice_get marks k ≡ Some (End q a other) → (slice_get w.marks k ≡ Some (End q a other)) ⊎ EndShows next a other
+    ends k q a other at = ⊎_elim
+        (λ (old : slice_get w.marks k ≡ Some (End q a other)). inl old)
+        (λ (new : (j : ℕ) × (slice_get (End (length w.marks) n answer ∷ []) j ≡ Some (End q a other))).
+        let same : End (length w.marks) n answer ≡ End q a other = get_one (End (length w.marks) n answer) (End q a other) new.0 new.1 in
+        let number : n ≡ a = cc in
+        let by : other ≡ answer = cc in
+        inr (subst (λ (i : ℕ). EndShows next i other) number (end_shows other by)))
+        (get_grown w.marks (End (length w.marks) n answer ∷ []) k (End q a other) at)
+
+    -- the invariant holds when an operation ended
+    pub said_ended : Said setting
+        (world_stepped w me (record { node = node; packets = collect_packets group me c.call stored; told = Answers c.call.seq answer seen }) (Answers c.call.seq answer seen)) stamps
+    said_ended =
+        subst (λ (z : World). Said setting z stamps) (sym next_is)
+        (said_operated setting w stamps me node (collect_packets group me c.call stored) marks n o ended w.contents books said keeps
+        (record { operation = operation_says; calls = calls; packets = packets stored; ends = ends }))

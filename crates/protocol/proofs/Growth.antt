@@ -1,0 +1,318 @@
+-- What was said stays said: nothing falls, messages and versions stay, and a version's content does not change.
+use Rattle.std.proofs.Common.{◌≡◌, ℕ, ◌≤◌, inl, inr, true, false, not, List, length, Some, refl, sym, ap, ◌∙◌, subst, arith}
+use Rattle.std.proofs.lemmas.Bool.{not-true, not_from_false}
+use Rattle.fab_base.specs.declared.identities.BrickId.{BrickId}
+use Rattle.fab_base.specs.declared.stamps.Stamp.{Stamp}
+use Rattle.fab_base.specs.declared.asks.Op.TheVariants.{WriteStripe}
+use Rattle.fab_base.specs.declared.answers.Answer.{Answer}
+use Rattle.fab_base.specs.declared.answers.Answer.TheVariants.{Data, Done, Aborted}
+use Rattle.fab_base.specs.declared.answers.Cause.{Cause}
+use Rattle.fab_base.specs.Stamps.{stamp_below}
+use Rattle.fab_base.proofs.StampOrder.{stamp_not_below_trans}
+use Rattle.fab_wire.specs.declared.calls.Call.{Call}
+use Rattle.fab_wire.specs.declared.messages.Message.{Message}
+use Rattle.fab_wire.specs.declared.messages.Packet.{Packet}
+use Rattle.fab_wire.specs.declared.requests.Request.{Request}
+use Rattle.fab_wire.specs.declared.requests.Version.{Version}
+use Rattle.fab_wire.specs.declared.replies.Reply.{Reply}
+use Rattle.quorum.proofs.Counts.{count_monotone}
+use Rattle.protocol.specs.Settings.{Setting, Group}
+use Rattle.protocol.specs.Replicas.{top_of, is_held, stamp_max}
+use Rattle.protocol.specs.Coordinators.{Coordinator, Counted}
+use Rattle.protocol.specs.Worlds.{World, Operation}
+use Rattle.protocol.specs.Laws.{WasSent, AskedAt, Evidence, NeverFalls, part_of, brick_at, IsGuarded}
+use Rattle.protocol.proofs.Books.{Books, OperationBooks, CallBooks, IsOperation, IsCall}
+use Rattle.protocol.proofs.Said.{Stamping, IsMadeOrFirst, IsKnown, IsCalled, IsBlockOf, VersionSays, WriteSays, RequestSays, OrderedSays, FoundSays, ReplySays, MessageSays, PacketSays, HasVersion, OperationSays, CountedSays, CallSays, DataShown, EndShows}
+use Rattle.protocol.proofs.Counting.{each_then}
+
+-- an operation goes on: it keeps what it is, and a version that it has
+pub record Continues (o p : Operation) : Type 0 where
+  pub brick : p.brick ≡ o.brick
+  pub seq : p.seq ≡ o.seq
+  pub begin : p.begin ≡ o.begin
+  pub ask : p.ask ≡ o.ask
+  pub floor : p.floor ≡ o.floor
+  pub version : (v : Stamp) → o.version ≡ Some v → p.version ≡ Some v
+  pub made : (v : Stamp) → o.version ≡ Some v → p.made ≡ o.made
+
+-- an unchanged operation goes on
+pub continues_same : (o : Operation) → Continues o o
+continues_same o = record { brick = refl; seq = refl; begin = refl; ask = refl; floor = refl; version = λ v is. is; made = λ v is. refl }
+
+-- from one world to the next nothing that was said is lost
+pub record Grows (w next : World) (stamps later : Stamping) : Type 0 where
+  pub tops : NeverFalls w next
+  pub held : (g s i : ℕ) (t : Stamp) → is_held t (part_of w g s i).log ≡ true → is_held t (part_of next g s i).log ≡ true
+  pub sent : (packet : Packet) → WasSent w packet → WasSent next packet
+  pub operations : (n : ℕ) (o : Operation) → IsOperation w n o → (p : Operation) × IsOperation next n p × Continues o p
+  pub contents : (g s : ℕ) (t : Stamp) → IsMadeOrFirst w g s t → next.contents g s t ≡ w.contents g s t
+  pub seqs : (i : ℕ) → (w.nodes i).seq ≤ (next.nodes i).seq
+  pub stamped : (i k : ℕ) → k ≤ (w.nodes i).seq → later i k ≡ stamps i k
+  pub numbered : (i k : ℕ) → k ≤ (w.nodes i).seq → next.numbers i k ≡ w.numbers i k
+  pub marks : length w.marks ≤ length next.marks
+
+-- where no top falls, what is at or above t stays so
+pub above_stays : (w next : World) → NeverFalls w next → (g s i : ℕ) (t : Stamp) → stamp_below (top_of (part_of w g s i)) t ≡ false
+    → stamp_below (top_of (part_of next g s i)) t ≡ false
+above_stays w next tops g s i t above = stamp_not_below_trans t (top_of (part_of w g s i)) (top_of (part_of next g s i)) above (tops g s i)
+
+-- and what is guarded stays guarded
+pub guarded_stays : (w next : World) → NeverFalls w next → (g s : ℕ) (group : Group) (t : Stamp) → IsGuarded w g s group t → IsGuarded next g s group t
+guarded_stays w next tops g s group t guarded =
+    let more = count_monotone (length group.members)
+    (λ seat. not (stamp_below (top_of (part_of w g s (brick_at group seat))) t))
+    (λ seat. not (stamp_below (top_of (part_of next g s (brick_at group seat))) t))
+    (λ k below is.
+    not_from_false (stamp_below (top_of (part_of next g s (brick_at group k))) t)
+    (above_stays w next tops g s (brick_at group k) t (not-true (stamp_below (top_of (part_of w g s (brick_at group k))) t) is))) in
+    omega (arith, guarded, more)
+
+module _ (setting : Setting) (w next : World) (stamps later : Stamping) (books : Books setting w) (grows : Grows w next stamps later) where
+  -- a version that was made stays made
+  pub stays_made : (g s : ℕ) (t : Stamp) → IsMadeOrFirst w g s t → IsMadeOrFirst next g s t
+  stays_made g s t (inl first) = inl first
+  stays_made g s t (inr made) =
+      let goes = grows.operations made.0 made.1 made.2 in
+      let on : Continues made.1 goes.0 = goes.2 in
+      inr (
+        made.0,
+        goes.0,
+        goes.1,
+        ap (λ a. a.group.0) on.ask ∙ made.3,
+        ap (λ a. a.stripe.0) on.ask ∙ made.4,
+        on.made t made.6 ∙ made.5,
+        on.version t made.6,
+      )
+
+  -- a known stamp stays known
+  pub stays_known : (t : Stamp) → IsKnown w stamps t → IsKnown next later t
+  stays_known t (inl first) = inl first
+  stays_known t (inr known) =
+      let within : known.1 ≤ (w.nodes known.0).seq = known.3 in
+      let grown : (w.nodes known.0).seq ≤ (next.nodes known.0).seq = grows.seqs known.0 in
+      inr (known.0, known.1, known.2, omega arith, known.4 ∙ sym (grows.stamped known.0 known.1 within))
+
+  -- the number of an operation's call is one of its brick's
+  pub called_within : (i : ℕ) (call : Call) (o : Operation) → IsCalled w i call o → call.seq ≤ (w.nodes i).seq
+  called_within i call o called =
+      let its : OperationBooks setting w (w.numbers i call.seq) o = books.operations (w.numbers i call.seq) o called.is in
+      let most : o.seq ≤ (w.nodes o.brick.0).seq = its.called.1 in
+      let at : o.seq ≤ (w.nodes i).seq = subst (λ (j : ℕ). o.seq ≤ (w.nodes j).seq) called.brick most in
+      subst (λ (k : ℕ). k ≤ (w.nodes i).seq) called.seq at
+
+  -- an operation's call stays its
+  pub stays_called : (i : ℕ) (call : Call) (o : Operation) → IsCalled w i call o → (p : Operation) × IsCalled next i call p × Continues o p
+  stays_called i call o called =
+      let goes = grows.operations (w.numbers i call.seq) o called.is in
+      let p : Operation = goes.0 in
+      let on : Continues o p = goes.2 in
+      let number : next.numbers i call.seq ≡ w.numbers i call.seq = grows.numbered i call.seq (called_within i call o called) in (
+        p,
+        record {
+          is = subst (λ (n : ℕ). IsOperation next n p) (sym number) goes.1;
+          brick = ap (λ b. b.0) on.brick ∙ called.brick;
+          seq = on.seq ∙ called.seq;
+          group = ap (λ a. a.group.0) on.ask ∙ called.group;
+          stripe = ap (λ a. a.stripe.0) on.ask ∙ called.stripe;
+        },
+        on,
+      )
+
+  -- the stamp of an operation's call stays
+  pub stays_stamp : (i : ℕ) (call : Call) (o : Operation) → IsCalled w i call o → stamps i call.seq ≡ later i call.seq
+  stays_stamp i call o called = sym (grows.stamped i call.seq (called_within i call o called))
+
+  -- what is at or above t stays so
+  pub stays_above : (g s i : ℕ) (t : Stamp) → stamp_below (top_of (part_of w g s i)) t ≡ false → stamp_below (top_of (part_of next g s i)) t ≡ false
+  stays_above g s i t above = above_stays w next grows.tops g s i t above
+
+  -- what is guarded stays guarded
+  pub stays_guarded : (g s : ℕ) (group : Group) (t : Stamp) → IsGuarded w g s group t → IsGuarded next g s group t
+  stays_guarded g s group t guarded = guarded_stays w next grows.tops g s group t guarded
+
+  -- a block stays the block of its version
+  pub stays_block : (g s i : ℕ) (t : Stamp) (block : List ℕ) → IsMadeOrFirst w g s t → IsBlockOf setting w g s i t block → IsBlockOf setting next g s i t block
+  stays_block g s i t block made is group seat its at =
+      is group seat its at ∙ ap (λ content. setting.code.encode group.m content seat) (sym (grows.contents g s t made))
+
+  pub stays_version : (g s i : ℕ) (version : Version) → VersionSays setting w g s i version → VersionSays setting next g s i version
+  stays_version g s i version says = record {
+    made = stays_made g s version.stamp says.made;
+    block = stays_block g s i version.stamp version.block says.made says.block;
+  }
+
+  -- the version that a write carries was made by its operation
+  pub write_made : (from to : ℕ) (call : Call) (t : Stamp) (block : List ℕ) → WriteSays setting w stamps from to call t block
+      → IsMadeOrFirst w call.group.0 call.stripe.0 t
+  write_made from to call t block says =
+      inr (w.numbers from call.seq, says.operation, says.called.is, says.called.group, says.called.stripe, says.made, says.version)
+
+  pub stays_write : (from to : ℕ) (call : Call) (t : Stamp) (block : List ℕ) → WriteSays setting w stamps from to call t block
+      → WriteSays setting next later from to call t block
+  stays_write from to call t block says =
+      let goes = stays_called from call says.operation says.called in
+      record {
+        operation = goes.0;
+        called = goes.1;
+        stamp = says.stamp ∙ stays_stamp from call says.operation says.called;
+        made = goes.2.made t says.version ∙ says.made;
+        version = goes.2.version t says.version;
+        member = says.member;
+        guarded = λ group is. stays_guarded call.group.0 call.stripe.0 group t (says.guarded group is);
+        is_block = stays_block call.group.0 call.stripe.0 to t block (write_made from to call t block says) says.is_block;
+      }
+
+  pub stays_request : (i j : ℕ) (call : Call) (request : Request) → RequestSays setting w stamps i j call request → RequestSays setting next later i j call request
+  stays_request i j call (Request.Read want) says = let goes = stays_called i call says.1.0 says.1.1 in (says.0, (goes.0, goes.1))
+  stays_request i j call (Request.Order t) says =
+      let goes = stays_called i call says.1.0 says.1.1 in (says.0 ∙ stays_stamp i call says.1.0 says.1.1, (goes.0, goes.1))
+  stays_request i j call (Request.Write t block) says = stays_write i j call t block says
+  stays_request i j call request says = tt
+
+  pub stays_ordered : (j i : ℕ) (call : Call) → OrderedSays w stamps j i call → OrderedSays next later j i call
+  stays_ordered j i call says =
+      let goes = stays_called i call says.operation says.called in
+      let stamp : stamps i call.seq ≡ later i call.seq = stays_stamp i call says.operation says.called in
+      record {
+        operation = goes.0;
+        called = goes.1;
+        promised = subst (λ (t : Stamp). stamp_below (top_of (part_of next call.group.0 call.stripe.0 j)) t ≡ false) stamp
+            (stays_above call.group.0 call.stripe.0 j (stamps i call.seq) says.promised);
+        floor = subst (λ (t : Stamp). stamp_below t (goes.0.floor j) ≡ false) stamp
+            (subst (λ (f : ℕ → Stamp). stamp_below (stamps i call.seq) (f j) ≡ false) (sym goes.2.floor) says.floor);
+      }
+
+  pub stays_found : (j i : ℕ) (call : Call) (order : Stamp) (version : Version) → FoundSays setting w j i call order version → FoundSays setting next j i call order version
+  stays_found j i call order version says =
+      let goes = stays_called i call says.operation says.called in
+      record {
+        operation = goes.0;
+        called = goes.1;
+        top = stays_above call.group.0 call.stripe.0 j (stamp_max order version.stamp) says.top;
+        floor = subst (λ (f : ℕ → Stamp). stamp_below (stamp_max order version.stamp) (f j) ≡ false) (sym goes.2.floor) says.floor;
+        says = stays_version call.group.0 call.stripe.0 j version says.says;
+      }
+
+  -- what was asked stays asked
+  pub stays_asked : (call : Call) (from to : BrickId) (t : Stamp) → AskedAt w call from to t → AskedAt next call from to t
+  stays_asked call from to t (inl sent) = inl (grows.sent (record { from = from; to = to; message = Message.Request call (Request.Order t) }) sent)
+  stays_asked call from to t (inr sent) =
+      inr (sent.0, grows.sent (record { from = from; to = to; message = Message.Request call (Request.Write t sent.0) }) sent.1)
+
+  pub stays_reply : (from to : BrickId) (call : Call) (reply : Reply) → ReplySays setting w stamps from to call reply → ReplySays setting next later from to call reply
+  stays_reply from to call (Reply.Found order (Some version)) says = stays_found from.0 to.0 call order version says
+  stays_reply from to call Reply.Ordered says = stays_ordered from.0 to.0 call says
+  stays_reply from to call Reply.Stored says = (
+    says.0,
+    says.1,
+    grows.sent (record { from = to; to = from; message = Message.Request call (Request.Write says.0 says.1) }) says.2,
+    grows.held call.group.0 call.stripe.0 from.0 says.0 says.3,
+  )
+  stays_reply from to call (Reply.Later x) says = (says.0, stays_asked call to from says.0 says.1, says.2)
+  stays_reply from to call reply says = tt
+
+  pub stays_message : (from to : BrickId) (message : Message) → MessageSays setting w stamps from to message → MessageSays setting next later from to message
+  stays_message from to (Message.Request call request) says = stays_request from.0 to.0 call request says
+  stays_message from to (Message.Reply call reply) says = stays_reply from to call reply says
+  stays_message from to message says = tt
+
+  -- what a packet says stays said
+  pub stays_packet : (packet : Packet) → PacketSays setting w stamps packet → PacketSays setting next later packet
+  stays_packet packet says = stays_message packet.from packet.to packet.message says
+
+  pub stays_has_version : (o : Operation) (v : Stamp) → HasVersion setting w o v → HasVersion setting next o v
+  stays_has_version o v has = record {
+    made = stays_made o.ask.group.0 o.ask.stripe.0 v has.made;
+    reader = has.reader;
+    guarded = λ group is. stays_guarded o.ask.group.0 o.ask.stripe.0 group v (has.guarded group is);
+    floors = has.floors;
+  }
+
+  -- an operation's stamp stays
+  pub stays_own_stamp : (n : ℕ) (o : Operation) → IsOperation w n o → stamps o.brick.0 o.seq ≡ later o.brick.0 o.seq
+  stays_own_stamp n o is = sym (grows.stamped o.brick.0 o.seq (books.operations n o is).called.1)
+
+  -- what an operation says stays said
+  pub stays_operation : (n : ℕ) (o : Operation) → IsOperation w n o → OperationSays setting w stamps n o → OperationSays setting next later n o
+  stays_operation n o is says =
+      let stamp : stamps o.brick.0 o.seq ≡ later o.brick.0 o.seq = stays_own_stamp n o is in
+      record {
+        begin = omega (arith, says.begin, grows.marks);
+        floors = λ i. stays_above o.ask.group.0 o.ask.stripe.0 i (o.floor i) (says.floors i);
+        fresh = λ i same. says.fresh i (same ∙ sym stamp);
+        made = λ made. says.made made ∙ ap (λ (t : Stamp). Some t) stamp;
+        content = λ made.
+            let content : next.contents o.ask.group.0 o.ask.stripe.0 (stamps o.brick.0 o.seq) ≡ w.contents o.ask.group.0 o.ask.stripe.0 (stamps o.brick.0 o.seq)
+            = grows.contents o.ask.group.0 o.ask.stripe.0 (stamps o.brick.0 o.seq) (inr (n, o, is, refl, refl, made, says.made made)) in
+            says.content made
+            ∙ ap (λ (bytes : List ℕ). WriteStripe bytes)
+            (sym content ∙ ap (λ (t : Stamp). next.contents o.ask.group.0 o.ask.stripe.0 t) stamp);
+        version = λ v has. stays_has_version o v (says.version v has);
+        answered = says.answered;
+      }
+
+  pub stays_counted : (i : ℕ) (c : Coordinator) (x : Counted) → CountedSays setting w i c x → CountedSays setting next i c x
+  stays_counted i c x says = record {
+    sent = grows.sent (record { from = x.brick; to = record { 0 = i }; message = Message.Reply c.call x.reply }) says.sent;
+    answers = says.answers;
+    seat = says.seat;
+  }
+
+  -- what a coordinator says stays said
+  pub stays_open : (i k : ℕ) (c : Coordinator) → k ≤ (w.nodes i).seq → CallSays setting w stamps i k c → CallSays setting next later i k c
+  stays_open i k c here says = record {
+    stamp = says.stamp ∙ sym (grows.stamped i k here);
+    fits = says.fits;
+    counted = each_then (CountedSays setting w i c) (CountedSays setting next i c) c.counted (λ x h. stays_counted i c x h) says.counted;
+    once = says.once;
+  }
+
+  -- the number of an open call is one of its brick's
+  pub call_within : (i k : ℕ) (c : Coordinator) → IsCall w i k c → k ≤ (w.nodes i).seq
+  call_within i k c is =
+      let its : CallBooks setting w i k c = books.calls i k c is in
+      let within : its.operation.seq ≤ (w.nodes its.operation.brick.0).seq = (books.operations (w.numbers i k) its.operation its.operation_is).called.1 in
+      let at : its.operation.seq ≤ (w.nodes i).seq = subst (λ (j : ℕ). its.operation.seq ≤ (w.nodes j).seq) its.brick within in
+      subst (λ (j : ℕ). j ≤ (w.nodes i).seq) its.seq at
+
+  -- what an open operation's coordinator says stays said
+  pub stays_call : (i k : ℕ) (c : Coordinator) → IsCall w i k c → CallSays setting w stamps i k c → CallSays setting next later i k c
+  stays_call i k c is says = stays_open i k c (call_within i k c is) says
+
+  -- evidence stays
+  pub stays_evidence : (o p : Operation) (brick : BrickId) (x : Stamp) → Continues o p → Evidence w o brick x → Evidence next p brick x
+  stays_evidence o p brick x on shown = record {
+    call = shown.call;
+    stamp = shown.stamp;
+    own = shown.own ∙ sym on.seq;
+    asked = subst (λ (b : BrickId). AskedAt next shown.call b brick shown.stamp) (sym on.brick) (stays_asked shown.call o.brick brick shown.stamp shown.asked);
+    told = subst (λ (b : BrickId). WasSent next (record { from = brick; to = b; message = Message.Reply shown.call (Reply.Later x) })) (sym on.brick)
+        (grows.sent (record { from = brick; to = o.brick; message = Message.Reply shown.call (Reply.Later x) }) shown.told);
+    above = shown.above;
+  }
+
+  pub stays_shown : (said : (n : ℕ) (o : Operation) → IsOperation w n o → OperationSays setting w stamps n o) (n : ℕ) (bytes : List ℕ) → DataShown w n bytes
+      → DataShown next n bytes
+  stays_shown said n bytes shown =
+      let goes = grows.operations n shown.operation shown.is in
+      let made : IsMadeOrFirst w shown.operation.ask.group.0 shown.operation.ask.stripe.0 shown.version
+      = ((said n shown.operation shown.is).version shown.version shown.version_is).made in
+      record {
+        operation = goes.0;
+        is = goes.1;
+        version = shown.version;
+        version_is = goes.2.version shown.version shown.version_is;
+        unmade = goes.2.made shown.version shown.version_is ∙ shown.unmade;
+        bytes_are = shown.bytes_are
+            ∙ sym (grows.contents shown.operation.ask.group.0 shown.operation.ask.stripe.0 shown.version made)
+            ∙ ap (λ a. next.contents a.group.0 a.stripe.0 shown.version) (sym goes.2.ask);
+      }
+
+  -- what an end shows stays shown
+  pub stays_end : (said : (n : ℕ) (o : Operation) → IsOperation w n o → OperationSays setting w stamps n o) (n : ℕ) (answer : Answer) → EndShows w n answer → EndShows next n answer
+  stays_end said n (Data bytes) shows = stays_shown said n bytes shows
+  stays_end said n Done shows = tt
+  stays_end said n (Aborted (Cause.Later brick x)) shows =
+      let goes = grows.operations n shows.0 shows.1 in
+      (goes.0, goes.1, stays_evidence shows.0 goes.0 brick x goes.2 shows.2)
+  stays_end said n (Aborted cause) shows = tt

@@ -1,0 +1,169 @@
+-- What quorums make true of the versions of a world, for the walk along them.
+use Rattle.std.proofs.Common.{◌≡◌, ℕ, ◌≤◌, ◌⊎◌, inl, inr, true, false, not, List, length, Option, Some, sym, ap, ◌∙◌, subst, ⊎_elim, arith}
+use Rattle.std.specs.Prelude.{nat_eq}
+use Rattle.std.proofs.lemmas.Bool.{and_parts, cases_Bool, eqb-true, not-true}
+use Rattle.fab_base.specs.declared.identities.BrickId.{BrickId}
+use Rattle.fab_base.specs.declared.stamps.Stamp.{Stamp}
+use Rattle.fab_base.specs.declared.asks.Op.TheVariants.{ReadStripe, WriteStripe}
+use Rattle.fab_base.specs.declared.answers.Answer.TheVariants.{Data, Aborted}
+use Rattle.fab_base.specs.declared.answers.Cause.TheVariants as Cause
+use Rattle.fab_base.specs.Stamps.{stamp_below, first_stamp}
+use Rattle.fab_base.proofs.StampOrder.{stamp_not_below_trans, stamp_neither_below}
+use Rattle.fab_wire.specs.declared.calls.Call.{Call}
+use Rattle.fab_wire.specs.declared.messages.Message.TheVariants as Message
+use Rattle.fab_wire.specs.declared.requests.Request.TheVariants as Request
+use Rattle.fab_wire.specs.declared.replies.Reply.TheVariants as Reply
+use Rattle.quorum.specs.Quorums.{IsWithinLimits, both}
+use Rattle.quorum.proofs.Counts.{count_some, quorums_share}
+use Rattle.reg_model.specs.Marks.{Life, life_of, Answered}
+use Rattle.reg_model.specs.Registers.{zero_registers}
+use Rattle.reg_model.specs.Walk.{last_of}
+use Rattle.protocol.specs.Settings.{Setting, Group, group_of, IsSound, seat_in}
+use Rattle.protocol.specs.Worlds.{World, Event, Operation, zero_content, first_world, run}
+use Rattle.protocol.specs.Laws.{OneContent, WritesAreGuarded, StoredIsHeld, FollowsRealTime, AbortsShow, WriteSent, brick_at}
+use Rattle.protocol.proofs.Books.{Books, OperationBooks, IsOperation}
+use Rattle.protocol.proofs.Said.{Stamping, Said, IsMadeOrFirst, FloorsAtLeast, WriteSays, HasVersion, DataShown}
+use Rattle.protocol.proofs.Tables.{seat_within, brick_at_seat}
+use Rattle.protocol.proofs.Lives.{answered_has_end}
+use Rattle.protocol.proofs.OwnStamps.{not_first, own_stamp, maker_stamp, operation_unique}
+use Rattle.protocol.proofs.SaidAlways.{IsSaid, said_first, said_run}
+
+-- an operation that made a version writes that version's content
+pub record MakerFacts (w : World) (o : Operation) (t : Stamp) : Type 0 where
+  pub op : o.ask.op ≡ WriteStripe (w.contents o.ask.group.0 o.ask.stripe.0 t)
+  pub later : t ≡ first_stamp → ⊥
+
+-- an operation that read a version reads a stripe, and the version is the first one or was made; what it was answered is the version's content
+pub record ReaderFacts (w : World) (n : ℕ) (o : Operation) (t : Stamp) : Type 0 where
+  pub op : o.ask.op ≡ ReadStripe
+  pub made : IsMadeOrFirst w o.ask.group.0 o.ask.stripe.0 t
+  pub answered : (life : Life) (p : ℕ) (bytes : List ℕ) → life_of w.marks n ≡ Some life → life.ending ≡ Answered p (Data bytes)
+      → bytes ≡ w.contents o.ask.group.0 o.ask.stripe.0 t
+
+-- the facts on versions
+pub record QuorumFacts (setting : Setting) (w : World) : Type 0 where
+  pub real_time : (g s : ℕ) → FollowsRealTime w g s
+  pub maker_unique : (a b : ℕ) (one other : Operation) (t : Stamp) → IsOperation w a one → IsOperation w b other
+      → one.made ≡ true → other.made ≡ true → one.version ≡ Some t → other.version ≡ Some t → a ≡ b
+  pub made_version : (n : ℕ) (o : Operation) → IsOperation w n o → o.made ≡ true → (t : Stamp) × (o.version ≡ Some t)
+  pub maker : (n : ℕ) (o : Operation) (t : Stamp) → IsOperation w n o → o.made ≡ true → o.version ≡ Some t → MakerFacts w o t
+  pub reader : (n : ℕ) (o : Operation) (t : Stamp) → IsOperation w n o → o.made ≡ false → o.version ≡ Some t → ReaderFacts w n o t
+  pub answered_write : (n : ℕ) (o : Operation) (bytes : List ℕ) → IsOperation w n o → o.answered ≡ true → o.ask.op ≡ WriteStripe bytes
+      → o.made ≡ true
+  pub first : (g s : ℕ) (group : Group) → group_of setting.layout g ≡ Some group
+      → w.contents g s first_stamp ≡ zero_registers group.m setting.layout.block
+  pub one_content : OneContent setting w
+  pub guarded : WritesAreGuarded setting w
+  pub stored : StoredIsHeld w
+  pub aborts : AbortsShow w
+
+module _ (setting : Setting) (sound : IsSound setting) (w : World) (stamps : Stamping) (books : Books setting w) (said : Said setting w stamps) where
+  -- of two versions between which a quorum's floors lie, the lower is not above the other, nor equal to it where the later operation made it
+  shared_floor : (b : ℕ) (later : Operation) (u v : Stamp) (i : ℕ) → IsOperation w b later → later.version ≡ Some v
+      → stamp_below (later.floor i) u ≡ false → stamp_below v (later.floor i) ≡ false → (stamp_below u v ≡ true) ⊎ ((u ≡ v) × (later.made ≡ false))
+  shared_floor b later u v i is version above below =
+      let not_above : stamp_below v u ≡ false = stamp_not_below_trans u (later.floor i) v above below in
+      ⊎_elim (λ (less : stamp_below u v ≡ true). inl less)
+      (λ (not_less : stamp_below u v ≡ false).
+      let same : u ≡ v = stamp_neither_below u v not_less not_above in
+      ⊎_elim
+      (λ (made : later.made ≡ true).
+      let own : v ≡ stamps later.brick.0 later.seq = maker_stamp setting w stamps said b later v is made version in
+      let floor : later.floor i ≡ v
+      = stamp_neither_below (later.floor i) v (subst (λ (t : Stamp). stamp_below (later.floor i) t ≡ false) same above) below in
+      absurd ((said.operations b later is).fresh i (floor ∙ own)))
+      (λ (unmade : later.made ≡ false). inr (same, unmade))
+      (cases_Bool later.made))
+      (cases_Bool (stamp_below u v))
+
+  real_time_holds : (g s : ℕ) → FollowsRealTime w g s
+  real_time_holds g s a b earlier later u v a_is b_is a_of b_of a_version b_version ended =
+      let a_at = and_parts (nat_eq earlier.ask.group.0 g) (nat_eq earlier.ask.stripe.0 s) a_of in
+      let b_at = and_parts (nat_eq later.ask.group.0 g) (nat_eq later.ask.stripe.0 s) b_of in
+      let b_books : OperationBooks setting w b later = books.operations b later b_is in
+      let group : Group = b_books.group in
+      let limits : IsWithinLimits group.m (length group.members) = sound.limits later.ask.group.0 group b_books.group_is in
+      ⊎_elim
+      (λ (floors : (z : Group) → group_of setting.layout later.ask.group.0 ≡ Some z → FloorsAtLeast later z u).
+      let share = quorums_share group.m (length group.members) limits.enough_seats
+      (λ seat. not (stamp_below (later.floor (brick_at group seat)) u)) (λ seat. not (stamp_below v (later.floor (brick_at group seat))))
+      (floors group b_books.group_is) (((said.operations b later b_is).version v b_version).floors group b_books.group_is) in
+      let seat = count_some (length group.members)
+      (both (λ k. not (stamp_below (later.floor (brick_at group k)) u)) (λ k. not (stamp_below v (later.floor (brick_at group k)))))
+      (omega (arith, share, limits.some_block)) in
+      let tests = and_parts (not (stamp_below (later.floor (brick_at group seat.0)) u)) (not (stamp_below v (later.floor (brick_at group seat.0)))) seat.2 in
+      shared_floor b later u v (brick_at group seat.0) b_is b_version
+      (not-true (stamp_below (later.floor (brick_at group seat.0)) u) tests.0)
+      (not-true (stamp_below v (later.floor (brick_at group seat.0))) tests.1))
+      (λ (before : later.begin ≤ last_of (life_of w.marks a)). absurd (omega (arith, before, ended)))
+      (said.order a b earlier later u a_is b_is
+      (eqb-true earlier.ask.group.0 g a_at.0 ∙ sym (eqb-true later.ask.group.0 g b_at.0))
+      (eqb-true earlier.ask.stripe.0 s a_at.1 ∙ sym (eqb-true later.ask.stripe.0 s b_at.1)) a_version)
+
+  maker_holds : (n : ℕ) (o : Operation) (t : Stamp) → IsOperation w n o → o.made ≡ true → o.version ≡ Some t → MakerFacts w o t
+  maker_holds n o t is made version =
+      let own : t ≡ stamps o.brick.0 o.seq = maker_stamp setting w stamps said n o t is made version in
+      record {
+        op = (said.operations n o is).content made
+            ∙ ap (λ (u : Stamp). WriteStripe (w.contents o.ask.group.0 o.ask.stripe.0 u)) (sym own);
+        later = λ first. not_first (w.nodes o.brick.0).known o.brick.0 (stamps o.brick.0 o.seq) (own_stamp setting w stamps books said n o is) (sym own ∙ first);
+      }
+
+  reader_holds : (n : ℕ) (o : Operation) (t : Stamp) → IsOperation w n o → o.made ≡ false → o.version ≡ Some t → ReaderFacts w n o t
+  reader_holds n o t is unmade version =
+      let has : HasVersion setting w o t = (said.operations n o is).version t version in
+      record {
+        op = has.reader unmade;
+        made = has.made;
+        answered = λ life p bytes life_is ending.
+            let end = answered_has_end w.marks n p (Data bytes) life life_is ending in
+            let shown : DataShown w n bytes = said.ends end.0 p n (Data bytes) end.1 in
+            let same : shown.operation ≡ o = (let e : Some shown.operation ≡ Some o = sym shown.is ∙ is in cc) in
+            let stamp : shown.version ≡ t
+            = (let e : Some shown.version ≡ Some t = sym shown.version_is ∙ ap (λ (z : Operation). z.version) same ∙ version in cc) in
+            shown.bytes_are
+            ∙ ap (λ (z : Operation). w.contents z.ask.group.0 z.ask.stripe.0 shown.version) same
+            ∙ ap (λ (u : Stamp). w.contents o.ask.group.0 o.ask.stripe.0 u) stamp;
+      }
+
+  -- a write that was sent says what it should
+  write_says : (call : Call) (from to : BrickId) (t : Stamp) (block : List ℕ) → WriteSent w call from to t block
+      → WriteSays setting w stamps from.0 to.0 call t block
+  write_says call from to t block sent =
+      said.packets sent.0 (record { from = from; to = to; message = Message.Request call (Request.Write t block) }) sent.1
+
+  -- what is said of a world makes these facts true
+  pub facts : QuorumFacts setting w
+  facts = record {
+    real_time = real_time_holds;
+    maker_unique = λ a b one other t one_is other_is one_made other_made one_version other_version.
+        operation_unique setting w stamps books said a b one other one_is other_is
+        (sym (maker_stamp setting w stamps said a one t one_is one_made one_version) ∙ maker_stamp setting w stamps said b other t other_is other_made other_version);
+    made_version = λ n o is made. (stamps o.brick.0 o.seq, (said.operations n o is).made made);
+    maker = maker_holds;
+    reader = reader_holds;
+    answered_write = λ n o bytes is answered op. (said.operations n o is).answered answered bytes op;
+    first = λ g s group group_is. said.first g s ∙ ap (λ (z : Option Group). zero_content setting.layout.block z) group_is;
+    one_content = record {
+      sent = λ call from to t block group group_is sent.
+          let says : WriteSays setting w stamps from.0 to.0 call t block = write_says call from to t block sent in
+          let seat : (k : ℕ) × (seat_in group.members to.0 ≡ Some k) = says.member group group_is in (
+            seat.0,
+            seat_within group to.0 seat.0 seat.1,
+            brick_at_seat group to.0 seat.0 seat.1,
+            says.is_block group seat.0 group_is seat.1,
+          );
+    };
+    guarded = λ call from to t block group group_is sent. (write_says call from to t block sent).guarded group group_is;
+    stored = λ call from to sent. said.packets sent.0 (record { from = from; to = to; message = Message.Reply call Reply.Stored }) sent.1;
+    aborts = λ k p n brick x at. said.ends k p n (Aborted (Cause.Later brick x)) at;
+  }
+
+-- the facts hold in every world that a run reaches, where the books do
+pub quorum_facts : (setting : Setting) (events : List Event) → IsSound setting
+    → ((more : List Event) → Books setting (run setting more (first_world setting.layout)))
+    → QuorumFacts setting (run setting events (first_world setting.layout))
+quorum_facts setting events sound books =
+    let said : IsSaid setting (run setting events (first_world setting.layout))
+    = said_run setting events (first_world setting.layout) sound books (said_first setting sound) in
+    facts setting sound (run setting events (first_world setting.layout)) said.0 (books events) said.1

@@ -1,0 +1,273 @@
+-- What a member's part of a stripe keeps through a request: its stamps never fall, and its log only grows.
+use Rattle.std.proofs.Common.{◌≡◌, ℕ, suc, ◌⊎◌, inl, inr, Bool, true, false, cond, List, [], ◌∷◌, ◌++◌, Option, Some, None, refl, sym, ap, ◌∙◌, subst, ⊎_elim}
+use Rattle.std.specs.Prelude.{slice_get}
+use Rattle.std.proofs.lemmas.Bool.{cond_both, cond-false, false≢true, or_left, or_right, or_cases}
+use Rattle.fab_base.specs.declared.stamps.Stamp.{Stamp}
+use Rattle.fab_base.specs.Stamps.{stamp_below, stamp_same}
+use Rattle.fab_base.proofs.StampOrder.{stamp_below_irrefl, stamp_below_asym, stamp_not_below_trans, stamp_neither_below, stamp_same_refl}
+use Rattle.fab_wire.specs.declared.requests.Version.{Version}
+use Rattle.fab_wire.specs.declared.requests.Want.{Want}
+use Rattle.fab_wire.specs.declared.requests.Want.TheVariants.{Seat, All}
+use Rattle.fab_wire.specs.declared.requests.Request.{Request}
+use Rattle.fab_wire.specs.declared.requests.Request.TheVariants.{Read, Order, OrderRead, Write, Modify, Collect, OldRead, Prepare, Accept}
+use Rattle.fab_wire.specs.declared.replies.Reply.{Reply}
+use Rattle.fab_wire.specs.declared.replies.Reply.TheVariants.{Found, Ordered, Stored, Later}
+use Rattle.protocol.specs.Replicas.{Replica, Reaction, newest_of, is_held, stamp_max, top_of, is_wanted, told_version, ordered, written, handle}
+use Rattle.protocol.proofs.Tables.{get_grown, get_one}
+
+-- neither of two stamps is above the greater
+pub max_left : (a b : Stamp) → stamp_below (stamp_max a b) a ≡ false
+max_left a b = cond_both (stamp_below a b) b a (λ (z : Stamp). stamp_below z a ≡ false) (λ is. stamp_below_asym a b is) (λ isnt. stamp_below_irrefl a)
+
+pub max_right : (a b : Stamp) → stamp_below (stamp_max a b) b ≡ false
+max_right a b = cond_both (stamp_below a b) b a (λ (z : Stamp). stamp_below z b ≡ false) (λ is. stamp_below_irrefl b) (λ isnt. isnt)
+
+-- the greater of two stamps at most t is at most t
+pub max_most : (a b t : Stamp) → stamp_below t a ≡ false → stamp_below t b ≡ false → stamp_below t (stamp_max a b) ≡ false
+max_most a b t h k = cond_both (stamp_below a b) b a (λ (z : Stamp). stamp_below t z ≡ false) (λ is. k) (λ isnt. h)
+
+-- the last of a log that grew
+newest_grown : (log : List Version) (version : Version) → newest_of (log ++ (version ∷ [])) ≡ Some version
+newest_grown [] version = refl
+newest_grown (x ∷ []) version = refl
+newest_grown (x ∷ (y ∷ log)) version = newest_grown (y ∷ log) version
+
+-- the top, where the newest version is known
+pub top_is : (replica : Replica) (version : Version) → newest_of replica.log ≡ Some version → top_of replica ≡ stamp_max replica.order version.stamp
+unfolding top_of
+top_is replica version is = rw is
+
+top_is_order : (replica : Replica) → newest_of replica.log ≡ None → top_of replica ≡ replica.order
+unfolding top_of
+top_is_order replica is = rw is
+
+-- a list's last version, or none
+newest_cases : (log : List Version) → ((version : Version) × (newest_of log ≡ Some version)) ⊎ (newest_of log ≡ None)
+newest_cases log = cases_of (newest_of log)
+  where
+    cases_of : (o : Option Version) → ((version : Version) × (o ≡ Some version)) ⊎ (o ≡ None)
+    cases_of None = inr refl
+    cases_of (Some version) = inl (version, refl)
+
+-- the newest version stands in the log
+pub newest_stands : (log : List Version) (version : Version) → newest_of log ≡ Some version → (k : ℕ) × (slice_get log k ≡ Some version)
+newest_stands [] version is = cc
+newest_stands (x ∷ []) version is = (0, is)
+newest_stands (x ∷ (y ∷ log)) version is = let rest = newest_stands (y ∷ log) version is in (suc rest.0, rest.1)
+
+-- the order stamp is at most the top, and so is the newest version
+top_order : (replica : Replica) → stamp_below (top_of replica) replica.order ≡ false
+top_order replica = ⊎_elim
+    (λ (some : (version : Version) × (newest_of replica.log ≡ Some version)).
+    subst (λ (z : Stamp). stamp_below z replica.order ≡ false) (sym (top_is replica some.0 some.1)) (max_left replica.order some.0.stamp))
+    (λ (none : newest_of replica.log ≡ None).
+    subst (λ (z : Stamp). stamp_below z replica.order ≡ false) (sym (top_is_order replica none)) (stamp_below_irrefl replica.order))
+    (newest_cases replica.log)
+
+top_newest : (replica : Replica) (version : Version) → newest_of replica.log ≡ Some version → stamp_below (top_of replica) version.stamp ≡ false
+top_newest replica version is = subst (λ (z : Stamp). stamp_below z version.stamp ≡ false) (sym (top_is replica version is)) (max_right replica.order version.stamp)
+
+-- the greater of two stamps, the second no greater
+max_of_lower : (a b : Stamp) → stamp_below a b ≡ false → stamp_max a b ≡ a
+max_of_lower a b h = cond-false (stamp_below a b) b a h
+
+-- the greater of two stamps, the first no greater
+max_of_higher : (a b : Stamp) → stamp_below b a ≡ false → stamp_max a b ≡ b
+max_of_higher a b h = cond_both (stamp_below a b) b a (λ (z : Stamp). z ≡ b) (λ is. refl) (λ isnt. stamp_neither_below a b isnt h)
+
+-- the part with a promise of t
+abbrev pub with_order : Replica → Stamp → Replica
+with_order replica t = record { order = t; log = replica.log }
+
+-- the part with one more version
+abbrev pub with_version : Replica → Stamp → List ℕ → Replica
+with_version replica t block = record { order = replica.order; log = replica.log ++ (record { stamp = t; block = block } ∷ []) }
+
+-- after a promise the top is the promised stamp
+pub top_promised : (replica : Replica) (t : Stamp) → stamp_below t (top_of replica) ≡ false → top_of (with_order replica t) ≡ t
+top_promised replica t at = ⊎_elim
+    (λ (some : (version : Version) × (newest_of replica.log ≡ Some version)).
+    top_is (with_order replica t) some.0 some.1
+    ∙ max_of_lower t some.0.stamp (stamp_not_below_trans some.0.stamp (top_of replica) t (top_newest replica some.0 some.1) at))
+    (λ (none : newest_of replica.log ≡ None). top_is_order (with_order replica t) none)
+    (newest_cases replica.log)
+
+-- after a write the top is the written stamp
+pub top_written : (replica : Replica) (t : Stamp) (block : List ℕ) → stamp_below t (top_of replica) ≡ false → top_of (with_version replica t block) ≡ t
+top_written replica t block at =
+    top_is (with_version replica t block) (record { stamp = t; block = block }) (newest_grown replica.log (record { stamp = t; block = block }))
+    ∙ max_of_higher replica.order t (stamp_not_below_trans replica.order (top_of replica) t (top_order replica) at)
+
+-- a request made the member promise a stamp
+pub record HasPromised (replica : Replica) (request : Request) (next : Replica) : Type 0 where
+  pub stamp : Stamp
+  pub request_is : request ≡ Order stamp
+  pub above : stamp_below stamp (top_of replica) ≡ false
+  pub next_is : next ≡ with_order replica stamp
+
+-- a request made the member store a version
+pub record HasWritten (replica : Replica) (request : Request) (next : Replica) : Type 0 where
+  pub stamp : Stamp
+  pub block : List ℕ
+  pub request_is : request ≡ Write stamp block
+  pub above : stamp_below stamp (top_of replica) ≡ false
+  pub next_is : next ≡ with_version replica stamp block
+
+-- the part after a request: as before, or with a promise, or with one more version
+abbrev pub IsAfter : Replica → Request → Replica → Type 0
+IsAfter replica request next = (next ≡ replica) ⊎ (HasPromised replica request next ⊎ HasWritten replica request next)
+
+ordered_after : (replica : Replica) (t : Stamp) → IsAfter replica (Order t) (ordered replica t).replica
+ordered_after replica t =
+    cond_both (stamp_below t (top_of replica)) (record { replica = replica; reply = Some (Later (top_of replica)) })
+    (record { replica = record { order = t; log = replica.log }; reply = Some Ordered })
+    (λ (z : Reaction). IsAfter replica (Order t) z.replica)
+    (λ below. inl refl)
+    (λ at. inr (inl (record { stamp = t; request_is = refl; above = at; next_is = refl })))
+
+written_after : (replica : Replica) (t : Stamp) (block : List ℕ) → IsAfter replica (Write t block) (written replica t block).replica
+written_after replica t block =
+    cond_both (is_held t replica.log) (record { replica = replica; reply = Some Stored })
+    (cond (stamp_below t (top_of replica)) (record { replica = replica; reply = Some (Later (top_of replica)) })
+    (record { replica = with_version replica t block; reply = Some Stored }))
+    (λ (z : Reaction). IsAfter replica (Write t block) z.replica)
+    (λ held. inl refl)
+    (λ isnt. cond_both (stamp_below t (top_of replica)) (record { replica = replica; reply = Some (Later (top_of replica)) })
+    (record { replica = with_version replica t block; reply = Some Stored })
+    (λ (z : Reaction). IsAfter replica (Write t block) z.replica)
+    (λ below. inl refl)
+    (λ at. inr (inr (record { stamp = t; block = block; request_is = refl; above = at; next_is = refl }))))
+
+pub handle_after : (seat : ℕ) (replica : Replica) (request : Request) → IsAfter replica request (handle seat replica request).replica
+unfolding handle
+handle_after seat replica (Read want) = inl refl
+handle_after seat replica (Order t) = ordered_after replica t
+handle_after seat replica (Write t block) = written_after replica t block
+handle_after seat replica (OrderRead t look want) = inl refl
+handle_after seat replica (Modify t base j delta) = inl refl
+handle_after seat replica (Collect t) = inl refl
+handle_after seat replica (OldRead bound) = inl refl
+handle_after seat replica (Prepare ballot) = inl refl
+handle_after seat replica (Accept ballot members) = inl refl
+
+-- a stamp is asked for
+abbrev pub IsAsked : Request → Stamp → Type 0
+IsAsked request t = (request ≡ Order t) ⊎ ((block : List ℕ) × (request ≡ Write t block))
+
+-- what a member's reply tells of its part before and after the request
+abbrev pub ReactionSays : Replica → Request → Replica → Reply → Type 0
+ReactionSays replica request next (Found order (Some version)) =
+    (want : Want) × (request ≡ Read want) × (want ≡ All → newest_of replica.log ≡ Some version) × (order ≡ replica.order) × (next ≡ replica)
+ReactionSays replica request next Ordered =
+    (t : Stamp) × (request ≡ Order t) × (stamp_below t (top_of replica) ≡ false) × (top_of next ≡ t)
+ReactionSays replica request next Stored = (t : Stamp) × (block : List ℕ) × (request ≡ Write t block) × (is_held t next.log ≡ true)
+ReactionSays replica request next (Later x) = (t : Stamp) × IsAsked request t × (stamp_below t x ≡ true)
+ReactionSays replica request next reply = Unit {0}
+
+-- of a reply, if there is one
+abbrev pub SaysIf : Replica → Request → Replica → Option Reply → Type 0
+SaysIf replica request next None = Unit {0}
+SaysIf replica request next (Some reply) = ReactionSays replica request next reply
+
+-- a version that was just stored is held
+held_grown : (log : List Version) (version : Version) → is_held version.stamp (log ++ (version ∷ [])) ≡ true
+held_grown [] version = or_left (stamp_same version.stamp version.stamp) false (stamp_same_refl version.stamp)
+held_grown (x ∷ log) version = or_right (stamp_same x.stamp version.stamp) (is_held version.stamp (log ++ (version ∷ []))) (held_grown log version)
+
+-- what was held is held when the log has grown
+pub held_kept : (t : Stamp) (log more : List Version) → is_held t log ≡ true → is_held t (log ++ more) ≡ true
+held_kept t [] more held = absurd (false≢true held)
+held_kept t (x ∷ log) more held = ⊎_elim
+    (λ (here : stamp_same x.stamp t ≡ true). or_left (stamp_same x.stamp t) (is_held t (log ++ more)) here)
+    (λ (there : is_held t log ≡ true). or_right (stamp_same x.stamp t) (is_held t (log ++ more)) (held_kept t log more there))
+    (or_cases (stamp_same x.stamp t) (is_held t log) held)
+
+ordered_says : (replica : Replica) (t : Stamp) → SaysIf replica (Order t) (ordered replica t).replica (ordered replica t).reply
+ordered_says replica t =
+    cond_both (stamp_below t (top_of replica)) (record { replica = replica; reply = Some (Later (top_of replica)) })
+    (record { replica = record { order = t; log = replica.log }; reply = Some Ordered })
+    (λ (z : Reaction). SaysIf replica (Order t) z.replica z.reply)
+    (λ below. (t, inl refl, below))
+    (λ at. (t, refl, at, top_promised replica t at))
+
+written_says : (replica : Replica) (t : Stamp) (block : List ℕ) → SaysIf replica (Write t block) (written replica t block).replica (written replica t block).reply
+written_says replica t block =
+    cond_both (is_held t replica.log) (record { replica = replica; reply = Some Stored })
+    (cond (stamp_below t (top_of replica)) (record { replica = replica; reply = Some (Later (top_of replica)) })
+    (record { replica = with_version replica t block; reply = Some Stored }))
+    (λ (z : Reaction). SaysIf replica (Write t block) z.replica z.reply)
+    (λ held. (t, block, refl, held))
+    (λ isnt. cond_both (stamp_below t (top_of replica)) (record { replica = replica; reply = Some (Later (top_of replica)) })
+    (record { replica = with_version replica t block; reply = Some Stored })
+    (λ (z : Reaction). SaysIf replica (Write t block) z.replica z.reply)
+    (λ below. (t, inr (block, refl), below))
+    (λ at. (t, block, refl, held_grown replica.log (record { stamp = t; block = block }))))
+
+-- what is told where all is wanted
+told_all : (replica : Replica) (want : Want) (seat : ℕ) (newest : Option Version) → newest_of replica.log ≡ newest
+    → SaysIf replica (Read want) replica (Some (Found replica.order (told_version (is_wanted want seat) newest)))
+told_all replica want seat None is = tt
+told_all replica (Seat k) seat (Some version) is =
+    told_some (is_wanted (Seat k) seat)
+  where
+    told_some : (b : Bool) → SaysIf replica (Read (Seat k)) replica (Some (Found replica.order (told_version b (Some version))))
+    told_some true = (Seat k, refl, (λ e. cc), refl, refl)
+    told_some false = (Seat k, refl, (λ e. cc), refl, refl)
+told_all replica All seat (Some version) is = (All, refl, (λ e. is), refl, refl)
+
+pub handle_says : (seat : ℕ) (replica : Replica) (request : Request)
+    → SaysIf replica request (handle seat replica request).replica (handle seat replica request).reply
+unfolding handle
+handle_says seat replica (Read want) = told_all replica want seat (newest_of replica.log) refl
+handle_says seat replica (Order t) = ordered_says replica t
+handle_says seat replica (Write t block) = written_says replica t block
+handle_says seat replica (OrderRead t look want) = tt
+handle_says seat replica (Modify t base j delta) = tt
+handle_says seat replica (Collect t) = tt
+handle_says seat replica (OldRead bound) = tt
+handle_says seat replica (Prepare ballot) = tt
+handle_says seat replica (Accept ballot members) = tt
+
+-- a request does not lower the top
+pub after_top : (replica : Replica) (request : Request) (next : Replica) → IsAfter replica request next → stamp_below (top_of next) (top_of replica) ≡ false
+after_top replica request next (inl same) = subst (λ (z : Replica). stamp_below (top_of z) (top_of replica) ≡ false) (sym same) (stamp_below_irrefl (top_of replica))
+after_top replica request next (inr (inl p)) =
+    let top : top_of next ≡ p.stamp = ap (λ z. top_of z) p.next_is ∙ top_promised replica p.stamp p.above in
+    subst (λ (z : Stamp). stamp_below z (top_of replica) ≡ false) (sym top) p.above
+after_top replica request next (inr (inr p)) =
+    let top : top_of next ≡ p.stamp = ap (λ z. top_of z) p.next_is ∙ top_written replica p.stamp p.block p.above in
+    subst (λ (z : Stamp). stamp_below z (top_of replica) ≡ false) (sym top) p.above
+
+-- a request leaves what is held
+pub after_held : (replica : Replica) (request : Request) (next : Replica) (t : Stamp) → IsAfter replica request next → is_held t replica.log ≡ true
+    → is_held t next.log ≡ true
+after_held replica request next t (inl same) held = subst (λ (z : Replica). is_held t z.log ≡ true) (sym same) held
+after_held replica request next t (inr (inl p)) held = subst (λ (z : Replica). is_held t z.log ≡ true) (sym p.next_is) held
+after_held replica request next t (inr (inr p)) held =
+    subst (λ (z : Replica). is_held t z.log ≡ true) (sym p.next_is) (held_kept t replica.log (record { stamp = p.stamp; block = p.block } ∷ []) held)
+
+-- the top is as before, or the stamp that was asked for
+pub after_asked : (replica : Replica) (request : Request) (next : Replica) → IsAfter replica request next
+    → (top_of next ≡ top_of replica) ⊎ IsAsked request (top_of next)
+after_asked replica request next (inl same) = inl (ap (λ z. top_of z) same)
+after_asked replica request next (inr (inl p)) =
+    let top : top_of next ≡ p.stamp = ap (λ z. top_of z) p.next_is ∙ top_promised replica p.stamp p.above in
+    inr (subst (λ (z : Stamp). IsAsked request z) (sym top) (inl p.request_is))
+after_asked replica request next (inr (inr p)) =
+    let top : top_of next ≡ p.stamp = ap (λ z. top_of z) p.next_is ∙ top_written replica p.stamp p.block p.above in
+    inr (subst (λ (z : Stamp). IsAsked request z) (sym top) (inr (p.block, p.request_is)))
+
+-- a version in the log was there, or was written
+pub after_log : (replica : Replica) (request : Request) (next : Replica) (k : ℕ) (version : Version) → IsAfter replica request next
+    → slice_get next.log k ≡ Some version → (slice_get replica.log k ≡ Some version) ⊎ (request ≡ Write version.stamp version.block)
+after_log replica request next k version (inl same) is = inl (subst (λ (z : Replica). slice_get z.log k ≡ Some version) same is)
+after_log replica request next k version (inr (inl p)) is = inl (subst (λ (z : Replica). slice_get z.log k ≡ Some version) p.next_is is)
+after_log replica request next k version (inr (inr p)) is =
+    let grown : slice_get (replica.log ++ (record { stamp = p.stamp; block = p.block } ∷ [])) k ≡ Some version
+    = subst (λ (z : Replica). slice_get z.log k ≡ Some version) p.next_is is in
+    ⊎_elim
+    (λ (old : slice_get replica.log k ≡ Some version). inl old)
+    (λ (new : (j : ℕ) × (slice_get (record { stamp = p.stamp; block = p.block } ∷ []) j ≡ Some version)).
+    let same : record { stamp = p.stamp; block = p.block } ≡ version = get_one (record { stamp = p.stamp; block = p.block }) version new.0 new.1 in
+    inr (p.request_is ∙ ap (λ (z : Version). Write z.stamp z.block) same))
+    (get_grown replica.log (record { stamp = p.stamp; block = p.block } ∷ []) k version grown)

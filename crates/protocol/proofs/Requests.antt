@@ -1,0 +1,213 @@
+-- A member handles a request: what its part of the stripe, and its reply, then say.
+use Rattle.std.proofs.Common.{◌≡◌, ℕ, ◌≤◌, ◌⊎◌, inl, inr, true, false, Option, Some, None, refl, sym, ap, ◌∙◌, subst, ⊎_elim, arith}
+use Rattle.std.specs.Prelude.{slice_get}
+use Rattle.fab_base.specs.declared.identities.BrickId.{BrickId}
+use Rattle.fab_base.specs.declared.stamps.Stamp.{Stamp}
+use Rattle.fab_base.specs.Stamps.{stamp_below}
+use Rattle.fab_base.proofs.StampOrder.{stamp_below_irrefl, stamp_not_below_trans}
+use Rattle.fab_wire.specs.declared.calls.Call.{Call}
+use Rattle.fab_wire.specs.declared.messages.Message.TheVariants as Message
+use Rattle.fab_wire.specs.declared.messages.Packet.{Packet}
+use Rattle.fab_wire.specs.declared.requests.Request.{Request}
+use Rattle.fab_wire.specs.declared.requests.Version.{Version}
+use Rattle.fab_wire.specs.declared.replies.Reply.{Reply}
+use Rattle.protocol.specs.Settings.{Setting}
+use Rattle.protocol.specs.Replicas.{Replica, newest_of, top_of, is_held, stamp_max}
+use Rattle.protocol.specs.Nodes.{Node, put, with_replica, reply_packets}
+use Rattle.protocol.specs.Worlds.{World, Operation}
+use Rattle.protocol.specs.Laws.{WasSent, AskedAt, part_of}
+use Rattle.protocol.proofs.Books.{Books, OperationBooks}
+use Rattle.protocol.proofs.Said.{Stamping, Said, IsKnown, IsCalled, VersionSays, WriteSays, RequestSays, OrderedSays, FoundSays, ReplySays, PacketSays}
+use Rattle.protocol.proofs.Tables.{put_each, put_same, get_one}
+use Rattle.protocol.proofs.Reactions.{IsAfter, IsAsked, ReactionSays, SaysIf, after_top, after_held, after_asked, after_log, top_is, newest_stands}
+use Rattle.protocol.proofs.Growth.{Grows, stays_known, stays_version, stays_called, stays_found}
+use Rattle.protocol.proofs.Steps.{KeepsParts, quiet, quiet_grows, said_quiet}
+
+-- what holds of the changed part, and of each part as it was
+pub parts_each : (Q : ℕ → ℕ → Replica → Type 0) (node : Node) (call : Call) (part : Replica) → Q call.group.0 call.stripe.0 part
+    → ((g s : ℕ) → Q g s (node.replicas g s)) → (g s : ℕ) → Q g s ((with_replica node call part).replicas g s)
+parts_each Q node call part new old g s =
+    put_each (λ h row. (r : ℕ) → Q h r (row r)) node.replicas call.group.0 (put (node.replicas call.group.0) call.stripe.0 part)
+    (put_each (Q call.group.0) (node.replicas call.group.0) call.stripe.0 part new (λ r other. old call.group.0 r))
+    (λ h other r. old h r) g s
+
+-- a request lowers no part, and leaves what is held
+pub parts_keep : (node : Node) (call : Call) (request : Request) (part : Replica) → IsAfter (node.replicas call.group.0 call.stripe.0) request part
+    → KeepsParts node (with_replica node call part)
+parts_keep node call request part after = record {
+  tops = parts_each (λ g s r. stamp_below (top_of r) (top_of (node.replicas g s)) ≡ false) node call part
+      (after_top (node.replicas call.group.0 call.stripe.0) request part after) (λ g s. stamp_below_irrefl (top_of (node.replicas g s)));
+  held = λ g s t. parts_each (λ h r x. is_held t (node.replicas h r).log ≡ true → is_held t x.log ≡ true) node call part
+      (λ held. after_held (node.replicas call.group.0 call.stripe.0) request part t after held) (λ h r held. held) g s;
+}
+
+-- the changed part
+pub part_now : (node : Node) (call : Call) (part : Replica) → (with_replica node call part).replicas call.group.0 call.stripe.0 ≡ part
+part_now node call part =
+    ap (λ row. row call.stripe.0) (put_same node.replicas call.group.0 (put (node.replicas call.group.0) call.stripe.0 part))
+    ∙ put_same (node.replicas call.group.0) call.stripe.0 part
+
+module _ (setting : Setting) (w : World) (stamps : Stamping) (me from : BrickId) (call : Call) (request : Request) (books : Books setting w)
+    (said : Said setting w stamps) (sent : WasSent w (record { from = from; to = me; message = Message.Request call request })) where
+  -- the member's part before the request
+  abbrev before : Replica
+  before = part_of w call.group.0 call.stripe.0 me.0
+
+  asks : RequestSays setting w stamps from.0 me.0 call request
+  asks = said.packets sent.0 (record { from = from; to = me; message = Message.Request call request }) sent.1
+
+  -- the stamp of an operation's call is known
+  called_known : (t : Stamp) (o : Operation) → IsCalled w from.0 call o → t ≡ stamps from.0 call.seq → IsKnown w stamps t
+  called_known t o called is =
+      let its : OperationBooks setting w (w.numbers from.0 call.seq) o = books.operations (w.numbers from.0 call.seq) o called.is in
+      let some : 1 ≤ o.seq = its.called.0 in
+      let most : o.seq ≤ (w.nodes from.0).seq = subst (λ (j : ℕ). o.seq ≤ (w.nodes j).seq) called.brick its.called.1 in
+      let same : o.seq ≡ call.seq = called.seq in
+      inr (from.0, call.seq, omega arith, omega arith, is)
+
+  -- a stamp that is asked for is known
+  asked_known : (t : Stamp) → IsAsked request t → IsKnown w stamps t
+  asked_known t (inl is) =
+      let says : RequestSays setting w stamps from.0 me.0 call (Request.Order t) = subst (λ (r : Request). RequestSays setting w stamps from.0 me.0 call r) is asks in
+      called_known t says.1.0 says.1.1 says.0
+  asked_known t (inr is) =
+      let says : WriteSays setting w stamps from.0 me.0 call t is.0
+      = subst (λ (r : Request). RequestSays setting w stamps from.0 me.0 call r) is.1 asks in
+      called_known t says.operation says.called says.stamp
+
+  module _ (part : Replica) (reply : Option Reply) (after : IsAfter before request part) (tells : SaysIf before request part reply) where
+    -- the world after it
+    abbrev next : World
+    next = quiet w me (with_replica (w.nodes me.0) call part) (reply_packets me from call reply)
+
+    keeps : KeepsParts (w.nodes me.0) (with_replica (w.nodes me.0) call part)
+    keeps = parts_keep (w.nodes me.0) call request part after
+
+    grows : Grows w next stamps stamps
+    grows = quiet_grows w stamps me (with_replica (w.nodes me.0) call part) (reply_packets me from call reply) keeps refl
+
+    tops : (g s : ℕ) → (top_of ((with_replica (w.nodes me.0) call part).replicas g s) ≡ top_of ((w.nodes me.0).replicas g s))
+        ⊎ IsKnown next stamps (top_of ((with_replica (w.nodes me.0) call part).replicas g s))
+    tops = parts_each (λ g s r. (top_of r ≡ top_of ((w.nodes me.0).replicas g s)) ⊎ IsKnown next stamps (top_of r)) (w.nodes me.0) call part
+        (⊎_elim (λ (same : top_of part ≡ top_of before). inl same)
+        (λ (asked : IsAsked request (top_of part)).
+        inr (stays_known setting w next stamps stamps books grows (top_of part) (asked_known (top_of part) asked)))
+        (after_asked before request part after))
+        (λ g s. inl refl)
+
+    -- a version that is written says what it should
+    written_version : (version : Version) → request ≡ Request.Write version.stamp version.block
+        → VersionSays setting w call.group.0 call.stripe.0 me.0 version
+    written_version version is =
+        let says : WriteSays setting w stamps from.0 me.0 call version.stamp version.block
+        = subst (λ (r : Request). RequestSays setting w stamps from.0 me.0 call r) is asks in
+        record {
+          made = inr (w.numbers from.0 call.seq, says.operation, says.called.is, says.called.group, says.called.stripe, says.made, says.version);
+          block = says.is_block;
+        }
+
+    logs : (g s k : ℕ) (version : Version) → slice_get ((with_replica (w.nodes me.0) call part).replicas g s).log k ≡ Some version
+        → (slice_get ((w.nodes me.0).replicas g s).log k ≡ Some version) ⊎ VersionSays setting next g s me.0 version
+    logs g s k version = parts_each
+        (λ h r x. slice_get x.log k ≡ Some version
+        → (slice_get ((w.nodes me.0).replicas h r).log k ≡ Some version) ⊎ VersionSays setting next h r me.0 version)
+        (w.nodes me.0) call part
+        (λ is. ⊎_elim
+        (λ (old : slice_get before.log k ≡ Some version). inl old)
+        (λ (new : request ≡ Request.Write version.stamp version.block).
+        inr (stays_version setting w next stamps stamps books grows call.group.0 call.stripe.0 me.0 version (written_version version new)))
+        (after_log before request part k version after is))
+        (λ h r is. inl is) g s
+
+    -- the member's part after the request
+    now : part_of next call.group.0 call.stripe.0 me.0 ≡ part
+    now = ap (λ node. node.replicas call.group.0 call.stripe.0) (put_same w.nodes me.0 (with_replica (w.nodes me.0) call part))
+        ∙ part_now (w.nodes me.0) call part
+
+    -- the operation's floor at this member is not above its top
+    floor_below : (o : Operation) → IsCalled w from.0 call o → stamp_below (top_of before) (o.floor me.0) ≡ false
+    floor_below o called =
+        let floors : stamp_below (top_of (part_of w o.ask.group.0 o.ask.stripe.0 me.0)) (o.floor me.0) ≡ false
+        = (said.operations (w.numbers from.0 call.seq) o called.is).floors me.0 in
+        let in_group : stamp_below (top_of (part_of w call.group.0 o.ask.stripe.0 me.0)) (o.floor me.0) ≡ false
+        = subst (λ (g : ℕ). stamp_below (top_of (part_of w g o.ask.stripe.0 me.0)) (o.floor me.0) ≡ false) called.group floors in
+        subst (λ (s : ℕ). stamp_below (top_of (part_of w call.group.0 s me.0)) (o.floor me.0) ≡ false) called.stripe in_group
+
+    found_says : (order : Stamp) (version : Version) → ReactionSays before request part (Reply.Found order (Some version))
+        → FoundSays setting w me.0 from.0 call order version
+    found_says order version told =
+        let says : RequestSays setting w stamps from.0 me.0 call (Request.Read told.0)
+        = subst (λ (r : Request). RequestSays setting w stamps from.0 me.0 call r) told.1 asks in
+        let newest : newest_of before.log ≡ Some version = told.2 says.0 in
+        let top : top_of before ≡ stamp_max order version.stamp
+        = top_is before version newest ∙ ap (λ (t : Stamp). stamp_max t version.stamp) (sym told.3) in
+        let stands = newest_stands before.log version newest in
+        record {
+          operation = says.1.0;
+          called = says.1.1;
+          top = subst (λ (t : Stamp). stamp_below (top_of before) t ≡ false) top (stamp_below_irrefl (top_of before));
+          floor = subst (λ (t : Stamp). stamp_below t (says.1.0.floor me.0) ≡ false) top (floor_below says.1.0 says.1.1);
+          says = said.logs call.group.0 call.stripe.0 me.0 stands.0 version stands.1;
+        }
+
+    ordered_says : ReactionSays before request part Reply.Ordered → OrderedSays next stamps me.0 from.0 call
+    ordered_says told =
+        let says : RequestSays setting w stamps from.0 me.0 call (Request.Order told.0)
+        = subst (λ (r : Request). RequestSays setting w stamps from.0 me.0 call r) told.1 asks in
+        let goes = stays_called setting w next stamps stamps books grows from.0 call says.1.0 says.1.1 in
+        let top : top_of (part_of next call.group.0 call.stripe.0 me.0) ≡ stamps from.0 call.seq
+        = ap (λ (r : Replica). top_of r) now ∙ told.3 ∙ says.0 in
+        let above : stamp_below (stamps from.0 call.seq) (top_of before) ≡ false
+        = subst (λ (t : Stamp). stamp_below t (top_of before) ≡ false) says.0 told.2 in
+        record {
+          operation = goes.0;
+          called = goes.1;
+          promised = subst (λ (t : Stamp). stamp_below t (stamps from.0 call.seq) ≡ false) (sym top) (stamp_below_irrefl (stamps from.0 call.seq));
+          floor = subst (λ (f : ℕ → Stamp). stamp_below (stamps from.0 call.seq) (f me.0) ≡ false) (sym goes.2.floor)
+              (stamp_not_below_trans (says.1.0.floor me.0) (top_of before) (stamps from.0 call.seq) (floor_below says.1.0 says.1.1) above);
+        }
+
+    later_asked : (t : Stamp) → IsAsked request t → AskedAt next call from me t
+    later_asked t (inl is) =
+        inl (grows.sent (record { from = from; to = me; message = Message.Request call (Request.Order t) })
+        (subst (λ (r : Request). WasSent w (record { from = from; to = me; message = Message.Request call r })) is sent))
+    later_asked t (inr is) =
+        inr (
+          is.0,
+          grows.sent (record { from = from; to = me; message = Message.Request call (Request.Write t is.0) })
+              (subst (λ (r : Request). WasSent w (record { from = from; to = me; message = Message.Request call r })) is.1 sent),
+        )
+
+    reply_says : (r : Reply) → ReactionSays before request part r → ReplySays setting next stamps me from call r
+    reply_says (Reply.Found order (Some version)) told =
+        stays_found setting w next stamps stamps books grows me.0 from.0 call order version (found_says order version told)
+    reply_says Reply.Ordered told = ordered_says told
+    reply_says Reply.Stored told = (
+      told.0,
+      told.1,
+      grows.sent (record { from = from; to = me; message = Message.Request call (Request.Write told.0 told.1) })
+          (subst (λ (r : Request). WasSent w (record { from = from; to = me; message = Message.Request call r })) told.2 sent),
+      subst (λ (r : Replica). is_held told.0 r.log ≡ true) (sym now) told.3,
+    )
+    reply_says (Reply.Later x) told = (told.0, later_asked told.0 told.1, told.2)
+    reply_says r told = tt
+
+    packets : (o : Option Reply) → SaysIf before request part o → (k : ℕ) (packet : Packet) → slice_get (reply_packets me from call o) k ≡ Some packet
+        → PacketSays setting next stamps packet
+    packets None says k packet is = cc
+    packets (Some r) says k packet is =
+        subst (λ (p : Packet). PacketSays setting next stamps p) (get_one (record { from = me; to = from; message = Message.Reply call r }) packet k is)
+        (reply_says r says)
+
+    -- a member's step on a request keeps the invariant
+    pub said_after_request : Said setting next stamps
+    said_after_request =
+        said_quiet setting w stamps me (with_replica (w.nodes me.0) call part) (reply_packets me from call reply) books said (record {
+          keeps = keeps;
+          seq = refl;
+          known = omega arith;
+          tops = tops;
+          logs = logs;
+          calls = λ k c is. inl is;
+          packets = packets reply tells;
+        })

@@ -1,0 +1,212 @@
+-- What the messages, the logs, the operations and the marks of a world say: the invariant behind the laws. The stamp of each brick's call is
+-- remembered beside the world.
+use Rattle.std.proofs.Common.{◌≡◌, ℕ, ◌<◌, ◌≤◌, ◌⊎◌, true, false, not, List, [], ◌∷◌, length, Some}
+use Rattle.std.specs.Prelude.{slice_get}
+use Rattle.fab_base.specs.declared.identities.BrickId.{BrickId}
+use Rattle.fab_base.specs.declared.stamps.Stamp.{Stamp}
+use Rattle.fab_base.specs.declared.asks.Op.{Op}
+use Rattle.fab_base.specs.declared.asks.Op.TheVariants.{ReadStripe, WriteStripe}
+use Rattle.fab_base.specs.declared.answers.Answer.{Answer}
+use Rattle.fab_base.specs.declared.answers.Answer.TheVariants.{Data, Done, Aborted}
+use Rattle.fab_base.specs.declared.answers.Cause.{Cause}
+use Rattle.fab_base.specs.Stamps.{stamp_below, first_stamp}
+use Rattle.fab_wire.specs.declared.calls.Call.{Call}
+use Rattle.fab_wire.specs.declared.messages.Message.{Message}
+use Rattle.fab_wire.specs.declared.messages.Packet.{Packet}
+use Rattle.fab_wire.specs.declared.requests.Request.{Request}
+use Rattle.fab_wire.specs.declared.requests.Version.{Version}
+use Rattle.fab_wire.specs.declared.requests.Want.TheVariants as Want
+use Rattle.fab_wire.specs.declared.replies.Reply.{Reply}
+use Rattle.reg_model.specs.declared.marks.Mark.TheVariants.{End}
+use Rattle.reg_model.specs.Marks.{life_of}
+use Rattle.reg_model.specs.Walk.{last_of}
+use Rattle.protocol.specs.Settings.{Setting, Group, group_of, seat_in}
+use Rattle.protocol.specs.Replicas.{top_of, is_held, stamp_max}
+use Rattle.protocol.specs.Coordinators.{Phase, Looks, Orders, Stores, Stalls, Counted, Coordinator, answers_phase, has_seat}
+use Rattle.protocol.specs.Worlds.{World, Operation, zero_content}
+use Rattle.protocol.specs.Laws.{WasSent, WriteSent, AskedAt, Evidence, part_of, brick_at, AtQuorum, IsGuarded}
+use Rattle.protocol.proofs.Books.{IsOperation, IsCall}
+
+-- the stamp of each brick's call
+abbrev pub Stamping : Type 0
+Stamping = ℕ → ℕ → Stamp
+
+-- the version is the first one, or an operation of this stripe made it
+abbrev pub IsMadeOrFirst : World → ℕ → ℕ → Stamp → Type 0
+IsMadeOrFirst w g s t =
+    (t ≡ first_stamp)
+    ⊎ ((n : ℕ) × (o : Operation) × IsOperation w n o × (o.ask.group.0 ≡ g) × (o.ask.stripe.0 ≡ s) × (o.made ≡ true) × (o.version ≡ Some t))
+
+-- the stamp is the first one, or that of a call which was begun
+abbrev pub IsKnown : World → Stamping → Stamp → Type 0
+IsKnown w stamps t = (t ≡ first_stamp) ⊎ ((j l : ℕ) × (1 ≤ l) × (l ≤ (w.nodes j).seq) × (t ≡ stamps j l))
+
+-- a stamp of brick i, when i knows this time
+pub record IsStampOf (known i : ℕ) (t : Stamp) : Type 0 where
+  pub view : t.view.0 ≡ 1
+  pub boot : t.boot ≡ 1
+  pub brick : t.brick.0 ≡ i
+  pub positive : 1 ≤ t.time
+  pub bounded : t.time ≤ known
+
+-- at a quorum of seats the operation's floor is at most t
+abbrev pub FloorsAtMost : Operation → Group → Stamp → Type 0
+FloorsAtMost o group t = AtQuorum group (λ seat. not (stamp_below t (o.floor (brick_at group seat))))
+
+-- at a quorum of seats the operation's floor is at least t
+abbrev pub FloorsAtLeast : Operation → Group → Stamp → Type 0
+FloorsAtLeast o group t = AtQuorum group (λ seat. not (stamp_below (o.floor (brick_at group seat)) t))
+
+-- a request or reply's call is that of an operation of brick i
+pub record IsCalled (w : World) (i : ℕ) (call : Call) (o : Operation) : Type 0 where
+  pub is : IsOperation w (w.numbers i call.seq) o
+  pub brick : o.brick.0 ≡ i
+  pub seq : o.seq ≡ call.seq
+  pub group : o.ask.group.0 ≡ call.group.0
+  pub stripe : o.ask.stripe.0 ≡ call.stripe.0
+
+-- a block is the block of version t of a stripe at the seat of brick i
+abbrev pub IsBlockOf : Setting → World → ℕ → ℕ → ℕ → Stamp → List ℕ → Type 0
+IsBlockOf setting w g s i t block =
+    (group : Group) (seat : ℕ) → group_of setting.layout g ≡ Some group → seat_in group.members i ≡ Some seat
+    → block ≡ setting.code.encode group.m (w.contents g s t) seat
+
+-- a version that brick i keeps, or told
+pub record VersionSays (setting : Setting) (w : World) (g s i : ℕ) (version : Version) : Type 0 where
+  pub made : IsMadeOrFirst w g s version.stamp
+  pub block : IsBlockOf setting w g s i version.stamp version.block
+
+-- a write of a version
+pub record WriteSays (setting : Setting) (w : World) (stamps : Stamping) (from to : ℕ) (call : Call) (t : Stamp) (block : List ℕ) : Type 0 where
+  pub operation : Operation
+  pub called : IsCalled w from call operation
+  pub stamp : t ≡ stamps from call.seq
+  pub made : operation.made ≡ true
+  pub version : operation.version ≡ Some t
+  pub member : (group : Group) → group_of setting.layout call.group.0 ≡ Some group → (seat : ℕ) × (seat_in group.members to ≡ Some seat)
+  pub guarded : (group : Group) → group_of setting.layout call.group.0 ≡ Some group → IsGuarded w call.group.0 call.stripe.0 group t
+  pub is_block : IsBlockOf setting w call.group.0 call.stripe.0 to t block
+
+-- what a request of brick i to brick j says
+abbrev pub RequestSays : Setting → World → Stamping → ℕ → ℕ → Call → Request → Type 0
+RequestSays setting w stamps i j call (Request.Read want) = (want ≡ Want.All) × ((o : Operation) × IsCalled w i call o)
+RequestSays setting w stamps i j call (Request.Order t) = (t ≡ stamps i call.seq) × ((o : Operation) × IsCalled w i call o)
+RequestSays setting w stamps i j call (Request.Write t block) = WriteSays setting w stamps i j call t block
+RequestSays setting w stamps i j call request = Unit {0}
+
+-- an order that brick j answered
+pub record OrderedSays (w : World) (stamps : Stamping) (j i : ℕ) (call : Call) : Type 0 where
+  pub operation : Operation
+  pub called : IsCalled w i call operation
+  pub promised : stamp_below (top_of (part_of w call.group.0 call.stripe.0 j)) (stamps i call.seq) ≡ false
+  pub floor : stamp_below (stamps i call.seq) (operation.floor j) ≡ false
+
+-- what brick j found
+pub record FoundSays (setting : Setting) (w : World) (j i : ℕ) (call : Call) (order : Stamp) (version : Version) : Type 0 where
+  pub operation : Operation
+  pub called : IsCalled w i call operation
+  pub top : stamp_below (top_of (part_of w call.group.0 call.stripe.0 j)) (stamp_max order version.stamp) ≡ false
+  pub floor : stamp_below (stamp_max order version.stamp) (operation.floor j) ≡ false
+  pub says : VersionSays setting w call.group.0 call.stripe.0 j version
+
+-- what a reply of brick `from` to brick `to` says
+abbrev pub ReplySays : Setting → World → Stamping → BrickId → BrickId → Call → Reply → Type 0
+ReplySays setting w stamps from to call (Reply.Found order (Some version)) = FoundSays setting w from.0 to.0 call order version
+ReplySays setting w stamps from to call Reply.Ordered = OrderedSays w stamps from.0 to.0 call
+ReplySays setting w stamps from to call Reply.Stored =
+    (t : Stamp) × (block : List ℕ) × WriteSent w call to from t block
+    × (is_held t (part_of w call.group.0 call.stripe.0 from.0).log ≡ true)
+ReplySays setting w stamps from to call (Reply.Later x) = (t : Stamp) × AskedAt w call to from t × (stamp_below t x ≡ true)
+ReplySays setting w stamps from to call reply = Unit {0}
+
+abbrev pub MessageSays : Setting → World → Stamping → BrickId → BrickId → Message → Type 0
+MessageSays setting w stamps from to (Message.Request call request) = RequestSays setting w stamps from.0 to.0 call request
+MessageSays setting w stamps from to (Message.Reply call reply) = ReplySays setting w stamps from to call reply
+MessageSays setting w stamps from to message = Unit {0}
+
+abbrev pub PacketSays : Setting → World → Stamping → Packet → Type 0
+PacketSays setting w stamps packet = MessageSays setting w stamps packet.from packet.to packet.message
+
+-- an operation's version
+pub record HasVersion (setting : Setting) (w : World) (o : Operation) (v : Stamp) : Type 0 where
+  pub made : IsMadeOrFirst w o.ask.group.0 o.ask.stripe.0 v
+  pub reader : o.made ≡ false → o.ask.op ≡ ReadStripe
+  pub guarded : (group : Group) → group_of setting.layout o.ask.group.0 ≡ Some group → IsGuarded w o.ask.group.0 o.ask.stripe.0 group v
+  pub floors : (group : Group) → group_of setting.layout o.ask.group.0 ≡ Some group → FloorsAtMost o group v
+
+-- operation n
+pub record OperationSays (setting : Setting) (w : World) (stamps : Stamping) (n : ℕ) (o : Operation) : Type 0 where
+  pub begin : o.begin ≤ length w.marks
+  pub floors : (i : ℕ) → stamp_below (top_of (part_of w o.ask.group.0 o.ask.stripe.0 i)) (o.floor i) ≡ false
+  pub fresh : (i : ℕ) → o.floor i ≡ stamps o.brick.0 o.seq → ⊥
+  pub made : o.made ≡ true → o.version ≡ Some (stamps o.brick.0 o.seq)
+  pub content : o.made ≡ true → o.ask.op ≡ WriteStripe (w.contents o.ask.group.0 o.ask.stripe.0 (stamps o.brick.0 o.seq))
+  pub version : (v : Stamp) → o.version ≡ Some v → HasVersion setting w o v
+  pub answered : o.answered ≡ true → (bytes : List ℕ) → o.ask.op ≡ WriteStripe bytes → o.made ≡ true
+
+-- a coordinator is in a phase of its operation
+abbrev pub FitsPhase : Phase → Op → Type 0
+FitsPhase Looks op = op ≡ ReadStripe
+FitsPhase Orders op = (bytes : List ℕ) × (op ≡ WriteStripe bytes)
+FitsPhase Stores op = (bytes : List ℕ) × (op ≡ WriteStripe bytes)
+FitsPhase Stalls op = op ≡ ReadStripe
+
+-- a reply that counts at a coordinator of brick i
+pub record CountedSays (setting : Setting) (w : World) (i : ℕ) (c : Coordinator) (x : Counted) : Type 0 where
+  pub sent : WasSent w (record { from = x.brick; to = record { 0 = i }; message = Message.Reply c.call x.reply })
+  pub answers : c.phase ≡ Orders → answers_phase setting.layout.block Orders x.reply ≡ true
+  pub seat : (group : Group) → group_of setting.layout c.ask.group.0 ≡ Some group → seat_in group.members x.brick.0 ≡ Some x.seat
+
+-- each reply that counts
+abbrev pub EachCounted : (Counted → Type 0) → List Counted → Type 0
+EachCounted P [] = Unit {0}
+EachCounted P (x ∷ counted) = P x × EachCounted P counted
+
+-- no seat counts twice
+abbrev pub AreOnce : List Counted → Type 0
+AreOnce [] = Unit {0}
+AreOnce (x ∷ counted) = (has_seat x.seat counted ≡ false) × AreOnce counted
+
+-- the open operation of brick i's call k
+pub record CallSays (setting : Setting) (w : World) (stamps : Stamping) (i k : ℕ) (c : Coordinator) : Type 0 where
+  pub stamp : c.stamp ≡ stamps i k
+  pub fits : FitsPhase c.phase c.ask.op
+  pub counted : EachCounted (CountedSays setting w i c) c.counted
+  pub once : AreOnce c.counted
+
+-- the data that operation n was answered are its version's
+pub record DataShown (w : World) (n : ℕ) (bytes : List ℕ) : Type 0 where
+  pub operation : Operation
+  pub is : IsOperation w n operation
+  pub version : Stamp
+  pub version_is : operation.version ≡ Some version
+  pub unmade : operation.made ≡ false
+  pub bytes_are : bytes ≡ w.contents operation.ask.group.0 operation.ask.stripe.0 version
+
+-- the end of operation n by this answer
+abbrev pub EndShows : World → ℕ → Answer → Type 0
+EndShows w n (Data bytes) = DataShown w n bytes
+EndShows w n Done = Unit {0}
+EndShows w n (Aborted (Cause.Later brick x)) = (o : Operation) × (w.operations n ≡ Some o) × Evidence w o brick x
+EndShows w n (Aborted cause) = Unit {0}
+
+-- where one operation has a version, another of its stripe found that version below it at a quorum, or began no later than the first may end
+abbrev pub IsInOrder : Setting → World → Type 0
+IsInOrder setting w =
+    (a b : ℕ) (earlier later : Operation) (u : Stamp) → IsOperation w a earlier → IsOperation w b later
+    → earlier.ask.group.0 ≡ later.ask.group.0 → earlier.ask.stripe.0 ≡ later.ask.stripe.0 → earlier.version ≡ Some u
+    → ((group : Group) → group_of setting.layout later.ask.group.0 ≡ Some group → FloorsAtLeast later group u)
+    ⊎ (later.begin ≤ last_of (life_of w.marks a))
+
+-- The invariant.
+pub record Said (setting : Setting) (w : World) (stamps : Stamping) : Type 0 where
+  pub stamps_are : (i k : ℕ) → 1 ≤ k → k ≤ (w.nodes i).seq → IsStampOf (w.nodes i).known i (stamps i k)
+  pub stamps_rise : (i k l : ℕ) → 1 ≤ k → k < l → l ≤ (w.nodes i).seq → (stamps i k).time < (stamps i l).time
+  pub tops : (g s i : ℕ) → IsKnown w stamps (top_of (part_of w g s i))
+  pub logs : (g s i k : ℕ) (version : Version) → slice_get (part_of w g s i).log k ≡ Some version → VersionSays setting w g s i version
+  pub packets : (k : ℕ) (packet : Packet) → slice_get w.packets k ≡ Some packet → PacketSays setting w stamps packet
+  pub operations : (n : ℕ) (o : Operation) → IsOperation w n o → OperationSays setting w stamps n o
+  pub calls : (i k : ℕ) (c : Coordinator) → IsCall w i k c → CallSays setting w stamps i k c
+  pub ends : (k p n : ℕ) (answer : Answer) → slice_get w.marks k ≡ Some (End p n answer) → EndShows w n answer
+  pub order : IsInOrder setting w
+  pub first : (g s : ℕ) → w.contents g s first_stamp ≡ zero_content setting.layout.block (group_of setting.layout g)

@@ -1,0 +1,167 @@
+-- What is said is so in every world that a run reaches.
+use Rattle.std.proofs.Common.{◌≡◌, ℕ, zero, suc, inl, true, not, ◌&&◌, List, [], ◌∷◌, replicate, Option, Some, None, refl, sym, ap, ◌∙◌, subst, arith}
+use Rattle.std.specs.Prelude.{is_some}
+use Rattle.std.proofs.lemmas.Bool.{cond_both, cond-false, false≢true, and_parts}
+use Rattle.fab_base.specs.declared.identities.BrickId.{BrickId}
+use Rattle.fab_base.specs.declared.asks.Ask.{Ask}
+use Rattle.fab_base.specs.Stamps.{stamp_below, first_stamp}
+use Rattle.fab_base.proofs.StampOrder.{stamp_below_irrefl}
+use Rattle.fab_wire.specs.declared.calls.Call.{Call}
+use Rattle.fab_wire.specs.declared.messages.Message.{Message}
+use Rattle.fab_wire.specs.declared.messages.Packet.{Packet}
+use Rattle.fab_wire.specs.declared.requests.Request.{Request}
+use Rattle.fab_wire.specs.declared.requests.Version.{Version}
+use Rattle.fab_wire.specs.declared.replies.Reply.{Reply}
+use Rattle.protocol.specs.Settings.{Setting, Group, group_of, IsSound, seat_in}
+use Rattle.protocol.specs.Replicas.{first_replica, top_of, handle}
+use Rattle.protocol.specs.Coordinators.{Coordinator}
+use Rattle.protocol.specs.Nodes.{Node, NodeStep, no_step, is_stripe_op, refusal_in, refusal_of, began, invoked, requested_at, requested_in, requested, known_after, replied_to, replied_at, replied, received}
+use Rattle.protocol.specs.Worlds.{World, Event, Invokes, Delivers, first_world, zero_content, is_brick, may_begin, world_began, world_stepped, delivered, packet_of, happens, run}
+use Rattle.protocol.specs.Laws.{WasSent, part_of}
+use Rattle.protocol.proofs.Books.{Books, IsCall}
+use Rattle.protocol.proofs.Said.{Stamping, Said, VersionSays}
+use Rattle.protocol.proofs.Tables.{get_one}
+use Rattle.protocol.proofs.Reactions.{top_is, handle_after, handle_says}
+use Rattle.protocol.proofs.Requests.{said_after_request}
+use Rattle.protocol.proofs.Replies.{known_more, said_known, said_after_reply}
+use Rattle.protocol.proofs.Begins.{later, said_began}
+
+-- what is said of a world, by some stamps of its calls
+abbrev pub IsSaid : Setting → World → Type 0
+IsSaid setting w = (stamps : Stamping) × Said setting w stamps
+
+-- the world after a brick's step
+abbrev stepped : World → BrickId → NodeStep → World
+stepped w me step = world_stepped w me step step.told
+
+-- a step that does nothing
+nothing_said : (setting : Setting) (w : World) (stamps : Stamping) (me : BrickId) → Books setting w → Said setting w stamps
+    → Said setting (stepped w me (no_step (w.nodes me.0))) stamps
+nothing_said setting w stamps me books said = said_known setting w stamps me (w.nodes me.0).known books said (omega arith)
+
+-- a request is delivered
+request_said : (setting : Setting) (w : World) (stamps : Stamping) (me from : BrickId) (call : Call) (request : Request) → Books setting w
+    → Said setting w stamps → WasSent w (record { from = from; to = me; message = Message.Request call request })
+    → Said setting (stepped w me (requested setting me from (w.nodes me.0) call request)) stamps
+unfolding requested
+request_said setting w stamps me from call request books said sent = in_group (group_of setting.layout call.group.0)
+  where
+    at_seat : (z : Option ℕ) → Said setting (stepped w me (requested_at me from (w.nodes me.0) call request z)) stamps
+    at_seat None = nothing_said setting w stamps me books said
+    at_seat (Some seat) =
+        said_after_request setting w stamps me from call request books said sent
+        (handle seat (part_of w call.group.0 call.stripe.0 me.0) request).replica
+        (handle seat (part_of w call.group.0 call.stripe.0 me.0) request).reply
+        (handle_after seat (part_of w call.group.0 call.stripe.0 me.0) request)
+        (handle_says seat (part_of w call.group.0 call.stripe.0 me.0) request)
+
+    in_group : (z : Option Group) → Said setting (stepped w me (requested_in me from (w.nodes me.0) call request z)) stamps
+    in_group None = nothing_said setting w stamps me books said
+    in_group (Some group) = at_seat (seat_in group.members me.0)
+
+-- a reply is delivered
+reply_said : (setting : Setting) (w : World) (stamps : Stamping) (me from : BrickId) (call : Call) (reply : Reply) → IsSound setting → Books setting w
+    → Said setting w stamps → WasSent w (record { from = from; to = me; message = Message.Reply call reply })
+    → Said setting (stepped w me (replied setting me from (w.nodes me.0) call reply)) stamps
+unfolding replied
+reply_said setting w stamps me from call reply sound books said sent = at_call ((w.nodes me.0).calls call.seq) refl
+  where
+    in_group : (c : Coordinator) → IsCall w me.0 c.call.seq c → (z : Option Group) → group_of setting.layout c.ask.group.0 ≡ z
+        → Said setting (stepped w me (replied_to setting me from (w.nodes me.0) call reply c z)) stamps
+    in_group c is None none = nothing_said setting w stamps me books said
+    in_group c is (Some group) group_is =
+        said_after_reply setting sound w stamps me c group (known_after (w.nodes me.0).known reply) books said is group_is
+        (known_more (w.nodes me.0).known reply) from call reply sent
+
+    at_call : (z : Option Coordinator) → (w.nodes me.0).calls call.seq ≡ z → Said setting (stepped w me (replied_at setting me from (w.nodes me.0) call reply z)) stamps
+    at_call None none = said_known setting w stamps me (known_after (w.nodes me.0).known reply) books said (known_more (w.nodes me.0).known reply)
+    at_call (Some c) is =
+        let seq : c.call.seq ≡ call.seq = (books.calls me.0 call.seq c is).call_seq in
+        in_group c (subst (λ (k : ℕ). IsCall w me.0 k c) (sym seq) is) (group_of setting.layout c.ask.group.0) refl
+
+-- a message is delivered
+message_said : (setting : Setting) (w : World) (stamps : Stamping) (me from : BrickId) (message : Message) → IsSound setting → Books setting w
+    → Said setting w stamps → WasSent w (record { from = from; to = me; message = message })
+    → Said setting (stepped w me (received setting me (w.nodes me.0) (record { from = from; to = me; message = message }))) stamps
+unfolding received
+message_said setting w stamps me from (Message.Request call request) sound books said sent = request_said setting w stamps me from call request books said sent
+message_said setting w stamps me from (Message.Reply call reply) sound books said sent = reply_said setting w stamps me from call reply sound books said sent
+message_said setting w stamps me from message sound books said sent = nothing_said setting w stamps me books said
+
+delivered_said : (setting : Setting) (w : World) (stamps : Stamping) (z : Option Packet) → IsSound setting → Books setting w → Said setting w stamps
+    → ((packet : Packet) → z ≡ Some packet → WasSent w packet) → Said setting (delivered setting w z) stamps
+delivered_said setting w stamps None sound books said sent = said
+delivered_said setting w stamps (Some packet) sound books said sent =
+    cond_both (is_brick setting.layout packet.to) (stepped w packet.to (received setting packet.to (w.nodes packet.to.0) packet)) w
+    (λ (next : World). Said setting next stamps)
+    (λ is. message_said setting w stamps packet.to packet.from packet.message sound books said (sent packet refl))
+    (λ isnt. said)
+
+packet_was_sent : (w : World) (number : ℕ) (packet : Packet) → packet_of w.packets number ≡ Some packet → WasSent w packet
+packet_was_sent w zero packet is = cc
+packet_was_sent w (suc k) packet is = (k, is)
+
+-- an operation that is not refused has its group
+no_refusal : (block : ℕ) (node : Node) (ask : Ask) (z : Option Group) → not (is_some (refusal_in block node ask z)) ≡ true → (group : Group) × (z ≡ Some group)
+no_refusal block node ask None is = absurd (false≢true is)
+no_refusal block node ask (Some group) is = (group, refl)
+
+-- an operation is invoked
+invoked_said : (setting : Setting) (w : World) (stamps : Stamping) (me : BrickId) (ask : Ask) → Books setting w → Said setting w stamps
+    → may_begin setting w me ask ≡ true → IsSaid setting (world_began w me ask (invoked setting me 0 (w.nodes me.0) ask))
+unfolding invoked refusal_of
+invoked_said setting w stamps me ask books said may =
+    let p = and_parts (is_brick setting.layout me) (is_stripe_op ask.op && not (is_some (refusal_of setting.layout (w.nodes me.0) ask))) may in
+    let q = and_parts (is_stripe_op ask.op) (not (is_some (refusal_of setting.layout (w.nodes me.0) ask))) p.1 in
+    let group = no_refusal setting.layout.block (w.nodes me.0) ask (group_of setting.layout ask.group.0) q.1 in
+    subst (λ (z : Option Group). IsSaid setting (world_began w me ask (began setting me 0 (w.nodes me.0) ask z))) (sym group.1)
+    (later setting w stamps me ask group.0 books said group.1 q.0, said_began setting w stamps me ask group.0 books said group.1 q.0)
+
+-- every event keeps the invariant
+pub said_happens : (setting : Setting) (w : World) (event : Event) → IsSound setting → Books setting w → IsSaid setting w → IsSaid setting (happens setting w event)
+unfolding happens
+said_happens setting w (Invokes brick ask) sound books said =
+    cond_both (may_begin setting w brick ask) (world_began w brick ask (invoked setting brick 0 (w.nodes brick.0) ask)) w
+    (λ (next : World). IsSaid setting next)
+    (λ may. invoked_said setting w said.0 brick ask books said.1 may)
+    (λ isnt. said)
+said_happens setting w (Delivers number) sound books said =
+    (said.0, delivered_said setting w said.0 (packet_of w.packets number) sound books said.1 (packet_was_sent w number))
+
+-- the first world
+first_top : (block : ℕ) → top_of (first_replica block) ≡ first_stamp
+first_top block =
+    top_is (first_replica block) (record { stamp = first_stamp; block = replicate block 0 }) refl
+    ∙ cond-false (stamp_below first_stamp first_stamp) first_stamp first_stamp (stamp_below_irrefl first_stamp)
+
+pub said_first : (setting : Setting) → IsSound setting → IsSaid setting (first_world setting.layout)
+said_first setting sound = (
+  (λ i k. first_stamp),
+  record {
+    stamps_are = λ i k some most. absurd (omega arith);
+    stamps_rise = λ i k l some less most. absurd (omega arith);
+    tops = λ g s i. inl (first_top setting.layout.block);
+    logs = λ g s i k version is.
+        let same : record { stamp = first_stamp; block = replicate setting.layout.block 0 } ≡ version
+        = get_one (record { stamp = first_stamp; block = replicate setting.layout.block 0 }) version k is in
+        subst (λ (z : Version). VersionSays setting (first_world setting.layout) g s i z) same (record {
+          made = inl refl;
+          block = λ group seat group_is at.
+              sym (sound.zero_blocks g group seat group_is)
+              ∙ ap (λ (z : Option Group). setting.code.encode group.m (zero_content setting.layout.block z) seat) (sym group_is);
+        });
+    packets = λ k packet is. cc;
+    operations = λ n o is. cc;
+    calls = λ i k c is. cc;
+    ends = λ k p n answer is. cc;
+    order = λ a b earlier late u earlier_is late_is groups stripes version. cc;
+    first = λ g s. refl;
+  },
+)
+
+-- every run keeps the invariant
+pub said_run : (setting : Setting) (events : List Event) (w : World) → IsSound setting → ((more : List Event) → Books setting (run setting more w))
+    → IsSaid setting w → IsSaid setting (run setting events w)
+said_run setting [] w sound books said = said
+said_run setting (event ∷ events) w sound books said =
+    said_run setting events (happens setting w event) sound (λ more. books (event ∷ more)) (said_happens setting w event sound (books []) said)

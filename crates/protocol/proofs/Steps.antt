@@ -1,0 +1,188 @@
+-- What an event owes to the invariant: only what is new.
+use Rattle.std.proofs.Common.{◌≡◌, ℕ, ◌<◌, ◌≤◌, ◌⊎◌, inl, inr, true, false, List, ◌++◌, Some, refl, sym, ◌∙◌, subst, ⊎_elim, arith}
+use Rattle.std.specs.Prelude.{slice_get}
+use Rattle.fab_base.specs.declared.identities.BrickId.{BrickId}
+use Rattle.fab_base.specs.declared.stamps.Stamp.{Stamp}
+use Rattle.fab_base.specs.declared.answers.Answer.{Answer}
+use Rattle.fab_base.specs.Stamps.{stamp_below, first_stamp}
+use Rattle.fab_wire.specs.declared.messages.Packet.{Packet}
+use Rattle.fab_wire.specs.declared.requests.Version.{Version}
+use Rattle.reg_model.specs.declared.marks.Mark.TheVariants.{End}
+use Rattle.fab_base.proofs.StampOrder.{stamp_below_irrefl}
+use Rattle.protocol.specs.Settings.{Setting}
+use Rattle.protocol.specs.Replicas.{Replica, top_of, is_held}
+use Rattle.protocol.specs.Coordinators.{Coordinator}
+use Rattle.protocol.specs.Nodes.{Node, Nothing, put}
+use Rattle.protocol.specs.Worlds.{World, Operation, world_stepped}
+use Rattle.protocol.specs.Laws.{WasSent, NeverFalls, part_of}
+use Rattle.protocol.proofs.Books.{Books, IsOperation, IsCall}
+use Rattle.protocol.proofs.Said.{Stamping, Said, IsKnown, IsStampOf, VersionSays, PacketSays, OperationSays, CallSays, EndShows, IsInOrder}
+use Rattle.protocol.proofs.Tables.{put_each, get_kept, get_grown}
+use Rattle.protocol.proofs.Growth.{Grows, continues_same, stays_known, stays_version, stays_packet, stays_operation, stays_call, stays_end}
+
+-- what is new in the next world says what it should
+pub record Owes (setting : Setting) (w next : World) (stamps later : Stamping) : Type 0 where
+  pub stamps_are : (i k : ℕ) → 1 ≤ k → k ≤ (next.nodes i).seq → IsStampOf (next.nodes i).known i (later i k)
+  pub stamps_rise : (i k l : ℕ) → 1 ≤ k → k < l → l ≤ (next.nodes i).seq → (later i k).time < (later i l).time
+  pub tops : (g s i : ℕ) → (top_of (part_of next g s i) ≡ top_of (part_of w g s i)) ⊎ IsKnown next later (top_of (part_of next g s i))
+  pub logs : (g s i k : ℕ) (version : Version) → slice_get (part_of next g s i).log k ≡ Some version
+      → (slice_get (part_of w g s i).log k ≡ Some version) ⊎ VersionSays setting next g s i version
+  pub packets : (k : ℕ) (packet : Packet) → slice_get next.packets k ≡ Some packet
+      → (slice_get w.packets k ≡ Some packet) ⊎ PacketSays setting next later packet
+  pub operations : (n : ℕ) (o : Operation) → IsOperation next n o → IsOperation w n o ⊎ OperationSays setting next later n o
+  pub calls : (i k : ℕ) (c : Coordinator) → IsCall next i k c → IsCall w i k c ⊎ CallSays setting next later i k c
+  pub ends : (k p n : ℕ) (answer : Answer) → slice_get next.marks k ≡ Some (End p n answer)
+      → (slice_get w.marks k ≡ Some (End p n answer)) ⊎ EndShows next n answer
+  pub order : IsInOrder setting next
+
+-- the invariant holds after an event that pays what it owes
+pub said_after : (setting : Setting) (w next : World) (stamps later : Stamping) → Books setting w → Said setting w stamps
+    → Grows w next stamps later → Owes setting w next stamps later → Said setting next later
+said_after setting w next stamps later books said grows owes = record {
+  stamps_are = owes.stamps_are;
+  stamps_rise = owes.stamps_rise;
+  tops = λ g s i. ⊎_elim
+      (λ (same : top_of (part_of next g s i) ≡ top_of (part_of w g s i)).
+      subst (λ (t : Stamp). IsKnown next later t) (sym same) (stays_known setting w next stamps later books grows (top_of (part_of w g s i)) (said.tops g s i)))
+      (λ (new : IsKnown next later (top_of (part_of next g s i))). new)
+      (owes.tops g s i);
+  logs = λ g s i k version is. ⊎_elim
+      (λ (old : slice_get (part_of w g s i).log k ≡ Some version).
+      stays_version setting w next stamps later books grows g s i version (said.logs g s i k version old))
+      (λ (new : VersionSays setting next g s i version). new)
+      (owes.logs g s i k version is);
+  packets = λ k packet is. ⊎_elim
+      (λ (old : slice_get w.packets k ≡ Some packet). stays_packet setting w next stamps later books grows packet (said.packets k packet old))
+      (λ (new : PacketSays setting next later packet). new)
+      (owes.packets k packet is);
+  operations = λ n o is. ⊎_elim
+      (λ (old : IsOperation w n o). stays_operation setting w next stamps later books grows n o old (said.operations n o old))
+      (λ (new : OperationSays setting next later n o). new)
+      (owes.operations n o is);
+  calls = λ i k c is. ⊎_elim
+      (λ (old : IsCall w i k c). stays_call setting w next stamps later books grows i k c old (said.calls i k c old))
+      (λ (new : CallSays setting next later i k c). new)
+      (owes.calls i k c is);
+  ends = λ k p n answer is. ⊎_elim
+      (λ (old : slice_get w.marks k ≡ Some (End p n answer)).
+      stays_end setting w next stamps later books grows said.operations n answer (said.ends k p n answer old))
+      (λ (new : EndShows next n answer). new)
+      (owes.ends k p n answer is);
+  order = owes.order;
+  first = λ g s. grows.contents g s first_stamp (inl refl) ∙ said.first g s;
+}
+
+-- one brick's parts of stripes do not fall, and hold what they held
+pub record KeepsParts (node next : Node) : Type 0 where
+  pub tops : (g s : ℕ) → stamp_below (top_of (next.replicas g s)) (top_of (node.replicas g s)) ≡ false
+  pub held : (g s : ℕ) (t : Stamp) → is_held t (node.replicas g s).log ≡ true → is_held t (next.replicas g s).log ≡ true
+
+-- a brick that keeps its parts as they are
+pub keeps_same : (node next : Node) → next.replicas ≡ node.replicas → KeepsParts node next
+keeps_same node next same = record {
+  tops = λ g s.
+      subst (λ (r : ℕ → ℕ → Replica). stamp_below (top_of (r g s)) (top_of (node.replicas g s)) ≡ false) (sym same) (stamp_below_irrefl (top_of (node.replicas g s)));
+  held = λ g s t held. subst (λ (r : ℕ → ℕ → Replica). is_held t (r g s).log ≡ true) (sym same) held;
+}
+
+-- no part falls where one brick keeps its own
+pub never_falls_by : (w next : World) (me : ℕ) (node : Node) → next.nodes ≡ put w.nodes me node → KeepsParts (w.nodes me) node → NeverFalls w next
+never_falls_by w next me node nodes keeps g s i =
+    subst (λ (f : ℕ → Node). stamp_below (top_of ((f i).replicas g s)) (top_of ((w.nodes i).replicas g s)) ≡ false) (sym nodes)
+    (put_each (λ j x. stamp_below (top_of (x.replicas g s)) (top_of ((w.nodes j).replicas g s)) ≡ false) w.nodes me node
+    (keeps.tops g s) (λ j other. stamp_below_irrefl (top_of ((w.nodes j).replicas g s))) i)
+
+pub held_by : (w next : World) (me : ℕ) (node : Node) → next.nodes ≡ put w.nodes me node → KeepsParts (w.nodes me) node
+    → (g s i : ℕ) (t : Stamp) → is_held t (part_of w g s i).log ≡ true → is_held t (part_of next g s i).log ≡ true
+held_by w next me node nodes keeps g s i t =
+    subst (λ (f : ℕ → Node). is_held t ((w.nodes i).replicas g s).log ≡ true → is_held t ((f i).replicas g s).log ≡ true) (sym nodes)
+    (put_each (λ j x. is_held t ((w.nodes j).replicas g s).log ≡ true → is_held t (x.replicas g s).log ≡ true) w.nodes me node
+    (keeps.held g s t) (λ j other held. held) i)
+
+-- what was sent stays sent where packets are added
+pub sent_by : (w next : World) (more : List Packet) → next.packets ≡ w.packets ++ more → (packet : Packet) → WasSent w packet → WasSent next packet
+sent_by w next more packets packet sent =
+    (sent.0, subst (λ (l : List Packet). slice_get l sent.0 ≡ Some packet) (sym packets) (get_kept w.packets more sent.0 packet sent.1))
+
+-- call numbers stay where the brick's own does
+pub seqs_by : (w next : World) (me : ℕ) (node : Node) → next.nodes ≡ put w.nodes me node → node.seq ≡ (w.nodes me).seq
+    → (i : ℕ) → (next.nodes i).seq ≡ (w.nodes i).seq
+seqs_by w next me node nodes same i =
+    subst (λ (f : ℕ → Node). (f i).seq ≡ (w.nodes i).seq) (sym nodes) (put_each (λ j x. x.seq ≡ (w.nodes j).seq) w.nodes me node same (λ j other. refl) i)
+
+pub known_by : (w next : World) (me : ℕ) (node : Node) → next.nodes ≡ put w.nodes me node → (w.nodes me).known ≤ node.known
+    → (i : ℕ) → (w.nodes i).known ≤ (next.nodes i).known
+known_by w next me node nodes more i =
+    subst (λ (f : ℕ → Node). (w.nodes i).known ≤ (f i).known) (sym nodes)
+    (put_each (λ j x. (w.nodes j).known ≤ x.known) w.nodes me node more (λ j other. omega arith) i)
+
+-- stamps are as they were where call numbers are, and no known time falls
+pub stamps_are_by : (setting : Setting) (w next : World) (stamps : Stamping) → Said setting w stamps → ((i : ℕ) → (next.nodes i).seq ≡ (w.nodes i).seq)
+    → ((i : ℕ) → (w.nodes i).known ≤ (next.nodes i).known)
+    → (i k : ℕ) → 1 ≤ k → k ≤ (next.nodes i).seq → IsStampOf (next.nodes i).known i (stamps i k)
+stamps_are_by setting w next stamps said seqs known i k some below =
+    let same : (next.nodes i).seq ≡ (w.nodes i).seq = seqs i in
+    let is : IsStampOf (w.nodes i).known i (stamps i k) = said.stamps_are i k some (omega arith) in
+    record { view = is.view; boot = is.boot; brick = is.brick; positive = is.positive; bounded = omega (arith, is.bounded, known i) }
+
+pub stamps_rise_by : (setting : Setting) (w next : World) (stamps : Stamping) → Said setting w stamps → ((i : ℕ) → (next.nodes i).seq ≡ (w.nodes i).seq)
+    → (i k l : ℕ) → 1 ≤ k → k < l → l ≤ (next.nodes i).seq → (stamps i k).time < (stamps i l).time
+stamps_rise_by setting w next stamps said seqs i k l some less below =
+    let same : (next.nodes i).seq ≡ (w.nodes i).seq = seqs i in said.stamps_rise i k l some less (omega arith)
+
+-- the world after a brick's step that is told of no operation
+abbrev pub quiet : World → BrickId → Node → List Packet → World
+quiet w me node more = world_stepped w me (record { node = node; packets = more; told = Nothing }) Nothing
+
+pub quiet_grows : (w : World) (stamps : Stamping) (me : BrickId) (node : Node) (more : List Packet) → KeepsParts (w.nodes me.0) node
+    → node.seq ≡ (w.nodes me.0).seq → Grows w (quiet w me node more) stamps stamps
+quiet_grows w stamps me node more keeps seq = record {
+  tops = never_falls_by w (quiet w me node more) me.0 node refl keeps;
+  held = held_by w (quiet w me node more) me.0 node refl keeps;
+  sent = sent_by w (quiet w me node more) more refl;
+  operations = λ n o is. (o, is, continues_same o);
+  contents = λ g s t made. refl;
+  seqs = λ i. omega (arith, seqs_by w (quiet w me node more) me.0 node refl seq i);
+  stamped = λ i k within. refl;
+  numbered = λ i k within. refl;
+  marks = omega arith;
+}
+
+-- what a quiet step owes
+pub record QuietOwes (setting : Setting) (w : World) (stamps : Stamping) (me : BrickId) (node : Node) (more : List Packet) : Type 0 where
+  pub keeps : KeepsParts (w.nodes me.0) node
+  pub seq : node.seq ≡ (w.nodes me.0).seq
+  pub known : (w.nodes me.0).known ≤ node.known
+  pub tops : (g s : ℕ) → (top_of (node.replicas g s) ≡ top_of ((w.nodes me.0).replicas g s)) ⊎ IsKnown (quiet w me node more) stamps (top_of (node.replicas g s))
+  pub logs : (g s k : ℕ) (version : Version) → slice_get (node.replicas g s).log k ≡ Some version
+      → (slice_get ((w.nodes me.0).replicas g s).log k ≡ Some version) ⊎ VersionSays setting (quiet w me node more) g s me.0 version
+  pub calls : (k : ℕ) (c : Coordinator) → node.calls k ≡ Some c
+      → ((w.nodes me.0).calls k ≡ Some c) ⊎ CallSays setting (quiet w me node more) stamps me.0 k c
+  pub packets : (k : ℕ) (packet : Packet) → slice_get more k ≡ Some packet → PacketSays setting (quiet w me node more) stamps packet
+
+pub said_quiet : (setting : Setting) (w : World) (stamps : Stamping) (me : BrickId) (node : Node) (more : List Packet) → Books setting w
+    → Said setting w stamps → QuietOwes setting w stamps me node more → Said setting (quiet w me node more) stamps
+said_quiet setting w stamps me node more books said owes =
+    let next : World = quiet w me node more in
+    let seqs : (i : ℕ) → (next.nodes i).seq ≡ (w.nodes i).seq = seqs_by w next me.0 node refl owes.seq in
+    said_after setting w next stamps stamps books said (quiet_grows w stamps me node more owes.keeps owes.seq) (record {
+      stamps_are = stamps_are_by setting w next stamps said seqs (known_by w next me.0 node refl owes.known);
+      stamps_rise = stamps_rise_by setting w next stamps said seqs;
+      tops = λ g s i.
+          put_each (λ j x. (top_of (x.replicas g s) ≡ top_of ((w.nodes j).replicas g s)) ⊎ IsKnown (quiet w me node more) stamps (top_of (x.replicas g s)))
+          w.nodes me.0 node (owes.tops g s) (λ j other. inl refl) i;
+      logs = λ g s i k version.
+          put_each (λ j x. slice_get (x.replicas g s).log k ≡ Some version
+          → (slice_get ((w.nodes j).replicas g s).log k ≡ Some version) ⊎ VersionSays setting (quiet w me node more) g s j version)
+          w.nodes me.0 node (owes.logs g s k version) (λ j other is. inl is) i;
+      packets = λ k packet is. ⊎_elim
+          (λ (old : slice_get w.packets k ≡ Some packet). inl old)
+          (λ (new : (j : ℕ) × (slice_get more j ≡ Some packet)). inr (owes.packets new.0 packet new.1))
+          (get_grown w.packets more k packet is);
+      operations = λ n o is. inl is;
+      calls = λ i k c.
+          put_each (λ j x. x.calls k ≡ Some c → ((w.nodes j).calls k ≡ Some c) ⊎ CallSays setting (quiet w me node more) stamps j k c)
+          w.nodes me.0 node (owes.calls k c) (λ j other is. inl is) i;
+      ends = λ k p n answer is. inl is;
+      order = said.order;
+    })

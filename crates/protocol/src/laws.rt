@@ -1,0 +1,28 @@
+//! The laws of the disk. Each call does nothing: its contract is the law.
+
+ghost use Rattle.protocol.specs.Laws.{EveryRunKeepsTheLaws, NoEventLowers};
+
+/// Every run of the disk keeps its laws, whatever is asked of it, and whichever of its messages are delivered, lost, repeated
+/// or overtaken.
+///
+/// This holds for every layout whose groups are within the limits of a quorum, and for every code that gives back what it
+/// encodes. The laws are these.
+///
+/// - Each stripe is strictly linearizable (Aguilera and Frølund, "Strict Linearizability and the Power of Aborting", 2003):
+///   its happenings, each between the begin and the end of its operation, make its blocks plain registers, and every operation
+///   that was answered is among them.
+/// - Versions follow real time (Frølund et al., "A Decentralized Algorithm for Erasure-Coded Virtual Disks", DSN 2004).
+/// - One stamp has one content: every block that was sent to be written under a stamp is its seat's block of that content.
+/// - Before a version was sent to be written, a quorum had promised to take nothing below its stamp.
+/// - A member says that it stored a version only where it was asked to, and holds it.
+/// - An operation is aborted only where a member had told its coordinator of a later stamp than the one that it was asked at.
+/// - Marks are well formed: positions and numbers rise, and only an operation that is open ends.
+pub fn every_run_keeps_the_laws()
+    ensures { EveryRunKeepsTheLaws }
+{}
+
+/// No event of any run lowers what a brick has promised or stored: the greater of a stripe's order stamp and its newest
+/// version's stamp never falls (Frølund et al., DSN 2004).
+pub fn no_event_lowers()
+    ensures { NoEventLowers }
+{}
