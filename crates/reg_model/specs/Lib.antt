@@ -1,3 +1,4 @@
+pub mod Lives
 pub mod Marks
 pub mod Registers
 pub mod Strict

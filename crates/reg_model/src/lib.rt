@@ -1,13 +1,19 @@
 //! What it means that a stripe's blocks are plain registers: the marks that a run of the disk prints, the happenings that are
 //! claimed for them, and a check of the one against the other.
 //!
-//! Nothing here knows of stamps, quorums, messages or stored blocks. The notion is strict linearizability (Aguilera and
+//! Nothing here knows of quorums, messages or stored blocks. The notion is strict linearizability (Aguilera and
 //! Frølund, "Strict Linearizability and the Power of Aborting", 2003): an operation that was aborted, or whose coordinator
 //! crashed, has happened by then or never happens.
 #![tactic(auto)]
 
+// mod checker
 pub mod entries;
+pub mod lives;
 pub mod marks;
+// mod registers
+// mod strictness
+// mod well_formed
 
+// pub use checker::check;
 pub use entries::Entry;
 pub use marks::{Happening, Mark};

@@ -1,5 +1,7 @@
 //! Marks and happenings.
 
+ghost use Rattle.std.specs.Prelude.{◌≡◌};
+
 use fab_base::{Answer, Ask, BrickId};
 
 /// One thing that was seen from outside: an operation begins, an operation is answered, or a brick stops.
@@ -34,6 +36,21 @@ pub enum Mark {
         /// The brick.
         brick: BrickId,
     },
+}
+
+impl Mark {
+    ghost use Rattle.reg_model.specs.Marks.{position_of};
+
+    /// The mark's place in the list of all marks.
+    pub fn position(&self) -> u64
+        ensures { result ≡ position_of self.now }
+    {
+        match self {
+            Mark::Begin { position, .. } => *position,
+            Mark::End { position, .. } => *position,
+            Mark::Crash { position, .. } => *position,
+        }
+    }
 }
 
 /// That an operation happened, and where in the list of all marks: just after the mark of that position.
