@@ -6,14 +6,14 @@
 //! crashed, has happened by then or never happens.
 #![tactic(auto)]
 
-// mod checker
+pub mod checker;
 pub mod entries;
 pub mod lives;
 pub mod marks;
-// mod registers
-// mod strictness
-// mod well_formed
+pub mod registers;
+pub mod strictness;
+pub mod well_formed;
 
-// pub use checker::check;
+pub use checker::check;
 pub use entries::Entry;
 pub use marks::{Happening, Mark};
