@@ -8,6 +8,13 @@ use crate::marks::{Happening, Mark};
 use crate::strictness::is_strict;
 use crate::well_formed::is_well_formed;
 
+/// Whether what the marks ask fits a stripe of m data blocks of `block` bytes each, as [`check`] requires.
+pub fn all_fit(marks: &[Mark], m: u8, block: usize) -> bool
+    ensures { IsTrue result ↔ All (MarkFits m block) marks.now }
+{
+    marks.iter().all(|mark| mark.fits(m, block))
+}
+
 /// Whether the marks are well formed and the happenings are strict for them (Aguilera and Frølund 2003): true exactly there.
 ///
 /// The marks are those of one stripe of m data blocks, each of `block` bytes, and what they ask fits it. `scratch` has room
@@ -26,3 +33,6 @@ pub fn check(
 {
     is_well_formed(marks) && is_strict(marks, happenings, m, block, scratch)
 }
+
+#[cfg(test)]
+mod tests;

@@ -4,16 +4,21 @@
 //! Nothing here knows of quorums, messages or stored blocks. The notion is strict linearizability (Aguilera and
 //! Frølund, "Strict Linearizability and the Power of Aborting", 2003): an operation that was aborted, or whose coordinator
 //! crashed, has happened by then or never happens.
+//!
+//! `specs/Walk` says which facts on a stripe's versions make happenings strict, where operations happen in the order of the
+//! versions that they made or read: [`Entry`] is a step of such a walk.
 #![tactic(auto)]
 
 pub mod checker;
 pub mod entries;
-pub mod lives;
+mod lives;
 pub mod marks;
-pub mod registers;
+mod registers;
 pub mod strictness;
 pub mod well_formed;
 
-pub use checker::check;
+pub use checker::{all_fit, check};
 pub use entries::Entry;
 pub use marks::{Happening, Mark};
+pub use strictness::is_strict;
+pub use well_formed::is_well_formed;

@@ -2,10 +2,22 @@
 
 ghost use Rattle.std.specs.Prelude.{◌≡◌, ◌↔◌, IsTrue, Some};
 ghost use Rattle.reg_model.specs.Registers.{after_op, read_of};
-ghost use Rattle.reg_model.specs.Strict.{IsRead};
+ghost use Rattle.reg_model.specs.Strict.{IsRead, OpFits};
 ghost use Rattle.reg_model.specs.Lives.{FitsRegisters};
 
 use fab_base::Op;
+
+/// Whether the operation fits a stripe of m data blocks: its block is below m, and what it writes is one block, or m blocks.
+pub fn fits(op: &Op, m: u8, block: usize) -> bool
+    ensures { IsTrue result ↔ OpFits m block op.now }
+{
+    match op {
+        Op::ReadBlock(j) => *j < m,
+        Op::WriteBlock(j, bytes) => *j < m && bytes.len() == block,
+        Op::ReadStripe => true,
+        Op::WriteStripe(bytes) => usize::from(m).checked_mul(block) == Some(bytes.len()),
+    }
+}
 
 /// Whether these bytes are what a read gives: the data block, or all of them. A write gives nothing that could differ.
 pub fn reads(op: &Op, block: usize, registers: &[u8], bytes: &[u8]) -> bool
