@@ -1,11 +1,9 @@
--- What a life that was found in the marks says, and which registers an operation fits.
-use Rattle.std.specs.Prelude.{◌≡◌, ℕ, ◌+◌, ◌*◌, List, length}
-use Rattle.fab_base.specs.declared.asks.Op.{Op}
+-- What a life that was found in the marks says.
+use Rattle.std.specs.Prelude.{◌+◌}
 use Rattle.reg_model.specs.declared.lives.Ending.{Ending as FoundEnding}
 use Rattle.reg_model.specs.declared.lives.Ending.TheVariants as found
 use Rattle.reg_model.specs.declared.lives.Life.{Life as FoundLife}
 use Rattle.reg_model.specs.Marks.{Life, Ending, Answered, Interrupted, Unended}
-use Rattle.reg_model.specs.Strict.{OpFits}
 
 -- one past the last mark may be no position of a mark, so an operation that is still open is found with the last mark itself
 abbrev pub ending_shown : FoundEnding → Ending
@@ -15,7 +13,3 @@ ending_shown (found.Unended last) = Unended (last + 1)
 
 abbrev pub life_shown : FoundLife → Life
 life_shown life = record { begin = life.begin; brick = life.brick.0; ask = life.ask.now; ending = ending_shown life.ending }
-
--- the registers are some number of blocks, and the operation fits them
-abbrev pub FitsRegisters : ℕ → List ℕ → Op → Type 0
-FitsRegisters block registers op = (m : ℕ) × (length registers ≡ m * block) × OpFits m block op

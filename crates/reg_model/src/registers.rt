@@ -3,7 +3,7 @@
 ghost use Rattle.std.specs.Prelude.{◌≡◌, ◌↔◌, IsTrue, Some};
 ghost use Rattle.reg_model.specs.Registers.{after_op, read_of};
 ghost use Rattle.reg_model.specs.Strict.{IsRead, OpFits};
-ghost use Rattle.reg_model.specs.Lives.{FitsRegisters};
+ghost use Rattle.reg_model.specs.Fits.{FitsRegisters};
 
 use fab_base::Op;
 

@@ -6,14 +6,18 @@ ghost use Rattle.std.specs.List.Sorted.{IsNonDecreasing};
 ghost use Rattle.reg_model.specs.Marks.{life_of};
 ghost use Rattle.reg_model.specs.Registers.{zero_registers};
 ghost use Rattle.reg_model.specs.Strict.{IsInTime, IsStrict, MarkFits, ReadsRight, ReadsRightAlong, WasAnswered};
-ghost use Rattle.reg_model.specs.Lives.{FitsRegisters, life_shown};
+ghost use Rattle.reg_model.specs.Fits.{FitsRegisters};
+ghost use Rattle.reg_model.specs.Lives.{life_shown};
 
 use crate::lives::{Ending, Life};
 use crate::marks::{Happening, Mark};
 use crate::registers;
 use fab_base::Answer;
 
-/// Whether the happenings are strict for the marks of a stripe of m data blocks.
+/// Whether the happenings are strict for the marks of one stripe, of m data blocks of `block` bytes each.
+///
+/// What the marks ask fits the stripe, and `scratch` has room for its bytes: what it holds before does not matter. No memory
+/// is taken.
 pub fn is_strict(
     marks: &[Mark],
     happenings: &[Happening],

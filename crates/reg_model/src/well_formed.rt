@@ -10,7 +10,7 @@ use crate::lives::Life;
 use crate::marks::Mark;
 
 /// Whether positions rise, operations are numbered in the order of their Begins, and each End is of an operation that is open
-/// just before it.
+/// just before it. No memory is taken.
 pub fn is_well_formed(marks: &[Mark]) -> bool
     ensures { IsTrue result ↔ IsWellFormed marks.now }
 {
