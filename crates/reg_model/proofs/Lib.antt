@@ -1,2 +1,5 @@
 pub mod EntryOrder
+pub mod Fits
+pub mod MarkLists
+pub mod Places
 pub mod Walk

@@ -1,3 +1,5 @@
+pub mod Fits
+pub mod Lives
 pub mod Marks
 pub mod Registers
 pub mod Strict
