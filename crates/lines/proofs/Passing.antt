@@ -1,6 +1,6 @@
 -- What is known of an input after some of its lines were taken.
-use Rattle.std.proofs.Common.{ℕ, ◌≡◌, List, [], ◌++◌, Option, Some, None, IfSome, sym, ap, ◌∙◌, append_assoc, append-nil}
-use Rattle.std.specs.Io.KnownBytes.{Keeps, IsAtEnd}
+use Rattle.std.proofs.Common.{ℕ, ◌≡◌, List, [], ◌++◌, Option, Some, None, IfSome, refl, sym, ap, ◌∙◌, append_assoc, append-nil}
+use Rattle.std.specs.Io.KnownBytes.{Keeps, IsAtEnd, prepend_known}
 use Rattle.lines.specs.Lines.{raw_lines}
 use Rattle.lines.specs.Reading.{Passes}
 
@@ -29,3 +29,8 @@ pub Passes-all : (a b : Option (List ℕ)) (lines : List (List ℕ)) → Passes 
 Passes-all None b lines p end = tt
 Passes-all (Some x) None lines p end = absurd p
 Passes-all (Some x) (Some y) lines p end = p ∙ ap (λ l. lines ++ raw_lines l) end ∙ append-nil lines
+
+-- before the first read all is left in the source
+pub none_read : (a : Option (List ℕ)) → Keeps a (prepend_known [] a)
+none_read None = tt
+none_read (Some x) = refl
