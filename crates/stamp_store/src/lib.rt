@@ -1,0 +1,11 @@
+//! What a brick keeps besides its blocks: the count of its store's openings, views, ballots and order stamps, as bytes; and
+//! where its new stamps come from.
+#![tactic(auto)]
+
+pub mod kept_records;
+mod reads;
+pub mod stamp_sources;
+mod writes;
+
+pub use kept_records::Kept;
+pub use stamp_sources::{StampSource, stamps_differ};
