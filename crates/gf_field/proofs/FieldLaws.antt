@@ -1,13 +1,13 @@
 -- The laws of the field, over its definition by polynomials.
-use Rattle.std.proofs.Common.{◌≡◌, ℕ, zero, suc, ◌+◌, ◌-◌, ◌*◌, ◌/◌, ◌%◌, ◌^◌, ◌<◌, Bool, true, false, cond, eqb, List, [], ◌∷◌, refl, sym, ap, ◌∙◌, arith, inl, inr}
+use Rattle.std.proofs.Common.{◌≡◌, ℕ, zero, suc, ◌+◌, ◌-◌, ◌*◌, ◌/◌, ◌%◌, ◌^◌, ◌<◌, ◌≤◌, Bool, true, false, cond, eqb, List, [], ◌∷◌, refl, sym, ap, ◌∙◌, arith, inl, inr}
 use Rattle.std.specs.Prelude.{bit_xor}
 use lib.Bits.{xor_zero_r, xor_self, xor_shifted}
-use Rattle.std.proofs.Math.Nat.{pow-suc}
-use Rattle.std.proofs.lemmas.Nat.{xor_mod}
+use Rattle.std.proofs.Math.Nat.{pow-suc, div-one}
+use Rattle.std.proofs.lemmas.Nat.{xor_mod, shr-shr}
 use Rattle.std.proofs.lemmas.Bool.{agree_below, agree_below_at, eqb-true, cases_lt}
 use Rattle.gf_field.specs.BitPolynomials.{bits_of, number_of, bits_sum, bits_product, times_x, remainder}
 use Rattle.gf_field.specs.Field.{field_mul}
-use Rattle.gf_field.proofs.Doubling.{double, double-lt, field_mul-is, times, times-xor, times-sum, times-double, times-lt, bits_of-xor, bits_of-mod}
+use Rattle.gf_field.proofs.Doubling.{double, double-lt, field_mul-is, times, times-xor, times-sum, times-double, times-lt, bits_of-xor, bits_of-mod, times_step, times_none}
 
 -- a product is a byte
 pub field_mul-lt : (a b : ℕ) → field_mul a b < 256
@@ -143,3 +143,25 @@ pub field_mul-two_left : (a : ℕ) → a < 256 → field_mul 2 a ≡ double a
 field_mul-two_left a h =
     let low : a % 256 ≡ a = omega arith in
     field_mul-is 2 a ∙ times_two (a % 256) ∙ ap double low
+
+-- a step of a product a b by the bits of a: the product so far takes the power of b at bit i, and the power doubles
+pub mul_step : (a r i product power next_product next_power : ℕ) → i < 8 → power < 256
+    → next_product ≡ cond (eqb (a / 2 ^ i % 2) 1) (bit_xor product power) product
+    → next_power ≡ field_mul 2 power
+    → bit_xor product (times (bits_of (8 - i) (a / 2 ^ i)) power) ≡ r
+    → bit_xor next_product (times (bits_of (8 - (i + 1)) (a / 2 ^ (i + 1))) next_power) ≡ r
+mul_step a r i product power next_product next_power within small chosen doubled before =
+    let left : 8 - i ≡ suc (8 - (i + 1)) = omega arith in
+    (λ t. bit_xor (chosen t) (times (bits_of (8 - (i + 1)) (sym (shr-shr a i 1) t)) ((doubled ∙ field_mul-two_left power small) t)))
+    ∙ sym (times_step (8 - (i + 1)) (a / 2 ^ i) product power) ∙ ap (λ k. bit_xor product (times (bits_of k (a / 2 ^ i)) power)) (sym left) ∙ before
+
+-- at the start all bits are left, and at the end none
+pub mul_start : (a b : ℕ) → b < 256 → times (bits_of 8 (a / 2 ^ 0)) b ≡ field_mul a b
+mul_start a b small =
+    let same : b ≡ b % 256 = omega arith in
+    (λ t. times (bits_of 8 (div-one a t)) (same t)) ∙ sym (field_mul-is a b)
+
+pub mul_end : (a r i product power : ℕ) → 8 ≤ i → bit_xor product (times (bits_of (8 - i) (a / 2 ^ i)) power) ≡ r → product ≡ r
+mul_end a r i product power all before =
+    let done : 0 ≡ 8 - i = omega arith in
+    sym (times_none (a / 2 ^ i) product power) ∙ ap (λ k. bit_xor product (times (bits_of k (a / 2 ^ i)) power)) done ∙ before
