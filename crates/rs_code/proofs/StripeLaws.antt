@@ -89,6 +89,11 @@ IsCodedBlock-data m size stripe k block within long h =
        let coded = h.bytes t inside in
        coded.coded ∙ coded.passes.values k within ∙ sym (get_or-block_of size stripe k t inside))
 
+-- so Lagrange's formula gives it
+pub coded_block-data : (m size : ℕ) (stripe : List ℕ) (k : ℕ) → m ≤ 256 → HoldsBytes stripe → length stripe ≡ m * size → k < m → coded_block m size stripe k ≡ block_of size stripe k
+coded_block-data m size stripe k few small long within =
+    IsCodedBlock-data m size stripe k (coded_block m size stripe k) within long (coded_block-IsCodedBlock m size stripe k few small)
+
 -- ---- the stripe of m blocks
 
 -- the data bytes at a place and the bytes of the m blocks there lie on one polynomial
@@ -174,6 +179,16 @@ IsDecoded-from_sums m n size seats blocks j block few few_seats are_seats small 
            ∙ sym (byte_of-stripe_of m size seats blocks t j inside within) ∙ sym (get_or-block_of size (stripe_of m size seats blocks) j t inside));
     }
 
+-- a seat that is j holds data block j
+pub IsDecoded-from_seat : (m n size : ℕ) (seats blocks : List ℕ) (j i : ℕ) → m ≤ 256 → n ≤ 256 → AreSeats m n seats → HoldsBytes blocks
+    → length blocks ≡ m * size → j < m → i < m → get_or seats i 0 ≡ j → IsDecoded m size seats blocks j (block_of size blocks i)
+IsDecoded-from_seat m n size seats blocks j i few few_seats are_seats small long within hi own =
+    IsDecoded-from_sums m n size seats blocks j (block_of size blocks i) few few_seats are_seats small long within (length-block_of m size blocks i long hi)
+    (λ t h.
+       let seat = λ (i : ℕ). get_or seats i 0 in
+       let passes = through-PassesThrough m seat (byte_of size blocks t) (seats_AreDistinct m n seats few_seats are_seats) (λ i hi. small (i * size + t)) in
+       get_or-block_of size blocks i t h ∙ sym (passes.values i hi) ∙ ap (value (through m seat (byte_of size blocks t))) own ∙ value-through m seat (byte_of size blocks t) j)
+
 -- ---- a change of one data block
 
 -- a block plus the weighted delta is the block of the changed stripe
@@ -187,6 +202,17 @@ IsCodedBlock-changed m size j k delta old new block sum few within small changes
       (IsCodedByte-changed m (byte_of size old t) (byte_of size new t) j (get_or delta t 0) k (get_or block t 0) few within (small t) (changes.changed t ht)
        (λ i hi other. changes.others i t hi other ht) (h.bytes t ht));
 }
+
+-- so the formula of the changed stripe is the old block plus the weighted delta
+pub coded_block-changed : (m size j k t : ℕ) (delta old new : List ℕ) → m ≤ 256 → j < m → HoldsBytes delta → HoldsBytes old → HoldsBytes new → ChangesBlock m size j delta old new
+    → t < size → get_or (coded_block m size new k) t 0 ≡ bit_xor (get_or (coded_block m size old k) t 0) (field_mul (weight_of m (λ i. i) j k) (get_or delta t 0))
+coded_block-changed m size j k t delta old new few within small_delta small_old small_new changes h =
+    let before = (coded_block-IsCodedBlock m size old k few small_old).bytes t h in
+    let after = (coded_block-IsCodedBlock m size new k few small_new).bytes t h in
+    IsCodedByte-unique m (byte_of size new t) k (get_or (coded_block m size new k) t 0)
+    (bit_xor (get_or (coded_block m size old k) t 0) (field_mul (weight_of m (λ i. i) j k) (get_or delta t 0))) few after
+    (IsCodedByte-changed m (byte_of size old t) (byte_of size new t) j (get_or delta t 0) k (get_or (coded_block m size old k) t 0) few within (small_delta t) (changes.changed t h)
+     (λ i hi other. changes.others i t hi other h) before)
 
 -- the data blocks other than j stay
 pub block_of-changed : (m size j i : ℕ) (delta old new : List ℕ) → length old ≡ m * size → length new ≡ m * size → ChangesBlock m size j delta old new

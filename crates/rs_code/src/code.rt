@@ -1,9 +1,9 @@
 //! The code's limits and its three calls.
-ghost use Rattle.std.specs.Prelude.{◌≡◌, ◌↔◌, ℕ, ◌+◌, ◌*◌, ◌<◌, ◌≤◌, List, length, slice_index, bit_xor, IsSome, IfSome};
+ghost use Rattle.std.specs.Prelude.{◌≡◌, ◌↔◌, ℕ, ◌+◌, ◌*◌, ◌<◌, ◌≤◌, List, length, slice_index, bit_xor, IsSome, IfSome, IfNone, Contains};
 ghost use Rattle.gf_field.specs.Field.{field_mul};
 ghost use Rattle.gf_field.specs.Polynomials.{AreDistinct};
 ghost use Rattle.rs_code.specs.Codewords.{AreSeats, weighted_sum};
-ghost use Rattle.rs_code.specs.Stripes.{byte_of, coded_block, ChangesBlock, IsCodedBlock, IsDecoded};
+ghost use Rattle.rs_code.specs.Stripes.{block_of, byte_of, coded_block, ChangesBlock, IsCodedBlock, IsDecoded};
 
 /// The most data blocks of a stripe.
 pub const MAX_DATA_BLOCKS: u8 = 16;
@@ -42,7 +42,12 @@ impl Code {
         requires size { length stripe.now ≡ self.now.m * length into.old }
         ensures coded { IsCodedBlock self.now.m (length into.old) stripe.now k into.new }
         ensures formula { into.new ≡ coded_block self.now.m (length into.old) stripe.now k }
+        ensures data_block { k < self.now.m → into.new ≡ block_of (length into.old) stripe.now k }
     {
+        if k < self.m {
+            copy_block(into, stripe, k as usize);
+            return;
+        }
         into.fill(0);
         for j in 0..self.m {
             add_block(into, stripe, j as usize, gf_field::weight(self.m, j, k));
@@ -57,6 +62,10 @@ impl Code {
         requires size { length blocks.now ≡ self.now.m * length into.old }
         ensures { IsDecoded self.now.m (length into.old) seats.now blocks.now j into.new }
     {
+        if let Some(i) = place_of(seats, j) {
+            copy_block(into, blocks, i);
+            return;
+        }
         into.fill(0);
         for i in 0..seats.len() {
             add_block(into, blocks, i, gf_field::weight_among(seats, i, j));
@@ -77,6 +86,24 @@ impl Code {
     {
         gf_lanes::mul_add(block, delta, gf_field::weight(self.m, j, k));
     }
+}
+
+// Where seat `j` stands among the seats.
+fn place_of(seats: &[u8], j: u8) -> Option<usize>
+    ensures found { IfSome result (λ i. (i < length seats.now) × (slice_index seats.now i ≡ j)) }
+    ensures none { IfNone result (¬ (Contains seats.now j)) }
+{
+    seats.iter().position(|seat| *seat == j)
+}
+
+// Writes block `i` of `blocks` to `into`.
+fn copy_block(into: &mut [u8], blocks: &[u8], i: usize)
+    requires { (i + 1) * length into.old ≤ length blocks.now }
+    ensures { into.new ≡ block_of (length into.old) blocks.now i }
+{
+    let size = into.len();
+    let start = i * size;
+    into.copy_from_slice(&blocks[start..start + size]);
 }
 
 // Adds `weight` times block `i` of `blocks` to `into`.

@@ -6,7 +6,7 @@ use Rattle.gf_field.specs.Polynomials.{weight_of, AreDistinct}
 use Rattle.rs_code.specs.Codewords.{weighted_sum}
 use Rattle.rs_code.specs.Stripes.{byte_of, IsDecoded}
 use Rattle.rs_code.proofs.CodewordLaws.{weighted_sum_none, weighted_sum_more, seats_AreDistinct}
-use Rattle.rs_code.proofs.StripeLaws.{HoldsBytes, IsDecoded-from_sums}
+use Rattle.rs_code.proofs.StripeLaws.{HoldsBytes, IsDecoded-from_sums, IsDecoded-from_seat}
 use Rattle.rs_code.proofs.code.Code.decode_into.Goals as goal
 
 pub loop-i-init : goal.loop-i-init
@@ -49,3 +49,15 @@ returns c =
     (λ t h.
        let within : t < length c.loop-i.into = omega arith in
        c.loop-i.invariant t within ∙ (λ i. weighted_sum m (all i) (λ i. get_or c.args.seats.now i 0) (byte_of (long i) c.args.blocks.now t) c.args.j))
+
+pub returns-in-Some : goal.returns-in-Some
+returns-in-Some c =
+    let m = c.args.self.now.m in
+    let size = length c.args.into.now in
+    let few : c.args.self.now.m ≤ 256 = omega (arith, c.args.self.now.few_data) in
+    let few_seats : c.args.self.now.n ≤ 256 = omega (arith, c.args.self.now.few_blocks) in
+    let small : HoldsBytes c.args.blocks.now = λ n. omega (arith, c.type_inv.blocks n) in
+    let found = c.in-Some.ensures.found in
+    let place : c.in-Some.i < c.args.self.now.m = omega (arith, found.0, c.requires.seats.count) in
+    subst (IsDecoded m size c.args.seats.now c.args.blocks.now c.args.j) (sym c.copy_block.ensures)
+    (IsDecoded-from_seat m c.args.self.now.n size c.args.seats.now c.args.blocks.now c.args.j c.in-Some.i few few_seats c.requires.seats small c.requires.size c.requires.block place found.1)

@@ -5,7 +5,7 @@ use Rattle.gf_field.specs.Field.{field_mul}
 use Rattle.rs_code.specs.Codewords.{weighted_sum}
 use Rattle.rs_code.specs.Stripes.{byte_of, coded_block, IsCodedBlock}
 use Rattle.rs_code.proofs.CodewordLaws.{weighted_sum_none, weighted_sum_more}
-use Rattle.rs_code.proofs.StripeLaws.{HoldsBytes, IsCodedBlock-from_sums, coded_block-from_sums}
+use Rattle.rs_code.proofs.StripeLaws.{HoldsBytes, IsCodedBlock-from_sums, coded_block-from_sums, coded_block-IsCodedBlock, coded_block-data}
 use Rattle.rs_code.proofs.code.Code.encode_into.Goals as goal
 
 pub loop-j-init : goal.loop-j-init
@@ -49,3 +49,19 @@ returns-clause-formula c =
     let long : length c.loop-j.into ≡ length c.args.into.now = omega arith in
     coded_block-from_sums c.args.self.now.m (length c.args.into.now) c.args.stripe.now c.args.k c.loop-j.into long
     (λ t h. sums c.args.self.now.m c.loop-j.j (length c.args.into.now) c.args.k t c.args.stripe.now c.loop-j.into all long c.loop-j.invariant h)
+
+pub returns-clause-data_block : goal.returns-clause-data_block
+returns-clause-data_block c within = absurd (omega arith)
+
+pub returns-then-k-self-clause-formula : goal.returns-then-k-self-clause-formula
+returns-then-k-self-clause-formula c =
+    let few : c.args.self.now.m ≤ 256 = omega (arith, c.args.self.now.few_data) in
+    let small : HoldsBytes c.args.stripe.now = λ n. omega (arith, c.type_inv.stripe n) in
+    c.copy_block.ensures ∙ sym (coded_block-data c.args.self.now.m (length c.args.into.now) c.args.stripe.now c.args.k few small c.requires.size c.if-k-self.true)
+
+pub returns-then-k-self-clause-coded : goal.returns-then-k-self-clause-coded
+returns-then-k-self-clause-coded c =
+    let few : c.args.self.now.m ≤ 256 = omega (arith, c.args.self.now.few_data) in
+    let small : HoldsBytes c.args.stripe.now = λ n. omega (arith, c.type_inv.stripe n) in
+    subst (IsCodedBlock c.args.self.now.m (length c.args.into.now) c.args.stripe.now c.args.k) (sym (returns-then-k-self-clause-formula c))
+    (coded_block-IsCodedBlock c.args.self.now.m (length c.args.into.now) c.args.stripe.now c.args.k few small)
