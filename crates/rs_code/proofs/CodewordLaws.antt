@@ -1,14 +1,14 @@
 -- Interpolation: Lagrange's formula gives the one polynomial of degree below m through m points.
-use Rattle.std.proofs.Common.{◌≡◌, ◌≢◌, ℕ, zero, suc, ◌+◌, ◌<◌, ◌≤◌, List, length, get_or, replicate, max, refl, sym, ap, ◌∙◌, arith, add-one, inl, inr}
+use Rattle.std.proofs.Common.{◌≡◌, ◌≢◌, ℕ, zero, suc, ◌+◌, ◌<◌, ◌≤◌, List, get_or, replicate, refl, sym, ap, ◌∙◌, arith, add-one, inl, inr}
 use Rattle.std.specs.Prelude.{bit_xor}
 use lib.Bits.{xor_zero_r}
-use Rattle.std.proofs.lemmas.Bool.{cases_eq, cases_order}
+use Rattle.std.proofs.lemmas.Bool.{cases_eq}
 use Rattle.std.proofs.lemmas.List.{length-replicate}
 use Rattle.std.proofs.lemmas.List.Elements.{All-replicate}
 use Rattle.gf_field.specs.Field.{field_mul}
-use Rattle.gf_field.specs.Polynomials.{value, weight_of, AreBytes, AreDistinct, HasDegreeBelow}
+use Rattle.gf_field.specs.Polynomials.{value, weight_of, AreDistinct, HasDegreeBelow}
 use Rattle.gf_field.proofs.FieldLaws.{field_mul-comm, field_mul-one_left, field_mul-zero_left, field_mul-zero_right}
-use Rattle.gf_field.proofs.PolynomialLaws.{value-lt, sum_of, value-sum_of, length-sum_of, bytes-sum_of, scaled, value-scaled, length-scaled, bytes-scaled}
+use Rattle.gf_field.proofs.PolynomialLaws.{sum_of, value-sum_of, length-sum_of, bytes-sum_of, scaled, value-scaled, length-scaled, bytes-scaled}
 use Rattle.gf_field.proofs.Lagrange.{lagrange, value-lagrange, lagrange_IsOneAt, numbers_AreDistinct}
 use Rattle.gf_field.proofs.Roots.{same_polynomial}
 use Rattle.rs_code.specs.Codewords.{PassesThrough, IsCodedByte, weighted_sum, AreSeats}
@@ -92,13 +92,13 @@ unfolding interpolated
 interpolated_at m zero point column h distinct small lt le = absurd (omega arith)
 interpolated_at m (suc i) point column h distinct small lt le =
     elim (cases_eq h i) as (λ _. value (raised m point i (column i) (interpolated m i point column)) (point h) ≡ column h) [
-      inl last ↦
-      ap (λ y. value (raised m point i (column i) (interpolated m i point column)) (point y)) last
-      ∙ raised_at_own m point i (column i) (interpolated m i point column) distinct (omega arith) (small i (omega arith))
-      ∙ ap (λ y. bit_xor y (column i)) (interpolated_later m i point column i distinct (omega arith) (omega arith)) ∙ ap column (sym last)
-    | inr before ↦
-      raised_at_other m point i h (column i) (interpolated m i point column) distinct (omega arith) (omega arith) before
-      ∙ interpolated_at m i point column h distinct small (omega arith) (omega arith)
+      | inl last ↦
+          ap (λ y. value (raised m point i (column i) (interpolated m i point column)) (point y)) last
+          ∙ raised_at_own m point i (column i) (interpolated m i point column) distinct (omega arith) (small i (omega arith))
+          ∙ ap (λ y. bit_xor y (column i)) (interpolated_later m i point column i distinct (omega arith) (omega arith)) ∙ ap column (sym last)
+      | inr before ↦
+          raised_at_other m point i h (column i) (interpolated m i point column) distinct (omega arith) (omega arith) before
+          ∙ interpolated_at m i point column h distinct small (omega arith) (omega arith)
     ]
 
 -- the polynomial of degree below m through m points
@@ -144,10 +144,10 @@ IsCodedByte-changed m old new j d k y few within small changed others h =
       passes = record {
         degree = degree-raised m (λ i. i) j d h.polynomial distinct within h.passes.degree;
         values = λ i hi. elim (cases_eq i j) as (λ _. value (raised m (λ i. i) j d h.polynomial) i ≡ new i) [
-          inl own ↦
-          ap (value (raised m (λ i. i) j d h.polynomial)) own ∙ raised_at_own m (λ i. i) j d h.polynomial distinct within small
-          ∙ ap (λ y. bit_xor y d) (h.passes.values j within) ∙ sym changed ∙ ap new (sym own)
-        | inr other ↦ raised_at_other m (λ i. i) j i d h.polynomial distinct within hi other ∙ h.passes.values i hi ∙ sym (others i hi other)
+          | inl own ↦
+              ap (value (raised m (λ i. i) j d h.polynomial)) own ∙ raised_at_own m (λ i. i) j d h.polynomial distinct within small
+              ∙ ap (λ y. bit_xor y d) (h.passes.values j within) ∙ sym changed ∙ ap new (sym own)
+          | inr other ↦ raised_at_other m (λ i. i) j i d h.polynomial distinct within hi other ∙ h.passes.values i hi ∙ sym (others i hi other)
         ];
       };
       coded = ap (λ y. bit_xor y (field_mul (weight_of m (λ i. i) j k) d)) h.coded ∙ sym (value-raised m (λ i. i) j d h.polynomial k);

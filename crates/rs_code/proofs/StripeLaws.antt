@@ -1,5 +1,5 @@
 -- Laws of stripes: what a block of a codeword is, that any m blocks give the stripe, and what a change of a block does.
-use Rattle.std.proofs.Common.{◌≡◌, ◌≢◌, ℕ, zero, suc, ◌+◌, ◌*◌, ◌/◌, ◌%◌, ◌<◌, ◌≤◌, List, length, get_or, take, drop, map, min, refl, sym, ap, subst, ◌∙◌, arith, length-take, length-drop}
+use Rattle.std.proofs.Common.{◌≡◌, ◌≢◌, ℕ, zero, suc, ◌+◌, ◌*◌, ◌/◌, ◌%◌, ◌<◌, ◌≤◌, List, length, get_or, drop, map, sym, ap, subst, ◌∙◌, arith, length-take, length-drop}
 use Rattle.std.specs.Prelude.{bit_xor}
 use Rattle.std.specs.List.{range_with_len}
 use Rattle.std.proofs.Math.Nat.{div-lt_iff_lt-mul, mul-le-mul_right}
@@ -7,8 +7,7 @@ use Rattle.std.proofs.lemmas.Nat.{mod-mul-add, div-mul-add, div-add-mod', mul-ad
 use Rattle.std.proofs.lemmas.List.{ext_get_or, get_or-take, get_or-drop}
 use Rattle.std.proofs.lemmas.List.FromFn.{get_or-map-range_with_len, length-map-range_with_len}
 use Rattle.gf_field.specs.Field.{field_mul}
-use Rattle.gf_field.specs.Polynomials.{value, weight_of, AreDistinct}
-use Rattle.gf_field.proofs.PolynomialLaws.{value-lt}
+use Rattle.gf_field.specs.Polynomials.{value, weight_of}
 use Rattle.gf_field.proofs.Lagrange.{numbers_AreDistinct}
 use Rattle.rs_code.specs.Codewords.{PassesThrough, IsCodedByte, weighted_sum, AreSeats}
 use Rattle.rs_code.specs.Stripes.{block_of, byte_of, IsCodedBlock, coded_block, HasBlocks, IsDecoded, ChangesBlock}
@@ -39,11 +38,11 @@ same_stripe : (m size : ℕ) (a b : List ℕ) → length a ≡ m * size → leng
 same_stripe m size a b ha hb same =
     ext_get_or 0 a b (ha ∙ sym hb)
     (λ n h.
-       let within : n < m * size = omega arith in
-       let some : 0 < size = size_not_zero m size n within in
-       let block : n / size < m = (div-lt_iff_lt-mul some).1 within in
-       let place : n / size * size + n % size ≡ n = div-add-mod' n size in
-       sym (ap (λ k. get_or a k 0) place) ∙ same (n / size) (n % size) block (omega arith) ∙ ap (λ k. get_or b k 0) place)
+    let within : n < m * size = omega arith in
+    let some : 0 < size = size_not_zero m size n within in
+    let block : n / size < m = (div-lt_iff_lt-mul some).1 within in
+    let place : n / size * size + n % size ≡ n = div-add-mod' n size in
+    sym (ap (λ k. get_or a k 0) place) ∙ same (n / size) (n % size) block (omega arith) ∙ ap (λ k. get_or b k 0) place)
 
 -- ---- a block of a codeword
 
@@ -85,9 +84,9 @@ pub IsCodedBlock-data : (m size : ℕ) (stripe : List ℕ) (k : ℕ) (block : Li
 IsCodedBlock-data m size stripe k block within long h =
     ext_get_or 0 block (block_of size stripe k) (h.long ∙ sym (length-block_of m size stripe k long within))
     (λ t lt.
-       let inside : t < size = omega (arith, h.long) in
-       let coded = h.bytes t inside in
-       coded.coded ∙ coded.passes.values k within ∙ sym (get_or-block_of size stripe k t inside))
+    let inside : t < size = omega (arith, h.long) in
+    let coded = h.bytes t inside in
+    coded.coded ∙ coded.passes.values k within ∙ sym (get_or-block_of size stripe k t inside))
 
 -- so Lagrange's formula gives it
 pub coded_block-data : (m size : ℕ) (stripe : List ℕ) (k : ℕ) → m ≤ 256 → HoldsBytes stripe → length stripe ≡ m * size → k < m → coded_block m size stripe k ≡ block_of size stripe k
@@ -123,11 +122,11 @@ pub HasBlocks-unique : (m n size : ℕ) (seats blocks a b : List ℕ) → 0 < m 
     → HasBlocks m size seats blocks a → HasBlocks m size seats blocks b → a ≡ b
 HasBlocks-unique m n size seats blocks a b some few few_seats are_seats ha hb =
     same_stripe m size a b ha.long hb.long (λ j t hj ht.
-       let pa = one_polynomial m size seats blocks a t some few ha ht in
-       let pb = one_polynomial m size seats blocks b t some few hb ht in
-       sym (pa.data_bytes.values j hj)
-       ∙ ap (λ p. value p j) (PassesThrough-unique m (λ i. get_or seats i 0) (byte_of size blocks t) (seats_AreDistinct m n seats few_seats are_seats) pa.polynomial pb.polynomial pa.seat_bytes pb.seat_bytes)
-       ∙ pb.data_bytes.values j hj)
+    let pa = one_polynomial m size seats blocks a t some few ha ht in
+    let pb = one_polynomial m size seats blocks b t some few hb ht in
+    sym (pa.data_bytes.values j hj)
+    ∙ ap (λ p. value p j) (PassesThrough-unique m (λ i. get_or seats i 0) (byte_of size blocks t) (seats_AreDistinct m n seats few_seats are_seats) pa.polynomial pb.polynomial pa.seat_bytes pb.seat_bytes)
+    ∙ pb.data_bytes.values j hj)
 
 -- the stripe whose codeword has these blocks at these seats
 unfoldable stripe_of : ℕ → ℕ → List ℕ → List ℕ → List ℕ
@@ -172,11 +171,11 @@ IsDecoded-from_sums m n size seats blocks j block few few_seats are_seats small 
       has_blocks = has;
       only = λ other h. HasBlocks-unique m n size seats blocks other (stripe_of m size seats blocks) (omega arith) few few_seats are_seats h has;
       decoded =
-        ext_get_or 0 block (block_of size (stripe_of m size seats blocks) j) (block_long ∙ sym (length-block_of m size (stripe_of m size seats blocks) j (length-stripe_of m size seats blocks) within))
-        (λ t h.
-           let inside : t < size = omega arith in
-           sums t inside ∙ sym (value-through m (λ i. get_or seats i 0) (byte_of size blocks t) j)
-           ∙ sym (byte_of-stripe_of m size seats blocks t j inside within) ∙ sym (get_or-block_of size (stripe_of m size seats blocks) j t inside));
+          ext_get_or 0 block (block_of size (stripe_of m size seats blocks) j) (block_long ∙ sym (length-block_of m size (stripe_of m size seats blocks) j (length-stripe_of m size seats blocks) within))
+          (λ t h.
+          let inside : t < size = omega arith in
+          sums t inside ∙ sym (value-through m (λ i. get_or seats i 0) (byte_of size blocks t) j)
+          ∙ sym (byte_of-stripe_of m size seats blocks t j inside within) ∙ sym (get_or-block_of size (stripe_of m size seats blocks) j t inside));
     }
 
 -- a seat that is j holds data block j
@@ -185,9 +184,9 @@ pub IsDecoded-from_seat : (m n size : ℕ) (seats blocks : List ℕ) (j i : ℕ)
 IsDecoded-from_seat m n size seats blocks j i few few_seats are_seats small long within hi own =
     IsDecoded-from_sums m n size seats blocks j (block_of size blocks i) few few_seats are_seats small long within (length-block_of m size blocks i long hi)
     (λ t h.
-       let seat = λ (i : ℕ). get_or seats i 0 in
-       let passes = through-PassesThrough m seat (byte_of size blocks t) (seats_AreDistinct m n seats few_seats are_seats) (λ i hi. small (i * size + t)) in
-       get_or-block_of size blocks i t h ∙ sym (passes.values i hi) ∙ ap (value (through m seat (byte_of size blocks t))) own ∙ value-through m seat (byte_of size blocks t) j)
+    let seat = λ (i : ℕ). get_or seats i 0 in
+    let passes = through-PassesThrough m seat (byte_of size blocks t) (seats_AreDistinct m n seats few_seats are_seats) (λ i hi. small (i * size + t)) in
+    get_or-block_of size blocks i t h ∙ sym (passes.values i hi) ∙ ap (value (through m seat (byte_of size blocks t))) own ∙ value-through m seat (byte_of size blocks t) j)
 
 -- ---- a change of one data block
 
@@ -200,7 +199,7 @@ IsCodedBlock-changed m size j k delta old new block sum few within small changes
   bytes = λ t ht.
       subst (IsCodedByte m (byte_of size new t) k) (sym (sums t ht))
       (IsCodedByte-changed m (byte_of size old t) (byte_of size new t) j (get_or delta t 0) k (get_or block t 0) few within (small t) (changes.changed t ht)
-       (λ i hi other. changes.others i t hi other ht) (h.bytes t ht));
+      (λ i hi other. changes.others i t hi other ht) (h.bytes t ht));
 }
 
 -- so the formula of the changed stripe is the old block plus the weighted delta
@@ -212,7 +211,7 @@ coded_block-changed m size j k t delta old new few within small_delta small_old 
     IsCodedByte-unique m (byte_of size new t) k (get_or (coded_block m size new k) t 0)
     (bit_xor (get_or (coded_block m size old k) t 0) (field_mul (weight_of m (λ i. i) j k) (get_or delta t 0))) few after
     (IsCodedByte-changed m (byte_of size old t) (byte_of size new t) j (get_or delta t 0) k (get_or (coded_block m size old k) t 0) few within (small_delta t) (changes.changed t h)
-     (λ i hi other. changes.others i t hi other h) before)
+    (λ i hi other. changes.others i t hi other h) before)
 
 -- the data blocks other than j stay
 pub block_of-changed : (m size j i : ℕ) (delta old new : List ℕ) → length old ≡ m * size → length new ≡ m * size → ChangesBlock m size j delta old new
@@ -220,5 +219,5 @@ pub block_of-changed : (m size j i : ℕ) (delta old new : List ℕ) → length 
 block_of-changed m size j i delta old new old_long new_long changes within other =
     ext_get_or 0 (block_of size new i) (block_of size old i) (length-block_of m size new i new_long within ∙ sym (length-block_of m size old i old_long within))
     (λ t h.
-       let inside : t < size = omega (arith, length-block_of m size new i new_long within) in
-       get_or-block_of size new i t inside ∙ changes.others i t within other inside ∙ sym (get_or-block_of size old i t inside))
+    let inside : t < size = omega (arith, length-block_of m size new i new_long within) in
+    get_or-block_of size new i t inside ∙ changes.others i t within other inside ∙ sym (get_or-block_of size old i t inside))

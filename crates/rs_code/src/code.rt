@@ -78,11 +78,9 @@ impl Code {
         requires changed { j < self.now.m }
         requires seat { k < self.now.n }
         requires size { length delta.now ≡ length block.old }
-        ensures {
-            (old new : List ℕ) → ChangesBlock self.now.m (length block.old) j delta.now old new
+        ensures { (old new : List ℕ) → ChangesBlock self.now.m (length block.old) j delta.now old new
             → IsCodedBlock self.now.m (length block.old) old k block.old
-            → IsCodedBlock self.now.m (length block.old) new k block.new
-        }
+            → IsCodedBlock self.now.m (length block.old) new k block.new }
     {
         gf_lanes::mul_add(block, delta, gf_field::weight(self.m, j, k));
     }
@@ -109,12 +107,13 @@ fn copy_block(into: &mut [u8], blocks: &[u8], i: usize)
 // Adds `weight` times block `i` of `blocks` to `into`.
 fn add_block(into: &mut [u8], blocks: &[u8], i: usize, weight: u8)
     requires { (i + 1) * length into.old ≤ length blocks.now }
-    ensures {
-        (t : ℕ) → t < length into.old
-        → slice_index into.new t ≡ bit_xor (slice_index into.old t) (field_mul weight (byte_of (length into.old) blocks.now t i))
-    }
+    ensures { (t : ℕ) → t < length into.old
+        → slice_index into.new t ≡ bit_xor (slice_index into.old t) (field_mul weight (byte_of (length into.old) blocks.now t i)) }
 {
     let size = into.len();
     let start = i * size;
     gf_lanes::mul_add(into, &blocks[start..start + size], weight);
 }
+
+#[cfg(test)]
+mod tests;

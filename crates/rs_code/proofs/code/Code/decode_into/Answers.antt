@@ -1,4 +1,4 @@
-use Rattle.std.proofs.Common.{◌≡◌, ℕ, List, ◌+◌, ◌<◌, ◌≤◌, length, get_or, sym, ap, subst, ◌∙◌, arith}
+use Rattle.std.proofs.Common.{◌≡◌, ℕ, ◌+◌, ◌<◌, ◌≤◌, length, get_or, sym, ap, subst, ◌∙◌, arith}
 use Rattle.std.specs.Prelude.{bit_xor}
 use Rattle.std.proofs.lemmas.List.{get_or-replicate}
 use Rattle.gf_field.specs.Field.{field_mul}
@@ -30,7 +30,7 @@ loop-i-preserved c t h =
     let same : length c.loop-i.into ≡ length c.add_block.new.into = omega arith in
     let within : t < length c.loop-i.into = omega arith in
     let weight : c.weight_among.result ≡ weight_of c.args.self.now.m (λ i. get_or c.args.seats.now i 0) c.loop-i.i c.args.j =
-        c.weight_among.ensures.formula ∙ ap (λ m. weight_of m seat c.loop-i.i j) c.requires.seats.count in
+    c.weight_among.ensures.formula ∙ ap (λ m. weight_of m seat c.loop-i.i j) c.requires.seats.count in
     c.add_block.ensures t within
     ∙ (λ i. bit_xor (c.loop-i.invariant t within i) (field_mul (weight i) (byte_of (length c.loop-i.into) blocks t c.loop-i.i)))
     ∙ sym (weighted_sum_more m c.loop-i.i seat (byte_of (length c.loop-i.into) blocks t) j)
@@ -47,8 +47,8 @@ returns c =
     IsDecoded-from_sums m c.args.self.now.n (length c.args.into.now) c.args.seats.now c.args.blocks.now c.args.j c.loop-i.into few few_seats c.requires.seats small c.requires.size
     c.requires.block long
     (λ t h.
-       let within : t < length c.loop-i.into = omega arith in
-       c.loop-i.invariant t within ∙ (λ i. weighted_sum m (all i) (λ i. get_or c.args.seats.now i 0) (byte_of (long i) c.args.blocks.now t) c.args.j))
+    let within : t < length c.loop-i.into = omega arith in
+    c.loop-i.invariant t within ∙ (λ i. weighted_sum m (all i) (λ i. get_or c.args.seats.now i 0) (byte_of (long i) c.args.blocks.now t) c.args.j))
 
 pub returns-in-Some : goal.returns-in-Some
 returns-in-Some c =

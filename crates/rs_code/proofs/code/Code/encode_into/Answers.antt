@@ -3,7 +3,7 @@ use Rattle.std.specs.Prelude.{bit_xor}
 use Rattle.std.proofs.lemmas.List.{get_or-replicate}
 use Rattle.gf_field.specs.Field.{field_mul}
 use Rattle.rs_code.specs.Codewords.{weighted_sum}
-use Rattle.rs_code.specs.Stripes.{byte_of, coded_block, IsCodedBlock}
+use Rattle.rs_code.specs.Stripes.{byte_of, IsCodedBlock}
 use Rattle.rs_code.proofs.CodewordLaws.{weighted_sum_none, weighted_sum_more}
 use Rattle.rs_code.proofs.StripeLaws.{HoldsBytes, IsCodedBlock-from_sums, coded_block-from_sums, coded_block-IsCodedBlock, coded_block-data}
 use Rattle.rs_code.proofs.code.Code.encode_into.Goals as goal

@@ -1,4 +1,4 @@
-use Rattle.std.proofs.Common.{◌≡◌, ℕ, ◌<◌, ◌≤◌, length, get_or, ap, ◌∙◌, arith}
+use Rattle.std.proofs.Common.{◌≤◌, length, get_or, ap, ◌∙◌, arith}
 use Rattle.std.specs.Prelude.{bit_xor}
 use Rattle.gf_field.specs.Field.{field_mul}
 use Rattle.rs_code.proofs.StripeLaws.{HoldsBytes, IsCodedBlock-changed}
