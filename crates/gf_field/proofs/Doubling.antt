@@ -51,6 +51,7 @@ bit-xor false true = refl
 bit-xor true false = refl
 bit-xor true true = refl
 
+-- a bit is 0 or 1
 bit-lt : (a : Bool) → cond a 1 0 < 2
 bit-lt false = omega arith
 bit-lt true = omega arith
@@ -91,6 +92,7 @@ number_of-bit k [] = omega (arith, shr_le 0 k)
 number_of-bit zero (b ∷ r) = omega (arith, bit-lt b)
 number_of-bit (suc k) (b ∷ r) = number_of-bit k r ∙ ap (λ y. y % 2) (sym (high_bits (number_of r) (cond b 1 0) k (bit-lt b)))
 
+-- the other form of x^8 is 29, where it is added
 number_of-reduced : (b : Bool) → number_of (cond b reduced_x8 []) ≡ cond b 1 0 * 29
 unfolding number_of
 number_of-reduced false = refl
@@ -104,6 +106,7 @@ number_of-times_x r =
     let high : number_of (cond (get_or r 7 false) reduced_x8 []) ≡ number_of r / 128 % 2 * 29 = number_of-reduced (get_or r 7 false) ∙ ap (λ y. y * 29) (number_of-bit 7 r) in
     number_of-sum (false ∷ take 7 r) (cond (get_or r 7 false) reduced_x8 []) ∙ (λ i. bit_xor (low i) (high i))
 
+-- a constant is its one bit
 number_of-one : (a : Bool) → number_of (a ∷ []) ≡ cond a 1 0
 unfolding number_of
 number_of-one false = refl
@@ -115,10 +118,12 @@ unfolding remainder
 number_of-remainder a p =
     number_of-sum (a ∷ []) (times_x (remainder p)) ∙ (λ i. bit_xor (number_of-one a i) (number_of-times_x (remainder p) i))
 
+-- the sum of nothing and a polynomial has its remainder
 remainder_none_left : (q : List Bool) → number_of (remainder q) ≡ bit_xor (number_of (remainder [])) (number_of (remainder q))
 unfolding remainder number_of
 remainder_none_left q = refl
 
+-- the same from the right
 remainder_none_right : (q : List Bool) → number_of (remainder q) ≡ bit_xor (number_of (remainder q)) (number_of (remainder []))
 unfolding remainder number_of
 remainder_none_right q = sym (xor_zero_r _)
@@ -135,11 +140,13 @@ number_of-remainder-sum (a ∷ p) (b ∷ q) =
     ∙ xor_exchange (cond a 1 0) (cond b 1 0) (double (number_of (remainder p))) (double (number_of (remainder q)))
     ∙ sym (λ i. bit_xor (number_of-remainder a p i) (number_of-remainder b q i))
 
+-- n bits give a number below 2^n
 number_of-lt : (p : List Bool) → number_of p < 2 ^ length p
 unfolding number_of
 number_of-lt [] = omega arith
 number_of-lt (b ∷ p) = omega (arith, number_of-lt p, bit-lt b, pow-suc 2 (length p))
 
+-- below 128 nothing comes to x^8
 pub double_small : (n : ℕ) → n < 128 → double n ≡ n * 2
 unfolding double
 double_small n h =
@@ -147,10 +154,12 @@ double_small n h =
     let high : n / 128 % 2 ≡ 0 = omega arith in
     (λ i. bit_xor (low i * 2) (high i * 29)) ∙ xor_zero_r (n * 2)
 
+-- the zero polynomial has remainder 0
 remainder_of_none : number_of (remainder []) ≡ 0
 unfolding remainder number_of
 remainder_of_none = refl
 
+-- from 128 on the top bit comes to x^8, and 29 takes its place
 pub double_large : (n : ℕ) → 128 ≤ n → n < 256 → double n ≡ bit_xor (n * 2 % 256) 29
 unfolding double
 double_large n h k =
@@ -172,6 +181,7 @@ number_of-remainder_short (a ∷ p) h =
     ∙ xor_comm (cond a 1 0) (number_of p * 2)
     ∙ xor_shifted (number_of p) 1 (cond a 1 0) (bit-lt a)
 
+-- a number below 2 is the bit that tells whether it is 1
 odd-bit : (x : ℕ) → x < 2 → cond (eqb x 1) 1 0 ≡ x
 odd-bit zero h = refl
 odd-bit (suc zero) h = refl
@@ -184,6 +194,7 @@ number_of-bits_of zero a = omega arith
 number_of-bits_of (suc n) a =
     (λ i. number_of-bits_of n (a / 2) i * 2 + odd-bit (a % 2) (omega arith) i) ∙ sym (mod-pow-add a n 1) ∙ ap (λ y. a % 2 ^ y) (add-one n)
 
+-- n bits are n
 length-bits_of : (n a : ℕ) → length (bits_of n a) ≡ n
 unfolding bits_of
 length-bits_of zero a = refl
@@ -194,9 +205,11 @@ unfoldable pub times : List Bool → ℕ → ℕ
 times [] b = 0
 times (c ∷ cs) b = bit_xor (cond c b 0) (double (times cs b))
 
+-- x times a polynomial doubles the remainder
 remainder_shifted : (p : List Bool) → number_of (remainder (false ∷ p)) ≡ double (number_of (remainder p))
 remainder_shifted p = number_of-remainder false p
 
+-- the remainder of eight coefficients, where a bit takes them
 remainder_chosen : (a : Bool) (q : List Bool) → length q ≡ 8 → number_of (remainder (cond a q [])) ≡ cond a (number_of q) 0
 remainder_chosen false q long = remainder_of_none
 remainder_chosen true q long = number_of-remainder_short q (omega arith)
@@ -217,10 +230,12 @@ field_mul-is a b = number_of-product (bits_of 8 a) (bits_of 8 b) (length-bits_of
 
 -- ---- sums of doublings
 
+-- a bit takes a sum as it takes its parts
 chosen-xor : (c : Bool) (a b : ℕ) → cond c (bit_xor a b) 0 ≡ bit_xor (cond c a 0) (cond c b 0)
 chosen-xor false a b = refl
 chosen-xor true a b = refl
 
+-- sums of doublings of a sum
 pub times-xor : (cs : List Bool) (a b : ℕ) → times cs (bit_xor a b) ≡ bit_xor (times cs a) (times cs b)
 unfolding times
 times-xor [] a b = refl
@@ -229,11 +244,13 @@ times-xor (c ∷ cs) a b =
     ∙ ap (bit_xor (bit_xor (cond c a 0) (cond c b 0))) (double-xor (times cs a) (times cs b))
     ∙ xor_exchange (cond c a 0) (cond c b 0) (double (times cs a)) (double (times cs b))
 
+-- the sum of two bits takes a number as often as both do, modulo 2
 chosen-sum : (c d : Bool) (b : ℕ) → cond (bit_sum c d) b 0 ≡ bit_xor (cond c b 0) (cond d b 0)
 chosen-sum false d b = refl
 chosen-sum true false b = sym (xor_zero_r b)
 chosen-sum true true b = sym (xor_self b)
 
+-- sums of doublings by the bits of a sum
 pub times-sum : (cs ds : List Bool) (b : ℕ) → times (bits_sum cs ds) b ≡ bit_xor (times cs b) (times ds b)
 unfolding times bits_sum
 times-sum [] ds b = refl
@@ -243,21 +260,25 @@ times-sum (c ∷ cs) (d ∷ ds) b =
     ∙ ap (bit_xor (bit_xor (cond c b 0) (cond d b 0))) (double-xor (times cs b) (times ds b))
     ∙ xor_exchange (cond c b 0) (cond d b 0) (double (times cs b)) (double (times ds b))
 
+-- a bit takes a double as it takes the number
 chosen-double : (c : Bool) (b : ℕ) → cond c (double b) 0 ≡ double (cond c b 0)
 unfolding double
 chosen-double false b = refl
 chosen-double true b = refl
 
+-- twice 0 is 0
 double-zero : double 0 ≡ 0
 unfolding double
 double-zero = refl
 
+-- sums of doublings of a double
 pub times-double : (cs : List Bool) (b : ℕ) → times cs (double b) ≡ double (times cs b)
 unfolding times
 times-double [] b = sym double-zero
 times-double (c ∷ cs) b =
     (λ i. bit_xor (chosen-double c b i) (double (times-double cs b i))) ∙ sym (double-xor (cond c b 0) (double (times cs b)))
 
+-- a sum of doublings of a byte is a byte
 pub times-lt : (cs : List Bool) (b : ℕ) → b < 256 → times cs b < 256
 unfolding times
 times-lt [] b h = omega arith
@@ -267,6 +288,7 @@ times-lt (c ∷ cs) b h = xor_lt 8 (cond c b 0) (double (times cs b)) (chosen_lt
     chosen_lt false = omega arith
     chosen_lt true = h
 
+-- the lowest bit of a sum
 odd-sum : (x y : ℕ) → x < 2 → y < 2 → eqb (bit_xor x y) 1 ≡ bit_sum (eqb x 1) (eqb y 1)
 odd-sum zero zero hx hy = refl
 odd-sum zero (suc zero) hx hy = refl
@@ -293,6 +315,7 @@ bits_of-mod (suc n) a =
     let half : a % 2 ^ suc n / 2 ≡ a / 2 % 2 ^ n = omega arith in
     (λ i. eqb (odd i) 1 ∷ (ap (bits_of n) half ∙ bits_of-mod n (a / 2)) i)
 
+-- what a bit takes may be added to the product first
 chosen-next : (t : Bool) (product power rest : ℕ) → bit_xor product (bit_xor (cond t power 0) rest) ≡ bit_xor (cond t (bit_xor product power) product) rest
 chosen-next true product power rest = sym (xor_assoc product power rest)
 chosen-next false product power rest = refl
@@ -305,6 +328,7 @@ times_step k n product power =
     ap (λ y. bit_xor product (bit_xor (cond (eqb (n % 2) 1) power 0) y)) (sym (times-double (bits_of k (n / 2)) power))
     ∙ chosen-next (eqb (n % 2) 1) product power (times (bits_of k (n / 2)) (double power))
 
+-- with no bits left the product is done
 pub times_none : (n product power : ℕ) → bit_xor product (times (bits_of 0 n) power) ≡ product
 unfolding times bits_of
 times_none n product power = xor_zero_r product

@@ -19,6 +19,7 @@ field_mul-xor_right a b c =
     field_mul-is a (bit_xor b c) ∙ ap (times (bits_of 8 a)) (xor_mod b c 8) ∙ times-xor (bits_of 8 a) (b % 256) (c % 256)
     ∙ sym (λ i. bit_xor (field_mul-is a b i) (field_mul-is a c i))
 
+-- a sum times an element
 pub field_mul-xor_left : (a b c : ℕ) → field_mul (bit_xor a b) c ≡ bit_xor (field_mul a c) (field_mul b c)
 field_mul-xor_left a b c =
     field_mul-is (bit_xor a b) c ∙ ap (λ p. times p (c % 256)) (bits_of-xor 8 a b) ∙ times-sum (bits_of 8 a) (bits_of 8 b) (c % 256)
@@ -29,6 +30,7 @@ pub field_mul-mod_left : (a b : ℕ) → field_mul (a % 256) b ≡ field_mul a b
 unfolding field_mul
 field_mul-mod_left a b = ap (λ p. number_of (remainder (bits_product p (bits_of 8 b)))) (bits_of-mod 8 a)
 
+-- and of the other factor
 pub field_mul-mod_right : (a b : ℕ) → field_mul a (b % 256) ≡ field_mul a b
 unfolding field_mul
 field_mul-mod_right a b = ap (λ p. number_of (remainder (bits_product (bits_of 8 a) p))) (bits_of-mod 8 b)
@@ -37,6 +39,7 @@ field_mul-mod_right a b = ap (λ p. number_of (remainder (bits_product (bits_of 
 pub record IsLinear (f : ℕ → ℕ) : Type 0 where
   pub sums : (a b : ℕ) → f (bit_xor a b) ≡ bit_xor (f a) (f b)
 
+-- a linear function takes 0 to 0
 linear-zero : (f : ℕ → ℕ) → IsLinear f → f 0 ≡ 0
 linear-zero f linear = linear.sums 0 0 ∙ xor_self (f 0)
 
@@ -62,27 +65,33 @@ same_linear f g lf lg (suc n) basis a small =
 powers_commute : ℕ → ℕ → Bool
 powers_commute i j = eqb (field_mul (2 ^ i) (2 ^ j)) (field_mul (2 ^ j) (2 ^ i))
 
+-- the 64 cases, computed
 all_powers_commute : agree_below (λ i. agree_below (powers_commute i) (λ _. true) 8) (λ _. true) 8 ≡ true
 unfolding powers_commute field_mul bits_of number_of bits_sum bits_product times_x remainder
 all_powers_commute = refl
 
+-- one of them
 powers_commute_at : (i j : ℕ) → i < 8 → j < 8 → field_mul (2 ^ i) (2 ^ j) ≡ field_mul (2 ^ j) (2 ^ i)
 unfolding powers_commute
 powers_commute_at i j hi hj =
     let row : agree_below (powers_commute i) (λ _. true) 8 ≡ true = agree_below_at (λ i. agree_below (powers_commute i) (λ _. true) 8) (λ _. true) 8 i all_powers_commute hi in
     eqb-true _ _ (agree_below_at (powers_commute i) (λ _. true) 8 j row hj)
 
+-- a product is linear in its first factor
 linear_left : (b : ℕ) → IsLinear (λ a. field_mul a b)
 linear_left b = record { sums = λ x y. field_mul-xor_left x y b }
 
+-- and in its second
 linear_right : (a : ℕ) → IsLinear (λ b. field_mul a b)
 linear_right a = record { sums = λ x y. field_mul-xor_right a x y }
 
+-- bytes commute, since the powers of x do
 bytes_commute : (a b : ℕ) → a < 256 → b < 256 → field_mul a b ≡ field_mul b a
 bytes_commute a b ha hb =
     same_linear (λ a. field_mul a b) (λ a. field_mul b a) (linear_left b) (linear_right b) 8
     (λ i hi. same_linear (λ b. field_mul (2 ^ i) b) (λ b. field_mul b (2 ^ i)) (linear_right (2 ^ i)) (linear_left (2 ^ i)) 8 (λ j hj. powers_commute_at i j hi hj) b hb) a ha
 
+-- products commute
 pub field_mul-comm : (a b : ℕ) → field_mul a b ≡ field_mul b a
 field_mul-comm a b =
     sym (field_mul-mod_left a b) ∙ sym (field_mul-mod_right (a % 256) b)
@@ -96,19 +105,24 @@ field_mul-double a b h =
     field_mul-is a (double b) ∙ ap (times (bits_of 8 a)) low ∙ times-double (bits_of 8 a) b
     ∙ ap (λ y. double (times (bits_of 8 a) y)) (sym same) ∙ ap double (sym (field_mul-is a b))
 
+-- a double times an element
 double_mul : (b c : ℕ) → b < 256 → field_mul (double b) c ≡ double (field_mul b c)
 double_mul b c h = field_mul-comm (double b) c ∙ field_mul-double c b h ∙ ap double (field_mul-comm c b)
 
+-- 0 times an element
 pub field_mul-zero_left : (b : ℕ) → field_mul 0 b ≡ 0
 field_mul-zero_left b = linear-zero (λ a. field_mul a b) (linear_left b)
 
+-- an element times 0
 pub field_mul-zero_right : (a : ℕ) → field_mul a 0 ≡ 0
 field_mul-zero_right a = linear-zero (λ b. field_mul a b) (linear_right a)
 
+-- what a bit takes, times an element
 chosen_mul : (t : Bool) (b c : ℕ) → field_mul (cond t b 0) c ≡ cond t (field_mul b c) 0
 chosen_mul false b c = field_mul-zero_left c
 chosen_mul true b c = refl
 
+-- a sum of doublings times an element
 times_mul : (cs : List Bool) (b c : ℕ) → b < 256 → field_mul (times cs b) c ≡ times cs (field_mul b c)
 unfolding times
 times_mul [] b c h = field_mul-zero_left c
@@ -116,24 +130,29 @@ times_mul (t ∷ cs) b c h =
     field_mul-xor_left (cond t b 0) (double (times cs b)) c
     ∙ (λ i. bit_xor (chosen_mul t b c i) ((double_mul (times cs b) c (times-lt cs b h) ∙ ap double (times_mul cs b c h)) i))
 
+-- products associate
 pub field_mul-assoc : (a b c : ℕ) → field_mul (field_mul a b) c ≡ field_mul a (field_mul b c)
 field_mul-assoc a b c =
     let low : field_mul b c % 256 ≡ field_mul b c = omega (arith, field_mul-lt b c) in
     ap (λ y. field_mul y c) (field_mul-is a b) ∙ times_mul (bits_of 8 a) (b % 256) c (omega arith)
     ∙ ap (times (bits_of 8 a)) (field_mul-mod_left b c ∙ sym low) ∙ sym (field_mul-is a (field_mul b c))
 
+-- the bits of 1 take a number once
 times_one : (b : ℕ) → times (bits_of 8 1) b ≡ b
 unfolding times bits_of double
 times_one b = xor_zero_r b
 
+-- 1 times a byte is that byte
 pub field_mul-one_left : (a : ℕ) → a < 256 → field_mul 1 a ≡ a
 field_mul-one_left a h =
     let low : a % 256 ≡ a = omega arith in
     field_mul-is 1 a ∙ times_one (a % 256) ∙ low
 
+-- a byte times 1 is that byte
 pub field_mul-one_right : (a : ℕ) → a < 256 → field_mul a 1 ≡ a
 field_mul-one_right a h = field_mul-comm a 1 ∙ field_mul-one_left a h
 
+-- the bits of 2 take a double once
 times_two : (b : ℕ) → times (bits_of 8 2) b ≡ double b
 unfolding times bits_of double
 times_two b = ap (λ y. bit_xor (y % 128 * 2) (y / 128 % 2 * 29)) (xor_zero_r b)
@@ -161,6 +180,7 @@ mul_start a b small =
     let same : b ≡ b % 256 = omega arith in
     (λ t. times (bits_of 8 (div-one a t)) (same t)) ∙ sym (field_mul-is a b)
 
+-- at the end no bits are left
 pub mul_end : (a r i product power : ℕ) → 8 ≤ i → bit_xor product (times (bits_of (8 - i) (a / 2 ^ i)) power) ≡ r → product ≡ r
 mul_end a r i product power all before =
     let done : 0 ≡ 8 - i = omega arith in

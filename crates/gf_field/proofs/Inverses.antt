@@ -9,6 +9,7 @@ use Rattle.gf_field.proofs.FieldLaws.{field_mul-assoc, field_mul-comm, field_mul
 has_inverse : ℕ → Bool
 has_inverse a = eqb a 0 || eqb (field_mul a (inverse_of a)) 1
 
+-- the 256 cases, computed
 all_have_inverses : agree_below has_inverse (λ _. true) 256 ≡ true
 unfolding has_inverse inverse_of times_squares field_mul bits_of number_of bits_sum bits_product times_x remainder
 all_have_inverses = refl
@@ -32,6 +33,7 @@ pub zero_from_product : (a b : ℕ) → a < 256 → a ≢ 0 → b < 256 → fiel
 zero_from_product a b ha nonzero hb none =
     sym (cancel_left a b ha nonzero hb) ∙ ap (field_mul (inverse_of a)) none ∙ field_mul-zero_right (inverse_of a)
 
+-- a product by squares is a byte
 times_squares-lt : (n square product : ℕ) → product < 256 → times_squares n square product < 256
 unfolding times_squares
 times_squares-lt zero square product h = h

@@ -8,6 +8,7 @@ use Rattle.gf_field.specs.Field.{field_mul, inverse_of}
 use Rattle.gf_field.specs.Polynomials.{value, factors, weight_of, AreDistinct, HasDegreeBelow, IsOneAt, IsWeight}
 use Rattle.gf_field.proofs.FieldLaws.{field_mul-lt, field_mul-comm, field_mul-zero_left, field_mul-zero_right}
 use Rattle.gf_field.proofs.Inverses.{field_mul-inverse_of, zero_from_product}
+use Rattle.gf_field.proofs.Roots.{same_polynomial}
 use Rattle.gf_field.proofs.PolynomialLaws.{same_from_xor, with_root, value-with_root, length-with_root, scaled, value-scaled, length-scaled, bytes-scaled}
 
 -- the product of x - (point i) over each i below n other than j, as a polynomial
@@ -15,10 +16,12 @@ unfoldable factor_polynomial : ℕ → (ℕ → ℕ) → ℕ → List ℕ
 factor_polynomial zero point j = 1 ∷ []
 factor_polynomial (suc i) point j = cond (eqb i j) (factor_polynomial i point j) (with_root (point i) (factor_polynomial i point j))
 
+-- the value of a product that skips point j
 value_chosen : (t : Bool) (p : List ℕ) (r x f : ℕ) → value p x ≡ f → value (cond t p (with_root r p)) x ≡ cond t f (field_mul f (bit_xor x r))
 value_chosen true p r x f e = e
 value_chosen false p r x f e = value-with_root r p x ∙ field_mul-comm (bit_xor x r) (value p x) ∙ ap (λ y. field_mul y (bit_xor x r)) e
 
+-- the constant 1 is 1 at each point
 value-one : (x : ℕ) → value (1 ∷ []) x ≡ 1
 unfolding value
 value-one x = ap (bit_xor 1) (field_mul-zero_right x)
@@ -30,6 +33,7 @@ value-factor_polynomial zero point j x = value-one x
 value-factor_polynomial (suc i) point j x =
     value_chosen (eqb i j) (factor_polynomial i point j) (point i) x (factors i point j x) (value-factor_polynomial i point j x)
 
+-- it has one more coefficient than points, as long as j is none of them
 length_before : (n : ℕ) (point : ℕ → ℕ) (j : ℕ) → n ≤ j → length (factor_polynomial n point j) ≡ suc n
 unfolding factor_polynomial
 length_before zero point j h = refl
@@ -50,15 +54,18 @@ length_after (suc i) point j h =
           ∙ length-with_root (point i) (factor_polynomial i point j) ∙ ap suc (length_after i point j (omega arith))
     ]
 
+-- a product that skips point j is a byte
 factors_chosen_lt : (t : Bool) (f d : ℕ) → f < 256 → cond t f (field_mul f d) < 256
 factors_chosen_lt true f d h = h
 factors_chosen_lt false f d h = field_mul-lt f d
 
+-- a product over points is a byte
 pub factors-lt : (n : ℕ) (point : ℕ → ℕ) (j x : ℕ) → factors n point j x < 256
 unfolding factors
 factors-lt zero point j x = omega arith
 factors-lt (suc i) point j x = factors_chosen_lt (eqb i j) (factors i point j x) (bit_xor x (point i)) (factors-lt i point j x)
 
+-- a product that is 0 stays 0
 chosen_zero : (t : Bool) (f d : ℕ) → f ≡ 0 → cond t f (field_mul f d) ≡ 0
 chosen_zero true f d e = e
 chosen_zero false f d e = ap (λ y. field_mul y d) e ∙ field_mul-zero_left d
@@ -99,6 +106,7 @@ factors_at_own m (suc k) point j d hn hj e =
 pub lagrange : ℕ → (ℕ → ℕ) → ℕ → List ℕ
 lagrange m point j = scaled (inverse_of (factors m point j (point j))) (factor_polynomial m point j)
 
+-- its value is Lagrange's formula
 pub value-lagrange : (m : ℕ) (point : ℕ → ℕ) (j x : ℕ) → value (lagrange m point j) x ≡ weight_of m point j x
 unfolding lagrange weight_of
 value-lagrange m point j x =
@@ -106,6 +114,7 @@ value-lagrange m point j x =
     ∙ ap (field_mul (inverse_of (factors m point j (point j)))) (value-factor_polynomial m point j x)
     ∙ field_mul-comm (inverse_of (factors m point j (point j))) (factors m point j x)
 
+-- its degree is below m
 degree-lagrange : (m : ℕ) (point : ℕ → ℕ) (j : ℕ) → j < m → HasDegreeBelow m (lagrange m point j)
 unfolding lagrange
 degree-lagrange m point j h = record {
@@ -113,16 +122,19 @@ degree-lagrange m point j h = record {
   bytes = bytes-scaled (inverse_of (factors m point j (point j))) (factor_polynomial m point j);
 }
 
-weight_at_own : (m : ℕ) (point : ℕ → ℕ) (j : ℕ) → AreDistinct m point → j < m → weight_of m point j (point j) ≡ 1
+-- the weight of point j is 1 there
+pub weight_at_own : (m : ℕ) (point : ℕ → ℕ) (j : ℕ) → AreDistinct m point → j < m → weight_of m point j (point j) ≡ 1
 unfolding weight_of
 weight_at_own m point j d h =
     field_mul-inverse_of (factors m point j (point j)) (factors-lt m point j (point j)) (factors_at_own m m point j d (omega arith) h)
 
-weight_at_other : (m : ℕ) (point : ℕ → ℕ) (j i : ℕ) → i < m → i ≢ j → weight_of m point j (point i) ≡ 0
+-- and 0 at the other points
+pub weight_at_other : (m : ℕ) (point : ℕ → ℕ) (j i : ℕ) → i < m → i ≢ j → weight_of m point j (point i) ≡ 0
 unfolding weight_of
 weight_at_other m point j i h other =
     ap (λ y. field_mul y (inverse_of (factors m point j (point j)))) (factors_at_other m point j i h other) ∙ field_mul-zero_left (inverse_of (factors m point j (point j)))
 
+-- it is 1 at point j and 0 at the others
 pub lagrange_IsOneAt : (m : ℕ) (point : ℕ → ℕ) (j : ℕ) → AreDistinct m point → j < m → IsOneAt m point j (lagrange m point j)
 lagrange_IsOneAt m point j d h = record {
   degree = degree-lagrange m point j h;
@@ -130,11 +142,21 @@ lagrange_IsOneAt m point j d h = record {
   others = λ i hi other. value-lagrange m point j (point i) ∙ weight_at_other m point j i hi other;
 }
 
+-- no other polynomial of degree below m is
+IsOneAt-unique : (m : ℕ) (point : ℕ → ℕ) (j : ℕ) → AreDistinct m point → (p q : List ℕ) → IsOneAt m point j p → IsOneAt m point j q → p ≡ q
+IsOneAt-unique m point j d p q hp hq =
+    same_polynomial m point d p q hp.degree hq.degree (λ i hi.
+       elim (cases_eq i j) as (λ _. value p (point i) ≡ value q (point i)) [
+         inl own ↦ ap (λ k. value p (point k)) own ∙ hp.one ∙ sym hq.one ∙ ap (λ k. value q (point k)) (sym own)
+       | inr other ↦ hp.others i hi other ∙ sym (hq.others i hi other)
+       ])
+
 -- Lagrange's formula is the weight
 pub weight_of-IsWeight : (m : ℕ) (point : ℕ → ℕ) (j x : ℕ) → AreDistinct m point → j < m → IsWeight m point j x (weight_of m point j x)
 weight_of-IsWeight m point j x d h = record {
   polynomial = lagrange m point j;
   is_one_at = lagrange_IsOneAt m point j d h;
+  only = λ p other. IsOneAt-unique m point j d p (lagrange m point j) other (lagrange_IsOneAt m point j d h);
   weight = sym (value-lagrange m point j x);
 }
 
@@ -145,12 +167,14 @@ factors_own i point j x same =
     ap (λ n. factors n point j x) (add-one i)
     ∙ ap (λ t. cond t (factors i point j x) (field_mul (factors i point j x) (bit_xor x (point i)))) (eq-eqb i j same)
 
+-- the next point is another: its factor is taken
 pub factors_other : (i : ℕ) (point : ℕ → ℕ) (j x : ℕ) → i ≢ j → factors (i + 1) point j x ≡ field_mul (factors i point j x) (bit_xor x (point i))
 unfolding factors
 factors_other i point j x other =
     ap (λ n. factors n point j x) (add-one i)
     ∙ ap (λ t. cond t (factors i point j x) (field_mul (factors i point j x) (bit_xor x (point i)))) (ne_eqb i j other)
 
+-- over no points the product is 1
 pub factors_none : (point : ℕ → ℕ) (j x : ℕ) → factors 0 point j x ≡ 1
 unfolding factors
 factors_none point j x = refl

@@ -26,6 +26,7 @@ sum_of [] q = q
 sum_of (a ∷ p) [] = a ∷ p
 sum_of (a ∷ p) (b ∷ q) = bit_xor a b ∷ sum_of p q
 
+-- its value is the sum of the values
 pub value-sum_of : (p q : List ℕ) (x : ℕ) → value (sum_of p q) x ≡ bit_xor (value p x) (value q x)
 unfolding value sum_of
 value-sum_of [] q x = refl
@@ -35,12 +36,14 @@ value-sum_of (a ∷ p) (b ∷ q) x =
     ∙ ap (bit_xor (bit_xor a b)) (field_mul-xor_right x (value p x) (value q x))
     ∙ xor_exchange a b (field_mul x (value p x)) (field_mul x (value q x))
 
+-- it is as long as the longer of both
 pub length-sum_of : (p q : List ℕ) → length (sum_of p q) ≡ max (length p) (length q)
 unfolding sum_of
 length-sum_of [] q = omega arith
 length-sum_of (a ∷ p) [] = omega arith
 length-sum_of (a ∷ p) (b ∷ q) = omega (arith, length-sum_of p q)
 
+-- a sum of bytes is of bytes
 pub bytes-sum_of : (p q : List ℕ) → AreBytes p → AreBytes q → AreBytes (sum_of p q)
 unfolding sum_of
 bytes-sum_of [] q hp hq = hq
@@ -54,6 +57,7 @@ unfoldable pub scaled : ℕ → List ℕ → List ℕ
 scaled c [] = []
 scaled c (a ∷ p) = field_mul c a ∷ scaled c p
 
+-- its value is c times the value
 pub value-scaled : (c : ℕ) (p : List ℕ) (x : ℕ) → value (scaled c p) x ≡ field_mul c (value p x)
 unfolding value scaled
 value-scaled c [] x = sym (field_mul-zero_right c)
@@ -62,11 +66,13 @@ value-scaled c (a ∷ p) x =
     ∙ ap (bit_xor (field_mul c a)) (sym (field_mul-assoc x c (value p x)) ∙ ap (λ y. field_mul y (value p x)) (field_mul-comm x c) ∙ field_mul-assoc c x (value p x))
     ∙ sym (field_mul-xor_right c a (field_mul x (value p x)))
 
+-- it is as long
 pub length-scaled : (c : ℕ) (p : List ℕ) → length (scaled c p) ≡ length p
 unfolding scaled
 length-scaled c [] = refl
 length-scaled c (a ∷ p) = ap suc (length-scaled c p)
 
+-- it is of bytes
 pub bytes-scaled : (c : ℕ) (p : List ℕ) → AreBytes (scaled c p)
 unfolding scaled
 bytes-scaled c [] = All-nil (λ c. c < 256)
@@ -76,15 +82,18 @@ bytes-scaled c (a ∷ p) = All-cons (λ c. c < 256) (field_mul c a) (scaled c p)
 unfoldable pub with_root : ℕ → List ℕ → List ℕ
 with_root r p = sum_of (0 ∷ p) (scaled r p)
 
+-- its value is (x - r) times the value
 pub value-with_root : (r : ℕ) (p : List ℕ) (x : ℕ) → value (with_root r p) x ≡ field_mul (bit_xor x r) (value p x)
 unfolding with_root value
 value-with_root r p x =
     value-sum_of (0 ∷ p) (scaled r p) x ∙ ap (bit_xor (field_mul x (value p x))) (value-scaled r p x) ∙ sym (field_mul-xor_left x r (value p x))
 
+-- it has one more coefficient
 pub length-with_root : (r : ℕ) (p : List ℕ) → length (with_root r p) ≡ suc (length p)
 unfolding with_root
 length-with_root r p = omega (arith, length-sum_of (0 ∷ p) (scaled r p), length-scaled r p)
 
+-- it is of bytes
 pub bytes-with_root : (r : ℕ) (p : List ℕ) → AreBytes p → AreBytes (with_root r p)
 unfolding with_root
 bytes-with_root r p bytes = bytes-sum_of (0 ∷ p) (scaled r p) (All-cons (λ c. c < 256) 0 p (omega arith) bytes) (bytes-scaled r p)

@@ -23,6 +23,7 @@ regroup a b c d =
     ap (λ y. bit_xor y (bit_xor d b)) (xor_comm (bit_xor a b) c ∙ sym (xor_assoc c a b)) ∙ xor_exchange (bit_xor c a) b d b
     ∙ ap (bit_xor (bit_xor (bit_xor c a) d)) (xor_self b) ∙ xor_zero_r (bit_xor (bit_xor c a) d) ∙ xor_comm (bit_xor c a) d
 
+-- two factors exchanged
 mul_exchange : (a b c : ℕ) → field_mul a (field_mul b c) ≡ field_mul b (field_mul a c)
 mul_exchange a b c = sym (field_mul-assoc a b c) ∙ ap (λ y. field_mul y c) (field_mul-comm a b) ∙ field_mul-assoc b a c
 
@@ -43,11 +44,13 @@ value-quotient (c ∷ d ∷ p) r x =
     ap (bit_xor c) left ∙ sym (regroup (field_mul x at_r) (field_mul r at_r) (field_mul x (field_mul (bit_xor x r) rest)) c)
     ∙ sym (ap (λ y. bit_xor y (bit_xor c (field_mul r at_r))) right)
 
+-- it has one coefficient fewer
 length-quotient : (c : ℕ) (p : List ℕ) (r : ℕ) → length (quotient (c ∷ p) r) ≡ length p
 unfolding quotient
 length-quotient c [] r = refl
 length-quotient c (d ∷ p) r = ap suc (length-quotient d p r)
 
+-- it is of bytes
 bytes-quotient : (p : List ℕ) (r : ℕ) → AreBytes p → AreBytes (quotient p r)
 unfolding quotient
 bytes-quotient [] r bytes = All-nil (λ c. c < 256)
@@ -56,6 +59,7 @@ bytes-quotient (c ∷ d ∷ p) r bytes =
     let rest = All-tail (λ c. c < 256) c (d ∷ p) bytes in
     All-cons (λ c. c < 256) (value (d ∷ p) r) (quotient (d ∷ p) r) (value-lt (d ∷ p) r rest) (bytes-quotient (d ∷ p) r rest)
 
+-- a polynomial whose higher part and value are 0 has the constant 0
 constant_zero : (c x v : ℕ) → v ≡ 0 → bit_xor c (field_mul x v) ≡ 0 → c ≡ 0
 constant_zero c x v none e = sym (ap (λ y. bit_xor c (field_mul x y)) none ∙ ap (bit_xor c) (field_mul-zero_right x) ∙ xor_zero_r c) ∙ e
 
@@ -76,6 +80,7 @@ root_of_quotient p r x hx hr apart bytes at_r at_x =
     sym (value-quotient p r x ∙ ap (bit_xor (field_mul (bit_xor x r) (value (quotient p r) x))) at_r ∙ xor_zero_r _) ∙ at_x in
     zero_from_product (bit_xor x r) (value (quotient p r) x) (xor_lt 8 x r hx hr) (λ e. apart (same_from_xor x r e)) (value-lt (quotient p r) x (bytes-quotient p r bytes)) none
 
+-- the first of different points are different
 pub fewer_distinct : (m : ℕ) (point : ℕ → ℕ) → AreDistinct (suc m) point → AreDistinct m point
 fewer_distinct m point d = record {
   bytes = λ i h. d.bytes i (omega arith);
@@ -93,6 +98,7 @@ zero_from_roots (suc m) point d (c ∷ p) long bytes roots =
     root_of_quotient (c ∷ p) (point m) (point i) (d.bytes i (omega arith)) (d.bytes m (omega arith)) (d.apart i m (omega arith) (omega arith) (λ e. omega arith)) bytes at_r (roots i (omega arith)) in
     all_zero (c ∷ p) (point m) (zero_from_roots m point (fewer_distinct m point d) (quotient (c ∷ p) (point m)) (length-quotient c p (point m) ∙ omega arith) q_bytes q_roots) at_r
 
+-- two polynomials whose sum is zero are equal
 same_from_zero : (p q : List ℕ) → length p ≡ length q → All (λ c. c ≡ 0) (sum_of p q) → p ≡ q
 unfolding sum_of
 same_from_zero [] [] long none = refl

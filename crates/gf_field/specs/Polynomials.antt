@@ -27,11 +27,12 @@ pub record IsOneAt (m : ℕ) (point : ℕ → ℕ) (j : ℕ) (p : List ℕ) : Ty
   pub one : value p (point j) ≡ 1
   pub others : (i : ℕ) → i < m → i ≢ j → value p (point i) ≡ 0
 
--- w is the Lagrange weight of point j of m at x: the value at x of the polynomial of degree below m that is 1 at that
--- point and 0 at the others
+-- w is the Lagrange weight of point j of m at x: the value at x of the one polynomial of degree below m that is 1 at
+-- that point and 0 at the others
 pub record IsWeight (m : ℕ) (point : ℕ → ℕ) (j x w : ℕ) : Type 0 where
   pub polynomial : List ℕ
   pub is_one_at : IsOneAt m point j polynomial
+  pub only : (p : List ℕ) → IsOneAt m point j p → p ≡ polynomial
   pub weight : w ≡ value polynomial x
 
 -- the product of x - (point i) over each i below n other than j

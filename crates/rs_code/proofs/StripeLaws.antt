@@ -11,7 +11,7 @@ use Rattle.gf_field.specs.Polynomials.{value, weight_of}
 use Rattle.gf_field.proofs.Lagrange.{numbers_AreDistinct}
 use Rattle.rs_code.specs.Codewords.{PassesThrough, IsCodedByte, weighted_sum, AreSeats}
 use Rattle.rs_code.specs.Stripes.{block_of, byte_of, IsCodedBlock, coded_block, HasBlocks, IsDecoded, ChangesBlock}
-use Rattle.rs_code.proofs.CodewordLaws.{through, value-through, through-PassesThrough, PassesThrough-unique, weighted_sum-IsCodedByte, IsCodedByte-unique, IsCodedByte-changed, seats_AreDistinct}
+use Rattle.rs_code.proofs.CodewordLaws.{through, value-through, through-PassesThrough, PassesThrough-unique, value-IsCodedByte, weighted_sum-IsCodedByte, IsCodedByte-unique, IsCodedByte-changed, seats_AreDistinct}
 
 -- each number of the list is a byte, and so is what stands for a place past its end
 abbrev pub HoldsBytes : List ℕ → Type 0
@@ -23,11 +23,13 @@ HoldsBytes xs = (n : ℕ) → get_or xs n 0 < 256
 pub get_or-block_of : (size : ℕ) (blocks : List ℕ) (j t : ℕ) → t < size → get_or (block_of size blocks j) t 0 ≡ byte_of size blocks t j
 get_or-block_of size blocks j t h = get_or-take size (drop (j * size) blocks) t 0 h ∙ get_or-drop (j * size) blocks t 0
 
+-- a block of m has its length
 pub length-block_of : (m size : ℕ) (blocks : List ℕ) (j : ℕ) → length blocks ≡ m * size → j < m → length (block_of size blocks j) ≡ size
 length-block_of m size blocks j long h =
     let room : suc j * size ≤ m * size = mul-le-mul_right size h in
     omega (arith, length-take size (drop (j * size) blocks), length-drop (j * size) blocks)
 
+-- where there is a byte, blocks are not empty
 size_not_zero : (m size n : ℕ) → n < m * size → 0 < size
 size_not_zero m zero n h = absurd (omega arith)
 size_not_zero m (suc size) n h = omega arith
@@ -60,10 +62,12 @@ IsCodedBlock-unique m size stripe k a b few ha hb =
     ext_get_or 0 a b (ha.long ∙ sym hb.long)
     (λ t h. IsCodedByte-unique m (byte_of size stripe t) k (get_or a t 0) (get_or b t 0) few (ha.bytes t (omega (arith, ha.long))) (hb.bytes t (omega (arith, ha.long))))
 
+-- byte t of the block by the formula
 get_or-coded_block : (m size : ℕ) (stripe : List ℕ) (k t : ℕ) → t < size → get_or (coded_block m size stripe k) t 0 ≡ weighted_sum m m (λ i. i) (byte_of size stripe t) k
 unfolding coded_block
 get_or-coded_block m size stripe k t h = get_or-map-range_with_len (λ t. weighted_sum m m (λ i. i) (byte_of size stripe t) k) 0 size t t 0 h (omega arith)
 
+-- and its length
 length-coded_block : (m size : ℕ) (stripe : List ℕ) (k : ℕ) → length (coded_block m size stripe k) ≡ size
 unfolding coded_block
 length-coded_block m size stripe k = length-map-range_with_len (λ t. weighted_sum m m (λ i. i) (byte_of size stripe t) k) 0 size
@@ -73,6 +77,7 @@ pub coded_block-IsCodedBlock : (m size : ℕ) (stripe : List ℕ) (k : ℕ) → 
 coded_block-IsCodedBlock m size stripe k few small =
     IsCodedBlock-from_sums m size stripe k (coded_block m size stripe k) few small (length-coded_block m size stripe k) (λ t h. get_or-coded_block m size stripe k t h)
 
+-- a list with Lagrange's formula at each place is that block
 pub coded_block-from_sums : (m size : ℕ) (stripe : List ℕ) (k : ℕ) (block : List ℕ) → length block ≡ size
     → ((t : ℕ) → t < size → get_or block t 0 ≡ weighted_sum m m (λ i. i) (byte_of size stripe t) k) → block ≡ coded_block m size stripe k
 coded_block-from_sums m size stripe k block long sums =
@@ -101,6 +106,7 @@ record OnePolynomial (m : ℕ) (seats : List ℕ) (at_data at_seats : ℕ → �
   data_bytes : PassesThrough m (λ i. i) at_data polynomial
   seat_bytes : PassesThrough m (λ i. get_or seats i 0) at_seats polynomial
 
+-- a codeword with these blocks gives that polynomial
 one_polynomial : (m size : ℕ) (seats blocks stripe : List ℕ) (t : ℕ) → 0 < m → m ≤ 256 → HasBlocks m size seats blocks stripe → t < size
     → OnePolynomial m seats (byte_of size stripe t) (byte_of size blocks t)
 one_polynomial m size seats blocks stripe t some few has h =
@@ -132,6 +138,7 @@ HasBlocks-unique m n size seats blocks a b some few few_seats are_seats ha hb =
 unfoldable stripe_of : ℕ → ℕ → List ℕ → List ℕ → List ℕ
 stripe_of m size seats blocks = map (λ n. value (through m (λ i. get_or seats i 0) (byte_of size blocks (n % size))) (n / size)) (range_with_len 0 (m * size))
 
+-- byte t of its block j
 byte_of-stripe_of : (m size : ℕ) (seats blocks : List ℕ) (t j : ℕ) → t < size → j < m
     → byte_of size (stripe_of m size seats blocks) t j ≡ value (through m (λ i. get_or seats i 0) (byte_of size blocks t)) j
 unfolding stripe_of
@@ -140,23 +147,25 @@ byte_of-stripe_of m size seats blocks t j ht hj =
     get_or-map-range_with_len (λ n. value (through m (λ i. get_or seats i 0) (byte_of size blocks (n % size))) (n / size)) 0 (m * size) (j * size + t) (j * size + t) 0 place (omega arith)
     ∙ (λ i. value (through m (λ i. get_or seats i 0) (byte_of size blocks (mod-mul-add j size t ht i))) (div-mul-add j size t ht i))
 
+-- its length
 length-stripe_of : (m size : ℕ) (seats blocks : List ℕ) → length (stripe_of m size seats blocks) ≡ m * size
 unfolding stripe_of
 length-stripe_of m size seats blocks = length-map-range_with_len (λ n. value (through m (λ i. get_or seats i 0) (byte_of size blocks (n % size))) (n / size)) 0 (m * size)
 
-stripe_of-HasBlocks : (m n size : ℕ) (seats blocks : List ℕ) → n ≤ 256 → AreSeats m n seats → HoldsBytes blocks → length blocks ≡ m * size
+-- its codeword has these blocks
+stripe_of-HasBlocks : (m n size : ℕ) (seats blocks : List ℕ) → m ≤ 256 → n ≤ 256 → AreSeats m n seats → HoldsBytes blocks → length blocks ≡ m * size
     → HasBlocks m size seats blocks (stripe_of m size seats blocks)
-stripe_of-HasBlocks m n size seats blocks few are_seats small long = record {
+stripe_of-HasBlocks m n size seats blocks few few_seats are_seats small long = record {
   long = length-stripe_of m size seats blocks;
   each = λ i hi. record {
     long = length-block_of m size blocks i long hi;
     bytes = λ t ht.
-        let passes = through-PassesThrough m (λ i. get_or seats i 0) (byte_of size blocks t) (seats_AreDistinct m n seats few are_seats) (λ i hi. small (i * size + t)) in
-        record {
-          polynomial = through m (λ i. get_or seats i 0) (byte_of size blocks t);
-          passes = record { degree = passes.degree; values = λ j hj. sym (byte_of-stripe_of m size seats blocks t j ht hj) };
-          coded = get_or-block_of size blocks i t ht ∙ sym (passes.values i hi);
-        };
+        let seat = λ (i : ℕ). get_or seats i 0 in
+        let column = byte_of size blocks t in
+        let passes = through-PassesThrough m seat column (seats_AreDistinct m n seats few_seats are_seats) (λ i hi. small (i * size + t)) in
+        value-IsCodedByte m (byte_of size (stripe_of m size seats blocks) t) (seat i) (get_or (block_of size blocks i) t 0) (through m seat column) few
+        (record { degree = passes.degree; values = λ j hj. sym (byte_of-stripe_of m size seats blocks t j ht hj) })
+        (get_or-block_of size blocks i t ht ∙ sym (passes.values i hi));
   };
 }
 
@@ -165,7 +174,7 @@ pub IsDecoded-from_sums : (m n size : ℕ) (seats blocks : List ℕ) (j : ℕ) (
     → length blocks ≡ m * size → j < m → length block ≡ size
     → ((t : ℕ) → t < size → get_or block t 0 ≡ weighted_sum m m (λ i. get_or seats i 0) (byte_of size blocks t) j) → IsDecoded m size seats blocks j block
 IsDecoded-from_sums m n size seats blocks j block few few_seats are_seats small long within block_long sums =
-    let has = stripe_of-HasBlocks m n size seats blocks few_seats are_seats small long in
+    let has = stripe_of-HasBlocks m n size seats blocks few few_seats are_seats small long in
     record {
       stripe = stripe_of m size seats blocks;
       has_blocks = has;

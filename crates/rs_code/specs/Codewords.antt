@@ -9,11 +9,12 @@ pub record PassesThrough (m : ℕ) (point column : ℕ → ℕ) (p : List ℕ) :
   pub degree : HasDegreeBelow m p
   pub values : (i : ℕ) → i < m → value p (point i) ≡ column i
 
--- y is byte k of the codeword of m data bytes: the value at k of the polynomial of degree below m whose values at 0 to
--- m - 1 are the data bytes
+-- y is byte k of the codeword of m data bytes: the value at k of the one polynomial of degree below m whose values at
+-- 0 to m - 1 are the data bytes
 pub record IsCodedByte (m : ℕ) (column : ℕ → ℕ) (k y : ℕ) : Type 0 where
   pub polynomial : List ℕ
   pub passes : PassesThrough m (λ i. i) column polynomial
+  pub only : (p : List ℕ) → PassesThrough m (λ i. i) column p → p ≡ polynomial
   pub coded : y ≡ value polynomial k
 
 -- Lagrange's formula, as far as point n: the sum over each i below n of the weight of point i times value i
