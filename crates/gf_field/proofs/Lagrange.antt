@@ -146,10 +146,10 @@ lagrange_IsOneAt m point j d h = record {
 IsOneAt-unique : (m : ℕ) (point : ℕ → ℕ) (j : ℕ) → AreDistinct m point → (p q : List ℕ) → IsOneAt m point j p → IsOneAt m point j q → p ≡ q
 IsOneAt-unique m point j d p q hp hq =
     same_polynomial m point d p q hp.degree hq.degree (λ i hi.
-       elim (cases_eq i j) as (λ _. value p (point i) ≡ value q (point i)) [
-         inl own ↦ ap (λ k. value p (point k)) own ∙ hp.one ∙ sym hq.one ∙ ap (λ k. value q (point k)) (sym own)
-       | inr other ↦ hp.others i hi other ∙ sym (hq.others i hi other)
-       ])
+    elim (cases_eq i j) as (λ _. value p (point i) ≡ value q (point i)) [
+      | inl own ↦ ap (λ k. value p (point k)) own ∙ hp.one ∙ sym hq.one ∙ ap (λ k. value q (point k)) (sym own)
+      | inr other ↦ hp.others i hi other ∙ sym (hq.others i hi other)
+    ])
 
 -- Lagrange's formula is the weight
 pub weight_of-IsWeight : (m : ℕ) (point : ℕ → ℕ) (j x : ℕ) → AreDistinct m point → j < m → IsWeight m point j x (weight_of m point j x)
