@@ -1,8 +1,9 @@
 //! The code's limits and its three calls.
 ghost use Rattle.std.specs.Prelude.{◌≡◌, ◌↔◌, ℕ, ◌+◌, ◌*◌, ◌<◌, ◌≤◌, List, length, slice_index, bit_xor, IsSome, IfSome, IfNone, Contains};
 ghost use Rattle.gf_field.specs.Field.{field_mul};
-ghost use Rattle.gf_field.specs.Polynomials.{AreDistinct};
-ghost use Rattle.rs_code.specs.Codewords.{AreSeats, weighted_sum};
+ghost use Rattle.gf_field.specs.Polynomials.{weight_of};
+ghost use Rattle.gf_lanes.specs.Lanes.{AddsProduct};
+ghost use Rattle.rs_code.specs.Codewords.{AreSeats};
 ghost use Rattle.rs_code.specs.Stripes.{block_of, byte_of, coded_block, ChangesBlock, IsCodedBlock, IsDecoded};
 
 /// The most data blocks of a stripe.
@@ -73,12 +74,13 @@ impl Code {
     }
 
     /// Changes `block`, block `k` of a codeword, as data block `j` of its stripe changes by `delta`, the sum of its old and
-    /// new bytes.
+    /// new bytes: for each stripe whose codeword had it, `block` is then block `k` of the changed stripe's codeword.
     pub fn modify_into(&self, j: u8, k: u8, delta: &[u8], block: &mut [u8])
         requires changed { j < self.now.m }
         requires seat { k < self.now.n }
         requires size { length delta.now ≡ length block.old }
-        ensures { (old new : List ℕ) → ChangesBlock self.now.m (length block.old) j delta.now old new
+        ensures formula { AddsProduct (weight_of self.now.m (λ i. i) j k) delta.now block.old block.new }
+        ensures coded { (old new : List ℕ) → ChangesBlock self.now.m (length block.old) j delta.now old new
             → IsCodedBlock self.now.m (length block.old) old k block.old
             → IsCodedBlock self.now.m (length block.old) new k block.new }
     {
