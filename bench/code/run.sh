@@ -9,9 +9,9 @@ mkdir -p "$work/crates/code_bench/src"
 for crate in gf_field gf_lanes rs_code; do
     cp -r "$top/crates/$crate" "$work/crates/"
 done
-cp "$here/main.rt" "$work/crates/code_bench/src/main.rt"
-mkdir -p "$work/crates/code_bench/proofs"
-cp -r "$here/proofs/." "$work/crates/code_bench/proofs/"
+mkdir -p "$work/crates/code_bench/proofs/numbers"
+cp "$here/main.rt.txt" "$work/crates/code_bench/src/main.rt"
+cp "$here/numbers.antt.txt" "$work/crates/code_bench/proofs/numbers/Invariants.antt"
 cat > "$work/crates.txt" <<'LIST'
 gf_field:
 gf_lanes: gf_field
