@@ -1,0 +1,6 @@
+pub mod Doubling
+pub mod FieldLaws
+pub mod Inverses
+pub mod Lagrange
+pub mod PolynomialLaws
+pub mod Roots

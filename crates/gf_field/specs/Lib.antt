@@ -1,0 +1,3 @@
+pub mod BitPolynomials
+pub mod Field
+pub mod Polynomials

@@ -1,0 +1,2 @@
+pub mod Lanes
+pub use Rattle.gf_field.specs.Field

@@ -1,0 +1,2 @@
+pub mod CodewordLaws
+pub mod StripeLaws

@@ -1,0 +1,39 @@
+-- Stripes of m data blocks and the blocks of their codewords, each of `size` bytes: a stripe is coded per byte place
+-- (Frølund et al. 2004, `encode`, `decode` and `modify`).
+use Rattle.std.specs.Prelude.{◌≡◌, ◌≢◌, ℕ, ◌+◌, ◌*◌, ◌<◌, List, length, take, drop, map, slice_index, bit_xor}
+use Rattle.std.specs.List.{range_with_len}
+use Rattle.rs_code.specs.Codewords.{IsCodedByte, weighted_sum}
+
+-- of blocks that lie one after the other, block j
+abbrev pub block_of : ℕ → List ℕ → ℕ → List ℕ
+block_of size blocks j = take size (drop (j * size) blocks)
+
+-- and byte t of block j
+abbrev pub byte_of : ℕ → List ℕ → ℕ → ℕ → ℕ
+byte_of size blocks t j = slice_index blocks (j * size + t)
+
+-- block is block k of the codeword of the stripe
+pub record IsCodedBlock (m size : ℕ) (stripe : List ℕ) (k : ℕ) (block : List ℕ) : Type 0 where
+  pub long : length block ≡ size
+  pub bytes : (t : ℕ) → t < size → IsCodedByte m (byte_of size stripe t) k (slice_index block t)
+
+-- that block, by Lagrange's formula
+unfoldable pub coded_block : ℕ → ℕ → List ℕ → ℕ → List ℕ
+coded_block m size stripe k = map (λ t. weighted_sum m m (λ i. i) (byte_of size stripe t) k) (range_with_len 0 size)
+
+-- the codeword of the stripe has these m blocks at these seats
+pub record HasBlocks (m size : ℕ) (seats blocks stripe : List ℕ) : Type 0 where
+  pub long : length stripe ≡ m * size
+  pub each : (i : ℕ) → i < m → IsCodedBlock m size stripe (slice_index seats i) (block_of size blocks i)
+
+-- block is data block j of the one stripe whose codeword has these m blocks at these seats
+pub record IsDecoded (m size : ℕ) (seats blocks : List ℕ) (j : ℕ) (block : List ℕ) : Type 0 where
+  pub stripe : List ℕ
+  pub has_blocks : HasBlocks m size seats blocks stripe
+  pub only : (other : List ℕ) → HasBlocks m size seats blocks other → other ≡ stripe
+  pub decoded : block ≡ block_of size stripe j
+
+-- new is the stripe old with delta added to data block j
+pub record ChangesBlock (m size j : ℕ) (delta old new : List ℕ) : Type 0 where
+  pub changed : (t : ℕ) → t < size → byte_of size new t j ≡ bit_xor (byte_of size old t j) (slice_index delta t)
+  pub others : (i t : ℕ) → i < m → i ≢ j → t < size → byte_of size new t i ≡ byte_of size old t i
