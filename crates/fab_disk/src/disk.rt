@@ -102,7 +102,7 @@ pub trait Disk {
         ensures written { tells → OnOk result (seen self.new ≡ written at from.now (seen self.old)) }
         ensures crash { Follows (Torn at (length from.now)) (may_leave self.old) (may_leave self.new) }
         ensures time { Elapses (moment self.old) (moment self.new) (left_since self.old) (left_since self.new) (may_leave self.new) }
-        ensures counted { OnOk result (moment self.new ≡ moment self.old + 1) }
+        ensures counted { tells → OnOk result (moment self.new ≡ moment self.old + 1) }
         ensures no_memory { result ≡ Err IoFault.NoMemory → IsUntouched seen may_leave moment left_since self.old self.new }
         ensures room { TakesRoom (length from.now) (at + length from.now) (has_room self.old) (has_room self.new) (result ≡ Err IoFault.NoMemory) }
         ensures plan { OnOk result (CountsDown (fails_in self.old) (fails_in self.new)) }
@@ -114,7 +114,7 @@ pub trait Disk {
         ensures content { seen self.new ≡ seen self.old }
         ensures crash { (image : List ℕ) → may_leave self.new image → may_leave self.old image }
         ensures time { Elapses (moment self.old) (moment self.new) (left_since self.old) (left_since self.new) (may_leave self.new) }
-        ensures counted { OnOk result (moment self.new ≡ moment self.old + 1) }
+        ensures counted { tells → OnOk result (moment self.new ≡ moment self.old + 1) }
         ensures no_memory { result ≡ Err IoFault.NoMemory → IsUntouched seen may_leave moment left_since self.old self.new }
         ensures room { TakesRoom 0 0 (has_room self.old) (has_room self.new) (result ≡ Err IoFault.NoMemory) }
         ensures plan { OnOk result (CountsDown (fails_in self.old) (fails_in self.new)) }

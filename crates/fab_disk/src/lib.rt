@@ -9,10 +9,13 @@
 
 mod disk;
 mod failing_calls;
+mod file_disk;
 mod mem_disk;
 mod medium;
 
 pub use disk::{Armed, Disk, IoFault, MAX_END, Plan};
+pub use file_disk::FileDisk;
 pub use mem_disk::MemDisk;
 
-
+#[cfg(test)]
+mod tests;
