@@ -75,8 +75,8 @@ get_or-filled uncertain random i (byte ∷ bytes) zero is =
 get_or-filled uncertain random i (byte ∷ bytes) (suc k) is =
     let later : uncertain (i + 1 + k) ≡ false = ap uncertain (let same : i + 1 + k ≡ i + suc k = omega arith in same) ∙ is in
     elim (cases_Bool (uncertain i)) [
-    | inl drawn ↦ ap (λ (l : List ℕ). get_or l (suc k) 0) (filled_drawn uncertain random i byte bytes drawn) ∙ get_or-filled uncertain (pcg32 random).1 (i + 1) bytes k later
-    | inr kept ↦ ap (λ (l : List ℕ). get_or l (suc k) 0) (filled_kept uncertain random i byte bytes kept) ∙ get_or-filled uncertain random (i + 1) bytes k later
+      | inl drawn ↦ ap (λ (l : List ℕ). get_or l (suc k) 0) (filled_drawn uncertain random i byte bytes drawn) ∙ get_or-filled uncertain (pcg32 random).1 (i + 1) bytes k later
+      | inr kept ↦ ap (λ (l : List ℕ). get_or l (suc k) 0) (filled_kept uncertain random i byte bytes kept) ∙ get_or-filled uncertain random (i + 1) bytes k later
     ]
 
 -- above 1 the bytes are drawn
@@ -98,7 +98,7 @@ settled_is_image zero past content fits = rolled_back_is_image past content
 settled_is_image (suc zero) past content fits = content_is_image past content fits
 settled_is_image (suc (suc pick)) past content fits =
     subst (IsImage past content) (sym (settled_drawn (suc (suc pick)) past content (grind (arith, nat_tests)) (grind (arith, nat_tests))))
-      (drawn_is_image past content (filled (is_uncertain past (length content)) (seeded (suc (suc pick))) 0 content) fits (drawn_bytes (suc (suc pick)) past content))
+    (drawn_is_image past content (filled (is_uncertain past (length content)) (seeded (suc (suc pick))) 0 content) fits (drawn_bytes (suc (suc pick)) past content))
 
 -- the bytes that are drawn by the steps, whatever was saved
 pub drawn_by_steps : (pick : ℕ) (steps : List Step) (saved content : List ℕ) → pick ≢ 0 → pick ≢ 1

@@ -1,12 +1,12 @@
 -- What a crash may leave after each call.
-use Rattle.std.proofs.Common.{◌≡◌, ◌⊎◌, inl, inr, ℕ, ◌+◌, ◌-◌, ◌<◌, ◌≤◌, Bool, true, false, ◌||◌, ◌&&◌, List, [], ◌∷◌, length, get_or, min, max, refl, sym, ◌∙◌, ap, subst, arith, nat_lt}
+use Rattle.std.proofs.Common.{◌≡◌, ◌⊎◌, inl, inr, ℕ, ◌+◌, ◌<◌, ◌≤◌, Bool, false, ◌||◌, ◌&&◌, List, [], ◌∷◌, length, get_or, refl, sym, ◌∙◌, ap, subst, arith, nat_lt}
 use Rattle.std.specs.Prelude.{nat_le}
 use Rattle.std.proofs.lemmas.Bool.{cases_lt}
 use Rattle.std.proofs.lemmas.Bool.Decides.{nat_tests}
 use Rattle.std.proofs.lemmas.Grind.{same_number_lists}
 use Rattle.fab_disk.specs.Disk.{Torn}
 use Rattle.fab_disk.specs.Past.{Change, Past, wrote, synced, undone, IsImage, IsPlaced, Fits}
-use Rattle.fab_disk.specs.PastLaws.{length-undone, undone_below, undone_within, undone_above, torn_undone, content_is_image}
+use Rattle.fab_disk.specs.PastLaws.{length-undone, undone_below, undone_within, undone_above, torn_undone}
 use Rattle.fab_disk.specs.Settled.{rolled_back, is_uncertain}
 use Rattle.fab_disk.specs.Medium.{IsWrittenOver}
 
@@ -50,19 +50,21 @@ certain_before w older content image placed same =
     outside : (i : ℕ) → (i < w.at) ⊎ (w.at + w.len ≤ i) → (nat_le w.at i && nat_lt i (w.at + w.len)) ≡ false
     outside i (inl low) = grind (arith, nat_tests)
     outside i (inr high) = grind (arith, nat_tests)
+
     stays : (i : ℕ) → i < w.length_before → (i < w.at) ⊎ (w.at + w.len ≤ i) → is_uncertain older w.length_before i ≡ false → get_or image i 0 ≡ get_or content i 0
     stays i lt out is =
         same.certain i (omega (arith, placed.no_shorter)) (ap (λ (t : Bool). t || is_uncertain older w.length_before i) (outside i out) ∙ is)
+
     place : (i : ℕ) → i < w.length_before → is_uncertain older w.length_before i ≡ false → get_or (undone w image) i 0 ≡ get_or (undone w content) i 0
     place i lt is =
         let fits : w.at + length w.before ≤ length image = omega (arith, same.size, placed.within) in
         elim (cases_lt i w.at) [
-        | inl low ↦ undone_below w image i fits lt low ∙ stays i lt (inl low) is ∙ sym (undone_below w content i placed.within lt low)
-        | inr high ↦ elim (cases_lt i (w.at + length w.before)) [
-          | inl within ↦ undone_within w image i fits lt high within ∙ sym (undone_within w content i placed.within lt high within)
-          | inr above ↦ undone_above w image i fits lt above ∙ stays i lt (inr (omega (arith, placed.all_kept))) is ∙ sym (undone_above w content i placed.within lt above)
+          | inl low ↦ undone_below w image i fits lt low ∙ stays i lt (inl low) is ∙ sym (undone_below w content i placed.within lt low)
+          | inr high ↦ elim (cases_lt i (w.at + length w.before)) [
+            | inl within ↦ undone_within w image i fits lt high within ∙ sym (undone_within w content i placed.within lt high within)
+            | inr above ↦ undone_above w image i fits lt above ∙ stays i lt (inr (omega (arith, placed.all_kept))) is ∙ sym (undone_above w content i placed.within lt above)
+          ]
         ]
-      ]
 
 -- any bytes at the places that are uncertain may be left
 pub drawn_is_image : (past : List Past) (content image : List ℕ) → Fits past (length content) → IsSameWhereCertain past content image → IsImage past content image

@@ -1,3 +1,4 @@
+pub mod Moments
 pub mod Writes
 pub mod Pasts
 pub mod Uncertain

@@ -1,7 +1,7 @@
 -- How the past goes on.
-use Rattle.std.proofs.Common.{◌≡◌, ℕ, ◌-◌, ◌+◌, List, [], ◌∷◌, ◌++◌, length, reverse, take, drop, refl, sym, ◌∙◌, ap, arith}
+use Rattle.std.proofs.Common.{◌≡◌, ℕ, ◌-◌, List, [], ◌∷◌, ◌++◌, length, reverse, take, ◌∙◌, ap, arith}
 use Rattle.std.proofs.lemmas.List.{reverse-append, take_at, drop_at, length-append}
-use Rattle.fab_disk.specs.Past.{Change, Past, wrote, synced, past_of}
+use Rattle.fab_disk.specs.Past.{Change, wrote, synced, past_of}
 use Rattle.fab_disk.specs.declared.medium.Overwrite.{Overwrite}
 use Rattle.fab_disk.specs.declared.medium.Step.{Step}
 use Rattle.fab_disk.specs.declared.medium.Step.TheVariants.{Wrote, Synced}

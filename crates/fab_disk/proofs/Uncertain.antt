@@ -2,7 +2,7 @@
 use Rattle.std.proofs.Common.{◌≡◌, ℕ, ◌+◌, ◌-◌, Bool, ◌&&◌, ◌||◌, nat_lt, List, [], ◌∷◌, ◌++◌, reverse, length, take, refl, ◌∙◌, ap}
 use Rattle.std.specs.Prelude.{nat_le}
 use Rattle.std.proofs.lemmas.List.{reverse-append}
-use Rattle.fab_disk.specs.Past.{Past, past_of}
+use Rattle.fab_disk.specs.Past.{past_of}
 use Rattle.fab_disk.specs.Settled.{is_uncertain}
 use Rattle.fab_disk.specs.declared.medium.Overwrite.{Overwrite}
 use Rattle.fab_disk.specs.declared.medium.Step.{Step}

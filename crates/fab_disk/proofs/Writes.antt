@@ -1,8 +1,8 @@
 -- What a write leaves, and how it is undone.
-use Rattle.std.proofs.Common.{◌≡◌, inl, inr, ℕ, ◌+◌, ◌-◌, ◌<◌, ◌≤◌, List, [], ◌∷◌, ◌++◌, length, get_or, min, max, take, drop, replicate, slice_range, refl, sym, ◌∙◌, ap, subst, arith, rules}
+use Rattle.std.proofs.Common.{◌≡◌, inl, inr, ℕ, ◌+◌, ◌-◌, ◌<◌, ◌≤◌, List, [], ◌∷◌, ◌++◌, length, get_or, min, take, drop, replicate, slice_range, refl, ◌∙◌, ap, subst, arith}
 use Rattle.std.proofs.lemmas.Bool.{cases_lt}
 use Rattle.std.proofs.lemmas.Grind.{same_number_lists}
-use Rattle.std.proofs.lemmas.List.{append-nil, take_all, places, length-append, length-replicate, length-take, length-drop, get_or_append_left, get_or-append_right, get_or-take, get_or-drop, same_lists}
+use Rattle.std.proofs.lemmas.List.{append-nil, take_all, places, length-append, length-replicate, get_or_append_left, get_or-take, get_or-drop}
 use Rattle.fab_disk.specs.Disk.{padded, overlaid, written, Torn, IsOutside}
 use Rattle.fab_disk.specs.Past.{Change, undone, IsPlaced}
 use Rattle.fab_disk.specs.PastLaws.{length-undone, undone_below, undone_within, undone_above}
@@ -64,6 +64,7 @@ undone_back at n old new w torn starts stood size =
         get_or-take (min (at + n) (length old) - min at (length old)) (drop (min at (length old)) old) (k - w.at) 0 (omega arith)
         ∙ get_or-drop (min at (length old)) old (k - w.at) 0
         ∙ ap (λ (i : ℕ). get_or old i 0) (let same : min at (length old) + (k - w.at) ≡ k = omega arith in same)
+
     place : (k : ℕ) → k < length old → w.at + length w.before ≤ length new → length w.before ≡ min (at + n) (length old) - min at (length old) → get_or (undone w new) k 0 ≡ get_or old k 0
     place k lt fits kept = elim (cases_lt k w.at) [
       | inl below ↦ undone_below w new k fits (omega arith) below ∙ torn.kept k lt (inl (omega arith))

@@ -1,5 +1,5 @@
 -- Calls that are to fail.
-use Rattle.std.specs.Prelude.{◌≤◌, ℕ, All}
+use Rattle.std.specs.Prelude.{◌≤◌, All}
 use Rattle.fab_disk.specs.declared.failing_calls.FailingCalls.{FailingCalls}
 
 -- each call that was to fail was made

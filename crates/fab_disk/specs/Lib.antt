@@ -4,5 +4,6 @@ pub mod Past
 pub mod PastLaws
 pub mod Settled
 pub mod Medium
+pub mod MediumLaws
 pub mod FailingCalls
 pub mod MemDisk

@@ -2,7 +2,6 @@
 use Rattle.std.specs.Prelude.{◌≡◌, ◌≤◌, ◌⊎◌, ◌+◌, ◌-◌, ℕ, min, max, List, [], ◌∷◌, ◌++◌, length, take, drop}
 use Rattle.std.specs.Coded.{×_prop, Unit-prop, le_prop}
 use Rattle.fab_disk.specs.Disk.{Torn}
-use Rattle.fab_disk.specs.declared.medium.Overwrite.{Overwrite}
 use Rattle.fab_disk.specs.declared.medium.Step.{Step}
 use Rattle.fab_disk.specs.declared.medium.Step.TheVariants.{Wrote, Synced}
 

@@ -1,8 +1,8 @@
 -- Laws of what a crash may leave after a past.
-use Rattle.std.proofs.Common.{◌≡◌, inl, inr, ⊎_elim, ◌⊎◌, ℕ, ◌+◌, ◌-◌, ◌<◌, ◌≤◌, List, [], ◌∷◌, ◌++◌, length, get_or, take, drop, max, refl, sym, subst, arith}
+use Rattle.std.proofs.Common.{◌≡◌, inl, inr, ℕ, ◌+◌, ◌-◌, ◌<◌, ◌≤◌, List, [], ◌∷◌, length, get_or, refl, sym, subst, arith}
 use Rattle.std.proofs.lemmas.List.{places}
 use Rattle.fab_disk.specs.Disk.{Torn, IsOutside}
-use Rattle.fab_disk.specs.Past.{Change, Past, wrote, synced, undone, content_before, IsImage, HadImage, IsPlaced, Fits}
+use Rattle.fab_disk.specs.Past.{Change, Past, wrote, synced, undone, IsImage, HadImage, IsPlaced, Fits}
 
 -- what undoing a write gives, at each place
 pub undone_below : (w : Change) (content : List ℕ) (i : ℕ) → w.at + length w.before ≤ length content → i < w.length_before → i < w.at → get_or (undone w content) i 0 ≡ get_or content i 0

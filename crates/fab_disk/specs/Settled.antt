@@ -1,9 +1,9 @@
 -- What a stopped disk in memory is made to hold: one of the images that a crash may leave, chosen by a number.
-use Rattle.std.specs.Prelude.{ℕ, suc, ◌+◌, ◌%◌, ◌==◌, Bool, true, ◌||◌, ◌&&◌, nat_le, nat_lt, if◌then◌else◌, List, [], ◌∷◌, length}
+use Rattle.std.specs.Prelude.{ℕ, ◌+◌, ◌%◌, ◌==◌, Bool, ◌||◌, ◌&&◌, nat_le, nat_lt, if◌then◌else◌, List, [], ◌∷◌, length}
 use Rattle.rand_core.specs.Pcg32Seed.{pcg32_seed}
 use Rattle.rand_pcg.specs.Lcg.{Lcg}
 use Rattle.rand_pcg.specs.Pcg.{pcg32, pcg32_of_seed}
-use Rattle.fab_disk.specs.Past.{Change, Past, wrote, synced, undone}
+use Rattle.fab_disk.specs.Past.{Past, wrote, synced, undone}
 
 -- the content after the last sync
 abbrev pub rolled_back : List Past → List ℕ → List ℕ

@@ -1,5 +1,5 @@
 // What a store asks of a disk.
-ghost use Rattle.std.specs.Prelude.{◌≡◌, ◌+◌, ◌≤◌, ◌^◌, List, ℕ, length, slice_range, IfOk, OnOk, IsOkUnless};
+ghost use Rattle.std.specs.Prelude.{◌≡◌, ◌+◌, ◌≤◌, ◌^◌, List, ℕ, length, slice_range, IfOk, IsOk, OnOk, IsOkUnless};
 ghost use Rattle.fab_disk.specs.declared.disk.IoFault.TheVariants.{NoMemory};
 ghost use Rattle.fab_disk.specs.Disk.{written, Torn, Follows, Only, Elapses, IsUntouched, Kept, KeepsRoom, TakesRoom, KeepsPlan, CountsDown};
 ghost use Rattle.fab_disk.specs.Plan.{IsPlanned, next_fate, plan_after};
@@ -89,6 +89,7 @@ pub trait Disk {
     fn reserve(&mut self, calls: usize, bytes: usize, end: u64) -> Result<(), IoFault>
         requires { end ≤ 2 ^ 48 }
         ensures made { OnOk result (has_room self.new calls bytes end) }
+        ensures enough { has_room self.old calls bytes end → IsOk result }
         ensures only_memory { IsOkUnless result IoFault.NoMemory }
         ensures untouched { IsUntouched seen may_leave moment left_since self.old self.new }
         ensures room { KeepsRoom (has_room self.old) (has_room self.new) }
@@ -119,6 +120,10 @@ pub trait Disk {
         ensures room { TakesRoom 0 0 (has_room self.old) (has_room self.new) (result ≡ Err IoFault.NoMemory) }
         ensures plan { OnOk result (CountsDown (fails_in self.old) (fails_in self.new)) }
         ensures cause { Kept (faults self.old) (faults self.new) (sound self.old) (sound self.new) (result ≡ Err IoFault.Failed) };
+
+    /// Room for more is room for less.
+    ghost room_for_less: { (disk : Self) (calls bytes end fewer less nearer : ℕ) → fewer ≤ calls → less ≤ bytes → nearer ≤ end
+        → has_room disk calls bytes end → has_room disk fewer less nearer };
 
     /// What a read gives is among what a crash may leave.
     ghost seen_is_left: { (disk : Self) → may_leave disk (seen disk) };

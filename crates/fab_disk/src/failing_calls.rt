@@ -11,7 +11,7 @@ pub struct FailingCalls {
 }
 
 impl FailingCalls {
-        ghost use Rattle.fab_disk.specs.FailingCalls.{NoneLeft};
+    ghost use Rattle.fab_disk.specs.FailingCalls.{NoneLeft};
 
     // No call is to fail.
     pub fn none(alloc: Global) -> Self

@@ -66,6 +66,8 @@ impl Disk for FileDisk {
 
     ghost has_room = { λ _ _ _ _. Unit {0} };
 
+    ghost room_for_less = { λ _ _ _ _ _ _ _ _ _ _ _. tt };
+
     ghost seen_is_left = { λ _. tt };
 
     ghost counts_now = { λ _ _ _ _ _. tt };

@@ -10,8 +10,8 @@
 mod disk;
 mod failing_calls;
 mod file_disk;
-mod mem_disk;
 mod medium;
+mod mem_disk;
 
 pub use disk::{Armed, Disk, IoFault, MAX_END, Plan};
 pub use file_disk::FileDisk;

@@ -104,6 +104,7 @@ impl Disk for MemDisk {
     ghost use Rattle.fab_disk.specs.Past.{IsImage, HadImage};
     ghost use Rattle.fab_disk.specs.PastLaws.{content_is_image, image_had, had_now};
     ghost use Rattle.fab_disk.specs.Medium.{HasRoom};
+    ghost use Rattle.fab_disk.specs.MediumLaws.{room_for_less};
     ghost use Rattle.fab_disk.specs.Plan.{IsPlanned};
     ghost use Rattle.fab_disk.specs.MemDisk.{content_of, past_of_disk, IsSound};
 
@@ -124,6 +125,8 @@ impl Disk for MemDisk {
     ghost fails_in = { λ disk n. IsPlanned disk.plan n };
 
     ghost has_room = { λ disk calls bytes end. HasRoom disk.medium calls bytes end };
+
+    ghost room_for_less = { λ disk calls bytes end fewer less nearer c b e room. room_for_less disk.medium calls bytes end fewer less nearer c b e room };
 
     ghost seen_is_left = { λ disk. content_is_image (past_of_disk disk) (content_of disk) disk.medium.fits };
 

@@ -1,17 +1,17 @@
-use Rattle.std.proofs.Common.{◌≡◌, ℕ, true, Bool, ◌||◌, ◌++◌, [], ◌∷◌, List, reverse, sym, ◌∙◌, ap, rules}
+use Rattle.std.proofs.Common.{◌≡◌, Bool, ◌||◌, ◌++◌, [], ◌∷◌, List, reverse, sym, ◌∙◌, ap}
 use Rattle.std.proofs.lemmas.List.{nil_from_length}
 use Rattle.fab_disk.specs.Past.{past_of}
 use Rattle.fab_disk.specs.Settled.{is_uncertain}
 use Rattle.fab_disk.specs.declared.medium.Step.{Step}
-use Rattle.fab_disk.proofs.Uncertain.{in_range, uncertain_wrote, uncertain_synced}
+use Rattle.fab_disk.proofs.Uncertain.{uncertain_wrote, uncertain_synced}
 use Rattle.fab_disk.proofs.medium.is_uncertain.Goals as goal
 
 pub loop-step-preserved : goal.loop-step-preserved
 loop-step-preserved c =
     let split = c.in-Some.ensures.cases.0 ∙ ap (λ (s : Step). c.in-Some.older.now ++ s ∷ []) c.in-Wrote.is in
     let more = ap (λ (s : List Step). is_uncertain (past_of (reverse s) []) c.loop-step.end c.args.place) split
-      ∙ uncertain_wrote c.in-Some.older.now c.in-Wrote.write c.loop-step.end c.args.place
-      ∙ ap (λ (t : Bool). t || is_uncertain (past_of (reverse c.in-Some.older.now) []) c.in-Wrote.write.length_before c.args.place) (sym c.covers.ensures ∙ c.if-covers.false) in
+    ∙ uncertain_wrote c.in-Some.older.now c.in-Wrote.write c.loop-step.end c.args.place
+    ∙ ap (λ (t : Bool). t || is_uncertain (past_of (reverse c.in-Some.older.now) []) c.in-Wrote.write.length_before c.args.place) (sym c.covers.ensures ∙ c.if-covers.false) in
     let so_far : is_uncertain (past_of (reverse c.loop-step.newer.now) []) c.loop-step.end c.args.place ≡ is_uncertain (past_of (reverse c.args.steps.now) []) c.args.size c.args.place = c.loop-step.invariant in
     sym more ∙ so_far
 
@@ -19,7 +19,7 @@ pub returns-in-Synced : goal.returns-in-Synced
 returns-in-Synced c =
     let split = c.in-Some.ensures.cases.0 ∙ ap (λ (s : Step). c.in-Some.older.now ++ s ∷ []) c.in-Synced.is in
     let more = ap (λ (s : List Step). is_uncertain (past_of (reverse s) []) c.loop-step.end c.args.place) split
-      ∙ uncertain_synced c.in-Some.older.now c.loop-step.end c.args.place in
+    ∙ uncertain_synced c.in-Some.older.now c.loop-step.end c.args.place in
     let so_far : is_uncertain (past_of (reverse c.loop-step.newer.now) []) c.loop-step.end c.args.place ≡ is_uncertain (past_of (reverse c.args.steps.now) []) c.args.size c.args.place = c.loop-step.invariant in
     sym more ∙ so_far
 
@@ -27,8 +27,8 @@ pub returns-then-covers : goal.returns-then-covers
 returns-then-covers c =
     let split = c.in-Some.ensures.cases.0 ∙ ap (λ (s : Step). c.in-Some.older.now ++ s ∷ []) c.in-Wrote.is in
     let more = ap (λ (s : List Step). is_uncertain (past_of (reverse s) []) c.loop-step.end c.args.place) split
-      ∙ uncertain_wrote c.in-Some.older.now c.in-Wrote.write c.loop-step.end c.args.place
-      ∙ ap (λ (t : Bool). t || is_uncertain (past_of (reverse c.in-Some.older.now) []) c.in-Wrote.write.length_before c.args.place) (sym c.covers.ensures ∙ c.if-covers.true) in
+    ∙ uncertain_wrote c.in-Some.older.now c.in-Wrote.write c.loop-step.end c.args.place
+    ∙ ap (λ (t : Bool). t || is_uncertain (past_of (reverse c.in-Some.older.now) []) c.in-Wrote.write.length_before c.args.place) (sym c.covers.ensures ∙ c.if-covers.true) in
     let so_far : is_uncertain (past_of (reverse c.loop-step.newer.now) []) c.loop-step.end c.args.place ≡ is_uncertain (past_of (reverse c.args.steps.now) []) c.args.size c.args.place = c.loop-step.invariant in
     sym more ∙ so_far
 

@@ -1,4 +1,4 @@
-use Rattle.std.proofs.Common.{◌≡◌, [], ◌++◌, take, drop, length, reverse}
+use Rattle.std.proofs.Common.{◌≡◌, [], ◌++◌, take, drop, reverse}
 use Rattle.fab_disk.specs.Past.{past_of}
 use Rattle.fab_disk.specs.Settled.{is_uncertain, filled, seeded}
 use Rattle.fab_disk.proofs.medium.scatter.Given as goal

@@ -1,4 +1,4 @@
-use Rattle.std.proofs.Common.{◌≡◌, ℕ, List, length, drop, [], reverse, sym, ◌∙◌, ap, rules, arith}
+use Rattle.std.proofs.Common.{◌≡◌, length, drop, [], reverse, ◌∙◌, rules}
 use Rattle.std.proofs.lemmas.List.{take_at}
 use Rattle.fab_disk.specs.Past.{past_of}
 use Rattle.fab_disk.specs.Settled.{filled, is_uncertain, seeded}

@@ -1,4 +1,4 @@
-use Rattle.std.proofs.Common.{◌≡◌, IsTrue, ◌∙◌, rules}
+use Rattle.std.proofs.Common.{IsTrue, ◌∙◌, rules}
 use Rattle.fab_disk.proofs.medium.Medium.roll_back.Goals as goal
 
 pub loop-preserved : goal.loop-preserved

@@ -1,5 +1,4 @@
-use Rattle.std.proofs.Common.{◌≡◌, sym, subst, ◌+◌, arith}
-use Rattle.fab_disk.specs.Medium.{HasRoom}
+use Rattle.std.proofs.Common.{arith}
 use Rattle.fab_disk.proofs.medium.Medium.settle.Goals as goal
 
 pub returns-clause-room : goal.returns-clause-room

@@ -1,4 +1,4 @@
-use Rattle.std.proofs.Common.{◌≡◌, sym, subst}
+use Rattle.std.proofs.Common.{sym, subst}
 use Rattle.fab_disk.specs.Past.{IsImage}
 use Rattle.fab_disk.specs.Medium.{past}
 use Rattle.fab_disk.proofs.Filled.{settled_is_image}

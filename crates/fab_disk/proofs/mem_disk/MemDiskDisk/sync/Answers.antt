@@ -1,5 +1,5 @@
-use Rattle.std.proofs.Common.{◌≡◌, ◌+◌, List, ℕ, sym, ◌∙◌, ap, subst, rules}
-use Rattle.fab_disk.specs.Past.{Past, synced, IsImage}
+use Rattle.std.proofs.Common.{◌≡◌, ◌+◌, List, sym, ◌∙◌, ap, subst}
+use Rattle.fab_disk.specs.Past.{Past, IsImage}
 use Rattle.fab_disk.specs.PastLaws.{content_is_image}
 use Rattle.fab_disk.specs.Medium.{past, HasRoom}
 use Rattle.fab_disk.specs.declared.medium.Medium.{Medium}
@@ -16,13 +16,13 @@ returns-in-Goes-clause-crash c = λ image left.
 pub returns-in-Goes-clause-room : goal.returns-in-Goes-clause-room
 returns-in-Goes-clause-room c = record {
   left = λ calls bytes limit le had. c.commit.ensures.room calls bytes limit
-    (subst (λ (m : Medium). HasRoom m (calls + 1) bytes limit) (sym c.next_fate.ensures.medium) (c.reserve.ensures.room (calls + 1) bytes limit (room_same c.args.self.now.medium (calls + 1) bytes limit had)));
+      (subst (λ (m : Medium). HasRoom m (calls + 1) bytes limit) (sym c.next_fate.ensures.medium) (c.reserve.ensures.room (calls + 1) bytes limit (room_same c.args.self.now.medium (calls + 1) bytes limit had)));
   enough = λ calls bytes limit le had refused. cc;
 }
 
 pub returns-in-Stops-clause-room : goal.returns-in-Stops-clause-room
 returns-in-Stops-clause-room c = record {
   left = λ calls bytes limit le had. subst (λ (m : Medium). HasRoom m calls bytes limit) (sym c.next_fate.ensures.medium)
-    (room_less c.reserve.new.self calls bytes 0 limit (c.reserve.ensures.room (calls + 1) (bytes + 0) limit had));
+      (room_less c.reserve.new.self calls bytes 0 limit (c.reserve.ensures.room (calls + 1) (bytes + 0) limit had));
   enough = λ calls bytes limit le had refused. cc;
 }

@@ -1,5 +1,4 @@
-use Rattle.std.proofs.Common.{◌≡◌, ◌+◌, List, ℕ, length, sym, ◌∙◌, ap, subst, rules, arith}
-use Rattle.fab_disk.specs.Disk.{Kept}
+use Rattle.std.proofs.Common.{◌+◌, List, ℕ, length, sym, subst}
 use Rattle.fab_disk.specs.Past.{Past}
 use Rattle.fab_disk.specs.Medium.{past, HasRoom, IsWrittenOver}
 use Rattle.fab_disk.specs.declared.medium.Medium.{Medium}
@@ -18,7 +17,7 @@ returns-in-Goes-clause-crash c = λ image left.
 pub returns-in-Goes-clause-room : goal.returns-in-Goes-clause-room
 returns-in-Goes-clause-room c = record {
   left = λ calls bytes limit le had. c.overwrite.ensures.room calls bytes limit le
-    (subst (λ (m : Medium). HasRoom m (calls + 1) (bytes + length c.args.from.now) limit) (sym c.next_fate.ensures.medium) (c.reserve.ensures.room (calls + 1) (bytes + length c.args.from.now) limit had));
+      (subst (λ (m : Medium). HasRoom m (calls + 1) (bytes + length c.args.from.now) limit) (sym c.next_fate.ensures.medium) (c.reserve.ensures.room (calls + 1) (bytes + length c.args.from.now) limit had));
   enough = λ calls bytes limit le had refused. cc;
 }
 
@@ -41,13 +40,13 @@ returns-in-Stops-clause-crash c = λ image left.
 pub returns-in-Stops-clause-room : goal.returns-in-Stops-clause-room
 returns-in-Stops-clause-room c = record {
   left = λ calls bytes limit le had. c.overwrite-in-Stops.ensures.room calls bytes limit le
-    (subst (λ (m : Medium). HasRoom m (calls + 1) (bytes + length c.args.from.now) limit) (sym c.next_fate.ensures.medium) (c.reserve.ensures.room (calls + 1) (bytes + length c.args.from.now) limit had));
+      (subst (λ (m : Medium). HasRoom m (calls + 1) (bytes + length c.args.from.now) limit) (sym c.next_fate.ensures.medium) (c.reserve.ensures.room (calls + 1) (bytes + length c.args.from.now) limit had));
   enough = λ calls bytes limit le had refused. cc;
 }
 
 pub returns-in-Fails-clause-room : goal.returns-in-Fails-clause-room
 returns-in-Fails-clause-room c = record {
   left = λ calls bytes limit le had. subst (λ (m : Medium). HasRoom m calls bytes limit) (sym c.next_fate.ensures.medium)
-    (room_less c.reserve.new.self calls bytes (length c.args.from.now) limit (c.reserve.ensures.room (calls + 1) (bytes + length c.args.from.now) limit had));
+      (room_less c.reserve.new.self calls bytes (length c.args.from.now) limit (c.reserve.ensures.room (calls + 1) (bytes + length c.args.from.now) limit had));
   enough = λ calls bytes limit le had refused. cc;
 }

@@ -1,0 +1,4 @@
+pub mod Frame
+pub mod Shape
+pub mod Reading
+pub mod Calls
