@@ -6,6 +6,7 @@
 //! frame behind it stands closed on the disk before that.
 #![tactic(auto)]
 
+mod calls;
 mod fault;
 mod frame;
 mod shape;
