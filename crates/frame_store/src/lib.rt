@@ -9,6 +9,7 @@
 mod calls;
 mod fault;
 mod frame;
+mod parse;
 mod shape;
 
 pub use fault::FrameFault;
