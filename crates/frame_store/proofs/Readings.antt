@@ -167,7 +167,8 @@ pub record IsReadSoFar (bytes : List ℕ) (frames : List (ℕ × List ℕ)) (res
   pub spelled : bytes ≡ framed frames ++ rest
   pub short : AreShort frames
 
-short_push : (frames : List (ℕ × List ℕ)) (frame : ℕ × List ℕ) → AreShort frames → length frame.1 < 2 ^ 32 → AreShort (frames ++ frame ∷ [])
+-- short bodies with one more
+pub short_push : (frames : List (ℕ × List ℕ)) (frame : ℕ × List ℕ) → AreShort frames → length frame.1 < 2 ^ 32 → AreShort (frames ++ frame ∷ [])
 short_push [] frame short lt zero d below = lt
 short_push [] frame short lt (suc k) d below = absurd (omega arith)
 short_push (first ∷ frames) frame short lt zero d below = short zero d (omega arith)
