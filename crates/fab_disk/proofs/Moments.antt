@@ -1,0 +1,53 @@
+-- How a run of calls of a disk goes on.
+use Rattle.std.proofs.Common.{◌≡◌, ◌⊎◌, inl, inr, ⊎_elim, ℕ, ◌≤◌, ◌<◌, List, arith}
+use Rattle.fab_disk.specs.Disk.{Elapses, LeavesOnly, Kept, Rose}
+
+module _ {D : Type 0} (moment : D → ℕ) (left_since : D → ℕ → List ℕ → Type 0) where
+  -- before the first call
+  pub started : (old : D) (P : List ℕ → Type 0) → ((image : List ℕ) → left_since old (moment old) image → P image) → LeavesOnly moment left_since old old P
+  started old P here = record { later = omega arith; each = here; before = λ t image le left. inl left }
+
+  -- one call more, after which a crash leaves what has P
+  pub goes_on : (old mid new : D) (P may_leave : List ℕ → Type 0) → LeavesOnly moment left_since old mid P
+      → Elapses (moment mid) (moment new) (left_since mid) (left_since new) may_leave → ((image : List ℕ) → may_leave image → P image)
+      → LeavesOnly moment left_since old new P
+  goes_on old mid new P may_leave so_far time here = record {
+    later = omega (arith, so_far.later, time.later);
+    each = λ image left. ⊎_elim (so_far.each image) (here image) (time.nothing_else (moment old) image so_far.later left);
+    before = λ t image le left. ⊎_elim (so_far.before t image le) (λ now. inr (here image now)) (time.nothing_else t image (omega (arith, le, so_far.later)) left);
+  }
+
+  -- one run after another
+  pub joined : (old mid new : D) (P : List ℕ → Type 0) → LeavesOnly moment left_since old mid P → LeavesOnly moment left_since mid new P → LeavesOnly moment left_since old new P
+  joined old mid new P first second = record {
+    later = omega (arith, first.later, second.later);
+    each = λ image left. ⊎_elim (first.each image) (λ now. now) (second.before (moment old) image first.later left);
+    before = λ t image le left. ⊎_elim (first.before t image le) (λ now. inr now) (second.before t image (omega (arith, le, first.later)) left);
+  }
+
+  -- what has P has Q
+  pub widened : (old new : D) (P Q : List ℕ → Type 0) → ((image : List ℕ) → P image → Q image) → LeavesOnly moment left_since old new P → LeavesOnly moment left_since old new Q
+  widened old new P Q wider run = record {
+    later = run.later;
+    each = λ image left. wider image (run.each image left);
+    before = λ t image le left. ⊎_elim (λ had. inl had) (λ now. inr (wider image now)) (run.before t image le left);
+  }
+
+-- a count that rose in the first part of a run rose in the run
+pub rose_first : (a b c : ℕ) → Rose a b → b ≤ c → Rose a c
+rose_first a b c (inl up) le = inl (omega arith)
+rose_first a b c (inr most) le = inr (omega arith)
+
+-- and in the second part
+pub rose_second : (a b c : ℕ) → a ≤ b → Rose b c → Rose a c
+rose_second a b c le (inl up) = inl (omega arith)
+rose_second a b c le (inr most) = inr most
+
+-- A run of two calls, the second made where the first did not fail.
+pub kept_both : (a b c : ℕ) (S T U F G : Type 0) → Kept a b S T F → Kept b c T U G → Kept a c S U G
+kept_both a b c S T U F G first second = record {
+  later = omega (arith, first.later, second.later);
+  rose = λ failed. rose_second a b c first.later (second.rose failed);
+  stays = λ sound. second.stays (first.stays sound);
+  never = λ sound failed. second.never (first.stays sound) failed;
+}

@@ -1,0 +1,100 @@
+// A real file as a disk.
+ghost use Rattle.std.specs.Prelude.{◌≡◌, IfOk, IsErr, IsOkUnless};
+ghost use Rattle.fab_disk.specs.Disk.{Kept};
+
+use crate::{Disk, IoFault};
+use std::fs::{File, OpenFile};
+use std::io;
+use std::io::{Read, Seek, SeekFrom, Write};
+
+/// A file that is open for reading and writing. Nothing is told of what it holds, and no call of it is known to succeed.
+#[derive(Drop)]
+pub struct FileDisk {
+    file: File,
+    faults: u64,
+}
+
+impl FileDisk {
+    /// A disk over this file, which has not failed yet.
+    pub fn new(file: File) -> FileDisk {
+        FileDisk { file, faults: 0 }
+    }
+
+    // Counts an error.
+    fn count<T: Drop>(&mut self, outcome: io::Result<T>) -> Result<T, IoFault>
+        ensures cause { Kept self.old.faults self.new.faults ⊥ ⊥ (IsErr result) }
+        ensures only { IsOkUnless result IoFault.Failed }
+    {
+        match outcome {
+            Ok(value) => Ok(value),
+            Err(_) => {
+                self.faults = self.faults.saturating_add(1);
+                Err(IoFault::Failed)
+            }
+        }
+    }
+}
+
+fn read_whole(file: &mut File, at: u64, into: &mut [u8]) -> io::Result<()> {
+    file.seek(SeekFrom::Start(at))?;
+    file.read_exact(into)
+}
+
+fn write_whole(file: &mut File, at: u64, from: &[u8]) -> io::Result<()> {
+    file.seek(SeekFrom::Start(at))?;
+    file.write_all(from)
+}
+
+impl Disk for FileDisk {
+    ghost use Rattle.std.specs.Prelude.{[]};
+
+    ghost tells = { ⊥ };
+
+    ghost seen = { λ _. [] };
+
+    ghost may_leave = { λ _ _. Unit {0} };
+
+    ghost moment = { λ _. 0 };
+
+    ghost left_since = { λ _ _ _. Unit {0} };
+
+    ghost faults = { λ disk. disk.faults };
+
+    ghost sound = { λ _. ⊥ };
+
+    ghost fails_in = { λ _ _. ⊥ };
+
+    ghost has_room = { λ _ _ _ _. Unit {0} };
+
+    ghost room_for_less = { λ _ _ _ _ _ _ _ _ _ _ _. tt };
+
+    ghost seen_is_left = { λ _. tt };
+
+    ghost counts_now = { λ _ _ _ _ _. tt };
+
+    ghost only_now = { λ _ _ _. tt };
+
+    fn len(&mut self) -> Result<u64, IoFault> {
+        let end = self.file.seek(SeekFrom::End(0));
+        self.count(end)
+    }
+
+    fn read_at(&mut self, at: u64, into: &mut [u8]) -> Result<(), IoFault> {
+        let outcome = read_whole(&mut self.file, at, into);
+        self.count(outcome)
+    }
+
+    fn reserve(&mut self, _calls: usize, _bytes: usize, _end: u64) -> Result<(), IoFault> {
+        Ok(())
+    }
+
+    fn write_at(&mut self, at: u64, from: &[u8]) -> Result<(), IoFault> {
+        let outcome = write_whole(&mut self.file, at, from);
+        self.count(outcome)
+    }
+
+    fn sync(&mut self) -> Result<(), IoFault> {
+        let outcome = self.file.sync_all();
+        self.count(outcome)
+    }
+}

@@ -1,0 +1,187 @@
+// A disk in memory, which can be made to fail or to stop.
+ghost use Rattle.std.specs.Prelude.{◌≡◌, ◌≢◌, ◌+◌, ◌≤◌, ◌^◌, [], List, ℕ, length, slice_range, IsTrue, IfOk, OnOk, IsOkUnless};
+ghost use Rattle.fab_disk.specs.Disk.{Kept, KeepsRoom, KeepsPlan, CountsDown};
+
+use crate::disk::Fate;
+use crate::failing_calls::FailingCalls;
+use crate::medium::Medium;
+use crate::{Armed, Disk, IoFault, Plan};
+use std::alloc::Global;
+
+/// Bytes in memory that behave as a disk, and tell all that they hold.
+///
+/// It fails at the calls that [`MemDisk::fail_at`] lists and by the plan that [`Armed::arm`] takes, and at no others.
+#[derive(Drop)]
+pub struct MemDisk {
+    medium: Medium,
+    plan: Plan,
+    failing: FailingCalls,
+    faults: u64,
+}
+
+impl MemDisk {
+    ghost use Rattle.std.specs.Prelude.{◌≡◌, ◌≢◌, [], List, ℕ};
+    ghost use Rattle.fab_disk.specs.Disk.{Kept, CountsDown};
+    ghost use Rattle.fab_disk.specs.Past.{IsImage};
+    ghost use Rattle.fab_disk.specs.Settled.{settled_at};
+    ghost use Rattle.fab_disk.specs.Plan.{IsPlanned};
+    ghost use Rattle.fab_disk.specs.MemDisk.{content_of, past_of_disk, IsSound};
+
+    /// A sound disk that holds these bytes. A crash leaves them.
+    pub fn new(alloc: Global, content: Vec<u8>) -> MemDisk
+        ensures content { content_of result ≡ content.items }
+        ensures past { past_of_disk result ≡ [] }
+        ensures sound { IsSound result }
+    {
+        MemDisk {
+            medium: Medium::new(alloc, content),
+            plan: Plan::Never,
+            failing: FailingCalls::none(alloc),
+            faults: 0,
+        }
+    }
+
+    /// The bytes that a read gives.
+    pub fn bytes(&self) -> &[u8]
+        ensures { result.now ≡ content_of self.now }
+    {
+        &self.medium.content
+    }
+
+    /// Lists the calls that are to fail, in the place of those listed before: the calls of `len`, `read_at`, `write_at` and
+    /// `sync` are numbered together, and the next one is 1.
+    pub fn fail_at(&mut self, calls: Vec<u64>)
+        ensures content { content_of self.new ≡ content_of self.old }
+        ensures past { past_of_disk self.new ≡ past_of_disk self.old }
+    {
+        self.failing = FailingCalls::of(calls);
+    }
+
+    /// Makes a stopped disk hold one of the images that a crash may leave: at 0 the one from the last sync that succeeded, at 1
+    /// all that was written, and above 1 bytes that the generator Pcg32 draws, made from this number, one for each place that
+    /// may have changed. It takes no memory.
+    pub fn settle(&mut self, pick: u64)
+        ensures content { content_of self.new ≡ settled_at pick (past_of_disk self.old) (content_of self.old) }
+        ensures image { IsImage (past_of_disk self.old) (content_of self.old) (content_of self.new) }
+        ensures past { past_of_disk self.new ≡ [] }
+        ensures sound { IsSound self.old → IsSound self.new }
+    {
+        self.medium.settle(pick);
+    }
+
+    // Counts a call that only looks. `Failed` where it is to fail.
+    fn look(&mut self) -> Result<(), IoFault>
+        ensures medium { self.new.medium ≡ self.old.medium }
+        ensures plan { self.new.plan ≡ self.old.plan }
+        ensures cause { Kept self.old.faults self.new.faults (IsSound self.old) (IsSound self.new) (result ≡ Err IoFault.Failed) }
+        ensures only { IsOkUnless result IoFault.Failed }
+    {
+        if self.failing.next_fails() {
+            self.faults = self.faults.saturating_add(1);
+            return Err(IoFault::Failed);
+        }
+        Ok(())
+    }
+
+    // Counts a call that changes the disk, and says what befalls it.
+    fn next_fate(&mut self) -> Fate
+        ensures medium { self.new.medium ≡ self.old.medium }
+        ensures cause { Kept self.old.faults self.new.faults (IsSound self.old) (IsSound self.new) (result ≢ Fate.Goes) }
+        ensures plan { result ≡ Fate.Goes → CountsDown (IsPlanned self.old.plan) (IsPlanned self.new.plan) }
+    {
+        let (planned, left) = self.plan.next();
+        self.plan = left;
+        let fate = self.failing.or_listed(planned);
+        if fate != Fate::Goes {
+            self.faults = self.faults.saturating_add(1);
+        }
+        fate
+    }
+}
+
+impl Disk for MemDisk {
+    ghost use Rattle.std.specs.Prelude.{◌≡◌, length};
+    ghost use Rattle.fab_disk.specs.Past.{IsImage, HadImage};
+    ghost use Rattle.fab_disk.specs.PastLaws.{content_is_image, image_had, had_now};
+    ghost use Rattle.fab_disk.specs.Medium.{HasRoom};
+    ghost use Rattle.fab_disk.specs.MediumLaws.{room_for_less};
+    ghost use Rattle.fab_disk.specs.Plan.{IsPlanned};
+    ghost use Rattle.fab_disk.specs.MemDisk.{content_of, past_of_disk, IsSound};
+
+    ghost tells = { Unit {0} };
+
+    ghost seen = { content_of };
+
+    ghost may_leave = { λ disk image. IsImage (past_of_disk disk) (content_of disk) image };
+
+    ghost moment = { λ disk. length (past_of_disk disk) };
+
+    ghost left_since = { λ disk t image. HadImage (past_of_disk disk) (content_of disk) t image };
+
+    ghost faults = { λ disk. disk.faults };
+
+    ghost sound = { IsSound };
+
+    ghost fails_in = { λ disk n. IsPlanned disk.plan n };
+
+    ghost has_room = { λ disk calls bytes end. HasRoom disk.medium calls bytes end };
+
+    ghost room_for_less = { λ disk calls bytes end fewer less nearer c b e room. room_for_less disk.medium calls bytes end fewer less nearer c b e room };
+
+    ghost seen_is_left = { λ disk. content_is_image (past_of_disk disk) (content_of disk) disk.medium.fits };
+
+    ghost counts_now = { λ disk t image le now. image_had (past_of_disk disk) (content_of disk) t image now };
+
+    ghost only_now = { λ disk image had. had_now (past_of_disk disk) (content_of disk) image had };
+
+    fn len(&mut self) -> Result<u64, IoFault> {
+        self.look()?;
+        Ok(self.medium.content.len() as u64)
+    }
+
+    fn read_at(&mut self, at: u64, into: &mut [u8]) -> Result<(), IoFault> {
+        self.look()?;
+        let at = at as usize;
+        into.copy_from_slice(&self.medium.content[at..at + into.len()]);
+        Ok(())
+    }
+
+    fn reserve(&mut self, calls: usize, bytes: usize, end: u64) -> Result<(), IoFault> {
+        self.medium.reserve(calls, bytes, end as usize)?;
+        Ok(())
+    }
+
+    fn write_at(&mut self, at: u64, from: &[u8]) -> Result<(), IoFault> {
+        let at = at as usize;
+        self.medium.reserve(1, from.len(), at + from.len())?;
+        match self.next_fate() {
+            Fate::Goes => {
+                self.medium.overwrite(at, from);
+                Ok(())
+            }
+            Fate::Stops => {
+                self.medium.overwrite(at, from);
+                Err(IoFault::Failed)
+            }
+            Fate::Fails => Err(IoFault::Failed),
+        }
+    }
+
+    fn sync(&mut self) -> Result<(), IoFault> {
+        self.medium.reserve(1, 0, 0)?;
+        match self.next_fate() {
+            Fate::Goes => {
+                self.medium.commit();
+                Ok(())
+            }
+            Fate::Stops | Fate::Fails => Err(IoFault::Failed),
+        }
+    }
+}
+
+impl Armed for MemDisk {
+    fn arm(&mut self, plan: Plan) {
+        self.plan = plan;
+        self.medium.forget();
+    }
+}

@@ -1,0 +1,5 @@
+pub mod Disks
+pub mod Readings
+pub mod Bytes
+pub mod Stores
+pub mod Appends

@@ -1,0 +1,5 @@
+pub mod Frame
+pub mod Shape
+pub mod Reading
+pub mod Held
+pub mod Calls
