@@ -1,0 +1,168 @@
+//! The log of a stripe's versions.
+
+ghost use Rattle.std.specs.Prelude.{◌≡◌, [], ◌∷◌, ◌++◌, length, find, filter, not, option_map, option_copied, IsTrue, IsSome, IfOk, OnOk, OnErr, ◌==◌};
+ghost use Rattle.std.specs.Option.{ForSome};
+ghost use Rattle.fab_base.specs.Stamps.{stamp_below};
+ghost use Rattle.version_log.specs.Versions.{IsRising, version, block_of, newest, below, is_below, has_stamp, collected, added_block};
+ghost use Rattle.version_log.specs.Entries.{version_of};
+
+use crate::entries::Entry;
+use fab_base::{Bytes, NoMem, Stamp};
+use std::alloc::Global;
+use std::marker::Model;
+use std::rc::Rc;
+
+/// Versions with rising stamps, each with its block's bytes.
+///
+/// A version that was added without bytes has the block of the one below it, also after that one was dropped.
+/// Look-ups and `collect` take no memory.
+#[derive(Debug, Drop)]
+pub struct VersionLog {
+    entries: Vec<Entry>,
+}
+
+impl Model for VersionLog {
+    ghost use Rattle.std.specs.Prelude.{List, map};
+    ghost use Rattle.version_log.specs.Versions.{Version, IsRising};
+    ghost use Rattle.version_log.specs.Entries.{version_of};
+
+    ghost Value = { List Version };
+
+    ghost view = { λ log. map version_of log.entries.items };
+
+    ghost invariant = { λ log. IsRising (map version_of log.entries.items) };
+}
+
+impl VersionLog {
+    /// A log without versions.
+    pub fn new(alloc: Global) -> VersionLog
+        ensures { result ≡ [] }
+    {
+        VersionLog {
+            entries: Vec::new(alloc),
+        }
+    }
+
+    /// How many versions there are.
+    pub fn len(&self) -> usize
+        ensures value { result ≡ length self.now }
+        ensures rising { IsRising self.now }
+    {
+        self.entries.len()
+    }
+
+    /// Whether there are none.
+    pub fn is_empty(&self) -> bool
+        ensures { result ≡ (length self.now == 0) }
+    {
+        self.entries.is_empty()
+    }
+
+    /// The version with the greatest stamp, and its block.
+    pub fn newest(&self) -> Option<(Stamp, &Bytes)>
+        ensures value { option_map (λ found. version found.0 found.1.now) result ≡ newest self.now }
+        ensures rising { IsRising self.now }
+    {
+        let entry = self.entries.last()?;
+        Some((entry.stamp, entry.block.as_ref()))
+    }
+
+    /// The version with the greatest stamp below the bound, and its block.
+    pub fn below(&self, bound: Stamp) -> Option<(Stamp, &Bytes)>
+        ensures { option_map (λ found. version found.0 found.1.now) result ≡ below bound self.now }
+    {
+        let entry = self
+            .entries
+            .iter()
+            .rev()
+            .find(|entry| entry.stamp.is_below(bound))?;
+        Some((entry.stamp, entry.block.as_ref()))
+    }
+
+    /// The block of the version with this stamp.
+    pub fn at(&self, stamp: Stamp) -> Option<&Bytes>
+        ensures { option_copied result ≡ option_map block_of (find (has_stamp stamp) self.now) }
+    {
+        let entry = self.entries.iter().find(|entry| entry.stamp == stamp)?;
+        Some(entry.block.as_ref())
+    }
+
+    /// Adds a version above the newest: with this block, or with the newest version's where none is given. Memory may run out:
+    /// then the log is as it was.
+    pub fn add(&mut self, stamp: Stamp, block: Option<Bytes>) -> Result<(), NoMem>
+        requires above { ForSome (newest self.old) (λ top. IsTrue (stamp_below top.stamp stamp)) }
+        requires content { self.old ≡ [] → IsSome block }
+        ensures added { OnOk result (self.new ≡ self.old ++ version stamp (added_block self.old block) ∷ []) }
+        ensures unchanged { OnErr result (self.new ≡ self.old) }
+    {
+        let block = self.shared(block)?;
+        self.entries.push(Entry { stamp, block })?;
+        Ok(())
+    }
+
+    /// Drops the versions below the one with this stamp. Where there is none, nothing changes.
+    pub fn collect(&mut self, stamp: Stamp)
+        ensures { self.new ≡ collected stamp self.old }
+    {
+        if self.at(stamp).is_some() {
+            drop_below(&mut self.entries, stamp);
+        }
+    }
+
+    // The block of a version to be added.
+    fn shared(&self, block: Option<Bytes>) -> Result<Rc<Bytes>, NoMem>
+        requires content { self.now ≡ [] → IsSome block }
+        ensures value { IfOk result (λ shared. shared.value ≡ added_block self.now block) }
+    {
+        match (block, self.entries.last()) {
+            (Some(bytes), _) => Ok(Rc::new(*self.entries.allocator(), bytes)?),
+            (None, Some(entry)) => Ok(entry.block.clone()?),
+            (None, None) => unreachable!(),
+        }
+    }
+}
+
+// Drops the entries below the stamp, in place.
+fn drop_below(entries: &mut Vec<Entry>, stamp: Stamp)
+    ensures { entries.new.items ≡ filter (λ entry. not (is_below stamp (version_of entry))) entries.old.items }
+{
+    entries.retain(|entry| !entry.stamp.is_below(stamp));
+}
+
+#[cfg(test)]
+mod tests {
+    use super::*;
+    use fab_base::{BrickId, ViewNo};
+    use std::test::Fail;
+
+    fn stamp(time: u64) -> Stamp
+        ensures { result ≡ record { view = record { 0 = 1 }; time = time; brick = record { 0 = 0 }; boot = 1 } }
+    {
+        Stamp {
+            view: ViewNo(1),
+            time,
+            brick: BrickId(0),
+            boot: 1,
+        }
+    }
+
+    #[test]
+    #[tactic(auto, unfolding(fab_base::specs::Stamps::stamp_below))]
+    fn a_shared_block_outlives_its_first_version(rt: HostRuntime) -> Result<(), Fail> {
+        let mut log = VersionLog::new(rt.alloc());
+        assert!(rt; log.is_empty() && log.newest().is_none());
+        log.add(stamp(1), Some(Bytes::from_slice(rt.alloc(), &[7])?))?;
+        log.add(stamp(3), None)?;
+        let (below, _) = log.below(stamp(3)).ok_or("below")?;
+        assert_eq!(rt; below, stamp(1));
+        log.collect(stamp(2));
+        assert_eq!(rt; log.len(), 2);
+        log.collect(stamp(3));
+        assert_eq!(rt; log.len(), 1);
+        assert!(rt; log.at(stamp(1)).is_none());
+        let (newest, block) = log.newest().ok_or("newest")?;
+        assert_eq!(rt; newest, stamp(3));
+        assert_eq!(rt; block.as_slice(), [7].as_slice());
+        Ok(())
+    }
+}
