@@ -4,7 +4,7 @@ use Rattle.protocol.specs.Worlds.{World, first_world, run}
 use Rattle.protocol.specs.Laws.{Laws, EveryRunKeepsTheLaws, NoEventLowers}
 use Rattle.protocol.proofs.Books.{Books}
 use Rattle.protocol.proofs.BooksEvents.{books}
-use Rattle.protocol.proofs.NeverLowers.{never_falls}
+use Rattle.protocol.proofs.Falls.{no_event_lowers}
 use Rattle.protocol.proofs.QuorumFacts.{QuorumFacts, quorum_facts}
 use Rattle.protocol.proofs.StripeLives.{well_formed_stripe, numbers_from_one}
 use Rattle.protocol.proofs.Walks.{happenings_strict}
@@ -29,4 +29,4 @@ every_run setting events sound =
 
 -- no event of any run lowers what a brick has promised or stored
 pub no_event : NoEventLowers
-no_event setting events event sound = never_falls setting (run setting events (first_world setting.layout)) event
+no_event = no_event_lowers

@@ -15,7 +15,6 @@ pub mod Falls
 pub mod Growth
 pub mod Lives
 pub mod MarkLists
-pub mod NeverLowers
 pub mod OnwardLives
 pub mod Operated
 pub mod Outcomes

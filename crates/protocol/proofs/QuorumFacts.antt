@@ -153,6 +153,7 @@ module _ (setting : Setting) (sound : IsSound setting) (w : World) (stamps : Sta
             brick_at_seat group to.0 seat.0 seat.1,
             says.is_block group seat.0 group_is seat.1,
           );
+      kept = λ g s i seat k version group group_is seat_is at. (said.logs g s i k version at).block group seat group_is seat_is;
     };
     guarded = λ call from to t block group group_is sent. (write_says call from to t block sent).guarded group group_is;
     stored = λ call from to sent. said.packets sent.0 (record { from = from; to = to; message = Message.Reply call Reply.Stored }) sent.1;

@@ -8,6 +8,7 @@ use Rattle.fab_base.specs.Stamps.{stamp_below}
 use Rattle.fab_wire.specs.declared.calls.Call.{Call}
 use Rattle.fab_wire.specs.declared.messages.Message.{Message}
 use Rattle.fab_wire.specs.declared.messages.Packet.{Packet}
+use Rattle.fab_wire.specs.declared.requests.Version.{Version}
 use Rattle.fab_wire.specs.declared.requests.Request.TheVariants as Request
 use Rattle.fab_wire.specs.declared.replies.Reply.TheVariants as Reply
 use Rattle.quorum.specs.Quorums.{count}
@@ -15,7 +16,7 @@ use Rattle.reg_model.specs.declared.marks.Mark.TheVariants.{End}
 use Rattle.reg_model.specs.Marks.{life_of, stripe_marks, IsWellFormed}
 use Rattle.reg_model.specs.Strict.{IsStrict}
 use Rattle.reg_model.specs.Walk.{last_of}
-use Rattle.protocol.specs.Settings.{Setting, Group, group_of, quorum_of, IsSound}
+use Rattle.protocol.specs.Settings.{Setting, Group, group_of, quorum_of, IsSound, seat_in}
 use Rattle.protocol.specs.Replicas.{Replica, top_of, is_held}
 use Rattle.protocol.specs.Worlds.{World, Event, Operation, first_world, happens, run}
 use Rattle.protocol.specs.Happenings.{is_of, happenings_of}
@@ -50,6 +51,8 @@ pub record OneContent (setting : Setting) (w : World) : Type 0 where
       → group_of setting.layout call.group.0 ≡ Some group → WriteSent w call from to t block
       → (seat : ℕ) × (seat < length group.members) × (brick_at group seat ≡ to.0)
       × (block ≡ setting.code.encode group.m (w.contents call.group.0 call.stripe.0 t) seat)
+  pub kept : (g s i seat k : ℕ) (version : Version) (group : Group) → group_of setting.layout g ≡ Some group → seat_in group.members i ≡ Some seat
+      → slice_get (part_of w g s i).log k ≡ Some version → version.block ≡ setting.code.encode group.m (w.contents g s version.stamp) seat
 
 -- Before a write of version t was sent, a quorum had promised t, or stored something later, and has so ever since.
 abbrev pub WritesAreGuarded : Setting → World → Type 0

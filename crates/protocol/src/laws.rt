@@ -12,7 +12,8 @@ ghost use Rattle.protocol.specs.Laws.{EveryRunKeepsTheLaws, NoEventLowers};
 ///   its happenings, each between the begin and the end of its operation, make its blocks plain registers, and every operation
 ///   that was answered is among them.
 /// - Versions follow real time (Frølund et al., "A Decentralized Algorithm for Erasure-Coded Virtual Disks", DSN 2004).
-/// - One stamp has one content: every block that was sent to be written under a stamp is its seat's block of that content.
+/// - One stamp has one content: every block that was sent to be written under a stamp, and every
+///   block that a member keeps under it, is its seat's block of that content.
 /// - Before a version was sent to be written, a quorum had promised to take nothing below its stamp.
 /// - A member says that it stored a version only where it was asked to, and holds it.
 /// - An operation is aborted only where a member had told its coordinator of a later stamp than the one that it was asked at.
