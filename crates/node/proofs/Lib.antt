@@ -1,1 +1,4 @@
+pub mod Decisions
 pub mod Logs
+pub mod States
+pub mod Tables
