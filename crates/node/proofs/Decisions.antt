@@ -6,7 +6,7 @@ use Rattle.fab_wire.specs.declared.calls.Call.{Call}
 use Rattle.fab_wire.specs.declared.replies.Reply.{Reply}
 use Rattle.protocol.specs.Settings.{Group, Layout, group_of, seat_in}
 use Rattle.protocol.specs.Coordinators.{Coordinator, Next, Ignores, Waits, Sends, Ends, call_same, answers_phase, new_seat, counts_at, on_reply}
-use Rattle.protocol.specs.Nodes.{Node, NodeStep, carried_out, replied, replied_at, replied_to, known_after}
+use Rattle.protocol.specs.Nodes.{Node, NodeStep, carried_out, replied, replied_at, replied_to, known_after, no_step, with_known}
 use Rattle.node.specs.Copies.{copies, copying}
 use Rattle.node.specs.Nexts.{packets_after, told_after, node_after}
 
@@ -59,3 +59,18 @@ replied_is layout group me from node call reply c held found =
     ∙ carried_out_is layout group me node known c next
     ∙ ap (λ after. record { node = after; packets = packets_after group me c.call next; told = told_after c.call next })
         (same_place layout group node known c from call reply (seq_or_none layout.block group c from call reply _ refl))
+
+-- a reply to no open operation only tells a time
+pub no_call : (layout : Layout) (me from : BrickId) (node : Node) (call : Call) (reply : Reply)
+    → node.calls call.seq ≡ None
+    → replied (copying layout) me from node call reply ≡ no_step (with_known node (known_after node.known reply))
+unfolding replied
+no_call layout me from node call reply missing = ap (replied_at (copying layout) me from node call reply) missing
+
+-- one to an operation of no group is ignored
+pub no_group_of_call : (layout : Layout) (me from : BrickId) (node : Node) (call : Call) (reply : Reply) (c : Coordinator)
+    → node.calls call.seq ≡ Some c → group_of layout c.ask.group.0 ≡ None
+    → replied (copying layout) me from node call reply ≡ no_step node
+unfolding replied
+no_group_of_call layout me from node call reply c held missing =
+    ap (replied_at (copying layout) me from node call reply) held ∙ ap (replied_to (copying layout) me from node call reply c) missing

@@ -1,4 +1,5 @@
 pub mod Decisions
 pub mod Logs
+pub mod Requests
 pub mod States
 pub mod Tables

@@ -4,6 +4,7 @@ use Rattle.std.specs.Option.{is_some, unwrap_or}
 use Rattle.std.specs.declared.cmp.Ordering.{Ordering}
 use Rattle.std.specs.declared.cmp.Ordering.TheVariants.{Less, Equal, Greater}
 use Rattle.std.specs.Ordering.{nat_cmp, is_eq, ordering_then}
+use Rattle.std.specs.Map.{lookup}
 use Rattle.std.specs.BTreeMap.{BTreeMap, get, is_at, btree_map_len}
 use Rattle.std.proofs.lemmas.Bool.Decides.{nat_tests}
 use Rattle.protocol.specs.Nodes.{put}
@@ -75,3 +76,12 @@ one_more old before after absent e = e ∙ ap (λ b. before + (if b then 0 else 
 pub one_fewer : {X : Type 0} (old : Option X) (before after : ℕ)
     → is_some old ≡ true → after + (if is_some old then 1 else 0) ≡ before → after + 1 ≡ before
 one_fewer old before after present e = ap (λ b. after + (if b then 1 else 0)) (sym present) ∙ e
+
+-- maps with the same entries have the same values
+pub same_calls : {X : Type 0} (m n : BTreeMap ℕ X) → n.entries ≡ m.entries → (k : ℕ) → get nat_cmp n k ≡ get nat_cmp m k
+same_calls m n e k = ap (lookup (is_at (nat_cmp k))) e
+
+-- and the same parts of stripes
+pub same_parts : {X : Type 0} (m n : BTreeMap (ℕ × ℕ) X) (d : X) → n.entries ≡ m.entries
+    → (g s : ℕ) → unwrap_or (get stripe_cmp n (g, s)) d ≡ unwrap_or (get stripe_cmp m (g, s)) d
+same_parts m n d e g s = ap (λ es. unwrap_or (lookup (is_at (stripe_cmp (g, s))) es) d) e

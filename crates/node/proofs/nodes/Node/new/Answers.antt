@@ -1,5 +1,5 @@
 -- Empty maps are those of a fresh brick.
-use Rattle.std.proofs.Common.{◌≡◌, refl, ap}
+use Rattle.std.proofs.Common.{refl, ap}
 use Rattle.std.specs.Option.{unwrap_or}
 use Rattle.std.specs.Map.{lookup}
 use Rattle.std.specs.BTreeMap.{is_at}
@@ -7,8 +7,6 @@ use Rattle.std.specs.Ordering.{nat_cmp}
 use Rattle.protocol.specs.Replicas.{first_replica}
 use Rattle.node.specs.States.{stripe_cmp, state_of}
 use Rattle.node.proofs.States.{same_states}
-use Rattle.node.proofs.Tables.{is_at_number}
-use Rattle.node.proofs.Decisions.{replied_is}
 use Rattle.node.proofs.nodes.Node.new.Goals as goal
 
 pub returns-clause-state : goal.returns-clause-state
