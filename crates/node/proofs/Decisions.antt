@@ -1,11 +1,11 @@
 -- What a brick does with what its coordinator decided.
-use Rattle.std.proofs.Common.{◌≡◌, ℕ, ◌-◌, ◌^◌, Bool, true, false, ◌&&◌, nat_eq, nat_lt, if◌then◌else◌, Option, Some, None, refl, sym, ◌∙◌, ap, ◌⊎◌, inl, inr, arith}
+use Rattle.std.proofs.Common.{◌≡◌, ℕ, ◌-◌, ◌^◌, Bool, true, false, ◌&&◌, nat_lt, Some, None, refl, sym, ◌∙◌, ap, ◌⊎◌, inl, inr, arith}
 use Rattle.std.proofs.lemmas.Bool.Decides.{nat_tests}
 use Rattle.fab_base.specs.declared.identities.BrickId.{BrickId}
 use Rattle.fab_wire.specs.declared.calls.Call.{Call}
 use Rattle.fab_wire.specs.declared.replies.Reply.{Reply}
-use Rattle.protocol.specs.Settings.{Group, Layout, group_of, seat_in}
-use Rattle.protocol.specs.Coordinators.{Coordinator, Next, Ignores, Waits, Sends, Ends, call_same, answers_phase, new_seat, counts_at, on_reply}
+use Rattle.protocol.specs.Settings.{Group, Layout, group_of}
+use Rattle.protocol.specs.Coordinators.{Coordinator, Next, Ignores, Waits, Sends, Ends, call_same, answers_phase, counts_at, on_reply}
 use Rattle.protocol.specs.Nodes.{Node, NodeStep, carried_out, replied, replied_at, replied_to, known_after, no_step, with_known}
 use Rattle.node.specs.Copies.{copies, copying}
 use Rattle.node.specs.Nexts.{packets_after, told_after, node_after}

@@ -4,7 +4,6 @@ use Rattle.fab_base.specs.declared.identities.BrickId.{BrickId}
 use Rattle.fab_wire.specs.declared.calls.Call.{Call}
 use Rattle.fab_wire.specs.declared.messages.Packet.{Packet}
 use Rattle.node.specs.declared.coordinators.Next.{Next}
-use Rattle.node.specs.declared.coordinators.Next.TheVariants as Next
 use Rattle.node.specs.Copies.{copies}
 use Rattle.protocol.specs.Settings.{Group}
 use Rattle.protocol.specs.Coordinators as machine

@@ -1,5 +1,5 @@
 -- The map of parts of stripes is the machine's function, changed at the stripe.
-use Rattle.std.proofs.Common.{◌≡◌, ℕ, cond, Some, None, refl, sym, ◌∙◌, ap, subst, rules}
+use Rattle.std.proofs.Common.{◌≡◌, ℕ, cond, Some, refl, sym, ◌∙◌, ap, subst, rules}
 use Rattle.std.specs.Option.{unwrap_or}
 use Rattle.std.specs.Map.{set_value}
 use Rattle.std.specs.Result.{IfOk}

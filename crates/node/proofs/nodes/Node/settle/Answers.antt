@@ -1,5 +1,5 @@
 -- The map of open operations is the machine's function, changed at the operation's number.
-use Rattle.std.proofs.Common.{◌≡◌, ℕ, Some, None, inl, inr, refl, sym, ◌∙◌, ap, ◌-◌, arith, rules}
+use Rattle.std.proofs.Common.{◌≡◌, Some, None, inl, inr, refl, sym, ◌∙◌, ap, ◌-◌, arith, rules}
 use Rattle.std.specs.Option.{is_some}
 use Rattle.std.specs.Ordering.{nat_cmp}
 use Rattle.std.specs.BTreeMap.{get, btree_map_len}
