@@ -1,3 +1,4 @@
+pub mod Copies
 pub mod Decisions
 pub mod Logs
 pub mod Requests

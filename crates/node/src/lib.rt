@@ -7,4 +7,7 @@ pub mod nodes;
 pub mod replicas;
 
 pub use coordinators::StripeOp;
-pub use nodes::{Begun, Node, Outs};
+pub use nodes::{Begun, Node, NodeFault, Outs};
+
+#[cfg(test)]
+mod tests;
