@@ -58,7 +58,7 @@ replied_is layout group me from node call reply c held found =
     ∙ ap (replied_to (copying layout) me from node call reply c) found
     ∙ carried_out_is layout group me node known c next
     ∙ ap (λ after. record { node = after; packets = packets_after group me c.call next; told = told_after c.call next })
-        (same_place layout group node known c from call reply (seq_or_none layout.block group c from call reply _ refl))
+    (same_place layout group node known c from call reply (seq_or_none layout.block group c from call reply _ refl))
 
 -- a reply to no open operation only tells a time
 pub no_call : (layout : Layout) (me from : BrickId) (node : Node) (call : Call) (reply : Reply)

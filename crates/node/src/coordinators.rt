@@ -412,12 +412,7 @@ impl StripeOp {
     }
 
     /// The packets of the present phase: one to each member, in the order of seats.
-    pub fn packets(
-        &self,
-        alloc: Global,
-        me: BrickId,
-        group: &Group,
-    ) -> Result<Vec<Packet>, NoMem>
+    pub fn packets(&self, alloc: Global, me: BrickId, group: &Group) -> Result<Vec<Packet>, NoMem>
         requires { group.now.m ≡ 1 }
         ensures items { IfOk result (λ packets. packets.items ≡ to_members me self.now.call (request_of copies group.now.m self.now) 0 group.now.members) }
         ensures few { IfOk result (λ packets. vec_len packets ≤ 32) }

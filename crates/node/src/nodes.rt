@@ -311,13 +311,7 @@ impl Node {
     }
 
     /// Begins an operation that is not refused.
-    fn begin(
-        &mut self,
-        alloc: Global,
-        group: &Group,
-        now: u64,
-        ask: &Ask,
-    ) -> Result<Begun, NoMem>
+    fn begin(&mut self, alloc: Global, group: &Group, now: u64, ask: &Ask) -> Result<Begun, NoMem>
         requires known { self.old.known + 1 < 2 ^ 64 }
         requires seq { self.old.seq + 1 < 2 ^ 64 }
         requires copies { group.now.m ≡ 1 }
@@ -434,7 +428,9 @@ impl Node {
             return Ok(Outs::nothing(alloc));
         };
         let last = open.call();
-        let next = open.copy(alloc)?.on_reply(alloc, layout.block(), group, from, call, reply)?;
+        let next = open
+            .copy(alloc)?
+            .on_reply(alloc, layout.block(), group, from, call, reply)?;
         let outs = Outs::after(alloc, self.me, group, last, &next)?;
         self.settle(known_after(self.known, reply), call.seq, next);
         Ok(outs)

@@ -74,11 +74,32 @@ fn reads_what_was_written(rt: HostRuntime) -> Result<(), Fail> {
     let Begun { seq, packets } = coordinator.invoke(rt.alloc(), &layout, 5, &write)?;
     assert_eq!(rt; seq, 1);
     assert_eq!(rt; packets.len(), 3);
-    let stores = deliver(rt.alloc(), &layout, bricks.as_mut_slice(), packets.as_slice())?.ok_or("ordered")?;
+    let stores = deliver(
+        rt.alloc(),
+        &layout,
+        bricks.as_mut_slice(),
+        packets.as_slice(),
+    )?
+    .ok_or("ordered")?;
     assert!(rt; matches!(stores.told, Told::Made { seq: 1, .. }));
     assert_eq!(rt; stores.packets.len(), 3);
-    let done = deliver(rt.alloc(), &layout, bricks.as_mut_slice(), stores.packets.as_slice())?.ok_or("stored")?;
-    assert!(rt; matches!(done.told, Told::Answers { seq: 1, answer: Answer::Done, .. }));
+    let done = deliver(
+        rt.alloc(),
+        &layout,
+        bricks.as_mut_slice(),
+        stores.packets.as_slice(),
+    )?
+    .ok_or("stored")?;
+    assert!(rt;
+        matches!(
+            done.told,
+            Told::Answers {
+                seq: 1,
+                answer: Answer::Done,
+                ..
+            }
+        )
+    );
     for brick in &bricks {
         assert_eq!(rt; versions(brick, stripe), 2);
     }
@@ -90,8 +111,19 @@ fn reads_what_was_written(rt: HostRuntime) -> Result<(), Fail> {
     };
     let coordinator = bricks.get_mut(0).ok_or("a brick")?;
     let begun = coordinator.invoke(rt.alloc(), &layout, 6, &read)?;
-    let told = deliver(rt.alloc(), &layout, bricks.as_mut_slice(), begun.packets.as_slice())?.ok_or("read")?.told;
-    let Told::Answers { answer: Answer::Data(bytes), .. } = told else {
+    let told = deliver(
+        rt.alloc(),
+        &layout,
+        bricks.as_mut_slice(),
+        begun.packets.as_slice(),
+    )?
+    .ok_or("read")?
+    .told;
+    let Told::Answers {
+        answer: Answer::Data(bytes),
+        ..
+    } = told
+    else {
         return Err("no answer")?;
     };
     assert_eq!(rt; bytes.as_slice(), [7].as_slice());

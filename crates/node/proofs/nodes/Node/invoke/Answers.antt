@@ -12,4 +12,4 @@ returns-in_ok-begin-in-Ok-clause-begun c =
     let layout = c.args.layout.now in
     let before = state_of layout.block c.args.self.now in
     subst (λ (group : Option Group). BeginsAs layout.block c.begin.new.self (began (copying layout) c.args.self.now.me c.args.now before c.args.ask.now group) c.in_ok-begin-in-Ok.field-0)
-        (sym c.in-Ok.ensures.group) (c.in_ok-begin-in-Ok.ensures.begun layout)
+    (sym c.in-Ok.ensures.group) (c.in_ok-begin-in-Ok.ensures.begun layout)

@@ -13,5 +13,5 @@ pub returns-clause-state : goal.returns-clause-state
 unfolding state_of
 returns-clause-state c =
     λ block. same_states _ _ refl refl refl c.new-2.ensures.len
-        (λ g s. ap (λ es. unwrap_or (lookup (is_at (stripe_cmp (g, s))) es) (first_replica block)) c.new.ensures.empty)
-        (λ k. ap (λ es. lookup (is_at (nat_cmp k)) es) c.new-2.ensures.empty)
+    (λ g s. ap (λ es. unwrap_or (lookup (is_at (stripe_cmp (g, s))) es) (first_replica block)) c.new.ensures.empty)
+    (λ k. ap (λ es. lookup (is_at (nat_cmp k)) es) c.new-2.ensures.empty)
