@@ -20,7 +20,10 @@ stripe_cmp x y = ordering_then (nat_cmp x.0 y.0) (nat_cmp x.1 y.1)
 unfoldable pub state_of : ℕ → Node → machine.Node
 state_of block node =
     record {
-      boot = node.boot; seq = node.seq; known = node.known; busy = btree_map_len node.calls;
+      boot = node.boot;
+      seq = node.seq;
+      known = node.known;
+      busy = btree_map_len node.calls;
       replicas = λ g s. unwrap_or (get stripe_cmp node.replicas (g, s)) (first_replica block);
       calls = λ k. get nat_cmp node.calls k;
     }

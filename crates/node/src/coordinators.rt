@@ -206,7 +206,7 @@ fn greatest(counted: &[Counted]) -> Option<Refuser>
 }
 
 impl StripeOp {
-    ghost use Rattle.std.specs.Prelude.{◌≡◌, ◌-◌, ◌<◌, ◌^◌, [], None, Some, IfOk};
+    ghost use Rattle.std.specs.Prelude.{◌≡◌, ◌-◌, ◌<◌, ◌≤◌, ◌^◌, [], None, Some, IfOk, IfSome, vec_len};
     ghost use Rattle.protocol.specs.Coordinators.{Sends, Ends, storing, unless_refused, answered_fast, counts_at, fast_version, greatest_refuser, request_of, decided, on_reply};
     ghost use Rattle.protocol.specs.Nodes.{to_members};
     ghost use Rattle.node.specs.Copies.{copies};
@@ -214,11 +214,7 @@ impl StripeOp {
 
     /// A new operation of a brick's call, at this time.
     pub fn begin(ask: Ask, stamp: Stamp, call: Call, phase: Phase, alloc: Global) -> StripeOp
-        ensures ask { result.ask ≡ ask }
-        ensures stamp { result.stamp ≡ stamp }
-        ensures call { result.call ≡ call }
-        ensures phase { result.phase ≡ phase }
-        ensures counted { result.counted ≡ [] }
+        ensures { result ≡ record { ask = ask; stamp = stamp; call = call; phase = phase; counted = [] } }
     {
         StripeOp {
             ask,
@@ -281,7 +277,8 @@ impl StripeOp {
         call: Call,
         reply: &Reply,
     ) -> Option<u8>
-        ensures { result ≡ counts_at block group.now self.now from.0 call reply.now }
+        ensures value { result ≡ counts_at block group.now self.now from.0 call reply.now }
+        ensures phase { IfSome result (λ _. self.now.call.phase < 2 ^ 32 - 1) }
     {
         let is_to_this_phase = is_same_call(call, self.call)
             && answers(block, self.phase, reply)
@@ -415,14 +412,10 @@ impl StripeOp {
     }
 
     /// The packets of the present phase: one to each member, in the order of seats.
-    pub fn packets(
-        &self,
-        alloc: Global,
-        me: BrickId,
-        group: &Group,
-    ) -> Result<Vec<Packet>, NoMem>
+    pub fn packets(&self, alloc: Global, me: BrickId, group: &Group) -> Result<Vec<Packet>, NoMem>
         requires { group.now.m ≡ 1 }
-        ensures { IfOk result (λ packets. packets.items ≡ to_members me self.now.call (request_of copies group.now.m self.now) 0 group.now.members) }
+        ensures items { IfOk result (λ packets. packets.items ≡ to_members me self.now.call (request_of copies group.now.m self.now) 0 group.now.members) }
+        ensures few { IfOk result (λ packets. vec_len packets ≤ 32) }
     {
         let mut packets = Vec::new(alloc);
         for (seat, member) in group.members().as_slice().iter().enumerate() {

@@ -6,6 +6,8 @@ pub mod coordinators;
 pub mod nodes;
 pub mod replicas;
 
-
+pub use coordinators::StripeOp;
 pub use nodes::{Begun, Node, NodeFault, Outs};
-pub use replicas::Replica;
+
+#[cfg(test)]
+mod tests;

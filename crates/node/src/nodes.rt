@@ -1,8 +1,10 @@
 //! A brick's steps.
 
-ghost use Rattle.std.specs.Prelude.{◌≡◌, ℕ, [], IfOk, OnOk, OnErr};
+ghost use Rattle.std.specs.Prelude.{◌≡◌, ◌<◌, ◌≤◌, ℕ, true, false, [], IfOk, OnOk, OnErr, is_some, vec_len};
+ghost use Rattle.std.specs.BTreeMap as tree;
+ghost use Rattle.std.specs.Ordering.{nat_cmp};
 ghost use Rattle.protocol.specs.Nodes.{has_block, has_length, first_phase, known_after, collect_packets};
-ghost use Rattle.node.specs.Nexts.{machine_next};
+ghost use Rattle.node.specs.Nexts.{machine_next, packets_after, told_after};
 
 use crate::coordinators::{Next, StripeOp, seat_of};
 use crate::replicas::Replica;
@@ -25,6 +27,7 @@ pub struct Node {
     known: u64,
     replicas: BTreeMap<(u32, u32), Replica>,
     calls: BTreeMap<u64, StripeOp>,
+    ghost fresh: { (k : ℕ) → seq < k → is_some (tree.get nat_cmp calls k) ≡ false },
 }
 
 /// What a step sends, in order, and what it tells of an operation.
@@ -125,7 +128,8 @@ fn collect_packets(
     call: Call,
     stored: Option<Stamp>,
 ) -> Result<Vec<Packet>, NoMem>
-    ensures { IfOk result (λ packets. packets.items ≡ collect_packets group.now me call stored) }
+    ensures items { IfOk result (λ packets. packets.items ≡ collect_packets group.now me call stored) }
+    ensures few { IfOk result (λ packets. vec_len packets ≤ 32) }
 {
     let mut packets = Vec::new(alloc);
     let Some(stamp) = stored else {
@@ -152,12 +156,54 @@ impl Outs {
             told: Told::Nothing,
         }
     }
+
+    /// What is sent and told once this is decided of a call.
+    fn after(
+        alloc: Global,
+        me: BrickId,
+        group: &Group,
+        call: Call,
+        next: &Next,
+    ) -> Result<Outs, NoMem>
+        requires { group.now.m ≡ 1 }
+        ensures packets { IfOk result (λ outs. outs.packets.items ≡ packets_after group.now me call (machine_next next.now)) }
+        ensures told { IfOk result (λ outs. outs.told ≡ told_after call (machine_next next.now)) }
+        ensures few { IfOk result (λ outs. vec_len outs.packets ≤ 32) }
+    {
+        Ok(match next {
+            Next::Ignores | Next::Waits(_) => Outs::nothing(alloc),
+            Next::Sends(op) => Outs {
+                packets: op.packets(alloc, me, group)?,
+                told: Told::Made {
+                    seq: call.seq,
+                    stamp: op.stamp(),
+                },
+            },
+            Next::Ends {
+                answer,
+                seen,
+                stored,
+            } => Outs {
+                packets: collect_packets(alloc, me, group, call, *stored)?,
+                told: Told::Answers {
+                    seq: call.seq,
+                    answer: answer.copy(alloc)?,
+                    seen: *seen,
+                },
+            },
+        })
+    }
 }
 
 impl Node {
-    ghost use Rattle.std.specs.Prelude.{◌≡◌, ◌+◌, ◌-◌, ◌^◌, ◌<◌, ◌≤◌, ℕ, true, IfOk, OnErr, vec_len};
+    ghost use Rattle.std.specs.Prelude.{◌≡◌, ◌+◌, ◌-◌, ◌^◌, ◌<◌, ◌≤◌, ℕ, true, None, Some, IfOk, OnOk, OnErr, MatchOption, vec_len};
     ghost use Rattle.std.specs.Option.{SomeIff};
-    ghost use Rattle.protocol.specs.Nodes.{first_node, is_stripe_op, refusal_of, invoked, requested, replied, received};
+    ghost use Rattle.std.specs.Result.{result_err};
+    ghost use Rattle.protocol.specs.Settings as layouts;
+    ghost use Rattle.protocol.specs.Settings.{group_of};
+    ghost use Rattle.protocol.specs.Replicas.{first_replica, handle};
+    ghost use Rattle.protocol.specs.Nodes.{first_node, is_stripe_op, refusal_in, refusal_of, new_coordinator, began_in, invoked, replica_at, with_replica, requested, replied, received};
+    ghost use Rattle.node.specs.Nexts.{node_after};
     ghost use Rattle.node.specs.Copies.{copying, KeepsCopies};
     ghost use Rattle.node.specs.States.{state_of, RefusesAs, BeginsAs, StepsAs};
 
@@ -179,24 +225,27 @@ impl Node {
     /// The log of the brick's part of a stripe, oldest version first. None where the stripe was never asked for here: its log
     /// is then that of a fresh stripe.
     pub fn log(&self, group: GroupId, stripe: StripeNo) -> Option<&[Version]>
+        ensures { (block : ℕ) → MatchOption result
+            ((state_of block self.now).replicas group.0 stripe.0 ≡ first_replica block)
+            (λ log. ((state_of block self.now).replicas group.0 stripe.0).log ≡ log.now) }
     {
         let replica = self.replicas.get(&(group.0, stripe.0))?;
         Some(replica.log())
     }
 
-    /// Why the brick does not begin an operation, the first reason there is: there is no such group or stripe; no such data
+    /// Why the brick does not begin an operation on a group, the first reason there is: there is no such stripe; no such data
     /// block; the bytes are not one block, or m blocks; 64 operations are open; no later time or call number is left.
-    fn refusal(&self, layout: &Layout, ask: &Ask) -> Option<Refusal>
-        ensures { result ≡ refusal_of layout.now (state_of layout.now.block self.now) ask.now }
+    #[tactic(auto, unfolding(crate::specs::States::state_of))]
+    fn refusal(&self, block: u16, group: &Group, ask: &Ask) -> Option<Refusal>
+        ensures value { result ≡ refusal_in block (state_of block self.now) ask.now (Some group.now) }
+        ensures known { result ≡ None → self.now.known + 1 < 2 ^ 64 }
+        ensures seq { result ≡ None → self.now.seq + 1 < 2 ^ 64 }
     {
-        let Some(group) = layout.group(ask.group) else {
-            return Some(Refusal::NoStripe);
-        };
         if ask.stripe.0 >= group.stripes() {
             Some(Refusal::NoStripe)
         } else if !has_block(group.m(), &ask.op) {
             Some(Refusal::NoBlock)
-        } else if !has_length(group.m(), layout.block(), &ask.op) {
+        } else if !has_length(group.m(), block, &ask.op) {
             Some(Refusal::Length)
         } else if self.calls.len() >= MOST_OPEN {
             Some(Refusal::Busy)
@@ -207,7 +256,25 @@ impl Node {
         }
     }
 
+    /// The group that is asked for, where the brick begins the operation; else why it does not.
+    #[tactic(auto, unfolding(protocol::specs::Nodes::refusal_of))]
+    fn admit<'a>(&self, layout: &'a Layout, ask: &Ask) -> Result<&'a Group, Refusal>
+        ensures refused { result_err result ≡ refusal_of layout.now (state_of layout.now.block self.now) ask.now }
+        ensures group { IfOk result (λ group. group_of layout.now ask.now.group.0 ≡ Some group.now) }
+        ensures known { OnOk result (self.now.known + 1 < 2 ^ 64) }
+        ensures seq { OnOk result (self.now.seq + 1 < 2 ^ 64) }
+    {
+        let Some(group) = layout.group(ask.group) else {
+            return Err(Refusal::NoStripe);
+        };
+        match self.refusal(layout.block(), group, ask) {
+            Some(refusal) => Err(refusal),
+            None => Ok(group),
+        }
+    }
+
     /// The number of the brick's next call. None where no number is left.
+    #[tactic(auto, unfolding(crate::specs::States::state_of))]
     pub fn next_seq(&self) -> Option<u64>
         ensures { (block : ℕ) → SomeIff result ((state_of block self.now).seq + 1 < 2 ^ 64) ((state_of block self.now).seq + 1) }
     {
@@ -237,10 +304,22 @@ impl Node {
         ensures me { self.new.me ≡ self.old.me }
         ensures few { IfOk result (λ begun. vec_len begun.packets ≤ 32) }
     {
-        if let Some(refusal) = self.refusal(layout, ask) {
-            return Err(NodeFault::Refused(refusal));
+        match self.admit(layout, ask) {
+            Err(refusal) => Err(NodeFault::Refused(refusal)),
+            Ok(group) => Ok(self.begin(alloc, group, now, ask)?),
         }
-        let group = layout.group(ask.group).unwrap();
+    }
+
+    /// Begins an operation that is not refused.
+    fn begin(&mut self, alloc: Global, group: &Group, now: u64, ask: &Ask) -> Result<Begun, NoMem>
+        requires known { self.old.known + 1 < 2 ^ 64 }
+        requires seq { self.old.seq + 1 < 2 ^ 64 }
+        requires copies { group.now.m ≡ 1 }
+        ensures begun { (layout : layouts.Layout) → IfOk result (BeginsAs layout.block self.new (began_in (copying layout) group.now self.old.me (state_of layout.block self.old) (new_coordinator self.old.me now (state_of layout.block self.old) ask.now))) }
+        ensures err { OnErr result ((block : ℕ) → state_of block self.new ≡ state_of block self.old) }
+        ensures me { self.new.me ≡ self.old.me }
+        ensures few { IfOk result (λ begun. vec_len begun.packets ≤ 32) }
+    {
         let seq = self.seq + 1;
         let time = now.max(self.known + 1);
         let stamp = Stamp {
@@ -275,6 +354,7 @@ impl Node {
         request: &Request,
     ) -> Result<Outs, NoMem>
         ensures step { IfOk result (StepsAs layout.now.block self.new (requested (copying layout.now) self.old.me from (state_of layout.now.block self.old) call request.now)) }
+        ensures few { IfOk result (λ outs. vec_len outs.packets ≤ 32) }
         ensures err { OnErr result ((block : ℕ) → state_of block self.new ≡ state_of block self.old) }
         ensures me { self.new.me ≡ self.old.me }
     {
@@ -308,15 +388,21 @@ impl Node {
         call: Call,
         request: &Request,
     ) -> Result<Option<Reply>, NoMem>
+        ensures reply { IfOk result (λ reply. reply ≡ (handle seat (replica_at (state_of block self.old) call) request.now).reply) }
+        ensures replica { OnOk result (state_of block self.new ≡ with_replica (state_of block self.old) call (handle seat (replica_at (state_of block self.old) call) request.now).replica) }
+        ensures err { OnErr result ((block : ℕ) → state_of block self.new ≡ state_of block self.old) }
+        ensures me { self.new.me ≡ self.old.me }
     {
         let key = (call.group.0, call.stripe.0);
-        if let Some(replica) = self.replicas.get_mut(&key) {
-            return replica.handle(alloc, seat, request);
+        match self.replicas.get_mut(&key) {
+            Some(replica) => replica.handle(alloc, seat, request),
+            None => {
+                let mut replica = Replica::first(alloc, block)?;
+                let reply = replica.handle(alloc, seat, request)?;
+                self.replicas.insert(key, replica)?;
+                Ok(reply)
+            }
         }
-        let mut replica = Replica::first(alloc, block)?;
-        let reply = replica.handle(alloc, seat, request)?;
-        self.replicas.insert(key, replica)?;
-        Ok(reply)
     }
 
     /// Handles a reply: the operation of its call counts it, or leaves it out.
@@ -330,6 +416,7 @@ impl Node {
     ) -> Result<Outs, NoMem>
         requires { KeepsCopies layout.now }
         ensures step { IfOk result (StepsAs layout.now.block self.new (replied (copying layout.now) self.old.me from (state_of layout.now.block self.old) call reply.now)) }
+        ensures few { IfOk result (λ outs. vec_len outs.packets ≤ 32) }
         ensures err { OnErr result ((block : ℕ) → state_of block self.new ≡ state_of block self.old) }
         ensures me { self.new.me ≡ self.old.me }
     {
@@ -341,36 +428,21 @@ impl Node {
             return Ok(Outs::nothing(alloc));
         };
         let last = open.call();
-        let next = open.copy(alloc)?.on_reply(alloc, layout.block(), group, from, call, reply)?;
-        let outs = match &next {
-            Next::Ignores | Next::Waits(_) => Outs::nothing(alloc),
-            Next::Sends(op) => Outs {
-                packets: op.packets(alloc, self.me, group)?,
-                told: Told::Made {
-                    seq: last.seq,
-                    stamp: op.stamp(),
-                },
-            },
-            Next::Ends {
-                answer,
-                seen,
-                stored,
-            } => Outs {
-                packets: collect_packets(alloc, self.me, group, last, *stored)?,
-                told: Told::Answers {
-                    seq: last.seq,
-                    answer: answer.copy(alloc)?,
-                    seen: *seen,
-                },
-            },
-        };
-        self.known = known_after(self.known, reply);
-        self.put(last.seq, next);
+        let next = open
+            .copy(alloc)?
+            .on_reply(alloc, layout.block(), group, from, call, reply)?;
+        let outs = Outs::after(alloc, self.me, group, last, &next)?;
+        self.settle(known_after(self.known, reply), call.seq, next);
         Ok(outs)
     }
 
-    /// Puts in place what became of an open operation.
-    fn put(&mut self, seq: u64, next: Next) {
+    /// Puts in place what became of the open operation of this number; the brick now knows this time.
+    fn settle(&mut self, known: u64, seq: u64, next: Next)
+        requires { is_some (tree.get nat_cmp self.old.calls seq) ≡ true }
+        ensures state { (block : ℕ) → state_of block self.new ≡ node_after (state_of block self.old) known seq (machine_next next) }
+        ensures me { self.new.me ≡ self.old.me }
+    {
+        self.known = known;
         match next {
             Next::Ignores => {}
             Next::Waits(op) | Next::Sends(op) => {
@@ -385,6 +457,7 @@ impl Node {
     }
 
     /// Handles a message. After a refusal for want of memory nothing has changed.
+    #[tactic(auto, unfolding(protocol::specs::Nodes::received))]
     pub fn on_message(
         &mut self,
         alloc: Global,

@@ -1,5 +1,4 @@
 -- The last version of the log is the newest.
-use Rattle.std.proofs.Common.{◌∙◌, sym}
 use Rattle.node.proofs.Logs.{newest_is}
 use Rattle.node.proofs.replicas.Replica.newest.Goals as goal
 
