@@ -2,7 +2,9 @@
 
 ghost use Rattle.std.specs.Prelude.{◌≡◌, ◌≤◌, Some};
 ghost use Rattle.std.specs.Int.{w16, w32, w64};
-ghost use Rattle.stamp_store.specs.Reading.{Gives, byte_at, number_at, flag_at, stamp_at, ballot_at, members_at, accepted_at, boot_at, view_at, ballots_at, order_at, kept_at, read_of, times_at, brick_at};
+ghost use Rattle.stamp_store.specs.Reading.{Gives, byte_at, number_at, flag_at, stamp_at, ballot_at};
+ghost use Rattle.stamp_store.specs.Reading.{members_at, accepted_at, boot_at, view_at, ballots_at, order_at};
+ghost use Rattle.stamp_store.specs.Reading.{kept_at, read_of, times_at, brick_at};
 
 use crate::kept_records::Kept;
 use fab_base::{Ballot, BrickId, GroupId, Members, Stamp, StripeNo, View, ViewNo};

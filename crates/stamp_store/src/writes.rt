@@ -2,7 +2,10 @@
 
 ghost use Rattle.std.specs.Prelude.{◌≡◌, ◌<◌, ◌≤◌, ◌^◌, ◌++◌, length, OnOk};
 ghost use Rattle.std.specs.Int.{w16, w32, w64};
-ghost use Rattle.stamp_store.specs.Spelling.{number_bytes, stamp_bytes, ballot_bytes, members_bytes, accepted_bytes, view_body, ballots_body, order_body, body_of, HasMembers, AcceptedHasMembers, StampFits, BallotFits, MembersFit, AcceptedFits, ViewFits, BallotsFit, OrderFits, Fits};
+ghost use Rattle.stamp_store.specs.Spelling.{number_bytes, stamp_bytes, ballot_bytes, members_bytes};
+ghost use Rattle.stamp_store.specs.Spelling.{accepted_bytes, view_body, ballots_body, order_body, body_of};
+ghost use Rattle.stamp_store.specs.Spelling.{HasMembers, AcceptedHasMembers, StampFits, BallotFits};
+ghost use Rattle.stamp_store.specs.Spelling.{MembersFit, AcceptedFits, ViewFits, BallotsFit, OrderFits, Fits};
 
 use crate::kept_records::Kept;
 use fab_base::{Ballot, GroupId, Members, NoMem, Stamp, StripeNo, View, ViewNo};

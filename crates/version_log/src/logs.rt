@@ -1,9 +1,11 @@
 //! The log of a stripe's versions.
 
-ghost use Rattle.std.specs.Prelude.{◌≡◌, [], ◌∷◌, ◌++◌, length, find, filter, not, option_map, option_copied, IsTrue, IsSome, IfOk, OnOk, OnErr, ◌==◌};
+ghost use Rattle.std.specs.Prelude.{◌≡◌, ◌==◌, [], ◌∷◌, ◌++◌, length, find, filter, not};
+ghost use Rattle.std.specs.Prelude.{option_map, option_copied, IsTrue, IsSome, IfOk, OnOk, OnErr};
 ghost use Rattle.std.specs.Option.{ForSome};
 ghost use Rattle.fab_base.specs.Stamps.{stamp_below};
-ghost use Rattle.version_log.specs.Versions.{IsRising, version, block_of, newest, below, is_below, has_stamp, collected, added_block};
+ghost use Rattle.version_log.specs.Versions.{IsRising, version, block_of, newest, below, is_below};
+ghost use Rattle.version_log.specs.Versions.{has_stamp, collected, added_block};
 ghost use Rattle.version_log.specs.Entries.{version_of};
 
 use crate::entries::Entry;
@@ -87,8 +89,8 @@ impl VersionLog {
         Some(entry.block.as_ref())
     }
 
-    /// Adds a version above the newest: with this block, or with the newest version's where none is given. Memory may run out:
-    /// then the log is as it was.
+    /// Adds a version above the newest: with this block, or with the newest version's where none is given. The log
+    /// asks for a block while it is empty. Where memory runs out the log is as it was.
     pub fn add(&mut self, stamp: Stamp, block: Option<Bytes>) -> Result<(), NoMem>
         requires above { ForSome (newest self.old) (λ top. IsTrue (stamp_below top.stamp stamp)) }
         requires content { self.old ≡ [] → IsSome block }
