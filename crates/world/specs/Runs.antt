@@ -9,7 +9,7 @@ use Rattle.lines.specs.declared.forms.Line.{Line}
 use Rattle.lines.specs.declared.forms.Line.TheVariants.{Nothing, Invoke, Deliver}
 use Rattle.protocol.specs.Settings.{Setting, Layout}
 use Rattle.protocol.specs.Nodes.{refusal_of}
-use Rattle.protocol.specs.Worlds.{World, Invokes, Delivers, first_world, is_brick, happens}
+use Rattle.protocol.specs.Worlds.{World, Event, Invokes, Delivers, first_world, is_brick, happens}
 use Rattle.node.specs.Copies.{copying}
 
 -- the lines that were run over the disk of this layout
@@ -34,6 +34,13 @@ after_line setting w (Deliver k) = happens setting w (Delivers k)
 abbrev pub after_lines : Setting → World → List Line → World
 after_lines setting w [] = w
 after_lines setting w (line ∷ lines) = after_lines setting (after_line setting w line) lines
+
+-- the events of lines, at most one each
+abbrev pub events_of : List Line → List Event
+events_of [] = []
+events_of (Nothing ∷ lines) = events_of lines
+events_of (Invoke b g s op ∷ lines) = Invokes (brick_of b) (ask_of g s op) ∷ events_of lines
+events_of (Deliver k ∷ lines) = Delivers k ∷ events_of lines
 
 -- the world that a run leaves
 abbrev pub world_of : Run → World

@@ -1,13 +1,33 @@
 -- What a world keeps, and the machine's world that it shows.
-use Rattle.std.specs.Prelude.{◌≡◌, ℕ, ◌+◌, ◌<◌, ◌≤◌, ◌⊎◌, Bool, List, length, Option, Some, None, slice_get}
+use Rattle.std.specs.Prelude.{◌≡◌, ℕ, ◌+◌, ◌<◌, ◌≤◌, Bool, true, nat_eq, if◌then◌else◌, List, length, Option, Some, None, slice_get, vec_len, vec_capacity}
 use Rattle.std.specs.declared.cmp.Ordering.{Ordering}
+use Rattle.std.specs.Ordering.{nat_cmp, ordering_then}
 use Rattle.std.specs.BTreeMap.{get}
-use Rattle.node.specs.States.{state_of, stripe_cmp}
+use Rattle.std.specs.Option.{option_map}
+use Rattle.fab_base.specs.declared.answers.Refusal.{Refusal}
+use Rattle.fab_base.specs.declared.stamps.Stamp.{Stamp}
+use Rattle.fab_wire.specs.declared.messages.Packet.{Packet}
+use Rattle.lines.specs.declared.forms.Line.{Line}
+use Rattle.lines.specs.declared.forms.Line.TheVariants.{Nothing, Invoke, Deliver}
+use Rattle.node.specs.declared.nodes.Node.{Node}
+use Rattle.node.specs.States.{state_of}
 use Rattle.protocol.specs.Settings.{Layout, Setting}
 use Rattle.protocol.specs.Coordinators.{Coordinator}
-use Rattle.protocol.specs.Worlds.{World, Operation}
+use Rattle.protocol.specs.Nodes as machine
+use Rattle.protocol.specs.declared.tellings.Told.{Told}
+use Rattle.protocol.specs.declared.tellings.Told.TheVariants as told
+use Rattle.protocol.specs.Worlds.{World, Operation, packet_of, version_after}
+use Rattle.world.specs.Runs.{brick_of, ask_of, refusal_at}
+use Rattle.world.specs.Texts.{is_deliverable}
+use Rattle.world.specs.declared.histories.History.{History}
+use Rattle.world.specs.declared.histories.Known.{Known}
 use Rattle.world.specs.declared.states.State.{State}
-use Rattle.world.specs.declared.states.Known.{Known}
+use Rattle.world.specs.declared.states.Outcome.{Outcome}
+use Rattle.world.specs.declared.states.Outcome.TheVariants.{Marks, Refused, Idle}
+
+-- calls compare by brick, and then by number
+abbrev pub call_cmp : ℕ × ℕ → ℕ × ℕ → Ordering
+call_cmp x y = ordering_then (nat_cmp x.0 y.0) (nat_cmp x.1 y.1)
 
 -- what is kept of an operation is the machine's
 pub record IsKnown (known : Known) (o : Operation) : Type 0 where
@@ -18,19 +38,76 @@ pub record IsKnown (known : Known) (o : Operation) : Type 0 where
   pub made : known.made ≡ o.made
   pub answered : known.answered ≡ o.answered
 
--- The state shows the machine's world: each brick, every message, every mark, each operation, and the numbers of the calls so far.
-pub record Shows (layout : Layout) (state : State) (w : World) : Type 0 where
-  pub bricks : length state.nodes.items ≡ layout.bricks
-  pub nodes : (i : ℕ) (node : _) → slice_get state.nodes.items i ≡ Some node
-      → (node.me.0 ≡ i) × (state_of layout.block node ≡ w.nodes i)
-  pub packets : state.sent.items ≡ w.packets
-  pub marks : state.marks.items ≡ w.marks
-  pub begun : length state.operations.items ≡ w.begun
-  pub operations : (n : ℕ) (known : Known) → slice_get state.operations.items n ≡ Some known
-      → (o : Operation) × (w.operations (n + 1) ≡ Some o) × IsKnown known o
-  pub numbers : (i k : ℕ) → 1 ≤ k → k ≤ (w.nodes i).seq → get stripe_cmp state.numbers (i, k) ≡ Some (w.numbers i k)
+-- what is kept of the operations, from the first, is the machine's
+abbrev pub StandFor : List Known → (ℕ → Option Operation) → Type 0
+StandFor kept operations = (n : ℕ) (known : Known) → slice_get kept n ≡ Some known → (o : Operation) × (operations (n + 1) ≡ Some o) × IsKnown known o
 
--- The machine's world has operations 1 to those begun, and each open call has a number among those begun, and is one of the brick's calls so far.
-pub record IsNumbered (w : World) : Type 0 where
-  pub none_above : (n : ℕ) → (n ≡ 0) ⊎ (w.begun < n) → w.operations n ≡ None
-  pub open_calls : (i k : ℕ) (c : Coordinator) → (w.nodes i).calls k ≡ Some c → (c.call.seq ≡ k) × (1 ≤ k) × (k ≤ (w.nodes i).seq)
+-- what is kept of an operation that made a version
+abbrev pub made_known : Stamp → Known → Known
+made_known stamp known =
+    record { begin = known.begin; group = known.group; stripe = known.stripe; version = Some stamp; made = true; answered = known.answered }
+
+-- what is kept of an operation that ended
+abbrev pub ended_known : Bool → Option Stamp → Known → Known
+ended_known answered seen known =
+    record { begin = known.begin; group = known.group; stripe = known.stripe; version = version_after known.version seen; made = known.made; answered = answered }
+
+-- what is kept of the operation of a number changed, and of no other
+abbrev pub ChangesAt : List Known → List Known → ℕ → (Known → Known) → Type 0
+ChangesAt old new number change =
+    (n : ℕ) → slice_get new n ≡ (if nat_eq (n + 1) number then option_map change (slice_get old n) else slice_get old n)
+
+-- The bricks show the machine's: there is one for each number of the layout, and each knows its number.
+pub record ShowsNodes (layout : Layout) (bricks : List Node) (machines : ℕ → machine.Node) : Type 0 where
+  pub count : length bricks ≡ layout.bricks
+  pub each : (i : ℕ) (node : Node) → slice_get bricks i ≡ Some node → (node.me ≡ brick_of i) × (state_of layout.block node ≡ machines i)
+
+-- The history tells the machine's world: every message, every mark, each operation, and the numbers of the calls so far.
+pub record Tells (history : History) (w : World) : Type 0 where
+  pub packets : history.sent.items ≡ w.packets
+  pub marks : history.marks.items ≡ w.marks
+  pub begun : length history.operations.items ≡ w.begun
+  pub operations : StandFor history.operations.items w.operations
+  pub numbers : (i k : ℕ) → 1 ≤ k → k ≤ (w.nodes i).seq → get call_cmp history.numbers (i, k) ≡ Some (w.numbers i k)
+
+-- The state shows the machine's world.
+pub record Shows (layout : Layout) (state : State) (w : World) : Type 0 where
+  pub nodes : ShowsNodes layout state.nodes.items w.nodes
+  pub history : Tells state.history w
+
+-- there is room for what one step of a brick adds
+pub record HasRoom (history : History) : Type 0 where
+  pub sent : vec_len history.sent + 32 ≤ vec_capacity history.sent
+  pub marks : vec_len history.marks < vec_capacity history.marks
+  pub operations : vec_len history.operations < vec_capacity history.operations
+
+-- each open call knows its number, and is one of the brick's calls so far
+abbrev pub IsNumbered : World → Type 0
+IsNumbered w = (i k : ℕ) (c : Coordinator) → (w.nodes i).calls k ≡ Some c → (c.call.seq ≡ k) × (1 ≤ k) × (k ≤ (w.nodes i).seq)
+
+-- what is told is of one of the brick's calls so far
+abbrev pub IsOfCall : machine.Node → Told → Type 0
+IsOfCall node told.Nothing = Unit {0}
+IsOfCall node (told.Made seq stamp) = (1 ≤ seq) × (seq ≤ node.seq)
+IsOfCall node (told.Answers seq answer seen) = (1 ≤ seq) × (seq ≤ node.seq)
+
+-- an operation was refused, or begun
+abbrev pub refused_or_begun : Option Refusal → Outcome
+refused_or_begun None = Marks
+refused_or_begun (Some refusal) = Refused refusal
+
+-- a line asks for a whole stripe, where it asks for an operation
+abbrev pub IsOfStripes : Line → Type 0
+IsOfStripes Nothing = Unit {0}
+IsOfStripes (Invoke b g s op) = machine.is_stripe_op op ≡ true
+IsOfStripes (Deliver k) = Unit {0}
+
+-- a message was handled, or there was none
+abbrev pub handled_or_idle : Setting → Option Packet → Outcome
+handled_or_idle setting packet = if is_deliverable setting packet then Marks else Idle
+
+-- what a line comes to
+abbrev pub outcome_of : Setting → World → Line → Outcome
+outcome_of setting w Nothing = Marks
+outcome_of setting w (Invoke b g s op) = refused_or_begun (refusal_at setting w (brick_of b) (ask_of g s op))
+outcome_of setting w (Deliver k) = handled_or_idle setting (packet_of w.packets k)

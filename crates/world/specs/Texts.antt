@@ -1,8 +1,7 @@
 -- The text that a line prints.
-use Rattle.std.specs.Prelude.{ℕ, Bool, true, false, not, if◌then◌else◌, List, [], ◌∷◌, ◌++◌, length, drop, codes, Option, Some, None}
+use Rattle.std.specs.Prelude.{ℕ, Bool, false, if◌then◌else◌, List, [], ◌∷◌, ◌++◌, length, drop, codes, Option, Some, None}
 use Rattle.std.specs.Fmt.{decimal}
 use Rattle.hex.specs.Hex.{encode_lower}
-use Rattle.fab_base.specs.declared.identities.BrickId.{BrickId}
 use Rattle.fab_base.specs.declared.asks.Ask.{Ask}
 use Rattle.fab_base.specs.declared.asks.Op.{Op}
 use Rattle.fab_base.specs.declared.asks.Op.TheVariants.{ReadBlock, WriteBlock, ReadStripe, WriteStripe}
@@ -26,17 +25,21 @@ use Rattle.world.specs.Runs.{after_line, brick_of, ask_of, refusal_at}
 abbrev pub newline : List ℕ
 newline = 10 ∷ []
 
+-- the stripe of a group that is asked, before the rest of a line
+abbrev pub place_text : Ask → List ℕ → List ℕ
+place_text ask rest = decimal ask.group.0 ++ (codes " " ++ (decimal ask.stripe.0 ++ rest))
+
+-- what is asked, of an operation at a place
+abbrev pub op_text : Ask → Op → List ℕ
+op_text ask (ReadBlock j) = codes "read " ++ place_text ask (codes " " ++ (decimal j ++ newline))
+op_text ask (WriteBlock j bytes) =
+    codes "write " ++ place_text ask (codes " " ++ (decimal j ++ (codes " " ++ (encode_lower bytes ++ newline))))
+op_text ask ReadStripe = codes "readall " ++ place_text ask newline
+op_text ask (WriteStripe bytes) = codes "writeall " ++ place_text ask (codes " " ++ (encode_lower bytes ++ newline))
+
 -- what is asked
 abbrev pub ask_text : Ask → List ℕ
-ask_text ask = op_text ask.op
-  where
-    place : List ℕ → List ℕ
-    place rest = decimal ask.group.0 ++ (codes " " ++ (decimal ask.stripe.0 ++ rest))
-    op_text : Op → List ℕ
-    op_text (ReadBlock j) = codes "read " ++ place (codes " " ++ (decimal j ++ newline))
-    op_text (WriteBlock j bytes) = codes "write " ++ place (codes " " ++ (decimal j ++ (codes " " ++ (encode_lower bytes ++ newline))))
-    op_text ReadStripe = codes "readall " ++ place newline
-    op_text (WriteStripe bytes) = codes "writeall " ++ place (codes " " ++ (encode_lower bytes ++ newline))
+ask_text ask = op_text ask ask.op
 
 -- why an operation was aborted
 abbrev pub cause_text : Cause → List ℕ

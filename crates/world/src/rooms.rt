@@ -11,11 +11,9 @@ pub fn put<T: Drop>(things: &mut Vec<T>, thing: T)
 }
 
 /// Puts things at the end, in order, where there is room for them.
-pub fn put_all<T: Drop>(things: &mut Vec<T>, more: Vec<T>)
+pub fn put_all<T: Drop>(things: &mut Vec<T>, mut more: Vec<T>)
     requires { vec_len things.old + vec_len more ≤ vec_capacity things.old }
     ensures { things.new.items ≡ things.old.items ++ more.items }
 {
-    for thing in more {
-        put(things, thing);
-    }
+    let _ = things.append(&mut more);
 }

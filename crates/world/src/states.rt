@@ -1,45 +1,28 @@
-//! What a world keeps: its bricks, every message, every mark, and what is known of each operation.
+//! What a world keeps: its bricks, and what happened.
 
+ghost use Rattle.std.specs.Prelude.{◌≡◌, ◌^◌, ◌<◌, ◌≤◌, ℕ, true, Some, IfNone, IfSome, IfOk, OnErr, length, vec_len};
+ghost use Rattle.protocol.specs.Nodes as machine;
+ghost use Rattle.protocol.specs.Nodes.{refusal_of, is_stripe_op, invoked, received};
+ghost use Rattle.protocol.specs.Nodes.{put as changed};
+ghost use Rattle.protocol.specs.Worlds.{World, first_world};
+ghost use Rattle.node.specs.Copies.{copying, KeepsCopies};
+ghost use Rattle.node.specs.States.{RefusesAs};
+ghost use Rattle.world.specs.Runs.{ask_of};
+ghost use Rattle.world.specs.States.{ShowsNodes};
 
-use crate::rooms::{put, put_all};
-use fab_base::{Answer, Ask, BrickId, GroupId, NoMem, Op, Refusal, Stamp, StripeNo};
+use crate::histories::{History, packet_at};
+use fab_base::{Ask, BrickId, GroupId, NoMem, Op, Refusal, StripeNo};
 use fab_wire::Packet;
 use layout::Layout;
 use lines::Line;
-use node::{Node, NodeFault, Outs};
-use protocol::Told;
-use reg_model::Mark;
+use node::{Begun, Node, NodeFault, Outs};
 use std::alloc::Global;
-use std::collections::BTreeMap;
 
-/// The most packets that a step of a brick sends: one to each member of a group.
-const MOST_PACKETS: usize = 32;
-
-/// What is kept of an operation.
-#[derive(Clone, Copy, Debug)]
-pub struct Known {
-    /// The position of its Begin.
-    pub begin: u64,
-    /// The group that is asked.
-    pub group: GroupId,
-    /// The stripe that is asked.
-    pub stripe: StripeNo,
-    /// The version that it made, or read at once.
-    pub version: Option<Stamp>,
-    /// Whether it made its version.
-    pub made: bool,
-    /// Whether it was answered, and not aborted.
-    pub answered: bool,
-}
-
-/// What a world keeps. Bricks are by number, operations by number from 1, and the number of an operation by its brick and call.
+/// What a world keeps: its bricks by number, and what happened.
 #[derive(Drop)]
 pub struct State {
     pub nodes: Vec<Node>,
-    pub sent: Vec<Packet>,
-    pub marks: Vec<Mark>,
-    pub operations: Vec<Known>,
-    pub numbers: BTreeMap<(u16, u64), u64>,
+    pub history: History,
 }
 
 /// What a line comes to.
@@ -53,43 +36,105 @@ pub enum Outcome {
     Idle,
 }
 
-/// The packet of a number, counted from 1.
-fn packet_at(sent: &[Packet], number: u64) -> Option<&Packet>
+/// All bricks of a layout, their stores fresh.
+fn fresh_nodes(alloc: Global, layout: &Layout) -> Result<Vec<Node>, NoMem>
+    ensures { IfOk result (λ nodes. ShowsNodes layout.now nodes.items (first_world layout.now).nodes) }
 {
-    if number == 0 {
-        return None;
+    let mut nodes = Vec::new(alloc);
+    for brick in 0..layout.bricks() {
+        nodes.push(Node::new(alloc, BrickId(brick)))?;
     }
-    sent.get((number - 1) as usize)
+    Ok(nodes)
 }
 
-/// Whether an answer is none of an abort.
-fn is_answer(answer: &Answer) -> bool
+/// A brick is asked for an operation. After a refusal of any kind no brick has changed.
+fn ask_node(
+    nodes: &mut Vec<Node>,
+    alloc: Global,
+    layout: &Layout,
+    brick: BrickId,
+    ask: &Ask,
+) -> Result<Begun, NodeFault>
+    requires copies { KeepsCopies layout.now }
+    requires brick { brick.0 < vec_len nodes.old }
+    requires stripes { is_stripe_op ask.now.op ≡ true }
+    ensures refused { (w : World) → ShowsNodes layout.now nodes.old.items w.nodes → RefusesAs result (refusal_of layout.now (w.nodes brick.0) ask.now) }
+    ensures begun { IfOk result (λ begun. (w : World) → ShowsNodes layout.now nodes.old.items w.nodes
+        → (let step = invoked (copying layout.now) brick 0 (w.nodes brick.0) ask.now in
+          (begun.packets.items ≡ step.packets) × (begun.seq ≡ step.node.seq) × ShowsNodes layout.now nodes.new.items (changed w.nodes brick.0 step.node))) }
+    ensures few { IfOk result (λ begun. vec_len begun.packets ≤ 32) }
+    ensures err { OnErr result ((w : World) → ShowsNodes layout.now nodes.old.items w.nodes → ShowsNodes layout.now nodes.new.items w.nodes) }
 {
-    match answer {
-        Answer::Data(_) | Answer::Done => true,
-        Answer::Aborted(_) => false,
+    let node = &mut nodes[brick.0 as usize];
+    node.invoke(alloc, layout, 0, ask)
+}
+
+/// A brick is handed a message. After a refusal for want of memory no brick has changed.
+fn hand_over(
+    nodes: &mut Vec<Node>,
+    alloc: Global,
+    layout: &Layout,
+    brick: BrickId,
+    packet: &Packet,
+) -> Result<Outs, NoMem>
+    requires copies { KeepsCopies layout.now }
+    requires brick { brick.0 < vec_len nodes.old }
+    ensures stepped { IfOk result (λ outs. (w : World) → ShowsNodes layout.now nodes.old.items w.nodes
+        → (let step = received (copying layout.now) brick (w.nodes brick.0) packet.now in
+          (outs.packets.items ≡ step.packets) × (outs.told ≡ step.told) × ShowsNodes layout.now nodes.new.items (changed w.nodes brick.0 step.node))) }
+    ensures few { IfOk result (λ outs. vec_len outs.packets ≤ 32) }
+    ensures err { OnErr result ((w : World) → ShowsNodes layout.now nodes.old.items w.nodes → ShowsNodes layout.now nodes.new.items w.nodes) }
+{
+    let node = &mut nodes[brick.0 as usize];
+    node.on_message(alloc, layout, packet)
+}
+
+/// The stripe of these numbers. None exactly where there is none.
+fn place_of(layout: &Layout, group: u64, stripe: u64) -> Option<(GroupId, StripeNo)>
+    requires { length layout.now.groups ≤ 2 ^ 32 }
+    ensures none { IfNone result ((node : machine.Node) (op : _) → refusal_of layout.now node (ask_of group stripe op) ≡ Some Refusal.NoStripe) }
+    ensures some { IfSome result (λ place. (place.0.0 ≡ group) × (place.1.0 ≡ stripe)) }
+{
+    if group >= layout.group_count() as u64 {
+        return None;
     }
+    let group = GroupId(group as u32);
+    let found = layout.group(group)?;
+    if stripe >= u64::from(found.stripes()) {
+        return None;
+    }
+    Some((group, StripeNo(stripe as u32)))
 }
 
 impl State {
+    ghost use Rattle.std.specs.Prelude.{◌≡◌, ℕ, ◌<◌, ◌≤◌, ◌^◌, true, length, vec_len, IfOk, OnOk, OnErr};
+    ghost use Rattle.protocol.specs.Nodes.{is_stripe_op};
+    ghost use Rattle.protocol.specs.Worlds.{World, first_world, happens, packet_of};
+    ghost use Rattle.protocol.specs.Worlds.Event.{Invokes, Delivers};
+    ghost use Rattle.node.specs.Copies.{copying, KeepsCopies};
+    ghost use Rattle.world.specs.Runs.{brick_of, ask_of, refusal_at, after_line};
+    ghost use Rattle.world.specs.States.{Shows, IsNumbered, refused_or_begun, handled_or_idle, outcome_of, IsOfStripes};
+
     /// All bricks up, their stores fresh, and nothing sent.
     pub fn new(alloc: Global, layout: &Layout) -> Result<State, NoMem>
+        ensures { IfOk result (λ state. Shows layout.now state (first_world layout.now)) }
     {
-        let mut nodes = Vec::new(alloc);
-        for brick in 0..layout.bricks() {
-            nodes.push(Node::new(alloc, BrickId(brick)))?;
-        }
         Ok(State {
-            nodes,
-            sent: Vec::new(alloc),
-            marks: Vec::new(alloc),
-            operations: Vec::new(alloc),
-            numbers: BTreeMap::new(alloc),
+            nodes: fresh_nodes(alloc, layout)?,
+            history: History::new(alloc),
         })
     }
 
-    /// Runs a line.
+    /// Runs a line. After a refusal for want of memory the state shows what it showed.
     pub fn run(&mut self, alloc: Global, layout: &Layout, line: &Line) -> Result<Outcome, NoMem>
+        requires copies { KeepsCopies layout.now }
+        requires few { length layout.now.groups ≤ 2 ^ 32 }
+        requires bricks { vec_len self.old.nodes ≡ layout.now.bricks }
+        requires stripes { IsOfStripes line.now }
+        ensures shows { OnOk result ((w : World) → IsNumbered w → Shows layout.now self.old w → Shows layout.now self.new (after_line (copying layout.now) w line.now)) }
+        ensures outcome { IfOk result (λ outcome. (w : World) → Shows layout.now self.old w → outcome ≡ outcome_of (copying layout.now) w line.now) }
+        ensures err { OnErr result ((w : World) → Shows layout.now self.old w → Shows layout.now self.new w) }
+        ensures marks { vec_len self.old.history.marks ≤ vec_len self.new.history.marks }
     {
         match line {
             Line::Nothing => Ok(Outcome::Marks),
@@ -113,19 +158,26 @@ impl State {
         stripe: u64,
         op: &Op,
     ) -> Result<Outcome, NoMem>
+        requires copies { KeepsCopies layout.now }
+        requires few { length layout.now.groups ≤ 2 ^ 32 }
+        requires bricks { vec_len self.old.nodes ≡ layout.now.bricks }
+        requires stripes { is_stripe_op op.now ≡ true }
+        ensures shows { OnOk result ((w : World) → Shows layout.now self.old w
+            → Shows layout.now self.new (happens (copying layout.now) w (Invokes (brick_of brick) (ask_of group stripe op.now)))) }
+        ensures outcome { IfOk result (λ outcome. (w : World) → Shows layout.now self.old w
+            → outcome ≡ refused_or_begun (refusal_at (copying layout.now) w (brick_of brick) (ask_of group stripe op.now))) }
+        ensures err { OnErr result ((w : World) → Shows layout.now self.old w → Shows layout.now self.new w) }
+        ensures marks { vec_len self.old.history.marks ≤ vec_len self.new.history.marks }
     {
         if brick >= u64::from(layout.bricks()) {
             return Ok(Outcome::Refused(Refusal::Down));
         }
-        if group > u64::from(u32::MAX) || stripe > u64::from(u32::MAX) {
-            return Ok(Outcome::Refused(Refusal::NoStripe));
-        }
-        let ask = Ask {
-            group: GroupId(group as u32),
-            stripe: StripeNo(stripe as u32),
-            op: op.copy(alloc)?,
+        let (group, stripe) = match place_of(layout, group, stripe) {
+            Some(place) => place,
+            None => return Ok(Outcome::Refused(Refusal::NoStripe)),
         };
-        self.begin(alloc, layout, BrickId(brick as u16), ask)
+        let op = op.copy(alloc)?;
+        self.begin(alloc, layout, BrickId(brick as u16), Ask { group, stripe, op })
     }
 
     /// A brick begins an operation, or refuses it.
@@ -135,116 +187,48 @@ impl State {
         layout: &Layout,
         brick: BrickId,
         ask: Ask,
-    ) -> Result<Outcome, NoMem> {
-        self.sent.reserve(MOST_PACKETS)?;
-        self.marks.reserve(1)?;
-        self.operations.reserve(1)?;
-        let position = self.marks.len() as u64;
-        let operation = self.operations.len() as u64 + 1;
-        let node = &mut self.nodes[brick.0 as usize];
-        if let Some(seq) = node.next_seq() {
-            self.numbers.insert((brick.0, seq), operation)?;
+    ) -> Result<Outcome, NoMem>
+        requires copies { KeepsCopies layout.now }
+        requires brick { brick.0 < layout.now.bricks }
+        requires bricks { vec_len self.old.nodes ≡ layout.now.bricks }
+        requires stripes { is_stripe_op ask.op ≡ true }
+        ensures shows { OnOk result ((w : World) → Shows layout.now self.old w → Shows layout.now self.new (happens (copying layout.now) w (Invokes brick ask))) }
+        ensures outcome { IfOk result (λ outcome. (w : World) → Shows layout.now self.old w → outcome ≡ refused_or_begun (refusal_at (copying layout.now) w brick ask)) }
+        ensures err { OnErr result ((w : World) → Shows layout.now self.old w → Shows layout.now self.new w) }
+        ensures marks { vec_len self.old.history.marks ≤ vec_len self.new.history.marks }
+    {
+        let next = self.nodes[brick.0 as usize].next_seq();
+        self.history.expect_call(brick, next)?;
+        match ask_node(&mut self.nodes, alloc, layout, brick, &ask) {
+            Ok(begun) => {
+                self.history.begin(brick, ask, begun.packets);
+                Ok(Outcome::Marks)
+            }
+            Err(NodeFault::Refused(refusal)) => Ok(Outcome::Refused(refusal)),
+            Err(NodeFault::NoMemory) => Err(NoMem::NoMemory),
         }
-        let packets = match node.invoke(alloc, layout, 0, &ask) {
-            Ok(begun) => begun.packets,
-            Err(NodeFault::Refused(refusal)) => return Ok(Outcome::Refused(refusal)),
-            Err(NodeFault::NoMemory) => return Err(NoMem::NoMemory),
-        };
-        put_all(&mut self.sent, packets);
-        let known = Known {
-            begin: position,
-            group: ask.group,
-            stripe: ask.stripe,
-            version: None,
-            made: false,
-            answered: false,
-        };
-        put(&mut self.operations, known);
-        put(
-            &mut self.marks,
-            Mark::Begin {
-                position,
-                operation,
-                brick,
-                ask,
-            },
-        );
-        Ok(Outcome::Marks)
     }
 
     /// Delivers the message of a number.
     fn deliver(&mut self, alloc: Global, layout: &Layout, message: u64) -> Result<Outcome, NoMem>
+        requires copies { KeepsCopies layout.now }
+        requires bricks { vec_len self.old.nodes ≡ layout.now.bricks }
+        ensures shows { OnOk result ((w : World) → IsNumbered w → Shows layout.now self.old w → Shows layout.now self.new (happens (copying layout.now) w (Delivers message))) }
+        ensures outcome { IfOk result (λ outcome. (w : World) → Shows layout.now self.old w → outcome ≡ handled_or_idle (copying layout.now) (packet_of w.packets message)) }
+        ensures err { OnErr result ((w : World) → Shows layout.now self.old w → Shows layout.now self.new w) }
+        ensures marks { vec_len self.old.history.marks ≤ vec_len self.new.history.marks }
     {
-        self.sent.reserve(MOST_PACKETS)?;
-        self.marks.reserve(1)?;
-        let Some(packet) = packet_at(&self.sent, message) else {
-            return Ok(Outcome::Idle);
+        self.history.make_room()?;
+        let packet = match packet_at(&self.history.sent, message) {
+            Some(packet) => packet,
+            None => return Ok(Outcome::Idle),
         };
         let to = packet.to;
         if to.0 >= layout.bricks() {
             return Ok(Outcome::Idle);
         }
-        let outs = self.nodes[to.0 as usize].on_message(alloc, layout, packet)?;
-        self.tell(to, outs);
+        let outs = hand_over(&mut self.nodes, alloc, layout, to, packet)?;
+        self.history.step(to, outs);
         Ok(Outcome::Marks)
-    }
-
-    /// The number of the operation of a brick's call; 0 where there is none.
-    fn number(&self, brick: BrickId, seq: u64) -> u64
-    {
-        match self.numbers.get(&(brick.0, seq)) {
-            Some(number) => *number,
-            None => 0,
-        }
-    }
-
-    /// Notes what a step sent and told, where there is room for it.
-    fn tell(&mut self, brick: BrickId, outs: Outs)
-    {
-        put_all(&mut self.sent, outs.packets);
-        match outs.told {
-            Told::Nothing => {}
-            Told::Made { seq, stamp } => {
-                let number = self.number(brick, seq);
-                note_made(&mut self.operations, number, stamp);
-            }
-            Told::Answers { seq, answer, seen } => {
-                let operation = self.number(brick, seq);
-                note_answer(&mut self.operations, operation, is_answer(&answer), seen);
-                let position = self.marks.len() as u64;
-                put(
-                    &mut self.marks,
-                    Mark::End {
-                        position,
-                        operation,
-                        answer,
-                    },
-                );
-            }
-        }
-    }
-}
-
-/// The operation of a number made a version.
-fn note_made(operations: &mut [Known], number: u64, stamp: Stamp)
-{
-    if number == 0 {
-        return;
-    }
-    if let Some(known) = operations.get_mut((number - 1) as usize) {
-        known.version = Some(stamp);
-        known.made = true;
-    }
-}
-
-/// The operation of a number ended: answered, or aborted; a read may have seen a version.
-fn note_answer(operations: &mut [Known], number: u64, answered: bool, seen: Option<Stamp>)
-{
-    if number == 0 {
-        return;
-    }
-    if let Some(known) = operations.get_mut((number - 1) as usize) {
-        known.version = seen.or(known.version);
-        known.answered = answered;
     }
 }

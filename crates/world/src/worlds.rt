@@ -1,17 +1,20 @@
 //! The world: a run of lines over the disk of a layout.
 
+ghost use Rattle.std.specs.Prelude.{◌≡◌, IfOk};
+ghost use Rattle.world.specs.Steps.{outcome_text};
 
-use crate::states::{Outcome, State};
 use crate::rooms::put;
+use crate::states::{Outcome, State};
 use crate::texts::{idle_text, marks_text, refusal_text};
 use crate::walks;
 use fab_base::{BrickId, Bytes, GroupId, NoMem, StripeNo};
 use fab_wire::{Packet, Version};
-use node::Replica;
 use layout::Layout;
 use lines::{Line, parse};
+use node::Replica;
 use reg_model::{Happening, Mark};
-use std::alloc::{AllocError, Global};
+use std::alloc::Global;
+use std::marker::Model;
 
 /// The whole disk of a layout over simulated bricks, and the lines that it ran: it stands for that run.
 #[derive(Drop)]
@@ -21,6 +24,18 @@ pub struct World {
     lines: Vec<Line>,
     state: State,
     fresh: Replica,
+}
+
+impl Model for World {
+    ghost use Rattle.world.specs.Runs.{Run};
+
+    ghost Value = { Run };
+
+    ghost use Rattle.world.specs.Standing.{run_of, IsStanding};
+
+    ghost view = { run_of };
+
+    ghost invariant = { IsStanding };
 }
 
 /// Why a line was not run to its end.
@@ -33,28 +48,53 @@ pub enum StepFault {
 }
 
 impl From<NoMem> for StepFault {
+    ghost use Rattle.std.specs.Prelude.{◌≡◌};
+    ghost use Rattle.world.specs.declared.worlds.StepFault.TheVariants.{NoMemory};
+
+    ghost from_gives = { λ _ e. e ≡ NoMemory };
+
     fn from(_error: NoMem) -> StepFault {
         StepFault::NoMemory
     }
 }
 
-impl From<AllocError> for StepFault {
-    fn from(_error: AllocError) -> StepFault {
-        StepFault::NoMemory
+/// The text of what a line came to, with the marks that it made.
+fn print(alloc: Global, outcome: Outcome, marks: &[Mark]) -> Result<Bytes, NoMem>
+    ensures { IfOk result (λ text. text ≡ outcome_text outcome marks.now) }
+{
+    match outcome {
+        Outcome::Marks => Ok(Bytes::from_vec(marks_text(alloc, marks)?.into_bytes())),
+        Outcome::Refused(refusal) => Ok(Bytes::from_vec(refusal_text(alloc, refusal)?.into_bytes())),
+        Outcome::Idle => Ok(Bytes::from_vec(idle_text(alloc)?.into_bytes())),
     }
 }
 
 impl World {
+    ghost use Rattle.std.specs.Prelude.{◌≡◌, ◌^◌, ◌≤◌, [], None, IfOk, OnOk, OnErr, IsErrOf, length};
+    ghost use Rattle.std.specs.Option.{option_copied};
+    ghost use Rattle.lines.specs.Grammar.{line_of};
+    ghost use Rattle.node.specs.Copies.{copying, KeepsCopies};
+    ghost use Rattle.protocol.specs.Settings.{IsSound};
+    ghost use Rattle.protocol.specs.Happenings.{happenings_of};
+    ghost use Rattle.world.specs.Runs.{world_of};
+    ghost use Rattle.world.specs.States.{outcome_of, IsOfStripes};
+    ghost use Rattle.world.specs.Steps.{Ran, Stands, with_line, log_at};
+
     /// All bricks up, their stores fresh, and nothing sent.
-    pub fn new(alloc: Global, layout: Layout) -> Result<World, NoMem> {
+    pub fn new(alloc: Global, layout: Layout) -> Result<World, NoMem>
+        requires copies { KeepsCopies layout }
+        requires few { length layout.groups ≤ 2 ^ 32 }
+        requires sound { IsSound (copying layout) }
+        ensures { IfOk result (λ world. world ≡ record { layout = layout; lines = [] }) }
+    {
         let state = State::new(alloc, &layout)?;
         let fresh = Replica::first(alloc, layout.block())?;
         Ok(World {
-            fresh,
             alloc,
             layout,
             lines: Vec::new(alloc),
             state,
+            fresh,
         })
     }
 
@@ -64,39 +104,59 @@ impl World {
     ///
     /// `BadLine` exactly where the bytes are no line of a schedule; nothing has changed then. `NoMemory` where no memory was left: either
     /// nothing has changed, or the line was run and only its text is missing.
-    pub fn step(&mut self, content: &[u8]) -> Result<Bytes, StepFault> {
-        let Some(line) = parse(self.alloc, content)? else {
-            return Err(StepFault::BadLine);
+    pub fn step(&mut self, content: &[u8]) -> Result<Bytes, StepFault>
+        ensures ok { IfOk result (λ text. Ran self.old self.new content.now text) }
+        ensures bad { IsErrOf result StepFault.BadLine → (line_of content.now ≡ None) × (self.new ≡ self.old) }
+        ensures memory { IsErrOf result StepFault.NoMemory → Stands self.old self.new content.now }
+    {
+        let line = match parse(self.alloc, content)? {
+            Some(line) => line,
+            None => return Err(StepFault::BadLine),
         };
+        let before = self.state.history.marks.len();
+        let outcome = self.run(line)?;
+        Ok(print(self.alloc, outcome, &self.state.history.marks[before..])?)
+    }
+
+    /// Runs a line.
+    fn run(&mut self, line: Line) -> Result<Outcome, NoMem>
+        requires stripes { IsOfStripes line }
+        ensures ok { OnOk result (self.new ≡ with_line self.old line) }
+        ensures outcome { IfOk result (λ outcome. outcome ≡ outcome_of (copying self.old.layout) (world_of self.old) line) }
+        ensures marks { OnOk result (length (world_of self.old).marks ≤ length (world_of self.new).marks) }
+        ensures err { OnErr result (self.new ≡ self.old) }
+    {
         self.lines.reserve(1)?;
-        let before = self.state.marks.len();
         let outcome = self.state.run(self.alloc, &self.layout, &line)?;
         put(&mut self.lines, line);
-        let text = match outcome {
-            Outcome::Marks => marks_text(self.alloc, &self.state.marks[before..])?,
-            Outcome::Refused(refusal) => refusal_text(self.alloc, refusal)?,
-            Outcome::Idle => idle_text(self.alloc)?,
-        };
-        Ok(Bytes::from_vec(text.into_bytes()))
+        Ok(outcome)
     }
 
     /// The layout.
-    pub fn layout(&self) -> &Layout {
+    pub fn layout(&self) -> &Layout
+        ensures { result.now ≡ self.now.layout }
+    {
         &self.layout
     }
 
     /// All marks, in order.
-    pub fn marks(&self) -> &[Mark] {
-        self.state.marks.as_slice()
+    pub fn marks(&self) -> &[Mark]
+        ensures { result.now ≡ (world_of self.now).marks }
+    {
+        self.state.history.marks.as_slice()
     }
 
     /// Every packet that was ever sent, in order.
-    pub fn sent(&self) -> &[Packet] {
-        self.state.sent.as_slice()
+    pub fn sent(&self) -> &[Packet]
+        ensures { result.now ≡ (world_of self.now).packets }
+    {
+        self.state.history.sent.as_slice()
     }
 
     /// The log of a brick's part of a stripe, oldest version first. None exactly where there is no such brick, group or stripe.
-    pub fn log_of(&self, brick: BrickId, group: GroupId, stripe: StripeNo) -> Option<&[Version]> {
+    pub fn log_of(&self, brick: BrickId, group: GroupId, stripe: StripeNo) -> Option<&[Version]>
+        ensures { option_copied result ≡ log_at self.now brick.0 group.0 stripe.0 }
+    {
         let stripes = self.layout.group(group)?.stripes();
         if stripe.0 >= stripes {
             return None;
@@ -113,7 +173,9 @@ impl World {
         &self,
         group: GroupId,
         stripe: StripeNo,
-    ) -> Result<Vec<Happening>, NoMem> {
-        walks::happenings(self.alloc, self.state.operations.as_slice(), group, stripe)
+    ) -> Result<Vec<Happening>, NoMem>
+        ensures { IfOk result (λ happenings. happenings.items ≡ happenings_of (world_of self.now) group.0 stripe.0) }
+    {
+        walks::happenings(self.alloc, self.state.history.operations.as_slice(), group, stripe)
     }
 }

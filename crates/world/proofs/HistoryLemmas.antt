@@ -1,0 +1,286 @@
+-- What a history tells, step by step.
+use Rattle.std.proofs.Common.{◌≡◌, ◌≢◌, ℕ, suc, ◌+◌, ◌<◌, ◌≤◌, ◌-◌, ◌⊎◌, ⊎_elim, get_or, set, Bool, true, false, cond, nat_eq, List, [], ◌∷◌, ◌++◌, length, Option, Some, None, refl, sym, ap, ◌∙◌, subst, arith, length-append}
+use Rattle.std.specs.Prelude.{slice_get, if◌then◌else◌, unwrap_or}
+use Rattle.std.specs.Option.{option_map, option_or}
+use Rattle.std.specs.BTreeMap.{BTreeMap, get, is_at}
+use Rattle.std.proofs.lemmas.Bool.{cond_both, eqb-true, eqb-false, ne_eqb}
+use Rattle.std.proofs.lemmas.Option.{slice_get_within, slice_get_past, slice_get-get_or}
+use Rattle.fab_base.specs.declared.answers.Answer.{Answer}
+use Rattle.fab_base.specs.declared.asks.Ask.{Ask}
+use Rattle.fab_base.specs.declared.identities.BrickId.{BrickId}
+use Rattle.fab_base.specs.declared.stamps.Stamp.{Stamp}
+use Rattle.fab_wire.specs.declared.messages.Packet.{Packet}
+use Rattle.reg_model.specs.declared.marks.Mark.{Mark}
+use Rattle.reg_model.specs.declared.marks.Mark.TheVariants.{Begin, End}
+use Rattle.protocol.specs.Nodes.{Node, NodeStep, put}
+use Rattle.protocol.specs.declared.tellings.Told.TheVariants.{Made, Answers}
+use Rattle.protocol.specs.Worlds.{World, Operation, world_began, world_stepped, with_made, with_answer, version_after, is_answer}
+use Rattle.world.specs.declared.histories.History.{History}
+use Rattle.world.specs.declared.histories.Known.{Known}
+use Rattle.world.specs.States.{StandFor, ChangesAt, IsKnown, IsOfCall, Tells, call_cmp, made_known, ended_known}
+use Rattle.world.proofs.Places.{grown, each_value, value_here, value_elsewhere, call_apart, set_here, set_elsewhere}
+
+-- room alone changes nothing that is told
+pub tells_same : (old new : History) (w : World) → new.sent.items ≡ old.sent.items → new.marks.items ≡ old.marks.items
+    → new.operations.items ≡ old.operations.items → new.numbers ≡ old.numbers → Tells old w → Tells new w
+tells_same old new w sent marks operations numbers tells = record {
+  packets = sent ∙ tells.packets;
+  marks = marks ∙ tells.marks;
+  begun = ap length operations ∙ tells.begun;
+  operations = subst (λ (kept : List Known). StandFor kept w.operations) (sym operations) tells.operations;
+  numbers = λ i k low high. subst (λ (map : BTreeMap (ℕ × ℕ) ℕ). get call_cmp map (i, k) ≡ Some (w.numbers i k)) (sym numbers) (tells.numbers i k low high);
+}
+
+-- the number of a call that is none so far changes nothing that is told
+pub tells_numbered : (old : History) (map : BTreeMap (ℕ × ℕ) ℕ) (w : World) (b s : ℕ) → (w.nodes b).seq < s
+    → ((q : ℕ × ℕ) → is_at (call_cmp (b, s)) q ≡ false → get call_cmp map q ≡ get call_cmp old.numbers q)
+    → Tells old w → Tells (record old { numbers = map }) w
+tells_numbered old map w b s above others tells = record {
+  packets = tells.packets;
+  marks = tells.marks;
+  begun = tells.begun;
+  operations = tells.operations;
+  numbers = λ i k low high. others (i, k) (call_apart b s i k (λ here this. apart i k here this high)) ∙ tells.numbers i k low high;
+}
+  where
+    apart : (i k : ℕ) → i ≡ b → k ≡ s → k ≤ (w.nodes i).seq → ⊥
+    apart i k here this high = let same : (w.nodes i).seq ≡ (w.nodes b).seq = ap (λ j. (w.nodes j).seq) here in omega arith
+
+-- a world that differs in what no history tells
+pub tells_other : (history : History) (w v : World) → v.packets ≡ w.packets → v.marks ≡ w.marks → v.begun ≡ w.begun → v.operations ≡ w.operations
+    → v.numbers ≡ w.numbers → ((i : ℕ) → (v.nodes i).seq ≡ (w.nodes i).seq) → Tells history w → Tells history v
+tells_other history w v packets marks begun operations numbers seqs tells = record {
+  packets = tells.packets ∙ sym packets;
+  marks = tells.marks ∙ sym marks;
+  begun = tells.begun ∙ sym begun;
+  operations = subst (λ (o : ℕ → Option Operation). StandFor history.operations.items o) (sym operations) tells.operations;
+  numbers = λ i k low high.
+  tells.numbers i k low (let same : (v.nodes i).seq ≡ (w.nodes i).seq = seqs i in omega arith) ∙ ap (λ (n : ℕ → ℕ → ℕ). Some (n i k)) (sym numbers);
+}
+
+-- a brick's step that opens no call leaves all call numbers
+pub seqs_stay : (w : World) (brick : BrickId) (node : Node) → node.seq ≡ (w.nodes brick.0).seq → (i : ℕ) → (put w.nodes brick.0 node i).seq ≡ (w.nodes i).seq
+seqs_stay w brick node same = each_value (λ i x. x.seq ≡ (w.nodes i).seq) w.nodes brick.0 node same (λ i other. refl)
+
+-- what is kept of the operations is the machine's where both change alike at one number
+pub known_changed : (old new : List Known) (operations : ℕ → Option Operation) (number : ℕ) (change : Known → Known) (next : Option Operation → Option Operation)
+    → ((known : Known) (o : Operation) → IsKnown known o → (p : Operation) × (next (Some o) ≡ Some p) × IsKnown (change known) p)
+    → ChangesAt old new number change
+    → StandFor old operations → StandFor new (put operations number (next (operations number)))
+known_changed old new operations number change next alike changed known n k is =
+    cond_both (nat_eq (n + 1) number) (option_map change (slice_get old n)) (slice_get old n)
+    (λ (x : Option Known). x ≡ Some k → (o : Operation) × (put operations number (next (operations number)) (n + 1) ≡ Some o) × IsKnown k o)
+    (λ here found. at_place (eqb-true (n + 1) number here) (slice_get old n) refl found)
+    (λ there found. let old_one = known n k found in
+    (old_one.0, value_elsewhere operations number (n + 1) (next (operations number)) (eqb-false (n + 1) number there) ∙ old_one.1, old_one.2))
+    (sym (changed n) ∙ is)
+  where
+    at_place : n + 1 ≡ number → (found : Option Known) → slice_get old n ≡ found → option_map change found ≡ Some k
+        → (o : Operation) × (put operations number (next (operations number)) (n + 1) ≡ Some o) × IsKnown k o
+    at_place here None was e = let never : None ≡ Some k = e in cc
+    at_place here (Some x) was e =
+        let before = known n x was in
+        let after = alike x before.0 before.2 in
+        let same : operations number ≡ Some before.0 = ap operations (sym here) ∙ before.1 in
+        let becomes : change x ≡ k = cc in
+        (after.0, value_here operations number (n + 1) (next (operations number)) here ∙ ap next same ∙ after.1,
+        subst (λ (kept : Known). IsKnown kept after.0) becomes after.2)
+
+-- an operation that made a version
+pub made_alike : (stamp : Stamp) (known : Known) (o : Operation) → IsKnown known o
+    → (p : Operation) × (with_made stamp (Some o) ≡ Some p) × IsKnown (made_known stamp known) p
+made_alike stamp known o is =
+    (_, refl, record { begin = is.begin; group = is.group; stripe = is.stripe; version = refl; made = refl; answered = is.answered })
+
+-- an operation that ended
+pub ended_alike : (answer : Answer) (seen : Option Stamp) (known : Known) (o : Operation) → IsKnown known o
+    → (p : Operation) × (with_answer answer seen (Some o) ≡ Some p)
+    × IsKnown (ended_known (is_answer answer) seen known) p
+ended_alike answer seen known o is =
+    (_, refl, record {
+      begin = is.begin; group = is.group; stripe = is.stripe; version = ap (λ v. version_after v seen) is.version; made = is.made; answered = refl;
+    })
+
+-- one operation changed, and some marks came
+tells_changed : (old new : History) (w : World) (number : ℕ) (kept after : List Known) (change : Known → Known) (next : Option Operation → Option Operation)
+    → Tells old w → kept ≡ old.operations.items → new.operations.items ≡ after
+    → ((known : Known) (o : Operation) → IsKnown known o → (p : Operation) × (next (Some o) ≡ Some p) × IsKnown (change known) p)
+    → ChangesAt kept after number change → length after ≡ length kept
+    → new.sent.items ≡ old.sent.items → new.numbers ≡ old.numbers → (marks : List Mark) → new.marks.items ≡ marks
+    → Tells new (record w { marks = marks; operations = put w.operations number (next (w.operations number)) })
+tells_changed old new w number kept after change next tells are become alike changed count sent numbers marks marked = record {
+  packets = sent ∙ tells.packets;
+  marks = marked;
+  begun = ap length become ∙ count ∙ ap length are ∙ tells.begun;
+  operations = subst (λ (x : List Known). StandFor x (put w.operations number (next (w.operations number)))) (sym become)
+      (known_changed kept after w.operations number change next alike changed
+      (subst (λ (x : List Known). StandFor x w.operations) (sym are) tells.operations));
+  numbers = λ i k low high. subst (λ (map : BTreeMap (ℕ × ℕ) ℕ). get call_cmp map (i, k) ≡ Some (w.numbers i k)) (sym numbers) (tells.numbers i k low high);
+}
+
+-- the numbers of calls with one call more
+numbers_grow : (w : World) (map : BTreeMap (ℕ × ℕ) ℕ) (b number : ℕ) (node : Node) → node.seq ≡ (w.nodes b).seq + 1
+    → get call_cmp map (b, node.seq) ≡ Some number
+    → ((i k : ℕ) → 1 ≤ k → k ≤ (w.nodes i).seq → get call_cmp map (i, k) ≡ Some (w.numbers i k))
+    → (i k : ℕ) → 1 ≤ k → k ≤ (put w.nodes b node i).seq
+    → get call_cmp map (i, k) ≡ Some (put w.numbers b (put (w.numbers b) node.seq number) i k)
+numbers_grow w map b number node next here old i k low = by_brick (nat_eq i b) refl
+  where
+    by_call : (y : Bool) → nat_eq k node.seq ≡ y → k ≤ node.seq → get call_cmp map (b, k) ≡ Some (cond y number (w.numbers b k))
+    by_call true this high = ap (λ j. get call_cmp map (b, j)) (eqb-true k node.seq this) ∙ here
+    by_call false other high = let apart : k ≢ node.seq = eqb-false k node.seq other in old b k low (omega arith)
+    by_brick : (x : Bool) → nat_eq i b ≡ x → k ≤ (cond x node (w.nodes i)).seq
+        → get call_cmp map (i, k) ≡ Some (cond x (put (w.numbers b) node.seq number) (w.numbers i) k)
+    by_brick true same high = ap (λ j. get call_cmp map (j, k)) (eqb-true i b same) ∙ by_call (nat_eq k node.seq) refl high
+    by_brick false other high = old i k low high
+
+-- what is kept of the operations with one more
+known_begun : (kept : List Known) (operations : ℕ → Option Operation) (begun : ℕ) (known : Known) (o : Operation)
+    → length kept ≡ begun → IsKnown known o → StandFor kept operations → StandFor (kept ++ known ∷ []) (put operations (begun + 1) (Some o))
+known_begun kept operations begun known o count is old n k found =
+    ⊎_elim
+    (λ (was : slice_get kept n ≡ Some k).
+    let one = old n k was in
+    let within : n < length kept = slice_get_within kept n k was in
+    let apart : n + 1 ≢ begun + 1 = (λ e. omega arith) in
+    (one.0, value_elsewhere operations (begun + 1) (n + 1) (Some o) apart ∙ one.1, one.2))
+    (λ (new : (n ≡ length kept) × (known ≡ k)).
+    let here : n + 1 ≡ begun + 1 = omega (arith, new.0) in
+    (o, value_here operations (begun + 1) (n + 1) (Some o) here, subst (λ (x : Known). IsKnown x o) new.1 is))
+    (grown kept known n k found)
+
+-- an operation that began
+pub tells_began : (old new : History) (w : World) (brick : BrickId) (ask : Ask) (step : NodeStep) → Tells old w
+    → new.sent.items ≡ old.sent.items ++ step.packets
+    → new.marks.items ≡ old.marks.items ++ Begin (length old.marks.items) (length old.operations.items + 1) brick ask ∷ []
+    → new.operations.items ≡ old.operations.items ++ record { begin = length old.marks.items; group = ask.group; stripe = ask.stripe; version = None; made = false; answered = false } ∷ []
+    → new.numbers ≡ old.numbers
+    → step.node.seq ≡ (w.nodes brick.0).seq + 1
+    → get call_cmp old.numbers (brick.0, step.node.seq) ≡ Some (w.begun + 1)
+    → Tells new (world_began w brick ask step)
+tells_began old new w brick ask step tells sent marks operations numbers next number = record {
+  packets = sent ∙ ap (λ xs. xs ++ step.packets) tells.packets;
+  marks = marks ∙ ap (λ (xs : List Mark). xs ++ Begin (length xs) (length old.operations.items + 1) brick ask ∷ []) tells.marks
+      ∙ ap (λ n. w.marks ++ Begin (length w.marks) (n + 1) brick ask ∷ []) tells.begun;
+  begun = ap length operations ∙ length-append old.operations.items _ ∙ ap (λ n. n + 1) tells.begun;
+  operations = subst (λ (kept : List Known). StandFor kept (world_began w brick ask step).operations) (sym operations)
+      (known_begun old.operations.items w.operations w.begun _ _ tells.begun
+      (record { begin = ap length tells.marks; group = refl; stripe = refl; version = refl; made = refl; answered = refl }) tells.operations);
+  numbers = subst (λ (map : BTreeMap (ℕ × ℕ) ℕ). (i k : ℕ) → 1 ≤ k → k ≤ (put w.nodes brick.0 step.node i).seq
+      → get call_cmp map (i, k) ≡ Some (put w.numbers brick.0 (put (w.numbers brick.0) step.node.seq (w.begun + 1)) i k)) (sym numbers)
+      (numbers_grow w old.numbers brick.0 (w.begun + 1) step.node next number tells.numbers);
+}
+
+-- there is no operation 0
+pub changes_none : (kept : List Known) (number : ℕ) (change : Known → Known) → number ≡ 0 → ChangesAt kept kept number change
+changes_none kept number change none n =
+    sym (ap (λ b. if b then option_map change (slice_get kept n) else slice_get kept n) (let apart : n + 1 ≢ number = (λ e. omega arith) in ne_eqb (n + 1) number apart))
+
+-- there is no operation past the last
+pub changes_past : (kept : List Known) (number : ℕ) (change : Known → Known) → number ≢ 0 → length kept ≤ number - 1 → ChangesAt kept kept number change
+changes_past kept number change some past n =
+    cond_both (nat_eq (n + 1) number) (option_map change (slice_get kept n)) (slice_get kept n) (λ (x : Option Known). slice_get kept n ≡ x)
+    (λ here.
+    let at : n + 1 ≡ number = eqb-true (n + 1) number here in
+    let none : slice_get kept n ≡ None = slice_get_past kept n (omega arith) in
+    none ∙ sym (ap (option_map change) none))
+    (λ there. refl)
+
+-- the operation of a number changed
+pub changes_at : (kept : List Known) (number : ℕ) (default : Known) (change : Known → Known) → number ≢ 0 → number - 1 < length kept
+    → ChangesAt kept (set kept (number - 1) (change (get_or kept (number - 1) default))) number change
+changes_at kept number default change some within n =
+    cond_both (nat_eq (n + 1) number) (option_map change (slice_get kept n)) (slice_get kept n)
+    (λ (y : Option Known). slice_get (set kept (number - 1) (change (get_or kept (number - 1) default))) n ≡ y)
+    (λ here.
+    let at : n + 1 ≡ number = eqb-true (n + 1) number here in
+    let place : n ≡ number - 1 = omega arith in
+    let was : slice_get kept (number - 1) ≡ Some (get_or kept (number - 1) default) = slice_get-get_or kept (number - 1) default within in
+    ap (slice_get (set kept (number - 1) (change (get_or kept (number - 1) default)))) place
+    ∙ set_here kept (number - 1) (change (get_or kept (number - 1) default)) within
+    ∙ sym (ap (λ k. option_map change (slice_get kept k)) place ∙ ap (option_map change) was))
+    (λ there.
+    let apart : n + 1 ≢ number = eqb-false (n + 1) number there in
+    let other : n ≢ number - 1 = (λ e. apart (omega arith)) in
+    set_elsewhere kept (number - 1) (change (get_or kept (number - 1) default)) n other)
+
+-- what is kept of an operation that ended, field by field
+pub ended_fields : (answered : Bool) (seen version : Option Stamp) (known : Known) → version ≡ option_or seen known.version
+    → ended_known answered seen known
+    ≡ record { begin = known.begin; group = known.group; stripe = known.stripe; version = version; made = known.made; answered = answered }
+ended_fields answered seen version known is =
+    ap (λ (v : Option Stamp). record { begin = known.begin; group = known.group; stripe = known.stripe; version = v; made = known.made; answered = answered })
+    (by_seen seen ∙ sym is)
+  where
+    by_seen : (seen : Option Stamp) → version_after known.version seen ≡ option_or seen known.version
+    by_seen None = refl
+    by_seen (Some v) = refl
+
+-- the operation of a number became this
+pub changes_to : (kept : List Known) (number : ℕ) (default value : Known) (change : Known → Known) → number ≢ 0 → number - 1 < length kept
+    → change (get_or kept (number - 1) default) ≡ value → ChangesAt kept (set kept (number - 1) value) number change
+changes_to kept number default value change some within is =
+    subst (λ (x : Known). ChangesAt kept (set kept (number - 1) x) number change) is (changes_at kept number default change some within)
+
+-- the number of a call is that of its operation
+pub number_is : (history : History) (w : World) (b seq number : ℕ) → Tells history w → 1 ≤ seq → seq ≤ (w.nodes b).seq
+    → number ≡ unwrap_or (get call_cmp history.numbers (b, seq)) 0 → number ≡ w.numbers b seq
+number_is history w b seq number tells low high is = is ∙ ap (λ o. unwrap_or o 0) (tells.numbers b seq low high)
+
+-- an operation made a version
+pub tells_made : (old new : History) (w : World) (b seq number : ℕ) (stamp : Stamp) (kept after : List Known) → Tells old w
+    → number ≡ w.numbers b seq → kept ≡ old.operations.items → new.operations.items ≡ after
+    → new.sent.items ≡ old.sent.items → new.marks.items ≡ old.marks.items
+    → ChangesAt kept after number (made_known stamp) → length after ≡ length kept → new.numbers ≡ old.numbers
+    → Tells new (record w { operations = put w.operations (w.numbers b seq) (with_made stamp (w.operations (w.numbers b seq))) })
+tells_made old new w b seq number stamp kept after tells is are become sent marks changed count numbers =
+    tells_changed old new w (w.numbers b seq) kept after (made_known stamp) (with_made stamp) tells are become (made_alike stamp)
+    (subst (λ n. ChangesAt kept after n (made_known stamp)) is changed) count sent numbers w.marks (marks ∙ tells.marks)
+
+-- an operation ended
+pub tells_ended : (old new : History) (w : World) (b seq number : ℕ) (answer : Answer) (answered : Bool) (seen : Option Stamp) (kept after : List Known)
+    → Tells old w → number ≡ w.numbers b seq → kept ≡ old.operations.items → new.operations.items ≡ after → answered ≡ is_answer answer
+    → new.sent.items ≡ old.sent.items → new.marks.items ≡ old.marks.items ++ End (length old.marks.items) number answer ∷ []
+    → ChangesAt kept after number (ended_known answered seen) → length after ≡ length kept → new.numbers ≡ old.numbers
+    → Tells new (record w {
+      marks = w.marks ++ End (length w.marks) (w.numbers b seq) answer ∷ [];
+      operations = put w.operations (w.numbers b seq) (with_answer answer seen (w.operations (w.numbers b seq)));
+    })
+tells_ended old new w b seq number answer answered seen kept after tells is are become right sent marks changed count numbers =
+    let at : ChangesAt kept after (w.numbers b seq) (ended_known answered seen) =
+        subst (λ n. ChangesAt kept after n (ended_known answered seen)) is changed in
+    tells_changed old new w (w.numbers b seq) kept after (ended_known (is_answer answer) seen) (with_answer answer seen) tells are become (ended_alike answer seen)
+    (subst (λ (x : Bool). ChangesAt kept after (w.numbers b seq) (ended_known x seen)) right at) count sent numbers _
+    (marks ∙ ap (λ n. old.marks.items ++ End (length old.marks.items) n answer ∷ []) is
+    ∙ ap (λ (xs : List Mark). xs ++ End (length xs) (w.numbers b seq) answer ∷ []) tells.marks)
+
+-- a step that made a version
+pub tells_step_made : (history : History) (w : World) (brick : BrickId) (step : NodeStep) (packets : List Packet) (seq : ℕ) (stamp : Stamp)
+    → step.told ≡ Made seq stamp → packets ≡ step.packets → step.node.seq ≡ (w.nodes brick.0).seq → IsOfCall (w.nodes brick.0) step.told
+    → (1 ≤ seq → seq ≤ (w.nodes brick.0).seq
+    → Tells history (record w {
+      packets = w.packets ++ packets;
+      operations = put w.operations (w.numbers brick.0 seq) (with_made stamp (w.operations (w.numbers brick.0 seq)));
+    }))
+    → Tells history (world_stepped w brick step step.told)
+tells_step_made history w brick step packets seq stamp is sent next of made =
+    let call : (1 ≤ seq) × (seq ≤ (w.nodes brick.0).seq) = subst (IsOfCall (w.nodes brick.0)) is of in
+    subst (λ told. Tells history (world_stepped w brick step told)) (sym is)
+    (tells_other history _ (world_stepped w brick step (Made seq stamp)) (ap (λ xs. w.packets ++ xs) (sym sent)) refl refl refl refl
+    (seqs_stay w brick step.node next) (made call.0 call.1))
+
+-- a step that ended an operation
+pub tells_step_ended : (history : History) (w : World) (brick : BrickId) (step : NodeStep) (packets : List Packet) (seq : ℕ) (answer : Answer) (seen : Option Stamp)
+    → step.told ≡ Answers seq answer seen → packets ≡ step.packets → step.node.seq ≡ (w.nodes brick.0).seq → IsOfCall (w.nodes brick.0) step.told
+    → (1 ≤ seq → seq ≤ (w.nodes brick.0).seq
+    → Tells history (record w {
+      packets = w.packets ++ packets;
+      marks = w.marks ++ End (length w.marks) (w.numbers brick.0 seq) answer ∷ [];
+      operations = put w.operations (w.numbers brick.0 seq) (with_answer answer seen (w.operations (w.numbers brick.0 seq)));
+    }))
+    → Tells history (world_stepped w brick step step.told)
+tells_step_ended history w brick step packets seq answer seen is sent next of ended =
+    let call : (1 ≤ seq) × (seq ≤ (w.nodes brick.0).seq) = subst (IsOfCall (w.nodes brick.0)) is of in
+    subst (λ told. Tells history (world_stepped w brick step told)) (sym is)
+    (tells_other history _ (world_stepped w brick step (Answers seq answer seen)) (ap (λ xs. w.packets ++ xs) (sym sent)) refl refl refl refl
+    (seqs_stay w brick step.node next) (ended call.0 call.1))

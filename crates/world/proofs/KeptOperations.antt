@@ -1,0 +1,211 @@
+-- The operations that a world keeps, and the machine's: the same walks and the same happenings.
+use Rattle.std.proofs.Common.{◌≡◌, ℕ, zero, suc, ◌+◌, ◌<◌, ◌≤◌, Bool, true, false, not, ◌&&◌, ◌||◌, cond, max, nat_eq, List, [], ◌∷◌, ◌++◌, length, get_or, Option, Some, None, option_map, refl, sym, ap, ap₂, ◌∙◌, subst, arith, add-one}
+use Rattle.std.specs.Prelude.{slice_get}
+use Rattle.std.specs.List.{All, filter, list_any}
+use Rattle.std.proofs.lemmas.Bool.{cond_both, and_parts, and_from, eqb-true, eq-eqb}
+use Rattle.std.proofs.lemmas.Option.{same_Some, slice_get-get_or}
+use Rattle.std.proofs.lemmas.List.Elements.{All-cons, All-nil, All-append, All-weaker, All-filter, All-head, All-tail}
+use Rattle.std.proofs.lemmas.List.Sorted.{All-permutation}
+use Rattle.fab_base.specs.declared.identities.GroupId.{GroupId}
+use Rattle.fab_base.specs.declared.identities.StripeNo.{StripeNo}
+use Rattle.fab_base.specs.declared.stamps.Stamp.{Stamp}
+use Rattle.fab_base.specs.Stamps.{stamp_same}
+use Rattle.reg_model.specs.declared.entries.Entry.{Entry}
+use Rattle.reg_model.specs.declared.marks.Happening.{Happening}
+use Rattle.reg_model.specs.declared.marks.Mark.{Mark}
+use Rattle.reg_model.specs.Marks.{life_of, is_of_stripe, stripe_marks}
+use Rattle.reg_model.specs.Walk.{begin_of, positioned}
+use Rattle.protocol.specs.Settings.{Setting}
+use Rattle.protocol.specs.Worlds.{World, Operation, Event, first_world, run}
+use Rattle.protocol.specs.Happenings.{is_of, entry_with, entry_at, entries_to, was_answered, is_effective, ascending, walk_of, happenings_of}
+use Rattle.protocol.proofs.Books.{Books, OperationBooks}
+use Rattle.protocol.proofs.BooksEvents.{books}
+use Rattle.protocol.proofs.Entries.{IsEntryOf, entries_of}
+use Rattle.protocol.proofs.Sorting.{ascending_permutation}
+use Rattle.protocol.proofs.StripeLives.{life_filtered}
+use Rattle.world.specs.declared.histories.Known.{Known}
+use Rattle.world.specs.States.{IsKnown}
+use Rattle.world.specs.Walks.{AreKnown, BeginsAgree, operation_of, operations_of, begin_at, walk_to, placed}
+
+-- stands for an operation of which nothing is kept
+abbrev pub nothing_known : Known
+nothing_known = record { begin = 0; group = record { 0 = 0 }; stripe = record { 0 = 0 }; version = None; made = false; answered = false }
+
+-- the entries of one operation more
+pub entries_more : (operations : List Known) (g s i : ℕ) (d : Known) → i < length operations
+    → entries_to (operations_of operations) g s (i + 1)
+    ≡ entries_to (operations_of operations) g s i ++ entry_at g s (i + 1) (Some (operation_of (get_or operations i d)))
+entries_more operations g s i d within =
+    let known : Known = get_or operations i d in
+    subst (λ (m : ℕ). entries_to (operations_of operations) g s m ≡ entries_to (operations_of operations) g s i ++ entry_at g s m (Some (operation_of known)))
+    (sym (add-one i))
+    (ap (λ (o : Option Known). entries_to (operations_of operations) g s i ++ entry_at g s (suc i) (option_map operation_of o)) (slice_get-get_or operations i d within))
+
+-- the entry of an operation that is kept is the machine's
+known_entry : (g s n : ℕ) (known : Known) (o : Operation) → IsKnown known o → entry_at g s n (Some (operation_of known)) ≡ entry_at g s n (Some o)
+known_entry g s n known o is =
+    ap (λ (x : GroupId). cond (nat_eq x.0 g && nat_eq known.stripe.0 s) (entry_with n (not known.made) known.version) []) is.group
+    ∙ ap (λ (x : StripeNo). cond (nat_eq o.ask.group.0 g && nat_eq x.0 s) (entry_with n (not known.made) known.version) []) is.stripe
+    ∙ ap (λ (x : Bool). cond (is_of g s o) (entry_with n (not x) known.version) []) is.made
+    ∙ ap (λ (x : Option Stamp). cond (is_of g s o) (entry_with n (not o.made) x) []) is.version
+
+-- operation k, as it is kept and as the machine has it
+record Agrees (operations : List Known) (w : World) (k : ℕ) : Type 0 where
+  known : Known
+  operation : Operation
+  kept : operations_of operations k ≡ Some (operation_of known)
+  is : w.operations k ≡ Some operation
+  same : IsKnown known operation
+
+agrees : (operations : List Known) (w : World) → AreKnown operations w → (d : Known) (k : ℕ) → 1 ≤ k → k ≤ length operations → Agrees operations w k
+agrees operations w are d zero low high = absurd (omega arith)
+agrees operations w are d (suc i) low high =
+    let known : Known = get_or operations i d in
+    let at : slice_get operations i ≡ Some known = slice_get-get_or operations i d (omega arith) in
+    let mine = are.each i known at in
+    record {
+      known = known;
+      operation = mine.0;
+      kept = ap (λ (o : Option Known). option_map operation_of o) at;
+      is = subst (λ (m : ℕ). w.operations m ≡ Some mine.0) (add-one i) mine.1;
+      same = mine.2;
+    }
+
+-- numbered 1 to n
+abbrev IsUpTo : ℕ → Entry → Type 0
+IsUpTo n e = (1 ≤ e.operation) × (e.operation ≤ n)
+
+at_number : (g s n : ℕ) (o : Option Operation) → All (λ (e : Entry). e.operation ≡ n) (entry_at g s n o)
+at_number g s n None = All-nil (λ (e : Entry). e.operation ≡ n)
+at_number g s n (Some o) =
+    cond_both (is_of g s o) (entry_with n (not o.made) o.version) [] (λ (l : List Entry). All (λ (e : Entry). e.operation ≡ n) l)
+    (λ of. with_number (not o.made) o.version) (λ other. All-nil (λ (e : Entry). e.operation ≡ n))
+  where
+    with_number : (reader : Bool) (version : Option Stamp) → All (λ (e : Entry). e.operation ≡ n) (entry_with n reader version)
+    with_number reader None = All-nil (λ (e : Entry). e.operation ≡ n)
+    with_number reader (Some t) =
+        All-cons (λ (e : Entry). e.operation ≡ n) (record { stamp = t; reader = reader; operation = n }) [] refl (All-nil (λ (e : Entry). e.operation ≡ n))
+
+-- the entries of operations 1 to n are so numbered
+entries_numbered : (operations : ℕ → Option Operation) (g s n : ℕ) → All (IsUpTo n) (entries_to operations g s n)
+entries_numbered operations g s zero = All-nil (IsUpTo zero)
+entries_numbered operations g s (suc n) =
+    All-append (IsUpTo (suc n)) (entries_to operations g s n) (entry_at g s (suc n) (operations (suc n)))
+    (All-weaker (IsUpTo n) (IsUpTo (suc n)) (λ e old. (old.0, omega (arith, old.1))) (entries_to operations g s n) (entries_numbered operations g s n))
+    (All-weaker (λ (e : Entry). e.operation ≡ suc n) (IsUpTo (suc n)) (λ e is. (omega arith, omega arith)) (entry_at g s (suc n) (operations (suc n)))
+    (at_number g s (suc n) (operations (suc n))))
+
+-- tests that agree on a list keep the same of it
+filter_same_on : (p q : Entry → Bool) (xs : List Entry) → All (λ (e : Entry). p e ≡ q e) xs → filter p xs ≡ filter q xs
+filter_same_on p q [] same = refl
+filter_same_on p q (x ∷ xs) same =
+    ap₂ (λ (b : Bool) (l : List Entry). cond b (x ∷ l) l) (All-head (λ (e : Entry). p e ≡ q e) x xs same)
+    (filter_same_on p q xs (All-tail (λ (e : Entry). p e ≡ q e) x xs same))
+
+module _ (operations : List Known) (w : World) (are : AreKnown operations w) (d : Known) (g s : ℕ) where
+  -- the entries are the same
+  entries_same : (n : ℕ) → n ≤ length operations → entries_to (operations_of operations) g s n ≡ entries_to w.operations g s n
+  entries_same zero within = refl
+  entries_same (suc n) within =
+      let mine : Agrees operations w (suc n) = agrees operations w are d (suc n) (omega arith) within in
+      let one : entry_at g s (suc n) (operations_of operations (suc n)) ≡ entry_at g s (suc n) (w.operations (suc n)) =
+      ap (λ (o : Option Operation). entry_at g s (suc n) o) mine.kept ∙ known_entry g s (suc n) mine.known mine.operation mine.same
+      ∙ sym (ap (λ (o : Option Operation). entry_at g s (suc n) o) mine.is) in
+      ap₂ (λ (a b : List Entry). a ++ b) (entries_same n (omega arith)) one
+
+  -- an operation was answered where the machine's was
+  answered_same : (k : ℕ) → 1 ≤ k → k ≤ length operations → was_answered (operations_of operations k) ≡ was_answered (w.operations k)
+  answered_same k low high =
+      let mine : Agrees operations w k = agrees operations w are d k low high in
+      ap was_answered mine.kept ∙ mine.same.answered ∙ sym (ap was_answered mine.is)
+
+  -- an entry is effective where it is in the machine
+  effective_same : (entries : List Entry) (e : Entry) → IsUpTo (length operations) e
+      → is_effective (operations_of operations) entries e ≡ is_effective w.operations entries e
+  effective_same entries e upto =
+      ap (λ (b : Bool). e.reader || (b || list_any (λ (r : Entry). r.reader && stamp_same r.stamp e.stamp) entries)) (answered_same e.operation upto.0 upto.1)
+
+  -- the walks are the same
+  walk_same : walk_to (operations_of operations) g s (length operations) ≡ walk_of w g s
+  unfolding walk_of
+  walk_same =
+      let n : ℕ = length operations in
+      let kept : List Entry = entries_to (operations_of operations) g s n in
+      let entries : List Entry = entries_to w.operations g s w.begun in
+      let same : kept ≡ entries = entries_same n (omega arith) ∙ ap (λ (m : ℕ). entries_to w.operations g s m) are.begun in
+      ap (λ (l : List Entry). ascending (filter (is_effective (operations_of operations) l) l)) same
+      ∙ ap ascending (filter_same_on (is_effective (operations_of operations) entries) (is_effective w.operations entries) entries
+      (All-weaker (IsUpTo w.begun) (λ (e : Entry). is_effective (operations_of operations) entries e ≡ is_effective w.operations entries e)
+      (λ e upto. effective_same entries e (upto.0, (let begun = are.begun in omega (arith, upto.1)))) entries (entries_numbered w.operations g s w.begun)))
+
+  -- an entry's operation begins where the marks of the stripe say
+  begin_same : BeginsAgree w → (e : Entry) → IsUpTo (length operations) e → IsEntryOf w.operations g s e
+      → begin_at (operations_of operations e.operation) ≡ begin_of (life_of (stripe_marks g s w.marks) e.operation)
+  begin_same begins e upto ours =
+      let mine : Agrees operations w e.operation = agrees operations w are d e.operation upto.0 upto.1 in
+      let o : Operation = ours.operation in
+      let one : mine.operation ≡ o = same_Some mine.operation o (sym mine.is ∙ ours.is) in
+      let parts = and_parts _ _ ours.of in
+      let group : o.ask.group.0 ≡ g = eqb-true o.ask.group.0 g parts.0 in
+      let stripe : o.ask.stripe.0 ≡ s = eqb-true o.ask.stripe.0 s parts.1 in
+      let agree : begin_of (life_of (stripe_marks g s w.marks) e.operation) ≡ o.begin =
+      subst (λ (x : ℕ). begin_of (life_of (stripe_marks x s w.marks) e.operation) ≡ o.begin) group
+      (subst (λ (y : ℕ). begin_of (life_of (stripe_marks o.ask.group.0 y w.marks) e.operation) ≡ o.begin) stripe (begins.each e.operation o ours.is)) in
+      ap begin_at mine.kept ∙ mine.same.begin ∙ ap (λ (x : Operation). x.begin) one ∙ sym agree
+
+  -- entries that begin alike happen alike
+  placed_same : (marks : List Mark) (p : ℕ) (entries : List Entry)
+      → All (λ (e : Entry). begin_at (operations_of operations e.operation) ≡ begin_of (life_of marks e.operation)) entries
+      → placed (operations_of operations) p entries ≡ positioned marks p entries
+  placed_same marks p [] same = refl
+  placed_same marks p (e ∷ entries) same =
+      let Begins : Entry → Type 0 = λ x. begin_at (operations_of operations x.operation) ≡ begin_of (life_of marks x.operation) in
+      let one : max p (begin_at (operations_of operations e.operation)) ≡ max p (begin_of (life_of marks e.operation)) =
+      ap (λ (b : ℕ). max p b) (All-head Begins e entries same) in
+      ap (λ (q : ℕ). let h : Happening = record { operation = e.operation; position = q } in h ∷ placed (operations_of operations) q entries) one
+      ∙ ap (λ (l : List Happening). record { operation = e.operation; position = max p (begin_of (life_of marks e.operation)) } ∷ l)
+      (placed_same marks (max p (begin_of (life_of marks e.operation))) entries (All-tail Begins e entries same))
+
+  -- what holds of each entry of the stripe's operations holds of each that stands in the walk
+  walk_all : (P : Entry → Type 0) → All P (entries_to w.operations g s w.begun) → All P (walk_of w g s)
+  unfolding walk_of
+  walk_all P all =
+      let entries : List Entry = entries_to w.operations g s w.begun in
+      let kept : List Entry = filter (is_effective w.operations entries) entries in
+      All-permutation P kept (ascending kept) (ascending_permutation kept) (All-filter (is_effective w.operations entries) P entries all)
+
+  -- the happenings are the same
+  happenings_same : BeginsAgree w → placed (operations_of operations) 0 (walk_to (operations_of operations) g s (length operations)) ≡ happenings_of w g s
+  unfolding happenings_of
+  happenings_same begins =
+      let walk : List Entry = walk_of w g s in
+      let upto : All (IsUpTo w.begun) walk = walk_all (IsUpTo w.begun) (entries_numbered w.operations g s w.begun) in
+      let ours : All (IsEntryOf w.operations g s) walk = walk_all (IsEntryOf w.operations g s) (entries_of w.operations g s w.begun) in
+      ap (λ (l : List Entry). placed (operations_of operations) 0 l) walk_same
+      ∙ placed_same (stripe_marks g s w.marks) 0 walk
+      (λ k e lt. begin_same begins (get_or walk k e)
+      (let near : IsUpTo w.begun (get_or walk k e) = upto k e lt in (near.0, (let begun = are.begun in omega (arith, near.1)))) (ours k e lt))
+
+-- from the operations that a world keeps come its happenings
+pub kept_happenings : (operations : List Known) (w : World) (g s : ℕ) → AreKnown operations w → BeginsAgree w
+    → placed (operations_of operations) 0 (walk_to (operations_of operations) g s (length operations)) ≡ happenings_of w g s
+kept_happenings operations w g s are begins =
+    happenings_same operations w are
+    nothing_known g s begins
+
+-- where the books hold, operations begin where the marks of their stripes say
+pub begins_from_books : (setting : Setting) (w : World) → Books setting w → BeginsAgree w
+begins_from_books setting w books = record {
+  each = λ n o is.
+      (let mine : OperationBooks setting w n o = books.operations n o is in
+      let g : ℕ = o.ask.group.0 in
+      let s : ℕ = o.ask.stripe.0 in
+      let own : is_of_stripe g s (Some mine.life) ≡ true =
+      ap (λ a. nat_eq a.group.0 g && nat_eq a.stripe.0 s) mine.ask ∙ and_from _ _ (eq-eqb g g refl) (eq-eqb s s refl) in
+      let found = life_filtered g s w.marks n (ap (is_of_stripe g s) mine.life_is ∙ own) w.marks mine.life mine.life_is own in
+      ap begin_of found.1 ∙ found.2.begin ∙ mine.begin);
+}
+
+-- so in each world that a run reaches
+pub begins_in_run : (setting : Setting) (events : List Event) → BeginsAgree (run setting events (first_world setting.layout))
+begins_in_run setting events = begins_from_books setting (run setting events (first_world setting.layout)) (books setting events)

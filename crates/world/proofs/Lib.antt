@@ -1,0 +1,11 @@
+pub mod HistoryLemmas
+pub mod KeptOperations
+pub mod LineLemmas
+pub mod MachineBegins
+pub mod MachineSteps
+pub mod NodeLemmas
+pub mod Orders
+pub mod Places
+pub mod RunLaws
+pub mod RunLemmas
+pub mod StateLemmas

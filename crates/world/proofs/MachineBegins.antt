@@ -1,0 +1,122 @@
+-- When an operation begins in the machine, and what a message does there.
+use Rattle.std.proofs.Common.{◌≡◌, ℕ, ◌+◌, ◌-◌, ◌<◌, ◌≤◌, ◌^◌, Bool, true, false, not, cond, nat_eq, nat_lt, ◌&&◌, ◌||◌, Option, Some, None, refl, sym, ap, ◌∙◌, subst, arith}
+use Rattle.std.specs.Prelude.{if◌then◌else◌}
+use Rattle.std.specs.Option.{is_some}
+use Rattle.std.proofs.lemmas.Bool.{cond_both, and_parts}
+use Rattle.std.proofs.lemmas.Bool.Decides.{nat_tests}
+use Rattle.fab_base.specs.declared.asks.Ask.{Ask}
+use Rattle.fab_base.specs.declared.asks.Op.{Op}
+use Rattle.fab_base.specs.declared.answers.Refusal.{Refusal}
+use Rattle.fab_base.specs.declared.answers.Refusal.TheVariants as Refusal
+use Rattle.fab_base.specs.declared.identities.BrickId.{BrickId}
+use Rattle.fab_wire.specs.declared.messages.Packet.{Packet}
+use Rattle.protocol.specs.Settings.{Layout, Setting, Group, group_of}
+use Rattle.protocol.specs.Nodes.{Node, NodeStep, is_stripe_op, has_block, has_length, is_spent, most_open, refusal_in, refusal_of, began, invoked, received}
+use Rattle.protocol.specs.Worlds.{World, Invokes, Delivers, is_brick, may_begin, world_began, world_stepped, delivered, packet_of, happens}
+use Rattle.world.specs.Runs.{ask_of, refusal_at}
+
+-- where there is no such group there is no such stripe
+pub refused_no_group : (layout : Layout) (g s : ℕ) (node : Node) (op : Op) → group_of layout g ≡ None → refusal_of layout node (ask_of g s op) ≡ Some Refusal.NoStripe
+unfolding refusal_of
+refused_no_group layout g s node op none = ap (refusal_in layout.block node (ask_of g s op)) none
+
+-- the reasons behind that of the stripe
+abbrev refusal_behind : ℕ → Node → Op → Group → Option Refusal
+refusal_behind block node op group =
+    if not (has_block group.m op) then Some Refusal.NoBlock
+    else if not (has_length group.m block op) then Some Refusal.Length
+    else if not (nat_lt node.busy most_open) then Some Refusal.Busy
+    else if is_spent node then Some Refusal.Spent
+    else None
+
+-- a stripe past the last of its group
+pub refused_no_stripe : (layout : Layout) (g s : ℕ) (group : Group) (node : Node) (op : Op) → group_of layout g ≡ Some group → group.stripes ≤ s
+    → refusal_of layout node (ask_of g s op) ≡ Some Refusal.NoStripe
+unfolding refusal_of
+refused_no_stripe layout g s group node op found past =
+    let past_last : nat_lt s group.stripes ≡ false = grind (arith, nat_tests) in
+    ap (refusal_in layout.block node (ask_of g s op)) found
+    ∙ ap (λ b. cond (not b) (Some Refusal.NoStripe) (refusal_behind layout.block node op group)) past_last
+
+-- a brick of the layout refuses for its own reason
+pub refusal_here : (setting : Setting) (w : World) (brick : BrickId) (ask : Ask) → brick.0 < setting.layout.bricks
+    → refusal_at setting w brick ask ≡ refusal_of setting.layout (w.nodes brick.0) ask
+refusal_here setting w brick ask within =
+    ap (λ b. cond b (refusal_of setting.layout (w.nodes brick.0) ask) (Some Refusal.Down))
+    (let e : nat_lt brick.0 setting.layout.bricks ≡ true = grind (arith, nat_tests) in e)
+
+-- there is no such brick
+pub refusal_down : (setting : Setting) (w : World) (brick : BrickId) (ask : Ask) → setting.layout.bricks ≤ brick.0
+    → refusal_at setting w brick ask ≡ Some Refusal.Down
+refusal_down setting w brick ask past =
+    ap (λ b. cond b (refusal_of setting.layout (w.nodes brick.0) ask) (Some Refusal.Down))
+    (let e : nat_lt brick.0 setting.layout.bricks ≡ false = grind (arith, nat_tests) in e)
+
+may_not : (b c : Bool) (r : Option Refusal) (reason : Refusal) → r ≡ Some reason → b && (c && not (is_some r)) ≡ false
+may_not true true r reason is = ap (λ x. not (is_some x)) is
+may_not true false r reason is = refl
+may_not false c r reason is = refl
+
+-- an operation that is refused changes nothing
+pub happens_refused : (setting : Setting) (w : World) (brick : BrickId) (ask : Ask) (reason : Refusal) → refusal_of setting.layout (w.nodes brick.0) ask ≡ Some reason
+    → happens setting w (Invokes brick ask) ≡ w
+unfolding happens
+happens_refused setting w brick ask reason is =
+    ap (λ b. cond b (world_began w brick ask (invoked setting brick 0 (w.nodes brick.0) ask)) w)
+    (may_not (is_brick setting.layout brick) (is_stripe_op ask.op) (refusal_of setting.layout (w.nodes brick.0) ask) reason is)
+
+-- nothing begins at a brick that there is not
+pub happens_down : (setting : Setting) (w : World) (brick : BrickId) (ask : Ask) → setting.layout.bricks ≤ brick.0 → happens setting w (Invokes brick ask) ≡ w
+unfolding happens
+happens_down setting w brick ask past =
+    ap (λ b. cond (b && (is_stripe_op ask.op && not (is_some (refusal_of setting.layout (w.nodes brick.0) ask)))) (world_began w brick ask (invoked setting brick 0 (w.nodes brick.0) ask)) w)
+    (let e : nat_lt brick.0 setting.layout.bricks ≡ false = grind (arith, nat_tests) in e)
+
+may : (b c : Bool) (r : Option Refusal) → b ≡ true → c ≡ true → r ≡ None → b && (c && not (is_some r)) ≡ true
+may true true r here stripe none = ap (λ x. not (is_some x)) none
+may true false r here stripe none = let never : false ≡ true = stripe in cc
+may false c r here stripe none = let never : false ≡ true = here in cc
+
+-- an operation that is not refused begins
+pub happens_begun : (setting : Setting) (w : World) (brick : BrickId) (ask : Ask) → brick.0 < setting.layout.bricks → is_stripe_op ask.op ≡ true
+    → refusal_of setting.layout (w.nodes brick.0) ask ≡ None
+    → happens setting w (Invokes brick ask) ≡ world_began w brick ask (invoked setting brick 0 (w.nodes brick.0) ask)
+unfolding happens
+happens_begun setting w brick ask within stripe none =
+    ap (λ b. cond b (world_began w brick ask (invoked setting brick 0 (w.nodes brick.0) ask)) w)
+    (may (is_brick setting.layout brick) (is_stripe_op ask.op) (refusal_of setting.layout (w.nodes brick.0) ask)
+    (let e : nat_lt brick.0 setting.layout.bricks ≡ true = grind (arith, nat_tests) in e) stripe none)
+
+began_next : (setting : Setting) (brick : BrickId) (node : Node) (ask : Ask) (found : Option Group) → refusal_in setting.layout.block node ask found ≡ None
+    → (began setting brick 0 node ask found).node.seq ≡ node.seq + 1
+began_next setting brick node ask None none = absurd (let never : Some Refusal.NoStripe ≡ None = none in cc)
+began_next setting brick node ask (Some group) none = refl
+
+-- the call of a new operation is the brick's next
+pub invoked_next : (setting : Setting) (brick : BrickId) (node : Node) (ask : Ask) → refusal_of setting.layout node ask ≡ None
+    → (invoked setting brick 0 node ask).node.seq ≡ node.seq + 1
+unfolding invoked refusal_of
+invoked_next setting brick node ask none = began_next setting brick node ask (group_of setting.layout ask.group.0) none
+
+-- a number that was not sent changes nothing
+pub happens_unsent : (setting : Setting) (w : World) (number : ℕ) → packet_of w.packets number ≡ None → happens setting w (Delivers number) ≡ w
+unfolding happens
+happens_unsent setting w number none = ap (delivered setting w) none
+
+-- a message to no brick of the layout changes nothing
+pub happens_astray : (setting : Setting) (w : World) (number : ℕ) (packet : Packet) → packet_of w.packets number ≡ Some packet → setting.layout.bricks ≤ packet.to.0
+    → happens setting w (Delivers number) ≡ w
+unfolding happens
+happens_astray setting w number packet sent past =
+    ap (delivered setting w) sent
+    ∙ ap (λ b. cond b (world_stepped w packet.to (received setting packet.to (w.nodes packet.to.0) packet) (received setting packet.to (w.nodes packet.to.0) packet).told) w)
+    (let e : nat_lt packet.to.0 setting.layout.bricks ≡ false = grind (arith, nat_tests) in e)
+
+-- a message is handled by its brick
+pub happens_handled : (setting : Setting) (w : World) (number : ℕ) (packet : Packet) → packet_of w.packets number ≡ Some packet → packet.to.0 < setting.layout.bricks
+    → (let step = received setting packet.to (w.nodes packet.to.0) packet in happens setting w (Delivers number) ≡ world_stepped w packet.to step step.told)
+unfolding happens
+happens_handled setting w number packet sent within =
+    ap (delivered setting w) sent
+    ∙ ap (λ b. cond b (world_stepped w packet.to (received setting packet.to (w.nodes packet.to.0) packet) (received setting packet.to (w.nodes packet.to.0) packet).told) w)
+    (let e : nat_lt packet.to.0 setting.layout.bricks ≡ true = grind (arith, nat_tests) in e)

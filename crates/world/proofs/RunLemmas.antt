@@ -1,0 +1,111 @@
+-- The world that a run leaves.
+use Rattle.std.proofs.Common.{◌≡◌, ℕ, ◌<◌, ◌≤◌, ◌-◌, Bool, true, false, cond, nat_lt, ◌&&◌, List, [], ◌∷◌, ◌++◌, length, take, drop, take_all, length-drop, Option, Some, None, refl, sym, ap, ◌∙◌, subst, arith}
+use Rattle.std.proofs.lemmas.Bool.Decides.{nat_tests}
+use Rattle.fab_base.specs.declared.answers.Refusal.{Refusal}
+use Rattle.fab_wire.specs.declared.requests.Version.{Version}
+use Rattle.reg_model.specs.declared.marks.Mark.{Mark}
+use Rattle.lines.specs.declared.forms.Line.{Line}
+use Rattle.lines.specs.declared.forms.Line.TheVariants.{Nothing, Invoke, Deliver}
+use Rattle.node.specs.Copies.{copying}
+use Rattle.protocol.specs.Settings.{Setting, Layout, Group, group_of}
+use Rattle.protocol.specs.Coordinators.{Coordinator}
+use Rattle.protocol.specs.Worlds.{World, Event, Operation, first_world, packet_of, run}
+use Rattle.protocol.proofs.Books.{Books}
+use Rattle.world.specs.Runs.{Run, after_line, after_lines, world_of, events_of, brick_of, ask_of, refusal_at}
+use Rattle.world.specs.States.{IsNumbered, Shows, outcome_of, refused_or_begun, handled_or_idle}
+use Rattle.world.specs.Steps.{outcome_text, with_line, is_stripe, log_at}
+use Rattle.world.specs.Texts.{text_of, marks_text, idle_text, is_deliverable, new_marks, refused_or_marks}
+use Rattle.world.specs.declared.states.Outcome.{Outcome}
+use Rattle.world.specs.declared.states.Outcome.TheVariants.{Marks, Idle}
+use Rattle.world.specs.declared.states.State.{State}
+
+-- one line more
+pub after_lines-append : (setting : Setting) (w : World) (lines : List Line) (line : Line)
+    → after_lines setting w (lines ++ line ∷ []) ≡ after_line setting (after_lines setting w lines) line
+after_lines-append setting w [] line = refl
+after_lines-append setting w (first ∷ lines) line = after_lines-append setting (after_line setting w first) lines line
+
+-- the world after a line more
+pub world_of-with_line : (r : Run) (line : Line) → world_of (with_line r line) ≡ after_line (copying r.layout) (world_of r) line
+world_of-with_line r line = after_lines-append (copying r.layout) (first_world r.layout) r.lines line
+
+-- the state that shows the world after a line shows the world of the run with that line
+pub shows_line : (layout : Layout) (state : State) (old new : List Line) (line : Line) → new ≡ old ++ line ∷ []
+    → Shows layout state (after_line (copying layout) (world_of (record { layout = layout; lines = old })) line)
+    → Shows layout state (world_of (record { layout = layout; lines = new }))
+shows_line layout state old new line grown shows =
+    subst (λ (v : World). Shows layout state v)
+    (sym (ap (λ (lines : List Line). world_of (record { layout = layout; lines = lines })) grown ∙ world_of-with_line (record { layout = layout; lines = old }) line)) shows
+
+-- the log of a part that there is
+pub log_at_part : (r : Run) (b g s : ℕ) (group : Group) (log : List Version) → group_of r.layout g ≡ Some group → s < group.stripes → b < r.layout.bricks
+    → log ≡ (((world_of r).nodes b).replicas g s).log → Some log ≡ log_at r b g s
+log_at_part r b g s group log found within here is =
+    let there : is_stripe (group_of r.layout g) s && nat_lt b r.layout.bricks ≡ true =
+        ap (λ o. is_stripe o s && nat_lt b r.layout.bricks) found ∙ both (nat_lt s group.stripes) (nat_lt b r.layout.bricks)
+        (let e : nat_lt s group.stripes ≡ true = grind (arith, nat_tests) in e) (let e : nat_lt b r.layout.bricks ≡ true = grind (arith, nat_tests) in e)
+    in
+    ap (λ l. Some l) is ∙ sym (ap (λ x. cond x (Some (((world_of r).nodes b).replicas g s).log) None) there)
+  where
+    both : (x y : Bool) → x ≡ true → y ≡ true → x && y ≡ true
+    both true y first second = second
+    both false y first second = absurd (let e : false ≡ true = first in cc)
+
+-- lines do what their events do
+pub after_lines-run : (setting : Setting) (w : World) (lines : List Line) → after_lines setting w lines ≡ run setting (events_of lines) w
+after_lines-run setting w [] = refl
+after_lines-run setting w (Nothing ∷ lines) = after_lines-run setting w lines
+after_lines-run setting w (Invoke b g s op ∷ lines) = after_lines-run setting (after_line setting w (Invoke b g s op)) lines
+after_lines-run setting w (Deliver k ∷ lines) = after_lines-run setting (after_line setting w (Deliver k)) lines
+
+-- the world that a run leaves is one that a schedule of events reaches
+pub world_of-run : (r : Run) → world_of r ≡ run (copying r.layout) (events_of r.lines) (first_world r.layout)
+world_of-run r = after_lines-run (copying r.layout) (first_world r.layout) r.lines
+
+-- what a world's books say of its open calls
+pub numbered_from_books : (setting : Setting) (w : World) → Books setting w → IsNumbered w
+numbered_from_books setting w books i k c is =
+    let call = books.calls i k c is in
+    let operation = books.operations (w.numbers i k) call.operation call.operation_is in
+    let seq : (w.nodes call.operation.brick.0).seq ≡ (w.nodes i).seq = ap (λ j. (w.nodes j).seq) call.brick in
+    (call.call_seq, omega (arith, operation.called.0, call.seq), omega (arith, operation.called.1, call.seq, seq))
+
+-- past the end there is nothing
+drop_all : {A : Type 0} (xs : List A) → drop (length xs) xs ≡ []
+drop_all [] = refl
+drop_all (x ∷ xs) = drop_all xs
+
+refused_text : (refusal : Option Refusal) (marks : List Mark) → outcome_text (refused_or_begun refusal) marks ≡ refused_or_marks refusal marks
+refused_text None marks = refl
+refused_text (Some refusal) marks = refl
+
+-- what a line comes to, with its marks, is what it prints
+pub outcome_text-text_of : (setting : Setting) (w : World) (line : Line)
+    → outcome_text (outcome_of setting w line) (new_marks w (after_line setting w line)) ≡ text_of setting w line
+outcome_text-text_of setting w Nothing = ap marks_text (drop_all w.marks)
+outcome_text-text_of setting w (Invoke b g s op) = refused_text (refusal_at setting w (brick_of b) (ask_of g s op)) _
+outcome_text-text_of setting w (Deliver k) = by_test (is_deliverable setting (packet_of w.packets k))
+  where
+    by_test : (b : Bool) → outcome_text (cond b Marks Idle) (new_marks w (after_line setting w (Deliver k)))
+        ≡ cond b (marks_text (new_marks w (after_line setting w (Deliver k)))) idle_text
+    by_test true = refl
+    by_test false = refl
+
+-- what a line came to, with the marks behind those before it, is what it prints
+pub text_is : (old new : Run) (line : Line) (outcome : Outcome) (marks : List Mark) (before : ℕ) (text : List ℕ)
+    → new ≡ with_line old line → outcome ≡ outcome_of (copying old.layout) (world_of old) line → marks ≡ (world_of new).marks
+    → before ≡ length (world_of old).marks → text ≡ outcome_text outcome (take (length marks - before) (drop before marks))
+    → text ≡ text_of (copying old.layout) (world_of old) line
+text_is old new line outcome marks before text grown came are count is =
+    let rest : take (length marks - before) (drop before marks) ≡ drop before marks =
+        take_all (length marks - before) (drop before marks) (omega (arith, length-drop before marks))
+    in
+    let after : marks ≡ (after_line (copying old.layout) (world_of old) line).marks =
+        are ∙ ap (λ (r : Run). (world_of r).marks) grown ∙ ap (λ (w : World). w.marks) (world_of-with_line old line)
+    in
+    let made : drop before marks ≡ new_marks (world_of old) (after_line (copying old.layout) (world_of old) line) =
+        ap (λ n. drop n marks) count ∙ ap (λ (xs : List Mark). drop (length (world_of old).marks) xs) after
+    in
+    is ∙ ap (λ (xs : List Mark). outcome_text outcome xs) (rest ∙ made)
+    ∙ ap (λ (x : Outcome). outcome_text x (new_marks (world_of old) (after_line (copying old.layout) (world_of old) line))) came
+    ∙ outcome_text-text_of (copying old.layout) (world_of old) line

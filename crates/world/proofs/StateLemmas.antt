@@ -1,0 +1,110 @@
+-- What a state shows, line by line.
+use Rattle.std.proofs.Common.{◌≡◌, ℕ, ◌<◌, ◌≤◌, true, false, cond, nat_lt, Option, Some, None, refl, sym, ap, ◌∙◌, subst, arith}
+use Rattle.std.specs.Prelude.{Result, Ok, Err, IfNone, OnErr, slice_get}
+use Rattle.std.proofs.lemmas.Bool.Decides.{nat_tests}
+use Rattle.fab_base.specs.declared.asks.Ask.{Ask}
+use Rattle.fab_base.specs.declared.asks.Op.{Op}
+use Rattle.fab_base.specs.declared.answers.Refusal.{Refusal}
+use Rattle.fab_base.specs.declared.identities.BrickId.{BrickId}
+use Rattle.fab_wire.specs.declared.messages.Packet.{Packet}
+use Rattle.node.specs.Copies.{copying}
+use Rattle.node.specs.States.{state_of}
+use Rattle.node.specs.declared.nodes.Node as nodes
+use Rattle.protocol.specs.Settings.{Layout}
+use Rattle.protocol.specs.Nodes.{Node, NodeStep, put, is_stripe_op, refusal_of, invoked, received}
+use Rattle.protocol.specs.declared.tellings.Told.{Told}
+use Rattle.protocol.specs.declared.tellings.Told.TheVariants.{Nothing, Made, Answers}
+use Rattle.protocol.specs.Worlds.{World, Invokes, Delivers, packet_of, world_began, world_stepped, happens}
+use Rattle.world.specs.Runs.{ask_of}
+use Rattle.world.specs.States.{Shows, ShowsNodes, Tells, handled_or_idle}
+use Rattle.world.specs.declared.states.Outcome.{Outcome}
+use Rattle.world.specs.declared.states.Outcome.TheVariants.{Marks, Idle}
+use Rattle.world.specs.declared.states.State.{State}
+use Rattle.world.proofs.MachineBegins.{happens_refused, happens_down, happens_begun, happens_unsent, happens_astray, happens_handled}
+
+-- what holds anyway holds where there is an error
+pub on_err_always : {T E P : Type 0} (r : Result T E) → P → OnErr r P
+on_err_always (Ok x) p = tt
+on_err_always (Err e) p = p
+
+-- what holds anyway holds where there is no value
+pub if_none_always : {T P : Type 0} (o : Option T) → P → IfNone o P
+if_none_always None p = p
+if_none_always (Some x) p = tt
+
+-- an operation on the stripe of these numbers
+pub ask_is : (ask : Ask) (g s : ℕ) (op : Op) → ask.group.0 ≡ g → ask.stripe.0 ≡ s → ask.op ≡ op → ask ≡ ask_of g s op
+ask_is ask g s op group stripe same =
+    ap (λ x. ask_of x ask.stripe.0 ask.op) group ∙ ap (λ x. ask_of g x ask.op) stripe ∙ ap (λ x. ask_of g s x) same
+
+-- a brick's log is the machine's
+pub log_shown : (layout : Layout) (state : State) (w : World) (b g s : ℕ) (node : nodes.Node) → Shows layout state w → slice_get state.nodes.items b ≡ Some node
+    → ((state_of layout.block node).replicas g s).log ≡ ((w.nodes b).replicas g s).log
+log_shown layout state w b g s node shows at = ap (λ (x : Node). (x.replicas g s).log) (shows.nodes.each b node at).1
+
+-- an operation that began
+pub shows_begun : (layout : Layout) (state : State) (w : World) (brick : BrickId) (ask : Ask) → brick.0 < layout.bricks → is_stripe_op ask.op ≡ true
+    → refusal_of layout (w.nodes brick.0) ask ≡ None
+    → ShowsNodes layout state.nodes.items (put w.nodes brick.0 (invoked (copying layout) brick 0 (w.nodes brick.0) ask).node)
+    → Tells state.history (world_began w brick ask (invoked (copying layout) brick 0 (w.nodes brick.0) ask))
+    → Shows layout state (happens (copying layout) w (Invokes brick ask))
+shows_begun layout state w brick ask within stripe none nodes history =
+    subst (λ (v : World). Shows layout state v) (sym (happens_begun (copying layout) w brick ask within stripe none)) (record { nodes = nodes; history = history })
+
+-- an operation that was refused
+pub shows_refused : (layout : Layout) (state : State) (w : World) (brick : BrickId) (ask : Ask) (reason : Refusal)
+    → refusal_of layout (w.nodes brick.0) ask ≡ Some reason → Shows layout state w → Shows layout state (happens (copying layout) w (Invokes brick ask))
+shows_refused layout state w brick ask reason is shows =
+    subst (λ (v : World). Shows layout state v) (sym (happens_refused (copying layout) w brick ask reason is)) shows
+
+-- an operation of a brick that there is not
+pub shows_down : (layout : Layout) (state : State) (w : World) (brick : BrickId) (ask : Ask) → layout.bricks ≤ brick.0
+    → Shows layout state w → Shows layout state (happens (copying layout) w (Invokes brick ask))
+shows_down layout state w brick ask past shows =
+    subst (λ (v : World). Shows layout state v) (sym (happens_down (copying layout) w brick ask past)) shows
+
+-- a number that was not sent
+pub shows_unsent : (layout : Layout) (state : State) (w : World) (number : ℕ) → packet_of w.packets number ≡ None
+    → Shows layout state w → Shows layout state (happens (copying layout) w (Delivers number))
+shows_unsent layout state w number none shows =
+    subst (λ (v : World). Shows layout state v) (sym (happens_unsent (copying layout) w number none)) shows
+
+-- a message to a brick that there is not
+pub shows_astray : (layout : Layout) (state : State) (w : World) (number : ℕ) (packet : Packet) → packet_of w.packets number ≡ Some packet
+    → layout.bricks ≤ packet.to.0 → Shows layout state w → Shows layout state (happens (copying layout) w (Delivers number))
+shows_astray layout state w number packet sent past shows =
+    subst (λ (v : World). Shows layout state v) (sym (happens_astray (copying layout) w number packet sent past)) shows
+
+-- a step changes its brick alone, whatever is told
+nodes_stepped : (w : World) (brick : BrickId) (step : NodeStep) (told : Told) → (world_stepped w brick step told).nodes ≡ put w.nodes brick.0 step.node
+nodes_stepped w brick step Nothing = refl
+nodes_stepped w brick step (Made seq stamp) = refl
+nodes_stepped w brick step (Answers seq answer seen) = refl
+
+-- a message that was handled
+pub shows_handled : (layout : Layout) (state : State) (w : World) (number : ℕ) (packet : Packet) → packet_of w.packets number ≡ Some packet
+    → packet.to.0 < layout.bricks
+    → ShowsNodes layout state.nodes.items (put w.nodes packet.to.0 (received (copying layout) packet.to (w.nodes packet.to.0) packet).node)
+    → (let step = received (copying layout) packet.to (w.nodes packet.to.0) packet in Tells state.history (world_stepped w packet.to step step.told))
+    → Shows layout state (happens (copying layout) w (Delivers number))
+shows_handled layout state w number packet sent within nodes history =
+    let step : NodeStep = received (copying layout) packet.to (w.nodes packet.to.0) packet in
+    subst (λ (v : World). Shows layout state v) (sym (happens_handled (copying layout) w number packet sent within))
+    (record {
+      nodes = subst (λ (f : ℕ → Node). ShowsNodes layout state.nodes.items f) (sym (nodes_stepped w packet.to step step.told)) nodes;
+      history = history;
+    })
+
+-- a message to a brick that there is not comes to nothing
+pub handled_astray : (layout : Layout) (packet : Packet) (found : Option Packet) → found ≡ Some packet → layout.bricks ≤ packet.to.0
+    → Idle ≡ handled_or_idle (copying layout) found
+handled_astray layout packet found is past =
+    let e : nat_lt packet.to.0 layout.bricks ≡ false = grind (arith, nat_tests) in
+    sym (ap (handled_or_idle (copying layout)) is ∙ ap (λ b. cond b Marks Idle) e)
+
+-- a message to a brick is handled
+pub handled_here : (layout : Layout) (packet : Packet) (found : Option Packet) → found ≡ Some packet → packet.to.0 < layout.bricks
+    → Marks ≡ handled_or_idle (copying layout) found
+handled_here layout packet found is within =
+    let e : nat_lt packet.to.0 layout.bricks ≡ true = grind (arith, nat_tests) in
+    sym (ap (handled_or_idle (copying layout)) is ∙ ap (λ b. cond b Marks Idle) e)

@@ -1,0 +1,17 @@
+-- What is put is what the machine notes.
+use Rattle.std.proofs.Common.{◌+◌, [], ◌∷◌, ◌++◌, length, false, None, refl, ap, ◌∙◌}
+use Rattle.reg_model.specs.declared.marks.Mark.TheVariants.{Begin}
+use Rattle.world.proofs.HistoryLemmas.{tells_began}
+use Rattle.world.proofs.histories.History.begin.Goals as goal
+
+pub returns-clause-begun : goal.returns-clause-begun
+returns-clause-begun c w step tells sent next number =
+    let place = c.len-position.ensures ∙ c.args.self.now.marks.ok.0 in
+    let count = c.len.ensures ∙ c.args.self.now.operations.ok.0 in
+    tells_began c.args.self.now _ w c.args.brick c.args.ask step tells
+    (c.put_all.ensures ∙ ap (λ xs. c.args.self.now.sent.items ++ xs) sent)
+    (c.put-2.ensures ∙ ap (λ p. c.args.self.now.marks.items ++ Begin p (c.len.result + 1) c.args.brick c.args.ask ∷ []) place
+    ∙ ap (λ n. c.args.self.now.marks.items ++ Begin (length c.args.self.now.marks.items) (n + 1) c.args.brick c.args.ask ∷ []) count)
+    (c.put.ensures
+    ∙ ap (λ p. c.args.self.now.operations.items ++ record { begin = p; group = c.args.ask.group; stripe = c.args.ask.stripe; version = None; made = false; answered = false } ∷ []) place)
+    refl next number

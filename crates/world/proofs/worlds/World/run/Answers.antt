@@ -1,0 +1,38 @@
+-- The state shows the world that the run leaves, with or without the line.
+use Rattle.std.proofs.Common.{◌≡◌, List, [], ◌∷◌, ◌++◌, length, arith, sym, ap, ◌∙◌, subst}
+use Rattle.lines.specs.declared.forms.Line.{Line}
+use Rattle.world.specs.Runs.{Run, world_of}
+use Rattle.world.specs.Standing.{run_of}
+use Rattle.world.specs.States.{Shows}
+use Rattle.world.proofs.RunLaws.{numbered}
+use Rattle.world.proofs.RunLemmas.{shows_line}
+use Rattle.world.proofs.worlds.World.run.Goals as goal
+
+pub invariant_of-self-in_err-outcome : goal.invariant_of-self-in_err-outcome
+invariant_of-self-in_err-outcome c = record {
+  shows = subst (λ (lines : List Line). Shows c.self.inside.layout c.run.new.self (world_of (record { layout = c.self.inside.layout; lines = lines })))
+      (sym c.reserve.ensures.items) (c.in_err-outcome.ensures.err (world_of (run_of c.self.inside)) c.self.invariant.shows);
+  copies = c.self.invariant.copies;
+  few = c.self.invariant.few;
+  sound = c.self.invariant.sound;
+  fresh = c.self.invariant.fresh;
+}
+
+pub invariant_of-self-2 : goal.invariant_of-self-2
+invariant_of-self-2 c = record {
+  shows = (shows_line c.self.inside.layout c.run.new.self c.self.inside.lines.items c.put.new.things.items c.args.line
+    (c.put.ensures ∙ ap (λ (lines : List Line). lines ++ c.args.line ∷ []) c.reserve.ensures.items)
+    (c.in_ok-outcome.ensures.shows (world_of (run_of c.self.inside)) (numbered (run_of c.self.inside)) c.self.invariant.shows));
+  copies = c.self.invariant.copies;
+  few = c.self.invariant.few;
+  sound = c.self.invariant.sound;
+  fresh = c.self.invariant.fresh;
+}
+
+pub returns-clause-marks : goal.returns-clause-marks
+returns-clause-marks c =
+    let after = (shows_line c.self.inside.layout c.run.new.self c.self.inside.lines.items c.put.new.things.items c.args.line
+    (c.put.ensures ∙ ap (λ (lines : List Line). lines ++ c.args.line ∷ []) c.reserve.ensures.items)
+    (c.in_ok-outcome.ensures.shows (world_of (run_of c.self.inside)) (numbered (run_of c.self.inside)) c.self.invariant.shows)) in
+    let before = ap (λ (r : Run). length (world_of r).marks) (sym c.self.view_is) ∙ ap length (sym c.self.invariant.shows.history.marks) in
+    omega (arith, before, ap length after.history.marks, c.self.inside.state.history.marks.ok.0, c.run.new.self.history.marks.ok.0, c.run.ensures.marks)

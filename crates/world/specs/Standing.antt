@@ -1,0 +1,20 @@
+-- What a world always keeps.
+use Rattle.std.specs.Prelude.{◌≡◌, ◌≤◌, ◌^◌, length}
+use Rattle.node.specs.Copies.{copying, KeepsCopies}
+use Rattle.protocol.specs.Settings.{IsSound}
+use Rattle.protocol.specs.Replicas.{first_replica}
+use Rattle.world.specs.Runs.{Run, world_of}
+use Rattle.world.specs.States.{Shows}
+use Rattle.world.specs.declared.worlds.World.TheInside.{Inside}
+
+-- the run of a world's lines over its layout
+abbrev pub run_of : Inside → Run
+run_of inside = record { layout = inside.layout; lines = inside.lines.items }
+
+-- its state shows the world that its run leaves, and its layout is one that its bricks can keep
+pub record IsStanding (inside : Inside) : Type 0 where
+  pub shows : Shows inside.layout inside.state (world_of (run_of inside))
+  pub copies : KeepsCopies inside.layout
+  pub few : length inside.layout.groups ≤ 2 ^ 32
+  pub sound : IsSound (copying inside.layout)
+  pub fresh : inside.fresh ≡ first_replica inside.layout.block

@@ -1,0 +1,43 @@
+-- What a step of a run comes to.
+use Rattle.std.specs.Prelude.{◌≡◌, ℕ, ◌⊎◌, nat_lt, ◌&&◌, if◌then◌else◌, Bool, false, List, [], ◌∷◌, ◌++◌, Option, Some, None}
+use Rattle.fab_wire.specs.declared.requests.Version.{Version}
+use Rattle.reg_model.specs.declared.marks.Mark.{Mark}
+use Rattle.lines.specs.Grammar.{line_of}
+use Rattle.lines.specs.declared.forms.Line.{Line}
+use Rattle.node.specs.Copies.{copying}
+use Rattle.protocol.specs.Settings.{Group, group_of}
+use Rattle.world.specs.Runs.{Run, world_of}
+use Rattle.world.specs.Texts.{text_of, marks_text, refusal_text, idle_text}
+use Rattle.world.specs.declared.states.Outcome.{Outcome}
+use Rattle.world.specs.declared.states.Outcome.TheVariants.{Marks, Refused, Idle}
+
+-- the text of what a line came to, with the marks that it made
+abbrev pub outcome_text : Outcome → List Mark → List ℕ
+outcome_text Marks marks = marks_text marks
+outcome_text (Refused refusal) marks = refusal_text refusal
+outcome_text Idle marks = idle_text
+
+-- a run with one line more
+abbrev pub with_line : Run → Line → Run
+with_line r line = record { layout = r.layout; lines = r.lines ++ line ∷ [] }
+
+-- the line that the content says was run, and the text is what it prints
+pub record Ran (old new : Run) (content text : List ℕ) : Type 0 where
+  pub line : Line
+  pub is_line : line_of content ≡ Some line
+  pub new_is : new ≡ with_line old line
+  pub text_is : text ≡ text_of (copying old.layout) (world_of old) line
+
+-- nothing was run, or the line that the content says was
+abbrev pub Stands : Run → Run → List ℕ → Type 0
+Stands old new content = (new ≡ old) ⊎ ((line : Line) × (line_of content ≡ Some line) × (new ≡ with_line old line))
+
+-- a stripe of the group
+abbrev pub is_stripe : Option Group → ℕ → Bool
+is_stripe None s = false
+is_stripe (Some group) s = nat_lt s group.stripes
+
+-- the log of a brick's part of a stripe, where there is such a brick and such a stripe
+abbrev pub log_at : Run → ℕ → ℕ → ℕ → Option (List Version)
+log_at r b g s =
+    if is_stripe (group_of r.layout g) s && nat_lt b r.layout.bricks then Some (((world_of r).nodes b).replicas g s).log else None

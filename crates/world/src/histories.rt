@@ -1,0 +1,264 @@
+//! What a world keeps beside its bricks: every message, every mark, and what is known of each operation.
+
+ghost use Rattle.std.specs.Prelude.{◌≡◌};
+ghost use Rattle.std.specs.Option.{option_copied};
+ghost use Rattle.protocol.specs.Worlds.{packet_of, is_answer};
+ghost use Rattle.world.specs.States.{ChangesAt, made_known, ended_known};
+
+use crate::rooms::{put, put_all};
+use fab_base::{Answer, Ask, BrickId, GroupId, NoMem, Stamp, StripeNo};
+use fab_wire::Packet;
+use node::Outs;
+use protocol::Told;
+use reg_model::Mark;
+use std::alloc::Global;
+use std::collections::BTreeMap;
+
+/// The most packets that a step of a brick sends: one to each member of a group.
+const MOST_PACKETS: usize = 32;
+
+/// What is kept of an operation.
+#[derive(Clone, Copy, Debug)]
+pub struct Known {
+    /// The position of its Begin.
+    pub begin: u64,
+    /// The group that is asked.
+    pub group: GroupId,
+    /// The stripe that is asked.
+    pub stripe: StripeNo,
+    /// The version that it made, or read at once.
+    pub version: Option<Stamp>,
+    /// Whether it made its version.
+    pub made: bool,
+    /// Whether it was answered, and not aborted.
+    pub answered: bool,
+}
+
+/// What happened. Operations are by number, from 1, and the number of an operation by its brick and call.
+#[derive(Drop)]
+pub struct History {
+    pub sent: Vec<Packet>,
+    pub marks: Vec<Mark>,
+    pub operations: Vec<Known>,
+    pub numbers: BTreeMap<(u16, u64), u64>,
+}
+
+/// The packet of a number, counted from 1.
+pub fn packet_at(sent: &[Packet], number: u64) -> Option<&Packet>
+    ensures { option_copied result ≡ packet_of sent.now number }
+{
+    if number == 0 {
+        return None;
+    }
+    sent.get((number - 1) as usize)
+}
+
+/// Whether an answer is none of an abort.
+fn is_answer(answer: &Answer) -> bool
+    ensures { result ≡ is_answer answer.now }
+{
+    match answer {
+        Answer::Data(_) | Answer::Done => true,
+        Answer::Aborted(_) => false,
+    }
+}
+
+/// The operation of a number made a version.
+fn note_made(operations: &mut [Known], number: u64, stamp: Stamp)
+    ensures { ChangesAt operations.old operations.new number (made_known stamp) }
+{
+    if number == 0 {
+        return;
+    }
+    let place = (number - 1) as usize;
+    if place >= operations.len() {
+        return;
+    }
+    let known = &mut operations[place];
+    known.version = Some(stamp);
+    known.made = true;
+}
+
+/// The operation of a number ended: answered, or aborted; a read may have seen a version.
+fn note_answer(operations: &mut [Known], number: u64, answered: bool, seen: Option<Stamp>)
+    ensures { ChangesAt operations.old operations.new number (ended_known answered seen) }
+{
+    if number == 0 {
+        return;
+    }
+    let place = (number - 1) as usize;
+    if place >= operations.len() {
+        return;
+    }
+    let known = &mut operations[place];
+    known.version = seen.or(known.version);
+    known.answered = answered;
+}
+
+impl History {
+    ghost use Rattle.std.specs.Prelude.{◌≡◌, ℕ, ◌+◌, ◌<◌, ◌≤◌, [], ◌∷◌, ◌++◌, Some, length, unwrap_or, OnOk, vec_len, vec_capacity};
+    ghost use Rattle.std.specs.BTreeMap.{get};
+    ghost use Rattle.std.specs.Option.{ForSome};
+    ghost use Rattle.protocol.specs.Settings.{Layout};
+    ghost use Rattle.protocol.specs.Nodes.{NodeStep};
+    ghost use Rattle.protocol.specs.Nodes.{put as changed};
+    ghost use Rattle.protocol.specs.Worlds.{World, first_world, world_began, world_stepped, with_made, with_answer};
+    ghost use Rattle.reg_model.specs.declared.marks.Mark.TheVariants.{End};
+    ghost use Rattle.world.specs.States.{Tells, HasRoom, call_cmp, IsOfCall};
+
+    /// Nothing yet.
+    pub fn new(alloc: Global) -> History
+        ensures { (layout : Layout) → Tells result (first_world layout) }
+    {
+        History {
+            sent: Vec::new(alloc),
+            marks: Vec::new(alloc),
+            operations: Vec::new(alloc),
+            numbers: BTreeMap::new(alloc),
+        }
+    }
+
+    /// Makes room for what one step of a brick adds.
+    pub fn make_room(&mut self) -> Result<(), NoMem>
+        ensures room { OnOk result (HasRoom self.new) }
+        ensures same { (w : World) → Tells self.old w → Tells self.new w }
+        ensures marks { vec_len self.new.marks ≡ vec_len self.old.marks }
+    {
+        self.sent.reserve(MOST_PACKETS)?;
+        self.marks.reserve(1)?;
+        self.operations.reserve(1)?;
+        Ok(())
+    }
+
+    /// Gives the number of the next operation to a call, which is none so far.
+    pub fn number_call(&mut self, brick: BrickId, seq: u64) -> Result<(), NoMem>
+        requires { HasRoom self.old }
+        ensures room { HasRoom self.new }
+        ensures number { OnOk result ((w : World) → Tells self.old w → get call_cmp self.new.numbers (brick.0, seq) ≡ Some (w.begun + 1)) }
+        ensures same { (w : World) → (w.nodes brick.0).seq < seq → Tells self.old w → Tells self.new w }
+        ensures marks { vec_len self.new.marks ≡ vec_len self.old.marks }
+    {
+        let operation = self.operations.len() as u64 + 1;
+        self.numbers.insert((brick.0, seq), operation)?;
+        Ok(())
+    }
+
+    /// Makes room for what one step of a brick adds, and gives the number of the next operation to the brick's next call, if one is left.
+    pub fn expect_call(&mut self, brick: BrickId, next: Option<u64>) -> Result<(), NoMem>
+        ensures room { OnOk result (HasRoom self.new) }
+        ensures number { OnOk result (ForSome next (λ seq. (w : World) → Tells self.old w → get call_cmp self.new.numbers (brick.0, seq) ≡ Some (w.begun + 1))) }
+        ensures same { (w : World) → ForSome next (λ seq. (w.nodes brick.0).seq < seq) → Tells self.old w → Tells self.new w }
+        ensures marks { vec_len self.new.marks ≡ vec_len self.old.marks }
+    {
+        self.make_room()?;
+        match next {
+            Some(seq) => self.number_call(brick, seq),
+            None => Ok(()),
+        }
+    }
+
+    /// The number of the operation of a brick's call; 0 where there is none.
+    fn number(&self, brick: BrickId, seq: u64) -> u64
+        ensures { result ≡ unwrap_or (get call_cmp self.now.numbers (brick.0, seq)) 0 }
+    {
+        match self.numbers.get(&(brick.0, seq)) {
+            Some(number) => *number,
+            None => 0,
+        }
+    }
+
+    /// Notes what is sent.
+    fn send(&mut self, packets: Vec<Packet>)
+        requires room { HasRoom self.old }
+        requires few { vec_len packets ≤ 32 }
+        ensures sent { (w : World) → Tells self.old w → Tells self.new (record w { packets = w.packets ++ packets.items }) }
+        ensures marks { self.new.marks ≡ self.old.marks }
+        ensures operations { self.new.operations ≡ self.old.operations }
+        ensures numbers { self.new.numbers ≡ self.old.numbers }
+    {
+        put_all(&mut self.sent, packets);
+    }
+
+    /// Notes an operation that begins, and what it sends.
+    pub fn begin(&mut self, brick: BrickId, ask: Ask, packets: Vec<Packet>)
+        requires room { HasRoom self.old }
+        requires few { vec_len packets ≤ 32 }
+        ensures begun { (w : World) (step : NodeStep) → Tells self.old w → packets.items ≡ step.packets → step.node.seq ≡ (w.nodes brick.0).seq + 1
+            → get call_cmp self.old.numbers (brick.0, step.node.seq) ≡ Some (w.begun + 1) → Tells self.new (world_began w brick ask step) }
+        ensures marks { vec_len self.old.marks ≤ vec_len self.new.marks }
+    {
+        let position = self.marks.len() as u64;
+        let operation = self.operations.len() as u64 + 1;
+        put_all(&mut self.sent, packets);
+        put(
+            &mut self.operations,
+            Known {
+                begin: position,
+                group: ask.group,
+                stripe: ask.stripe,
+                version: None,
+                made: false,
+                answered: false,
+            },
+        );
+        put(
+            &mut self.marks,
+            Mark::Begin {
+                position,
+                operation,
+                brick,
+                ask,
+            },
+        );
+    }
+
+    /// The operation of a brick's call made a version.
+    fn made(&mut self, brick: BrickId, seq: u64, stamp: Stamp)
+        ensures made { (w : World) → Tells self.old w → 1 ≤ seq → seq ≤ (w.nodes brick.0).seq
+            → (let n = w.numbers brick.0 seq in Tells self.new (record w { operations = changed w.operations n (with_made stamp (w.operations n)) })) }
+        ensures marks { self.new.marks ≡ self.old.marks }
+    {
+        let number = self.number(brick, seq);
+        note_made(&mut self.operations, number, stamp);
+    }
+
+    /// The operation of a brick's call ended.
+    fn end(&mut self, brick: BrickId, seq: u64, answer: Answer, seen: Option<Stamp>)
+        requires { vec_len self.old.marks < vec_capacity self.old.marks }
+        ensures ended { (w : World) → Tells self.old w → 1 ≤ seq → seq ≤ (w.nodes brick.0).seq
+            → (let n = w.numbers brick.0 seq in Tells self.new (record w {
+              marks = w.marks ++ End (length w.marks) n answer ∷ [];
+              operations = changed w.operations n (with_answer answer seen (w.operations n));
+            })) }
+        ensures marks { vec_len self.old.marks ≤ vec_len self.new.marks }
+    {
+        let operation = self.number(brick, seq);
+        note_answer(&mut self.operations, operation, is_answer(&answer), seen);
+        let position = self.marks.len() as u64;
+        put(
+            &mut self.marks,
+            Mark::End {
+                position,
+                operation,
+                answer,
+            },
+        );
+    }
+
+    /// Notes what a step sent and told.
+    pub fn step(&mut self, brick: BrickId, outs: Outs)
+        requires room { HasRoom self.old }
+        requires few { vec_len outs.packets ≤ 32 }
+        ensures stepped { (w : World) (step : NodeStep) → Tells self.old w → outs.packets.items ≡ step.packets → outs.told ≡ step.told
+            → step.node.seq ≡ (w.nodes brick.0).seq → IsOfCall (w.nodes brick.0) step.told → Tells self.new (world_stepped w brick step step.told) }
+        ensures marks { vec_len self.old.marks ≤ vec_len self.new.marks }
+    {
+        let Outs { packets, told } = outs;
+        self.send(packets);
+        match told {
+            Told::Nothing => {}
+            Told::Made { seq, stamp } => self.made(brick, seq, stamp),
+            Told::Answers { seq, answer, seen } => self.end(brick, seq, answer, seen),
+        }
+    }
+}
