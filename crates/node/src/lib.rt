@@ -8,6 +8,7 @@ pub mod replicas;
 
 pub use coordinators::StripeOp;
 pub use nodes::{Begun, Node, NodeFault, Outs};
+pub use replicas::Replica;
 
 #[cfg(test)]
 mod tests;
