@@ -225,9 +225,9 @@ impl Node {
     /// The log of the brick's part of a stripe, oldest version first. None where the stripe was never asked for here: its log
     /// is then that of a fresh stripe.
     pub fn log(&self, group: GroupId, stripe: StripeNo) -> Option<&[Version]>
-        ensures { (block : ℕ) → MatchOption result
-            ((state_of block self.now).replicas group.0 stripe.0 ≡ first_replica block)
-            (λ log. ((state_of block self.now).replicas group.0 stripe.0).log ≡ log.now) }
+        ensures { MatchOption result
+            ((block : ℕ) → (state_of block self.now).replicas group.0 stripe.0 ≡ first_replica block)
+            (λ log. (block : ℕ) → log.now ≡ ((state_of block self.now).replicas group.0 stripe.0).log) }
     {
         let replica = self.replicas.get(&(group.0, stripe.0))?;
         Some(replica.log())

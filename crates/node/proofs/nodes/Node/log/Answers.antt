@@ -8,9 +8,9 @@ use Rattle.node.proofs.nodes.Node.log.Goals as goal
 pub returns-in_err-replica : goal.returns-in_err-replica
 unfolding state_of
 returns-in_err-replica c =
-    λ block. rw c.from_residual.ensures (ap (λ o. unwrap_or o (first_replica block)) (sym c.in_err-replica.ensures.value))
+    rw c.from_residual.ensures (λ block. ap (λ o. unwrap_or o (first_replica block)) (sym c.in_err-replica.ensures.value))
 
 pub returns : goal.returns
 unfolding state_of
 returns c =
-    λ block. ap (λ o. (unwrap_or o (first_replica block)).log) (sym c.in_ok-replica.ensures.value) ∙ sym c.log.ensures
+    λ block. c.log.ensures ∙ ap (λ o. (unwrap_or o (first_replica block)).log) c.in_ok-replica.ensures.value
