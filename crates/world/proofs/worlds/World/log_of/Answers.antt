@@ -24,7 +24,7 @@ returns-in-Some c =
     in
     subst (λ (r : Run). Some c.in-Some.log.now ≡ log_at r c.args.brick.0 c.args.group.0 c.args.stripe.0) c.self.view_is
     (log_at_part (run_of c.self.inside) c.args.brick.0 c.args.group.0 c.args.stripe.0 c.in_ok-group.field-0.now c.in-Some.log.now (sym c.in_ok-group.ensures)
-    (omega arith) here (sym (c.in-Some.ensures c.self.inside.layout.block) ∙ shown))
+    (omega arith) here (c.in-Some.ensures c.self.inside.layout.block ∙ shown))
 
 pub returns-in-None : goal.returns-in-None
 returns-in-None c =
