@@ -2,8 +2,10 @@
 //! effect.
 #![tactic(auto)]
 
+mod endings;
 mod programs;
 mod schedules;
 mod texts;
+mod turns;
 
 pub use programs::replay;

@@ -1,6 +1,12 @@
 //! The program's top call.
 
-use crate::schedules::{Ending, run, write_usage};
+ghost use Rattle.std.specs.Prelude.{◌≡◌, ◌≢◌, false, true, map, string_bytes};
+ghost use Rattle.fab_io.specs.Ends.{Kept, WriteTakes};
+ghost use Rattle.replay.specs.Replays.{asks_run, usage_text, Refuses, Runs, IsDecided};
+
+use crate::endings::{Halt, status_of};
+use crate::schedules::run;
+use crate::turns::write;
 use fab_io::{Sink, Source};
 use std::alloc::Global;
 
@@ -14,40 +20,57 @@ use std::alloc::Global;
 /// | 4 | a line of the schedule is no line; the earlier ones were run and printed | `bad line N` |
 /// | 5 | the source failed | nothing more |
 /// | 6 | the sink failed | nothing more; what was taken is a prefix of the output |
-/// | 7 | no memory was left | nothing more |
+/// | 7 | no memory was left | nothing more; what was taken is a prefix of the output |
 /// | 8 | there are more than 1,048,576 lines; the first 1,048,576 were run and printed | `too many lines` |
+///
+/// For every schedule that `replay` accepts, the happenings printed for each stripe make its blocks plain registers: each answered
+/// operation happens once between its invocation and its answer, each aborted or interrupted one between its invocation and its abort or
+/// crash, or never, and each read answers what the registers then hold.
+///
+/// This is strict linearizability (Aguilera and Frølund, "Strict Linearizability and the Power of Aborting", 2003). It rests on these
+/// definitions: what is printed for an input is `output_of` (`specs/Outputs.antt`), and `IsLinearizable` (`specs/Replays.antt`) says
+/// that the happenings printed for each stripe are strict for its marks, `IsStrict` (`specs/Strict.antt` of `reg_model`). The schedules
+/// that are accepted are those that end with status 0.
 pub fn replay<S: Source, K: Sink>(
     alloc: Global,
     words: &[String],
     source: &mut S,
     sink: &mut K,
-) -> u8 {
-    if !is_run(words) {
-        return match write_usage(sink) {
-            Ok(()) => 2,
-            Err(early) => status_of(early),
-        };
+) -> u8
+    // Words that are not the one word `run`: nothing is read.
+    ensures words { asks_run (map string_bytes words.now) ≡ false
+        → Refuses (K.told sink.old) (K.told sink.new) result × (source.new ≡ source.old) }
+
+    // The one word `run`.
+    ensures run { asks_run (map string_bytes words.now) ≡ true
+        → Runs (S.told source.old) (S.told source.new) (K.told sink.old) (K.told sink.new) result }
+
+    // A failure comes only where that end's count of faults rose, and never from a sound end.
+    ensures source { Kept (S.faults source.old) (S.faults source.new) (S.sound source.old) (S.sound source.new) (result ≡ 5) }
+    ensures sink { Kept (K.faults sink.old) (K.faults sink.new) (K.sound sink.old) (K.sound sink.new) (result ≡ 6) }
+
+    // Over sound ends a run answers what the input alone calls for, as 0 for a legal one, or that memory was lacking.
+    ensures decided { asks_run (map string_bytes words.now) ≡ true → S.sound source.old → K.sound sink.old
+        → IsDecided (S.told source.old) result }
+{
+    if is_run(words) {
+        return status_of(run(alloc, source, sink));
     }
-    status_of(run(alloc, source, sink))
+    match write(
+        sink,
+        b"usage: replay run | replay make SEED LINES\n".as_slice(),
+    ) {
+        Ok(()) => 2,
+        Err(halt) => status_of(Err(halt)),
+    }
 }
 
 /// Whether the words are the one word `run`.
-fn is_run(words: &[String]) -> bool {
+fn is_run(words: &[String]) -> bool
+    ensures { result ≡ asks_run (map string_bytes words.now) }
+{
     match words {
         [word] => word.as_str() == "run",
         _ => false,
-    }
-}
-
-/// The exit status of an end.
-fn status_of(ending: Ending) -> u8 {
-    match ending {
-        Ending::Whole => 0,
-        Ending::LayoutForm | Ending::LayoutEnd => 3,
-        Ending::BadLine(_) => 4,
-        Ending::SourceFailed => 5,
-        Ending::SinkFailed => 6,
-        Ending::NoMemory => 7,
-        Ending::TooManyLines => 8,
     }
 }

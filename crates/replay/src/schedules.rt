@@ -1,169 +1,119 @@
 //! A run: the layout, then the lines of the schedule, one after another, and what closes the output.
 
-use crate::texts::{Counts, all_happened_text, count_text};
-use fab_base::NoMem;
-use fab_io::{IoFault, Sink, Source};
+ghost use Rattle.std.specs.Prelude.{◌≡◌, ◌≢◌, [], None, IfOk, IfSome, MatchOption};
+ghost use Rattle.std.specs.Io.KnownBytes.{IsAtEnd, prepend_known};
+ghost use Rattle.fab_io.specs.Ends.{Kept};
+ghost use Rattle.lines.specs.Lines.{parts};
+ghost use Rattle.lines.specs.Reading.{ReadsSchedule};
+ghost use Rattle.replay.specs.Turns.{PrintsRest, PrintsHeaded, PrintsInput};
+
+use crate::endings::{Halt, Verdict};
+use crate::turns::{MOST_LINES, close, next, take_last_turn, take_turn};
+use fab_io::{Sink, Source};
 use layout::{Layout, LayoutFault};
-use lines::{LINE_LIMIT, Piece, Unread, content_of, is_layout_end};
-use std::alloc::{AllocError, Global};
-use world::{StepFault, World};
+use lines::{Piece, Unread, is_layout_end};
+use std::alloc::Global;
+use world::World;
 
-/// The most lines of a schedule.
-pub const MOST_LINES: u64 = 1_048_576;
-
-/// How a run ends.
-#[derive(Clone, Copy, Debug, PartialEq, Eq)]
-pub enum Ending {
-    /// All lines were run, and the whole output was written.
-    Whole,
-    /// The text before the line `---` is no layout.
-    LayoutForm,
-    /// There is no line `---`.
-    LayoutEnd,
-    /// This line of the schedule, counted from 1, is no line.
-    BadLine(u64),
-    /// There are more lines than [`MOST_LINES`].
-    TooManyLines,
-    /// The source failed.
-    SourceFailed,
-    /// The sink failed.
-    SinkFailed,
-    /// No memory was left.
-    NoMemory,
-}
-
-/// Why a run ends early.
-type Early = Ending;
-
-impl From<NoMem> for Ending {
-    fn from(_error: NoMem) -> Ending {
-        Ending::NoMemory
-    }
-}
-
-impl From<AllocError> for Ending {
-    fn from(_error: AllocError) -> Ending {
-        Ending::NoMemory
-    }
-}
-
-/// The next piece of the input.
-fn next<S: Source>(source: &mut S, unread: &mut Unread, limit: usize) -> Result<Piece, Early> {
-    match unread.next_line(source, limit) {
-        Ok(piece) => Ok(piece),
-        Err(IoFault::Failed) => Err(Ending::SourceFailed),
-        Err(IoFault::NoMemory) => Err(Ending::NoMemory),
-    }
-}
-
-/// Writes a text, if it is not empty.
-fn write<K: Sink>(sink: &mut K, text: &[u8]) -> Result<(), Early> {
-    if text.is_empty() {
-        return Ok(());
-    }
-    match sink.write(text) {
-        Ok(()) => Ok(()),
-        Err(IoFault::Failed) => Err(Ending::SinkFailed),
-        Err(IoFault::NoMemory) => Err(Ending::NoMemory),
-    }
-}
-
-/// Reads the text before the line `---`.
+/// Reads the text before the line `---`, and that line. None where there is no such line.
 fn read_head<S: Source>(
     alloc: Global,
     source: &mut S,
     unread: &mut Unread,
-) -> Result<Vec<u8>, Early> {
+) -> Result<Option<Vec<u8>>, Halt>
+    ensures head { IfOk result (λ head. MatchOption head
+        (IfSome (prepend_known unread.old (S.told source.old)) (λ input. parts input ≡ None))
+        (λ head. ReadsSchedule (prepend_known unread.old (S.told source.old))
+        (prepend_known unread.new (S.told source.new)) head.items [])) }
+    ensures kept { Kept (S.faults source.old) (S.faults source.new) (S.sound source.old) (S.sound source.new)
+        (result ≡ Err Halt.Source) }
+    ensures cause { result ≢ Err Halt.Sink }
+{
     let mut head = Vec::new(alloc);
     for _ in 0..u64::MAX {
         match next(source, unread, usize::MAX)? {
             Piece::Whole(line) => {
                 if is_layout_end(line.as_slice()) {
-                    return Ok(head);
+                    return Ok(Some(head));
                 }
                 head.extend_from_slice(line.as_slice())?;
             }
-            Piece::Long | Piece::Ended => break,
+            // No memory holds a line of so many bytes, nor so many lines.
+            Piece::Long => return Err(Halt::Memory),
+            Piece::Ended => return Ok(None),
         }
     }
-    Err(Ending::LayoutEnd)
+    Err(Halt::Memory)
 }
 
-/// Runs the lines of the schedule, and answers how many there are.
+/// Runs the lines that are left of the schedule, and writes their texts and what closes the output.
 fn run_lines<S: Source, K: Sink>(
+    alloc: Global,
     world: &mut World,
     source: &mut S,
     unread: &mut Unread,
     sink: &mut K,
-) -> Result<u64, Early> {
+) -> Result<Verdict, Halt>
+    ensures rest { PrintsRest world.old 0 (prepend_known unread.old (S.told source.old)) (K.told sink.old)
+        (K.told sink.new) result }
+    ensures read { result ≡ Ok Verdict.Whole → IsAtEnd (prepend_known unread.new (S.told source.new)) }
+    ensures source { Kept (S.faults source.old) (S.faults source.new) (S.sound source.old) (S.sound source.new)
+        (result ≡ Err Halt.Source) }
+    ensures sink { Kept (K.faults sink.old) (K.faults sink.new) (K.sound sink.old) (K.sound sink.new)
+        (result ≡ Err Halt.Sink) }
+{
     for line in 0..MOST_LINES {
-        match next(source, unread, LINE_LIMIT)? {
-            Piece::Ended => return Ok(line),
-            Piece::Long => return Err(Ending::BadLine(line + 1)),
-            Piece::Whole(bytes) => match world.step(content_of(bytes.as_slice())) {
-                Ok(text) => write(sink, text.as_slice())?,
-                Err(StepFault::BadLine) => return Err(Ending::BadLine(line + 1)),
-                Err(StepFault::NoMemory) => return Err(Ending::NoMemory),
-            },
+        if let Some(verdict) = take_turn(alloc, world, source, unread, sink, line)? {
+            return Ok(verdict);
         }
     }
-    match next(source, unread, LINE_LIMIT)? {
-        Piece::Ended => Ok(MOST_LINES),
-        Piece::Long | Piece::Whole(_) => Err(Ending::TooManyLines),
-    }
+    take_last_turn(alloc, world, source, unread, sink)
 }
 
-/// Runs a layout and a schedule from a source, and writes the output.
-fn try_run<S: Source, K: Sink>(alloc: Global, source: &mut S, sink: &mut K) -> Result<(), Early> {
-    let mut unread = Unread::new(alloc);
-    let head = read_head(alloc, source, &mut unread)?;
-    let layout = match Layout::read(alloc, head.as_slice()) {
-        Ok(layout) => layout,
-        Err(LayoutFault::Form) => return Err(Ending::LayoutForm),
-        Err(LayoutFault::NoMemory) => return Err(Ending::NoMemory),
-    };
-    let mut world = World::new(alloc, layout)?;
-    let lines = run_lines(&mut world, source, &mut unread, sink)?;
-    let happened = all_happened_text(alloc, &world)?;
-    write(sink, happened.as_bytes())?;
-    let counts = count_text(alloc, lines, Counts::of(world.marks()))?;
-    write(sink, counts.as_bytes())
-}
-
-/// The line that an early end prints.
-fn last_text(alloc: Global, ending: Ending) -> Result<String, NoMem> {
-    Ok(match ending {
-        Ending::LayoutForm => String::from_str(alloc, "bad layout: form\n")?,
-        Ending::LayoutEnd => String::from_str(alloc, "bad layout: end\n")?,
-        Ending::BadLine(line) => format!(in alloc; "bad line {line}\n")?,
-        Ending::TooManyLines => String::from_str(alloc, "too many lines\n")?,
-        Ending::Whole | Ending::SourceFailed | Ending::SinkFailed | Ending::NoMemory => {
-            String::new(alloc)
+/// Runs what is left of a source over the disk that a layout's text says.
+fn run_layout<S: Source, K: Sink>(
+    alloc: Global,
+    head: &[u8],
+    source: &mut S,
+    unread: &mut Unread,
+    sink: &mut K,
+) -> Result<Verdict, Halt>
+    ensures output { PrintsHeaded head.now (prepend_known unread.old (S.told source.old)) (K.told sink.old)
+        (K.told sink.new) result }
+    ensures read { result ≡ Ok Verdict.Whole → IsAtEnd (prepend_known unread.new (S.told source.new)) }
+    ensures source { Kept (S.faults source.old) (S.faults source.new) (S.sound source.old) (S.sound source.new)
+        (result ≡ Err Halt.Source) }
+    ensures sink { Kept (K.faults sink.old) (K.faults sink.new) (K.sound sink.old) (K.sound sink.new)
+        (result ≡ Err Halt.Sink) }
+{
+    match Layout::read(alloc, head) {
+        Ok(layout) => {
+            let mut world = World::new(alloc, layout)?;
+            run_lines(alloc, &mut world, source, unread, sink)
         }
-    })
-}
-
-/// Writes the line that an end prints, and answers how the run ends then.
-fn close<K: Sink>(alloc: Global, sink: &mut K, ending: Ending) -> Ending {
-    let text = match last_text(alloc, ending) {
-        Ok(text) => text,
-        Err(NoMem::NoMemory) => return Ending::NoMemory,
-    };
-    match write(sink, text.as_bytes()) {
-        Ok(()) => ending,
-        Err(early) => early,
+        Err(LayoutFault::Form) => {
+            close(sink, b"bad layout: form\n".as_slice(), Verdict::LayoutForm)
+        }
+        Err(LayoutFault::NoMemory) => Err(Halt::Memory),
     }
 }
 
 /// Runs a layout and a schedule from a source, writes the output, and answers how that ended.
-pub fn run<S: Source, K: Sink>(alloc: Global, source: &mut S, sink: &mut K) -> Ending {
-    match try_run(alloc, source, sink) {
-        Ok(()) => Ending::Whole,
-        Err(early) => close(alloc, sink, early),
+pub(crate) fn run<S: Source, K: Sink>(
+    alloc: Global,
+    source: &mut S,
+    sink: &mut K,
+) -> Result<Verdict, Halt>
+    ensures output { PrintsInput (S.told source.old) (K.told sink.old) (K.told sink.new) result }
+    ensures read { result ≡ Ok Verdict.Whole → IsAtEnd (S.told source.new) }
+    ensures source { Kept (S.faults source.old) (S.faults source.new) (S.sound source.old) (S.sound source.new)
+        (result ≡ Err Halt.Source) }
+    ensures sink { Kept (K.faults sink.old) (K.faults sink.new) (K.sound sink.old) (K.sound sink.new)
+        (result ≡ Err Halt.Sink) }
+{
+    let mut unread = Unread::new(alloc);
+    match read_head(alloc, source, &mut unread)? {
+        Some(head) => run_layout(alloc, head.as_slice(), source, &mut unread, sink),
+        None => close(sink, b"bad layout: end\n".as_slice(), Verdict::LayoutEnd),
     }
-}
-
-/// Writes the usage line.
-pub fn write_usage<K: Sink>(sink: &mut K) -> Result<(), Early> {
-    write(sink, b"usage: replay run | replay make SEED LINES\n".as_slice())
 }

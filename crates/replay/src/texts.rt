@@ -1,5 +1,10 @@
 //! The texts that close an output.
 
+ghost use Rattle.std.specs.Prelude.{◌≡◌, ◌++◌, IfOk, codes, count_by, string_bytes};
+ghost use Rattle.protocol.specs.Settings.{group_of};
+ghost use Rattle.world.specs.Runs.{world_of};
+ghost use Rattle.replay.specs.Outputs.{happened_text, stripes_text, stripes_of, groups_text, most_groups, count_text, closing_text, is_begin, is_answered, is_aborted, is_crash};
+
 use fab_base::{Answer, GroupId, NoMem, StripeNo};
 use reg_model::{Happening, Mark};
 use std::alloc::Global;
@@ -8,33 +13,10 @@ use world::World;
 /// The most groups of a layout.
 const MOST_GROUPS: u32 = 64;
 
-/// How many marks there are of each kind.
-#[derive(Clone, Copy, Debug, PartialEq, Eq)]
-pub struct Counts {
-    begun: u64,
-    answered: u64,
-    aborted: u64,
-    crashes: u64,
-}
-
-impl Counts {
-    /// Of these marks.
-    pub fn of(marks: &[Mark]) -> Counts {
-        let begun = marks.iter().filter(|mark| matches!(mark, Mark::Begin { .. })).count();
-        let answered = marks.iter().filter(|mark| is_answer(mark)).count();
-        let aborted = marks.iter().filter(|mark| is_abort(mark)).count();
-        let crashes = marks.iter().filter(|mark| matches!(mark, Mark::Crash { .. })).count();
-        Counts {
-            begun: begun as u64,
-            answered: answered as u64,
-            aborted: aborted as u64,
-            crashes: crashes as u64,
-        }
-    }
-}
-
 /// Whether a mark is an End that is no abort.
-fn is_answer(mark: &Mark) -> bool {
+fn is_answer(mark: &Mark) -> bool
+    ensures { result ≡ is_answered mark.now }
+{
     match mark {
         Mark::End { answer, .. } => match answer {
             Answer::Data(_) | Answer::Done => true,
@@ -45,7 +27,9 @@ fn is_answer(mark: &Mark) -> bool {
 }
 
 /// Whether a mark is the End of an aborted operation.
-fn is_abort(mark: &Mark) -> bool {
+fn is_abort(mark: &Mark) -> bool
+    ensures { result ≡ is_aborted mark.now }
+{
     match mark {
         Mark::End { answer, .. } => match answer {
             Answer::Data(_) | Answer::Done => false,
@@ -55,13 +39,49 @@ fn is_abort(mark: &Mark) -> bool {
     }
 }
 
+/// How many operations began.
+fn count_begun(marks: &[Mark]) -> usize
+    ensures { result ≡ count_by is_begin marks.now }
+{
+    marks
+        .iter()
+        .filter(|mark| matches!(mark, Mark::Begin { .. }))
+        .count()
+}
+
+/// How many operations were answered.
+fn count_answered(marks: &[Mark]) -> usize
+    ensures { result ≡ count_by is_answered marks.now }
+{
+    marks.iter().filter(|mark| is_answer(mark)).count()
+}
+
+/// How many operations were aborted.
+fn count_aborted(marks: &[Mark]) -> usize
+    ensures { result ≡ count_by is_aborted marks.now }
+{
+    marks.iter().filter(|mark| is_abort(mark)).count()
+}
+
+/// How many bricks crashed.
+fn count_crashes(marks: &[Mark]) -> usize
+    ensures { result ≡ count_by is_crash marks.now }
+{
+    marks
+        .iter()
+        .filter(|mark| matches!(mark, Mark::Crash { .. }))
+        .count()
+}
+
 /// The line of a stripe's happenings; no text where there are none.
-pub fn happened_text(
+fn happened_text(
     alloc: Global,
     group: GroupId,
     stripe: StripeNo,
     happenings: &[Happening],
-) -> Result<String, NoMem> {
+) -> Result<String, NoMem>
+    ensures { IfOk result (λ text. string_bytes text ≡ happened_text group.0 stripe.0 happenings.now) }
+{
     if happenings.is_empty() {
         return Ok(String::new(alloc));
     }
@@ -78,30 +98,64 @@ pub fn happened_text(
     Ok(text)
 }
 
-/// The lines of all stripes' happenings, by group and stripe.
-pub fn all_happened_text(alloc: Global, world: &World) -> Result<String, NoMem> {
+/// The lines of a group's stripes.
+#[tactic(auto, using(crate::proofs::StripeTexts::stripes_rules))]
+fn stripes_text(alloc: Global, world: &World, group: GroupId, stripes: u32) -> Result<String, NoMem>
+    ensures { IfOk result (λ text. string_bytes text ≡ stripes_text (world_of world.now) group.0 stripes) }
+{
     let mut text = String::new(alloc);
-    for group in 0..MOST_GROUPS {
-        let group = GroupId(group);
-        let stripes = match world.layout().group(group) {
-            Some(group) => group.stripes(),
-            None => 0,
-        };
-        for stripe in 0..stripes {
-            let stripe = StripeNo(stripe);
-            let happenings = world.happenings(group, stripe)?;
-            let line = happened_text(alloc, group, stripe, happenings.as_slice())?;
-            text.push_str(line.as_str())?;
-        }
+    for number in 0..stripes {
+        let stripe = StripeNo(number);
+        let happenings = world.happenings(group, stripe)?;
+        let line = happened_text(alloc, group, stripe, happenings.as_slice())?;
+        text.push_str(line.as_str())?;
+    }
+    Ok(text)
+}
+
+/// The lines of the stripes of the group of this number, if there is one.
+fn group_text(alloc: Global, world: &World, group: GroupId) -> Result<String, NoMem>
+    ensures { IfOk result (λ text. string_bytes text
+        ≡ stripes_text (world_of world.now) group.0 (stripes_of (group_of world.now.layout group.0))) }
+{
+    match world.layout().group(group) {
+        Some(found) => stripes_text(alloc, world, group, found.stripes()),
+        None => Ok(String::new(alloc)),
+    }
+}
+
+/// The lines of all stripes' happenings, by group and stripe.
+#[tactic(auto, using(crate::proofs::StripeTexts::groups_rules))]
+fn groups_text(alloc: Global, world: &World) -> Result<String, NoMem>
+    ensures { IfOk result (λ text. string_bytes text ≡ groups_text world.now.layout (world_of world.now) most_groups) }
+{
+    let mut text = String::new(alloc);
+    for number in 0..MOST_GROUPS {
+        let lines = group_text(alloc, world, GroupId(number))?;
+        text.push_str(lines.as_str())?;
     }
     Ok(text)
 }
 
 /// The last line of an output.
-pub fn count_text(alloc: Global, lines: u64, counts: Counts) -> Result<String, NoMem> {
-    let begun = counts.begun;
-    let answered = counts.answered;
-    let aborted = counts.aborted;
-    let crashes = counts.crashes;
-    Ok(format!(in alloc; "count lines {lines} begun {begun} answered {answered} aborted {aborted} crashes {crashes}\n")?)
+fn count_text(alloc: Global, lines: u64, marks: &[Mark]) -> Result<String, NoMem>
+    ensures { IfOk result (λ text. string_bytes text ≡ count_text lines marks.now) }
+{
+    let begun = count_begun(marks);
+    let answered = count_answered(marks);
+    let aborted = count_aborted(marks);
+    let crashes = count_crashes(marks);
+    Ok(format!(in alloc;
+        "count lines {lines} begun {begun} answered {answered} aborted {aborted} crashes {crashes}\n"
+    )?)
+}
+
+/// What closes the output after this many lines.
+pub(crate) fn closing_text(alloc: Global, world: &World, lines: u64) -> Result<String, NoMem>
+    ensures { IfOk result (λ text. string_bytes text ≡ closing_text world.now.layout (world_of world.now) lines) }
+{
+    let mut text = groups_text(alloc, world)?;
+    let counts = count_text(alloc, lines, world.marks())?;
+    text.push_str(counts.as_str())?;
+    Ok(text)
 }

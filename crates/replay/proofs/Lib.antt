@@ -1,0 +1,9 @@
+pub mod OutputLines
+pub mod Printing
+pub mod LeftLines
+pub mod Rests
+pub mod Inputs
+pub mod StripeTexts
+pub mod ThreeCopies
+pub mod Linearity
+pub mod Statuses

@@ -1,0 +1,107 @@
+-- What was printed of a whole schedule is strict.
+use Rattle.std.proofs.Common.{◌≡◌, ℕ, ◌+◌, Bool, true, false, List, [], ◌∷◌, ◌++◌, length, map, Option, Some, None, refl, sym, ap, ◌∙◌, subst, cond, arith, append_assoc}
+use Rattle.std.specs.Prelude.{nat_lt}
+use Rattle.std.specs.Str.{bytes_eq}
+use Rattle.std.proofs.lemmas.Slice.Eq.{bytes_eq-Decides}
+use Rattle.lines.specs.declared.forms.Line.{Line}
+use Rattle.lines.specs.declared.forms.Line.TheVariants.{Nothing, Invoke, Deliver}
+use Rattle.lines.specs.Grammar.{line_of}
+use Rattle.lines.specs.Lines.{Parts}
+use Rattle.protocol.specs.Settings.{Setting, Layout}
+use Rattle.protocol.specs.Worlds.{World, Event, Invokes, Delivers, first_world, run}
+use Rattle.protocol.specs.Laws.{Laws}
+use Rattle.protocol.proofs.EveryRun.{every_run}
+use Rattle.node.specs.Copies.{copying}
+use Rattle.layout.specs.Texts.{three_copies}
+use Rattle.layout.specs.declared.texts.TheConstants.{THREE_COPIES}
+use Rattle.world.specs.Runs.{brick_of, ask_of, after_line, after_lines}
+use Rattle.world.specs.Texts.{text_of}
+use Rattle.replay.specs.declared.endings.Verdict.{Verdict}
+use Rattle.replay.specs.declared.endings.Verdict.TheVariants.{Whole}
+use Rattle.replay.specs.Outputs.{Output, onto, output_line, output_from, output_of, closing_text, bad_layout, most_lines}
+use Rattle.replay.specs.Replays.{lines_text, IsLinearizable}
+use Rattle.replay.proofs.ThreeCopies.{sound}
+
+-- the events of lines
+abbrev events_of : List Line → List Event
+events_of [] = []
+events_of (Nothing ∷ lines) = events_of lines
+events_of (Invoke b g s op ∷ lines) = Invokes (brick_of b) (ask_of g s op) ∷ events_of lines
+events_of (Deliver k ∷ lines) = Delivers k ∷ events_of lines
+
+-- a run of lines is a run of events
+run_of_lines : (setting : Setting) (w : World) (lines : List Line) → run setting (events_of lines) w ≡ after_lines setting w lines
+run_of_lines setting w [] = refl
+run_of_lines setting w (Nothing ∷ lines) = run_of_lines setting w lines
+run_of_lines setting w (Invoke b g s op ∷ lines) = run_of_lines setting (after_line setting w (Invoke b g s op)) lines
+run_of_lines setting w (Deliver k ∷ lines) = run_of_lines setting (after_line setting w (Deliver k)) lines
+
+-- the laws hold in the world that lines leave
+laws : (lines : List Line) → Laws (copying three_copies) (after_lines (copying three_copies) (first_world three_copies) lines)
+laws lines =
+    subst (Laws (copying three_copies)) (run_of_lines (copying three_copies) (first_world three_copies) lines)
+    (every_run (copying three_copies) (events_of lines) sound)
+
+-- the contents are lines, and the text is theirs and then what closes the output
+record IsWhole (layout : Layout) (w : World) (n : ℕ) (contents : List (List ℕ)) (text : List ℕ) : Type 0 where
+  lines : List Line
+  lines_are : map line_of contents ≡ map Some lines
+  text_is : text ≡ lines_text (copying layout) w lines ++ closing_text layout (after_lines (copying layout) w lines) (n + length lines)
+
+-- an output that ends as whole is one of lines, where that holds behind the first
+whole-line : (layout : Layout) (w : World) (n : ℕ) (content : List ℕ) (rest : List (List ℕ)) (within : Bool) (line : Option Line) → line_of content ≡ line
+    → ((v : World) (k : ℕ) → (output_from layout v k rest).verdict ≡ Whole → IsWhole layout v k rest (output_from layout v k rest).text)
+    → (let output = output_line n within line (λ l. onto (text_of (copying layout) w l) (output_from layout (after_line (copying layout) w l) (n + 1) rest)) in
+    output.verdict ≡ Whole → IsWhole layout w n (content ∷ rest) output.text)
+whole-line layout w n content rest false line is behind h = cc
+whole-line layout w n content rest true None is behind h = cc
+whole-line layout w n content rest true (Some line) is behind h =
+    let more = behind (after_line (copying layout) w line) (n + 1) h in
+    let text = text_of (copying layout) w line in
+    let after = after_line (copying layout) w line in
+    let world = after_lines (copying layout) after more.lines in
+    let count : (n + 1) + length more.lines ≡ n + length (line ∷ more.lines) = omega arith in
+    record {
+      lines = line ∷ more.lines;
+      lines_are = ap (λ x. x ∷ map line_of rest) is ∙ ap (λ x. Some line ∷ x) more.lines_are;
+      text_is = ap (λ t. text ++ t) (more.text_is ∙ ap (λ k. lines_text (copying layout) after more.lines ++ closing_text layout world k) count)
+          ∙ sym (append_assoc text (lines_text (copying layout) after more.lines) (closing_text layout world (n + length (line ∷ more.lines))));
+    }
+
+whole : (layout : Layout) (w : World) (n : ℕ) (contents : List (List ℕ)) → (output_from layout w n contents).verdict ≡ Whole
+    → IsWhole layout w n contents (output_from layout w n contents).text
+unfolding output_from
+whole layout w n [] h = record { lines = []; lines_are = refl; text_is = ap (closing_text layout w) (omega arith) }
+whole layout w n (content ∷ rest) h =
+    whole-line layout w n content rest (nat_lt n most_lines) (line_of content) refl (λ v k. whole layout v k rest) h
+
+-- what was printed of an input that ends as whole is strict
+pub linearizable : (input : Option Parts) → (output_of input).verdict ≡ Whole → IsLinearizable input (output_of input).text
+unfolding output_of
+linearizable None h = cc
+linearizable (Some p) h = by_layout (bytes_eq p.layout THREE_COPIES.now) refl h
+  where
+    by_layout : (b : Bool) → bytes_eq p.layout THREE_COPIES.now ≡ b
+        → (cond b (output_from three_copies (first_world three_copies) 0 p.schedule) bad_layout).verdict ≡ Whole
+        → IsLinearizable (Some p) (cond b (output_from three_copies (first_world three_copies) 0 p.schedule) bad_layout).text
+    by_layout false e h = cc
+    by_layout true e h =
+        let all = whole three_copies (first_world three_copies) 0 p.schedule h in
+        let kept = laws all.lines in
+        let world = after_lines (copying three_copies) (first_world three_copies) all.lines in
+        let count : 0 + length all.lines ≡ length all.lines = omega arith in
+        record {
+          schedule = p.schedule;
+          lines = all.lines;
+          world = world;
+          parts_are = ap (λ l. Some (with_layout l)) ((bytes_eq-Decides p.layout THREE_COPIES.now).0 e);
+          lines_are = all.lines_are;
+          world_is = refl;
+          text_is = all.text_is ∙ ap (λ k. lines_text (copying three_copies) (first_world three_copies) all.lines ++ closing_text three_copies world k) count;
+          well_formed = kept.well_formed;
+          strict = kept.strict;
+          aborts_show = kept.aborts;
+        }
+      where
+        with_layout : List ℕ → Parts
+        with_layout l = record { layout = l; schedule = p.schedule }

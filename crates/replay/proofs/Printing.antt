@@ -1,0 +1,43 @@
+-- What was printed in several steps.
+use Rattle.std.proofs.Common.{◌≡◌, ℕ, List, [], ◌++◌, Option, Result, Ok, Err, IsErr, subst, sym}
+use Rattle.std.specs.Io.KnownBytes.{Keeps, Appends}
+use Rattle.std.proofs.KnownBytes.{Appends-trans, Keeps-refl}
+use Rattle.fab_io.specs.Ends.{AppendsFront}
+use Rattle.fab_io.proofs.Content.{Appends-none, AppendsFront-none, AppendsFront-after, AppendsFront-more}
+use Rattle.replay.specs.declared.endings.Verdict.{Verdict}
+use Rattle.replay.specs.declared.endings.Halt.{Halt}
+use Rattle.replay.specs.Outputs.{Output, onto}
+use Rattle.replay.specs.Turns.{Prints}
+
+-- a text, and then the rest of the output
+pub Prints-after : (a b c : Option (List ℕ)) (text : List ℕ) (output : Output) (r : Result Verdict Halt) → Appends a b text → Prints b c output r
+    → Prints a c (onto text output) r
+Prints-after a b c text output (Ok verdict) p (same, q) = (same, Appends-trans a b c text output.text p q)
+Prints-after a b c text output (Err halt) p q = AppendsFront-after a b c text output.text p q
+
+-- nothing, and then the output
+pub Prints-kept : (a b c : Option (List ℕ)) (output : Output) (r : Result Verdict Halt) → Keeps a b → Prints b c output r → Prints a c output r
+Prints-kept a b c output r k p = Prints-after a b c [] output r (Appends-none a b k) p
+
+-- the run was stopped before anything was printed
+pub Prints-nothing : (a : Option (List ℕ)) (output : Output) (halt : Halt) → Prints a a output (Err halt)
+Prints-nothing a output halt = AppendsFront-none a a output.text (Keeps-refl a)
+
+-- an equal output
+pub Prints-same : (a b : Option (List ℕ)) (r : Result Verdict Halt) (output other : Output) → output ≡ other → Prints a b other r → Prints a b output r
+Prints-same a b r output other e p = subst (λ (o : Output). Prints a b o r) (sym e) p
+
+-- the output of an equal text
+pub Prints-text : (a b : Option (List ℕ)) (r : Result Verdict Halt) (text other : List ℕ) (verdict : Verdict) → text ≡ other
+    → Prints a b (record { text = text; verdict = verdict }) r → Prints a b (record { text = other; verdict = verdict }) r
+Prints-text a b r text other verdict e p = subst (λ (t : List ℕ). Prints a b (record { text = t; verdict = verdict }) r) e p
+
+-- the run was stopped within the first text of the output
+pub Prints-front : (a b : Option (List ℕ)) (output : Output) (halt : Halt) (text : List ℕ) → (more : List ℕ) × (output.text ≡ text ++ more)
+    → AppendsFront a b text → Prints a b output (Err halt)
+Prints-front a b output halt text (more, e) p = subst (AppendsFront a b) (sym e) (AppendsFront-more a b text more p)
+
+-- what holds at any error holds where there is one
+pub at_err : {T E : Type 0} (r : Result T E) (P : Result T E → Type 0) → ((e : E) → P (Err e)) → IsErr r → P r
+at_err (Ok x) P h is = cc
+at_err (Err e) P h is = h e

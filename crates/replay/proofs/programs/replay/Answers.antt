@@ -1,0 +1,38 @@
+use Rattle.std.proofs.Common.{◌≡◌, ℕ, ◌⊎◌, Result, Ok, Err, inl, inr, refl, sym, ap, ◌∙◌, subst}
+use Rattle.std.specs.Io.KnownBytes.{Appends}
+use Rattle.fab_io.specs.Ends.{AppendsFront}
+use Rattle.replay.specs.declared.endings.Verdict.{Verdict}
+use Rattle.replay.specs.declared.endings.Halt.{Halt}
+use Rattle.replay.specs.Outputs.{output_of}
+use Rattle.replay.specs.Turns.{Prints}
+use Rattle.replay.proofs.Linearity.{linearizable}
+use Rattle.replay.proofs.Statuses.{of_write}
+use Rattle.replay.proofs.programs.replay.Goals as goal
+
+pub returns-then-is_run-clause-run : goal.returns-then-is_run-clause-run
+returns-then-is_run-clause-run g c = λ _.
+    let run = c.run.ensures.output in
+    record {
+      input = run.input;
+      ending = c.run.result;
+      parts_are = run.parts_are;
+      status_is = c.status_of.ensures;
+      printed = run.printed;
+      read = c.run.ensures.read;
+      linearizable = λ whole. linearizable run.input
+          (subst (λ (r : Result Verdict Halt). Prints (g.K.Sink.told c.args.sink.now) (g.K.Sink.told c.run.new.sink) (output_of run.input) r) whole run.printed).0;
+    }
+
+pub returns-in-Ok-clause-words : goal.returns-in-Ok-clause-words
+returns-in-Ok-clause-words g c = λ _.
+    (inl (refl, subst (Appends _ _) c.as_slice.ensures c.in-Ok.ensures.content), refl)
+
+pub returns-in-Err-clause-words : goal.returns-in-Err-clause-words
+returns-in-Err-clause-words g c = λ _.
+    let status = of_write c.in-Err.halt (λ e. c.write.ensures.cause (c.in-Err.is ∙ ap (λ h. Err h) e)) in (
+      inr (
+        subst (λ (s : ℕ). (s ≡ 6) ⊎ (s ≡ 7)) (sym c.status_of-in-Err.ensures) status,
+        subst (AppendsFront _ _) c.as_slice.ensures c.in-Err.ensures.content,
+      ),
+      refl,
+    )

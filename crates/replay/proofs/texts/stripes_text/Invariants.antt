@@ -1,0 +1,7 @@
+use Rattle.std.proofs.Common.{◌≡◌, string_bytes}
+use Rattle.world.specs.Runs.{world_of}
+use Rattle.replay.specs.Outputs.{stripes_text}
+use Rattle.replay.proofs.texts.stripes_text.Given as goal
+
+abbrev pub invariant-loop-number : goal.invariant-loop-number
+invariant-loop-number l = string_bytes l.text ≡ stripes_text (world_of l.world) l.group.0 l.number

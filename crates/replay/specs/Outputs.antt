@@ -1,0 +1,143 @@
+-- What is printed for an input: the texts of its lines, and what closes them; or why it has no layout, or where it is no schedule.
+use Rattle.std.specs.Prelude.{ℕ, zero, suc, ◌+◌, Bool, true, false, nat_lt, if◌then◌else◌, List, [], ◌∷◌, ◌++◌, codes, count_by, Option, Some, None}
+use Rattle.std.specs.Fmt.{decimal}
+use Rattle.std.specs.Str.{bytes_eq}
+use Rattle.fab_base.specs.declared.answers.Answer.{Answer}
+use Rattle.fab_base.specs.declared.answers.Answer.TheVariants.{Data, Done, Aborted}
+use Rattle.reg_model.specs.declared.marks.Mark.{Mark}
+use Rattle.reg_model.specs.declared.marks.Mark.TheVariants.{Begin, End, Crash}
+use Rattle.reg_model.specs.declared.marks.Happening.{Happening}
+use Rattle.lines.specs.declared.forms.Line.{Line}
+use Rattle.lines.specs.Grammar.{line_of}
+use Rattle.lines.specs.Lines.{Parts}
+use Rattle.protocol.specs.Settings.{Layout, Group, group_of}
+use Rattle.protocol.specs.Worlds.{World, first_world}
+use Rattle.protocol.specs.Happenings.{happenings_of}
+use Rattle.node.specs.Copies.{copying}
+use Rattle.layout.specs.Texts.{three_copies}
+use Rattle.layout.specs.declared.texts.TheConstants.{THREE_COPIES}
+use Rattle.world.specs.Runs.{after_line}
+use Rattle.replay.specs.declared.endings.Verdict.{Verdict}
+use Rattle.replay.specs.declared.endings.Verdict.TheVariants.{Whole, LayoutForm, LayoutEnd, BadLine, TooManyLines}
+use Rattle.world.specs.Texts.{text_of, newline}
+
+-- the most lines of a schedule
+abbrev pub most_lines : ℕ
+most_lines = 1048576
+
+-- one happening
+abbrev pub happening_text : Happening → List ℕ
+happening_text h = codes " " ++ (decimal h.operation ++ (codes "@" ++ decimal h.position))
+
+abbrev pub happenings_text : List Happening → List ℕ
+happenings_text [] = newline
+happenings_text (h ∷ happenings) = happening_text h ++ happenings_text happenings
+
+-- the line of a stripe with happenings; a stripe without has none
+abbrev pub happened_text : ℕ → ℕ → List Happening → List ℕ
+happened_text g s [] = []
+happened_text g s (h ∷ happenings) =
+    codes "happened " ++ (decimal g ++ (codes " " ++ (decimal s ++ happenings_text (h ∷ happenings))))
+
+-- the lines of a group's stripes below a number
+abbrev pub stripes_text : World → ℕ → ℕ → List ℕ
+stripes_text w g zero = []
+stripes_text w g (suc s) = stripes_text w g s ++ happened_text g s (happenings_of w g s)
+
+-- how many stripes a group has, where there is one
+abbrev pub stripes_of : Option Group → ℕ
+stripes_of None = 0
+stripes_of (Some group) = group.stripes
+
+-- the lines of the groups below a number
+unfoldable pub groups_text : Layout → World → ℕ → List ℕ
+groups_text layout w zero = []
+groups_text layout w (suc g) = groups_text layout w g ++ stripes_text w g (stripes_of (group_of layout g))
+
+-- the most groups of a layout
+abbrev pub most_groups : ℕ
+most_groups = 64
+
+-- kinds of marks
+abbrev pub is_begin : Mark → Bool
+is_begin (Begin p n b ask) = true
+is_begin (End p n answer) = false
+is_begin (Crash p b) = false
+
+abbrev pub is_answered : Mark → Bool
+is_answered (Begin p n b ask) = false
+is_answered (End p n (Data bytes)) = true
+is_answered (End p n Done) = true
+is_answered (End p n (Aborted cause)) = false
+is_answered (Crash p b) = false
+
+abbrev pub is_aborted : Mark → Bool
+is_aborted (Begin p n b ask) = false
+is_aborted (End p n (Data bytes)) = false
+is_aborted (End p n Done) = false
+is_aborted (End p n (Aborted cause)) = true
+is_aborted (Crash p b) = false
+
+abbrev pub is_crash : Mark → Bool
+is_crash (Begin p n b ask) = false
+is_crash (End p n answer) = false
+is_crash (Crash p b) = true
+
+-- the last line: how many lines of the schedule, and marks of each kind
+abbrev pub count_text : ℕ → List Mark → List ℕ
+count_text lines marks =
+    codes "count lines " ++ (decimal lines ++ (codes " begun " ++ (decimal (count_by is_begin marks)
+    ++ (codes " answered " ++ (decimal (count_by is_answered marks) ++ (codes " aborted " ++ (decimal (count_by is_aborted marks)
+    ++ (codes " crashes " ++ (decimal (count_by is_crash marks) ++ newline)))))))))
+
+-- what closes the output after this many lines
+abbrev pub closing_text : Layout → World → ℕ → List ℕ
+closing_text layout w lines = groups_text layout w most_groups ++ count_text lines w.marks
+
+-- what is printed, and how the input ends that
+pub record Output : Type 0 where
+  pub text : List ℕ
+  pub verdict : Verdict
+
+-- a text before the rest of an output
+abbrev pub onto : List ℕ → Output → Output
+onto text output = record { text = text ++ output.text; verdict = output.verdict }
+
+-- the output's end after this many lines
+abbrev pub finished : Layout → World → ℕ → Output
+finished layout w lines = record { text = closing_text layout w lines; verdict = Whole }
+
+-- the output's end at a line that is no line
+abbrev pub bad_line : ℕ → Output
+bad_line n = record { text = codes "bad line " ++ (decimal n ++ newline); verdict = BadLine n }
+
+-- the output's end at a line too many
+abbrev pub too_many_lines : Output
+too_many_lines = record { text = codes "too many lines" ++ newline; verdict = TooManyLines }
+
+-- a line of the schedule that is numbered n + 1: too many, or no line, or one that is run
+abbrev pub output_line : ℕ → Bool → Option Line → (Line → Output) → Output
+output_line n false line ran = too_many_lines
+output_line n true None ran = bad_line (n + 1)
+output_line n true (Some line) ran = ran line
+
+-- the rest of a schedule, from a world that n of its lines have left; each line is given without its line end
+unfoldable pub output_from : Layout → World → ℕ → List (List ℕ) → Output
+output_from layout w n [] = finished layout w n
+output_from layout w n (content ∷ contents) =
+    output_line n (nat_lt n most_lines) (line_of content)
+    (λ line. onto (text_of (copying layout) w line) (output_from layout (after_line (copying layout) w line) (n + 1) contents))
+
+-- a text that is no layout
+abbrev pub bad_layout : Output
+bad_layout = record { text = codes "bad layout: form" ++ newline; verdict = LayoutForm }
+
+-- an input without a line that ends its layout
+abbrev pub no_layout_end : Output
+no_layout_end = record { text = codes "bad layout: end" ++ newline; verdict = LayoutEnd }
+
+-- what is printed for the layout and the schedule of an input, where a line ends its layout
+unfoldable pub output_of : Option Parts → Output
+output_of None = no_layout_end
+output_of (Some p) =
+    if bytes_eq p.layout THREE_COPIES.now then output_from three_copies (first_world three_copies) 0 p.schedule else bad_layout

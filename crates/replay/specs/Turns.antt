@@ -1,0 +1,80 @@
+-- What a part of a run printed, of the output that it had to print.
+use Rattle.std.specs.Prelude.{◌≡◌, ℕ, ◌+◌, Bool, true, false, List, [], ◌∷◌, ⊤, map, Option, Some, None, Result, Ok, Err}
+use Rattle.std.specs.Io.KnownBytes.{Appends, Keeps}
+use Rattle.fab_io.specs.Ends.{AppendsFront}
+use Rattle.lines.specs.declared.forms.Line.{Line}
+use Rattle.lines.specs.Grammar.{line_of}
+use Rattle.lines.specs.Lines.{Parts, raw_lines, content, parts}
+use Rattle.lines.specs.Reading.{Passes}
+use Rattle.node.specs.Copies.{copying}
+use Rattle.protocol.specs.Settings.{Setting}
+use Rattle.protocol.specs.Worlds.{World}
+use Rattle.world.specs.Runs.{Run, world_of}
+use Rattle.world.specs.Steps.{with_line}
+use Rattle.world.specs.Texts.{text_of}
+use Rattle.replay.specs.declared.endings.Verdict.{Verdict}
+use Rattle.replay.specs.declared.endings.Halt.{Halt}
+use Rattle.replay.specs.Outputs.{Output, output_from, output_of}
+
+-- the sink took the whole output, which ends so; or a run that was stopped gave it some of the output, from its front
+abbrev pub Prints : Option (List ℕ) → Option (List ℕ) → Output → Result Verdict Halt → Type 0
+Prints old new output (Ok verdict) = (output.verdict ≡ verdict) × Appends old new output.text
+Prints old new output (Err halt) = AppendsFront old new output.text
+
+-- these are the lines of what is left of the source, where it tells that
+abbrev pub AreLinesOf : Option (List ℕ) → List (List ℕ) → Type 0
+AreLinesOf None contents = ⊤
+AreLinesOf (Some bytes) contents = map content (raw_lines bytes) ≡ contents
+
+-- a run that n lines have left printed the output of the lines that are left
+pub record PrintsRest (run : Run) (n : ℕ) (left old new : Option (List ℕ)) (result : Result Verdict Halt) : Type 0 where
+  pub contents : List (List ℕ)
+  pub are_lines : AreLinesOf left contents
+  pub printed : Prints old new (output_from run.layout (world_of run) n contents) result
+
+-- the text of a line, if it is one
+abbrev pub line_text : Setting → World → Option Line → List ℕ
+line_text setting w None = []
+line_text setting w (Some line) = text_of setting w line
+
+-- a line was run and printed
+pub record LineRuns (before after : Run) (content : List ℕ) (old new : Option (List ℕ)) : Type 0 where
+  pub line : Line
+  pub is_line : line_of content ≡ Some line
+  pub run : after ≡ with_line before line
+  pub printed : Appends old new (text_of (copying before.layout) (world_of before) line)
+
+-- a line was run and printed; or it is no line; or a run that was stopped printed some of its text, from the front
+abbrev pub LineMeans : Run → Run → List ℕ → Option (List ℕ) → Option (List ℕ) → Result Bool Halt → Type 0
+LineMeans before after content old new (Ok true) = LineRuns before after content old new
+LineMeans before after content old new (Ok false) = (line_of content ≡ None) × (after ≡ before) × Keeps old new
+LineMeans before after content old new (Err halt) = AppendsFront old new (line_text (copying before.layout) (world_of before) (line_of content))
+
+-- the next line of the source was run and printed
+pub record TurnRuns (before after : Run) (left rest old new : Option (List ℕ)) : Type 0 where
+  pub bytes : List ℕ
+  pub passes : Passes left rest (bytes ∷ [])
+  pub runs : LineRuns before after (content bytes) old new
+
+-- a line was run, or the run ended
+abbrev pub TurnMeans : Run → Run → ℕ → Option (List ℕ) → Option (List ℕ) → Option (List ℕ) → Option (List ℕ) → Result (Option Verdict) Halt → Type 0
+TurnMeans before after n left rest old new (Ok None) = TurnRuns before after left rest old new
+TurnMeans before after n left rest old new (Ok (Some verdict)) = PrintsRest before n left old new (Ok verdict)
+TurnMeans before after n left rest old new (Err halt) = PrintsRest before n left old new (Err halt)
+
+-- a run printed the output of this layout's text and the lines that are left behind it
+pub record PrintsHeaded (head : List ℕ) (left old new : Option (List ℕ)) (result : Result Verdict Halt) : Type 0 where
+  pub schedule : List (List ℕ)
+  pub are_lines : AreLinesOf left schedule
+  pub printed : Prints old new (output_of (Some (record { layout = head; schedule = schedule }))) result
+
+-- the input has these parts, where the source tells its bytes
+abbrev pub AreParts : Option (List ℕ) → Option Parts → Type 0
+AreParts None input = ⊤
+AreParts (Some bytes) input = parts bytes ≡ input
+
+-- a run printed the output of an input
+pub record PrintsInput (source old new : Option (List ℕ)) (result : Result Verdict Halt) : Type 0 where
+  pub input : Option Parts
+  pub parts_are : AreParts source input
+  pub printed : Prints old new (output_of input) result

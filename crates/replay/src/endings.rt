@@ -1,0 +1,65 @@
+//! How a run ends.
+
+ghost use Rattle.std.specs.Prelude.{◌≡◌};
+ghost use Rattle.replay.specs.Replays.{status_of};
+ghost use Rattle.replay.specs.declared.endings.Halt.TheVariants.{Memory};
+
+use fab_base::NoMem;
+use std::alloc::AllocError;
+
+/// How an input ends a run.
+#[derive(Clone, Copy, Debug, PartialEq, Eq)]
+pub enum Verdict {
+    /// All lines were run.
+    Whole,
+    /// The text before the line `---` is no layout.
+    LayoutForm,
+    /// There is no line `---`.
+    LayoutEnd,
+    /// This line of the schedule, counted from 1, is no line.
+    BadLine(u64),
+    /// There are more lines than a schedule may have.
+    TooManyLines,
+}
+
+/// What stops a run from outside.
+#[derive(Clone, Copy, Debug, PartialEq, Eq)]
+pub enum Halt {
+    /// The source failed.
+    Source,
+    /// The sink failed.
+    Sink,
+    /// No memory was left.
+    Memory,
+}
+
+impl From<NoMem> for Halt {
+    ghost from_gives = { λ _ halt. halt ≡ Memory };
+
+    fn from(_error: NoMem) -> Halt {
+        Halt::Memory
+    }
+}
+
+impl From<AllocError> for Halt {
+    ghost from_gives = { λ _ halt. halt ≡ Memory };
+
+    fn from(_error: AllocError) -> Halt {
+        Halt::Memory
+    }
+}
+
+/// The exit status of an end.
+pub(crate) fn status_of(ending: Result<Verdict, Halt>) -> u8
+    ensures { result ≡ status_of ending }
+{
+    match ending {
+        Ok(Verdict::Whole) => 0,
+        Ok(Verdict::LayoutForm) | Ok(Verdict::LayoutEnd) => 3,
+        Ok(Verdict::BadLine(_)) => 4,
+        Ok(Verdict::TooManyLines) => 8,
+        Err(Halt::Source) => 5,
+        Err(Halt::Sink) => 6,
+        Err(Halt::Memory) => 7,
+    }
+}
