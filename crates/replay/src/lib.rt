@@ -5,6 +5,8 @@
 mod endings;
 mod programs;
 mod schedules;
+#[cfg(test)]
+mod tests;
 mod texts;
 mod turns;
 

@@ -1,7 +1,7 @@
 //! One line of a schedule after another: each is read, run and printed.
 
 ghost use Rattle.std.specs.Prelude.{◌≡◌, ◌≢◌, ◌<◌, IfOk};
-ghost use Rattle.std.specs.Io.KnownBytes.{IsAtEnd, prepend_known};
+ghost use Rattle.std.specs.Io.KnownBytes.{IsAtEnd, Keeps, prepend_known};
 ghost use Rattle.fab_io.specs.Ends.{Kept, WriteTakes};
 ghost use Rattle.lines.specs.Reading.{Says};
 ghost use Rattle.world.specs.Runs.{world_of};
@@ -37,11 +37,12 @@ pub(crate) fn next<S: Source>(
     }
 }
 
-/// Writes a text. An empty one is not written.
+/// Writes a text. An empty one is not written. Want of memory leaves what was taken as it was.
 pub(crate) fn write<K: Sink>(sink: &mut K, text: &[u8]) -> Result<(), Halt>
     ensures content { WriteTakes (K.told sink.old) (K.told sink.new) result text.now }
     ensures kept { Kept (K.faults sink.old) (K.faults sink.new) (K.sound sink.old) (K.sound sink.new)
         (result ≡ Err Halt.Sink) }
+    ensures memory { result ≡ Err Halt.Memory → Keeps (K.told sink.old) (K.told sink.new) }
     ensures cause { result ≢ Err Halt.Source }
 {
     if text.is_empty() {
