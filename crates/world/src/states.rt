@@ -61,7 +61,7 @@ fn ask_node(
     ensures refused { (w : World) → ShowsNodes layout.now nodes.old.items w.nodes → RefusesAs result (refusal_of layout.now (w.nodes brick.0) ask.now) }
     ensures begun { IfOk result (λ begun. (w : World) → ShowsNodes layout.now nodes.old.items w.nodes
         → (let step = invoked (copying layout.now) brick 0 (w.nodes brick.0) ask.now in
-          (begun.packets.items ≡ step.packets) × (begun.seq ≡ step.node.seq) × ShowsNodes layout.now nodes.new.items (changed w.nodes brick.0 step.node))) }
+        (begun.packets.items ≡ step.packets) × (begun.seq ≡ step.node.seq) × ShowsNodes layout.now nodes.new.items (changed w.nodes brick.0 step.node))) }
     ensures few { IfOk result (λ begun. vec_len begun.packets ≤ 32) }
     ensures err { OnErr result ((w : World) → ShowsNodes layout.now nodes.old.items w.nodes → ShowsNodes layout.now nodes.new.items w.nodes) }
 {
@@ -81,7 +81,7 @@ fn hand_over(
     requires brick { brick.0 < vec_len nodes.old }
     ensures stepped { IfOk result (λ outs. (w : World) → ShowsNodes layout.now nodes.old.items w.nodes
         → (let step = received (copying layout.now) brick (w.nodes brick.0) packet.now in
-          (outs.packets.items ≡ step.packets) × (outs.told ≡ step.told) × ShowsNodes layout.now nodes.new.items (changed w.nodes brick.0 step.node))) }
+        (outs.packets.items ≡ step.packets) × (outs.told ≡ step.told) × ShowsNodes layout.now nodes.new.items (changed w.nodes brick.0 step.node))) }
     ensures few { IfOk result (λ outs. vec_len outs.packets ≤ 32) }
     ensures err { OnErr result ((w : World) → ShowsNodes layout.now nodes.old.items w.nodes → ShowsNodes layout.now nodes.new.items w.nodes) }
 {
@@ -177,7 +177,12 @@ impl State {
             None => return Ok(Outcome::Refused(Refusal::NoStripe)),
         };
         let op = op.copy(alloc)?;
-        self.begin(alloc, layout, BrickId(brick as u16), Ask { group, stripe, op })
+        self.begin(
+            alloc,
+            layout,
+            BrickId(brick as u16),
+            Ask { group, stripe, op },
+        )
     }
 
     /// A brick begins an operation, or refuses it.

@@ -1,6 +1,5 @@
 -- The line was run, and the text is what it prints.
-use Rattle.std.proofs.Common.{◌≡◌, length, Some, sym, ap, ◌∙◌}
-use Rattle.lines.specs.Grammar.{line_of}
+use Rattle.std.proofs.Common.{length, sym, ap, ◌∙◌}
 use Rattle.world.specs.Runs.{Run, world_of}
 use Rattle.world.proofs.LineLemmas.{asks_stripes}
 use Rattle.world.proofs.RunLemmas.{text_is}
