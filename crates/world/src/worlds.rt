@@ -109,7 +109,7 @@ impl World {
     pub fn step(&mut self, content: &[u8]) -> Result<Bytes, StepFault>
         ensures ok { IfOk result (λ text. Ran self.old self.new content.now text) }
         ensures bad { IsErrOf result StepFault.BadLine → (line_of content.now ≡ None) × (self.new ≡ self.old) }
-        ensures memory { IsErrOf result StepFault.NoMemory → Stands self.old self.new content.now }
+        ensures memory { Stands self.old self.new content.now result }
     {
         let line = match parse(self.alloc, content)? {
             Some(line) => line,
