@@ -1,5 +1,5 @@
 -- What a history tells, step by step.
-use Rattle.std.proofs.Common.{◌≡◌, ◌≢◌, ℕ, suc, ◌+◌, ◌<◌, ◌≤◌, ◌-◌, ◌⊎◌, ⊎_elim, get_or, set, Bool, true, false, cond, nat_eq, List, [], ◌∷◌, ◌++◌, length, Option, Some, None, refl, sym, ap, ◌∙◌, subst, arith, length-append}
+use Rattle.std.proofs.Common.{◌≡◌, ◌≢◌, ℕ, ◌+◌, ◌<◌, ◌≤◌, ◌-◌, ⊎_elim, get_or, set, Bool, true, false, cond, nat_eq, List, [], ◌∷◌, ◌++◌, length, Option, Some, None, refl, sym, ap, ◌∙◌, subst, arith, length-append}
 use Rattle.std.specs.Prelude.{slice_get, if◌then◌else◌, unwrap_or}
 use Rattle.std.specs.Option.{option_map, option_or}
 use Rattle.std.specs.BTreeMap.{BTreeMap, get, is_at}
@@ -55,7 +55,7 @@ tells_other history w v packets marks begun operations numbers seqs tells = reco
   begun = tells.begun ∙ sym begun;
   operations = subst (λ (o : ℕ → Option Operation). StandFor history.operations.items o) (sym operations) tells.operations;
   numbers = λ i k low high.
-  tells.numbers i k low (let same : (v.nodes i).seq ≡ (w.nodes i).seq = seqs i in omega arith) ∙ ap (λ (n : ℕ → ℕ → ℕ). Some (n i k)) (sym numbers);
+      tells.numbers i k low (let same : (v.nodes i).seq ≡ (w.nodes i).seq = seqs i in omega arith) ∙ ap (λ (n : ℕ → ℕ → ℕ). Some (n i k)) (sym numbers);
 }
 
 -- a brick's step that opens no call leaves all call numbers
@@ -82,9 +82,11 @@ known_changed old new operations number change next alike changed known n k is =
         let before = known n x was in
         let after = alike x before.0 before.2 in
         let same : operations number ≡ Some before.0 = ap operations (sym here) ∙ before.1 in
-        let becomes : change x ≡ k = cc in
-        (after.0, value_here operations number (n + 1) (next (operations number)) here ∙ ap next same ∙ after.1,
-        subst (λ (kept : Known). IsKnown kept after.0) becomes after.2)
+        let becomes : change x ≡ k = cc in (
+          after.0,
+          value_here operations number (n + 1) (next (operations number)) here ∙ ap next same ∙ after.1,
+          subst (λ (kept : Known). IsKnown kept after.0) becomes after.2,
+        )
 
 -- an operation that made a version
 pub made_alike : (stamp : Stamp) (known : Known) (o : Operation) → IsKnown known o
@@ -96,10 +98,18 @@ made_alike stamp known o is =
 pub ended_alike : (answer : Answer) (seen : Option Stamp) (known : Known) (o : Operation) → IsKnown known o
     → (p : Operation) × (with_answer answer seen (Some o) ≡ Some p)
     × IsKnown (ended_known (is_answer answer) seen known) p
-ended_alike answer seen known o is =
-    (_, refl, record {
-      begin = is.begin; group = is.group; stripe = is.stripe; version = ap (λ v. version_after v seen) is.version; made = is.made; answered = refl;
-    })
+ended_alike answer seen known o is = (
+  _,
+  refl,
+  record {
+    begin = is.begin;
+    group = is.group;
+    stripe = is.stripe;
+    version = ap (λ v. version_after v seen) is.version;
+    made = is.made;
+    answered = refl;
+  },
+)
 
 -- one operation changed, and some marks came
 tells_changed : (old new : History) (w : World) (number : ℕ) (kept after : List Known) (change : Known → Known) (next : Option Operation → Option Operation)
@@ -129,6 +139,7 @@ numbers_grow w map b number node next here old i k low = by_brick (nat_eq i b) r
     by_call : (y : Bool) → nat_eq k node.seq ≡ y → k ≤ node.seq → get call_cmp map (b, k) ≡ Some (cond y number (w.numbers b k))
     by_call true this high = ap (λ j. get call_cmp map (b, j)) (eqb-true k node.seq this) ∙ here
     by_call false other high = let apart : k ≢ node.seq = eqb-false k node.seq other in old b k low (omega arith)
+
     by_brick : (x : Bool) → nat_eq i b ≡ x → k ≤ (cond x node (w.nodes i)).seq
         → get call_cmp map (i, k) ≡ Some (cond x (put (w.numbers b) node.seq number) (w.numbers i) k)
     by_brick true same high = ap (λ j. get call_cmp map (j, k)) (eqb-true i b same) ∙ by_call (nat_eq k node.seq) refl high
@@ -248,7 +259,7 @@ pub tells_ended : (old new : History) (w : World) (b seq number : ℕ) (answer :
     })
 tells_ended old new w b seq number answer answered seen kept after tells is are become right sent marks changed count numbers =
     let at : ChangesAt kept after (w.numbers b seq) (ended_known answered seen) =
-        subst (λ n. ChangesAt kept after n (ended_known answered seen)) is changed in
+    subst (λ n. ChangesAt kept after n (ended_known answered seen)) is changed in
     tells_changed old new w (w.numbers b seq) kept after (ended_known (is_answer answer) seen) (with_answer answer seen) tells are become (ended_alike answer seen)
     (subst (λ (x : Bool). ChangesAt kept after (w.numbers b seq) (ended_known x seen)) right at) count sent numbers _
     (marks ∙ ap (λ n. old.marks.items ++ End (length old.marks.items) n answer ∷ []) is

@@ -1,18 +1,16 @@
 -- When an operation begins in the machine, and what a message does there.
-use Rattle.std.proofs.Common.{◌≡◌, ℕ, ◌+◌, ◌-◌, ◌<◌, ◌≤◌, ◌^◌, Bool, true, false, not, cond, nat_eq, nat_lt, ◌&&◌, ◌||◌, Option, Some, None, refl, sym, ap, ◌∙◌, subst, arith}
+use Rattle.std.proofs.Common.{◌≡◌, ℕ, ◌+◌, ◌<◌, ◌≤◌, Bool, true, false, not, cond, nat_lt, ◌&&◌, Option, Some, None, refl, ap, ◌∙◌, arith}
 use Rattle.std.specs.Prelude.{if◌then◌else◌}
 use Rattle.std.specs.Option.{is_some}
-use Rattle.std.proofs.lemmas.Bool.{cond_both, and_parts}
 use Rattle.std.proofs.lemmas.Bool.Decides.{nat_tests}
 use Rattle.fab_base.specs.declared.asks.Ask.{Ask}
 use Rattle.fab_base.specs.declared.asks.Op.{Op}
 use Rattle.fab_base.specs.declared.answers.Refusal.{Refusal}
-use Rattle.fab_base.specs.declared.answers.Refusal.TheVariants as Refusal
 use Rattle.fab_base.specs.declared.identities.BrickId.{BrickId}
 use Rattle.fab_wire.specs.declared.messages.Packet.{Packet}
 use Rattle.protocol.specs.Settings.{Layout, Setting, Group, group_of}
-use Rattle.protocol.specs.Nodes.{Node, NodeStep, is_stripe_op, has_block, has_length, is_spent, most_open, refusal_in, refusal_of, began, invoked, received}
-use Rattle.protocol.specs.Worlds.{World, Invokes, Delivers, is_brick, may_begin, world_began, world_stepped, delivered, packet_of, happens}
+use Rattle.protocol.specs.Nodes.{Node, is_stripe_op, has_block, has_length, is_spent, most_open, refusal_in, refusal_of, began, invoked, received}
+use Rattle.protocol.specs.Worlds.{World, Invokes, Delivers, is_brick, world_began, world_stepped, delivered, packet_of, happens}
 use Rattle.world.specs.Runs.{ask_of, refusal_at}
 
 -- where there is no such group there is no such stripe

@@ -29,13 +29,14 @@ pub shows_changed : (layout : Layout) (nodes : List Node) (machines : ℕ → ma
 shows_changed layout nodes machines b node next me state shows = record {
   count = length-set nodes b node ∙ shows.count;
   each = λ i x is.
-  ⊎_elim
-  (λ (here : (i ≡ b) × (node ≡ x)).
-  (subst (λ (y : Node). y.me ≡ brick_of i) here.1 (me ∙ ap brick_of (sym here.0)),
-  subst (λ (y : Node). state_of layout.block y ≡ machine.put machines b next i) here.1 (state ∙ sym (value_here machines b i next here.0))))
-  (λ (there : (i ≢ b) × (slice_get nodes i ≡ Some x)).
-  let old = shows.each i x there.1 in (old.0, old.1 ∙ sym (value_elsewhere machines b i next there.0)))
-  (replaced nodes b node i x is);
+      ⊎_elim
+      (λ (here : (i ≡ b) × (node ≡ x)). (
+        subst (λ (y : Node). y.me ≡ brick_of i) here.1 (me ∙ ap brick_of (sym here.0)),
+        subst (λ (y : Node). state_of layout.block y ≡ machine.put machines b next i) here.1 (state ∙ sym (value_here machines b i next here.0)),
+      ))
+      (λ (there : (i ≢ b) × (slice_get nodes i ≡ Some x)).
+      let old = shows.each i x there.1 in (old.0, old.1 ∙ sym (value_elsewhere machines b i next there.0)))
+      (replaced nodes b node i x is);
 }
 
 -- one brick that is as it was
@@ -45,13 +46,14 @@ pub shows_same : (layout : Layout) (nodes : List Node) (machines : ℕ → machi
 shows_same layout nodes machines b old new at me state shows = record {
   count = length-set nodes b new ∙ shows.count;
   each = λ i x is.
-  ⊎_elim
-  (λ (here : (i ≡ b) × (new ≡ x)).
-  let was = shows.each b old at in
-  (subst (λ (y : Node). y.me ≡ brick_of i) here.1 (me ∙ was.0 ∙ ap brick_of (sym here.0)),
-  subst (λ (y : Node). state_of layout.block y ≡ machines i) here.1 (state ∙ was.1 ∙ ap machines (sym here.0))))
-  (λ (there : (i ≢ b) × (slice_get nodes i ≡ Some x)). shows.each i x there.1)
-  (replaced nodes b new i x is);
+      ⊎_elim
+      (λ (here : (i ≡ b) × (new ≡ x)).
+      let was = shows.each b old at in (
+        subst (λ (y : Node). y.me ≡ brick_of i) here.1 (me ∙ was.0 ∙ ap brick_of (sym here.0)),
+        subst (λ (y : Node). state_of layout.block y ≡ machines i) here.1 (state ∙ was.1 ∙ ap machines (sym here.0)),
+      ))
+      (λ (there : (i ≢ b) × (slice_get nodes i ≡ Some x)). shows.each i x there.1)
+      (replaced nodes b new i x is);
 }
 
 -- what the brick of a number is
@@ -79,12 +81,13 @@ asked_begun layout bricks b old new ask result within is me begins =
     (λ begun as_machine w shows.
     let at = node_at layout bricks w.nodes b old within is shows in
     let same : machine.invoked (copying layout) old.me 0 (state_of layout.block old) ask ≡ machine.invoked (copying layout) (brick_of b) 0 (w.nodes b) ask =
-        ap (λ (x : BrickId). machine.invoked (copying layout) x 0 (state_of layout.block old) ask) at.0
-        ∙ ap (λ (x : machine.Node). machine.invoked (copying layout) (brick_of b) 0 x ask) at.1
-    in
-    (as_machine.packets ∙ ap (λ (x : machine.NodeStep). x.packets) same,
-    as_machine.seq ∙ ap (λ (x : machine.NodeStep). x.node.seq) same,
-    shows_changed layout bricks w.nodes b new _ (me ∙ at.0) (as_machine.state ∙ ap (λ (x : machine.NodeStep). x.node) same) shows))
+    ap (λ (x : BrickId). machine.invoked (copying layout) x 0 (state_of layout.block old) ask) at.0
+    ∙ ap (λ (x : machine.Node). machine.invoked (copying layout) (brick_of b) 0 x ask) at.1
+    in (
+      as_machine.packets ∙ ap (λ (x : machine.NodeStep). x.packets) same,
+      as_machine.seq ∙ ap (λ (x : machine.NodeStep). x.node.seq) same,
+      shows_changed layout bricks w.nodes b new _ (me ∙ at.0) (as_machine.state ∙ ap (λ (x : machine.NodeStep). x.node) same) shows,
+    ))
     begins
 
 -- a brick that did not begin is as it was
@@ -110,12 +113,13 @@ handed_over layout bricks b old new packet result within is me steps =
     (λ outs as_machine w shows.
     let at = node_at layout bricks w.nodes b old within is shows in
     let same : machine.received (copying layout) old.me (state_of layout.block old) packet ≡ machine.received (copying layout) (brick_of b) (w.nodes b) packet =
-        ap (λ (x : BrickId). machine.received (copying layout) x (state_of layout.block old) packet) at.0
-        ∙ ap (λ (x : machine.Node). machine.received (copying layout) (brick_of b) x packet) at.1
-    in
-    (as_machine.packets ∙ ap (λ (x : machine.NodeStep). x.packets) same,
-    as_machine.told ∙ ap (λ (x : machine.NodeStep). x.told) same,
-    shows_changed layout bricks w.nodes b new _ (me ∙ at.0) (as_machine.state ∙ ap (λ (x : machine.NodeStep). x.node) same) shows))
+    ap (λ (x : BrickId). machine.received (copying layout) x (state_of layout.block old) packet) at.0
+    ∙ ap (λ (x : machine.Node). machine.received (copying layout) (brick_of b) x packet) at.1
+    in (
+      as_machine.packets ∙ ap (λ (x : machine.NodeStep). x.packets) same,
+      as_machine.told ∙ ap (λ (x : machine.NodeStep). x.told) same,
+      shows_changed layout bricks w.nodes b new _ (me ∙ at.0) (as_machine.state ∙ ap (λ (x : machine.NodeStep). x.node) same) shows,
+    ))
     steps
 
 -- the number of a brick's next call is above those so far
@@ -156,12 +160,13 @@ pub fresh_more : (bricks : List Node) (n : ℕ) (node : Node) → AreFresh brick
 fresh_more bricks n node fresh me state = record {
   count = length-append bricks (node ∷ []) ∙ ap (λ k. k + 1) fresh.count;
   each = λ i x is.
-  ⊎_elim
-  (λ (old : slice_get bricks i ≡ Some x). fresh.each i x old)
-  (λ (new : (i ≡ length bricks) × (node ≡ x)).
-  (subst (λ (y : Node). y.me ≡ brick_of i) new.1 (me ∙ ap brick_of (sym (new.0 ∙ fresh.count))),
-  subst (λ (y : Node). (block : ℕ) → state_of block y ≡ machine.first_node block) new.1 state))
-  (grown bricks node i x is);
+      ⊎_elim
+      (λ (old : slice_get bricks i ≡ Some x). fresh.each i x old)
+      (λ (new : (i ≡ length bricks) × (node ≡ x)). (
+        subst (λ (y : Node). y.me ≡ brick_of i) new.1 (me ∙ ap brick_of (sym (new.0 ∙ fresh.count))),
+        subst (λ (y : Node). (block : ℕ) → state_of block y ≡ machine.first_node block) new.1 state,
+      ))
+      (grown bricks node i x is);
 }
 
 -- fresh bricks are those of the first world

@@ -1,5 +1,5 @@
 -- The world that a run leaves.
-use Rattle.std.proofs.Common.{◌≡◌, ℕ, ◌<◌, ◌≤◌, ◌-◌, Bool, true, false, cond, nat_lt, ◌&&◌, List, [], ◌∷◌, ◌++◌, length, take, drop, take_all, length-drop, Option, Some, None, refl, sym, ap, ◌∙◌, subst, arith}
+use Rattle.std.proofs.Common.{◌≡◌, ℕ, ◌<◌, ◌-◌, Bool, true, false, cond, nat_lt, ◌&&◌, List, [], ◌∷◌, ◌++◌, length, take, drop, take_all, length-drop, Option, Some, None, refl, sym, ap, ◌∙◌, subst, arith}
 use Rattle.std.proofs.lemmas.Bool.Decides.{nat_tests}
 use Rattle.fab_base.specs.declared.answers.Refusal.{Refusal}
 use Rattle.fab_wire.specs.declared.requests.Version.{Version}
@@ -8,11 +8,10 @@ use Rattle.lines.specs.declared.forms.Line.{Line}
 use Rattle.lines.specs.declared.forms.Line.TheVariants.{Nothing, Invoke, Deliver}
 use Rattle.node.specs.Copies.{copying}
 use Rattle.protocol.specs.Settings.{Setting, Layout, Group, group_of}
-use Rattle.protocol.specs.Coordinators.{Coordinator}
-use Rattle.protocol.specs.Worlds.{World, Event, Operation, first_world, packet_of, run}
+use Rattle.protocol.specs.Worlds.{World, first_world, packet_of, run}
 use Rattle.protocol.proofs.Books.{Books}
 use Rattle.world.specs.Runs.{Run, after_line, after_lines, world_of, events_of, brick_of, ask_of, refusal_at}
-use Rattle.world.specs.States.{IsNumbered, Shows, outcome_of, refused_or_begun, handled_or_idle}
+use Rattle.world.specs.States.{IsNumbered, Shows, outcome_of, refused_or_begun}
 use Rattle.world.specs.Steps.{outcome_text, with_line, is_stripe, log_at}
 use Rattle.world.specs.Texts.{text_of, marks_text, idle_text, is_deliverable, new_marks, refused_or_marks}
 use Rattle.world.specs.declared.states.Outcome.{Outcome}
@@ -42,8 +41,8 @@ pub log_at_part : (r : Run) (b g s : ℕ) (group : Group) (log : List Version) �
     → log ≡ (((world_of r).nodes b).replicas g s).log → Some log ≡ log_at r b g s
 log_at_part r b g s group log found within here is =
     let there : is_stripe (group_of r.layout g) s && nat_lt b r.layout.bricks ≡ true =
-        ap (λ o. is_stripe o s && nat_lt b r.layout.bricks) found ∙ both (nat_lt s group.stripes) (nat_lt b r.layout.bricks)
-        (let e : nat_lt s group.stripes ≡ true = grind (arith, nat_tests) in e) (let e : nat_lt b r.layout.bricks ≡ true = grind (arith, nat_tests) in e)
+    ap (λ o. is_stripe o s && nat_lt b r.layout.bricks) found ∙ both (nat_lt s group.stripes) (nat_lt b r.layout.bricks)
+    (let e : nat_lt s group.stripes ≡ true = grind (arith, nat_tests) in e) (let e : nat_lt b r.layout.bricks ≡ true = grind (arith, nat_tests) in e)
     in
     ap (λ l. Some l) is ∙ sym (ap (λ x. cond x (Some (((world_of r).nodes b).replicas g s).log) None) there)
   where
@@ -98,13 +97,13 @@ pub text_is : (old new : Run) (line : Line) (outcome : Outcome) (marks : List Ma
     → text ≡ text_of (copying old.layout) (world_of old) line
 text_is old new line outcome marks before text grown came are count is =
     let rest : take (length marks - before) (drop before marks) ≡ drop before marks =
-        take_all (length marks - before) (drop before marks) (omega (arith, length-drop before marks))
+    take_all (length marks - before) (drop before marks) (omega (arith, length-drop before marks))
     in
     let after : marks ≡ (after_line (copying old.layout) (world_of old) line).marks =
-        are ∙ ap (λ (r : Run). (world_of r).marks) grown ∙ ap (λ (w : World). w.marks) (world_of-with_line old line)
+    are ∙ ap (λ (r : Run). (world_of r).marks) grown ∙ ap (λ (w : World). w.marks) (world_of-with_line old line)
     in
     let made : drop before marks ≡ new_marks (world_of old) (after_line (copying old.layout) (world_of old) line) =
-        ap (λ n. drop n marks) count ∙ ap (λ (xs : List Mark). drop (length (world_of old).marks) xs) after
+    ap (λ n. drop n marks) count ∙ ap (λ (xs : List Mark). drop (length (world_of old).marks) xs) after
     in
     is ∙ ap (λ (xs : List Mark). outcome_text outcome xs) (rest ∙ made)
     ∙ ap (λ (x : Outcome). outcome_text x (new_marks (world_of old) (after_line (copying old.layout) (world_of old) line))) came

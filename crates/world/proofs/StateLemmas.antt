@@ -17,7 +17,6 @@ use Rattle.protocol.specs.declared.tellings.Told.TheVariants.{Nothing, Made, Ans
 use Rattle.protocol.specs.Worlds.{World, Invokes, Delivers, packet_of, world_began, world_stepped, happens}
 use Rattle.world.specs.Runs.{ask_of}
 use Rattle.world.specs.States.{Shows, ShowsNodes, Tells, handled_or_idle}
-use Rattle.world.specs.declared.states.Outcome.{Outcome}
 use Rattle.world.specs.declared.states.Outcome.TheVariants.{Marks, Idle}
 use Rattle.world.specs.declared.states.State.{State}
 use Rattle.world.proofs.MachineBegins.{happens_refused, happens_down, happens_begun, happens_unsent, happens_astray, happens_handled}

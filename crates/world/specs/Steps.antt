@@ -1,5 +1,5 @@
 -- What a step of a run comes to.
-use Rattle.std.specs.Prelude.{◌≡◌, ℕ, ◌⊎◌, nat_lt, ◌&&◌, if◌then◌else◌, Bool, false, List, [], ◌∷◌, ◌++◌, Option, Some, None}
+use Rattle.std.specs.Prelude.{◌≡◌, ℕ, ◌⊎◌, nat_lt, ◌&&◌, if◌then◌else◌, Bool, false, List, [], ◌∷◌, ◌++◌, Option, Some, None, Result, Ok, Err}
 use Rattle.fab_wire.specs.declared.requests.Version.{Version}
 use Rattle.reg_model.specs.declared.marks.Mark.{Mark}
 use Rattle.lines.specs.Grammar.{line_of}
@@ -10,6 +10,8 @@ use Rattle.world.specs.Runs.{Run, world_of}
 use Rattle.world.specs.Texts.{text_of, marks_text, refusal_text, idle_text}
 use Rattle.world.specs.declared.states.Outcome.{Outcome}
 use Rattle.world.specs.declared.states.Outcome.TheVariants.{Marks, Refused, Idle}
+use Rattle.world.specs.declared.worlds.StepFault.{StepFault}
+use Rattle.world.specs.declared.worlds.StepFault.TheVariants.{BadLine, NoMemory}
 
 -- the text of what a line came to, with the marks that it made
 abbrev pub outcome_text : Outcome → List Mark → List ℕ
@@ -25,12 +27,14 @@ with_line r line = record { layout = r.layout; lines = r.lines ++ line ∷ [] }
 pub record Ran (old new : Run) (content text : List ℕ) : Type 0 where
   pub line : Line
   pub is_line : line_of content ≡ Some line
-  pub new_is : new ≡ with_line old line
+  pub run : new ≡ with_line old line
   pub text_is : text ≡ text_of (copying old.layout) (world_of old) line
 
--- nothing was run, or the line that the content says was
-abbrev pub Stands : Run → Run → List ℕ → Type 0
-Stands old new content = (new ≡ old) ⊎ ((line : Line) × (line_of content ≡ Some line) × (new ≡ with_line old line))
+-- what a step that answers no text leaves: no line changes nothing; for want of memory nothing was run, or only the text is missing
+abbrev pub Stands : Run → Run → List ℕ → Result (List ℕ) StepFault → Type 0
+Stands old new content (Ok text) = Unit {0}
+Stands old new content (Err BadLine) = new ≡ old
+Stands old new content (Err NoMemory) = (new ≡ old) ⊎ ((line : Line) × (line_of content ≡ Some line) × (new ≡ with_line old line))
 
 -- a stripe of the group
 abbrev pub is_stripe : Option Group → ℕ → Bool

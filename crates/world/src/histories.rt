@@ -134,7 +134,8 @@ impl History {
     pub fn number_call(&mut self, brick: BrickId, seq: u64) -> Result<(), NoMem>
         requires { HasRoom self.old }
         ensures room { HasRoom self.new }
-        ensures number { OnOk result ((w : World) → Tells self.old w → get call_cmp self.new.numbers (brick.0, seq) ≡ Some (w.begun + 1)) }
+        ensures number { OnOk result ((w : World) → Tells self.old w
+            → get call_cmp self.new.numbers (brick.0, seq) ≡ Some (w.begun + 1)) }
         ensures same { (w : World) → (w.nodes brick.0).seq < seq → Tells self.old w → Tells self.new w }
         ensures marks { vec_len self.new.marks ≡ vec_len self.old.marks }
     {
@@ -146,7 +147,8 @@ impl History {
     /// Makes room for what one step of a brick adds, and gives the number of the next operation to the brick's next call, if one is left.
     pub fn expect_call(&mut self, brick: BrickId, next: Option<u64>) -> Result<(), NoMem>
         ensures room { OnOk result (HasRoom self.new) }
-        ensures number { OnOk result (ForSome next (λ seq. (w : World) → Tells self.old w → get call_cmp self.new.numbers (brick.0, seq) ≡ Some (w.begun + 1))) }
+        ensures number { OnOk result (ForSome next (λ seq. (w : World) → Tells self.old w
+            → get call_cmp self.new.numbers (brick.0, seq) ≡ Some (w.begun + 1))) }
         ensures same { (w : World) → ForSome next (λ seq. (w.nodes brick.0).seq < seq) → Tells self.old w → Tells self.new w }
         ensures marks { vec_len self.new.marks ≡ vec_len self.old.marks }
     {
@@ -183,7 +185,8 @@ impl History {
     pub fn begin(&mut self, brick: BrickId, ask: Ask, packets: Vec<Packet>)
         requires room { HasRoom self.old }
         requires few { vec_len packets ≤ 32 }
-        ensures begun { (w : World) (step : NodeStep) → Tells self.old w → packets.items ≡ step.packets → step.node.seq ≡ (w.nodes brick.0).seq + 1
+        ensures begun { (w : World) (step : NodeStep) → Tells self.old w
+            → packets.items ≡ step.packets → step.node.seq ≡ (w.nodes brick.0).seq + 1
             → get call_cmp self.old.numbers (brick.0, step.node.seq) ≡ Some (w.begun + 1) → Tells self.new (world_began w brick ask step) }
         ensures marks { vec_len self.old.marks ≤ vec_len self.new.marks }
     {
@@ -249,7 +252,8 @@ impl History {
     pub fn step(&mut self, brick: BrickId, outs: Outs)
         requires room { HasRoom self.old }
         requires few { vec_len outs.packets ≤ 32 }
-        ensures stepped { (w : World) (step : NodeStep) → Tells self.old w → outs.packets.items ≡ step.packets → outs.told ≡ step.told
+        ensures stepped { (w : World) (step : NodeStep) → Tells self.old w
+            → outs.packets.items ≡ step.packets → outs.told ≡ step.told
             → step.node.seq ≡ (w.nodes brick.0).seq → IsOfCall (w.nodes brick.0) step.told → Tells self.new (world_stepped w brick step step.told) }
         ensures marks { vec_len self.old.marks ≤ vec_len self.new.marks }
     {

@@ -58,12 +58,14 @@ fn ask_node(
     requires copies { KeepsCopies layout.now }
     requires brick { brick.0 < vec_len nodes.old }
     requires stripes { is_stripe_op ask.now.op ≡ true }
-    ensures refused { (w : World) → ShowsNodes layout.now nodes.old.items w.nodes → RefusesAs result (refusal_of layout.now (w.nodes brick.0) ask.now) }
+    ensures refused { (w : World) → ShowsNodes layout.now nodes.old.items w.nodes
+        → RefusesAs result (refusal_of layout.now (w.nodes brick.0) ask.now) }
     ensures begun { IfOk result (λ begun. (w : World) → ShowsNodes layout.now nodes.old.items w.nodes
         → (let step = invoked (copying layout.now) brick 0 (w.nodes brick.0) ask.now in
-          (begun.packets.items ≡ step.packets) × (begun.seq ≡ step.node.seq) × ShowsNodes layout.now nodes.new.items (changed w.nodes brick.0 step.node))) }
+        (begun.packets.items ≡ step.packets) × (begun.seq ≡ step.node.seq) × ShowsNodes layout.now nodes.new.items (changed w.nodes brick.0 step.node))) }
     ensures few { IfOk result (λ begun. vec_len begun.packets ≤ 32) }
-    ensures err { OnErr result ((w : World) → ShowsNodes layout.now nodes.old.items w.nodes → ShowsNodes layout.now nodes.new.items w.nodes) }
+    ensures err { OnErr result ((w : World) → ShowsNodes layout.now nodes.old.items w.nodes
+        → ShowsNodes layout.now nodes.new.items w.nodes) }
 {
     let node = &mut nodes[brick.0 as usize];
     node.invoke(alloc, layout, 0, ask)
@@ -81,9 +83,10 @@ fn hand_over(
     requires brick { brick.0 < vec_len nodes.old }
     ensures stepped { IfOk result (λ outs. (w : World) → ShowsNodes layout.now nodes.old.items w.nodes
         → (let step = received (copying layout.now) brick (w.nodes brick.0) packet.now in
-          (outs.packets.items ≡ step.packets) × (outs.told ≡ step.told) × ShowsNodes layout.now nodes.new.items (changed w.nodes brick.0 step.node))) }
+        (outs.packets.items ≡ step.packets) × (outs.told ≡ step.told) × ShowsNodes layout.now nodes.new.items (changed w.nodes brick.0 step.node))) }
     ensures few { IfOk result (λ outs. vec_len outs.packets ≤ 32) }
-    ensures err { OnErr result ((w : World) → ShowsNodes layout.now nodes.old.items w.nodes → ShowsNodes layout.now nodes.new.items w.nodes) }
+    ensures err { OnErr result ((w : World) → ShowsNodes layout.now nodes.old.items w.nodes
+        → ShowsNodes layout.now nodes.new.items w.nodes) }
 {
     let node = &mut nodes[brick.0 as usize];
     node.on_message(alloc, layout, packet)
@@ -131,8 +134,10 @@ impl State {
         requires few { length layout.now.groups ≤ 2 ^ 32 }
         requires bricks { vec_len self.old.nodes ≡ layout.now.bricks }
         requires stripes { IsOfStripes line.now }
-        ensures shows { OnOk result ((w : World) → IsNumbered w → Shows layout.now self.old w → Shows layout.now self.new (after_line (copying layout.now) w line.now)) }
-        ensures outcome { IfOk result (λ outcome. (w : World) → Shows layout.now self.old w → outcome ≡ outcome_of (copying layout.now) w line.now) }
+        ensures shows { OnOk result ((w : World) → IsNumbered w → Shows layout.now self.old w
+            → Shows layout.now self.new (after_line (copying layout.now) w line.now)) }
+        ensures outcome { IfOk result (λ outcome. (w : World) → Shows layout.now self.old w
+            → outcome ≡ outcome_of (copying layout.now) w line.now) }
         ensures err { OnErr result ((w : World) → Shows layout.now self.old w → Shows layout.now self.new w) }
         ensures marks { vec_len self.old.history.marks ≤ vec_len self.new.history.marks }
     {
@@ -177,7 +182,12 @@ impl State {
             None => return Ok(Outcome::Refused(Refusal::NoStripe)),
         };
         let op = op.copy(alloc)?;
-        self.begin(alloc, layout, BrickId(brick as u16), Ask { group, stripe, op })
+        self.begin(
+            alloc,
+            layout,
+            BrickId(brick as u16),
+            Ask { group, stripe, op },
+        )
     }
 
     /// A brick begins an operation, or refuses it.
@@ -192,8 +202,10 @@ impl State {
         requires brick { brick.0 < layout.now.bricks }
         requires bricks { vec_len self.old.nodes ≡ layout.now.bricks }
         requires stripes { is_stripe_op ask.op ≡ true }
-        ensures shows { OnOk result ((w : World) → Shows layout.now self.old w → Shows layout.now self.new (happens (copying layout.now) w (Invokes brick ask))) }
-        ensures outcome { IfOk result (λ outcome. (w : World) → Shows layout.now self.old w → outcome ≡ refused_or_begun (refusal_at (copying layout.now) w brick ask)) }
+        ensures shows { OnOk result ((w : World) → Shows layout.now self.old w
+            → Shows layout.now self.new (happens (copying layout.now) w (Invokes brick ask))) }
+        ensures outcome { IfOk result (λ outcome. (w : World) → Shows layout.now self.old w
+            → outcome ≡ refused_or_begun (refusal_at (copying layout.now) w brick ask)) }
         ensures err { OnErr result ((w : World) → Shows layout.now self.old w → Shows layout.now self.new w) }
         ensures marks { vec_len self.old.history.marks ≤ vec_len self.new.history.marks }
     {
@@ -213,8 +225,10 @@ impl State {
     fn deliver(&mut self, alloc: Global, layout: &Layout, message: u64) -> Result<Outcome, NoMem>
         requires copies { KeepsCopies layout.now }
         requires bricks { vec_len self.old.nodes ≡ layout.now.bricks }
-        ensures shows { OnOk result ((w : World) → IsNumbered w → Shows layout.now self.old w → Shows layout.now self.new (happens (copying layout.now) w (Delivers message))) }
-        ensures outcome { IfOk result (λ outcome. (w : World) → Shows layout.now self.old w → outcome ≡ handled_or_idle (copying layout.now) (packet_of w.packets message)) }
+        ensures shows { OnOk result ((w : World) → IsNumbered w → Shows layout.now self.old w
+            → Shows layout.now self.new (happens (copying layout.now) w (Delivers message))) }
+        ensures outcome { IfOk result (λ outcome. (w : World) → Shows layout.now self.old w
+            → outcome ≡ handled_or_idle (copying layout.now) (packet_of w.packets message)) }
         ensures err { OnErr result ((w : World) → Shows layout.now self.old w → Shows layout.now self.new w) }
         ensures marks { vec_len self.old.history.marks ≤ vec_len self.new.history.marks }
     {

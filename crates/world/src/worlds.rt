@@ -64,7 +64,9 @@ fn print(alloc: Global, outcome: Outcome, marks: &[Mark]) -> Result<Bytes, NoMem
 {
     match outcome {
         Outcome::Marks => Ok(Bytes::from_vec(marks_text(alloc, marks)?.into_bytes())),
-        Outcome::Refused(refusal) => Ok(Bytes::from_vec(refusal_text(alloc, refusal)?.into_bytes())),
+        Outcome::Refused(refusal) => Ok(Bytes::from_vec(refusal_text(
+            alloc, refusal,
+        )?.into_bytes())),
         Outcome::Idle => Ok(Bytes::from_vec(idle_text(alloc)?.into_bytes())),
     }
 }
@@ -107,7 +109,7 @@ impl World {
     pub fn step(&mut self, content: &[u8]) -> Result<Bytes, StepFault>
         ensures ok { IfOk result (λ text. Ran self.old self.new content.now text) }
         ensures bad { IsErrOf result StepFault.BadLine → (line_of content.now ≡ None) × (self.new ≡ self.old) }
-        ensures memory { IsErrOf result StepFault.NoMemory → Stands self.old self.new content.now }
+        ensures memory { Stands self.old self.new content.now result }
     {
         let line = match parse(self.alloc, content)? {
             Some(line) => line,
@@ -169,13 +171,14 @@ impl World {
     }
 
     /// The happenings of a stripe, in order.
-    pub fn happenings(
-        &self,
-        group: GroupId,
-        stripe: StripeNo,
-    ) -> Result<Vec<Happening>, NoMem>
+    pub fn happenings(&self, group: GroupId, stripe: StripeNo) -> Result<Vec<Happening>, NoMem>
         ensures { IfOk result (λ happenings. happenings.items ≡ happenings_of (world_of self.now) group.0 stripe.0) }
     {
-        walks::happenings(self.alloc, self.state.history.operations.as_slice(), group, stripe)
+        walks::happenings(
+            self.alloc,
+            self.state.history.operations.as_slice(),
+            group,
+            stripe,
+        )
     }
 }

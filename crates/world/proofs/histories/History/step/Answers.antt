@@ -1,10 +1,5 @@
 -- What is told of a call is noted of its operation.
-use Rattle.std.proofs.Common.{[], ◌∷◌, ◌++◌, length, sym, ◌∙◌, subst}
-use Rattle.fab_base.specs.declared.answers.Answer.{Answer}
-use Rattle.reg_model.specs.declared.marks.Mark.TheVariants.{End}
-use Rattle.protocol.specs.Nodes.{put}
-use Rattle.protocol.specs.Worlds.{with_answer}
-use Rattle.world.specs.States.{Tells}
+use Rattle.std.proofs.Common.{◌++◌, sym, ◌∙◌}
 use Rattle.world.proofs.HistoryLemmas.{tells_step_made, tells_step_ended}
 use Rattle.world.proofs.histories.History.step.Goals as goal
 

@@ -12,8 +12,11 @@ use Rattle.world.proofs.states.State.begin.Goals as goal
 pub returns-in_err-expect_call-clause-err : goal.returns-in_err-expect_call-clause-err
 returns-in_err-expect_call-clause-err c =
     on_err_always c.from_residual.result
-    (λ w shows. record { nodes = shows.nodes; history = c.expect_call.ensures.same w (next_above c.args.layout.now c.args.self.now.nodes.items c.args.brick.0 c.index.result.now c.next_seq-next.result
-    (omega (arith, c.args.self.now.nodes.ok.0, c.requires.brick, c.requires.bricks)) c.index.ensures c.next_seq-next.ensures w shows.nodes) shows.history })
+    (λ w shows. record {
+      nodes = shows.nodes;
+      history = c.expect_call.ensures.same w (next_above c.args.layout.now c.args.self.now.nodes.items c.args.brick.0 c.index.result.now c.next_seq-next.result
+          (omega (arith, c.args.self.now.nodes.ok.0, c.requires.brick, c.requires.bricks)) c.index.ensures c.next_seq-next.ensures w shows.nodes) shows.history;
+    })
 
 pub returns-in-Ok-clause-shows : goal.returns-in-Ok-clause-shows
 returns-in-Ok-clause-shows c w shows =
@@ -23,7 +26,7 @@ returns-in-Ok-clause-shows c w shows =
     let next : step.node.seq ≡ (w.nodes c.args.brick.0).seq + 1 = invoked_next (copying c.args.layout.now) c.args.brick (w.nodes c.args.brick.0) c.args.ask none in
     let left : (w.nodes c.args.brick.0).seq + 1 < 2 ^ 64 = (let h = rw c.in-Ok.is at c.ask_node.type_inv in let same = begun.1 in omega arith) in
     let is = next_is c.args.layout.now c.args.self.now.nodes.items c.args.brick.0 c.index.result.now c.next_seq-next.result
-        (omega (arith, c.args.self.now.nodes.ok.0, c.requires.brick, c.requires.bricks)) c.index.ensures c.next_seq-next.ensures w shows.nodes left
+    (omega (arith, c.args.self.now.nodes.ok.0, c.requires.brick, c.requires.bricks)) c.index.ensures c.next_seq-next.ensures w shows.nodes left
     in
     shows_begun c.args.layout.now _ w c.args.brick c.args.ask c.requires.brick c.requires.stripes none begun.2
     (c.begin.ensures.begun w step
@@ -37,10 +40,16 @@ returns-in-Err-Refused-clause-shows c w shows =
     shows_refused c.args.layout.now _ w c.args.brick c.args.ask c.in-Err-Refused.refusal
     (subst (λ fault. RefusesAs (Err fault) (refusal_of c.args.layout.now (w.nodes c.args.brick.0) c.args.ask)) c.in-Err-Refused.field-0-is
     (c.in-Err-Refused.ensures.refused w shows.nodes))
-    (record { nodes = c.in-Err-Refused.ensures.err w shows.nodes; history = c.expect_call.ensures.same w (next_above c.args.layout.now c.args.self.now.nodes.items c.args.brick.0 c.index.result.now c.next_seq-next.result
-    (omega (arith, c.args.self.now.nodes.ok.0, c.requires.brick, c.requires.bricks)) c.index.ensures c.next_seq-next.ensures w shows.nodes) shows.history })
+    (record {
+      nodes = c.in-Err-Refused.ensures.err w shows.nodes;
+      history = c.expect_call.ensures.same w (next_above c.args.layout.now c.args.self.now.nodes.items c.args.brick.0 c.index.result.now c.next_seq-next.result
+          (omega (arith, c.args.self.now.nodes.ok.0, c.requires.brick, c.requires.bricks)) c.index.ensures c.next_seq-next.ensures w shows.nodes) shows.history;
+    })
 
 pub returns-clause-err : goal.returns-clause-err
 returns-clause-err c w shows =
-    record { nodes = c.in-Err-NoMemory.ensures.err w shows.nodes; history = c.expect_call.ensures.same w (next_above c.args.layout.now c.args.self.now.nodes.items c.args.brick.0 c.index.result.now c.next_seq-next.result
-    (omega (arith, c.args.self.now.nodes.ok.0, c.requires.brick, c.requires.bricks)) c.index.ensures c.next_seq-next.ensures w shows.nodes) shows.history }
+    record {
+      nodes = c.in-Err-NoMemory.ensures.err w shows.nodes;
+      history = c.expect_call.ensures.same w (next_above c.args.layout.now c.args.self.now.nodes.items c.args.brick.0 c.index.result.now c.next_seq-next.result
+          (omega (arith, c.args.self.now.nodes.ok.0, c.requires.brick, c.requires.bricks)) c.index.ensures c.next_seq-next.ensures w shows.nodes) shows.history;
+    }

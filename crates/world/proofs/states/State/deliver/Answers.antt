@@ -1,5 +1,5 @@
 -- The message is the machine's, and its brick handles it as the machine's does.
-use Rattle.std.proofs.Common.{◌≡◌, None, Some, arith, sym, ap, ◌∙◌}
+use Rattle.std.proofs.Common.{◌≡◌, None, arith, sym, ap, ◌∙◌}
 use Rattle.node.specs.Copies.{copying}
 use Rattle.protocol.specs.Nodes.{NodeStep, received}
 use Rattle.protocol.specs.Worlds.{packet_of}
@@ -41,7 +41,7 @@ returns-clause-shows c w numbered shows =
     let step : NodeStep = received (copying c.args.layout.now) c.in-Some.packet.now.to (w.nodes c.in-Some.packet.now.to.0) c.in-Some.packet.now in
     let did = c.in_ok-outs.ensures.stepped w shows.nodes in
     let opens = received_opens_none (copying c.args.layout.now) c.in-Some.packet.now.to (w.nodes c.in-Some.packet.now.to.0) c.in-Some.packet.now
-        (λ k call open_at. numbered c.in-Some.packet.now.to.0 k call open_at)
+    (λ k call open_at. numbered c.in-Some.packet.now.to.0 k call open_at)
     in
     shows_handled c.args.layout.now _ w c.args.message c.in-Some.packet.now (sym (ap (λ xs. packet_of xs c.args.message) (c.deref.ensures.value ∙ (c.make_room.ensures.same w shows.history).packets)) ∙ sym c.in-Some.ensures) (omega arith) did.2
     (c.step.ensures.stepped w step (c.make_room.ensures.same w shows.history) did.0 did.1 opens.seq opens.told)

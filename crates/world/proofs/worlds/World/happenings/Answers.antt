@@ -13,8 +13,8 @@ use Rattle.world.proofs.worlds.World.happenings.Goals as goal
 pub returns : goal.returns
 returns c =
     let are : AreKnown c.as_slice.result.now (world_of (run_of c.self.inside)) =
-        subst (λ (kept : List Known). AreKnown kept (world_of (run_of c.self.inside))) (sym c.as_slice.ensures.value)
-        (record { begun = c.self.invariant.shows.history.begun; each = c.self.invariant.shows.history.operations })
+    subst (λ (kept : List Known). AreKnown kept (world_of (run_of c.self.inside))) (sym c.as_slice.ensures.value)
+    (record { begun = c.self.invariant.shows.history.begun; each = c.self.invariant.shows.history.operations })
     in
     subst (λ (r : Run). IfOk c.happenings.result (λ happenings. happenings.items ≡ happenings_of (world_of r) c.args.group.0 c.args.stripe.0)) c.self.view_is
     (IfOk-weaker c.happenings.result _ _ (λ happenings told. told (world_of (run_of c.self.inside)) are (begins_agree (run_of c.self.inside))) c.happenings.ensures)

@@ -15,12 +15,12 @@ pub returns-in-Some : goal.returns-in-Some
 returns-in-Some c =
     let found = c.in_ok-node.ensures.lookup in
     let at : slice_get c.self.inside.state.nodes.items c.args.brick.0 ≡ Some c.in_ok-node.node.now =
-        subst (λ (bricks : List Node). slice_get bricks c.args.brick.0 ≡ Some c.in_ok-node.node.now) c.deref.ensures.value
-        (slice_get_read c.deref.result.now (length c.deref.result.now) c.args.brick.0 c.in_ok-node.node.now refl found.3.0 found.1)
+    subst (λ (bricks : List Node). slice_get bricks c.args.brick.0 ≡ Some c.in_ok-node.node.now) c.deref.ensures.value
+    (slice_get_read c.deref.result.now (length c.deref.result.now) c.args.brick.0 c.in_ok-node.node.now refl found.3.0 found.1)
     in
     let here : c.args.brick.0 < c.self.inside.layout.bricks = omega (arith, found.3.0, ap length c.deref.ensures.value, c.self.invariant.shows.nodes.count) in
     let shown = log_shown c.self.inside.layout c.self.inside.state (world_of (run_of c.self.inside)) c.args.brick.0 c.args.group.0 c.args.stripe.0 c.in_ok-node.node.now
-        c.self.invariant.shows at
+    c.self.invariant.shows at
     in
     subst (λ (r : Run). Some c.in-Some.log.now ≡ log_at r c.args.brick.0 c.args.group.0 c.args.stripe.0) c.self.view_is
     (log_at_part (run_of c.self.inside) c.args.brick.0 c.args.group.0 c.args.stripe.0 c.in_ok-group.field-0.now c.in-Some.log.now (sym c.in_ok-group.ensures)
@@ -30,12 +30,12 @@ pub returns-in-None : goal.returns-in-None
 returns-in-None c =
     let found = c.in_ok-node.ensures.lookup in
     let at : slice_get c.self.inside.state.nodes.items c.args.brick.0 ≡ Some c.in_ok-node.node.now =
-        subst (λ (bricks : List Node). slice_get bricks c.args.brick.0 ≡ Some c.in_ok-node.node.now) c.deref.ensures.value
-        (slice_get_read c.deref.result.now (length c.deref.result.now) c.args.brick.0 c.in_ok-node.node.now refl found.3.0 found.1)
+    subst (λ (bricks : List Node). slice_get bricks c.args.brick.0 ≡ Some c.in_ok-node.node.now) c.deref.ensures.value
+    (slice_get_read c.deref.result.now (length c.deref.result.now) c.args.brick.0 c.in_ok-node.node.now refl found.3.0 found.1)
     in
     let here : c.args.brick.0 < c.self.inside.layout.bricks = omega (arith, found.3.0, ap length c.deref.ensures.value, c.self.invariant.shows.nodes.count) in
     let shown = log_shown c.self.inside.layout c.self.inside.state (world_of (run_of c.self.inside)) c.args.brick.0 c.args.group.0 c.args.stripe.0 c.in_ok-node.node.now
-        c.self.invariant.shows at
+    c.self.invariant.shows at
     in
     subst (λ (r : Run). Some c.log-in-None.result.now ≡ log_at r c.args.brick.0 c.args.group.0 c.args.stripe.0) c.self.view_is
     (log_at_part (run_of c.self.inside) c.args.brick.0 c.args.group.0 c.args.stripe.0 c.in_ok-group.field-0.now c.log-in-None.result.now (sym c.in_ok-group.ensures)

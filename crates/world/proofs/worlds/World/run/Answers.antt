@@ -1,5 +1,5 @@
 -- The state shows the world that the run leaves, with or without the line.
-use Rattle.std.proofs.Common.{◌≡◌, List, [], ◌∷◌, ◌++◌, length, arith, sym, ap, ◌∙◌, subst}
+use Rattle.std.proofs.Common.{List, [], ◌∷◌, ◌++◌, length, arith, sym, ap, ◌∙◌, subst}
 use Rattle.lines.specs.declared.forms.Line.{Line}
 use Rattle.world.specs.Runs.{Run, world_of}
 use Rattle.world.specs.Standing.{run_of}
@@ -21,8 +21,8 @@ invariant_of-self-in_err-outcome c = record {
 pub invariant_of-self-2 : goal.invariant_of-self-2
 invariant_of-self-2 c = record {
   shows = (shows_line c.self.inside.layout c.run.new.self c.self.inside.lines.items c.put.new.things.items c.args.line
-    (c.put.ensures ∙ ap (λ (lines : List Line). lines ++ c.args.line ∷ []) c.reserve.ensures.items)
-    (c.in_ok-outcome.ensures.shows (world_of (run_of c.self.inside)) (numbered (run_of c.self.inside)) c.self.invariant.shows));
+      (c.put.ensures ∙ ap (λ (lines : List Line). lines ++ c.args.line ∷ []) c.reserve.ensures.items)
+      (c.in_ok-outcome.ensures.shows (world_of (run_of c.self.inside)) (numbered (run_of c.self.inside)) c.self.invariant.shows));
   copies = c.self.invariant.copies;
   few = c.self.invariant.few;
   sound = c.self.invariant.sound;
