@@ -1,7 +1,7 @@
 -- The layout of three copies.
-use Rattle.std.proofs.Common.{◌≡◌, ℕ, zero, suc, Some, sym, ap}
+use Rattle.std.proofs.Common.{◌≡◌, zero, suc, sym, ap}
 use Rattle.layout.specs.Texts.{three_members, three_copies}
-use Rattle.protocol.specs.Settings.{Group, group_of}
+use Rattle.protocol.specs.Settings.{Group}
 use Rattle.node.specs.Copies.{KeepsCopies}
 
 -- each of its stripes has one data block
