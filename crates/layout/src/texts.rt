@@ -8,7 +8,8 @@ use fab_base::{BrickId, Members};
 use std::alloc::{AllocError, AllocFailed, Global};
 
 /// The one layout text that is read so far: three bricks, each with a copy of every block of four stripes.
-pub const THREE_COPIES: &[u8] = b"block = 1\nbricks = 3\nrecords = 100\n[[group]]\nm = 1\nmembers = [0, 1, 2]\nstripes = 4\n";
+pub const THREE_COPIES: &[u8] =
+    b"block = 1\nbricks = 3\nrecords = 100\n[[group]]\nm = 1\nmembers = [0, 1, 2]\nstripes = 4\n";
 
 /// Why a text is not read.
 #[derive(Clone, Copy, Debug, PartialEq, Eq)]
