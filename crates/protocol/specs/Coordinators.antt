@@ -21,10 +21,12 @@ pub use Rattle.protocol.specs.declared.phases.Counted.{Counted}
 pub use Rattle.protocol.specs.declared.phases.Refuser.{Refuser}
 use Rattle.protocol.specs.Settings.{Group, Code, Piece, quorum_of, seat_in}
 
--- an open operation at its coordinator: what is asked, its stamp, the call of its present phase, and the replies that count in it
+-- an open operation at its coordinator: what is asked, its stamp, how many rounds of ordering it has begun, the call of its present phase, and
+-- the replies that count in it
 pub record Coordinator : Type 0 where
   pub ask : Ask
   pub stamp : Stamp
+  pub round : ℕ
   pub call : Call
   pub phase : Phase
   pub counted : List Counted
@@ -137,12 +139,13 @@ request_of code m c seat = request_in c.phase
     request_in Stores = Write c.stamp (code.encode m (written_content c.ask.op) seat)
     request_in Stalls = Read All
 
--- What a coordinator does with a reply: it leaves it out, waits for more, begins its next phase, or ends. An end tells the version
--- that a fast read saw, and the one that a write stored, which may now be collected.
+-- What a coordinator does with a reply: it leaves it out, waits for more, begins another round of ordering, makes its version by beginning
+-- to store it, or ends. An end tells the version that a fast read saw, and the one that a write stored, which may now be collected.
 pub data Next : Type 0 where
   Ignores : Next
   Waits : (c : Coordinator) → Next
-  Sends : (c : Coordinator) → Next
+  Reorders : (c : Coordinator) → Next
+  Makes : (c : Coordinator) → Next
   Ends : (answer : Answer) → (seen : Option Stamp) → (stored : Option Stamp) → Next
 
 -- the next phase of a call
@@ -151,45 +154,67 @@ next_phase call = record call { phase = call.phase + 1 }
 
 -- the coordinator in its store phase
 abbrev pub storing : Coordinator → Coordinator
-storing c = record { ask = c.ask; stamp = c.stamp; call = next_phase c.call; phase = Stores; counted = [] }
+storing c = record { ask = c.ask; stamp = c.stamp; round = c.round; call = next_phase c.call; phase = Stores; counted = [] }
+
+-- the coordinator in its next round of ordering, with a new stamp
+abbrev pub reordering : Coordinator → Stamp → Coordinator
+reordering c t = record { ask = c.ask; stamp = t; round = c.round + 1; call = next_phase c.call; phase = Orders; counted = [] }
+
+-- how many rounds of ordering an operation may begin
+abbrev pub most_rounds : ℕ
+most_rounds = 4
 
 -- the coordinator of a read that is not fast
 abbrev pub stalled : Coordinator → Coordinator
-stalled c = record { ask = c.ask; stamp = c.stamp; call = c.call; phase = Stalls; counted = c.counted }
+stalled c = record { ask = c.ask; stamp = c.stamp; round = c.round; call = c.call; phase = Stalls; counted = c.counted }
+
+-- the operation is aborted, since this member told a later stamp
+abbrev pub aborted_by : Refuser → Next
+aborted_by r = Ends (Aborted (Cause.Later r.brick r.stamp)) None None
 
 -- a member that told a later stamp aborts the operation; else it goes on so
 abbrev pub unless_refused : Option Refuser → Next → Next
 unless_refused None next = next
-unless_refused (Some r) next = Ends (Aborted (Cause.Later r.brick r.stamp)) None None
+unless_refused (Some r) next = aborted_by r
+
+-- an order that was refused is tried again with a new stamp, while there is one, and a round is left
+abbrev pub ordered_again : Option Stamp → Coordinator → Refuser → Next
+ordered_again None c r = aborted_by r
+ordered_again (Some t) c r = if nat_lt c.round most_rounds then Reorders (reordering c t) else aborted_by r
+
+-- an order that no counted reply refuses goes on to store
+abbrev pub once_ordered : Option Stamp → Coordinator → Option Refuser → Next
+once_ordered fresh c None = Makes (storing c)
+once_ordered fresh c (Some r) = ordered_again fresh c r
 
 -- a read is answered where its version is told by all
 abbrev pub answered_fast : Code → ℕ → Coordinator → Option Stamp → Next
 answered_fast code m c None = Waits (stalled c)
 answered_fast code m c (Some v) = Ends (Data (code.decode m (pieces_of c.counted))) (Some v) None
 
--- what a quorum of replies decides
-unfoldable pub decided : Code → ℕ → Coordinator → Next
-decided code m c = decided_in c.phase
+-- what a quorum of replies decides, where a new round would have this fresh stamp
+unfoldable pub decided : Code → ℕ → Option Stamp → Coordinator → Next
+decided code m fresh c = decided_in c.phase
   where
     decided_in : Phase → Next
     decided_in Looks = answered_fast code m c (fast_version c.counted)
-    decided_in Orders = unless_refused (greatest_refuser c.counted) (Sends (storing c))
+    decided_in Orders = once_ordered fresh c (greatest_refuser c.counted)
     decided_in Stores = unless_refused (greatest_refuser c.counted) (Ends Done None (Some c.stamp))
     decided_in Stalls = Waits c
 
 -- the coordinator with one more reply
 abbrev pub with_reply : Coordinator → ℕ → BrickId → Reply → Coordinator
 with_reply c seat brick reply =
-    record { ask = c.ask; stamp = c.stamp; call = c.call; phase = c.phase; counted = c.counted ++ (record { seat = seat; brick = brick; reply = reply } ∷ []) }
+    record { ask = c.ask; stamp = c.stamp; round = c.round; call = c.call; phase = c.phase; counted = c.counted ++ (record { seat = seat; brick = brick; reply = reply } ∷ []) }
 
 -- with a quorum of replies the phase is decided
-abbrev pub once_full : Code → Group → Coordinator → Next
-once_full code group c = if nat_lt (length c.counted) (quorum_of group) then Waits c else decided code group.m c
+abbrev pub once_full : Code → Group → Option Stamp → Coordinator → Next
+once_full code group fresh c = if nat_lt (length c.counted) (quorum_of group) then Waits c else decided code group.m fresh c
 
-abbrev pub counted_at : Code → Group → Coordinator → BrickId → Reply → Option ℕ → Next
-counted_at code group c from reply None = Ignores
-counted_at code group c from reply (Some seat) = once_full code group (with_reply c seat from reply)
+abbrev pub counted_at : Code → Group → Option Stamp → Coordinator → BrickId → Reply → Option ℕ → Next
+counted_at code group fresh c from reply None = Ignores
+counted_at code group fresh c from reply (Some seat) = once_full code group fresh (with_reply c seat from reply)
 
--- what a coordinator does with a reply
-unfoldable pub on_reply : ℕ → Code → Group → Coordinator → BrickId → Call → Reply → Next
-on_reply block code group c from call reply = counted_at code group c from reply (counts_at block group c from.0 call reply)
+-- what a coordinator does with a reply, where a new round would have this fresh stamp
+unfoldable pub on_reply : ℕ → Code → Group → Option Stamp → Coordinator → BrickId → Call → Reply → Next
+on_reply block code group fresh c from call reply = counted_at code group fresh c from reply (counts_at block group c from.0 call reply)

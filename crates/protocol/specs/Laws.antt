@@ -1,5 +1,5 @@
 -- The laws of the disk, as they hold in every world that a run reaches. Quorums are counted by seat.
-use Rattle.std.specs.Prelude.{◌≡◌, ℕ, ◌<◌, ◌≤◌, Bool, true, false, not, List, length, ◌⊎◌, Some, slice_get, slice_index_or}
+use Rattle.std.specs.Prelude.{◌≡◌, ℕ, ◌+◌, ◌<◌, ◌≤◌, Bool, true, false, not, List, length, ◌⊎◌, Some, is_some, slice_get, slice_index_or}
 use Rattle.fab_base.specs.declared.identities.BrickId.{BrickId}
 use Rattle.fab_base.specs.declared.stamps.Stamp.{Stamp}
 use Rattle.fab_base.specs.declared.answers.Answer.TheVariants.{Aborted}
@@ -18,6 +18,8 @@ use Rattle.reg_model.specs.Strict.{IsStrict}
 use Rattle.reg_model.specs.Walk.{last_of}
 use Rattle.protocol.specs.Settings.{Setting, Group, group_of, quorum_of, IsSound, seat_in}
 use Rattle.protocol.specs.Replicas.{Replica, top_of, is_held}
+use Rattle.protocol.specs.Coordinators.{Counted, most_rounds, greatest_refuser}
+use Rattle.protocol.specs.Nodes.{has_later_time}
 use Rattle.protocol.specs.Worlds.{World, Event, Operation, first_world, happens, run}
 use Rattle.protocol.specs.Happenings.{is_of, happenings_of}
 
@@ -86,20 +88,40 @@ AskedAt w call from to t =
     WasSent w (record { from = from; to = to; message = Message.Request call (Request.Order t) })
     ⊎ ((block : List ℕ) × WriteSent w call from to t block)
 
--- What an abort shows: the brick had told the coordinator of the later stamp, in a phase of this very operation, which was asked at a lower one.
-pub record Evidence (w : World) (o : Operation) (brick : BrickId) (x : Stamp) : Type 0 where
+-- A phase of operation n is its last round of ordering: each of the three phases before it had counted a later stamp, or the brick that
+-- coordinates it knows no later time.
+abbrev pub IsLastRound : World → ℕ → Operation → ℕ → Type 0
+IsLastRound w n o phase =
+    ((most_rounds ≤ phase)
+    × ((earlier : ℕ) → phase < earlier + most_rounds → earlier < phase → is_some (greatest_refuser (w.replies n earlier)) ≡ true))
+    ⊎ (has_later_time (w.nodes o.brick.0).known ≡ false)
+
+-- What the abort of operation n shows: in a phase of this very operation, which asked at a lower stamp, the brick had told the coordinator of
+-- the later stamp; no reply that counted in that phase told a greater one; and if it was a round of ordering, it was the last.
+pub record Evidence (w : World) (n : ℕ) (o : Operation) (brick : BrickId) (x : Stamp) : Type 0 where
   pub call : Call
   pub stamp : Stamp
+  pub seat : ℕ
   pub own : call.seq ≡ o.seq
   pub asked : AskedAt w call o.brick brick stamp
   pub told : WasSent w (record { from = brick; to = o.brick; message = Message.Reply call (Reply.Later x) })
   pub above : stamp_below stamp x ≡ true
+  pub greatest : greatest_refuser (w.replies n call.phase) ≡ Some (record { seat = seat; brick = brick; stamp = x })
+  pub last : WasSent w (record { from = o.brick; to = brick; message = Message.Request call (Request.Order stamp) }) → IsLastRound w n o call.phase
+
+-- each reply that counted in a phase of an operation was sent to it, as a reply to that phase
+abbrev pub CountedWereSent : World → Type 0
+CountedWereSent w =
+    (n phase k : ℕ) (x : Counted) → slice_get (w.replies n phase) k ≡ Some x
+    → (o : Operation) × (w.operations n ≡ Some o)
+    × ((call : Call) × (call.seq ≡ o.seq) × (call.phase ≡ phase)
+    × WasSent w (record { from = x.brick; to = o.brick; message = Message.Reply call x.reply }))
 
 -- every abort shows its evidence
 abbrev pub AbortsShow : World → Type 0
 AbortsShow w =
     (k p n : ℕ) (brick : BrickId) (x : Stamp) → slice_get w.marks k ≡ Some (End p n (Aborted (Cause.Later brick x)))
-    → (o : Operation) × (w.operations n ≡ Some o) × Evidence w o brick x
+    → (o : Operation) × (w.operations n ≡ Some o) × Evidence w n o brick x
 
 -- The laws of a world.
 pub record Laws (setting : Setting) (w : World) : Type 0 where
@@ -107,6 +129,7 @@ pub record Laws (setting : Setting) (w : World) : Type 0 where
   pub guarded : WritesAreGuarded setting w
   pub stored : StoredIsHeld w
   pub real_time : (g s : ℕ) → FollowsRealTime w g s
+  pub counted : CountedWereSent w
   pub aborts : AbortsShow w
   pub well_formed : IsWellFormed w.marks
   pub stripe_well_formed : (g s : ℕ) → IsWellFormed (stripe_marks g s w.marks)

@@ -15,7 +15,7 @@ pub use Rattle.protocol.specs.declared.tellings.Told.{Told}
 pub use Rattle.protocol.specs.declared.tellings.Told.TheVariants.{Nothing, Made, Answers}
 use Rattle.protocol.specs.Settings.{Setting, Layout, Group, group_of, seat_in}
 use Rattle.protocol.specs.Replicas.{Replica, Reaction, first_replica, handle}
-use Rattle.protocol.specs.Coordinators.{Phase, Looks, Orders, Coordinator, Next, Ignores, Waits, Sends, Ends, request_of, on_reply}
+use Rattle.protocol.specs.Coordinators.{Phase, Looks, Orders, Coordinator, Next, Ignores, Waits, Reorders, Makes, Ends, request_of, on_reply}
 
 -- a function with one value changed
 abbrev pub put : {A : Type 0} → (ℕ → A) → ℕ → A → ℕ → A
@@ -80,9 +80,13 @@ has_length m block (WriteBlock j bytes) = nat_eq (length bytes) block
 has_length m block ReadStripe = true
 has_length m block (WriteStripe bytes) = nat_eq (length bytes) (m * block)
 
+-- a time is left above the greatest that is known
+abbrev pub has_later_time : ℕ → Bool
+has_later_time known = nat_lt known (2 ^ 64 - 1)
+
 -- no later time, or no further call number
 abbrev pub is_spent : Node → Bool
-is_spent node = nat_eq node.known (2 ^ 64 - 1) || nat_eq node.seq (2 ^ 64 - 1)
+is_spent node = not (has_later_time node.known) || nat_eq node.seq (2 ^ 64 - 1)
 
 -- how many operations a brick may have open
 abbrev pub most_open : ℕ
@@ -113,12 +117,21 @@ first_phase (WriteStripe bytes) = Orders
 abbrev pub next_time : ℕ → ℕ → ℕ
 next_time now known = max now (known + 1)
 
+-- a brick's new stamp, at this time of its clock
+abbrev pub new_stamp : BrickId → ℕ → ℕ → ℕ → Stamp
+new_stamp me now boot known = record { view = record { 0 = 1 }; time = next_time now known; brick = me; boot = boot }
+
+-- the stamp of a new round, while a time is left
+abbrev pub fresh_stamp : BrickId → ℕ → ℕ → ℕ → Option Stamp
+fresh_stamp me now boot known = if has_later_time known then Some (new_stamp me now boot known) else None
+
 -- the coordinator of a new operation
 abbrev pub new_coordinator : BrickId → ℕ → Node → Ask → Coordinator
 new_coordinator me now node ask =
     record {
       ask = ask;
-      stamp = record { view = record { 0 = 1 }; time = next_time now node.known; brick = me; boot = node.boot };
+      stamp = new_stamp me now node.boot node.known;
+      round = 1;
       call = record { boot = node.boot; seq = node.seq + 1; phase = 1; group = ask.group; view = record { 0 = 1 }; stripe = ask.stripe };
       phase = first_phase ask.op;
       counted = [];
@@ -204,7 +217,9 @@ abbrev pub carried_out : Setting → Group → BrickId → Node → ℕ → Coor
 carried_out setting group me node known c Ignores = no_step (with_known node known)
 carried_out setting group me node known c (Waits d) =
     record { node = with_call node known node.busy c.call.seq (Some d); packets = []; told = Nothing }
-carried_out setting group me node known c (Sends d) =
+carried_out setting group me node known c (Reorders d) =
+    record { node = with_call node d.stamp.time node.busy c.call.seq (Some d); packets = phase_packets setting group me d; told = Nothing }
+carried_out setting group me node known c (Makes d) =
     record { node = with_call node known node.busy c.call.seq (Some d); packets = phase_packets setting group me d; told = Made c.call.seq d.stamp }
 carried_out setting group me node known c (Ends answer seen stored) =
     record {
@@ -213,24 +228,27 @@ carried_out setting group me node known c (Ends answer seen stored) =
       told = Answers c.call.seq answer seen;
     }
 
-abbrev pub replied_to : Setting → BrickId → BrickId → Node → Call → Reply → Coordinator → Option Group → NodeStep
-replied_to setting me from node call reply c None = no_step node
-replied_to setting me from node call reply c (Some group) =
-    carried_out setting group me node (known_after node.known reply) c (on_reply setting.layout.block setting.code group c from call reply)
+abbrev pub replied_to : Setting → BrickId → ℕ → BrickId → Node → Call → Reply → Coordinator → Option Group → NodeStep
+replied_to setting me now from node call reply c None = no_step node
+replied_to setting me now from node call reply c (Some group) =
+    let known : ℕ = known_after node.known reply in
+    carried_out setting group me node known c
+    (on_reply setting.layout.block setting.code group (fresh_stamp me now node.boot known) c from call reply)
 
-abbrev pub replied_at : Setting → BrickId → BrickId → Node → Call → Reply → Option Coordinator → NodeStep
-replied_at setting me from node call reply None = no_step (with_known node (known_after node.known reply))
-replied_at setting me from node call reply (Some c) = replied_to setting me from node call reply c (group_of setting.layout c.ask.group.0)
+abbrev pub replied_at : Setting → BrickId → ℕ → BrickId → Node → Call → Reply → Option Coordinator → NodeStep
+replied_at setting me now from node call reply None = no_step (with_known node (known_after node.known reply))
+replied_at setting me now from node call reply (Some c) =
+    replied_to setting me now from node call reply c (group_of setting.layout c.ask.group.0)
 
--- a brick handles a reply
-unfoldable pub replied : Setting → BrickId → BrickId → Node → Call → Reply → NodeStep
-replied setting me from node call reply = replied_at setting me from node call reply (node.calls call.seq)
+-- a brick handles a reply, at this time of its clock
+unfoldable pub replied : Setting → BrickId → ℕ → BrickId → Node → Call → Reply → NodeStep
+replied setting me now from node call reply = replied_at setting me now from node call reply (node.calls call.seq)
 
--- a brick handles a message
-unfoldable pub received : Setting → BrickId → Node → Packet → NodeStep
-received setting me node packet = received_as packet.message
+-- a brick handles a message, at this time of its clock
+unfoldable pub received : Setting → BrickId → ℕ → Node → Packet → NodeStep
+received setting me now node packet = received_as packet.message
   where
     received_as : Message → NodeStep
     received_as (Message.Request call request) = requested setting me packet.from node call request
-    received_as (Message.Reply call reply) = replied setting me packet.from node call reply
+    received_as (Message.Reply call reply) = replied setting me now packet.from node call reply
     received_as message = no_step node

@@ -7,19 +7,24 @@ use Rattle.fab_base.specs.declared.asks.Ask.{Ask}
 use Rattle.fab_base.specs.declared.answers.Answer.{Answer}
 use Rattle.fab_base.specs.declared.answers.Answer.TheVariants.{Data, Done, Aborted}
 use Rattle.fab_base.specs.Stamps.{stamp_same}
+use Rattle.fab_wire.specs.declared.calls.Call.{Call}
+use Rattle.fab_wire.specs.declared.messages.Message.{Message}
 use Rattle.fab_wire.specs.declared.messages.Packet.{Packet}
+use Rattle.fab_wire.specs.declared.replies.Reply.{Reply}
 use Rattle.reg_model.specs.declared.marks.Mark.{Mark}
 use Rattle.reg_model.specs.declared.marks.Mark.TheVariants.{Begin, End}
 use Rattle.reg_model.specs.Registers.{zero_registers}
 use Rattle.protocol.specs.Settings.{Setting, Layout, Group, group_of}
 use Rattle.protocol.specs.Replicas.{top_of}
-use Rattle.protocol.specs.Coordinators.{written_content}
+use Rattle.protocol.specs.Coordinators.{Counted, Coordinator, written_content, counts_at}
 use Rattle.protocol.specs.Nodes.{Node, NodeStep, Told, Nothing, Made, Answers, put, first_node, is_stripe_op, refusal_of, invoked, received}
 
--- what happens next: a brick is asked for an operation, or the message of a number, counted from 1 in the order of sending, is delivered
+-- what happens next: a brick is asked for an operation, the message of a number, counted from 1 in the order of sending, is delivered, or a
+-- brick's clock reads another time from now on
 pub data Event : Type 0 where
   Invokes : (brick : BrickId) → (ask : Ask) → Event
   Delivers : (number : ℕ) → Event
+  Sets : (brick : BrickId) → (time : ℕ) → Event
 
 -- What is known of an operation, by number: its coordinator and call number, where it begins, what it asks, the version that it made or
 -- read, whether it made it, whether it was answered; and, for the proof alone, how far each brick's part of the stripe had come when it began.
@@ -33,33 +38,38 @@ pub record Operation : Type 0 where
   pub answered : Bool
   pub floor : ℕ → Stamp
 
--- The whole disk: its bricks; every message that was ever sent, in order; the marks; how many operations have begun, and each by its
--- number; the number of the operation of each brick's call; and, for the proof alone, the content of each version (by group, stripe and stamp).
+-- The whole disk: its bricks, and what their clocks read; every message that was ever sent, in order; the marks; how many operations have
+-- begun, and each by its number; the number of the operation of each brick's call; and, for the proof alone, the content of each version (by
+-- group, stripe and stamp), and the replies that counted in each phase of an operation (by its number and the phase's).
 pub record World : Type 0 where
   pub nodes : ℕ → Node
+  pub clocks : ℕ → ℕ
   pub packets : List Packet
   pub marks : List Mark
   pub begun : ℕ
   pub operations : ℕ → Option Operation
   pub numbers : ℕ → ℕ → ℕ
   pub contents : ℕ → ℕ → Stamp → List ℕ
+  pub replies : ℕ → ℕ → List Counted
 
 -- the zero bytes of a group's stripe
 abbrev pub zero_content : ℕ → Option Group → List ℕ
 zero_content block None = []
 zero_content block (Some group) = zero_registers group.m block
 
--- all bricks up, their stores fresh, and nothing sent
+-- all bricks up, their stores fresh, their clocks at 0, and nothing sent
 abbrev pub first_world : Layout → World
 first_world layout =
     record {
       nodes = λ i. first_node layout.block;
+      clocks = λ i. 0;
       packets = [];
       marks = [];
       begun = 0;
       operations = λ n. None;
       numbers = λ i k. 0;
       contents = λ g s t. zero_content layout.block (group_of layout g);
+      replies = λ n p. [];
     }
 
 -- a brick of the layout
@@ -76,6 +86,7 @@ abbrev pub world_began : World → BrickId → Ask → NodeStep → World
 world_began w brick ask step =
     record {
       nodes = put w.nodes brick.0 step.node;
+      clocks = w.clocks;
       packets = w.packets ++ step.packets;
       marks = w.marks ++ (Begin (length w.marks) (w.begun + 1) brick ask ∷ []);
       begun = w.begun + 1;
@@ -91,6 +102,7 @@ world_began w brick ask step =
       }));
       numbers = put w.numbers brick.0 (put (w.numbers brick.0) step.node.seq (w.begun + 1));
       contents = w.contents;
+      replies = w.replies;
     }
 
 -- an operation was answered, and not aborted
@@ -137,40 +149,74 @@ abbrev pub world_stepped : World → BrickId → NodeStep → Told → World
 world_stepped w brick step Nothing =
     record {
       nodes = put w.nodes brick.0 step.node;
+      clocks = w.clocks;
       packets = w.packets ++ step.packets;
       marks = w.marks;
       begun = w.begun;
       operations = w.operations;
       numbers = w.numbers;
       contents = w.contents;
+      replies = w.replies;
     }
 world_stepped w brick step (Made seq t) =
     record {
       nodes = put w.nodes brick.0 step.node;
+      clocks = w.clocks;
       packets = w.packets ++ step.packets;
       marks = w.marks;
       begun = w.begun;
       operations = put w.operations (w.numbers brick.0 seq) (with_made t (w.operations (w.numbers brick.0 seq)));
       numbers = w.numbers;
       contents = with_content w.contents t (w.operations (w.numbers brick.0 seq));
+      replies = w.replies;
     }
 world_stepped w brick step (Answers seq answer seen) =
     record {
       nodes = put w.nodes brick.0 step.node;
+      clocks = w.clocks;
       packets = w.packets ++ step.packets;
       marks = w.marks ++ (End (length w.marks) (w.numbers brick.0 seq) answer ∷ []);
       begun = w.begun;
       operations = put w.operations (w.numbers brick.0 seq) (with_answer answer seen (w.operations (w.numbers brick.0 seq)));
       numbers = w.numbers;
       contents = w.contents;
+      replies = w.replies;
     }
+
+-- the replies that have counted, with one more
+abbrev pub with_counted : (ℕ → ℕ → List Counted) → ℕ → ℕ → Counted → ℕ → ℕ → List Counted
+with_counted replies n phase counted = put replies n (put (replies n) phase (replies n phase ++ (counted ∷ [])))
+
+-- the replies that have counted, with this one of a brick to operation n, where it counts at this seat
+abbrev pub counted_after : (ℕ → ℕ → List Counted) → ℕ → BrickId → Call → Reply → Option ℕ → ℕ → ℕ → List Counted
+counted_after replies n from call reply None = replies
+counted_after replies n from call reply (Some seat) = with_counted replies n call.phase (record { seat = seat; brick = from; reply = reply })
+
+-- the same, with a reply to the open operation at this coordinator, if there is one
+abbrev pub replies_in : Setting → World → BrickId → BrickId → Call → Reply → Coordinator → Option Group → ℕ → ℕ → List Counted
+replies_in setting w me from call reply c None = w.replies
+replies_in setting w me from call reply c (Some group) =
+    counted_after w.replies (w.numbers me.0 call.seq) from call reply (counts_at setting.layout.block group c from.0 call reply)
+
+abbrev pub replies_at : Setting → World → BrickId → BrickId → Call → Reply → Option Coordinator → ℕ → ℕ → List Counted
+replies_at setting w me from call reply None = w.replies
+replies_at setting w me from call reply (Some c) = replies_in setting w me from call reply c (group_of setting.layout c.ask.group.0)
+
+-- the replies that have counted once this packet is delivered
+abbrev pub replies_with : Setting → World → Packet → ℕ → ℕ → List Counted
+replies_with setting w packet = replies_of packet.message
+  where
+    replies_of : Message → ℕ → ℕ → List Counted
+    replies_of (Message.Reply call reply) = replies_at setting w packet.to packet.from call reply ((w.nodes packet.to.0).calls call.seq)
+    replies_of message = w.replies
 
 -- a packet is delivered to a brick of the layout
 abbrev pub delivered : Setting → World → Option Packet → World
 delivered setting w None = w
 delivered setting w (Some packet) =
     if is_brick setting.layout packet.to
-    then (let step = received setting packet.to (w.nodes packet.to.0) packet in world_stepped w packet.to step step.told)
+    then (let step = received setting packet.to (w.clocks packet.to.0) (w.nodes packet.to.0) packet in
+    world_stepped (record w { replies = replies_with setting w packet }) packet.to step step.told)
     else w
 
 -- the packet of a number, from 1
@@ -178,11 +224,12 @@ abbrev pub packet_of : List Packet → ℕ → Option Packet
 packet_of packets zero = None
 packet_of packets (suc k) = slice_get packets k
 
--- the world after an event; an operation that is refused and a number that was not sent change nothing
+-- the world after an event; an operation that is refused, a number that was not sent, and a brick that the layout has not change nothing
 unfoldable pub happens : Setting → World → Event → World
 happens setting w (Invokes brick ask) =
-    if may_begin setting w brick ask then world_began w brick ask (invoked setting brick 0 (w.nodes brick.0) ask) else w
+    if may_begin setting w brick ask then world_began w brick ask (invoked setting brick (w.clocks brick.0) (w.nodes brick.0) ask) else w
 happens setting w (Delivers number) = delivered setting w (packet_of w.packets number)
+happens setting w (Sets brick time) = if is_brick setting.layout brick then record w { clocks = put w.clocks brick.0 time } else w
 
 -- the world after a schedule
 abbrev pub run : Setting → List Event → World → World
