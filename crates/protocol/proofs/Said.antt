@@ -1,6 +1,6 @@
--- What the messages, the logs, the operations and the marks of a world say: the invariant behind the laws. The stamp of each brick's call is
--- remembered beside the world.
-use Rattle.std.proofs.Common.{◌≡◌, ℕ, ◌<◌, ◌≤◌, ◌⊎◌, true, false, not, List, [], ◌∷◌, length, Some}
+-- What the messages, the logs, the operations and the marks of a world say: the invariant behind the laws. The stamp of each phase of each
+-- brick's calls is remembered beside the world.
+use Rattle.std.proofs.Common.{◌≡◌, ℕ, ◌<◌, ◌≤◌, ◌⊎◌, true, false, not, List, [], ◌∷◌, length, Option, Some, None}
 use Rattle.std.specs.Prelude.{slice_get}
 use Rattle.fab_base.specs.declared.identities.BrickId.{BrickId}
 use Rattle.fab_base.specs.declared.stamps.Stamp.{Stamp}
@@ -8,7 +8,6 @@ use Rattle.fab_base.specs.declared.asks.Op.{Op}
 use Rattle.fab_base.specs.declared.asks.Op.TheVariants.{ReadStripe, WriteStripe}
 use Rattle.fab_base.specs.declared.answers.Answer.{Answer}
 use Rattle.fab_base.specs.declared.answers.Answer.TheVariants.{Data, Done, Aborted}
-use Rattle.fab_base.specs.declared.answers.Cause.{Cause}
 use Rattle.fab_base.specs.Stamps.{stamp_below, first_stamp}
 use Rattle.fab_wire.specs.declared.calls.Call.{Call}
 use Rattle.fab_wire.specs.declared.messages.Message.{Message}
@@ -24,12 +23,24 @@ use Rattle.protocol.specs.Settings.{Setting, Group, group_of, seat_in}
 use Rattle.protocol.specs.Replicas.{top_of, is_held, stamp_max}
 use Rattle.protocol.specs.Coordinators.{Phase, Looks, Orders, Stores, Stalls, Counted, Coordinator, answers_phase, has_seat}
 use Rattle.protocol.specs.Worlds.{World, Operation, zero_content}
-use Rattle.protocol.specs.Laws.{WasSent, WriteSent, AskedAt, Evidence, part_of, brick_at, AtQuorum, IsGuarded}
+use Rattle.protocol.specs.Laws.{WasSent, WriteSent, AskedAt, part_of, brick_at, AtQuorum, IsGuarded}
 use Rattle.protocol.proofs.Books.{IsOperation, IsCall}
 
--- the stamp of each brick's call
+-- the stamp of each phase that was begun, by brick, call number and phase: a store phase has that of its round of ordering
 abbrev pub Stamping : Type 0
-Stamping = ℕ → ℕ → Stamp
+Stamping = ℕ → ℕ → ℕ → Option Stamp
+
+-- t is the stamp of phase p of brick i's call k
+abbrev pub IsStamped : Stamping → ℕ → ℕ → ℕ → Stamp → Type 0
+IsStamped stamps i k p t = stamps i k p ≡ Some t
+
+-- no phase of the call before p has stamp t
+abbrev pub IsNewIn : Stamping → ℕ → ℕ → ℕ → Stamp → Type 0
+IsNewIn stamps i k p t = (q : ℕ) → q < p → IsStamped stamps i k q t → ⊥
+
+-- a phase of the call before p has stamp t
+abbrev pub WasOrdered : Stamping → ℕ → ℕ → ℕ → Stamp → Type 0
+WasOrdered stamps i k p t = (q : ℕ) × (q < p) × IsStamped stamps i k q t
 
 -- the version is the first one, or an operation of this stripe made it
 abbrev pub IsMadeOrFirst : World → ℕ → ℕ → Stamp → Type 0
@@ -37,9 +48,9 @@ IsMadeOrFirst w g s t =
     (t ≡ first_stamp)
     ⊎ ((n : ℕ) × (o : Operation) × IsOperation w n o × (o.ask.group.0 ≡ g) × (o.ask.stripe.0 ≡ s) × (o.made ≡ true) × (o.version ≡ Some t))
 
--- the stamp is the first one, or that of a call which was begun
-abbrev pub IsKnown : World → Stamping → Stamp → Type 0
-IsKnown w stamps t = (t ≡ first_stamp) ⊎ ((j l : ℕ) × (1 ≤ l) × (l ≤ (w.nodes j).seq) × (t ≡ stamps j l))
+-- the stamp is the first one, or that of a phase which was begun
+abbrev pub IsKnown : Stamping → Stamp → Type 0
+IsKnown stamps t = (t ≡ first_stamp) ⊎ ((j l p : ℕ) × IsStamped stamps j l p t)
 
 -- a stamp of brick i, when i knows this time
 pub record IsStampOf (known i : ℕ) (t : Stamp) : Type 0 where
@@ -48,6 +59,12 @@ pub record IsStampOf (known i : ℕ) (t : Stamp) : Type 0 where
   pub brick : t.brick.0 ≡ i
   pub positive : 1 ≤ t.time
   pub bounded : t.time ≤ known
+
+-- the stamps of a world: each is its brick's, calls that have one were begun, and no two calls of a brick share one
+pub record StampsSay (w : World) (stamps : Stamping) : Type 0 where
+  pub are : (i k p : ℕ) (t : Stamp) → IsStamped stamps i k p t → IsStampOf (w.nodes i).known i t
+  pub begun : (i k p : ℕ) (t : Stamp) → IsStamped stamps i k p t → (1 ≤ k) × (k ≤ (w.nodes i).seq)
+  pub apart : (i k l p q : ℕ) (t : Stamp) → IsStamped stamps i k p t → IsStamped stamps i l q t → k ≡ l
 
 -- at a quorum of seats the operation's floor is at most t
 abbrev pub FloorsAtMost : Operation → Group → Stamp → Type 0
@@ -80,7 +97,8 @@ pub record VersionSays (setting : Setting) (w : World) (g s i : ℕ) (version : 
 pub record WriteSays (setting : Setting) (w : World) (stamps : Stamping) (from to : ℕ) (call : Call) (t : Stamp) (block : List ℕ) : Type 0 where
   pub operation : Operation
   pub called : IsCalled w from call operation
-  pub stamp : t ≡ stamps from call.seq
+  pub stamp : IsStamped stamps from call.seq call.phase t
+  pub ordered : WasOrdered stamps from call.seq call.phase t
   pub made : operation.made ≡ true
   pub version : operation.version ≡ Some t
   pub member : (group : Group) → group_of setting.layout call.group.0 ≡ Some group → (seat : ℕ) × (seat_in group.members to ≡ Some seat)
@@ -90,7 +108,8 @@ pub record WriteSays (setting : Setting) (w : World) (stamps : Stamping) (from t
 -- what a request of brick i to brick j says
 abbrev pub RequestSays : Setting → World → Stamping → ℕ → ℕ → Call → Request → Type 0
 RequestSays setting w stamps i j call (Request.Read want) = (want ≡ Want.All) × ((o : Operation) × IsCalled w i call o)
-RequestSays setting w stamps i j call (Request.Order t) = (t ≡ stamps i call.seq) × ((o : Operation) × IsCalled w i call o)
+RequestSays setting w stamps i j call (Request.Order t) =
+    IsStamped stamps i call.seq call.phase t × IsNewIn stamps i call.seq call.phase t × ((o : Operation) × IsCalled w i call o)
 RequestSays setting w stamps i j call (Request.Write t block) = WriteSays setting w stamps i j call t block
 RequestSays setting w stamps i j call request = Unit {0}
 
@@ -98,8 +117,10 @@ RequestSays setting w stamps i j call request = Unit {0}
 pub record OrderedSays (w : World) (stamps : Stamping) (j i : ℕ) (call : Call) : Type 0 where
   pub operation : Operation
   pub called : IsCalled w i call operation
-  pub promised : stamp_below (top_of (part_of w call.group.0 call.stripe.0 j)) (stamps i call.seq) ≡ false
-  pub floor : stamp_below (stamps i call.seq) (operation.floor j) ≡ false
+  pub stamp : Stamp
+  pub stamp_is : IsStamped stamps i call.seq call.phase stamp
+  pub promised : stamp_below (top_of (part_of w call.group.0 call.stripe.0 j)) stamp ≡ false
+  pub floor : stamp_below stamp (operation.floor j) ≡ false
 
 -- what brick j found
 pub record FoundSays (setting : Setting) (w : World) (j i : ℕ) (call : Call) (order : Stamp) (version : Version) : Type 0 where
@@ -138,9 +159,10 @@ pub record HasVersion (setting : Setting) (w : World) (o : Operation) (v : Stamp
 pub record OperationSays (setting : Setting) (w : World) (stamps : Stamping) (n : ℕ) (o : Operation) : Type 0 where
   pub begin : o.begin ≤ length w.marks
   pub floors : (i : ℕ) → stamp_below (top_of (part_of w o.ask.group.0 o.ask.stripe.0 i)) (o.floor i) ≡ false
-  pub fresh : (i : ℕ) → o.floor i ≡ stamps o.brick.0 o.seq → ⊥
-  pub made : o.made ≡ true → o.version ≡ Some (stamps o.brick.0 o.seq)
-  pub content : o.made ≡ true → o.ask.op ≡ WriteStripe (w.contents o.ask.group.0 o.ask.stripe.0 (stamps o.brick.0 o.seq))
+  pub floors_known : (i : ℕ) → IsKnown stamps (o.floor i)
+  pub fresh : (i p : ℕ) → IsStamped stamps o.brick.0 o.seq p (o.floor i) → ⊥
+  pub made : o.made ≡ true → (v : Stamp) × (p : ℕ) × (o.version ≡ Some v) × IsStamped stamps o.brick.0 o.seq p v
+  pub content : (v : Stamp) → o.made ≡ true → o.version ≡ Some v → o.ask.op ≡ WriteStripe (w.contents o.ask.group.0 o.ask.stripe.0 v)
   pub version : (v : Stamp) → o.version ≡ Some v → HasVersion setting w o v
   pub answered : o.answered ≡ true → (bytes : List ℕ) → o.ask.op ≡ WriteStripe bytes → o.made ≡ true
 
@@ -167,9 +189,11 @@ abbrev pub AreOnce : List Counted → Type 0
 AreOnce [] = Unit {0}
 AreOnce (x ∷ counted) = (has_seat x.seat counted ≡ false) × AreOnce counted
 
--- the open operation of brick i's call k
+-- the open operation of brick i's call k: its present phase is the last that has a stamp, and a store phase has that of its round of ordering
 pub record CallSays (setting : Setting) (w : World) (stamps : Stamping) (i k : ℕ) (c : Coordinator) : Type 0 where
-  pub stamp : c.stamp ≡ stamps i k
+  pub stamp : IsStamped stamps i k c.call.phase c.stamp
+  pub last : (p : ℕ) → c.call.phase < p → stamps i k p ≡ None
+  pub ordered : c.phase ≡ Stores → WasOrdered stamps i k c.call.phase c.stamp
   pub fits : FitsPhase c.phase c.ask.op
   pub counted : EachCounted (CountedSays setting w i c) c.counted
   pub once : AreOnce c.counted
@@ -187,7 +211,6 @@ pub record DataShown (w : World) (n : ℕ) (bytes : List ℕ) : Type 0 where
 abbrev pub EndShows : World → ℕ → Answer → Type 0
 EndShows w n (Data bytes) = DataShown w n bytes
 EndShows w n Done = Unit {0}
-EndShows w n (Aborted (Cause.Later brick x)) = (o : Operation) × (w.operations n ≡ Some o) × Evidence w o brick x
 EndShows w n (Aborted cause) = Unit {0}
 
 -- where one operation has a version, another of its stripe found that version below it at a quorum, or began no later than the first may end
@@ -200,9 +223,8 @@ IsInOrder setting w =
 
 -- The invariant.
 pub record Said (setting : Setting) (w : World) (stamps : Stamping) : Type 0 where
-  pub stamps_are : (i k : ℕ) → 1 ≤ k → k ≤ (w.nodes i).seq → IsStampOf (w.nodes i).known i (stamps i k)
-  pub stamps_rise : (i k l : ℕ) → 1 ≤ k → k < l → l ≤ (w.nodes i).seq → (stamps i k).time < (stamps i l).time
-  pub tops : (g s i : ℕ) → IsKnown w stamps (top_of (part_of w g s i))
+  pub stamps_say : StampsSay w stamps
+  pub tops : (g s i : ℕ) → IsKnown stamps (top_of (part_of w g s i))
   pub logs : (g s i k : ℕ) (version : Version) → slice_get (part_of w g s i).log k ≡ Some version → VersionSays setting w g s i version
   pub packets : (k : ℕ) (packet : Packet) → slice_get w.packets k ≡ Some packet → PacketSays setting w stamps packet
   pub operations : (n : ℕ) (o : Operation) → IsOperation w n o → OperationSays setting w stamps n o
@@ -210,3 +232,7 @@ pub record Said (setting : Setting) (w : World) (stamps : Stamping) : Type 0 whe
   pub ends : (k p n : ℕ) (answer : Answer) → slice_get w.marks k ≡ Some (End p n answer) → EndShows w n answer
   pub order : IsInOrder setting w
   pub first : (g s : ℕ) → w.contents g s first_stamp ≡ zero_content setting.layout.block (group_of setting.layout g)
+
+-- what is said of a world, by some stamps of its phases
+abbrev pub IsSaid : Setting → World → Type 0
+IsSaid setting w = (stamps : Stamping) × Said setting w stamps
