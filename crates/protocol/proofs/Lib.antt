@@ -28,6 +28,7 @@ pub mod RisingMarks
 pub mod Said
 pub mod SaidAlways
 pub mod Sorting
+pub mod Stampings
 pub mod Steps
 pub mod Stores
 pub mod StripeLives
