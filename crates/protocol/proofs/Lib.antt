@@ -22,6 +22,7 @@ pub mod OwnStamps
 pub mod Puts
 pub mod QuorumFacts
 pub mod Reactions
+pub mod Reorders
 pub mod Replies
 pub mod Requests
 pub mod RisingMarks
