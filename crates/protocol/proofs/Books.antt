@@ -5,7 +5,7 @@ use Rattle.reg_model.specs.declared.marks.Mark.{Mark}
 use Rattle.reg_model.specs.Marks.{Life, life_of, IsOpen, IsWellFormed, position_of}
 use Rattle.reg_model.specs.Strict.{IsAnswered}
 use Rattle.protocol.specs.Settings.{Setting, Group, group_of}
-use Rattle.protocol.specs.Coordinators.{Coordinator, Phase, Stores}
+use Rattle.protocol.specs.Coordinators.{Coordinator, Phase, Orders, Stores, most_rounds}
 use Rattle.protocol.specs.Nodes.{is_stripe_op, has_length}
 use Rattle.protocol.specs.Worlds.{World, Operation}
 
@@ -59,6 +59,8 @@ pub record CallBooks (setting : Setting) (w : World) (i k : ℕ) (c : Coordinato
   pub call_group : c.call.group ≡ c.ask.group
   pub call_view : c.call.view.0 ≡ 1
   pub call_stripe : c.call.stripe ≡ c.ask.stripe
+  pub rounds : (1 ≤ c.round) × (c.round ≤ most_rounds)
+  pub in_round : c.phase ≡ Orders → c.call.phase ≡ c.round
   pub made : MadeInPhase c operation c.phase
   pub unended : (life : Life) → life_of w.marks (w.numbers i k) ≡ Some life → IsOpen (Some life)
   pub unanswered : operation.answered ≡ false

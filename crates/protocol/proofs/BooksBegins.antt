@@ -31,7 +31,7 @@ none_lives : (life : Option Life) → ((l : Life) → life ≡ Some l → ⊥) �
 none_lives None never = refl
 none_lives (Some l) never = absurd (never l refl)
 
-module _ (setting : Setting) (w : World) (brick : BrickId) (ask : Ask) (group : Group) (books : Books setting w)
+module _ (setting : Setting) (w : World) (brick : BrickId) (now : ℕ) (ask : Ask) (group : Group) (books : Books setting w)
     (stripes : is_stripe_op ask.op ≡ true) (group_is : group_of setting.layout ask.group.0 ≡ Some group)
     (stripe : ask.stripe.0 < group.stripes) (fits : has_length group.m setting.layout.block ask.op ≡ true) where
   abbrev i : ℕ
@@ -45,7 +45,7 @@ module _ (setting : Setting) (w : World) (brick : BrickId) (ask : Ask) (group : 
   k = node.seq + 1
 
   abbrev c : Coordinator
-  c = new_coordinator brick 0 node ask
+  c = new_coordinator brick now node ask
 
   abbrev n : ℕ
   n = w.begun + 1
@@ -149,6 +149,8 @@ module _ (setting : Setting) (w : World) (brick : BrickId) (ask : Ask) (group : 
     call_group = refl;
     call_view = refl;
     call_stripe = refl;
+    rounds = (omega arith, omega arith);
+    in_round = λ orders. refl;
     made = fresh_made c o ask.op refl refl;
     unended = λ life is.
         (let began : Life = record { begin = length w.marks; brick = brick.0; ask = ask; ending = Unended (length w.marks + 1) } in

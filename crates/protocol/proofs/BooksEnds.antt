@@ -10,7 +10,7 @@ use Rattle.reg_model.specs.declared.marks.Mark.TheVariants.{End}
 use Rattle.reg_model.specs.Marks.{Life, Answered, life_of, IsOpen}
 use Rattle.reg_model.specs.Strict.{IsAnswered}
 use Rattle.protocol.specs.Settings.{Setting, group_of}
-use Rattle.protocol.specs.Coordinators.{Coordinator}
+use Rattle.protocol.specs.Coordinators.{Coordinator, Counted}
 use Rattle.protocol.specs.Nodes.{Node, is_stripe_op, has_length}
 use Rattle.protocol.specs.Worlds.{World, Operation, is_answer}
 use Rattle.protocol.proofs.Books.{Books, OperationBooks, CallBooks, IsOperation, IsCall}
@@ -45,24 +45,26 @@ pub record Ended (w : World) (i k : ℕ) (c : Coordinator) (before o : Operation
   pub operation_is : operations (w.numbers i k) ≡ Some o
   pub other_operations : (m : ℕ) → m ≢ w.numbers i k → operations m ≡ w.operations m
 
--- the world with these bricks and operations, more packets, and an End of operation n
-abbrev pub ended_world : World → (ℕ → Node) → List Packet → (ℕ → Option Operation) → ℕ → Answer → World
-ended_world w nodes packets operations n answer =
+-- the world with these bricks, packets, operations and counted replies, and an End of operation n
+abbrev pub ended_world : World → (ℕ → Node) → List Packet → (ℕ → Option Operation) → (ℕ → ℕ → List Counted) → ℕ → Answer → World
+ended_world w nodes packets operations replies n answer =
     record {
       nodes = nodes;
+      clocks = w.clocks;
       packets = packets;
       marks = w.marks ++ (End (length w.marks) n answer ∷ []);
       begun = w.begun;
       operations = operations;
       numbers = w.numbers;
       contents = w.contents;
+      replies = replies;
     }
 
 module _ (setting : Setting) (w : World) (i k : ℕ) (c : Coordinator) (before o : Operation) (answer : Answer) (nodes : ℕ → Node) (packets : List Packet)
-    (operations : ℕ → Option Operation) (books : Books setting w) (ended : Ended w i k c before o answer nodes operations) where
+    (operations : ℕ → Option Operation) (replies : ℕ → ℕ → List Counted) (books : Books setting w) (ended : Ended w i k c before o answer nodes operations) where
   -- the world after the end
   abbrev later : World
-  later = ended_world w nodes packets operations (w.numbers i k) answer
+  later = ended_world w nodes packets operations replies (w.numbers i k) answer
 
   call : CallBooks setting w i k c
   call = books.calls i k c ended.was

@@ -1,6 +1,7 @@
 -- Every event keeps the books.
-use Rattle.std.proofs.Common.{◌≡◌, ℕ, ◌-◌, ◌<◌, ◌≤◌, ◌⊎◌, inl, inr, Bool, true, false, not, ◌&&◌, cond, is_some, Option, Some, None, refl, sym, ap, ◌∙◌, subst, arith, List, [], ◌∷◌, ◌++◌}
+use Rattle.std.proofs.Common.{◌≡◌, ℕ, ◌+◌, ◌-◌, ◌<◌, ◌≤◌, ◌⊎◌, inl, inr, Bool, true, false, not, ◌&&◌, cond, is_some, Option, Some, None, refl, sym, ap, ◌∙◌, subst, arith, List, [], ◌∷◌, ◌++◌}
 use Rattle.std.specs.Prelude.{nat_lt}
+use Rattle.std.proofs.lemmas.Option.{same_Some}
 use Rattle.std.proofs.lemmas.Bool.{cond_both, and_parts, not-true, not-false, ltb-true, both_ways}
 use Rattle.fab_base.specs.declared.identities.BrickId.{BrickId}
 use Rattle.fab_base.specs.declared.asks.Ask.{Ask}
@@ -14,16 +15,16 @@ use Rattle.fab_wire.specs.declared.requests.Request.{Request}
 use Rattle.fab_wire.specs.declared.replies.Reply.{Reply}
 use Rattle.protocol.specs.Settings.{Setting, Group, group_of, seat_in}
 use Rattle.protocol.specs.Replicas.{handle}
-use Rattle.protocol.specs.Coordinators.{Phase, Looks, Orders, Stores, Stalls, Coordinator, Next, Ignores, Waits, Sends, Ends, on_reply}
-use Rattle.protocol.specs.Nodes.{Node, NodeStep, Nothing, put, no_step, is_stripe_op, has_block, has_length, refusal_in, refusal_of, began, invoked, with_replica, replica_at, reply_packets, requested_at, requested_in, requested, known_after, with_call, with_known, carried_out, phase_packets, collect_packets, replied_to, replied_at, replied, received}
-use Rattle.protocol.specs.Worlds.{World, Operation, Event, Invokes, Delivers, is_answer, version_after, first_world, is_brick, may_begin, world_began, world_stepped, with_made, with_answer, with_content, delivered, packet_of, happens, run}
+use Rattle.protocol.specs.Coordinators.{Phase, Looks, Orders, Stores, Stalls, Coordinator, Next, Ignores, Waits, Reorders, Makes, Ends, Counted, most_rounds, with_reply, once_full, counted_at, counts_at, on_reply}
+use Rattle.protocol.specs.Nodes.{Node, NodeStep, Nothing, put, no_step, is_stripe_op, has_block, has_length, refusal_in, refusal_of, began, invoked, with_replica, replica_at, reply_packets, requested_at, requested_in, requested, has_later_time, next_time, new_stamp, fresh_stamp, known_after, with_call, with_known, carried_out, phase_packets, collect_packets, replied_to, replied_at, replied, received}
+use Rattle.protocol.specs.Worlds.{World, Operation, Event, Invokes, Delivers, Sets, is_answer, version_after, first_world, is_brick, may_begin, world_began, world_stepped, with_made, with_answer, with_content, replies_with, delivered, packet_of, happens, run}
 use Rattle.protocol.proofs.Books.{Books, CallBooks, IsCall, MadeInPhase}
 use Rattle.protocol.proofs.BooksKept.{KeepsNumbers}
 use Rattle.protocol.proofs.BooksQuiet.{books_quiet}
-use Rattle.protocol.proofs.BooksTurns.{books_turned}
+use Rattle.protocol.proofs.BooksTurns.{IsBookedStamp, books_turned}
 use Rattle.protocol.proofs.BooksEnds.{books_ended}
 use Rattle.protocol.proofs.BooksBegins.{books_began}
-use Rattle.protocol.proofs.Outcomes.{EndFits, NextFits, on_reply_fits}
+use Rattle.protocol.proofs.Outcomes.{SameOperation, EndFits, NextFits, once_full_fits}
 use Rattle.protocol.proofs.Puts.{put_other}
 use Rattle.protocol.proofs.Tables.{put_each, put_same}
 
@@ -33,50 +34,54 @@ keeps_put w i node keeps j =
     put_each (λ (x : ℕ) (y : Node). KeepsNumbers (w.nodes x) y) w.nodes i node keeps
     (λ x other. record { boot = refl; seq = refl; known = omega arith }) j
 
+-- the replies that have counted, by operation and phase
+abbrev Replies : Type 0
+Replies = ℕ → ℕ → List Counted
+
+-- the world after a brick's step, with these counted replies
+abbrev stepped : World → Replies → BrickId → NodeStep → World
+stepped w replies brick step = world_stepped (record w { replies = replies }) brick step step.told
+
 -- a step that tells nothing and keeps a brick's calls and numbers keeps the books
-books_nothing : (setting : Setting) (w : World) (brick : BrickId) (node : Node) (packets : List Packet) → Books setting w
+books_nothing : (setting : Setting) (w : World) (replies : Replies) (brick : BrickId) (node : Node) (packets : List Packet) → Books setting w
     → KeepsNumbers (w.nodes brick.0) node → ((l : ℕ) → node.calls l ≡ (w.nodes brick.0).calls l)
-    → Books setting (world_stepped w brick (record { node = node; packets = packets; told = Nothing }) Nothing)
-books_nothing setting w brick node packets books keeps calls =
-    books_quiet setting w (put w.nodes brick.0 node) (w.packets ++ packets) books (keeps_put w brick.0 node keeps)
+    → Books setting (stepped w replies brick (record { node = node; packets = packets; told = Nothing }))
+books_nothing setting w replies brick node packets books keeps calls =
+    books_quiet setting w (put w.nodes brick.0 node) w.clocks (w.packets ++ packets) replies books (keeps_put w brick.0 node keeps)
     (λ j l. put_each (λ (x : ℕ) (y : Node). y.calls l ≡ (w.nodes x).calls l) w.nodes brick.0 node (calls l) (λ x other. refl) j)
 
 -- a brick that changes nothing
-books_no_step : (setting : Setting) (w : World) (brick : BrickId) → Books setting w
-    → Books setting (world_stepped w brick (no_step (w.nodes brick.0)) Nothing)
-books_no_step setting w brick books =
-    books_nothing setting w brick (w.nodes brick.0) [] books (record { boot = refl; seq = refl; known = omega arith }) (λ l. refl)
+books_no_step : (setting : Setting) (w : World) (replies : Replies) (brick : BrickId) → Books setting w
+    → Books setting (stepped w replies brick (no_step (w.nodes brick.0)))
+books_no_step setting w replies brick books =
+    books_nothing setting w replies brick (w.nodes brick.0) [] books (record { boot = refl; seq = refl; known = omega arith }) (λ l. refl)
 
 -- a brick that learns of a time
-books_known : (setting : Setting) (w : World) (brick : BrickId) (known : ℕ) → Books setting w → (w.nodes brick.0).known ≤ known
-    → Books setting (world_stepped w brick (no_step (with_known (w.nodes brick.0) known)) Nothing)
-books_known setting w brick known books grows =
-    books_nothing setting w brick (with_known (w.nodes brick.0) known) [] books (record { boot = refl; seq = refl; known = grows }) (λ l. refl)
-
--- the world after a brick's step
-abbrev stepped : World → BrickId → NodeStep → World
-stepped w brick step = world_stepped w brick step step.told
+books_known : (setting : Setting) (w : World) (replies : Replies) (brick : BrickId) (known : ℕ) → Books setting w → (w.nodes brick.0).known ≤ known
+    → Books setting (stepped w replies brick (no_step (with_known (w.nodes brick.0) known)))
+books_known setting w replies brick known books grows =
+    books_nothing setting w replies brick (with_known (w.nodes brick.0) known) [] books (record { boot = refl; seq = refl; known = grows }) (λ l. refl)
 
 -- a request
-books_requested_at : (setting : Setting) (w : World) (me from : BrickId) (call : Call) (request : Request) (seat : Option ℕ) → Books setting w
-    → Books setting (stepped w me (requested_at me from (w.nodes me.0) call request seat))
-books_requested_at setting w me from call request None books = books_no_step setting w me books
-books_requested_at setting w me from call request (Some seat) books =
+books_requested_at : (setting : Setting) (w : World) (replies : Replies) (me from : BrickId) (call : Call) (request : Request) (seat : Option ℕ)
+    → Books setting w → Books setting (stepped w replies me (requested_at me from (w.nodes me.0) call request seat))
+books_requested_at setting w replies me from call request None books = books_no_step setting w replies me books
+books_requested_at setting w replies me from call request (Some seat) books =
     let reaction = handle seat (replica_at (w.nodes me.0) call) request in
-    books_nothing setting w me (with_replica (w.nodes me.0) call reaction.replica) (reply_packets me from call reaction.reply) books
+    books_nothing setting w replies me (with_replica (w.nodes me.0) call reaction.replica) (reply_packets me from call reaction.reply) books
     (record { boot = refl; seq = refl; known = omega arith }) (λ l. refl)
 
-books_requested_in : (setting : Setting) (w : World) (me from : BrickId) (call : Call) (request : Request) (group : Option Group) → Books setting w
-    → Books setting (stepped w me (requested_in me from (w.nodes me.0) call request group))
-books_requested_in setting w me from call request None books = books_no_step setting w me books
-books_requested_in setting w me from call request (Some group) books =
-    books_requested_at setting w me from call request (seat_in group.members me.0) books
+books_requested_in : (setting : Setting) (w : World) (replies : Replies) (me from : BrickId) (call : Call) (request : Request) (group : Option Group)
+    → Books setting w → Books setting (stepped w replies me (requested_in me from (w.nodes me.0) call request group))
+books_requested_in setting w replies me from call request None books = books_no_step setting w replies me books
+books_requested_in setting w replies me from call request (Some group) books =
+    books_requested_at setting w replies me from call request (seat_in group.members me.0) books
 
-books_requested : (setting : Setting) (w : World) (me from : BrickId) (call : Call) (request : Request) → Books setting w
-    → Books setting (stepped w me (requested setting me from (w.nodes me.0) call request))
+books_requested : (setting : Setting) (w : World) (replies : Replies) (me from : BrickId) (call : Call) (request : Request) → Books setting w
+    → Books setting (stepped w replies me (requested setting me from (w.nodes me.0) call request))
 unfolding requested
-books_requested setting w me from call request books =
-    books_requested_in setting w me from call request (group_of setting.layout call.group.0) books
+books_requested setting w replies me from call request books =
+    books_requested_in setting w replies me from call request (group_of setting.layout call.group.0) books
 
 -- what an operation made is of its stamp, whatever else its coordinator holds
 made_same : (c d : Coordinator) (o : Operation) (p q : Phase) → d.stamp ≡ c.stamp → q ≡ p → MadeInPhase c o p → MadeInPhase d o q
@@ -101,8 +106,23 @@ ends_version c o Stores answer None made fits is = (c.stamp, made.0)
 ends_version c o Stores answer (Some v) made fits is = (v, refl)
 ends_version c o Stalls answer seen made fits is = absurd fits
 
-module _ (setting : Setting) (group : Group) (w : World) (me : BrickId) (c : Coordinator) (known : ℕ) (books : Books setting w)
-    (is_call : IsCall w me.0 c.call.seq c) (grows : (w.nodes me.0).known ≤ known) where
+-- a fresh stamp is above all that its brick knows
+fresh_is : (me : BrickId) (now boot known : ℕ) (t : Stamp) → fresh_stamp me now boot known ≡ Some t
+    → (t ≡ new_stamp me now boot known) × (known ≤ next_time now known) × (1 ≤ next_time now known)
+fresh_is me now boot known t is =
+    cond_both (has_later_time known) (Some (new_stamp me now boot known)) None
+    (λ (z : Option Stamp). z ≡ Some t → (t ≡ new_stamp me now boot known) × (known ≤ next_time now known) × (1 ≤ next_time now known))
+    (λ some e. (sym (same_Some (new_stamp me now boot known) t e), omega arith, omega arith))
+    (λ none e. absurd (let never : None ≡ Some t = e in cc))
+    is
+
+-- a brick is its number
+brick_of : (a b : BrickId) → a.0 ≡ b.0 → a ≡ b
+brick_of a b same = ap (λ (x : ℕ). let b : BrickId = record { 0 = x } in b) same
+
+-- brick me took a reply, which counts in coordinator c, and knows this time; a new round would have this stamp
+module _ (setting : Setting) (group : Group) (w : World) (replies : Replies) (me : BrickId) (now known : ℕ) (c : Coordinator) (counted : List Counted)
+    (books : Books setting w) (is_call : IsCall w me.0 c.call.seq c) (grows : (w.nodes me.0).known ≤ known) where
   abbrev i : ℕ
   i = me.0
 
@@ -112,42 +132,111 @@ module _ (setting : Setting) (group : Group) (w : World) (me : BrickId) (c : Coo
   abbrev node : Node
   node = w.nodes i
 
+  -- the coordinator with the replies that then count
+  abbrev then' : Coordinator
+  then' = record { ask = c.ask; stamp = c.stamp; round = c.round; call = c.call; phase = c.phase; counted = counted }
+
+  abbrev fresh : Option Stamp
+  fresh = fresh_stamp me now node.boot known
+
+  -- the replies that count are no part of the operation
+  same_of : (d : Coordinator) → SameOperation then' d → SameOperation c d
+  same_of d same =
+      record { ask = same.ask; boot = same.boot; seq = same.seq; group = same.group; view = same.view; stripe = same.stripe }
+
   mine : CallBooks setting w i k c
   mine = books.calls i k c is_call
 
   -- brick i with this call changed
-  call_put : (busy : ℕ) (d : Option Coordinator) → (put w.nodes i (with_call node known busy k d) i).calls k ≡ d
-  call_put busy d =
-      ap (λ (x : Node). x.calls k) (put_same w.nodes i (with_call node known busy k d)) ∙ put_same node.calls k d
+  call_put : (time busy : ℕ) (d : Option Coordinator) → (put w.nodes i (with_call node time busy k d) i).calls k ≡ d
+  call_put time busy d =
+      ap (λ (x : Node). x.calls k) (put_same w.nodes i (with_call node time busy k d)) ∙ put_same node.calls k d
 
-  other_put : (busy : ℕ) (d : Option Coordinator) (j l : ℕ) → (j ≡ i → l ≡ k → ⊥)
-      → (put w.nodes i (with_call node known busy k d) j).calls l ≡ (w.nodes j).calls l
-  other_put busy d j l other =
-      put_each (λ (x : ℕ) (y : Node). (x ≡ i → l ≡ k → ⊥) → y.calls l ≡ (w.nodes x).calls l) w.nodes i (with_call node known busy k d)
+  other_put : (time busy : ℕ) (d : Option Coordinator) (j l : ℕ) → (j ≡ i → l ≡ k → ⊥)
+      → (put w.nodes i (with_call node time busy k d) j).calls l ≡ (w.nodes j).calls l
+  other_put time busy d j l other =
+      put_each (λ (x : ℕ) (y : Node). (x ≡ i → l ≡ k → ⊥) → y.calls l ≡ (w.nodes x).calls l) w.nodes i (with_call node time busy k d)
       (λ apart. put_other node.calls k d l (λ same. apart refl same)) (λ x at apart. refl) j other
 
-  keeps_call : (busy : ℕ) (d : Option Coordinator) (j : ℕ) → KeepsNumbers (w.nodes j) (put w.nodes i (with_call node known busy k d) j)
-  keeps_call busy d = keeps_put w i (with_call node known busy k d) (record { boot = refl; seq = refl; known = grows })
+  keeps_call : (time busy : ℕ) (d : Option Coordinator) → node.known ≤ time
+      → (j : ℕ) → KeepsNumbers (w.nodes j) (put w.nodes i (with_call node time busy k d) j)
+  keeps_call time busy d later = keeps_put w i (with_call node time busy k d) (record { boot = refl; seq = refl; known = later })
+
+  -- the time that brick i then knows
+  own_known : (time busy : ℕ) (d : Option Coordinator) → time ≡ (put w.nodes i (with_call node time busy k d) i).known
+  own_known time busy d = ap (λ (x : Node). x.known) (sym (put_same w.nodes i (with_call node time busy k d)))
+
+  -- the stamp that an operation has stays its own
+  stamp_stays : (d : Option Coordinator) (t : Stamp) → t ≡ c.stamp
+      → IsBookedStamp (put w.nodes i (with_call node known node.busy k d) i).known mine.operation t
+  stamp_stays d t same = subst (λ (x : Stamp). IsBookedStamp (put w.nodes i (with_call node known node.busy k d) i).known mine.operation x) (sym same)
+      (subst (λ (x : ℕ). IsBookedStamp x mine.operation c.stamp) (own_known known node.busy d) (record {
+        brick = mine.stamp_brick;
+        view = mine.stamp_view;
+        boot = mine.stamp_boot;
+        time = (omega (arith, mine.stamp_known.0), omega (arith, mine.stamp_known.1));
+      }))
+
+  -- a fresh stamp is the operation's, and no time falls
+  stamp_fresh : (d : Option Coordinator) (t : Stamp) → fresh ≡ Some t
+      → (node.known ≤ t.time) × IsBookedStamp (put w.nodes i (with_call node t.time node.busy k d) i).known mine.operation t
+  stamp_fresh d t is =
+      let facts = fresh_is me now node.boot known t is in
+      let time : t.time ≡ next_time now known = ap (λ (x : Stamp). x.time) facts.0 in
+      (omega (arith, facts.1, time), subst (λ (x : ℕ). IsBookedStamp x mine.operation t) (own_known t.time node.busy d) (record {
+        brick = ap (λ (x : Stamp). x.brick) facts.0 ∙ brick_of me mine.operation.brick (sym mine.brick);
+        view = ap (λ (x : Stamp). x.view.0) facts.0;
+        boot = ap (λ (x : Stamp). x.boot) facts.0 ∙ books.boots i;
+        time = (omega (arith, facts.2, time), omega arith);
+      }))
 
   -- what a brick does with what its coordinator decided
-  books_carried_out : (next : Next) → NextFits c next → Books setting (stepped w me (carried_out setting group me node known c next))
-  books_carried_out Ignores fits = books_known setting w me known books grows
+  books_carried_out : (next : Next) → NextFits fresh then' next → Books setting (stepped w replies me (carried_out setting group me node known c next))
+  books_carried_out Ignores fits = books_known setting w replies me known books grows
   books_carried_out (Waits d) fits =
       books_turned setting w i k c d mine.operation mine.operation (put w.nodes i (with_call node known node.busy k (Some d))) (w.packets ++ [])
-      w.operations w.contents books
+      w.operations w.contents replies books
       (record {
         was = is_call;
         operation_was = mine.operation_is;
-        same = fits.0;
+        same = same_of d fits.same;
+        stamp = stamp_stays (Some d) d.stamp fits.stamp;
+        rounds = subst (λ (x : ℕ). (1 ≤ x) × (x ≤ most_rounds)) (sym fits.round) mine.rounds;
+        in_round = λ orders. ap (λ (x : Call). x.phase) fits.call ∙ mine.in_round (waits_orders d fits.phase orders) ∙ sym fits.round;
         same_ask = record { brick = refl; seq = refl; begin = refl; ask = refl; answered = refl };
-        made = made_waits c d mine.operation c.phase fits.0.stamp mine.made fits.1;
-        keeps = keeps_call node.busy (Some d);
-        call_is = call_put node.busy (Some d);
-        other_calls = other_put node.busy (Some d);
+        made = made_waits c d mine.operation c.phase fits.stamp mine.made fits.phase;
+        keeps = keeps_call known node.busy (Some d) grows;
+        call_is = call_put known node.busy (Some d);
+        other_calls = other_put known node.busy (Some d);
         operation_is = mine.operation_is;
         other_operations = λ m other. refl;
       })
-  books_carried_out (Sends d) fits =
+    where
+      waits_orders : (d : Coordinator) → (d.phase ≡ c.phase) ⊎ ((c.phase ≡ Looks) × (d.phase ≡ Stalls)) → d.phase ≡ Orders → c.phase ≡ Orders
+      waits_orders d (inl same) orders = sym same ∙ orders
+      waits_orders d (inr stalls) orders = absurd (let never : Stalls ≡ Orders = sym stalls.1 ∙ orders in cc)
+  books_carried_out (Reorders d) fits =
+      let fresh = stamp_fresh (Some d) d.stamp fits.stamp in
+      let made : (mine.operation.version ≡ None) × (mine.operation.made ≡ false)
+      = subst (λ (x : Phase). MadeInPhase c mine.operation x) fits.was mine.made in
+      books_turned setting w i k c d mine.operation mine.operation (put w.nodes i (with_call node d.stamp.time node.busy k (Some d)))
+      (w.packets ++ phase_packets setting group me d) w.operations w.contents replies books
+      (record {
+        was = is_call;
+        operation_was = mine.operation_is;
+        same = same_of d fits.same;
+        stamp = fresh.1;
+        rounds = (let next : d.round ≡ c.round + 1 = fits.round in let left : c.round < most_rounds = fits.left in (omega arith, omega arith));
+        in_round = λ orders. ap (λ (x : Call). x.phase) fits.call ∙ ap (λ (x : ℕ). x + 1) (mine.in_round fits.was) ∙ sym fits.round;
+        same_ask = record { brick = refl; seq = refl; begin = refl; ask = refl; answered = refl };
+        made = subst (λ (x : Phase). MadeInPhase d mine.operation x) (sym fits.phase) made;
+        keeps = keeps_call d.stamp.time node.busy (Some d) fresh.0;
+        call_is = call_put d.stamp.time node.busy (Some d);
+        other_calls = other_put d.stamp.time node.busy (Some d);
+        operation_is = mine.operation_is;
+        other_operations = λ m other. refl;
+      })
+  books_carried_out (Makes d) fits =
       let o : Operation = record {
         brick = mine.operation.brick;
         seq = mine.operation.seq;
@@ -161,16 +250,19 @@ module _ (setting : Setting) (group : Group) (w : World) (me : BrickId) (c : Coo
       let n : ℕ = w.numbers i k in
       books_turned setting w i k c d mine.operation o (put w.nodes i (with_call node known node.busy k (Some d)))
       (w.packets ++ phase_packets setting group me d) (put w.operations n (with_made d.stamp (w.operations n)))
-      (with_content w.contents d.stamp (w.operations n)) books
+      (with_content w.contents d.stamp (w.operations n)) replies books
       (record {
         was = is_call;
         operation_was = mine.operation_is;
-        same = fits.0;
+        same = same_of d fits.same;
+        stamp = stamp_stays (Some d) d.stamp fits.stamp;
+        rounds = subst (λ (x : ℕ). (1 ≤ x) × (x ≤ most_rounds)) (sym fits.round) mine.rounds;
+        in_round = λ orders. absurd (let never : Stores ≡ Orders = sym fits.phase ∙ orders in cc);
         same_ask = record { brick = refl; seq = refl; begin = refl; ask = refl; answered = refl };
-        made = subst (λ (x : Phase). MadeInPhase d o x) (sym fits.2) (refl, refl);
-        keeps = keeps_call node.busy (Some d);
-        call_is = call_put node.busy (Some d);
-        other_calls = other_put node.busy (Some d);
+        made = subst (λ (x : Phase). MadeInPhase d o x) (sym fits.phase) (refl, refl);
+        keeps = keeps_call known node.busy (Some d) grows;
+        call_is = call_put known node.busy (Some d);
+        other_calls = other_put known node.busy (Some d);
         operation_is = put_same w.operations n (with_made d.stamp (w.operations n))
             ∙ ap (λ (x : Option Operation). with_made d.stamp x) mine.operation_is;
         other_operations = λ m other. put_other w.operations n (with_made d.stamp (w.operations n)) m other;
@@ -188,7 +280,7 @@ module _ (setting : Setting) (group : Group) (w : World) (me : BrickId) (c : Coo
       } in
       let n : ℕ = w.numbers i k in
       books_ended setting w i k c mine.operation o answer (put w.nodes i (with_call node known (node.busy - 1) k None))
-      (w.packets ++ collect_packets group me c.call stored) (put w.operations n (with_answer answer seen (w.operations n))) books
+      (w.packets ++ collect_packets group me c.call stored) (put w.operations n (with_answer answer seen (w.operations n))) replies books
       (record {
         was = is_call;
         operation_was = mine.operation_is;
@@ -197,56 +289,72 @@ module _ (setting : Setting) (group : Group) (w : World) (me : BrickId) (c : Coo
         begin = refl;
         ask = refl;
         answered = refl;
-        answered_version = λ is. ends_version c mine.operation c.phase answer seen mine.made fits is;
-        keeps = keeps_call (node.busy - 1) None;
-        call_is = call_put (node.busy - 1) None;
-        other_calls = other_put (node.busy - 1) None;
+        answered_version = λ is. ends_version c mine.operation c.phase answer seen mine.made fits.0 is;
+        keeps = keeps_call known (node.busy - 1) None grows;
+        call_is = call_put known (node.busy - 1) None;
+        other_calls = other_put known (node.busy - 1) None;
         operation_is = put_same w.operations n (with_answer answer seen (w.operations n))
             ∙ ap (λ (x : Option Operation). with_answer answer seen x) mine.operation_is;
         other_operations = λ m other. put_other w.operations n (with_answer answer seen (w.operations n)) m other;
       })
 
 -- what a reply makes known is no less
-known_grows : (known : ℕ) (reply : Reply) → known ≤ known_after known reply
+pub known_grows : (known : ℕ) (reply : Reply) → known ≤ known_after known reply
 known_grows known (Reply.Later t) = omega arith
 known_grows known reply = omega arith
 
 -- a reply
-books_replied_to : (setting : Setting) (w : World) (me from : BrickId) (call : Call) (reply : Reply) (c : Coordinator) (group : Option Group)
-    → Books setting w → IsCall w me.0 c.call.seq c → Books setting (stepped w me (replied_to setting me from (w.nodes me.0) call reply c group))
-books_replied_to setting w me from call reply c None books is_call = books_no_step setting w me books
-books_replied_to setting w me from call reply c (Some group) books is_call =
-    books_carried_out setting group w me c (known_after (w.nodes me.0).known reply) books is_call (known_grows (w.nodes me.0).known reply)
-    (on_reply setting.layout.block setting.code group c from call reply) (on_reply_fits setting.layout.block setting.code group c from call reply)
+books_counted_at : (setting : Setting) (w : World) (replies : Replies) (me : BrickId) (now : ℕ) (from : BrickId) (reply : Reply) (c : Coordinator)
+    (group : Group) (seat : Option ℕ) → Books setting w → IsCall w me.0 c.call.seq c
+    → (let known = known_after (w.nodes me.0).known reply in
+    Books setting (stepped w replies me (carried_out setting group me (w.nodes me.0) known c
+    (counted_at setting.code group (fresh_stamp me now (w.nodes me.0).boot known) c from reply seat))))
+books_counted_at setting w replies me now from reply c group None books is_call =
+    books_known setting w replies me (known_after (w.nodes me.0).known reply) books (known_grows (w.nodes me.0).known reply)
+books_counted_at setting w replies me now from reply c group (Some seat) books is_call =
+    let known = known_after (w.nodes me.0).known reply in
+    let fresh = fresh_stamp me now (w.nodes me.0).boot known in
+    books_carried_out setting group w replies me now known c (with_reply c seat from reply).counted books is_call (known_grows (w.nodes me.0).known reply)
+    (once_full setting.code group fresh (with_reply c seat from reply)) (once_full_fits setting.code group fresh (with_reply c seat from reply))
 
-books_replied_at : (setting : Setting) (w : World) (me from : BrickId) (call : Call) (reply : Reply) (found : Option Coordinator)
-    → Books setting w → (w.nodes me.0).calls call.seq ≡ found → Books setting (stepped w me (replied_at setting me from (w.nodes me.0) call reply found))
-books_replied_at setting w me from call reply None books is =
-    books_known setting w me (known_after (w.nodes me.0).known reply) books (known_grows (w.nodes me.0).known reply)
-books_replied_at setting w me from call reply (Some c) books is =
+books_replied_to : (setting : Setting) (w : World) (replies : Replies) (me : BrickId) (now : ℕ) (from : BrickId) (call : Call) (reply : Reply)
+    (c : Coordinator) (group : Option Group) → Books setting w → IsCall w me.0 c.call.seq c
+    → Books setting (stepped w replies me (replied_to setting me now from (w.nodes me.0) call reply c group))
+unfolding on_reply
+books_replied_to setting w replies me now from call reply c None books is_call = books_no_step setting w replies me books
+books_replied_to setting w replies me now from call reply c (Some group) books is_call =
+    books_counted_at setting w replies me now from reply c group (counts_at setting.layout.block group c from.0 call reply) books is_call
+
+books_replied_at : (setting : Setting) (w : World) (replies : Replies) (me : BrickId) (now : ℕ) (from : BrickId) (call : Call) (reply : Reply)
+    (found : Option Coordinator) → Books setting w → (w.nodes me.0).calls call.seq ≡ found
+    → Books setting (stepped w replies me (replied_at setting me now from (w.nodes me.0) call reply found))
+books_replied_at setting w replies me now from call reply None books is =
+    books_known setting w replies me (known_after (w.nodes me.0).known reply) books (known_grows (w.nodes me.0).known reply)
+books_replied_at setting w replies me now from call reply (Some c) books is =
     let seq : c.call.seq ≡ call.seq = (books.calls me.0 call.seq c is).call_seq in
-    books_replied_to setting w me from call reply c (group_of setting.layout c.ask.group.0) books
+    books_replied_to setting w replies me now from call reply c (group_of setting.layout c.ask.group.0) books
     (subst (λ (l : ℕ). IsCall w me.0 l c) (sym seq) is)
 
-books_replied : (setting : Setting) (w : World) (me from : BrickId) (call : Call) (reply : Reply) → Books setting w
-    → Books setting (stepped w me (replied setting me from (w.nodes me.0) call reply))
+books_replied : (setting : Setting) (w : World) (replies : Replies) (me : BrickId) (now : ℕ) (from : BrickId) (call : Call) (reply : Reply)
+    → Books setting w → Books setting (stepped w replies me (replied setting me now from (w.nodes me.0) call reply))
 unfolding replied
-books_replied setting w me from call reply books =
-    books_replied_at setting w me from call reply ((w.nodes me.0).calls call.seq) books refl
+books_replied setting w replies me now from call reply books =
+    books_replied_at setting w replies me now from call reply ((w.nodes me.0).calls call.seq) books refl
 
 -- a message
-books_received : (setting : Setting) (w : World) (me from to : BrickId) (message : Message) → Books setting w
-    → Books setting (stepped w me (received setting me (w.nodes me.0) (record { from = from; to = to; message = message })))
+books_received : (setting : Setting) (w : World) (replies : Replies) (me : BrickId) (now : ℕ) (from to : BrickId) (message : Message) → Books setting w
+    → Books setting (stepped w replies me (received setting me now (w.nodes me.0) (record { from = from; to = to; message = message })))
 unfolding received
-books_received setting w me from to (Message.Request call request) books = books_requested setting w me from call request books
-books_received setting w me from to (Message.Reply call reply) books = books_replied setting w me from call reply books
-books_received setting w me from to message books = books_no_step setting w me books
+books_received setting w replies me now from to (Message.Request call request) books = books_requested setting w replies me from call request books
+books_received setting w replies me now from to (Message.Reply call reply) books = books_replied setting w replies me now from call reply books
+books_received setting w replies me now from to message books = books_no_step setting w replies me books
 
 books_delivered : (setting : Setting) (w : World) (packet : Option Packet) → Books setting w → Books setting (delivered setting w packet)
 books_delivered setting w None books = books
 books_delivered setting w (Some packet) books =
     cond_both (is_brick setting.layout packet.to) _ _ (λ (x : World). Books setting x)
-    (λ member. books_received setting w packet.to packet.from packet.to packet.message books) (λ stranger. books)
+    (λ member. books_received setting w (replies_with setting w packet) packet.to (w.clocks packet.to.0) packet.from packet.to packet.message books)
+    (λ stranger. books)
 
 -- where no reason to refuse is found, the group is there, and the ask fits it
 cond_none : (b : Bool) (r : Refusal) (rest : Option Refusal) → cond b (Some r) rest ≡ None → (b ≡ false) × (rest ≡ None)
@@ -268,15 +376,15 @@ no_value (Some r) h = absurd (let never : true ≡ false = h in cc)
 
 -- an invocation
 books_invoked : (setting : Setting) (w : World) (brick : BrickId) (ask : Ask) → Books setting w → may_begin setting w brick ask ≡ true
-    → Books setting (world_began w brick ask (invoked setting brick 0 (w.nodes brick.0) ask))
+    → Books setting (world_began w brick ask (invoked setting brick (w.clocks brick.0) (w.nodes brick.0) ask))
 unfolding invoked refusal_of
 books_invoked setting w brick ask books may =
     let both = and_parts (is_brick setting.layout brick) (is_stripe_op ask.op && not (is_some (refusal_of setting.layout (w.nodes brick.0) ask))) may in
     let rest = and_parts (is_stripe_op ask.op) (not (is_some (refusal_of setting.layout (w.nodes brick.0) ask))) both.1 in
     let none : refusal_of setting.layout (w.nodes brick.0) ask ≡ None = no_value (refusal_of setting.layout (w.nodes brick.0) ask) (not-true _ rest.1) in
     let fits = not_refused setting.layout.block (w.nodes brick.0) ask (group_of setting.layout ask.group.0) none in
-    subst (λ (found : Option Group). Books setting (world_began w brick ask (began setting brick 0 (w.nodes brick.0) ask found))) (sym fits.1)
-    (books_began setting w brick ask fits.0 books rest.0 fits.1 fits.2 fits.3)
+    subst (λ (found : Option Group). Books setting (world_began w brick ask (began setting brick (w.clocks brick.0) (w.nodes brick.0) ask found))) (sym fits.1)
+    (books_began setting w brick (w.clocks brick.0) ask fits.0 books rest.0 fits.1 fits.2 fits.3)
 
 -- every event keeps the books
 pub books_kept : (setting : Setting) (w : World) (event : Event) → Books setting w → Books setting (happens setting w event)
@@ -284,6 +392,11 @@ unfolding happens
 books_kept setting w (Invokes brick ask) books =
     cond_both (may_begin setting w brick ask) _ _ (λ (x : World). Books setting x) (λ may. books_invoked setting w brick ask books may) (λ refused. books)
 books_kept setting w (Delivers number) books = books_delivered setting w (packet_of w.packets number) books
+books_kept setting w (Sets brick time) books =
+    cond_both (is_brick setting.layout brick) _ _ (λ (x : World). Books setting x)
+    (λ member. books_quiet setting w w.nodes (put w.clocks brick.0 time) w.packets w.replies books
+    (λ i. record { boot = refl; seq = refl; known = omega arith }) (λ i k. refl))
+    (λ stranger. books)
 
 -- at first nothing is booked
 books_first : (setting : Setting) → Books setting (first_world setting.layout)

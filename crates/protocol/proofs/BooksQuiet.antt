@@ -1,25 +1,37 @@
--- The books of a world where a brick changed its part of a stripe, or learnt of a time.
+-- The books of a world where a brick changed its part of a stripe, or learnt of a time, or where a clock was set.
 use Rattle.std.proofs.Common.{◌≡◌, ℕ, refl, sym, ◌∙◌, arith, List}
 use Rattle.fab_wire.specs.declared.messages.Packet.{Packet}
 use Rattle.reg_model.specs.Marks.{life_of}
 use Rattle.protocol.specs.Settings.{Setting}
+use Rattle.protocol.specs.Coordinators.{Counted}
 use Rattle.protocol.specs.Nodes.{Node}
 use Rattle.protocol.specs.Worlds.{World}
 use Rattle.protocol.proofs.Books.{Books, OperationBooks}
 use Rattle.protocol.proofs.BooksKept.{KeepsNumbers, operation_kept, call_kept}
 use Rattle.protocol.proofs.OnwardLives.{Stays-refl}
 
--- the world with other bricks and more packets
-abbrev pub quiet_world : World → (ℕ → Node) → List Packet → World
-quiet_world w nodes packets =
-    record { nodes = nodes; packets = packets; marks = w.marks; begun = w.begun; operations = w.operations; numbers = w.numbers; contents = w.contents }
+-- the world with other bricks, clocks, packets and counted replies
+abbrev pub quiet_world : World → (ℕ → Node) → (ℕ → ℕ) → List Packet → (ℕ → ℕ → List Counted) → World
+quiet_world w nodes clocks packets replies =
+    record {
+      nodes = nodes;
+      clocks = clocks;
+      packets = packets;
+      marks = w.marks;
+      begun = w.begun;
+      operations = w.operations;
+      numbers = w.numbers;
+      contents = w.contents;
+      replies = replies;
+    }
 
 -- bricks that keep their calls and numbers keep the books
-pub books_quiet : (setting : Setting) (w : World) (nodes : ℕ → Node) (packets : List Packet) → Books setting w
+pub books_quiet : (setting : Setting) (w : World) (nodes : ℕ → Node) (clocks : ℕ → ℕ) (packets : List Packet) (replies : ℕ → ℕ → List Counted)
+    → Books setting w
     → ((i : ℕ) → KeepsNumbers (w.nodes i) (nodes i)) → ((i k : ℕ) → (nodes i).calls k ≡ (w.nodes i).calls k)
-    → Books setting (quiet_world w nodes packets)
-books_quiet setting w nodes packets books keeps calls =
-    let later : World = quiet_world w nodes packets in
+    → Books setting (quiet_world w nodes clocks packets replies)
+books_quiet setting w nodes clocks packets replies books keeps calls =
+    let later : World = quiet_world w nodes clocks packets replies in
     record {
       well_formed = books.well_formed;
       places = books.places;

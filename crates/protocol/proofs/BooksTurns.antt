@@ -6,7 +6,7 @@ use Rattle.fab_base.specs.declared.stamps.Stamp.{Stamp}
 use Rattle.fab_wire.specs.declared.messages.Packet.{Packet}
 use Rattle.reg_model.specs.Marks.{life_of}
 use Rattle.protocol.specs.Settings.{Setting}
-use Rattle.protocol.specs.Coordinators.{Coordinator}
+use Rattle.protocol.specs.Coordinators.{Coordinator, Orders, Counted, most_rounds}
 use Rattle.protocol.specs.Nodes.{Node}
 use Rattle.protocol.specs.Worlds.{World, Operation}
 use Rattle.protocol.proofs.Books.{Books, OperationBooks, CallBooks, IsOperation, IsCall, MadeInPhase}
@@ -22,11 +22,21 @@ pub record SameAsk (o later : Operation) : Type 0 where
   pub ask : later.ask ≡ o.ask
   pub answered : later.answered ≡ o.answered
 
+-- a stamp of an operation's brick, which knows this time
+pub record IsBookedStamp (known : ℕ) (o : Operation) (t : Stamp) : Type 0 where
+  pub brick : t.brick ≡ o.brick
+  pub view : t.view.0 ≡ 1
+  pub boot : t.boot ≡ 1
+  pub time : (1 ≤ t.time) × (t.time ≤ known)
+
 -- brick i's call k is at d in place of c, and its operation is o in place of what it was; all else is as before
 pub record Turned (w : World) (i k : ℕ) (c d : Coordinator) (before o : Operation) (nodes : ℕ → Node) (operations : ℕ → Option Operation) : Type 0 where
   pub was : IsCall w i k c
   pub operation_was : IsOperation w (w.numbers i k) before
   pub same : SameOperation c d
+  pub stamp : IsBookedStamp (nodes i).known before d.stamp
+  pub rounds : (1 ≤ d.round) × (d.round ≤ most_rounds)
+  pub in_round : d.phase ≡ Orders → d.call.phase ≡ d.round
   pub same_ask : SameAsk before o
   pub made : MadeInPhase d o d.phase
   pub keeps : (j : ℕ) → KeepsNumbers (w.nodes j) (nodes j)
@@ -35,17 +45,27 @@ pub record Turned (w : World) (i k : ℕ) (c d : Coordinator) (before o : Operat
   pub operation_is : operations (w.numbers i k) ≡ Some o
   pub other_operations : (m : ℕ) → m ≢ w.numbers i k → operations m ≡ w.operations m
 
--- the world with these bricks, operations and contents, and more packets
-abbrev pub turned_world : World → (ℕ → Node) → List Packet → (ℕ → Option Operation) → (ℕ → ℕ → Stamp → List ℕ) → World
-turned_world w nodes packets operations contents =
-    record { nodes = nodes; packets = packets; marks = w.marks; begun = w.begun; operations = operations; numbers = w.numbers; contents = contents }
+-- the world with these bricks, packets, operations, contents and counted replies
+abbrev pub turned_world : World → (ℕ → Node) → List Packet → (ℕ → Option Operation) → (ℕ → ℕ → Stamp → List ℕ) → (ℕ → ℕ → List Counted) → World
+turned_world w nodes packets operations contents replies =
+    record {
+      nodes = nodes;
+      clocks = w.clocks;
+      packets = packets;
+      marks = w.marks;
+      begun = w.begun;
+      operations = operations;
+      numbers = w.numbers;
+      contents = contents;
+      replies = replies;
+    }
 
 module _ (setting : Setting) (w : World) (i k : ℕ) (c d : Coordinator) (before o : Operation) (nodes : ℕ → Node) (packets : List Packet)
-    (operations : ℕ → Option Operation) (contents : ℕ → ℕ → Stamp → List ℕ) (books : Books setting w)
+    (operations : ℕ → Option Operation) (contents : ℕ → ℕ → Stamp → List ℕ) (replies : ℕ → ℕ → List Counted) (books : Books setting w)
     (turned : Turned w i k c d before o nodes operations) where
   -- the world after the turn
   abbrev later : World
-  later = turned_world w nodes packets operations contents
+  later = turned_world w nodes packets operations contents replies
 
   call : CallBooks setting w i k c
   call = books.calls i k c turned.was
@@ -74,17 +94,17 @@ module _ (setting : Setting) (w : World) (i k : ℕ) (c d : Coordinator) (before
         brick = ap (λ b. b.0) turned.same_ask.brick ∙ brick;
         seq = turned.same_ask.seq ∙ seq;
         ask = turned.same.ask ∙ call.ask ∙ ap (λ (x : Operation). x.ask) same_before ∙ sym turned.same_ask.ask;
-        stamp_brick = ap (λ (t : Stamp). t.brick) turned.same.stamp ∙ call.stamp_brick ∙ ap (λ (x : Operation). x.brick) same_before ∙ sym turned.same_ask.brick;
-        stamp_view = ap (λ (t : Stamp). t.view.0) turned.same.stamp ∙ call.stamp_view;
-        stamp_boot = ap (λ (t : Stamp). t.boot) turned.same.stamp ∙ call.stamp_boot;
-        stamp_known = (let e : d.stamp.time ≡ c.stamp.time = ap (λ (t : Stamp). t.time) turned.same.stamp in
-            let known : (w.nodes i).known ≤ (nodes i).known = (turned.keeps i).known in
-            (omega (arith, call.stamp_known.0), omega (arith, call.stamp_known.1)));
+        stamp_brick = turned.stamp.brick ∙ sym turned.same_ask.brick;
+        stamp_view = turned.stamp.view;
+        stamp_boot = turned.stamp.boot;
+        stamp_known = turned.stamp.time;
         call_boot = turned.same.boot ∙ call.call_boot;
         call_seq = turned.same.seq ∙ call.call_seq;
         call_group = turned.same.group ∙ call.call_group ∙ sym (ap (λ a. a.group) turned.same.ask);
         call_view = ap (λ v. v.0) turned.same.view ∙ call.call_view;
         call_stripe = turned.same.stripe ∙ call.call_stripe ∙ sym (ap (λ a. a.stripe) turned.same.ask);
+        rounds = turned.rounds;
+        in_round = turned.in_round;
         made = turned.made;
         unended = call.unended;
         unanswered = turned.same_ask.answered ∙ ap (λ (x : Operation). x.answered) (sym same_before) ∙ call.unanswered;

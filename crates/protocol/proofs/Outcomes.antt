@@ -1,26 +1,57 @@
--- What a coordinator does with a reply, by its phase.
-use Rattle.std.proofs.Common.{◌≡◌, ℕ, ◌⊎◌, inl, inr, false, List, length, Option, Some, None, refl}
+-- What a coordinator decides once a reply counts, by its phase.
+use Rattle.std.proofs.Common.{◌≡◌, ℕ, ◌+◌, ◌<◌, ◌≤◌, ◌⊎◌, inl, inr, true, false, List, [], length, Option, Some, None, is_some, refl}
 use Rattle.std.specs.Prelude.{nat_lt}
-use Rattle.std.proofs.lemmas.Bool.{cond_both}
-use Rattle.fab_base.specs.declared.identities.BrickId.{BrickId}
+use Rattle.std.proofs.lemmas.Bool.{cond_both, ltb-true, ltb-false}
 use Rattle.fab_base.specs.declared.asks.Ask.{Ask}
+use Rattle.fab_base.specs.declared.identities.BrickId.{BrickId}
 use Rattle.fab_base.specs.declared.stamps.Stamp.{Stamp}
 use Rattle.fab_base.specs.declared.answers.Answer.{Answer}
+use Rattle.fab_base.specs.declared.answers.Answer.TheVariants.{Data, Done, Aborted}
+use Rattle.fab_base.specs.declared.answers.Cause.TheVariants as Cause
 use Rattle.fab_wire.specs.declared.calls.Call.{Call}
-use Rattle.fab_wire.specs.declared.replies.Reply.{Reply}
 use Rattle.protocol.specs.Settings.{Group, Code, quorum_of}
-use Rattle.protocol.specs.Coordinators.{Phase, Looks, Orders, Stores, Stalls, Counted, Coordinator, Refuser, Next, Ignores, Waits, Sends, Ends, storing, unless_refused, answered_fast, greatest_refuser, fast_version, decided, with_reply, once_full, counted_at, counts_at, on_reply}
+use Rattle.protocol.specs.Coordinators.{Phase, Looks, Orders, Stores, Stalls, Counted, Coordinator, Refuser, Next, Ignores, Waits, Reorders, Makes, Ends, next_phase, storing, reordering, most_rounds, aborted_by, ordered_again, once_ordered, unless_refused, answered_fast, greatest_refuser, fast_version, decided, once_full}
 use Rattle.protocol.specs.Worlds.{is_answer}
 
--- the coordinator of the same operation, in the same call
+-- the coordinator of the same operation, under the same call
 pub record SameOperation (c d : Coordinator) : Type 0 where
   pub ask : d.ask ≡ c.ask
-  pub stamp : d.stamp ≡ c.stamp
   pub boot : d.call.boot ≡ c.call.boot
   pub seq : d.call.seq ≡ c.call.seq
   pub group : d.call.group ≡ c.call.group
   pub view : d.call.view ≡ c.call.view
   pub stripe : d.call.stripe ≡ c.call.stripe
+
+-- it waits in its phase, or a read stalls
+pub record WaitsFits (c d : Coordinator) : Type 0 where
+  pub same : SameOperation c d
+  pub stamp : d.stamp ≡ c.stamp
+  pub round : d.round ≡ c.round
+  pub call : d.call ≡ c.call
+  pub phase : (d.phase ≡ c.phase) ⊎ ((c.phase ≡ Looks) × (d.phase ≡ Stalls))
+  pub counted : d.counted ≡ c.counted
+
+-- an order that was refused is in its next round, with the fresh stamp
+pub record ReordersFits (fresh : Option Stamp) (c d : Coordinator) : Type 0 where
+  pub same : SameOperation c d
+  pub was : c.phase ≡ Orders
+  pub phase : d.phase ≡ Orders
+  pub stamp : fresh ≡ Some d.stamp
+  pub left : c.round < most_rounds
+  pub round : d.round ≡ c.round + 1
+  pub call : d.call ≡ next_phase c.call
+  pub counted : d.counted ≡ []
+  pub refused : is_some (greatest_refuser c.counted) ≡ true
+
+-- an order that nobody refused is in its store phase
+pub record MakesFits (c d : Coordinator) : Type 0 where
+  pub same : SameOperation c d
+  pub was : c.phase ≡ Orders
+  pub phase : d.phase ≡ Stores
+  pub stamp : d.stamp ≡ c.stamp
+  pub round : d.round ≡ c.round
+  pub call : d.call ≡ next_phase c.call
+  pub counted : d.counted ≡ []
 
 -- how each phase ends: a read tells a version, an order ends only by an abort, and a read that stalls never ends
 abbrev pub EndFits : Phase → Answer → Option Stamp → Type 0
@@ -29,73 +60,105 @@ EndFits Orders answer seen = is_answer answer ≡ false
 EndFits Stores answer seen = Unit {0}
 EndFits Stalls answer seen = ⊥
 
--- an operation waits in its phase, or a read stalls; after its order it stores
-abbrev pub NextFits : Coordinator → Next → Type 0
-NextFits c Ignores = Unit {0}
-NextFits c (Waits d) = SameOperation c d × ((d.phase ≡ c.phase) ⊎ ((c.phase ≡ Looks) × (d.phase ≡ Stalls)))
-NextFits c (Sends d) = SameOperation c d × (c.phase ≡ Orders) × (d.phase ≡ Stores)
-NextFits c (Ends answer seen stored) = EndFits c.phase answer seen
+-- no other round of ordering follows: there is no fresh stamp, or no round is left
+abbrev pub NoRoundFits : Option Stamp → Coordinator → Type 0
+NoRoundFits fresh c = (fresh ≡ None) ⊎ (most_rounds ≤ c.round)
+
+-- the abort tells of the member that told the greatest later stamp: in the store phase, or where no other round of ordering follows
+pub record AbortFits (fresh : Option Stamp) (c : Coordinator) (brick : BrickId) (x : Stamp) : Type 0 where
+  pub seat : ℕ
+  pub refused : greatest_refuser c.counted ≡ Some (record { seat = seat; brick = brick; stamp = x })
+  pub last : (c.phase ≡ Stores) ⊎ ((c.phase ≡ Orders) × NoRoundFits fresh c)
+
+abbrev pub AnswerFits : Option Stamp → Coordinator → Answer → Type 0
+AnswerFits fresh c (Data bytes) = Unit {0}
+AnswerFits fresh c Done = Unit {0}
+AnswerFits fresh c (Aborted (Cause.Later brick x)) = AbortFits fresh c brick x
+AnswerFits fresh c (Aborted cause) = Unit {0}
+
+-- what is decided fits the coordinator
+abbrev pub NextFits : Option Stamp → Coordinator → Next → Type 0
+NextFits fresh c Ignores = Unit {0}
+NextFits fresh c (Waits d) = WaitsFits c d
+NextFits fresh c (Reorders d) = ReordersFits fresh c d
+NextFits fresh c (Makes d) = MakesFits c d
+NextFits fresh c (Ends answer seen stored) = EndFits c.phase answer seen × AnswerFits fresh c answer
 
 -- a coordinator of these parts
-abbrev at : Ask → Stamp → Call → Phase → List Counted → Coordinator
-at ask stamp call phase counted = record { ask = ask; stamp = stamp; call = call; phase = phase; counted = counted }
+abbrev at : Ask → Stamp → ℕ → Call → Phase → List Counted → Coordinator
+at ask stamp round call phase counted = record { ask = ask; stamp = stamp; round = round; call = call; phase = phase; counted = counted }
 
-answered_fast_fits : (code : Code) (m : ℕ) (ask : Ask) (stamp : Stamp) (call : Call) (counted : List Counted) (v : Option Stamp)
-    → NextFits (at ask stamp call Looks counted) (answered_fast code m (at ask stamp call Looks counted) v)
-answered_fast_fits code m ask stamp call counted None =
-    (record { ask = refl; stamp = refl; boot = refl; seq = refl; group = refl; view = refl; stripe = refl }, inr (refl, refl))
-answered_fast_fits code m ask stamp call counted (Some v) = (v, refl)
+module _ (ask : Ask) (stamp : Stamp) (round : ℕ) (call : Call) (counted : List Counted) where
+  -- the coordinator in a phase
+  abbrev in_phase : Phase → Coordinator
+  in_phase phase = at ask stamp round call phase counted
 
-ordered_fits : (ask : Ask) (stamp : Stamp) (call : Call) (counted : List Counted) (r : Option Refuser)
-    → NextFits (at ask stamp call Orders counted) (unless_refused r (Sends (storing (at ask stamp call Orders counted))))
-ordered_fits ask stamp call counted None =
-    (record { ask = refl; stamp = refl; boot = refl; seq = refl; group = refl; view = refl; stripe = refl }, refl, refl)
-ordered_fits ask stamp call counted (Some r) = refl
+  waits_fits : (phase : Phase) → WaitsFits (in_phase phase) (in_phase phase)
+  waits_fits phase = record {
+    same = record { ask = refl; boot = refl; seq = refl; group = refl; view = refl; stripe = refl };
+    stamp = refl;
+    round = refl;
+    call = refl;
+    phase = inl refl;
+    counted = refl;
+  }
 
-stored_fits : (ask : Ask) (stamp : Stamp) (call : Call) (counted : List Counted) (answer : Answer) (stored : Option Stamp) (r : Option Refuser)
-    → NextFits (at ask stamp call Stores counted) (unless_refused r (Ends answer None stored))
-stored_fits ask stamp call counted answer stored None = tt
-stored_fits ask stamp call counted answer stored (Some r) = tt
+  answered_fast_fits : (code : Code) (m : ℕ) (fresh v : Option Stamp) → NextFits fresh (in_phase Looks) (answered_fast code m (in_phase Looks) v)
+  answered_fast_fits code m fresh None = record {
+    same = record { ask = refl; boot = refl; seq = refl; group = refl; view = refl; stripe = refl };
+    stamp = refl;
+    round = refl;
+    call = refl;
+    phase = inr (refl, refl);
+    counted = refl;
+  }
+  answered_fast_fits code m fresh (Some v) = ((v, refl), tt)
 
-decided_fits : (code : Code) (m : ℕ) (ask : Ask) (stamp : Stamp) (call : Call) (phase : Phase) (counted : List Counted)
-    → NextFits (at ask stamp call phase counted) (decided code m (at ask stamp call phase counted))
-unfolding decided
-decided_fits code m ask stamp call Looks counted = answered_fast_fits code m ask stamp call counted (fast_version counted)
-decided_fits code m ask stamp call Orders counted = ordered_fits ask stamp call counted (greatest_refuser counted)
-decided_fits code m ask stamp call Stores counted = stored_fits ask stamp call counted _ _ (greatest_refuser counted)
-decided_fits code m ask stamp call Stalls counted =
-    (record { ask = refl; stamp = refl; boot = refl; seq = refl; group = refl; view = refl; stripe = refl }, inl refl)
+  again_fits : (fresh : Option Stamp) (r : Refuser) → greatest_refuser counted ≡ Some r → NextFits fresh (in_phase Orders) (ordered_again fresh (in_phase Orders) r)
+  again_fits None r refused = (refl, record { seat = r.seat; refused = refused; last = inr (refl, inl refl) })
+  again_fits (Some t) r refused =
+      cond_both (nat_lt round most_rounds) (Reorders (reordering (in_phase Orders) t)) (aborted_by r)
+      (λ (next : Next). NextFits (Some t) (in_phase Orders) next)
+      (λ few. record {
+        same = record { ask = refl; boot = refl; seq = refl; group = refl; view = refl; stripe = refl };
+        was = refl;
+        phase = refl;
+        stamp = refl;
+        left = ltb-true round most_rounds few;
+        round = refl;
+        call = refl;
+        counted = refl;
+        refused = rw refused refl;
+      })
+      (λ all. (refl, record { seat = r.seat; refused = refused; last = inr (refl, inr (ltb-false round most_rounds all)) }))
 
-once_full_fits : (code : Code) (group : Group) (c : Coordinator) → NextFits c (once_full code group c)
-once_full_fits code group c =
-    cond_both (nat_lt (length c.counted) (quorum_of group)) _ _ (λ (next : Next). NextFits c next)
-    (λ few. (record { ask = refl; stamp = refl; boot = refl; seq = refl; group = refl; view = refl; stripe = refl }, inl refl))
-    (λ enough. decided_fits code group.m c.ask c.stamp c.call c.phase c.counted)
+  ordered_fits : (fresh : Option Stamp) (r : Option Refuser) → greatest_refuser counted ≡ r → NextFits fresh (in_phase Orders) (once_ordered fresh (in_phase Orders) r)
+  ordered_fits fresh None refused = record {
+    same = record { ask = refl; boot = refl; seq = refl; group = refl; view = refl; stripe = refl };
+    was = refl;
+    phase = refl;
+    stamp = refl;
+    round = refl;
+    call = refl;
+    counted = refl;
+  }
+  ordered_fits fresh (Some r) refused = again_fits fresh r refused
 
--- one more reply is no other operation
-recounted : (ask : Ask) (stamp : Stamp) (call : Call) (phase : Phase) (one other : List Counted) (next : Next)
-    → NextFits (at ask stamp call phase one) next → NextFits (at ask stamp call phase other) next
-recounted ask stamp call phase one other Ignores fits = tt
-recounted ask stamp call phase one other (Waits d) fits = (
-  record { ask = fits.0.ask; stamp = fits.0.stamp; boot = fits.0.boot; seq = fits.0.seq; group = fits.0.group; view = fits.0.view; stripe = fits.0.stripe },
-  fits.1,
-)
-recounted ask stamp call phase one other (Sends d) fits = (
-  record { ask = fits.0.ask; stamp = fits.0.stamp; boot = fits.0.boot; seq = fits.0.seq; group = fits.0.group; view = fits.0.view; stripe = fits.0.stripe },
-  fits.1,
-  fits.2,
-)
-recounted ask stamp call phase one other (Ends answer seen stored) fits = fits
+  stored_fits : (fresh stored : Option Stamp) (r : Option Refuser) → greatest_refuser counted ≡ r
+      → NextFits fresh (in_phase Stores) (unless_refused r (Ends Done None stored))
+  stored_fits fresh stored None refused = (tt, tt)
+  stored_fits fresh stored (Some r) refused = (tt, record { seat = r.seat; refused = refused; last = inl refl })
 
-counted_at_fits : (code : Code) (group : Group) (c : Coordinator) (from : BrickId) (reply : Reply) (seat : Option ℕ)
-    → NextFits c (counted_at code group c from reply seat)
-counted_at_fits code group c from reply None = tt
-counted_at_fits code group c from reply (Some seat) =
-    recounted c.ask c.stamp c.call c.phase (with_reply c seat from reply).counted c.counted (once_full code group (with_reply c seat from reply))
-    (once_full_fits code group (with_reply c seat from reply))
+  decided_fits : (code : Code) (m : ℕ) (fresh : Option Stamp) (phase : Phase) → NextFits fresh (in_phase phase) (decided code m fresh (in_phase phase))
+  unfolding decided
+  decided_fits code m fresh Looks = answered_fast_fits code m fresh (fast_version counted)
+  decided_fits code m fresh Orders = ordered_fits fresh (greatest_refuser counted) refl
+  decided_fits code m fresh Stores = stored_fits fresh (Some stamp) (greatest_refuser counted) refl
+  decided_fits code m fresh Stalls = waits_fits Stalls
 
--- what a coordinator does with a reply fits its phase
-pub on_reply_fits : (block : ℕ) (code : Code) (group : Group) (c : Coordinator) (from : BrickId) (call : Call) (reply : Reply)
-    → NextFits c (on_reply block code group c from call reply)
-unfolding on_reply
-on_reply_fits block code group c from call reply = counted_at_fits code group c from reply (counts_at block group c from.0 call reply)
+-- what a coordinator decides, with a quorum of replies or without, fits it
+pub once_full_fits : (code : Code) (group : Group) (fresh : Option Stamp) (c : Coordinator) → NextFits fresh c (once_full code group fresh c)
+once_full_fits code group fresh c =
+    cond_both (nat_lt (length c.counted) (quorum_of group)) _ _ (λ (next : Next). NextFits fresh c next)
+    (λ few. waits_fits c.ask c.stamp c.round c.call c.counted c.phase)
+    (λ enough. decided_fits c.ask c.stamp c.round c.call c.counted code group.m fresh c.phase)
