@@ -63,7 +63,7 @@ module _ (setting : Setting) (w : World) (brick : BrickId) (now : ℕ) (ask : As
   }
 
   -- the world after the begin
-  abbrev pub later : World
+  abbrev later : World
   later = world_began w brick ask (began_in setting group brick node c)
 
   -- the new number is new

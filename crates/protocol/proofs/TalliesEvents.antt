@@ -15,18 +15,22 @@ use Rattle.fab_wire.specs.declared.requests.Request.{Request}
 use Rattle.fab_wire.specs.declared.replies.Reply.{Reply}
 use Rattle.reg_model.specs.declared.marks.Mark.{Mark}
 use Rattle.reg_model.specs.declared.marks.Mark.TheVariants.{Begin, End}
-use Rattle.protocol.specs.Settings.{Setting, Group, group_of, seat_in}
+use Rattle.protocol.specs.Settings.{Setting, Group, group_of, IsSound, seat_in}
 use Rattle.protocol.specs.Replicas.{handle}
 use Rattle.protocol.specs.Coordinators.{Coordinator, Counted, with_reply, once_full, counted_at, counts_at, on_reply}
-use Rattle.protocol.specs.Nodes.{Node, NodeStep, new_coordinator, Nothing, put, no_step, fresh_stamp, began, invoked, with_replica, replica_at, reply_packets, requested_at, requested_in, requested, known_after, with_known, carried_out, replied_to, replied_at, replied, received}
+use Rattle.protocol.specs.Nodes.{Node, NodeStep, new_coordinator, Nothing, put, no_step, fresh_stamp, began_in, began, invoked, with_replica, replica_at, reply_packets, requested_at, requested_in, requested, known_after, with_known, carried_out, replied_to, replied_at, replied, received}
 use Rattle.protocol.specs.Worlds.{World, Operation, Event, Invokes, Delivers, Sets, first_world, is_brick, may_begin, world_began, world_stepped, counted_after, replies_in, replies_at, replies_with, delivered, packet_of, happens, run}
 use Rattle.protocol.specs.Laws.{WasSent}
 use Rattle.protocol.proofs.Books.{Replies, Books, IsOperation, IsCall}
 use Rattle.protocol.proofs.BooksKept.{KeepsNumbers, cases_call}
 use Rattle.protocol.proofs.BooksQuiet.{quiet_world}
-use Rattle.protocol.proofs.BooksBegins.{later, call_is, other_calls, number_is, other_numbers, other_operations, knows}
+use Rattle.protocol.proofs.BooksBegins.{call_is, other_calls, number_is, other_numbers, other_operations, knows}
 use Rattle.protocol.proofs.BooksEvents.{keeps_put, stepped, known_grows, BeginFits, begin_fits}
 use Rattle.protocol.proofs.Outcomes.{once_full_fits}
+use Rattle.protocol.proofs.Said.{Stamping, Said, IsSaid, CountedSays}
+use Rattle.protocol.proofs.SaidAlways.{said_first, said_run}
+use Rattle.protocol.proofs.OwnStamps.{order_or_write, stores_no_order}
+use Rattle.protocol.proofs.Counting.{each_then}
 use Rattle.protocol.proofs.CountsAt.{CountsAt, counts_facts}
 use Rattle.protocol.proofs.Tables.{put_each, get_kept, get_grown, get_one}
 use Rattle.protocol.proofs.Tallies.{CallTallied, Tallied, MessagesShow, Furthers}
@@ -97,9 +101,6 @@ tallied_replied : (setting : Setting) (w : World) (me : BrickId) (now : ℕ) (fr
 unfolding replied on_reply
 tallied_replied setting w me now from call reply books tallied shows sent = at_call ((w.nodes me.0).calls call.seq) refl
   where
-    known : ℕ
-    known = known_after (w.nodes me.0).known reply
-
     at_seat : (c : Coordinator) (group : Group) → IsCall w me.0 call.seq c → (z : Option ℕ) → counts_at setting.layout.block group c from.0 call reply ≡ z
         → MessagesShow (stepped w (counted_after w.replies (w.numbers me.0 call.seq) from call reply z) me
         (carried_out setting group me (w.nodes me.0) (known_after (w.nodes me.0).known reply) c
@@ -151,19 +152,19 @@ tallied_received setting w now from to message books tallied shows sent = tallie
 
 tallied_delivered : (setting : Setting) (w : World) (packet : Option Packet) → Books setting w → Tallied w → MessagesShow w
     → ((sent : Packet) → packet ≡ Some sent → WasSent w sent) → MessagesShow (delivered setting w packet) → Tallied (delivered setting w packet)
-tallied_delivered setting w None books tallied shows sent later = tallied
-tallied_delivered setting w (Some packet) books tallied shows sent later =
+tallied_delivered setting w None books tallied shows sent shown = tallied
+tallied_delivered setting w (Some packet) books tallied shows sent shown =
     cond_both (is_brick setting.layout packet.to) _ _ (λ (x : World). MessagesShow x → Tallied x)
     (λ member. tallied_received setting w (w.clocks packet.to.0) packet.from packet.to packet.message books tallied shows (sent packet refl))
     (λ stranger same. tallied)
-    later
+    shown
 
 -- an operation begins
-tallied_began : (setting : Setting) (w : World) (brick : BrickId) (now : ℕ) (ask : Ask) (fits : BeginFits setting ask) (books : Books setting w) → Tallied w
-    → MessagesShow (later setting w brick now ask fits.group books fits.is_stripe_op fits.group_is fits.stripe fits.length_fits)
-    → Tallied (later setting w brick now ask fits.group books fits.is_stripe_op fits.group_is fits.stripe fits.length_fits)
+tallied_began : (setting : Setting) (w : World) (brick : BrickId) (now : ℕ) (ask : Ask) (fits : BeginFits setting ask) → Books setting w → Tallied w
+    → MessagesShow (world_began w brick ask (began_in setting fits.group brick (w.nodes brick.0) (new_coordinator brick now (w.nodes brick.0) ask)))
+    → Tallied (world_began w brick ask (began_in setting fits.group brick (w.nodes brick.0) (new_coordinator brick now (w.nodes brick.0) ask)))
 tallied_began setting w brick now ask fits books tallied shows =
-    let next : World = later setting w brick now ask fits.group books fits.is_stripe_op fits.group_is fits.stripe fits.length_fits in
+    let next : World = world_began w brick ask (began_in setting fits.group brick (w.nodes brick.0) (new_coordinator brick now (w.nodes brick.0) ask)) in
     let i : ℕ = brick.0 in
     let k : ℕ = (w.nodes brick.0).seq + 1 in
     let n : ℕ = w.begun + 1 in
@@ -241,7 +242,7 @@ tallied_happens setting w (Sets brick time) books tallied shows later =
     (λ stranger same. tallied) later
 
 -- at first no reply has counted
-pub tallied_first : (setting : Setting) → Tallied (first_world setting.layout)
+tallied_first : (setting : Setting) → Tallied (first_world setting.layout)
 tallied_first setting = record {
   calls = λ i k c is. absurd (let never : None ≡ Some c = is in cc);
   unbegun = λ n p above. refl;
@@ -250,9 +251,33 @@ tallied_first setting = record {
 }
 
 -- every run keeps the history of replies, where each of its worlds has its books and its messages show what they should
-pub tallied_run : (setting : Setting) (events : List Event) (w : World) → ((more : List Event) → Books setting (run setting more w))
+tallied_run : (setting : Setting) (events : List Event) (w : World) → ((more : List Event) → Books setting (run setting more w))
     → ((more : List Event) → MessagesShow (run setting more w)) → Tallied w → Tallied (run setting events w)
 tallied_run setting [] w books shows tallied = tallied
 tallied_run setting (event ∷ events) w books shows tallied =
     tallied_run setting events (happens setting w event) (λ more. books (event ∷ more)) (λ more. shows (event ∷ more))
     (tallied_happens setting w event (books []) tallied (shows []) (shows (event ∷ [])))
+
+-- what is said of a world is what its messages should show
+messages_show : (setting : Setting) (w : World) (stamps : Stamping) → Books setting w → Said setting w stamps → MessagesShow w
+messages_show setting w stamps books said = record {
+  later = λ call from to x sent. said.packets sent.0 (record { from = from; to = to; message = Message.Reply call (Reply.Later x) }) sent.1;
+  order_or_write = order_or_write setting w stamps books said;
+  stores_no_order = λ i k c to u is stores sent.
+      (let seq : c.call.seq ≡ k = (books.calls i k c is).call_seq in
+      stores_no_order setting w stamps books said (record { 0 = i }) to c u (subst (λ (l : ℕ). IsCall w i l c) (sym seq) is) stores sent);
+  counted = λ i k c is.
+      each_then (CountedSays setting w i c) (λ x. WasSent w (record { from = x.brick; to = record { 0 = i }; message = Message.Reply c.call x.reply }))
+      c.counted (λ x says. says.sent) (said.calls i k c is).counted;
+}
+
+-- the history of replies holds in every world that a run reaches, where the books do
+pub tallied : (setting : Setting) (events : List Event) → IsSound setting
+    → ((more : List Event) → Books setting (run setting more (first_world setting.layout)))
+    → Tallied (run setting events (first_world setting.layout))
+tallied setting events sound books =
+    let first : World = first_world setting.layout in
+    tallied_run setting events first books
+    (λ more. (let said : IsSaid setting (run setting more first) = said_run setting more first sound books (said_first setting sound) in
+    messages_show setting (run setting more first) said.0 (books more) said.1))
+    (tallied_first setting)
