@@ -15,7 +15,7 @@ use Rattle.protocol.specs.Nodes.{Node, put, is_stripe_op, has_length, first_phas
 use Rattle.protocol.specs.Worlds.{World, Operation, world_began}
 use Rattle.protocol.proofs.Books.{Books, OperationBooks, CallBooks, IsOperation, IsCall, MadeInPhase}
 use Rattle.protocol.proofs.BooksKept.{operation_kept, call_kept, cases_call}
-use Rattle.protocol.proofs.OnwardLives.{Stays, Stays-push, Stays-before, life_of-begin}
+use Rattle.protocol.proofs.Lives.{Stays, Stays-push, Stays-before, life_of-begin}
 use Rattle.protocol.proofs.MarkLists.{Places-push, well_formed_begin, numbers_below}
 use Rattle.protocol.proofs.Puts.{put_other}
 use Rattle.protocol.proofs.Tables.{put_each, put_same}

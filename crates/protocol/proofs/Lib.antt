@@ -16,7 +16,6 @@ pub mod Falls
 pub mod Growth
 pub mod Lives
 pub mod MarkLists
-pub mod OnwardLives
 pub mod Operated
 pub mod Outcomes
 pub mod OwnStamps

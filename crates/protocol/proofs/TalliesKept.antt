@@ -18,7 +18,7 @@ use Rattle.protocol.specs.Nodes.{has_later_time}
 use Rattle.protocol.specs.Worlds.{World, Operation}
 use Rattle.protocol.specs.Laws.{WasSent, AskedAt, IsLastRound, Evidence}
 use Rattle.protocol.proofs.Books.{Replies, Books, IsOperation, IsCall}
-use Rattle.protocol.proofs.OnwardLives.{ended_not_open}
+use Rattle.protocol.proofs.Lives.{ended_not_open}
 use Rattle.protocol.proofs.Tallies.{CallTallied, CountedSent, AbortShown, Tallied, MessagesShow, Furthers}
 
 -- an operation whose replies stay
