@@ -7,6 +7,7 @@ pub mod BooksKept
 pub mod BooksQuiet
 pub mod BooksTurns
 pub mod Counting
+pub mod CountsAt
 pub mod Decisions
 pub mod Ends
 pub mod Entries
@@ -34,4 +35,8 @@ pub mod Steps
 pub mod Stores
 pub mod StripeLives
 pub mod Tables
+pub mod Tallies
+pub mod TalliesCounts
+pub mod TalliesEvents
+pub mod TalliesKept
 pub mod Walks

@@ -1,12 +1,13 @@
 -- What becomes of operations as marks are added.
-use Rattle.std.proofs.Common.{◌≡◌, ◌≢◌, ℕ, ◌+◌, Bool, true, false, cond, nat_eq, List, [], ◌∷◌, ◌++◌, Option, Some, None, refl, sym, ap, ◌∙◌, subst}
+use Rattle.std.proofs.Common.{◌≡◌, ◌≢◌, ℕ, zero, suc, ◌+◌, take, Bool, true, false, cond, nat_eq, List, [], ◌∷◌, ◌++◌, Option, Some, None, refl, sym, ap, ◌∙◌, subst}
+use Rattle.std.specs.Prelude.{slice_get}
 use Rattle.std.proofs.lemmas.Bool.{eq-eqb, ne_eqb}
 use Rattle.fab_base.specs.declared.identities.BrickId.{BrickId}
 use Rattle.fab_base.specs.declared.asks.Ask.{Ask}
 use Rattle.fab_base.specs.declared.answers.Answer.{Answer}
 use Rattle.reg_model.specs.declared.marks.Mark.{Mark}
 use Rattle.reg_model.specs.declared.marks.Mark.TheVariants.{Begin, End, Crash}
-use Rattle.reg_model.specs.Marks.{Ending, Answered, Interrupted, Unended, ending_of, Life, life_of, IsUnended}
+use Rattle.reg_model.specs.Marks.{Ending, Answered, Interrupted, Unended, ending_of, Life, life_of, IsUnended, IsOpen, IsWellFormed}
 use Rattle.reg_model.specs.Strict.{IsAnswered}
 
 -- an ending once more marks have come
@@ -162,3 +163,28 @@ life_of-end marks p n answer life is open' =
 pub Stays-before : (old later : Option Life) (life : Life) → Stays old later → later ≡ Some life → (l : Life) × (old ≡ Some l)
 Stays-before None later life stays is = absurd (let never : None ≡ Some life = sym stays ∙ is in cc)
 Stays-before (Some l) later life stays is = (l, refl)
+
+-- the marks around one of them
+around : (marks : List Mark) (k : ℕ) (mark : Mark) → slice_get marks k ≡ Some mark → (rest : List Mark) × (take k marks ++ (mark ∷ rest) ≡ marks)
+around [] k mark is = cc
+around (m ∷ marks) zero mark is = (marks, (let same : mark ≡ m = cc in ap (λ (x : Mark). x ∷ marks) same))
+around (m ∷ marks) (suc k) mark is = let rest = around marks k mark is in (rest.0, ap (λ (l : List Mark). m ∷ l) rest.1)
+
+end_shuts : (e : Ending) (p n brick : ℕ) (answer : Answer) (more : List Mark) → IsUnended e → IsUnended (onward e (End p n answer ∷ more) n brick) → ⊥
+end_shuts (Answered q a) p n brick answer more was is = was
+end_shuts (Interrupted q) p n brick answer more was is = was
+end_shuts (Unended past) p n brick answer more was is =
+    subst (λ (t : Bool). IsUnended (cond t (Answered p answer) (ending_of more n brick (p + 1)))) (eq-eqb n n refl) is
+
+life_shuts : (life : Option Life) (p n : ℕ) (answer : Answer) (more : List Mark) → IsOpen life → IsOpen (life_onward life (End p n answer ∷ more) n) → ⊥
+life_shuts None p n answer more was is = was
+life_shuts (Some life) p n answer more was is = end_shuts life.ending p n life.brick answer more was is
+
+-- an operation that has its End is not open
+pub ended_not_open : (marks : List Mark) (k p n : ℕ) (answer : Answer) → IsWellFormed marks → slice_get marks k ≡ Some (End p n answer)
+    → IsOpen (life_of marks n) → ⊥
+ended_not_open marks k p n answer well is open' =
+    let parts = around marks k (End p n answer) is in
+    life_shuts (life_of (take k marks) n) p n answer parts.0 (well.ends_are_of_open k p n answer is)
+    (subst (λ (l : Option Life). IsOpen l) (life_of-append (take k marks) (End p n answer ∷ parts.0) n)
+    (subst (λ (l : List Mark). IsOpen (life_of l n)) (sym parts.1) open'))

@@ -78,7 +78,7 @@ AnswerFits fresh c (Aborted cause) = Unit {0}
 
 -- what is decided fits the coordinator
 abbrev pub NextFits : Option Stamp → Coordinator → Next → Type 0
-NextFits fresh c Ignores = Unit {0}
+NextFits fresh c Ignores = ⊥
 NextFits fresh c (Waits d) = WaitsFits c d
 NextFits fresh c (Reorders d) = ReordersFits fresh c d
 NextFits fresh c (Makes d) = MakesFits c d
