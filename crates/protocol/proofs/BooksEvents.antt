@@ -178,13 +178,15 @@ module _ (setting : Setting) (group : Group) (w : World) (replies : Replies) (me
       → (node.known ≤ t.time) × IsBookedStamp (put w.nodes i (with_call node t.time node.busy k d) i).known mine.operation t
   stamp_fresh d t is =
       let facts = fresh_is me now node.boot known t is in
-      let time : t.time ≡ next_time now known = ap (λ (x : Stamp). x.time) facts.0 in
-      (omega (arith, facts.1, time), subst (λ (x : ℕ). IsBookedStamp x mine.operation t) (own_known t.time node.busy d) (record {
-        brick = ap (λ (x : Stamp). x.brick) facts.0 ∙ brick_of me mine.operation.brick (sym mine.brick);
-        view = ap (λ (x : Stamp). x.view.0) facts.0;
-        boot = ap (λ (x : Stamp). x.boot) facts.0 ∙ books.boots i;
-        time = (omega (arith, facts.2, time), omega arith);
-      }))
+      let time : t.time ≡ next_time now known = ap (λ (x : Stamp). x.time) facts.0 in (
+        omega (arith, facts.1, time),
+        subst (λ (x : ℕ). IsBookedStamp x mine.operation t) (own_known t.time node.busy d) (record {
+          brick = ap (λ (x : Stamp). x.brick) facts.0 ∙ brick_of me mine.operation.brick (sym mine.brick);
+          view = ap (λ (x : Stamp). x.view.0) facts.0;
+          boot = ap (λ (x : Stamp). x.boot) facts.0 ∙ books.boots i;
+          time = (omega (arith, facts.2, time), omega arith);
+        }),
+      )
 
   -- what a brick does with what its coordinator decided
   books_carried_out : (next : Next) → NextFits fresh then' next → Books setting (stepped w replies me (carried_out setting group me node known c next))
