@@ -24,7 +24,7 @@ use Rattle.protocol.proofs.BooksQuiet.{books_quiet}
 use Rattle.protocol.proofs.BooksTurns.{IsBookedStamp, books_turned}
 use Rattle.protocol.proofs.BooksEnds.{books_ended}
 use Rattle.protocol.proofs.BooksBegins.{books_began}
-use Rattle.protocol.proofs.Outcomes.{SameOperation, EndFits, NextFits, once_full_fits}
+use Rattle.protocol.proofs.Outcomes.{SameOperation, EndFits, NextFits, waits_orders, once_full_fits}
 use Rattle.protocol.proofs.Puts.{put_other}
 use Rattle.protocol.proofs.Tables.{put_each, put_same}
 
@@ -200,7 +200,7 @@ module _ (setting : Setting) (group : Group) (w : World) (replies : Replies) (me
         same = same_of d fits.same;
         stamp = stamp_stays (Some d) d.stamp fits.stamp;
         rounds = subst (λ (x : ℕ). (1 ≤ x) × (x ≤ most_rounds)) (sym fits.round) mine.rounds;
-        in_round = λ orders. ap (λ (x : Call). x.phase) fits.call ∙ mine.in_round (waits_orders d fits.phase orders) ∙ sym fits.round;
+        in_round = λ orders. ap (λ (x : Call). x.phase) fits.call ∙ mine.in_round (waits_orders then' d fits orders) ∙ sym fits.round;
         same_ask = record { brick = refl; seq = refl; begin = refl; ask = refl; answered = refl };
         made = made_waits c d mine.operation c.phase fits.stamp mine.made fits.phase;
         keeps = keeps_call known node.busy (Some d) grows;
@@ -209,10 +209,6 @@ module _ (setting : Setting) (group : Group) (w : World) (replies : Replies) (me
         operation_is = mine.operation_is;
         other_operations = λ m other. refl;
       })
-    where
-      waits_orders : (d : Coordinator) → (d.phase ≡ c.phase) ⊎ ((c.phase ≡ Looks) × (d.phase ≡ Stalls)) → d.phase ≡ Orders → c.phase ≡ Orders
-      waits_orders d (inl same) orders = sym same ∙ orders
-      waits_orders d (inr stalls) orders = absurd (let never : Stalls ≡ Orders = sym stalls.1 ∙ orders in cc)
   books_carried_out (Reorders d) fits =
       let fresh = stamp_fresh (Some d) d.stamp fits.stamp in
       let made : (mine.operation.version ≡ None) × (mine.operation.made ≡ false)

@@ -13,18 +13,17 @@ use Rattle.fab_wire.specs.declared.messages.Message.TheVariants as Message
 use Rattle.fab_wire.specs.declared.messages.Packet.{Packet}
 use Rattle.fab_wire.specs.declared.requests.Request.TheVariants as Request
 use Rattle.fab_wire.specs.declared.replies.Reply.{Reply}
-use Rattle.reg_model.specs.declared.marks.Mark.{Mark}
 use Rattle.reg_model.specs.declared.marks.Mark.TheVariants.{End}
 use Rattle.reg_model.specs.Marks.{Life, life_of, IsOpen}
 use Rattle.protocol.specs.Settings.{Setting, Group}
-use Rattle.protocol.specs.Coordinators.{Coordinator, Counted, Refuser, Phase, Looks, Orders, Stores, Stalls, Next, Ignores, Waits, Reorders, Makes, Ends, most_rounds, greatest_refuser, with_reply}
+use Rattle.protocol.specs.Coordinators.{Coordinator, Counted, Refuser, Orders, Stores, Next, Ignores, Waits, Reorders, Makes, Ends, greatest_refuser, with_reply}
 use Rattle.protocol.specs.Nodes.{Node, put, has_later_time, new_stamp, fresh_stamp, with_call, phase_packets, collect_packets, carried_out}
 use Rattle.protocol.specs.Worlds.{World, Operation, with_made, with_answer, with_counted, world_stepped}
-use Rattle.protocol.specs.Laws.{WasSent, AskedAt, IsLastRound, Evidence}
+use Rattle.protocol.specs.Laws.{WasSent, AskedAt, IsLastRound}
 use Rattle.protocol.proofs.Books.{Replies, Books, OperationBooks, CallBooks, IsOperation, IsCall}
 use Rattle.protocol.proofs.BooksKept.{calls_apart}
 use Rattle.protocol.proofs.BooksEvents.{fresh_is, brick_of}
-use Rattle.protocol.proofs.Outcomes.{NoRoundFits, AbortFits, AnswerFits, NextFits}
+use Rattle.protocol.proofs.Outcomes.{NoRoundFits, AbortFits, AnswerFits, NextFits, waits_orders}
 use Rattle.protocol.proofs.Said.{EachCounted}
 use Rattle.protocol.proofs.Counting.{each_more, refuser_counted}
 use Rattle.protocol.proofs.Puts.{put_other}
@@ -278,13 +277,9 @@ module _ (setting : Setting) (group : Group) (w : World) (me : BrickId) (now kno
       (calls_by known node.busy d (record {
         now = ap (λ (p : ℕ). replies n p) phase ∙ replies_now ∙ sym fits.counted;
         later = λ p above. replies_later p (omega arith);
-        refused = λ orders p low high. refused_before (waits_orders d fits.phase orders) p low (omega arith);
+        refused = λ orders p low high. refused_before (waits_orders (with_reply c seat from reply) d fits orders) p low (omega arith);
       }))
       unbegun (counted_next (after (Waits d)) on) (λ a p m brick x at. inl at)
-    where
-      waits_orders : (d : Coordinator) → (d.phase ≡ c.phase) ⊎ ((c.phase ≡ Looks) × (d.phase ≡ Stalls)) → d.phase ≡ Orders → c.phase ≡ Orders
-      waits_orders d (inl same) orders = sym same ∙ orders
-      waits_orders d (inr stalls) orders = absurd (let never : Stalls ≡ Orders = sym stalls.1 ∙ orders in cc)
   tallied_counted (Reorders d) fits later =
       let time : d.stamp.time ≡ _ = ap (λ (t : Stamp). t.time) (fresh_is me now node.boot known d.stamp fits.stamp).0 in
       let on : Furthers w (after (Reorders d)) = furthers (after (Reorders d)) d.stamp.time node.busy (Some d) (phase_packets setting group me d) refl

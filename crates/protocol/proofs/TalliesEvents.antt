@@ -1,7 +1,7 @@
 -- Every event keeps the history of replies.
-use Rattle.std.proofs.Common.{◌≡◌, ◌≢◌, ℕ, zero, suc, ◌+◌, ◌<◌, ◌≤◌, ◌⊎◌, inl, inr, ⊎_elim, true, not, ◌&&◌, is_some, Option, Some, None, List, [], ◌∷◌, ◌++◌, length, refl, sym, ap, ◌∙◌, subst, arith}
+use Rattle.std.proofs.Common.{◌≡◌, ℕ, zero, suc, ◌+◌, ◌≤◌, inl, ⊎_elim, true, Option, Some, None, List, [], ◌∷◌, ◌++◌, length, refl, sym, ◌∙◌, subst, arith}
 use Rattle.std.specs.Prelude.{slice_get}
-use Rattle.std.proofs.lemmas.Bool.{cond_both, cases_eq}
+use Rattle.std.proofs.lemmas.Bool.{cond_both}
 use Rattle.std.proofs.lemmas.Option.{same_Some}
 use Rattle.fab_base.specs.declared.identities.BrickId.{BrickId}
 use Rattle.fab_base.specs.declared.asks.Ask.{Ask}
@@ -13,15 +13,14 @@ use Rattle.fab_wire.specs.declared.messages.Message.{Message}
 use Rattle.fab_wire.specs.declared.messages.Packet.{Packet}
 use Rattle.fab_wire.specs.declared.requests.Request.{Request}
 use Rattle.fab_wire.specs.declared.replies.Reply.{Reply}
-use Rattle.reg_model.specs.declared.marks.Mark.{Mark}
 use Rattle.reg_model.specs.declared.marks.Mark.TheVariants.{Begin, End}
 use Rattle.protocol.specs.Settings.{Setting, Group, group_of, IsSound, seat_in}
 use Rattle.protocol.specs.Replicas.{handle}
-use Rattle.protocol.specs.Coordinators.{Coordinator, Counted, with_reply, once_full, counted_at, counts_at, on_reply}
-use Rattle.protocol.specs.Nodes.{Node, NodeStep, new_coordinator, Nothing, put, no_step, fresh_stamp, began_in, began, invoked, with_replica, replica_at, reply_packets, requested_at, requested_in, requested, known_after, with_known, carried_out, replied_to, replied_at, replied, received}
-use Rattle.protocol.specs.Worlds.{World, Operation, Event, Invokes, Delivers, Sets, first_world, is_brick, may_begin, world_began, world_stepped, counted_after, replies_in, replies_at, replies_with, delivered, packet_of, happens, run}
+use Rattle.protocol.specs.Coordinators.{Coordinator, with_reply, once_full, counted_at, counts_at, on_reply}
+use Rattle.protocol.specs.Nodes.{Node, new_coordinator, Nothing, put, no_step, fresh_stamp, began_in, began, invoked, with_replica, replica_at, reply_packets, requested_at, requested_in, requested, known_after, with_known, carried_out, replied_to, replied_at, replied, received}
+use Rattle.protocol.specs.Worlds.{World, Event, Invokes, Delivers, Sets, first_world, is_brick, may_begin, world_began, counted_after, replies_in, replies_at, replies_with, delivered, packet_of, happens, run}
 use Rattle.protocol.specs.Laws.{WasSent}
-use Rattle.protocol.proofs.Books.{Replies, Books, IsOperation, IsCall}
+use Rattle.protocol.proofs.Books.{Books, IsCall}
 use Rattle.protocol.proofs.BooksKept.{KeepsNumbers, cases_call}
 use Rattle.protocol.proofs.BooksQuiet.{quiet_world}
 use Rattle.protocol.proofs.BooksBegins.{call_is, other_calls, number_is, other_numbers, other_operations, knows}
@@ -33,7 +32,7 @@ use Rattle.protocol.proofs.OwnStamps.{order_or_write, stores_no_order}
 use Rattle.protocol.proofs.Counting.{each_then}
 use Rattle.protocol.proofs.CountsAt.{CountsAt, counts_facts}
 use Rattle.protocol.proofs.Tables.{put_each, get_kept, get_grown, get_one}
-use Rattle.protocol.proofs.Tallies.{CallTallied, Tallied, MessagesShow, Furthers}
+use Rattle.protocol.proofs.Tallies.{CallTallied, Tallied, MessagesShow}
 use Rattle.protocol.proofs.TalliesKept.{call_tallied_on, tallied_on}
 use Rattle.protocol.proofs.TalliesCounts.{tallied_counted}
 

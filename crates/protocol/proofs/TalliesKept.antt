@@ -1,5 +1,5 @@
 -- What the history of replies has shown stays shown.
-use Rattle.std.proofs.Common.{◌≡◌, ℕ, ◌<◌, ◌≤◌, ◌⊎◌, inl, inr, ⊎_elim, Bool, true, false, List, [], Some, is_some, refl, sym, ap, ◌∙◌, subst, arith}
+use Rattle.std.proofs.Common.{◌≡◌, ℕ, ◌<◌, ◌≤◌, ◌⊎◌, inl, inr, ⊎_elim, false, List, [], Some, is_some, sym, ap, ◌∙◌, subst, arith}
 use Rattle.std.specs.Prelude.{slice_get, nat_lt}
 use Rattle.std.proofs.lemmas.Bool.{ltb-false, le-ltb}
 use Rattle.fab_base.specs.declared.identities.BrickId.{BrickId}
@@ -17,7 +17,7 @@ use Rattle.protocol.specs.Coordinators.{Coordinator, Counted, greatest_refuser}
 use Rattle.protocol.specs.Nodes.{has_later_time}
 use Rattle.protocol.specs.Worlds.{World, Operation}
 use Rattle.protocol.specs.Laws.{WasSent, AskedAt, IsLastRound, Evidence}
-use Rattle.protocol.proofs.Books.{Replies, Books, IsOperation, IsCall}
+use Rattle.protocol.proofs.Books.{Replies, Books, IsCall}
 use Rattle.protocol.proofs.Lives.{ended_not_open}
 use Rattle.protocol.proofs.Tallies.{CallTallied, CountedSent, AbortShown, Tallied, MessagesShow, Furthers}
 
