@@ -186,10 +186,10 @@ module _ (setting : Setting) (w : World) (stamps : Stamping) (me : BrickId) (ask
       (op_cases ask.op stripe_op)
 
   not_stores : (op : Op) → first_phase op ≡ Stores → ⊥
-  not_stores (ReadBlock j) is = absurd (let no : ⊥ = cc in no)
-  not_stores (WriteBlock j bytes) is = absurd (let no : ⊥ = cc in no)
-  not_stores ReadStripe is = absurd (let no : ⊥ = cc in no)
-  not_stores (WriteStripe bytes) is = absurd (let no : ⊥ = cc in no)
+  not_stores (ReadBlock j) is = cc
+  not_stores (WriteBlock j bytes) is = cc
+  not_stores ReadStripe is = cc
+  not_stores (WriteStripe bytes) is = cc
 
   calls : (k : ℕ) (d : Coordinator) → node.calls k ≡ Some d
       → (((w.nodes me.0).calls k ≡ Some d) × ((p : ℕ) → later me.0 k p ≡ stamps me.0 k p)) ⊎ CallSays setting next later me.0 k d

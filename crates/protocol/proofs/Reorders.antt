@@ -82,7 +82,7 @@ module _ (setting : Setting) (w : World) (stamps : Stamping) (me : BrickId) (c :
   d_says = record {
     stamp = stamp_is;
     last = stamp_last stamps me.0 c.call.seq d.call.phase t none from;
-    ordered = λ stores. absurd (let no : ⊥ = cc in no);
+    ordered = λ stores. cc;
     fits = subst (λ (phase : Phase). FitsPhase phase c.ask.op) orders says.fits;
     counted = tt;
     once = tt;

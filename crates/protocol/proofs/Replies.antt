@@ -18,6 +18,7 @@ use Rattle.protocol.specs.Laws.{WasSent, IsGuarded}
 use Rattle.protocol.proofs.Books.{Books, CallBooks, MadeInPhase, IsCall}
 use Rattle.protocol.proofs.Said.{Stamping, Said, IsSaid, IsStampOf, EachCounted, AreOnce, FitsPhase, FloorsAtMost, HasVersion, CountedSays, CallSays}
 use Rattle.protocol.proofs.Tables.{put_each}
+use Rattle.protocol.proofs.CountsAt.{CountsAt, counts_facts}
 use Rattle.protocol.proofs.Counting.{each_then, each_more, once_more}
 use Rattle.protocol.proofs.Stampings.{stamps_same}
 use Rattle.protocol.proofs.Growth.{Grows, stays_call}
@@ -40,62 +41,6 @@ said_known setting w stamps me known books said more =
       calls = λ k c is. inl (is, λ p. refl);
       packets = λ k packet is. cc;
     })
-
--- calls that test the same are equal
-call_of : ℕ → ℕ → ℕ → ℕ → ℕ → ℕ → Call
-call_of boot seq phase group view stripe =
-    record { boot = boot; seq = seq; phase = phase; group = record { 0 = group }; view = record { 0 = view }; stripe = record { 0 = stripe } }
-
-call_is : (a : Call) → a ≡ call_of a.boot a.seq a.phase a.group.0 a.view.0 a.stripe.0
-unfolding call_of
-call_is a = refl
-
-call_from : (a b : Call) → a.boot ≡ b.boot → a.seq ≡ b.seq → a.phase ≡ b.phase → a.group.0 ≡ b.group.0 → a.view.0 ≡ b.view.0 → a.stripe.0 ≡ b.stripe.0 → a ≡ b
-call_from a b boot seq phase group view stripe =
-    call_is a
-    ∙ (let e : call_of a.boot a.seq a.phase a.group.0 a.view.0 a.stripe.0 ≡ call_of b.boot b.seq b.phase b.group.0 b.view.0 b.stripe.0 = cc in e)
-    ∙ sym (call_is b)
-
-call_same_true : (a b : Call) → call_same a b ≡ true → a ≡ b
-unfolding call_same
-call_same_true a b is =
-    let p = and_parts (nat_eq a.boot b.boot) _ is in
-    let q = and_parts (nat_eq a.seq b.seq) _ p.1 in
-    let r = and_parts (nat_eq a.phase b.phase) _ q.1 in
-    let s = and_parts (nat_eq a.group.0 b.group.0) _ r.1 in
-    let t = and_parts (nat_eq a.view.0 b.view.0) (nat_eq a.stripe.0 b.stripe.0) s.1 in
-    call_from a b (eqb-true a.boot b.boot p.0) (eqb-true a.seq b.seq q.0) (eqb-true a.phase b.phase r.0) (eqb-true a.group.0 b.group.0 s.0)
-    (eqb-true a.view.0 b.view.0 t.0) (eqb-true a.stripe.0 b.stripe.0 t.1)
-
--- a reply that counts at a seat
-record CountsAt (block : ℕ) (group : Group) (c : Coordinator) (from : ℕ) (call : Call) (reply : Reply) (seat : ℕ) : Type 0 where
-  call_is : call ≡ c.call
-  answers : answers_phase block c.phase reply ≡ true
-  seat_is : seat_in group.members from ≡ Some seat
-  first : has_seat seat c.counted ≡ false
-
-new_seat_is : (counted : List Counted) (o : Option ℕ) (seat : ℕ) → new_seat counted o ≡ Some seat → (o ≡ Some seat) × (has_seat seat counted ≡ false)
-new_seat_is counted None seat is = cc
-new_seat_is counted (Some s) seat is =
-    cond_both (has_seat s counted) None (Some s)
-    (λ (z : Option ℕ). z ≡ Some seat → (Some s ≡ Some seat) × (has_seat seat counted ≡ false))
-    (λ has e. cc)
-    (λ isnt e. let same : s ≡ seat = cc in (e, subst (λ (z : ℕ). has_seat z counted ≡ false) same isnt))
-    is
-
-counts_facts : (block : ℕ) (group : Group) (c : Coordinator) (from : ℕ) (call : Call) (reply : Reply) (seat : ℕ)
-    → counts_at block group c from call reply ≡ Some seat → CountsAt block group c from call reply seat
-unfolding counts_at
-counts_facts block group c from call reply seat is =
-    cond_both (call_same call c.call && (answers_phase block c.phase reply && nat_lt c.call.phase (2 ^ 32 - 1))) (new_seat c.counted (seat_in group.members from)) None
-    (λ (z : Option ℕ). z ≡ Some seat → CountsAt block group c from call reply seat)
-    (λ test e.
-    let p = and_parts (call_same call c.call) (answers_phase block c.phase reply && nat_lt c.call.phase (2 ^ 32 - 1)) test in
-    let q = and_parts (answers_phase block c.phase reply) (nat_lt c.call.phase (2 ^ 32 - 1)) p.1 in
-    let n = new_seat_is c.counted (seat_in group.members from) seat e in
-    record { call_is = call_same_true call c.call p.0; answers = q.0; seat_is = n.0; first = n.1 })
-    (λ test e. cc)
-    is
 
 -- what a quorum of replies decides, by phase
 decided_looks : (code : Code) (m : ℕ) (fresh : Option Stamp) (c : Coordinator) → c.phase ≡ Looks
@@ -220,7 +165,7 @@ module _ (setting : Setting) (sound : IsSound setting) (w : World) (stamps : Sta
       stalled_says looks = record {
         stamp = says.stamp;
         last = says.last;
-        ordered = λ stores. absurd (let no : ⊥ = cc in no);
+        ordered = λ stores. cc;
         fits = subst (λ (p : Phase). FitsPhase p c.ask.op) looks says.fits;
         counted = each_then (CountedSays setting w me.0 c) (CountedSays setting w me.0 (stalled d)) d.counted
             (λ x h. record { sent = h.sent; answers = λ bad. cc; seat = h.seat }) each;

@@ -22,7 +22,7 @@ use Rattle.protocol.specs.Laws.{WasSent, part_of}
 use Rattle.protocol.proofs.Books.{Books, IsCall}
 use Rattle.protocol.proofs.Said.{Stamping, Said, IsSaid, IsStampOf, VersionSays}
 use Rattle.protocol.proofs.BooksQuiet.{books_quiet}
-use Rattle.protocol.proofs.BooksEvents.{known_grows, fresh_is}
+use Rattle.protocol.proofs.BooksEvents.{known_grows, fresh_is, BeginFits, begin_fits}
 use Rattle.protocol.proofs.Tables.{get_one}
 use Rattle.protocol.proofs.Reactions.{top_is, handle_after, handle_says}
 use Rattle.protocol.proofs.Steps.{said_beside}
@@ -120,25 +120,19 @@ delivered_said setting w stamps (Some packet) sound books said sent =
     (sent packet refl))
     (λ isnt. (stamps, said))
 
-packet_was_sent : (w : World) (number : ℕ) (packet : Packet) → packet_of w.packets number ≡ Some packet → WasSent w packet
+-- a packet of a number was sent
+pub packet_was_sent : (w : World) (number : ℕ) (packet : Packet) → packet_of w.packets number ≡ Some packet → WasSent w packet
 packet_was_sent w zero packet is = cc
 packet_was_sent w (suc k) packet is = (k, is)
-
--- an operation that is not refused has its group
-no_refusal : (block : ℕ) (node : Node) (ask : Ask) (z : Option Group) → not (is_some (refusal_in block node ask z)) ≡ true → (group : Group) × (z ≡ Some group)
-no_refusal block node ask None is = absurd (false≢true is)
-no_refusal block node ask (Some group) is = (group, refl)
 
 -- an operation is invoked
 invoked_said : (setting : Setting) (w : World) (stamps : Stamping) (me : BrickId) (ask : Ask) → Books setting w → Said setting w stamps
     → may_begin setting w me ask ≡ true → IsSaid setting (world_began w me ask (invoked setting me (w.clocks me.0) (w.nodes me.0) ask))
-unfolding invoked refusal_of
+unfolding invoked
 invoked_said setting w stamps me ask books said may =
-    let p = and_parts (is_brick setting.layout me) (is_stripe_op ask.op && not (is_some (refusal_of setting.layout (w.nodes me.0) ask))) may in
-    let q = and_parts (is_stripe_op ask.op) (not (is_some (refusal_of setting.layout (w.nodes me.0) ask))) p.1 in
-    let group = no_refusal setting.layout.block (w.nodes me.0) ask (group_of setting.layout ask.group.0) q.1 in
-    subst (λ (z : Option Group). IsSaid setting (world_began w me ask (began setting me (w.clocks me.0) (w.nodes me.0) ask z))) (sym group.1)
-    (said_began setting w stamps me ask group.0 books said group.1 q.0)
+    let fits : BeginFits setting ask = begin_fits setting w me ask may in
+    subst (λ (z : Option Group). IsSaid setting (world_began w me ask (began setting me (w.clocks me.0) (w.nodes me.0) ask z))) (sym fits.group_is)
+    (said_began setting w stamps me ask fits.group books said fits.group_is fits.is_stripe_op)
 
 -- every event keeps the invariant
 pub said_happens : (setting : Setting) (w : World) (event : Event) → IsSound setting → Books setting w → IsSaid setting w → IsSaid setting (happens setting w event)
