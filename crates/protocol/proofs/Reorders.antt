@@ -1,17 +1,15 @@
 -- A coordinator whose order was refused begins another round of ordering, with a stamp that nobody knows.
-use Rattle.std.proofs.Common.{◌≡◌, ℕ, ◌+◌, ◌<◌, ◌≤◌, ◌⊎◌, inl, inr, List, Some, None, refl, sym, ap, ◌∙◌, subst, arith}
+use Rattle.std.proofs.Common.{◌≡◌, ℕ, ◌<◌, ◌≤◌, ◌⊎◌, inl, inr, Some, None, refl, sym, ap, ◌∙◌, subst, arith}
 use Rattle.std.specs.Prelude.{slice_get}
 use Rattle.fab_base.specs.declared.identities.BrickId.{BrickId}
 use Rattle.fab_base.specs.declared.stamps.Stamp.{Stamp}
-use Rattle.fab_base.specs.declared.asks.Op.TheVariants.{WriteStripe}
 use Rattle.fab_wire.specs.declared.messages.Packet.{Packet}
-use Rattle.fab_wire.specs.declared.requests.Request.TheVariants as Request
 use Rattle.protocol.specs.Settings.{Setting, Group}
 use Rattle.protocol.specs.Coordinators.{Coordinator, Phase, Orders, reordering, request_of}
 use Rattle.protocol.specs.Nodes.{Node, with_call, phase_packets}
 use Rattle.protocol.specs.Worlds.{World, Operation}
 use Rattle.protocol.proofs.Books.{Books, CallBooks, IsCall}
-use Rattle.protocol.proofs.Said.{Stamping, Said, IsSaid, IsStamped, IsNewIn, IsKnown, IsStampOf, IsCalled, FitsPhase, RequestSays, PacketSays, CallSays}
+use Rattle.protocol.proofs.Said.{Stamping, Said, IsSaid, IsStamped, IsNewIn, IsKnown, IsStampOf, IsCalled, FitsPhase, PacketSays, CallSays}
 use Rattle.protocol.proofs.Tables.{put_each, put_same, sent_to_member}
 use Rattle.protocol.proofs.Stampings.{ComesFrom, StampsGrow, later_unknown, with_stamp, stamp_now, stamps_other, phases_other, stamp_last, stamps_grow, stamps_say}
 use Rattle.protocol.proofs.Steps.{keeps_same, seqs_by, known_by, quiet, said_quiet}

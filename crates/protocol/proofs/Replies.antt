@@ -1,7 +1,6 @@
 -- A coordinator takes a reply: what it then decides keeps the invariant.
-use Rattle.std.proofs.Common.{◌≡◌, ℕ, ◌-◌, ◌<◌, ◌≤◌, nat_lt, ◌⊎◌, inl, inr, true, false, ◌&&◌, List, [], length, Option, Some, None, refl, sym, ap, ◌∙◌, subst, ⊎_elim, arith}
-use Rattle.std.specs.Prelude.{nat_eq, ◌^◌}
-use Rattle.std.proofs.lemmas.Bool.{cond_both, false≢true, eqb-true, and_parts, ltb-false}
+use Rattle.std.proofs.Common.{◌≡◌, ℕ, ◌<◌, ◌≤◌, nat_lt, ◌⊎◌, inl, inr, true, false, [], length, Option, Some, None, refl, sym, ap, ◌∙◌, subst, ⊎_elim}
+use Rattle.std.proofs.lemmas.Bool.{cond_both, false≢true, ltb-false}
 use Rattle.fab_base.specs.declared.identities.BrickId.{BrickId}
 use Rattle.fab_base.specs.declared.stamps.Stamp.{Stamp}
 use Rattle.fab_base.specs.declared.asks.Op.TheVariants.{ReadStripe, WriteStripe}
@@ -11,7 +10,7 @@ use Rattle.fab_wire.specs.declared.calls.Call.{Call}
 use Rattle.fab_wire.specs.declared.messages.Message.TheVariants as Message
 use Rattle.fab_wire.specs.declared.replies.Reply.{Reply}
 use Rattle.protocol.specs.Settings.{Setting, Code, Group, group_of, quorum_of, IsSound, seat_in}
-use Rattle.protocol.specs.Coordinators.{Coordinator, Counted, Refuser, Phase, Looks, Orders, Stores, Stalls, Next, Waits, Reorders, Ends, call_same, answers_phase, has_seat, new_seat, counts_at, fast_version, pieces_of, greatest_refuser, stalled, reordering, most_rounds, aborted_by, unless_refused, ordered_again, once_ordered, answered_fast, decided, with_reply, once_full, counted_at, on_reply}
+use Rattle.protocol.specs.Coordinators.{Coordinator, Refuser, Phase, Looks, Orders, Stores, Stalls, Next, Waits, Reorders, Ends, answers_phase, has_seat, counts_at, fast_version, pieces_of, greatest_refuser, stalled, reordering, most_rounds, aborted_by, unless_refused, ordered_again, once_ordered, answered_fast, decided, with_reply, once_full, counted_at, on_reply}
 use Rattle.protocol.specs.Nodes.{Node, with_known, with_call, carried_out}
 use Rattle.protocol.specs.Worlds.{World, Operation, world_stepped}
 use Rattle.protocol.specs.Laws.{WasSent, IsGuarded}

@@ -1,7 +1,6 @@
 -- What is said is so in every world that a run reaches.
-use Rattle.std.proofs.Common.{◌≡◌, ℕ, ◌<◌, ◌≤◌, zero, suc, inl, true, not, ◌&&◌, List, [], ◌∷◌, replicate, Option, Some, None, refl, sym, ap, ◌∙◌, subst, arith}
-use Rattle.std.specs.Prelude.{is_some}
-use Rattle.std.proofs.lemmas.Bool.{cond_both, cond-false, false≢true, and_parts}
+use Rattle.std.proofs.Common.{◌≡◌, ℕ, ◌<◌, ◌≤◌, zero, suc, inl, true, List, [], ◌∷◌, replicate, Option, Some, None, refl, sym, ap, ◌∙◌, subst, arith}
+use Rattle.std.proofs.lemmas.Bool.{cond_both, cond-false}
 use Rattle.fab_base.specs.declared.identities.BrickId.{BrickId}
 use Rattle.fab_base.specs.declared.stamps.Stamp.{Stamp}
 use Rattle.fab_base.specs.declared.asks.Ask.{Ask}
@@ -16,7 +15,7 @@ use Rattle.fab_wire.specs.declared.replies.Reply.{Reply}
 use Rattle.protocol.specs.Settings.{Setting, Group, group_of, IsSound, seat_in}
 use Rattle.protocol.specs.Replicas.{first_replica, top_of, handle}
 use Rattle.protocol.specs.Coordinators.{Coordinator, Counted}
-use Rattle.protocol.specs.Nodes.{Node, NodeStep, put, new_stamp, fresh_stamp, no_step, is_stripe_op, refusal_in, refusal_of, began, invoked, requested_at, requested_in, requested, known_after, replied_to, replied_at, replied, received}
+use Rattle.protocol.specs.Nodes.{NodeStep, put, new_stamp, fresh_stamp, no_step, began, invoked, requested_at, requested_in, requested, known_after, replied_to, replied_at, replied, received}
 use Rattle.protocol.specs.Worlds.{World, Event, Invokes, Delivers, Sets, replies_with, first_world, zero_content, is_brick, may_begin, world_began, world_stepped, delivered, packet_of, happens, run}
 use Rattle.protocol.specs.Laws.{WasSent, part_of}
 use Rattle.protocol.proofs.Books.{Books, IsCall}
