@@ -1,6 +1,30 @@
--- The layout that the one layout text says.
-use Rattle.std.specs.Prelude.{[], ◌∷◌}
+-- What a layout text says.
+use Rattle.std.specs.Prelude.{ℕ, List, [], ◌∷◌, if◌then◌else◌, Option, None, Some, Result, Ok, Err}
+use Rattle.std.specs.Str.{is_utf8}
 use Rattle.protocol.specs.Settings.{Group, Layout}
+use Rattle.toml.specs.Data.{Members}
+use Rattle.toml.specs.Parse.{parse_document}
+use Rattle.layout.specs.declared.faults.LayoutFault.{LayoutFault}
+use Rattle.layout.specs.declared.faults.LayoutFault.TheVariants.{Toml}
+use Rattle.layout.specs.declared.descriptions.Description.{Description}
+use Rattle.layout.specs.Checks.{◌>>=◌, description_in}
+
+-- the table that a text is as a TOML document, if it is one
+abbrev pub document_of : List ℕ → Option Members
+document_of text = if is_utf8 text then parse_document text else None
+
+-- a document, and then its checks
+abbrev pub description_or : Option Members → Result Description LayoutFault
+description_or None = Err Toml
+description_or (Some table) = description_in table
+
+-- what a text says, or the fault of the first check that it fails
+abbrev pub description_of : List ℕ → Result Description LayoutFault
+description_of text = description_or (document_of text)
+
+-- the layout that a text says, or the fault of the first check that it fails
+abbrev pub layout_of : List ℕ → Result Layout LayoutFault
+layout_of text = description_of text >>= λ description. Ok description.layout
 
 -- one group of four stripes of one data block, whose members are the bricks 0, 1 and 2
 abbrev pub three_members : Group

@@ -1,10 +1,10 @@
-//! Groups and layouts.
+//! Groups.
 
-ghost use Rattle.std.specs.Prelude.{◌≡◌, ◌↔◌, IsSome, IfSome, length, option_copied};
+ghost use Rattle.std.specs.Prelude.{◌≡◌, ◌↔◌, IsSome, IfSome, length};
 ghost use Rattle.quorum.specs.Quorums.{IsWithinLimits};
-ghost use Rattle.protocol.specs.Settings.{group_of, quorum_of};
+ghost use Rattle.protocol.specs.Settings.{quorum_of};
 
-use fab_base::{GroupId, Members};
+use fab_base::Members;
 use quorum::Policy;
 use std::marker::Model;
 
@@ -50,6 +50,16 @@ impl Group {
         &self.members
     }
 
+    /// The sizes of its view and of its quorums.
+    pub fn policy(&self) -> Policy
+        ensures m { result.m ≡ self.now.m }
+        ensures n { result.n ≡ length self.now.members }
+        ensures limits { IsWithinLimits self.now.m (length self.now.members) }
+    {
+        let _ = self.policy.m();
+        self.policy
+    }
+
     /// How many data blocks a stripe has.
     pub fn m(&self) -> u8
         ensures { result ≡ self.now.m }
@@ -69,64 +79,5 @@ impl Group {
         ensures { result ≡ self.now.stripes }
     {
         self.stripes
-    }
-}
-
-/// The layout of a disk.
-#[derive(Debug, Drop)]
-pub struct Layout {
-    block: u16,
-    bricks: u16,
-    groups: Vec<Group>,
-}
-
-impl Model for Layout {
-    ghost use Rattle.protocol.specs.Settings.{Layout};
-
-    ghost Value = { Layout };
-
-    ghost view = { λ layout. record { block = layout.block; bricks = layout.bricks; groups = layout.groups.items } };
-}
-
-impl Layout {
-    /// A layout of blocks of this many bytes, this many bricks, and these groups.
-    pub fn new(block: u16, bricks: u16, groups: Vec<Group>) -> Layout
-        ensures block { result.block ≡ block }
-        ensures bricks { result.bricks ≡ bricks }
-        ensures groups { result.groups ≡ groups.items }
-    {
-        Layout {
-            block,
-            bricks,
-            groups,
-        }
-    }
-
-    /// Bytes per block.
-    pub fn block(&self) -> u16
-        ensures { result ≡ self.now.block }
-    {
-        self.block
-    }
-
-    /// How many bricks there are: numbers 0 to one below this.
-    pub fn bricks(&self) -> u16
-        ensures { result ≡ self.now.bricks }
-    {
-        self.bricks
-    }
-
-    /// How many groups there are: numbers 0 to one below this.
-    pub fn group_count(&self) -> usize
-        ensures { result ≡ length self.now.groups }
-    {
-        self.groups.len()
-    }
-
-    /// The group of this number, if there is one.
-    pub fn group(&self, group: GroupId) -> Option<&Group>
-        ensures { option_copied result ≡ group_of self.now group.0 }
-    {
-        self.groups.get(group.0 as usize)
     }
 }

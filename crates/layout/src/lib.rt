@@ -1,8 +1,14 @@
 //! The layout of a disk: its bricks, its groups of stripes, and the text that says so.
 #![tactic(auto)]
 
+pub mod descriptions;
+pub mod faults;
 pub mod groups;
+pub mod layouts;
+mod tables;
 pub mod texts;
 
-pub use groups::{Group, Layout};
-pub use texts::LayoutFault;
+pub use descriptions::Description;
+pub use faults::{FieldName, Key, KeyText, LayoutFault};
+pub use groups::Group;
+pub use layouts::Layout;

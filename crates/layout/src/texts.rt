@@ -1,64 +1,36 @@
 //! The text of a layout.
 
-ghost use Rattle.std.specs.Prelude.{◌≡◌, ◌≢◌, ◌↔◌, IfOk, IsErrOf};
-ghost use Rattle.layout.specs.Texts.{three_copies};
+ghost use Rattle.std.specs.Prelude.{◌≡◌, ◌≢◌, Ok, Err, IfOk, IfErr};
 
-use crate::groups::{Group, Layout};
-use fab_base::{BrickId, Members};
-use std::alloc::{AllocError, AllocFailed, Global};
+use crate::descriptions::Description;
+use crate::faults::LayoutFault;
+use crate::layouts::Layout;
+use std::alloc::Global;
 
-/// The one layout text that is read so far: three bricks, each with a copy of every block of four stripes.
+/// The greatest length in bytes of a layout text, for the reader of an input that holds one: [`Layout::read`] takes any length.
+pub const LAYOUT_LIMIT: usize = 1_048_576;
+
+/// The text of a small layout: three bricks, each with a copy of every block of four stripes.
 pub const THREE_COPIES: &[u8] =
     b"block = 1\nbricks = 3\nrecords = 100\n[[group]]\nm = 1\nmembers = [0, 1, 2]\nstripes = 4\n";
 
-/// Why a text is not read.
-#[derive(Clone, Copy, Debug, PartialEq, Eq)]
-pub enum LayoutFault {
-    /// The text is another than [`THREE_COPIES`].
-    Form,
-    /// No memory was left.
-    NoMemory,
-}
-
-impl From<AllocError> for LayoutFault {
-    ghost use Rattle.std.specs.Prelude.{◌≡◌};
-    ghost use Rattle.layout.specs.declared.texts.LayoutFault.TheVariants.{NoMemory};
-
-    ghost from_gives = { λ _ e. e ≡ NoMemory };
-
-    fn from(_error: AllocError) -> LayoutFault {
-        LayoutFault::NoMemory
-    }
-}
-
-impl<T: Drop> From<AllocFailed<T>> for LayoutFault {
-    ghost use Rattle.std.specs.Prelude.{◌≡◌};
-    ghost use Rattle.layout.specs.declared.texts.LayoutFault.TheVariants.{NoMemory};
-
-    ghost from_gives = { λ _ e. e ≡ NoMemory };
-
-    fn from(_error: AllocFailed<T>) -> LayoutFault {
-        LayoutFault::NoMemory
-    }
-}
-
 impl Layout {
-    /// The layout that a text says.
+    ghost use Rattle.layout.specs.Limits.{IsLayout};
+    ghost use Rattle.layout.specs.Texts.{layout_of};
+
+    /// The layout that a text says: [`Description::read`] without what stands beside the layout.
     ///
     /// # Errors
     ///
-    /// `Form` exactly where the text is another than [`THREE_COPIES`]; `NoMemory` where no memory was left.
+    /// The fault of the first check of the format that fails: `Toml` exactly where the text is no TOML document, `Field` where a key is
+    /// missing, of a wrong type or none of the format's, `Limit` where a value is outside its limits; `NoMemory` where no memory was left.
     pub fn read(alloc: Global, text: &[u8]) -> Result<Layout, LayoutFault>
-        ensures ok { IfOk result (λ layout. (layout ≡ three_copies) × (text.now ≡ THREE_COPIES.now)) }
-        ensures form { IsErrOf result LayoutFault.Form → text.now ≢ THREE_COPIES.now }
+        ensures read { IfOk result (λ layout. layout_of text.now ≡ Ok layout) }
+        ensures refused { IfErr result (λ fault. fault ≢ LayoutFault.NoMemory → layout_of text.now ≡ Err fault) }
+        ensures limits { IfOk result IsLayout }
     {
-        if text != THREE_COPIES {
-            return Err(LayoutFault::Form);
-        }
-        let members = Members::new(&[BrickId(0), BrickId(1), BrickId(2)]).unwrap();
-        let group = Group::new(members, 1, 4).unwrap();
-        let mut groups = Vec::new(alloc);
-        groups.push(group)?;
-        Ok(Layout::new(1, 3, groups))
+        let description = Description::read(alloc, text)?;
+        let _ = description.layout.bricks();
+        Ok(description.layout)
     }
 }

@@ -1,0 +1,262 @@
+-- What the checks accept is within the limits.
+use Rattle.std.proofs.Common.{◌≡◌, ℕ, ℤ, pos, negsuc, zero, suc, ◌*◌, ◌<◌, ◌≤◌, nat_eq, nat_lt, nat_le, Bool, true, false, not, ◌&&◌, ◌||◌, cond, List, [], ◌∷◌, length, map, Option, Some, None, option_map, option_and_then, slice_get, Result, Ok, Err, refl, ap, subst, sym, arith}
+use Rattle.std.specs.List.{IsDistinct, AllByRecursion}
+use Rattle.std.specs.Option.{ok_or}
+use Rattle.std.proofs.lemmas.Bool.{and_parts, not-true}
+use Rattle.std.proofs.lemmas.Bool.Decides.{nat_tests}
+use Rattle.fab_base.specs.declared.identities.BrickId.{BrickId}
+use Rattle.protocol.specs.Settings.{Group, Layout}
+use Rattle.toml.specs.Data.{Members}
+use Rattle.layout.specs.declared.faults.Key.{Key}
+use Rattle.layout.specs.declared.faults.Key.TheVariants as keys
+use Rattle.layout.specs.declared.faults.LayoutFault.{LayoutFault}
+use Rattle.layout.specs.declared.faults.LayoutFault.TheVariants.{Toml, Limit}
+use Rattle.layout.specs.declared.faults.FieldName.TheVariants.{Other, OtherOfGroup}
+use Rattle.layout.specs.declared.descriptions.Description.{Description}
+use Rattle.layout.specs.Limits.{IsGroup, IsLayout}
+use Rattle.layout.specs.Texts.{document_of, description_or, layout_of}
+use Rattle.layout.specs.Checks.{◌>>=◌, no_field, integer_at, array_at, integers_in, tables_in, no_other, group_keys, top_keys, port_at, natural, within, number_at, blocks_in, blocks_at, brick_in, bricks_in, stands_in, are_distinct, seats_in, members_at, group_in, few_tables, tables_at, groups_in, description_in}
+
+-- checks that pass: each one passed
+passed : {A B : Type 0} (first : Result A LayoutFault) (next : A → Result B LayoutFault) (b : B) → (first >>= next) ≡ Ok b
+    → (a : A) × (first ≡ Ok a) × (next a ≡ Ok b)
+passed (Ok a) next b is = (a, refl, is)
+passed (Err fault) next b is = let never : Err fault ≡ Ok b = is in cc
+
+-- a value that had to be there is there
+there : {A : Type 0} (o : Option A) (fault : LayoutFault) (a : A) → ok_or o fault ≡ Ok a → o ≡ Some a
+there None fault a is = let never : Err fault ≡ Ok a = is in cc
+there (Some x) fault a is = let same : Ok x ≡ Ok a = is in let e : x ≡ a = cc in ap (λ (y : _). Some y) e
+
+-- a number between its limits
+natural_range : (low high : ℕ) (z : ℤ) (n : ℕ) → natural low high z ≡ Some n → (low ≤ n) × (n ≤ high)
+natural_range low high (pos k) n is = in_range (nat_le low k && nat_le k high) refl is
+  where
+    in_range : (b : Bool) → (nat_le low k && nat_le k high) ≡ b → cond b (Some k) None ≡ Some n → (low ≤ n) × (n ≤ high)
+    in_range true both same =
+        let parts = and_parts (nat_le low k) (nat_le k high) both in
+        let e : Some k ≡ Some n = same in
+        let k_is : k ≡ n = cc in
+        let l : low ≤ k = grind (arith, nat_tests, parts) in
+        let h : k ≤ high = grind (arith, nat_tests, parts) in
+        (omega arith, omega arith)
+    in_range false both same = let never : None ≡ Some n = same in cc
+natural_range low high (negsuc k) n is = let never : None ≡ Some n = is in cc
+
+within_range : (key : Key) (low high : ℕ) (o : Option ℤ) (n : ℕ) → within key low high o ≡ Ok n → (low ≤ n) × (n ≤ high)
+within_range key low high None n is = cc
+within_range key low high (Some z) n is = natural_range low high z n (there (natural low high z) _ n is)
+
+-- neither test holds
+or_both : (a b : Bool) → (a || b) ≡ false → (a ≡ false) × (b ≡ false)
+or_both true b e = cc
+or_both false b e = (refl, e)
+
+-- the brick of a number
+abbrev numbered : ℕ → BrickId
+numbered n = record { 0 = n }
+
+-- the first element and the others, where all are there
+taken : {A : Type 0} (first : Option A) (rest : Option (List A)) (xs : List A) → option_and_then (λ x. option_map (λ more. x ∷ more) rest) first ≡ Some xs
+    → (x : A) × (more : List A) × (first ≡ Some x) × (rest ≡ Some more) × (xs ≡ x ∷ more)
+taken None rest xs is = let never : None ≡ Some xs = is in cc
+taken (Some x) None xs is = let never : None ≡ Some xs = is in cc
+taken (Some x) (Some more) xs is = let same : Some (x ∷ more) ≡ Some xs = is in (x, more, refl, refl, (cc))
+
+brick_below : (bricks : ℕ) (z : ℤ) (brick : BrickId) → brick_in bricks z ≡ Some brick → brick.0 < bricks
+brick_below bricks (negsuc k) brick is = let never : None ≡ Some brick = is in cc
+brick_below bricks (pos k) brick is = in_disk (nat_lt k bricks) refl is
+  where
+    in_disk : (b : Bool) → nat_lt k bricks ≡ b → cond b (Some (numbered k)) None ≡ Some brick → brick.0 < bricks
+    in_disk true below same =
+        let e : Some (numbered k) ≡ Some brick = same in
+        let brick_is : numbered k ≡ brick = cc in
+        let k_is : k ≡ brick.0 = ap (λ (b : BrickId). b.0) brick_is in
+        let lt : k < bricks = grind (arith, nat_tests, below) in
+        omega arith
+    in_disk false past same = let never : None ≡ Some brick = same in cc
+
+-- the bricks are those of the disk
+bricks_below : (bricks : ℕ) (numbers : List ℤ) (members : List BrickId) → bricks_in bricks numbers ≡ Some members
+    → AllByRecursion (λ (member : BrickId). member.0 < bricks) members
+bricks_below bricks [] members is =
+    let same : Some [] ≡ Some members = is in
+    let empty : [] ≡ members = cc in
+    subst (AllByRecursion (λ (member : BrickId). member.0 < bricks)) empty tt
+bricks_below bricks (z ∷ numbers) members is =
+    let (brick, more, here, rest, members_are) = taken (brick_in bricks z) (bricks_in bricks numbers) members is in
+    subst (AllByRecursion (λ (member : BrickId). member.0 < bricks)) (sym members_are)
+    (brick_below bricks z brick here, bricks_below bricks numbers more rest)
+
+-- no other has the brick's number
+none_equal : (brick : BrickId) (members : List BrickId) → stands_in members brick ≡ false
+    → AllByRecursion (λ n. nat_eq brick.0 n ≡ false) (map (λ (member : BrickId). member.0) members)
+none_equal brick [] none = tt
+none_equal brick (member ∷ members) none =
+    let parts = or_both (nat_eq brick.0 member.0) (stands_in members brick) none in
+    (parts.0, none_equal brick members parts.1)
+
+-- where no brick stands twice, their numbers are distinct
+numbers_distinct : (members : List BrickId) → are_distinct members ≡ true → IsDistinct nat_eq (map (λ (member : BrickId). member.0) members)
+unfolding IsDistinct
+numbers_distinct [] once = tt
+numbers_distinct (brick ∷ members) once =
+    let parts = and_parts (not (stands_in members brick)) (are_distinct members) once in
+    (none_equal brick members (not-true (stands_in members brick) parts.0), numbers_distinct members parts.1)
+
+-- what the members of an accepted group meet
+record AreMembers (m bricks : ℕ) (members : List BrickId) : Type 0 where
+  enough : m ≤ length members
+  few : length members ≤ 32
+  once : are_distinct members ≡ true
+  below : AllByRecursion (λ (member : BrickId). member.0 < bricks) members
+
+seats_are : (m bricks : ℕ) (members seats : List BrickId) → AllByRecursion (λ (member : BrickId). member.0 < bricks) members
+    → seats_in m members ≡ Some seats → AreMembers m bricks seats
+seats_are m bricks members seats below is = chosen ((nat_le m (length members) && nat_le (length members) 32) && are_distinct members) refl is
+  where
+    chosen : (b : Bool) → ((nat_le m (length members) && nat_le (length members) 32) && are_distinct members) ≡ b
+        → cond b (Some members) None ≡ Some seats → AreMembers m bricks seats
+    chosen true all same =
+        let e : Some members ≡ Some seats = same in
+        let seats_are_all : members ≡ seats = cc in
+        let parts = and_parts (nat_le m (length members) && nat_le (length members) 32) (are_distinct members) all in
+        let sizes = and_parts (nat_le m (length members)) (nat_le (length members) 32) parts.0 in
+        let low : m ≤ length members = grind (arith, nat_tests, sizes) in
+        let high : length members ≤ 32 = grind (arith, nat_tests, sizes) in
+        subst (AreMembers m bricks) seats_are_all (record { enough = low; few = high; once = parts.1; below = below })
+    chosen false some same = let never : None ≡ Some seats = same in cc
+
+seated : (m bricks : ℕ) (numbers : List ℤ) (found : Option (List BrickId)) (members : List BrickId) → bricks_in bricks numbers ≡ found
+    → option_and_then (seats_in m) found ≡ Some members → AreMembers m bricks members
+seated m bricks numbers None members found_is is = let never : None ≡ Some members = is in cc
+seated m bricks numbers (Some all) members found_is is = seats_are m bricks all members (bricks_below bricks numbers all found_is) is
+
+members_are : (m bricks : ℕ) (table : Members) (members : List BrickId) → members_at m bricks table ≡ Ok members → AreMembers m bricks members
+members_are m bricks table members is =
+    let (numbers, read, rest) =
+    passed (ok_or (option_and_then integers_in (array_at table keys.GroupMembers)) (no_field keys.GroupMembers))
+    (λ (numbers : List ℤ). ok_or (option_and_then (seats_in m) (bricks_in bricks numbers)) (Limit keys.GroupMembers)) members is in
+    seated m bricks numbers (bricks_in bricks numbers) members refl (there (option_and_then (seats_in m) (bricks_in bricks numbers)) (Limit keys.GroupMembers) members rest)
+
+-- the number of data blocks is within its limits, and a stripe's data too
+blocks_are : (block : ℕ) (table : Members) (m : ℕ) → blocks_at block table ≡ Ok m → (1 ≤ m) × (m ≤ 16) × (m * block ≤ 32768)
+blocks_are block table m is =
+    let (n, read, rest) = passed (number_at table keys.GroupM 1 16) (λ (n : ℕ). ok_or (blocks_in block n) (Limit keys.GroupM)) m is in
+    let range = within_range keys.GroupM 1 16 (integer_at table keys.GroupM) n read in
+    fits (nat_le (n * block) 32768) n m refl range (there (blocks_in block n) (Limit keys.GroupM) m rest)
+  where
+    fits : (b : Bool) (n m : ℕ) → nat_le (n * block) 32768 ≡ b → (1 ≤ n) × (n ≤ 16) → cond b (Some n) None ≡ Some m → (1 ≤ m) × (m ≤ 16) × (m * block ≤ 32768)
+    fits true n m small range same =
+        let e : Some n ≡ Some m = same in
+        let n_is : n ≡ m = cc in
+        let room : n * block ≤ 32768 = grind (arith, nat_tests, small) in
+        subst (λ (k : ℕ). (1 ≤ k) × (k ≤ 16) × (k * block ≤ 32768)) n_is (range.0, range.1, room)
+    fits false n m big range same = let never : None ≡ Some m = same in cc
+
+-- an accepted group is within the limits
+pub group_is : (block bricks : ℕ) (table : Members) (group : Group) → group_in block bricks table ≡ Ok group → IsGroup block bricks group
+group_is block bricks table group is =
+    let (m, m_read, after_m) = passed (blocks_at block table) _ group is in
+    let (members, members_read, after_members) = passed (members_at m bricks table) _ group after_m in
+    let (stripes, stripes_read, after_stripes) = passed (number_at table keys.GroupStripes 1 65536) _ group after_members in
+    let (known, known_read, last) = passed (no_other OtherOfGroup group_keys table) _ group after_stripes in
+    let blocks = blocks_are block table m m_read in
+    let seats = members_are m bricks table members members_read in
+    let range = within_range keys.GroupStripes 1 65536 (integer_at table keys.GroupStripes) stripes stripes_read in
+    let same : Ok (record { members = members; m = m; stripes = stripes }) ≡ Ok group = last in
+    let group_same : record { members = members; m = m; stripes = stripes } ≡ group = cc in
+    subst (IsGroup block bricks) group_same (record {
+      limits = record { some_block = blocks.0; few_blocks = blocks.1; enough_seats = seats.enough; few_seats = seats.few };
+      room = blocks.2;
+      distinct = numbers_distinct members seats.once;
+      below = seats.below;
+      some_stripe = range.0;
+      few_stripes = range.1;
+    })
+
+-- accepted groups are as many as their tables, and each is within the limits
+record AreGroups (block bricks : ℕ) (tables : List Members) (groups : List Group) : Type 0 where
+  count : length groups ≡ length tables
+  each : (g : ℕ) (group : Group) → slice_get groups g ≡ Some group → IsGroup block bricks group
+
+groups_are : (block bricks : ℕ) (tables : List Members) (groups : List Group) → groups_in block bricks tables ≡ Ok groups → AreGroups block bricks tables groups
+groups_are block bricks [] groups is =
+    let same : Ok [] ≡ Ok groups = is in
+    let empty : [] ≡ groups = cc in
+    subst (AreGroups block bricks []) empty (record { count = refl; each = λ g group found. let never : None ≡ Some group = found in cc })
+groups_are block bricks (table ∷ tables) groups is =
+    let (first, first_read, after_first) = passed (group_in block bricks table) _ groups is in
+    let (more, more_read, last) = passed (groups_in block bricks tables) _ groups after_first in
+    let same : Ok (first ∷ more) ≡ Ok groups = last in
+    let groups_same : first ∷ more ≡ groups = cc in
+    let rest = groups_are block bricks tables more more_read in
+    subst (AreGroups block bricks (table ∷ tables)) groups_same (record {
+      count = ap (λ n. suc n) rest.count;
+      each = either first more (group_is block bricks table first first_read) rest.each;
+    })
+  where
+    either : (first : Group) (more : List Group) → IsGroup block bricks first → ((g : ℕ) (group : Group) → slice_get more g ≡ Some group → IsGroup block bricks group)
+        → (g : ℕ) (group : Group) → slice_get (first ∷ more) g ≡ Some group → IsGroup block bricks group
+    either first more here rest zero group found =
+        let same : Some first ≡ Some group = found in
+        let e : first ≡ group = cc in
+        subst (IsGroup block bricks) e here
+    either first more here rest (suc g) group found = rest g group found
+
+-- 1 to 64 tables
+tables_are : (table : Members) (tables : List Members) → tables_at table ≡ Ok tables → (1 ≤ length tables) × (length tables ≤ 64)
+tables_are table tables is =
+    let (all, read, rest) = passed (ok_or (option_and_then tables_in (array_at table keys.Group)) (no_field keys.Group))
+    (λ (all : List Members). ok_or (few_tables all) (Limit keys.Group)) tables is in
+    few (nat_le 1 (length all) && nat_le (length all) 64) all refl (there (few_tables all) (Limit keys.Group) tables rest)
+  where
+    few : (b : Bool) (all : List Members) → (nat_le 1 (length all) && nat_le (length all) 64) ≡ b → cond b (Some all) None ≡ Some tables
+        → (1 ≤ length tables) × (length tables ≤ 64)
+    few true all sizes same =
+        let e : Some all ≡ Some tables = same in
+        let all_same : all ≡ tables = cc in
+        let parts = and_parts (nat_le 1 (length all)) (nat_le (length all) 64) sizes in
+        let low : 1 ≤ length all = grind (arith, nat_tests, parts) in
+        let high : length all ≤ 64 = grind (arith, nat_tests, parts) in
+        subst (λ (l : List Members). (1 ≤ length l) × (length l ≤ 64)) all_same (low, high)
+    few false all sizes same = let never : None ≡ Some tables = same in cc
+
+-- an accepted layout is within the limits
+pub layout_is : (table : Members) (description : Description) → description_in table ≡ Ok description → IsLayout description.layout
+layout_is table description is =
+    let (block, block_read, after_block) = passed (number_at table keys.Block 1 4096) _ description is in
+    let (bricks, bricks_read, after_bricks) = passed (number_at table keys.Bricks 1 64) _ description after_block in
+    let (records, records_read, after_records) = passed (number_at table keys.Records 1 1048576) _ description after_bricks in
+    let (port, port_read, after_port) = passed (port_at table) _ description after_records in
+    let (tables, tables_read, after_tables) = passed (tables_at table) _ description after_port in
+    let (groups, groups_read, after_groups) = passed (groups_in block bricks tables) _ description after_tables in
+    let (known, known_read, last) = passed (no_other Other top_keys table) _ description after_groups in
+    let bytes = within_range keys.Block 1 4096 (integer_at table keys.Block) block block_read in
+    let disk = within_range keys.Bricks 1 64 (integer_at table keys.Bricks) bricks bricks_read in
+    let count = tables_are table tables tables_read in
+    let all = groups_are block bricks tables groups groups_read in
+    let same : Ok (record { layout = record { block = block; bricks = bricks; groups = groups }; records = records; port = port }) ≡ Ok description = last in
+    let layout_same : record { block = block; bricks = bricks; groups = groups } ≡ description.layout =
+    ap (λ (d : Description). d.layout) (let e : record { layout = record { block = block; bricks = bricks; groups = groups }; records = records; port = port } ≡ description = cc in e) in
+    subst IsLayout layout_same (record {
+      some_byte = bytes.0;
+      few_bytes = bytes.1;
+      some_brick = disk.0;
+      few_bricks = disk.1;
+      some_group = omega (arith, all.count);
+      few_groups = omega (arith, all.count);
+      each = all.each;
+    })
+
+-- what a text says is within the limits
+pub accepted_is : (text : List ℕ) (layout : Layout) → layout_of text ≡ Ok layout → IsLayout layout
+accepted_is text layout is = by_document (document_of text) is
+  where
+    by_document : (document : Option Members) → (description_or document >>= λ description. Ok description.layout) ≡ Ok layout → IsLayout layout
+    by_document None same = let never : Err Toml ≡ Ok layout = same in cc
+    by_document (Some table) same =
+        let (description, read, last) = passed (description_in table) (λ (description : Description). Ok description.layout) layout same in
+        let e : Ok description.layout ≡ Ok layout = last in
+        let layout_same : description.layout ≡ layout = cc in
+        subst IsLayout layout_same (layout_is table description read)

@@ -1,0 +1,5 @@
+pub mod Keys
+pub mod Readings
+pub mod Accepted
+pub mod Documents
+pub mod Soundness

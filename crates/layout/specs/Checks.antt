@@ -1,0 +1,194 @@
+-- The checks of a layout text over the table that it is as a TOML document, in their order: the first that fails gives the fault, and
+-- where none fails, the table says a layout.
+use Rattle.std.specs.Prelude.{ℕ, ℤ, pos, negsuc, ◌*◌, nat_eq, nat_lt, nat_le, Bool, true, not, ◌&&◌, if◌then◌else◌, List, [], ◌∷◌, length, Option, Some, None, option_map, option_and_then, Result, Ok, Err}
+use Rattle.std.specs.List.{list_any}
+use Rattle.std.specs.Option.{ok_or}
+use Rattle.std.specs.Ordering.{nat_cmp, is_lt}
+use Rattle.std.specs.Cmp.Lexicographic.{slice_cmp}
+use Rattle.std.specs.Str.{bytes_eq}
+use Rattle.fab_base.specs.declared.identities.BrickId.{BrickId}
+use Rattle.protocol.specs.Settings.{Group}
+use Rattle.toml.specs.Data.{Data, Items, no_items, item, Members, no_members, member, get_member, as_integer, as_array, as_table}
+use Rattle.layout.specs.declared.faults.Key.{Key}
+use Rattle.layout.specs.declared.faults.Key.TheVariants as keys
+use Rattle.layout.specs.declared.faults.FieldName.{FieldName}
+use Rattle.layout.specs.declared.faults.FieldName.TheVariants.{Known, Other, OtherOfGroup}
+use Rattle.layout.specs.declared.faults.LayoutFault.{LayoutFault}
+use Rattle.layout.specs.declared.faults.LayoutFault.TheVariants.{Field, Limit}
+use Rattle.layout.specs.declared.descriptions.Description.{Description}
+use Rattle.layout.specs.Names.{key_text}
+
+infixl 10 ◌>>=◌
+-- the next check, where this one passed
+abbrev pub ◌>>=◌ : {A B : Type 0} → Result A LayoutFault → (A → Result B LayoutFault) → Result B LayoutFault
+Ok a >>= next = next a
+Err fault >>= next = Err fault
+
+-- a missing key, or a value of a wrong type
+abbrev pub no_field : Key → LayoutFault
+no_field key = Field (Known key)
+
+-- ---- one value
+
+-- the whole number at a key, if there is one
+abbrev pub integer_at : Members → Key → Option ℤ
+integer_at table key = option_and_then as_integer (get_member (key_text key) table)
+
+-- the list at a key, if there is one
+abbrev pub array_at : Members → Key → Option Items
+array_at table key = option_and_then as_array (get_member (key_text key) table)
+
+-- the number, if it is from the lower limit to the upper
+abbrev pub natural : ℕ → ℕ → ℤ → Option ℕ
+natural low high (pos n) = if nat_le low n && nat_le n high then Some n else None
+natural low high (negsuc n) = None
+
+-- a whole number, and then within its limits
+abbrev pub within : Key → ℕ → ℕ → Option ℤ → Result ℕ LayoutFault
+within key low high None = Err (no_field key)
+within key low high (Some z) = ok_or (natural low high z) (Limit key)
+
+-- the number of a key that has to be there
+abbrev pub number_at : Members → Key → ℕ → ℕ → Result ℕ LayoutFault
+number_at table key low high = within key low high (integer_at table key)
+
+-- the port, 17000 where the key is missing
+abbrev pub port_in : Option Data → Result ℕ LayoutFault
+port_in None = Ok 17000
+port_in (Some value) = within keys.Port 1 65472 (as_integer value)
+
+abbrev pub port_at : Members → Result ℕ LayoutFault
+port_at table = port_in (get_member (key_text keys.Port) table)
+
+-- ---- keys that the format has not
+
+-- the lesser of two texts in byte order, if there are two
+abbrev pub lesser : List ℕ → Option (List ℕ) → List ℕ
+lesser text None = text
+lesser text (Some best) = if is_lt (slice_cmp nat_cmp best text) then best else text
+
+-- the text is one of these keys
+abbrev pub is_known : List Key → List ℕ → Bool
+is_known known text = list_any (λ key. bytes_eq (key_text key) text) known
+
+-- the least of the texts, in byte order, that is none of these keys
+abbrev pub least_other : List Key → List (List ℕ) → Option (List ℕ)
+least_other known [] = None
+least_other known (text ∷ texts) =
+    if is_known known text then least_other known texts else Some (lesser text (least_other known texts))
+
+-- the keys of a table
+abbrev pub keys_of : Members → List (List ℕ)
+keys_of no_members = []
+keys_of (member key value rest) = key ∷ keys_of rest
+
+-- no key is another than these
+abbrev pub refused_key : (List ℕ → FieldName) → Option (List ℕ) → Result (Unit {0}) LayoutFault
+refused_key name None = Ok tt
+refused_key name (Some text) = Err (Field (name text))
+
+abbrev pub no_other : (List ℕ → FieldName) → List Key → Members → Result (Unit {0}) LayoutFault
+no_other name known table = refused_key name (least_other known (keys_of table))
+
+-- ---- the members of a group
+
+-- the whole numbers of a list, if it has nothing else
+abbrev pub integers_in : Items → Option (List ℤ)
+integers_in no_items = Some []
+integers_in (item value rest) = option_and_then (λ z. option_map (λ more. z ∷ more) (integers_in rest)) (as_integer value)
+
+-- the brick of a number, if the disk has it
+abbrev pub brick_in : ℕ → ℤ → Option BrickId
+brick_in bricks (pos n) = if nat_lt n bricks then Some (record { 0 = n }) else None
+brick_in bricks (negsuc n) = None
+
+-- the bricks of some numbers, if the disk has them all
+abbrev pub bricks_in : ℕ → List ℤ → Option (List BrickId)
+bricks_in bricks [] = Some []
+bricks_in bricks (z ∷ numbers) =
+    option_and_then (λ brick. option_map (λ more. brick ∷ more) (bricks_in bricks numbers)) (brick_in bricks z)
+
+-- the brick is one of these
+abbrev pub stands_in : List BrickId → BrickId → Bool
+stands_in members brick = list_any (λ member. nat_eq brick.0 member.0) members
+
+-- no brick stands twice
+abbrev pub are_distinct : List BrickId → Bool
+are_distinct [] = true
+are_distinct (brick ∷ more) = not (stands_in more brick) && are_distinct more
+
+-- the members, if there are m to 32 of them and none stands twice
+abbrev pub seats_in : ℕ → List BrickId → Option (List BrickId)
+seats_in m members =
+    if (nat_le m (length members) && nat_le (length members) 32) && are_distinct members then Some members else None
+
+-- a list of whole numbers, and then m to 32 distinct bricks of the disk
+abbrev pub members_at : ℕ → ℕ → Members → Result (List BrickId) LayoutFault
+members_at m bricks table = do
+  numbers ← ok_or (option_and_then integers_in (array_at table keys.GroupMembers)) (no_field keys.GroupMembers)
+  ok_or (option_and_then (seats_in m) (bricks_in bricks numbers)) (Limit keys.GroupMembers)
+
+-- ---- groups
+
+-- the number of data blocks, if a stripe's data then has at most 32,768 bytes
+abbrev pub blocks_in : ℕ → ℕ → Option ℕ
+blocks_in block m = if nat_le (m * block) 32768 then Some m else None
+
+abbrev pub blocks_at : ℕ → Members → Result ℕ LayoutFault
+blocks_at block table = do
+  m ← number_at table keys.GroupM 1 16
+  ok_or (blocks_in block m) (Limit keys.GroupM)
+
+-- the keys of a group
+abbrev pub group_keys : List Key
+group_keys = keys.GroupM ∷ (keys.GroupMembers ∷ (keys.GroupStripes ∷ []))
+
+-- the group of a table
+abbrev pub group_in : ℕ → ℕ → Members → Result Group LayoutFault
+group_in block bricks table = do
+  m ← blocks_at block table
+  members ← members_at m bricks table
+  stripes ← number_at table keys.GroupStripes 1 65536
+  known ← no_other OtherOfGroup group_keys table
+  Ok (record { members = members; m = m; stripes = stripes })
+
+-- the tables of a list, if it has nothing else
+abbrev pub tables_in : Items → Option (List Members)
+tables_in no_items = Some []
+tables_in (item value rest) = option_and_then (λ table. option_map (λ more. table ∷ more) (tables_in rest)) (as_table value)
+
+-- 1 to 64 tables
+abbrev pub few_tables : List Members → Option (List Members)
+few_tables tables = if nat_le 1 (length tables) && nat_le (length tables) 64 then Some tables else None
+
+-- a list of tables, and then 1 to 64 of them
+abbrev pub tables_at : Members → Result (List Members) LayoutFault
+tables_at table = do
+  tables ← ok_or (option_and_then tables_in (array_at table keys.Group)) (no_field keys.Group)
+  ok_or (few_tables tables) (Limit keys.Group)
+
+-- the groups of some tables, by number
+abbrev pub groups_in : ℕ → ℕ → List Members → Result (List Group) LayoutFault
+groups_in block bricks [] = Ok []
+groups_in block bricks (table ∷ tables) = do
+  group ← group_in block bricks table
+  groups ← groups_in block bricks tables
+  Ok (group ∷ groups)
+
+-- ---- the whole table
+
+-- the keys at the top
+abbrev pub top_keys : List Key
+top_keys = keys.Block ∷ (keys.Bricks ∷ (keys.Records ∷ (keys.Port ∷ (keys.Group ∷ []))))
+
+-- what the table of a layout text says
+abbrev pub description_in : Members → Result Description LayoutFault
+description_in table = do
+  block ← number_at table keys.Block 1 4096
+  bricks ← number_at table keys.Bricks 1 64
+  records ← number_at table keys.Records 1 1048576
+  port ← port_at table
+  tables ← tables_at table
+  groups ← groups_in block bricks tables
+  known ← no_other Other top_keys table
+  Ok (record { layout = record { block = block; bricks = bricks; groups = groups }; records = records; port = port })

@@ -1,0 +1,72 @@
+//! Layouts.
+
+ghost use Rattle.std.specs.Prelude.{◌≡◌, length, option_copied};
+ghost use Rattle.protocol.specs.Settings.{group_of};
+ghost use Rattle.layout.specs.Limits.{IsLayout};
+
+use crate::groups::Group;
+use fab_base::GroupId;
+use std::marker::Model;
+
+/// The layout of a disk, within the limits of the format: see [`Layout::group_count`] for what a proof knows of each.
+#[derive(Debug, Drop)]
+pub struct Layout {
+    block: u16,
+    bricks: u16,
+    groups: Vec<Group>,
+}
+
+impl Model for Layout {
+    ghost use Rattle.protocol.specs.Settings.{Layout};
+    ghost use Rattle.layout.specs.Limits.{IsLayout};
+
+    ghost Value = { Layout };
+
+    ghost view = { λ layout. record { block = layout.block; bricks = layout.bricks; groups = layout.groups.items } };
+
+    ghost invariant = { λ layout. IsLayout (record { block = layout.block; bricks = layout.bricks; groups = layout.groups.items }) };
+}
+
+impl Layout {
+    // A layout of blocks of this many bytes, this many bricks, and these groups.
+    pub(crate) fn new(block: u16, bricks: u16, groups: Vec<Group>) -> Layout
+        requires { IsLayout (record { block = block; bricks = bricks; groups = groups.items }) }
+        ensures { result ≡ record { block = block; bricks = bricks; groups = groups.items } }
+    {
+        Layout {
+            block,
+            bricks,
+            groups,
+        }
+    }
+
+    /// Bytes per block.
+    pub fn block(&self) -> u16
+        ensures { result ≡ self.now.block }
+    {
+        self.block
+    }
+
+    /// How many bricks there are: numbers 0 to one below this.
+    pub fn bricks(&self) -> u16
+        ensures value { result ≡ self.now.bricks }
+        ensures limits { IsLayout self.now }
+    {
+        self.bricks
+    }
+
+    /// How many groups there are: numbers 0 to one below this.
+    pub fn group_count(&self) -> usize
+        ensures value { result ≡ length self.now.groups }
+        ensures limits { IsLayout self.now }
+    {
+        self.groups.len()
+    }
+
+    /// The group of this number, if there is one.
+    pub fn group(&self, group: GroupId) -> Option<&Group>
+        ensures { option_copied result ≡ group_of self.now group.0 }
+    {
+        self.groups.get(group.0 as usize)
+    }
+}
