@@ -1,73 +1,73 @@
 -- What a run printed of an input, from what was read of its layout and printed of its schedule.
-use Rattle.std.proofs.Common.{◌≡◌, ℕ, Bool, true, false, List, [], ◌∷◌, ◌++◌, map, Option, Some, None, IfSome, Result, Ok, Err, refl, sym, ap, ◌∙◌, subst, ◌≢◌}
-use Rattle.std.specs.Str.{bytes_eq}
+use Rattle.std.proofs.Common.{◌≡◌, ℕ, ◌≤◌, true, false, List, [], ◌∷◌, ◌++◌, length, map, codes, Option, Some, None, Result, Ok, Err, refl, sym, ap, ◌∙◌, subst}
 use Rattle.std.specs.Io.KnownBytes.{IsAtEnd, prepend_known}
 use Rattle.std.proofs.KnownBytes.{prepend_known-nil}
-use Rattle.std.proofs.lemmas.Slice.Eq.{bytes_eq-Decides}
-use Rattle.lines.specs.Lines.{Parts, parts, raw_lines, content}
+use Rattle.lines.specs.Lines.{parts, raw_lines, content}
 use Rattle.lines.specs.Reading.{ReadsSchedule}
-use Rattle.layout.specs.Texts.{three_copies}
-use Rattle.layout.specs.declared.texts.TheConstants.{THREE_COPIES}
+use Rattle.layout.specs.declared.faults.LayoutFault.{LayoutFault}
+use Rattle.layout.specs.declared.faults.LayoutFault.TheVariants.{Limit}
+use Rattle.layout.specs.declared.faults.Key.TheVariants.{GroupM}
+use Rattle.layout.specs.Names.{fault_text}
+use Rattle.layout.specs.Texts.{layout_of}
+use Rattle.protocol.specs.Settings.{Layout}
 use Rattle.protocol.specs.Worlds.{first_world}
 use Rattle.world.specs.Runs.{Run, world_of}
 use Rattle.replay.specs.declared.endings.Verdict.{Verdict}
 use Rattle.replay.specs.declared.endings.Halt.{Halt}
-use Rattle.replay.specs.Outputs.{Output, output_of, output_from, bad_layout, no_layout_end}
-use Rattle.replay.specs.Turns.{Prints, AreLinesOf, AreParts, PrintsRest, PrintsHeaded, PrintsInput}
+use Rattle.replay.specs.Inputs.{Input, Parted, TooLong, Endless, most_layout_bytes, input_of, IsInput}
+use Rattle.replay.specs.Outputs.{Output, output_of, output_with, output_from, bad_layout, is_served}
+use Rattle.replay.specs.Turns.{Prints, AreLinesOf, PrintsRest, PrintsHeaded, PrintsInput}
+use Rattle.replay.proofs.Heads.{within}
 use Rattle.replay.proofs.LeftLines.{some_lines}
 use Rattle.replay.proofs.Printing.{Prints-nothing, Prints-same}
 
--- an input's parts, by its layout and schedule
-abbrev pub parted : List ℕ → List (List ℕ) → Option Parts
-parted layout schedule = Some (record { layout = layout; schedule = schedule })
-
--- no line ends the layout
-pub output_of-no_end : output_of None ≡ no_layout_end
+-- the output of a head whose layout is this, or which has this fault
+pub output_of-text : (head : List ℕ) (schedule : List (List ℕ)) (r : Result Layout LayoutFault) → layout_of head ≡ r
+    → output_of (Parted head schedule) ≡ output_with r schedule
 unfolding output_of
-output_of-no_end = refl
+output_of-text head schedule r is = ap (λ x. output_with x schedule) is
 
--- the layout is read
-pub output_of-read : (head : List ℕ) (schedule : List (List ℕ)) → head ≡ THREE_COPIES.now
-    → output_of (parted head schedule) ≡ output_from three_copies (first_world three_copies) 0 schedule
+pub output_of-long : output_of TooLong ≡ bad_layout (codes "limit layout")
 unfolding output_of
-output_of-read head schedule is = rw ((bytes_eq-Decides head THREE_COPIES.now).1 is) refl
+output_of-long = refl
 
--- the layout's text is none
-pub output_of-form : (head : List ℕ) (schedule : List (List ℕ)) → head ≢ THREE_COPIES.now → output_of (parted head schedule) ≡ bad_layout
+pub output_of-endless : output_of Endless ≡ bad_layout (codes "end")
 unfolding output_of
-output_of-form head schedule other = rw (not_same (bytes_eq head THREE_COPIES.now) (bytes_eq-Decides head THREE_COPIES.now).0) refl
-  where
-    not_same : (b : Bool) → (b ≡ true → head ≡ THREE_COPIES.now) → b ≡ false
-    not_same true h = absurd (other (h refl))
-    not_same false h = refl
+output_of-endless = refl
+
+-- a layout that is not served, and one that is
+pub output_with-coded : (layout : Layout) (schedule : List (List ℕ)) → is_served layout ≡ false
+    → output_with (Ok layout) schedule ≡ bad_layout (fault_text (Limit GroupM))
+output_with-coded layout schedule coded = rw coded refl
+
+pub output_with-copies : (layout : Layout) (schedule : List (List ℕ)) → is_served layout ≡ true
+    → output_with (Ok layout) schedule ≡ output_from layout (first_world layout) 0 schedule
+output_with-copies layout schedule copies = rw copies refl
 
 -- the run was stopped before the layout was read
 pub PrintsHeaded-stopped : (head : List ℕ) (left old : Option (List ℕ)) (halt : Halt) → PrintsHeaded head left old old (Err halt)
 PrintsHeaded-stopped head left old halt =
     let some = some_lines left in
-    record { schedule = some.0; are_lines = some.1; printed = Prints-nothing old (output_of (parted head some.0)) halt }
+    record { schedule = some.0; are_lines = some.1; printed = Prints-nothing old (output_of (Parted head some.0)) halt }
 
--- the layout's text is none
-pub PrintsHeaded-form : (head : List ℕ) (left old new : Option (List ℕ)) (r : Result Verdict Halt) → head ≢ THREE_COPIES.now → Prints old new bad_layout r
-    → PrintsHeaded head left old new r
-PrintsHeaded-form head left old new r other p =
+-- the text has this output, whatever stands behind it
+pub PrintsHeaded-refused : (head : List ℕ) (left old new : Option (List ℕ)) (r : Result Verdict Halt) (output : Output)
+    → ((schedule : List (List ℕ)) → output_of (Parted head schedule) ≡ output) → Prints old new output r → PrintsHeaded head left old new r
+PrintsHeaded-refused head left old new r output is p =
     let some = some_lines left in
-    record {
-      schedule = some.0;
-      are_lines = some.1;
-      printed = Prints-same old new r (output_of (parted head some.0)) bad_layout (output_of-form head some.0 other) p;
-    }
+    record { schedule = some.0; are_lines = some.1; printed = Prints-same old new r (output_of (Parted head some.0)) output (is some.0) p }
 
 -- the layout was read, and the lines behind it were run
-pub PrintsHeaded-lines : (head : List ℕ) (run : Run) (left old new : Option (List ℕ)) (r : Result Verdict Halt) → head ≡ THREE_COPIES.now
-    → run ≡ record { layout = three_copies; lines = [] } → PrintsRest run 0 left old new r → PrintsHeaded head left old new r
-PrintsHeaded-lines head run left old new r is first p =
+pub PrintsHeaded-lines : (head : List ℕ) (layout : Layout) (run : Run) (left old new : Option (List ℕ)) (r : Result Verdict Halt) → layout_of head ≡ Ok layout
+    → is_served layout ≡ true → run ≡ record { layout = layout; lines = [] } → PrintsRest run 0 left old new r
+    → PrintsHeaded head left old new r
+PrintsHeaded-lines head layout run left old new r is copies first p =
     let rest = subst (λ (u : Run). PrintsRest u 0 left old new r) first p in
     record {
       schedule = rest.contents;
       are_lines = rest.are_lines;
-      printed = Prints-same old new r (output_of (parted head rest.contents)) (output_from three_copies (first_world three_copies) 0 rest.contents)
-          (output_of-read head rest.contents is) rest.printed;
+      printed = Prints-same old new r (output_of (Parted head rest.contents)) (output_from layout (first_world layout) 0 rest.contents)
+          (output_of-text head rest.contents (Ok layout) is ∙ output_with-copies layout rest.contents copies) rest.printed;
     }
 
 -- the output of an equal layout's text
@@ -77,32 +77,32 @@ PrintsHeaded-head head other left old new r e p = subst (λ (l : List ℕ). Prin
 
 -- the run was stopped before the input was read
 pub PrintsInput-stopped : (source old : Option (List ℕ)) (halt : Halt) → PrintsInput source old old (Err halt)
-PrintsInput-stopped source old halt = of_parts source
+PrintsInput-stopped source old halt = of_bytes source
   where
-    of_parts : (source : Option (List ℕ)) → PrintsInput source old old (Err halt)
-    of_parts None = record { input = None; parts_are = tt; printed = Prints-nothing old (output_of None) halt }
-    of_parts (Some bytes) = record { input = parts bytes; parts_are = refl; printed = Prints-nothing old (output_of (parts bytes)) halt }
+    of_bytes : (source : Option (List ℕ)) → PrintsInput source old old (Err halt)
+    of_bytes None = record { input = Endless; is_input = tt; printed = Prints-nothing old (output_of Endless) halt }
+    of_bytes (Some bytes) = record { input = input_of bytes; is_input = refl; printed = Prints-nothing old (output_of (input_of bytes)) halt }
 
--- no line ends the layout
-pub PrintsInput-no_end : (source old new : Option (List ℕ)) (r : Result Verdict Halt) → IfSome source (λ bytes. parts bytes ≡ None)
-    → Prints old new no_layout_end r → PrintsInput source old new r
-PrintsInput-no_end source old new r none p =
-    record { input = None; parts_are = are_parts source none; printed = Prints-same old new r (output_of None) no_layout_end output_of-no_end p }
-  where
-    are_parts : (source : Option (List ℕ)) → IfSome source (λ bytes. parts bytes ≡ None) → AreParts source None
-    are_parts None none = tt
-    are_parts (Some bytes) none = none
+-- the input has no layout
+pub PrintsInput-refused : (source old new : Option (List ℕ)) (input : Input) (output : Output) (r : Result Verdict Halt) → IsInput source input
+    → output_of input ≡ output → Prints old new output r → PrintsInput source old new r
+PrintsInput-refused source old new input output r is_input is p =
+    record { input = input; is_input = is_input; printed = Prints-same old new r (output_of input) output is p }
 
 -- the layout was taken, and what stands behind it was run
 pub PrintsInput-headed : (source left old new : Option (List ℕ)) (head : List ℕ) (r : Result Verdict Halt) → ReadsSchedule source left head []
-    → PrintsHeaded head left old new r → PrintsInput source old new r
-PrintsInput-headed source left old new head r reads p =
-    record { input = parted head p.schedule; parts_are = are_parts source left reads p.are_lines; printed = p.printed }
+    → length head ≤ most_layout_bytes → PrintsHeaded head left old new r → PrintsInput source old new r
+PrintsInput-headed source left old new head r reads under p =
+    record { input = Parted head p.schedule; is_input = is_input source left reads p.are_lines; printed = p.printed }
   where
-    are_parts : (source left : Option (List ℕ)) → ReadsSchedule source left head [] → AreLinesOf left p.schedule → AreParts source (parted head p.schedule)
-    are_parts None left reads lines = tt
-    are_parts (Some x) None reads lines = absurd reads
-    are_parts (Some x) (Some y) reads lines = reads ∙ ap (parted head) lines
+    input_is : (bytes : List ℕ) → parts bytes ≡ Some (record { layout = head; schedule = p.schedule }) → input_of bytes ≡ Parted head p.schedule
+    unfolding input_of
+    input_is bytes is = rw is (within head (Parted head p.schedule) under)
+
+    is_input : (source left : Option (List ℕ)) → ReadsSchedule source left head [] → AreLinesOf left p.schedule → IsInput source (Parted head p.schedule)
+    is_input None left reads lines = tt
+    is_input (Some x) None reads lines = absurd reads
+    is_input (Some x) (Some y) reads lines = input_is x (reads ∙ ap (λ l. Some (record { layout = head; schedule = l })) lines)
 
 -- bytes that were not read yet stand before those of the source
 pub PrintsInput-unread : (unread : List ℕ) (source old new : Option (List ℕ)) (r : Result Verdict Halt) → unread ≡ []

@@ -4,6 +4,7 @@ pub mod LeftLines
 pub mod Rests
 pub mod Inputs
 pub mod StripeTexts
-pub mod ThreeCopies
+pub mod Heads
+pub mod Copies
 pub mod Linearity
 pub mod Statuses

@@ -1,26 +1,28 @@
 -- What was printed of a whole schedule is strict.
-use Rattle.std.proofs.Common.{◌≡◌, ℕ, ◌+◌, Bool, true, false, List, [], ◌∷◌, ◌++◌, length, map, Option, Some, None, refl, sym, ap, ◌∙◌, subst, cond, arith, append_assoc}
+use Rattle.std.proofs.Common.{◌≡◌, ℕ, ◌+◌, Bool, true, false, List, [], ◌∷◌, ◌++◌, length, map, Option, Some, None, Result, Ok, Err, refl, sym, ap, ◌∙◌, subst, cond, arith, append_assoc}
 use Rattle.std.specs.Prelude.{nat_lt}
-use Rattle.std.specs.Str.{bytes_eq}
-use Rattle.std.proofs.lemmas.Slice.Eq.{bytes_eq-Decides}
 use Rattle.lines.specs.declared.forms.Line.{Line}
 use Rattle.lines.specs.declared.forms.Line.TheVariants.{Nothing, Invoke, Deliver}
 use Rattle.lines.specs.Grammar.{line_of}
-use Rattle.lines.specs.Lines.{Parts}
-use Rattle.protocol.specs.Settings.{Setting, Layout}
+use Rattle.protocol.specs.Settings.{Setting, Layout, IsSound}
 use Rattle.protocol.specs.Worlds.{World, Event, Invokes, Delivers, first_world, run}
 use Rattle.protocol.specs.Laws.{Laws}
 use Rattle.protocol.proofs.EveryRun.{every_run}
 use Rattle.node.specs.Copies.{copying}
-use Rattle.layout.specs.Texts.{three_copies}
-use Rattle.layout.specs.declared.texts.TheConstants.{THREE_COPIES}
+use Rattle.layout.specs.declared.faults.LayoutFault.{LayoutFault}
+use Rattle.layout.specs.declared.faults.LayoutFault.TheVariants.{Limit}
+use Rattle.layout.specs.declared.faults.Key.TheVariants.{GroupM}
+use Rattle.layout.specs.Names.{fault_text}
+use Rattle.layout.specs.Texts.{layout_of}
+use Rattle.layout.proofs.Texts.{read_is_layout}
 use Rattle.world.specs.Runs.{brick_of, ask_of, after_line, after_lines}
 use Rattle.world.specs.Texts.{text_of}
 use Rattle.replay.specs.declared.endings.Verdict.{Verdict}
 use Rattle.replay.specs.declared.endings.Verdict.TheVariants.{Whole}
-use Rattle.replay.specs.Outputs.{Output, onto, output_line, output_from, output_of, closing_text, bad_layout, most_lines}
-use Rattle.replay.specs.Replays.{lines_text, IsLinearizable}
-use Rattle.replay.proofs.ThreeCopies.{sound}
+use Rattle.replay.specs.Inputs.{Input, Parted, TooLong, Endless}
+use Rattle.replay.specs.Outputs.{Output, onto, output_line, output_from, output_with, output_of, closing_text, bad_layout, is_served, most_lines}
+use Rattle.replay.specs.Replays.{lines_text, IsStrictWorld, IsLinearizable, StaysStrict}
+use Rattle.replay.proofs.Copies.{sound_copies}
 
 -- the events of lines
 abbrev events_of : List Line → List Event
@@ -37,10 +39,21 @@ run_of_lines setting w (Invoke b g s op ∷ lines) = run_of_lines setting (after
 run_of_lines setting w (Deliver k ∷ lines) = run_of_lines setting (after_line setting w (Deliver k)) lines
 
 -- the laws hold in the world that lines leave
-laws : (lines : List Line) → Laws (copying three_copies) (after_lines (copying three_copies) (first_world three_copies) lines)
-laws lines =
-    subst (Laws (copying three_copies)) (run_of_lines (copying three_copies) (first_world three_copies) lines)
-    (every_run (copying three_copies) (events_of lines) sound)
+laws : (layout : Layout) → IsSound (copying layout) → (lines : List Line)
+    → Laws (copying layout) (after_lines (copying layout) (first_world layout) lines)
+laws layout sound lines =
+    subst (Laws (copying layout)) (run_of_lines (copying layout) (first_world layout) lines)
+    (every_run (copying layout) (events_of lines) sound)
+
+-- by its laws the world that lines leave is strict
+strict_world : (layout : Layout) (lines : List Line) → Laws (copying layout) (after_lines (copying layout) (first_world layout) lines)
+    → IsStrictWorld layout (after_lines (copying layout) (first_world layout) lines)
+strict_world layout lines kept = record { well_formed = kept.well_formed; strict = kept.strict; aborts_show = kept.aborts }
+
+-- however far a run comes, what its lines left is strict
+pub stays_strict : (input : Input) → StaysStrict input
+stays_strict input head layout schedule rest lines is read served are =
+    strict_world layout lines (laws layout (sound_copies layout (read_is_layout head layout read) served) lines)
 
 -- the contents are lines, and the text is theirs and then what closes the output
 record IsWhole (layout : Layout) (w : World) (n : ℕ) (contents : List (List ℕ)) (text : List ℕ) : Type 0 where
@@ -75,33 +88,44 @@ whole layout w n [] h = record { lines = []; lines_are = refl; text_is = ap (clo
 whole layout w n (content ∷ rest) h =
     whole-line layout w n content rest (nat_lt n most_lines) (line_of content) refl (λ v k. whole layout v k rest) h
 
+-- what was printed over a layout that is served is strict
+of_served : (head : List ℕ) (layout : Layout) (schedule : List (List ℕ)) → layout_of head ≡ Ok layout
+    → is_served layout ≡ true
+    → (output_from layout (first_world layout) 0 schedule).verdict ≡ Whole
+    → IsLinearizable (Parted head schedule) (output_from layout (first_world layout) 0 schedule).text
+of_served head layout schedule is copies h =
+    let all = whole layout (first_world layout) 0 schedule h in
+    let kept = laws layout (sound_copies layout (read_is_layout head layout is) copies) all.lines in
+    let world = after_lines (copying layout) (first_world layout) all.lines in
+    let count : 0 + length all.lines ≡ length all.lines = omega arith in
+    record {
+      head = head;
+      layout = layout;
+      schedule = schedule;
+      lines = all.lines;
+      world = world;
+      input_is = refl;
+      layout_is = is;
+      lines_are = all.lines_are;
+      world_is = refl;
+      text_is = all.text_is ∙ ap (λ k. lines_text (copying layout) (first_world layout) all.lines ++ closing_text layout world k) count;
+      is_strict = strict_world layout all.lines kept;
+    }
+
 -- what was printed of an input that ends as whole is strict
-pub linearizable : (input : Option Parts) → (output_of input).verdict ≡ Whole → IsLinearizable input (output_of input).text
+pub linearizable : (input : Input) → (output_of input).verdict ≡ Whole → IsLinearizable input (output_of input).text
 unfolding output_of
-linearizable None h = cc
-linearizable (Some p) h = by_layout (bytes_eq p.layout THREE_COPIES.now) refl h
+linearizable TooLong h = cc
+linearizable Endless h = cc
+linearizable (Parted head schedule) h = by_layout (layout_of head) refl h
   where
-    by_layout : (b : Bool) → bytes_eq p.layout THREE_COPIES.now ≡ b
-        → (cond b (output_from three_copies (first_world three_copies) 0 p.schedule) bad_layout).verdict ≡ Whole
-        → IsLinearizable (Some p) (cond b (output_from three_copies (first_world three_copies) 0 p.schedule) bad_layout).text
-    by_layout false e h = cc
-    by_layout true e h =
-        let all = whole three_copies (first_world three_copies) 0 p.schedule h in
-        let kept = laws all.lines in
-        let world = after_lines (copying three_copies) (first_world three_copies) all.lines in
-        let count : 0 + length all.lines ≡ length all.lines = omega arith in
-        record {
-          schedule = p.schedule;
-          lines = all.lines;
-          world = world;
-          parts_are = ap (λ l. Some (with_layout l)) ((bytes_eq-Decides p.layout THREE_COPIES.now).0 e);
-          lines_are = all.lines_are;
-          world_is = refl;
-          text_is = all.text_is ∙ ap (λ k. lines_text (copying three_copies) (first_world three_copies) all.lines ++ closing_text three_copies world k) count;
-          well_formed = kept.well_formed;
-          strict = kept.strict;
-          aborts_show = kept.aborts;
-        }
-      where
-        with_layout : List ℕ → Parts
-        with_layout l = record { layout = l; schedule = p.schedule }
+    by_service : (layout : Layout) → layout_of head ≡ Ok layout → (served : Bool) → is_served layout ≡ served
+        → (cond served (output_from layout (first_world layout) 0 schedule) (bad_layout (fault_text (Limit GroupM)))).verdict ≡ Whole
+        → IsLinearizable (Parted head schedule) (cond served (output_from layout (first_world layout) 0 schedule) (bad_layout (fault_text (Limit GroupM)))).text
+    by_service layout is false other h = cc
+    by_service layout is true copies h = of_served head layout schedule is copies h
+
+    by_layout : (r : Result Layout LayoutFault) → layout_of head ≡ r → (output_with r schedule).verdict ≡ Whole
+        → IsLinearizable (Parted head schedule) (output_with r schedule).text
+    by_layout (Err fault) is h = cc
+    by_layout (Ok layout) is h = by_service layout is (is_served layout) refl h

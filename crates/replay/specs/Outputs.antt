@@ -1,7 +1,7 @@
 -- What is printed for an input: the texts of its lines, and what closes them; or why it has no layout, or where it is no schedule.
-use Rattle.std.specs.Prelude.{ℕ, zero, suc, ◌+◌, Bool, true, false, nat_lt, if◌then◌else◌, List, [], ◌∷◌, ◌++◌, codes, count_by, Option, Some, None}
+use Rattle.std.specs.Prelude.{ℕ, zero, suc, ◌+◌, Bool, true, false, nat_eq, nat_lt, if◌then◌else◌, List, [], ◌∷◌, ◌++◌, codes, count_by, Option, Some, None, Result, Ok, Err}
 use Rattle.std.specs.Fmt.{decimal}
-use Rattle.std.specs.Str.{bytes_eq}
+use Rattle.std.specs.List.{list_all}
 use Rattle.fab_base.specs.declared.answers.Answer.{Answer}
 use Rattle.fab_base.specs.declared.answers.Answer.TheVariants.{Data, Done, Aborted}
 use Rattle.reg_model.specs.declared.marks.Mark.{Mark}
@@ -9,17 +9,20 @@ use Rattle.reg_model.specs.declared.marks.Mark.TheVariants.{Begin, End, Crash}
 use Rattle.reg_model.specs.declared.marks.Happening.{Happening}
 use Rattle.lines.specs.declared.forms.Line.{Line}
 use Rattle.lines.specs.Grammar.{line_of}
-use Rattle.lines.specs.Lines.{Parts}
 use Rattle.protocol.specs.Settings.{Layout, Group, group_of}
 use Rattle.protocol.specs.Worlds.{World, first_world}
 use Rattle.protocol.specs.Happenings.{happenings_of}
 use Rattle.node.specs.Copies.{copying}
-use Rattle.layout.specs.Texts.{three_copies}
-use Rattle.layout.specs.declared.texts.TheConstants.{THREE_COPIES}
+use Rattle.layout.specs.declared.faults.LayoutFault.{LayoutFault}
+use Rattle.layout.specs.declared.faults.LayoutFault.TheVariants.{Limit}
+use Rattle.layout.specs.declared.faults.Key.TheVariants.{GroupM}
+use Rattle.layout.specs.Names.{fault_text}
+use Rattle.layout.specs.Texts.{layout_of}
 use Rattle.world.specs.Runs.{after_line}
 use Rattle.replay.specs.declared.endings.Verdict.{Verdict}
-use Rattle.replay.specs.declared.endings.Verdict.TheVariants.{Whole, LayoutForm, LayoutEnd, BadLine, TooManyLines}
+use Rattle.replay.specs.declared.endings.Verdict.TheVariants.{Whole, BadLayout, BadLine, TooManyLines}
 use Rattle.world.specs.Texts.{text_of, newline}
+use Rattle.replay.specs.Inputs.{Input, Parted, TooLong, Endless}
 
 -- the most lines of a schedule
 abbrev pub most_lines : ℕ
@@ -128,16 +131,22 @@ output_from layout w n (content ∷ contents) =
     output_line n (nat_lt n most_lines) (line_of content)
     (λ line. onto (text_of (copying layout) w line) (output_from layout (after_line (copying layout) w line) (n + 1) contents))
 
--- a text that is no layout
-abbrev pub bad_layout : Output
-bad_layout = record { text = codes "bad layout: form" ++ newline; verdict = LayoutForm }
+-- the output of an input without a layout, and why it has none
+abbrev pub bad_layout : List ℕ → Output
+bad_layout why = record { text = codes "bad layout: " ++ (why ++ newline); verdict = BadLayout }
 
--- an input without a line that ends its layout
-abbrev pub no_layout_end : Output
-no_layout_end = record { text = codes "bad layout: end" ++ newline; verdict = LayoutEnd }
+-- each stripe has one data block, of which each member keeps a copy: others are not served yet
+abbrev pub is_served : Layout → Bool
+is_served layout = list_all (λ group. nat_eq group.m 1) layout.groups
 
--- what is printed for the layout and the schedule of an input, where a line ends its layout
-unfoldable pub output_of : Option Parts → Output
-output_of None = no_layout_end
-output_of (Some p) =
-    if bytes_eq p.layout THREE_COPIES.now then output_from three_copies (first_world three_copies) 0 p.schedule else bad_layout
+-- what is printed for a layout and a schedule
+abbrev pub output_with : Result Layout LayoutFault → List (List ℕ) → Output
+output_with (Err fault) schedule = bad_layout (fault_text fault)
+output_with (Ok layout) schedule =
+    if is_served layout then output_from layout (first_world layout) 0 schedule else bad_layout (fault_text (Limit GroupM))
+
+-- what is printed for an input
+unfoldable pub output_of : Input → Output
+output_of (Parted text schedule) = output_with (layout_of text) schedule
+output_of TooLong = bad_layout (codes "limit layout")
+output_of Endless = bad_layout (codes "end")

@@ -1,5 +1,5 @@
 -- What the program `replay` promises: how it answers its words, what it prints of an input, and that what it prints is strict.
-use Rattle.std.specs.Prelude.{◌≡◌, ℕ, ◌⊎◌, Bool, false, List, [], ◌∷◌, ◌++◌, length, ⊤, map, codes, Option, Some, None, Result, Ok, Err}
+use Rattle.std.specs.Prelude.{◌≡◌, ℕ, ◌⊎◌, Bool, true, false, List, [], ◌∷◌, ◌++◌, length, ⊤, map, codes, Option, Some, None, Result, Ok, Err}
 use Rattle.std.specs.Str.{bytes_eq}
 use Rattle.std.specs.Io.KnownBytes.{Appends, IsAtEnd}
 use Rattle.fab_io.specs.Ends.{AppendsFront}
@@ -7,22 +7,21 @@ use Rattle.reg_model.specs.Marks.{stripe_marks, IsWellFormed}
 use Rattle.reg_model.specs.Strict.{IsStrict}
 use Rattle.lines.specs.declared.forms.Line.{Line}
 use Rattle.lines.specs.Grammar.{line_of}
-use Rattle.lines.specs.Lines.{Parts, parts}
-use Rattle.protocol.specs.Settings.{Setting, Group, group_of}
+use Rattle.protocol.specs.Settings.{Setting, Layout, Group, group_of}
 use Rattle.protocol.specs.Worlds.{World, first_world}
 use Rattle.protocol.specs.Happenings.{happenings_of}
 use Rattle.protocol.specs.Laws.{AbortsShow}
 use Rattle.node.specs.Copies.{copying}
-use Rattle.layout.specs.Texts.{three_copies}
-use Rattle.layout.specs.declared.texts.TheConstants.{THREE_COPIES}
+use Rattle.layout.specs.Texts.{layout_of}
 use Rattle.world.specs.Runs.{after_line, after_lines}
 use Rattle.world.specs.Texts.{text_of, newline}
 use Rattle.replay.specs.declared.endings.Verdict.{Verdict}
-use Rattle.replay.specs.declared.endings.Verdict.TheVariants.{Whole, LayoutForm, LayoutEnd, BadLine, TooManyLines}
+use Rattle.replay.specs.declared.endings.Verdict.TheVariants.{Whole, BadLayout, BadLine, TooManyLines}
 use Rattle.replay.specs.declared.endings.Halt.{Halt}
 use Rattle.replay.specs.declared.endings.Halt.TheVariants.{Source, Sink, Memory}
-use Rattle.replay.specs.Outputs.{output_of, closing_text}
-use Rattle.replay.specs.Turns.{Prints, AreParts}
+use Rattle.replay.specs.Inputs.{Input, Parted, input_of, IsInput}
+use Rattle.replay.specs.Outputs.{output_of, closing_text, is_served}
+use Rattle.replay.specs.Turns.{Prints}
 
 -- the words are the one word `run`
 abbrev pub asks_run : List (List ℕ) → Bool
@@ -33,8 +32,7 @@ asks_run (word ∷ (more ∷ words)) = false
 -- the exit status of an end
 abbrev pub status_of : Result Verdict Halt → ℕ
 status_of (Ok Whole) = 0
-status_of (Ok LayoutForm) = 3
-status_of (Ok LayoutEnd) = 3
+status_of (Ok BadLayout) = 3
 status_of (Ok (BadLine line)) = 4
 status_of (Err Source) = 5
 status_of (Err Sink) = 6
@@ -56,34 +54,50 @@ abbrev pub lines_text : Setting → World → List Line → List ℕ
 lines_text setting w [] = []
 lines_text setting w (line ∷ lines) = text_of setting w line ++ lines_text setting (after_line setting w line) lines
 
--- What was printed is strict. Every line of the schedule was run, and the text is theirs and then the happenings of each stripe in the world that
--- they leave. The marks of that world are well formed, the happenings of each stripe are strict for its marks, and every abort shows its evidence.
-pub record IsLinearizable (input : Option Parts) (text : List ℕ) : Type 0 where
+-- What lines left is strict: the marks are well formed, the happenings of each stripe are strict for its marks, and every abort shows its evidence.
+pub record IsStrictWorld (layout : Layout) (world : World) : Type 0 where
+  pub well_formed : IsWellFormed world.marks
+  pub strict : (g s : ℕ) (group : Group) → group_of layout g ≡ Some group
+      → IsStrict group.m layout.block (stripe_marks g s world.marks) (happenings_of world g s)
+  pub aborts_show : AbortsShow world
+
+-- What was printed is strict. The input has a layout and a schedule, every line of the schedule was run, and the text is theirs and then the
+-- happenings of each stripe in the world that they leave, which is strict.
+pub record IsLinearizable (input : Input) (text : List ℕ) : Type 0 where
+  pub head : List ℕ
+  pub layout : Layout
   pub schedule : List (List ℕ)
   pub lines : List Line
   pub world : World
-  pub parts_are : input ≡ Some (record { layout = THREE_COPIES.now; schedule = schedule })
+  pub input_is : input ≡ Parted head schedule
+  pub layout_is : layout_of head ≡ Ok layout
   pub lines_are : map line_of schedule ≡ map Some lines
-  pub world_is : world ≡ after_lines (copying three_copies) (first_world three_copies) lines
-  pub text_is : text ≡ lines_text (copying three_copies) (first_world three_copies) lines ++ closing_text three_copies world (length lines)
-  pub well_formed : IsWellFormed world.marks
-  pub strict : (g s : ℕ) (group : Group) → group_of three_copies g ≡ Some group
-      → IsStrict group.m three_copies.block (stripe_marks g s world.marks) (happenings_of world g s)
-  pub aborts_show : AbortsShow world
+  pub world_is : world ≡ after_lines (copying layout) (first_world layout) lines
+  pub text_is : text ≡ lines_text (copying layout) (first_world layout) lines ++ closing_text layout world (length lines)
+  pub is_strict : IsStrictWorld layout world
+
+-- However far a run comes, what its lines left by then is strict: the first lines of the schedule, whichever number of them, over a layout that is
+-- served.
+abbrev pub StaysStrict : Input → Type 0
+StaysStrict input =
+    (head : List ℕ) (layout : Layout) (schedule rest : List (List ℕ)) (lines : List Line) → input ≡ Parted head (schedule ++ rest)
+    → layout_of head ≡ Ok layout → is_served layout ≡ true → map line_of schedule ≡ map Some lines
+    → IsStrictWorld layout (after_lines (copying layout) (first_world layout) lines)
 
 -- A run. There is an input, of which what the source tells is the bytes, and an end, of which the status tells. The sink took the whole output of
 -- the input, which ends so, or, where the run was stopped from outside, some of the output, from its front. Where all was run, the source is at its
--- end, and what was printed is strict.
+-- end, and what was printed is strict; and however far it came, what its lines left is strict.
 pub record Runs (source source_after sink sink_after : Option (List ℕ)) (status : ℕ) : Type 0 where
-  pub input : Option Parts
+  pub input : Input
   pub ending : Result Verdict Halt
-  pub parts_are : AreParts source input
+  pub is_input : IsInput source input
   pub status_is : status ≡ status_of ending
   pub printed : Prints sink sink_after (output_of input) ending
   pub read : ending ≡ Ok Whole → IsAtEnd source_after
   pub linearizable : ending ≡ Ok Whole → IsLinearizable input (output_of input).text
+  pub stays_strict : StaysStrict input
 
 -- the status is the one that the input alone calls for, or memory was lacking
 abbrev pub IsDecided : Option (List ℕ) → ℕ → Type 0
 IsDecided None status = ⊤
-IsDecided (Some bytes) status = (status ≡ status_of (Ok (output_of (parts bytes)).verdict)) ⊎ (status ≡ 7)
+IsDecided (Some bytes) status = (status ≡ status_of (Ok (output_of (input_of bytes)).verdict)) ⊎ (status ≡ 7)

@@ -4,8 +4,8 @@ use Rattle.std.specs.Io.KnownBytes.{Appends, Keeps}
 use Rattle.fab_io.specs.Ends.{AppendsFront}
 use Rattle.lines.specs.declared.forms.Line.{Line}
 use Rattle.lines.specs.Grammar.{line_of}
-use Rattle.lines.specs.Lines.{Parts, raw_lines, content, parts}
-use Rattle.lines.specs.Reading.{Passes}
+use Rattle.lines.specs.Lines.{raw_lines, content}
+use Rattle.lines.specs.Reading.{Passes, ReadsSchedule}
 use Rattle.node.specs.Copies.{copying}
 use Rattle.protocol.specs.Settings.{Setting}
 use Rattle.protocol.specs.Worlds.{World}
@@ -14,6 +14,10 @@ use Rattle.world.specs.Steps.{with_line}
 use Rattle.world.specs.Texts.{text_of}
 use Rattle.replay.specs.declared.endings.Verdict.{Verdict}
 use Rattle.replay.specs.declared.endings.Halt.{Halt}
+use Rattle.replay.specs.declared.heads.Head.{Head}
+use Rattle.replay.specs.declared.heads.Head.TheVariants.{Text}
+use Rattle.replay.specs.declared.heads.Head.TheVariants as Head
+use Rattle.replay.specs.Inputs.{Input, Parted, TooLong, Endless, most_layout_bytes, IsInput}
 use Rattle.replay.specs.Outputs.{Output, output_from, output_of}
 
 -- the sink took the whole output, which ends so; or a run that was stopped gave it some of the output, from its front
@@ -66,15 +70,16 @@ TurnMeans before after n left rest old new (Err halt) = PrintsRest before n left
 pub record PrintsHeaded (head : List ℕ) (left old new : Option (List ℕ)) (result : Result Verdict Halt) : Type 0 where
   pub schedule : List (List ℕ)
   pub are_lines : AreLinesOf left schedule
-  pub printed : Prints old new (output_of (Some (record { layout = head; schedule = schedule }))) result
+  pub printed : Prints old new (output_of (Parted head schedule)) result
 
--- the input has these parts, where the source tells its bytes
-abbrev pub AreParts : Option (List ℕ) → Option Parts → Type 0
-AreParts None input = ⊤
-AreParts (Some bytes) input = parts bytes ≡ input
+-- What was read before the schedule of an input: a text within the limit, and the line that ends it; or what else the input is.
+abbrev pub HeadMeans : Option (List ℕ) → Option (List ℕ) → Head → Type 0
+HeadMeans start now (Text text) = (length text.items ≤ most_layout_bytes) × ReadsSchedule start now text.items []
+HeadMeans start now Head.TooLong = IsInput start TooLong
+HeadMeans start now Head.Endless = IsInput start Endless
 
 -- a run printed the output of an input
 pub record PrintsInput (source old new : Option (List ℕ)) (result : Result Verdict Halt) : Type 0 where
-  pub input : Option Parts
-  pub parts_are : AreParts source input
+  pub input : Input
+  pub is_input : IsInput source input
   pub printed : Prints old new (output_of input) result

@@ -12,10 +12,8 @@ use std::alloc::AllocError;
 pub enum Verdict {
     /// All lines were run.
     Whole,
-    /// The text before the line `---` is no layout.
-    LayoutForm,
-    /// There is no line `---`.
-    LayoutEnd,
+    /// The input has no layout: the text before the line `---` is none, or there is no such line.
+    BadLayout,
     /// This line of the schedule, counted from 1, is no line.
     BadLine(u64),
     /// There are more lines than a schedule may have.
@@ -55,7 +53,7 @@ pub(crate) fn status_of(ending: Result<Verdict, Halt>) -> u8
 {
     match ending {
         Ok(Verdict::Whole) => 0,
-        Ok(Verdict::LayoutForm) | Ok(Verdict::LayoutEnd) => 3,
+        Ok(Verdict::BadLayout) => 3,
         Ok(Verdict::BadLine(_)) => 4,
         Ok(Verdict::TooManyLines) => 8,
         Err(Halt::Source) => 5,

@@ -3,6 +3,7 @@
 #![tactic(auto)]
 
 mod endings;
+mod heads;
 mod programs;
 mod schedules;
 #[cfg(test)]

@@ -16,7 +16,7 @@ use std::alloc::Global;
 /// |---|---|---|
 /// | 0 | the source was read to its end, all lines were run, all was written | the whole output |
 /// | 2 | the words are not the one word `run` | the usage line |
-/// | 3 | the text before the line `---` is no layout, or there is no such line | `bad layout: form`, `bad layout: end` |
+/// | 3 | the text before the line `---` is no layout, is past 1,048,576 bytes, or there is no such line | `bad layout: toml`, `bad layout: field NAME`, `bad layout: limit NAME`, `bad layout: end` |
 /// | 4 | a line of the schedule is no line; the earlier ones were run and printed | `bad line N` |
 /// | 5 | the source failed | nothing more |
 /// | 6 | the sink failed | nothing more; what was taken is a prefix of the output |

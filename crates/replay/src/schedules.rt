@@ -1,50 +1,21 @@
 //! A run: the layout, then the lines of the schedule, one after another, and what closes the output.
 
-ghost use Rattle.std.specs.Prelude.{◌≡◌, ◌≢◌, [], None, IfOk, IfSome, MatchOption};
+ghost use Rattle.std.specs.Prelude.{◌≡◌, ◌≢◌, false, true, [], IfOk, MatchOption};
 ghost use Rattle.std.specs.Io.KnownBytes.{IsAtEnd, prepend_known};
 ghost use Rattle.fab_io.specs.Ends.{Kept};
-ghost use Rattle.lines.specs.Lines.{parts};
-ghost use Rattle.lines.specs.Reading.{ReadsSchedule};
-ghost use Rattle.replay.specs.Turns.{PrintsRest, PrintsHeaded, PrintsInput};
+ghost use Rattle.layout.specs.Names.{fault_text};
+ghost use Rattle.replay.specs.Outputs.{bad_layout, is_served};
+ghost use Rattle.replay.specs.Turns.{Prints, PrintsRest, PrintsHeaded, PrintsInput};
 
 use crate::endings::{Halt, Verdict};
-use crate::turns::{MOST_LINES, close, next, take_last_turn, take_turn};
+use crate::heads::{Head, read_head};
+use crate::turns::{MOST_LINES, close, take_last_turn, take_turn};
+use fab_base::NoMem;
 use fab_io::{Sink, Source};
-use layout::{Layout, LayoutFault};
-use lines::{Piece, Unread, is_layout_end};
+use layout::{Key, Layout, LayoutFault};
+use lines::Unread;
 use std::alloc::Global;
 use world::World;
-
-/// Reads the text before the line `---`, and that line. None where there is no such line.
-fn read_head<S: Source>(
-    alloc: Global,
-    source: &mut S,
-    unread: &mut Unread,
-) -> Result<Option<Vec<u8>>, Halt>
-    ensures head { IfOk result (λ head. MatchOption head
-        (IfSome (prepend_known unread.old (S.told source.old)) (λ input. parts input ≡ None))
-        (λ head. ReadsSchedule (prepend_known unread.old (S.told source.old))
-        (prepend_known unread.new (S.told source.new)) head.items [])) }
-    ensures kept { Kept (S.faults source.old) (S.faults source.new) (S.sound source.old) (S.sound source.new)
-        (result ≡ Err Halt.Source) }
-    ensures cause { result ≢ Err Halt.Sink }
-{
-    let mut head = Vec::new(alloc);
-    for _ in 0..u64::MAX {
-        match next(source, unread, usize::MAX)? {
-            Piece::Whole(line) => {
-                if is_layout_end(line.as_slice()) {
-                    return Ok(Some(head));
-                }
-                head.extend_from_slice(line.as_slice())?;
-            }
-            // No memory holds a line of so many bytes, nor so many lines.
-            Piece::Long => return Err(Halt::Memory),
-            Piece::Ended => return Ok(None),
-        }
-    }
-    Err(Halt::Memory)
-}
 
 /// Runs the lines that are left of the schedule, and writes their texts and what closes the output.
 fn run_lines<S: Source, K: Sink>(
@@ -70,6 +41,40 @@ fn run_lines<S: Source, K: Sink>(
     take_last_turn(alloc, world, source, unread, sink)
 }
 
+/// Closes the output of an input without a layout.
+fn refuse_layout<K: Sink>(alloc: Global, sink: &mut K, fault: &LayoutFault) -> Result<Verdict, Halt>
+    ensures content { Prints (K.told sink.old) (K.told sink.new) (bad_layout (fault_text fault.now)) result }
+    ensures kept { Kept (K.faults sink.old) (K.faults sink.new) (K.sound sink.old) (K.sound sink.new)
+        (result ≡ Err Halt.Sink) }
+    ensures cause { result ≢ Err Halt.Source }
+{
+    let text = format!(in alloc; "bad layout: {fault}\n")?;
+    close(sink, text.as_bytes(), Verdict::BadLayout)
+}
+
+/// Whether each stripe of a layout has one data block, of which each member keeps a copy.
+fn is_served(layout: &Layout) -> bool
+    ensures { result ≡ is_served layout.now }
+{
+    for group in layout.groups() {
+        if group.m() != 1 {
+            return false;
+        }
+    }
+    true
+}
+
+/// The disk of a layout, where it is served.
+pub(crate) fn disk_of(alloc: Global, layout: Layout) -> Result<Option<World>, NoMem>
+    ensures { IfOk result (λ disk. MatchOption disk (is_served layout ≡ false)
+        (λ world. (is_served layout ≡ true) × (world ≡ record { layout = layout; lines = [] }))) }
+{
+    if !is_served(&layout) {
+        return Ok(None);
+    }
+    Ok(Some(World::new(alloc, layout)?))
+}
+
 /// Runs what is left of a source over the disk that a layout's text says.
 fn run_layout<S: Source, K: Sink>(
     alloc: Global,
@@ -87,14 +92,15 @@ fn run_layout<S: Source, K: Sink>(
         (result ≡ Err Halt.Sink) }
 {
     match Layout::read(alloc, head) {
-        Ok(layout) => {
-            let mut world = World::new(alloc, layout)?;
-            run_lines(alloc, &mut world, source, unread, sink)
-        }
-        Err(LayoutFault::Form) => {
-            close(sink, b"bad layout: form\n".as_slice(), Verdict::LayoutForm)
-        }
+        Ok(layout) => match disk_of(alloc, layout)? {
+            Some(mut world) => run_lines(alloc, &mut world, source, unread, sink),
+            None => {
+                let fault = LayoutFault::Limit { name: Key::GroupM };
+                refuse_layout(alloc, sink, &fault)
+            }
+        },
         Err(LayoutFault::NoMemory) => Err(Halt::Memory),
+        Err(fault) => refuse_layout(alloc, sink, &fault),
     }
 }
 
@@ -113,7 +119,8 @@ pub(crate) fn run<S: Source, K: Sink>(
 {
     let mut unread = Unread::new(alloc);
     match read_head(alloc, source, &mut unread)? {
-        Some(head) => run_layout(alloc, head.as_slice(), source, &mut unread, sink),
-        None => close(sink, b"bad layout: end\n".as_slice(), Verdict::LayoutEnd),
+        Head::Text(text) => run_layout(alloc, text.as_slice(), source, &mut unread, sink),
+        Head::TooLong => close(sink, b"bad layout: limit layout\n".as_slice(), Verdict::BadLayout),
+        Head::Endless => close(sink, b"bad layout: end\n".as_slice(), Verdict::BadLayout),
     }
 }

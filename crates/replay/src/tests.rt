@@ -1,12 +1,20 @@
-// Prefixes of a worked input, and ends that fail.
+// Worked inputs, their prefixes, ends that fail, and a message that comes three times.
 use crate::replay;
+use crate::schedules::disk_of;
+use fab_base::{BrickId, GroupId, StripeNo};
 use fab_io::{MemSink, MemSource};
+use fab_wire::{Message, Reply};
+use layout::Layout;
 use std::alloc::Global;
 use std::test::Fail;
 
 /// A layout, and the line behind it.
 const HEAD: &str =
     "block = 1\nbricks = 3\nrecords = 100\n[[group]]\nm = 1\nmembers = [0, 1, 2]\nstripes = 4\n---\n";
+
+/// A layout whose stripes have two data blocks.
+const CODED: &str =
+    "block = 1\nbricks = 3\nrecords = 100\n[[group]]\nm = 2\nmembers = [0, 1, 2]\nstripes = 4\n---\n";
 
 /// A stripe is written by brick 0, and then read by brick 1.
 const SCHEDULE: &str =
@@ -16,7 +24,77 @@ const SCHEDULE: &str =
 const OUTPUT: &str =
     "0 begin 1 0 writeall 0 0 41\n1 end 1 done\n2 begin 2 1 readall 0 0\n3 end 2 data 41\nhappened 0 0 1@0 2@2\ncount lines 14 begun 2 answered 2 aborted 0 crashes 0\n";
 
-/// The worked input.
+/// Lines of a schedule, whose last words may be several numbers: each makes a line of its own with the first word.
+struct Worked {
+    lines: &'static [(&'static str, &'static [u64])],
+    output: &'static str,
+}
+
+/// Two writers at one time: the first is refused, orders again, and then refuses the second.
+const TWO_WRITERS: Worked = Worked {
+    lines: &[
+        ("clock 0 5", &[]),
+        ("clock 1 5", &[]),
+        ("writeall 1 0 0 42", &[]),
+        ("deliver", &[1, 2]),
+        ("writeall 0 0 0 41", &[]),
+        ("deliver", &[6, 7, 9, 10, 11, 12, 14, 15, 16, 17, 19, 20]),
+        ("deliver", &[4, 5, 24, 25, 27, 28]),
+    ],
+    output: "0 begin 1 1 writeall 0 0 42\n1 begin 2 0 writeall 0 0 41\n2 end 2 done\n3 end 1 aborted later 0 1.6.0.1\nhappened 0 0 2@1\ncount lines 24 begun 2 answered 1 aborted 1 crashes 0\n",
+};
+
+/// Refusals, the last at a brick that knows no later time.
+const REFUSED: Worked = Worked {
+    lines: &[
+        ("readall 0 0 4", &[]),
+        ("readall 0 1 0", &[]),
+        ("writeall 0 0 0 4142", &[]),
+        ("readall 7 0 0", &[]),
+        ("clock 7 1", &[]),
+        ("deliver 1", &[]),
+        ("clock 0 18446744073709551615", &[]),
+        ("writeall 0 0 0 41", &[]),
+        ("writeall 0 0 0 42", &[]),
+    ],
+    output: "refused nostripe\nrefused nostripe\nrefused length\nrefused down\nidle\nidle\n0 begin 1 0 writeall 0 0 41\nrefused spent\ncount lines 9 begun 1 answered 0 aborted 0 crashes 0\n",
+};
+
+/// A write that was aborted does not surface: reads that find some of it stay open.
+const ABORTED: Worked = Worked {
+    lines: &[
+        ("writeall 0 0 0 41", &[]),
+        ("deliver", &[1, 2, 4, 5]),
+        ("clock 1 9", &[]),
+        ("writeall 1 0 0 42", &[]),
+        ("deliver", &[10, 6, 7, 13, 14]),
+        ("readall 2 0 0", &[]),
+        ("deliver", &[16, 17, 18, 19]),
+        ("readall 2 0 0", &[]),
+        ("deliver", &[20, 22, 23, 24, 25, 27, 28, 29]),
+    ],
+    output: "0 begin 1 0 writeall 0 0 41\n1 begin 2 1 writeall 0 0 42\n2 end 1 aborted later 1 1.9.1.1\n3 begin 3 2 readall 0 0\n4 begin 4 2 readall 0 0\ncount lines 26 begun 4 answered 0 aborted 1 crashes 0\n",
+};
+
+impl Worked {
+    /// The input: this head, and the lines.
+    fn input(&self, alloc: Global, head: &str) -> Result<Vec<u8>, Fail> {
+        let mut bytes = head.as_bytes().to_vec(alloc)?;
+        for (words, numbers) in self.lines {
+            if numbers.is_empty() {
+                bytes.extend_from_slice(words.as_bytes())?;
+                bytes.push(b'\n')?;
+            }
+            for number in *numbers {
+                let line = format!(in alloc; "{words} {number}\n")?;
+                bytes.extend_from_slice(line.as_bytes())?;
+            }
+        }
+        Ok(bytes)
+    }
+}
+
+/// The worked input of one write and one read.
 fn worked(alloc: Global) -> Result<Vec<u8>, Fail> {
     let mut bytes = HEAD.as_bytes().to_vec(alloc)?;
     bytes.extend_from_slice(SCHEDULE.as_bytes())?;
@@ -55,6 +133,40 @@ fn a_worked_input(rt: HostRuntime) -> Result<(), Fail> {
     let mut sink = MemSink::new(rt.alloc());
     assert_eq!(rt; run(rt.alloc(), &mut source, &mut sink)?, 0);
     assert_eq!(rt; sink.taken(), OUTPUT.as_bytes());
+    Ok(())
+}
+
+#[test]
+fn more_worked_inputs(rt: HostRuntime) -> Result<(), Fail> {
+    for worked in [TWO_WRITERS, REFUSED, ABORTED] {
+        let mut source = MemSource::new(worked.input(rt.alloc(), HEAD)?);
+        let mut sink = MemSink::new(rt.alloc());
+        assert_eq!(rt; run(rt.alloc(), &mut source, &mut sink)?, 0);
+        assert_eq!(rt; sink.taken(), worked.output.as_bytes());
+    }
+    Ok(())
+}
+
+#[test]
+fn inputs_without_a_layout(rt: HostRuntime) -> Result<(), Fail> {
+    let mut long = Vec::new(rt.alloc());
+    while long.len() <= 1_048_576 {
+        long.extend_from_slice(b"# a line of a layout that is far too long\n".as_slice())?;
+    }
+    let inputs = [
+        (b"".as_slice(), "bad layout: end\n"),
+        (b"block = 1\n".as_slice(), "bad layout: end\n"),
+        (b"---\n".as_slice(), "bad layout: field block\n"),
+        (b"block\n---\n".as_slice(), "bad layout: toml\n"),
+        (CODED.as_bytes(), "bad layout: limit group.m\n"),
+        (long.as_slice(), "bad layout: limit layout\n"),
+    ];
+    for (input, output) in inputs {
+        let mut source = MemSource::new(input.to_vec(rt.alloc())?);
+        let mut sink = MemSink::new(rt.alloc());
+        assert_eq!(rt; run(rt.alloc(), &mut source, &mut sink)?, 3);
+        assert_eq!(rt; sink.taken(), output.as_bytes());
+    }
     Ok(())
 }
 
@@ -115,5 +227,46 @@ fn other_words(rt: HostRuntime) -> Result<(), Fail> {
             b"usage: replay run | replay make SEED LINES\n".as_slice()
         );
     }
+    Ok(())
+}
+
+/// A message that comes three times is answered three times, and its version is kept once.
+#[test]
+fn a_write_that_comes_three_times(rt: HostRuntime) -> Result<(), Fail> {
+    let text = HEAD.as_bytes();
+    let layout = Layout::read(rt.alloc(), &text[..text.len() - 4])?;
+    let Some(mut world) = disk_of(rt.alloc(), layout)? else {
+        assert!(rt; false, "the layout is not served");
+        return Ok(());
+    };
+    let lines = [
+        "writeall 0 0 0 41",
+        "deliver 1",
+        "deliver 2",
+        "deliver 4",
+        "deliver 5",
+        "deliver 6",
+        "deliver 6",
+        "deliver 6",
+    ];
+    for line in lines {
+        assert!(rt; world.step(line.as_bytes()).is_ok());
+    }
+    let stored = world
+        .sent()
+        .iter()
+        .skip(8)
+        .filter(|packet| matches!(packet.message, Message::Reply(_, Reply::Stored)))
+        .count();
+    assert_eq!(rt; world.sent().len(), 11);
+    assert_eq!(rt; stored, 3);
+    let Some(log) = world.log_of(BrickId(0), GroupId(0), StripeNo(0)) else {
+        assert!(rt; false, "the brick keeps no log");
+        return Ok(());
+    };
+    assert_eq!(rt; log.len(), 2);
+    assert_eq!(rt; log[0].stamp.time, 0);
+    assert_eq!(rt; log[1].stamp.time, 1);
+    assert_eq!(rt; log[1].block.as_slice(), b"A".as_slice());
     Ok(())
 }

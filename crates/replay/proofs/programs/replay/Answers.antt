@@ -5,7 +5,7 @@ use Rattle.replay.specs.declared.endings.Verdict.{Verdict}
 use Rattle.replay.specs.declared.endings.Halt.{Halt}
 use Rattle.replay.specs.Outputs.{output_of}
 use Rattle.replay.specs.Turns.{Prints}
-use Rattle.replay.proofs.Linearity.{linearizable}
+use Rattle.replay.proofs.Linearity.{linearizable, stays_strict}
 use Rattle.replay.proofs.Statuses.{of_write}
 use Rattle.replay.proofs.programs.replay.Goals as goal
 
@@ -15,12 +15,13 @@ returns-then-is_run-clause-run g c = λ _.
     record {
       input = run.input;
       ending = c.run.result;
-      parts_are = run.parts_are;
+      is_input = run.is_input;
       status_is = c.status_of.ensures;
       printed = run.printed;
       read = c.run.ensures.read;
       linearizable = λ whole. linearizable run.input
           (subst (λ (r : Result Verdict Halt). Prints (g.K.Sink.told c.args.sink.now) (g.K.Sink.told c.run.new.sink) (output_of run.input) r) whole run.printed).0;
+      stays_strict = stays_strict run.input;
     }
 
 pub returns-in-Ok-clause-words : goal.returns-in-Ok-clause-words

@@ -1,0 +1,58 @@
+//! What stands before the schedule of an input.
+
+ghost use Rattle.std.specs.Prelude.{◌≡◌, ◌≢◌, IfOk};
+ghost use Rattle.std.specs.Io.KnownBytes.{prepend_known};
+ghost use Rattle.fab_io.specs.Ends.{Kept};
+ghost use Rattle.replay.specs.Turns.{HeadMeans};
+
+use crate::endings::Halt;
+use crate::turns::next;
+use fab_io::Source;
+use lines::{Piece, Unread, is_layout_end};
+use std::alloc::Global;
+
+/// The most bytes of a layout's text.
+pub(crate) const MOST_LAYOUT_BYTES: usize = 1_048_576;
+
+/// What stands before the schedule of an input.
+#[derive(Debug, Drop)]
+pub(crate) enum Head {
+    /// The text before the first line `---`, which was read too.
+    Text(Vec<u8>),
+    /// A text past its limit.
+    TooLong,
+    /// There is no line `---`.
+    Endless,
+}
+
+/// Reads the text before the line `---`, and that line.
+pub(crate) fn read_head<S: Source>(
+    alloc: Global,
+    source: &mut S,
+    unread: &mut Unread,
+) -> Result<Head, Halt>
+    ensures head { IfOk result (λ head. HeadMeans (prepend_known unread.old (S.told source.old))
+        (prepend_known unread.new (S.told source.new)) head) }
+    ensures kept { Kept (S.faults source.old) (S.faults source.new) (S.sound source.old) (S.sound source.new)
+        (result ≡ Err Halt.Source) }
+    ensures cause { result ≢ Err Halt.Sink }
+{
+    let mut head = Vec::new(alloc);
+    for _ in 0..u64::MAX {
+        match next(source, unread, MOST_LAYOUT_BYTES)? {
+            Piece::Whole(line) => {
+                if is_layout_end(line.as_slice()) {
+                    return Ok(Head::Text(head));
+                }
+                if line.len() > MOST_LAYOUT_BYTES - head.len() {
+                    return Ok(Head::TooLong);
+                }
+                head.extend_from_slice(line.as_slice())?;
+            }
+            Piece::Long => return Ok(Head::TooLong),
+            Piece::Ended => return Ok(Head::Endless),
+        }
+    }
+    // No memory holds so many lines.
+    Err(Halt::Memory)
+}
