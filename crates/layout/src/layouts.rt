@@ -63,6 +63,13 @@ impl Layout {
         self.groups.len()
     }
 
+    /// The groups, by number.
+    pub fn groups(&self) -> &[Group]
+        ensures { result.now ≡ self.now.groups }
+    {
+        self.groups.as_slice()
+    }
+
     /// The group of this number, if there is one.
     pub fn group(&self, group: GroupId) -> Option<&Group>
         ensures { option_copied result ≡ group_of self.now group.0 }

@@ -14,7 +14,7 @@ use Rattle.layout.specs.declared.faults.LayoutFault.TheVariants.{Limit}
 use Rattle.layout.specs.declared.faults.Key.TheVariants.{GroupM}
 use Rattle.layout.specs.Names.{fault_text}
 use Rattle.layout.specs.Texts.{layout_of}
-use Rattle.layout.proofs.Texts.{read_is_layout}
+use Rattle.layout.proofs.Accepted.{accepted_is}
 use Rattle.world.specs.Runs.{brick_of, ask_of, after_line, after_lines}
 use Rattle.world.specs.Texts.{text_of}
 use Rattle.replay.specs.declared.endings.Verdict.{Verdict}
@@ -53,7 +53,7 @@ strict_world layout lines kept = record { well_formed = kept.well_formed; strict
 -- however far a run comes, what its lines left is strict
 pub stays_strict : (input : Input) → StaysStrict input
 stays_strict input head layout schedule rest lines is read served are =
-    strict_world layout lines (laws layout (sound_copies layout (read_is_layout head layout read) served) lines)
+    strict_world layout lines (laws layout (sound_copies layout (accepted_is head layout read) served) lines)
 
 -- the contents are lines, and the text is theirs and then what closes the output
 record IsWhole (layout : Layout) (w : World) (n : ℕ) (contents : List (List ℕ)) (text : List ℕ) : Type 0 where
@@ -95,7 +95,7 @@ of_served : (head : List ℕ) (layout : Layout) (schedule : List (List ℕ)) →
     → IsLinearizable (Parted head schedule) (output_from layout (first_world layout) 0 schedule).text
 of_served head layout schedule is copies h =
     let all = whole layout (first_world layout) 0 schedule h in
-    let kept = laws layout (sound_copies layout (read_is_layout head layout is) copies) all.lines in
+    let kept = laws layout (sound_copies layout (accepted_is head layout is) copies) all.lines in
     let world = after_lines (copying layout) (first_world layout) all.lines in
     let count : 0 + length all.lines ≡ length all.lines = omega arith in
     record {
