@@ -8,11 +8,9 @@ ghost use Rattle.replay.specs.Turns.{HeadMeans};
 use crate::endings::Halt;
 use crate::turns::next;
 use fab_io::Source;
+use layout::texts::LAYOUT_LIMIT;
 use lines::{Piece, Unread, is_layout_end};
 use std::alloc::Global;
-
-/// The most bytes of a layout's text.
-pub(crate) const MOST_LAYOUT_BYTES: usize = 1_048_576;
 
 /// What stands before the schedule of an input.
 #[derive(Debug, Drop)]
@@ -39,12 +37,12 @@ pub(crate) fn read_head<S: Source>(
 {
     let mut head = Vec::new(alloc);
     for _ in 0..u64::MAX {
-        match next(source, unread, MOST_LAYOUT_BYTES)? {
+        match next(source, unread, LAYOUT_LIMIT)? {
             Piece::Whole(line) => {
                 if is_layout_end(line.as_slice()) {
                     return Ok(Head::Text(head));
                 }
-                if line.len() > MOST_LAYOUT_BYTES - head.len() {
+                if line.len() > LAYOUT_LIMIT - head.len() {
                     return Ok(Head::TooLong);
                 }
                 head.extend_from_slice(line.as_slice())?;
