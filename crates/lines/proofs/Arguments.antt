@@ -1,6 +1,6 @@
 -- What stands behind a line's first word, where there are so many words of it.
 use Rattle.std.proofs.Common.{◌≡◌, ◌≢◌, ℕ, List, [], ◌∷◌, length, map, get_or, Bor, None, refl, arith}
-use Rattle.lines.specs.Grammar.{write_all, read_all, deliver}
+use Rattle.lines.specs.Grammar.{write_all, read_all, deliver, clock}
 
 -- the words that stand in a slice
 abbrev pub words : List (Bor (List ℕ)) → List (List ℕ)
@@ -10,11 +10,17 @@ words found = map (λ token. token.now) found
 abbrev pub word_at : List (Bor (List ℕ)) → ℕ → List ℕ
 word_at found place = (get_or found place (record { ref_ptr = (0, 0); now = [] })).now
 
--- one word, three words and four words are what stands at their places
+-- one word, two words, three words and four words are what stands at their places
 pub one_word : (found : List (Bor (List ℕ))) → length found ≡ 1 → words found ≡ word_at found 0 ∷ []
 one_word [] count = absurd (omega arith)
 one_word (x ∷ []) count = refl
 one_word (x ∷ y ∷ more) count = absurd (omega arith)
+
+pub two_words : (found : List (Bor (List ℕ))) → length found ≡ 2 → words found ≡ word_at found 0 ∷ word_at found 1 ∷ []
+two_words [] count = absurd (omega arith)
+two_words (x ∷ []) count = absurd (omega arith)
+two_words (x ∷ y ∷ []) count = refl
+two_words (x ∷ y ∷ z ∷ more) count = absurd (omega arith)
 
 pub three_words : (found : List (Bor (List ℕ))) → length found ≡ 3
     → words found ≡ word_at found 0 ∷ word_at found 1 ∷ word_at found 2 ∷ []
@@ -39,6 +45,13 @@ unfolding deliver
 deliver_count [] other = refl
 deliver_count (k ∷ []) other = absurd (other refl)
 deliver_count (k ∷ a ∷ more) other = refl
+
+pub clock_count : (found : List (Bor (List ℕ))) → length found ≢ 2 → None ≡ clock (words found)
+unfolding clock
+clock_count [] other = refl
+clock_count (b ∷ []) other = refl
+clock_count (b ∷ v ∷ []) other = absurd (other refl)
+clock_count (b ∷ v ∷ a ∷ more) other = refl
 
 pub read_all_count : (found : List (Bor (List ℕ))) → length found ≢ 3 → None ≡ read_all (words found)
 unfolding read_all

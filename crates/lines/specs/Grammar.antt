@@ -4,7 +4,7 @@ use Rattle.std.specs.List.{starts_with}
 use Rattle.std.specs.Str.{bytes_eq}
 use Rattle.lines.specs.Tokens.{tokens, number, bytes_of_hex}
 use Rattle.lines.specs.declared.forms.Line.{Line}
-use Rattle.lines.specs.declared.forms.Line.TheVariants.{Nothing, Invoke, Deliver}
+use Rattle.lines.specs.declared.forms.Line.TheVariants.{Nothing, Invoke, Deliver, SetClock}
 use Rattle.fab_base.specs.declared.asks.Op.{Op}
 use Rattle.fab_base.specs.declared.asks.Op.TheVariants.{WriteStripe, ReadStripe}
 
@@ -40,12 +40,21 @@ deliver (k ∷ []) = do
   Some (Deliver message)
 deliver _ = None
 
+-- `clock B V`, behind its first word
+unfoldable pub clock : List (List ℕ) → Option Line
+clock (b ∷ v ∷ []) = do
+  brick ← number b
+  time ← number v
+  Some (SetClock brick time)
+clock _ = None
+
 -- what a line says whose first word and the words behind it are these; nothing else is a line
 unfoldable pub form : List ℕ → List (List ℕ) → Option Line
 form word arguments =
     if bytes_eq word (codes "writeall") then write_all arguments
     else if bytes_eq word (codes "readall") then read_all arguments
     else if bytes_eq word (codes "deliver") then deliver arguments
+    else if bytes_eq word (codes "clock") then clock arguments
     else None
 
 -- what the tokens of a line say: nothing where there is none or the first begins with `#`

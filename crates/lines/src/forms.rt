@@ -1,6 +1,6 @@
 // The forms of a line.
 ghost use Rattle.std.specs.Prelude.{◌≡◌, map, IfOk};
-ghost use Rattle.lines.specs.Grammar.{line_of, line_of_tokens, form, write_all, read_all, invoke, deliver};
+ghost use Rattle.lines.specs.Grammar.{line_of, line_of_tokens, form, write_all, read_all, invoke, deliver, clock};
 
 use crate::tokens::{parse_hex, parse_number, split};
 use fab_base::{NoMem, Op};
@@ -30,6 +30,13 @@ pub enum Line {
     Deliver {
         /// The number of the message, in the order of sending.
         message: u64,
+    },
+    /// A brick's clock is to read another time from now on: `clock B V`.
+    SetClock {
+        /// The brick.
+        brick: u64,
+        /// The time.
+        time: u64,
     },
 }
 
@@ -73,6 +80,8 @@ fn parse_form(alloc: Global, word: &[u8], arguments: &[&[u8]]) -> Result<Option<
         Ok(parse_read_all(arguments))
     } else if word == b"deliver".as_slice() {
         Ok(parse_deliver(arguments))
+    } else if word == b"clock".as_slice() {
+        Ok(parse_clock(arguments))
     } else {
         Ok(None)
     }
@@ -128,5 +137,18 @@ fn parse_deliver(arguments: &[&[u8]]) -> Option<Line>
     }
     Some(Line::Deliver {
         message: parse_number(arguments[0])?,
+    })
+}
+
+/// `clock B V`, behind its first word.
+fn parse_clock(arguments: &[&[u8]]) -> Option<Line>
+    ensures { result ≡ clock (map (λ token. token.now) arguments.now) }
+{
+    if arguments.len() != 2 {
+        return None;
+    }
+    Some(Line::SetClock {
+        brick: parse_number(arguments[0])?,
+        time: parse_number(arguments[1])?,
     })
 }

@@ -13,6 +13,7 @@ fn meaning(alloc: Global, content: &[u8]) -> Result<String, Fail> {
     let text = match line {
         Line::Nothing => format!(in alloc; "nothing")?,
         Line::Deliver { message } => format!(in alloc; "deliver {message}")?,
+        Line::SetClock { brick, time } => format!(in alloc; "clock {brick} {time}")?,
         Line::Invoke {
             brick,
             group,
@@ -32,7 +33,7 @@ fn meaning(alloc: Global, content: &[u8]) -> Result<String, Fail> {
 
 #[test]
 fn lines_and_their_meaning(rt: HostRuntime) -> Result<(), Fail> {
-    let cases: [(&str, &str); 38] = [
+    let cases: [(&str, &str); 44] = [
         ("", "nothing"),
         ("   ", "nothing"),
         ("#", "nothing"),
@@ -73,6 +74,15 @@ fn lines_and_their_meaning(rt: HostRuntime) -> Result<(), Fail> {
         ("writeall 2 0 3", "bad"),
         ("writeall 2 0 3 0g", "bad"),
         ("writeall 2 0 3 00 ff", "bad"),
+        ("clock 1 9", "clock 1 9"),
+        (
+            "clock 70000 18446744073709551615",
+            "clock 70000 18446744073709551615",
+        ),
+        ("clock 0 18446744073709551616", "bad"),
+        ("clock 0", "bad"),
+        ("clock 0 1 2", "bad"),
+        ("clocks 0 1", "bad"),
         ("---", "bad"),
     ];
     for (line, want) in cases {
