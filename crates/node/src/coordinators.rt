@@ -2,8 +2,9 @@
 
 ghost use Rattle.std.specs.Prelude.{◌≡◌, ◌≤◌, length, IfOk};
 ghost use Rattle.protocol.specs.Settings.{seat_in};
-ghost use Rattle.protocol.specs.Coordinators.{call_same, answers_phase, has_seat, tells, all_tell, fast_version, pieces_of, refuser_of, greater_refuser, greatest_refuser, written_content};
+ghost use Rattle.protocol.specs.Coordinators.{call_same, answers_phase, has_seat, tells, all_tell, fast_version, pieces_of, refuser_of, greater_refuser, greatest_refuser, aborted_by, written_content};
 ghost use Rattle.node.specs.Copies.{copies};
+ghost use Rattle.node.specs.Nexts.{machine_next};
 
 use fab_base::{Answer, Ask, BrickId, Bytes, Cause, GroupId, NoMem, Op, Stamp};
 use fab_wire::{Call, Message, Packet, Reply, Request, Want};
@@ -12,11 +13,16 @@ use protocol::{Counted, Phase, Refuser};
 use std::alloc::Global;
 use std::marker::Model;
 
-/// An open stripe operation: what is asked, its stamp, the call of its present phase, and the replies that count in it.
+/// How many rounds of ordering an operation may begin.
+pub const MOST_ROUNDS: u8 = 4;
+
+/// An open stripe operation: what is asked, its stamp, how many rounds of ordering it has begun, the call of its present phase, and
+/// the replies that count in it.
 #[derive(Debug, Drop)]
 pub struct StripeOp {
     ask: Ask,
     stamp: Stamp,
+    round: u8,
     call: Call,
     phase: Phase,
     counted: Vec<Counted>,
@@ -27,7 +33,7 @@ impl Model for StripeOp {
 
     ghost Value = { Coordinator };
 
-    ghost view = { λ op. record { ask = op.ask; stamp = op.stamp; call = op.call; phase = op.phase; counted = op.counted.items } };
+    ghost view = { λ op. record { ask = op.ask; stamp = op.stamp; round = op.round; call = op.call; phase = op.phase; counted = op.counted.items } };
 }
 
 /// What a coordinator does with a reply.
@@ -37,8 +43,10 @@ pub enum Next {
     Ignores,
     /// The operation waits for more replies.
     Waits(StripeOp),
-    /// The operation begins its next phase.
-    Sends(StripeOp),
+    /// The operation begins another round of ordering.
+    Reorders(StripeOp),
+    /// The operation makes its version: it begins to store it.
+    Makes(StripeOp),
     /// The operation ends.
     Ends {
         /// Its answer.
@@ -205,20 +213,33 @@ fn greatest(counted: &[Counted]) -> Option<Refuser>
     }
 }
 
+/// Ends the operation, since this member told a later stamp.
+fn abort(refuser: Refuser) -> Next
+    ensures { machine_next result ≡ aborted_by refuser }
+{
+    Next::Ends {
+        answer: Answer::Aborted(Cause::Later {
+            brick: refuser.brick,
+            stamp: refuser.stamp,
+        }),
+        seen: None,
+        stored: None,
+    }
+}
+
 impl StripeOp {
     ghost use Rattle.std.specs.Prelude.{◌≡◌, ◌-◌, ◌<◌, ◌≤◌, ◌^◌, [], None, Some, IfOk, IfSome, vec_len};
-    ghost use Rattle.protocol.specs.Coordinators.{Sends, Ends, storing, unless_refused, answered_fast, counts_at, fast_version, greatest_refuser, request_of, decided, on_reply};
+    ghost use Rattle.protocol.specs.Coordinators.{Ends, next_phase, unless_refused, ordered_again, once_ordered, answered_fast, counts_at, fast_version, greatest_refuser, request_of, decided, on_reply};
     ghost use Rattle.protocol.specs.Nodes.{to_members};
-    ghost use Rattle.node.specs.Copies.{copies};
-    ghost use Rattle.node.specs.Nexts.{machine_next};
 
-    /// A new operation of a brick's call, at this time.
+    /// A new operation of a brick's call, in its first round.
     pub fn begin(ask: Ask, stamp: Stamp, call: Call, phase: Phase, alloc: Global) -> StripeOp
-        ensures { result ≡ record { ask = ask; stamp = stamp; call = call; phase = phase; counted = [] } }
+        ensures { result ≡ record { ask = ask; stamp = stamp; round = 1; call = call; phase = phase; counted = [] } }
     {
         StripeOp {
             ask,
             stamp,
+            round: 1,
             call,
             phase,
             counted: Vec::new(alloc),
@@ -240,6 +261,7 @@ impl StripeOp {
         Ok(StripeOp {
             ask: self.ask.copy(alloc)?,
             stamp: self.stamp,
+            round: self.round,
             call: self.call,
             phase: self.phase,
             counted,
@@ -293,42 +315,52 @@ impl StripeOp {
         Some(seat)
     }
 
-    /// Goes on to store, unless a member told a later stamp.
-    fn store_unless_refused(mut self, alloc: Global) -> Next
+    /// The operation in its next phase, in which no reply counts yet.
+    fn begin_phase(mut self, phase: Phase) -> StripeOp
         requires { self.call.phase < 2 ^ 32 - 1 }
-        ensures { machine_next result ≡ unless_refused (greatest_refuser self.counted) (Sends (storing self)) }
+        ensures { result ≡ record self { call = next_phase self.call; phase = phase; counted = [] } }
+    {
+        let alloc: Global = *self.counted.allocator();
+        self.phase = phase;
+        self.call.phase += 1;
+        self.counted = Vec::new(alloc);
+        self
+    }
+
+    /// Begins another round of ordering with a new stamp, while there is one and a round is left; else this member's later stamp
+    /// aborts the operation.
+    fn order_again(mut self, fresh: Option<Stamp>, refuser: Refuser) -> Next
+        requires { self.call.phase < 2 ^ 32 - 1 }
+        ensures { machine_next result ≡ ordered_again fresh self refuser }
+    {
+        let Some(stamp) = fresh else {
+            return abort(refuser);
+        };
+        if self.round >= MOST_ROUNDS {
+            return abort(refuser);
+        }
+        self.stamp = stamp;
+        self.round += 1;
+        Next::Reorders(self.begin_phase(Phase::Orders))
+    }
+
+    /// Goes on to store, or to another round of ordering where a member told a later stamp.
+    fn end_order(self, fresh: Option<Stamp>) -> Next
+        requires { self.call.phase < 2 ^ 32 - 1 }
+        ensures { machine_next result ≡ once_ordered fresh self (greatest_refuser self.counted) }
     {
         match greatest(self.counted.as_slice()) {
-            Some(refuser) => Next::Ends {
-                answer: Answer::Aborted(Cause::Later {
-                    brick: refuser.brick,
-                    stamp: refuser.stamp,
-                }),
-                seen: None,
-                stored: None,
-            },
-            None => {
-                self.phase = Phase::Stores;
-                self.call.phase += 1;
-                self.counted = Vec::new(alloc);
-                Next::Sends(self)
-            }
+            Some(refuser) => self.order_again(fresh, refuser),
+            None => Next::Makes(self.begin_phase(Phase::Stores)),
         }
     }
 
     /// Is done, unless a member told a later stamp.
-    fn end_unless_refused(self) -> Next
+    fn end_store(self) -> Next
         ensures { machine_next result ≡ unless_refused (greatest_refuser self.counted) (Ends Answer.Done None (Some self.stamp)) }
     {
         match greatest(self.counted.as_slice()) {
-            Some(refuser) => Next::Ends {
-                answer: Answer::Aborted(Cause::Later {
-                    brick: refuser.brick,
-                    stamp: refuser.stamp,
-                }),
-                seen: None,
-                stored: None,
-            },
+            Some(refuser) => abort(refuser),
             None => Next::Ends {
                 answer: Answer::Done,
                 seen: None,
@@ -338,9 +370,10 @@ impl StripeOp {
     }
 
     /// Answers a read whose version all replies tell. Another read stays open.
-    fn answer_if_fast(mut self, alloc: Global) -> Result<Next, NoMem>
+    fn end_look(mut self) -> Result<Next, NoMem>
         ensures { IfOk result (λ next. machine_next next ≡ answered_fast copies 1 self (fast_version self.counted)) }
     {
+        let alloc: Global = *self.counted.allocator();
         match version_told_by_all(self.counted.as_slice()) {
             None => {
                 self.phase = Phase::Stalls;
@@ -354,34 +387,36 @@ impl StripeOp {
         }
     }
 
-    /// What a quorum of replies decides.
+    /// What a quorum of replies decides, where a new round would have this fresh stamp.
     #[tactic(auto, unfolding(protocol::specs::Coordinators::decided))]
-    fn decide(self, alloc: Global) -> Result<Next, NoMem>
+    fn decide(self, fresh: Option<Stamp>) -> Result<Next, NoMem>
         requires { self.call.phase < 2 ^ 32 - 1 }
-        ensures { IfOk result (λ next. machine_next next ≡ decided copies 1 self) }
+        ensures { IfOk result (λ next. machine_next next ≡ decided copies 1 fresh self) }
     {
         match self.phase {
-            Phase::Looks => self.answer_if_fast(alloc),
-            Phase::Orders => Ok(self.store_unless_refused(alloc)),
-            Phase::Stores => Ok(self.end_unless_refused()),
+            Phase::Looks => self.end_look(),
+            Phase::Orders => Ok(self.end_order(fresh)),
+            Phase::Stores => Ok(self.end_store()),
             Phase::Stalls => Ok(Next::Waits(self)),
         }
     }
 
-    /// What the coordinator does with a reply of a member of the group, each of whose seats keeps a copy of the content.
+    /// What the coordinator does with a reply of a member of the group, each of whose seats keeps a copy of the content. A new round
+    /// of ordering would have the fresh stamp; there is none where no later time is left.
     #[tactic(auto, unfolding(protocol::specs::Coordinators::on_reply))]
     pub fn on_reply(
         mut self,
-        alloc: Global,
         block: u16,
         group: &Group,
+        fresh: Option<Stamp>,
         from: BrickId,
         call: Call,
         reply: &Reply,
     ) -> Result<Next, NoMem>
         requires { group.now.m ≡ 1 }
-        ensures { IfOk result (λ next. machine_next next ≡ on_reply block copies group.now self from call reply.now) }
+        ensures { IfOk result (λ next. machine_next next ≡ on_reply block copies group.now fresh self from call reply.now) }
     {
+        let alloc: Global = *self.counted.allocator();
         let Some(seat) = self.seat_to_count(block, group, from, call, reply) else {
             return Ok(Next::Ignores);
         };
@@ -393,7 +428,7 @@ impl StripeOp {
         if self.counted.len() < group.quorum() as usize {
             return Ok(Next::Waits(self));
         }
-        self.decide(alloc)
+        self.decide(fresh)
     }
 
     /// What the present phase asks of the member at a seat.

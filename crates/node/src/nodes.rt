@@ -3,7 +3,7 @@
 ghost use Rattle.std.specs.Prelude.{◌≡◌, ◌<◌, ◌≤◌, ℕ, true, false, [], IfOk, OnOk, OnErr, is_some, vec_len};
 ghost use Rattle.std.specs.BTreeMap as tree;
 ghost use Rattle.std.specs.Ordering.{nat_cmp};
-ghost use Rattle.protocol.specs.Nodes.{has_block, has_length, first_phase, known_after, collect_packets};
+ghost use Rattle.protocol.specs.Nodes.{has_block, has_length, has_later_time, first_phase, known_after, collect_packets};
 ghost use Rattle.node.specs.Nexts.{machine_next, packets_after, told_after};
 
 use crate::coordinators::{Next, StripeOp, seat_of};
@@ -100,6 +100,13 @@ fn has_length(m: u8, block: u16, op: &Op) -> bool
     }
 }
 
+/// Whether a time is left above the greatest that is known.
+fn has_later_time(known: u64) -> bool
+    ensures { result ≡ has_later_time known }
+{
+    known < u64::MAX
+}
+
 /// The first phase of an operation: a read looks, a write orders.
 fn first_phase(op: &Op) -> Phase
     ensures { result ≡ first_phase op.now }
@@ -172,7 +179,11 @@ impl Outs {
     {
         Ok(match next {
             Next::Ignores | Next::Waits(_) => Outs::nothing(alloc),
-            Next::Sends(op) => Outs {
+            Next::Reorders(op) => Outs {
+                packets: op.packets(alloc, me, group)?,
+                told: Told::Nothing,
+            },
+            Next::Makes(op) => Outs {
                 packets: op.packets(alloc, me, group)?,
                 told: Told::Made {
                     seq: call.seq,
@@ -202,7 +213,7 @@ impl Node {
     ghost use Rattle.protocol.specs.Settings as layouts;
     ghost use Rattle.protocol.specs.Settings.{group_of};
     ghost use Rattle.protocol.specs.Replicas.{first_replica, handle};
-    ghost use Rattle.protocol.specs.Nodes.{first_node, is_stripe_op, refusal_in, refusal_of, new_coordinator, began_in, invoked, replica_at, with_replica, requested, replied, received};
+    ghost use Rattle.protocol.specs.Nodes.{first_node, is_stripe_op, refusal_in, refusal_of, new_stamp, fresh_stamp, new_coordinator, with_call, began_in, invoked, replica_at, with_replica, requested, replied, received};
     ghost use Rattle.node.specs.Nexts.{node_after};
     ghost use Rattle.node.specs.Copies.{copying, KeepsCopies};
     ghost use Rattle.node.specs.States.{state_of, RefusesAs, BeginsAs, StepsAs};
@@ -249,7 +260,7 @@ impl Node {
             Some(Refusal::Length)
         } else if self.calls.len() >= MOST_OPEN {
             Some(Refusal::Busy)
-        } else if self.known == u64::MAX || self.seq == u64::MAX {
+        } else if !has_later_time(self.known) || self.seq == u64::MAX {
             Some(Refusal::Spent)
         } else {
             None
@@ -281,7 +292,30 @@ impl Node {
         self.seq.checked_add(1)
     }
 
-    /// Begins an operation on a whole stripe, at a clock's reading.
+    /// A new stamp where the brick knows this time, at this time of its clock.
+    fn new_stamp(&self, now: u64, known: u64) -> Stamp
+        requires { known + 1 < 2 ^ 64 }
+        ensures { result ≡ new_stamp self.now.me now self.now.boot known }
+    {
+        Stamp {
+            view: ViewNo(1),
+            time: now.max(known + 1),
+            brick: self.me,
+            boot: self.boot,
+        }
+    }
+
+    /// The stamp that a new round of ordering would have where the brick knows this time. None where no later time is left.
+    fn fresh_stamp(&self, now: u64, known: u64) -> Option<Stamp>
+        ensures { result ≡ fresh_stamp self.now.me now self.now.boot known }
+    {
+        if !has_later_time(known) {
+            return None;
+        }
+        Some(self.new_stamp(now, known))
+    }
+
+    /// Begins an operation on a whole stripe, at this time of the brick's clock.
     ///
     /// # Errors
     ///
@@ -321,13 +355,7 @@ impl Node {
         ensures few { IfOk result (λ begun. vec_len begun.packets ≤ 32) }
     {
         let seq = self.seq + 1;
-        let time = now.max(self.known + 1);
-        let stamp = Stamp {
-            view: ViewNo(1),
-            time,
-            brick: self.me,
-            boot: self.boot,
-        };
+        let stamp = self.new_stamp(now, self.known);
         let call = Call {
             boot: self.boot,
             seq,
@@ -340,7 +368,7 @@ impl Node {
         let packets = op.packets(alloc, self.me, group)?;
         self.calls.insert(seq, op)?;
         self.seq = seq;
-        self.known = time;
+        self.known = stamp.time;
         Ok(Begun { seq, packets })
     }
 
@@ -405,67 +433,80 @@ impl Node {
         }
     }
 
-    /// Handles a reply: the operation of its call counts it, or leaves it out.
+    /// Handles a reply, at this time of the brick's clock: the operation of its call counts it, or leaves it out.
     fn on_reply(
         &mut self,
         alloc: Global,
         layout: &Layout,
+        now: u64,
         from: BrickId,
         call: Call,
         reply: &Reply,
     ) -> Result<Outs, NoMem>
         requires { KeepsCopies layout.now }
-        ensures step { IfOk result (StepsAs layout.now.block self.new (replied (copying layout.now) self.old.me from (state_of layout.now.block self.old) call reply.now)) }
+        ensures step { IfOk result (StepsAs layout.now.block self.new (replied (copying layout.now) self.old.me now from (state_of layout.now.block self.old) call reply.now)) }
         ensures few { IfOk result (λ outs. vec_len outs.packets ≤ 32) }
         ensures err { OnErr result ((block : ℕ) → state_of block self.new ≡ state_of block self.old) }
         ensures me { self.new.me ≡ self.old.me }
     {
+        let known = known_after(self.known, reply);
         let Some(open) = self.calls.get(&call.seq) else {
-            self.known = known_after(self.known, reply);
+            self.known = known;
             return Ok(Outs::nothing(alloc));
         };
         let Some(group) = layout.group(open.group()) else {
             return Ok(Outs::nothing(alloc));
         };
         let last = open.call();
+        let fresh = self.fresh_stamp(now, known);
         let next = open
             .copy(alloc)?
-            .on_reply(alloc, layout.block(), group, from, call, reply)?;
+            .on_reply(layout.block(), group, fresh, from, call, reply)?;
         let outs = Outs::after(alloc, self.me, group, last, &next)?;
-        self.settle(known_after(self.known, reply), call.seq, next);
+        self.settle(known, call.seq, next);
         Ok(outs)
     }
 
-    /// Puts in place what became of the open operation of this number; the brick now knows this time.
+    /// Puts in place what became of the open operation of this number; the brick now knows this time, or that of a new round's stamp.
     fn settle(&mut self, known: u64, seq: u64, next: Next)
         requires { is_some (tree.get nat_cmp self.old.calls seq) ≡ true }
         ensures state { (block : ℕ) → state_of block self.new ≡ node_after (state_of block self.old) known seq (machine_next next) }
         ensures me { self.new.me ≡ self.old.me }
     {
-        self.known = known;
         match next {
-            Next::Ignores => {}
-            Next::Waits(op) | Next::Sends(op) => {
-                if let Some(open) = self.calls.get_mut(&seq) {
-                    *open = op;
-                }
-            }
+            Next::Ignores => self.known = known,
+            Next::Waits(op) | Next::Makes(op) => self.put_back(known, seq, op),
+            Next::Reorders(op) => self.put_back(op.stamp().time, seq, op),
             Next::Ends { .. } => {
+                self.known = known;
                 self.calls.remove(&seq);
             }
         }
     }
 
-    /// Handles a message. After a refusal for want of memory nothing has changed.
+    /// Puts back the open operation of this number; the brick now knows this time.
+    fn put_back(&mut self, known: u64, seq: u64, op: StripeOp)
+        requires { is_some (tree.get nat_cmp self.old.calls seq) ≡ true }
+        ensures state { (block : ℕ) → state_of block self.new ≡ with_call (state_of block self.old) known (state_of block self.old).busy seq (Some op) }
+        ensures me { self.new.me ≡ self.old.me }
+    {
+        self.known = known;
+        if let Some(open) = self.calls.get_mut(&seq) {
+            *open = op;
+        }
+    }
+
+    /// Handles a message, at this time of the brick's clock. After a refusal for want of memory nothing has changed.
     #[tactic(auto, unfolding(protocol::specs::Nodes::received))]
     pub fn on_message(
         &mut self,
         alloc: Global,
         layout: &Layout,
+        now: u64,
         packet: &Packet,
     ) -> Result<Outs, NoMem>
         requires { KeepsCopies layout.now }
-        ensures step { IfOk result (StepsAs layout.now.block self.new (received (copying layout.now) self.old.me (state_of layout.now.block self.old) packet.now)) }
+        ensures step { IfOk result (StepsAs layout.now.block self.new (received (copying layout.now) self.old.me now (state_of layout.now.block self.old) packet.now)) }
         ensures err { OnErr result ((block : ℕ) → state_of block self.new ≡ state_of block self.old) }
         ensures few { IfOk result (λ outs. vec_len outs.packets ≤ 32) }
         ensures me { self.new.me ≡ self.old.me }
@@ -475,7 +516,7 @@ impl Node {
                 self.on_request(alloc, layout, packet.from, *call, request)
             }
             Message::Reply(call, reply) => {
-                self.on_reply(alloc, layout, packet.from, *call, reply)
+                self.on_reply(alloc, layout, now, packet.from, *call, reply)
             }
             Message::Learn { .. }
             | Message::Synced { .. }

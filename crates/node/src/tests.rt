@@ -34,12 +34,12 @@ fn deliver(
         let Some(member) = bricks.get_mut(packet.to.0 as usize) else {
             continue;
         };
-        let replies = member.on_message(alloc, layout, packet)?;
+        let replies = member.on_message(alloc, layout, 0, packet)?;
         for reply in &replies.packets {
             let Some(coordinator) = bricks.get_mut(0) else {
                 continue;
             };
-            let outs = coordinator.on_message(alloc, layout, reply)?;
+            let outs = coordinator.on_message(alloc, layout, 0, reply)?;
             if !matches!(outs.told, Told::Nothing) {
                 last = Some(outs);
             }
@@ -157,7 +157,7 @@ fn a_write_is_kept_once(rt: HostRuntime) -> Result<(), Fail> {
     };
     assert_eq!(rt; versions(&brick, stripe), 0);
     for _ in 0..3 {
-        let outs = brick.on_message(rt.alloc(), &layout, &packet)?;
+        let outs = brick.on_message(rt.alloc(), &layout, 0, &packet)?;
         let reply = outs.packets.first().ok_or("a reply")?;
         assert!(rt; matches!(&reply.message, Message::Reply(_, Reply::Stored)));
         assert_eq!(rt; versions(&brick, stripe), 2);

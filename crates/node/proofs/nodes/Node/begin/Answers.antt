@@ -3,6 +3,7 @@ use Rattle.std.proofs.Common.{◌≡◌, ℕ, ◌+◌, Some, [], length, refl, �
 use Rattle.std.specs.Option.{is_some}
 use Rattle.std.specs.Ordering.{nat_cmp}
 use Rattle.std.specs.BTreeMap.{get, btree_map_len}
+use Rattle.fab_base.specs.declared.stamps.Stamp.{Stamp}
 use Rattle.protocol.specs.Coordinators.{request_of}
 use Rattle.protocol.specs.Nodes.{put, to_members, new_coordinator}
 use Rattle.node.specs.Copies.{copies}
@@ -32,7 +33,8 @@ returns-clause-begun c =
     let same : c.begin-op.result ≡ new_coordinator c.args.self.now.me c.args.now before c.args.ask.now =
     c.begin-op.ensures ∙ (λ i. record {
       ask = c.in_ok-copy.ensures i;
-      stamp = record { view = record { 0 = 1 }; time = c.max-time.ensures i; brick = c.args.self.now.me; boot = c.args.self.now.boot };
+      stamp = c.new_stamp-stamp.ensures i;
+      round = 1;
       call = record { boot = c.args.self.now.boot; seq = seq; phase = 1; group = c.args.ask.now.group; view = record { 0 = 1 }; stripe = c.args.ask.now.stripe };
       phase = c.first_phase.ensures i;
       counted = [];
@@ -42,7 +44,7 @@ returns-clause-begun c =
       packets = c.in_ok-packets.ensures.items
           ∙ ap (λ op. to_members c.args.self.now.me op.call (request_of copies c.args.group.now.m op) 0 c.args.group.now.members) same;
       seq = refl;
-      state = same_states _ _ refl refl c.max-time.ensures
+      state = same_states _ _ refl refl (ap (λ (t : Stamp). t.time) c.new_stamp-stamp.ensures)
           (one_more c.in_ok-insert.field-0 (btree_map_len m) (btree_map_len n) absent c.in_ok-insert.ensures.len)
           (λ g s. refl)
           (λ k. calls_after m n seq (Some c.begin-op.result) c.in_ok-insert.ensures.updates.0 k

@@ -1,8 +1,7 @@
 -- The map of open operations is the machine's function, changed at the operation's number.
-use Rattle.std.proofs.Common.{◌≡◌, Some, None, inl, inr, refl, sym, ◌∙◌, ap, ◌-◌, arith, rules}
+use Rattle.std.proofs.Common.{None, refl, sym, ◌∙◌, ap, ◌-◌, arith}
 use Rattle.std.specs.Option.{is_some}
-use Rattle.std.specs.Ordering.{nat_cmp}
-use Rattle.std.specs.BTreeMap.{get, btree_map_len}
+use Rattle.std.specs.BTreeMap.{btree_map_len}
 use Rattle.protocol.specs.Nodes.{with_call}
 use Rattle.node.specs.Nexts.{machine_next, node_after}
 use Rattle.node.specs.States.{state_of}
@@ -14,23 +13,6 @@ pub returns-in-Ignores-clause-state : goal.returns-in-Ignores-clause-state
 unfolding state_of
 returns-in-Ignores-clause-state c =
     λ block. ap (λ next. node_after (state_of block c.args.self.now) c.args.known c.args.seq (machine_next next)) (sym c.in-Ignores.is)
-
-pub returns-in-Some-clause-state : goal.returns-in-Some-clause-state
-unfolding state_of
-returns-in-Some-clause-state c =
-    let m = c.args.self.now.calls in
-    let op = c.in-Waits.op in
-    let n = c.get_mut.follows.lender op in
-    let written = c.get_mut.follows.holds op in
-    λ block.
-    let before = state_of block c.args.self.now in
-    let put_back : record before { known = c.args.known; busy = btree_map_len n; calls = λ k. get nat_cmp n k } ≡ with_call before c.args.known (btree_map_len m) c.args.seq (Some op) =
-    same_states _ _
-    refl refl refl written.2 (λ g s. refl) (calls_after m n c.args.seq (Some op) (written.3 (search rules)).0) in
-    elim c.in-Waits.is [
-      | inl is ↦ put_back ∙ ap (λ next. node_after before c.args.known c.args.seq (machine_next next)) (sym is)
-      | inr is ↦ put_back ∙ ap (λ next. node_after before c.args.known c.args.seq (machine_next next)) (sym is)
-    ]
 
 pub returns-clause-state : goal.returns-clause-state
 unfolding state_of
