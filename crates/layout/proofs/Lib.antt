@@ -3,3 +3,4 @@ pub mod Readings
 pub mod Accepted
 pub mod Documents
 pub mod Soundness
+pub mod Refusals

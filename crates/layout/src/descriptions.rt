@@ -1,6 +1,6 @@
 //! What a layout text says.
 
-ghost use Rattle.std.specs.Prelude.{◌≡◌, ◌≢◌, Some, None, Ok, Err, IfOk, IfErr};
+ghost use Rattle.std.specs.Prelude.{◌≡◌, ◌≢◌, Some, None, Ok, Err, IfOk, IfErr, IsErrOf};
 ghost use Rattle.toml.specs.View.{table_view};
 ghost use Rattle.layout.specs.Texts.{document_of};
 
@@ -51,6 +51,7 @@ impl Description {
     pub fn read(alloc: Global, text: &[u8]) -> Result<Description, LayoutFault>
         ensures read { IfOk result (λ description. description_of text.now ≡ Ok description) }
         ensures refused { IfErr result (λ fault. fault ≢ LayoutFault.NoMemory → description_of text.now ≡ Err fault) }
+        ensures toml { IsErrOf result LayoutFault.Toml → document_of text.now ≡ None }
     {
         let table = document_of(alloc, text)?;
         description_in(alloc, &table)

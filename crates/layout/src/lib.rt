@@ -6,6 +6,8 @@ pub mod faults;
 pub mod groups;
 pub mod layouts;
 mod tables;
+#[cfg(test)]
+mod tests;
 pub mod texts;
 
 pub use descriptions::Description;

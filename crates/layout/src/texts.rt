@@ -1,6 +1,6 @@
 //! The text of a layout.
 
-ghost use Rattle.std.specs.Prelude.{◌≡◌, ◌≢◌, Ok, Err, IfOk, IfErr};
+ghost use Rattle.std.specs.Prelude.{◌≡◌, ◌≢◌, None, Ok, Err, IfOk, IfErr, IsErrOf};
 
 use crate::descriptions::Description;
 use crate::faults::LayoutFault;
@@ -16,7 +16,7 @@ pub const THREE_COPIES: &[u8] =
 
 impl Layout {
     ghost use Rattle.layout.specs.Limits.{IsLayout};
-    ghost use Rattle.layout.specs.Texts.{layout_of};
+    ghost use Rattle.layout.specs.Texts.{document_of, layout_of};
 
     /// The layout that a text says: [`Description::read`] without what stands beside the layout.
     ///
@@ -27,6 +27,7 @@ impl Layout {
     pub fn read(alloc: Global, text: &[u8]) -> Result<Layout, LayoutFault>
         ensures read { IfOk result (λ layout. layout_of text.now ≡ Ok layout) }
         ensures refused { IfErr result (λ fault. fault ≢ LayoutFault.NoMemory → layout_of text.now ≡ Err fault) }
+        ensures toml { IsErrOf result LayoutFault.Toml → document_of text.now ≡ None }
         ensures limits { IfOk result IsLayout }
     {
         let description = Description::read(alloc, text)?;
