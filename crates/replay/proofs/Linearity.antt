@@ -2,12 +2,10 @@
 use Rattle.std.proofs.Common.{◌≡◌, ℕ, ◌+◌, Bool, true, false, List, [], ◌∷◌, ◌++◌, length, map, Option, Some, None, Result, Ok, Err, refl, sym, ap, ◌∙◌, subst, cond, arith, append_assoc}
 use Rattle.std.specs.Prelude.{nat_lt}
 use Rattle.lines.specs.declared.forms.Line.{Line}
-use Rattle.lines.specs.declared.forms.Line.TheVariants.{Nothing, Invoke, Deliver, SetClock}
 use Rattle.lines.specs.Grammar.{line_of}
-use Rattle.protocol.specs.Settings.{Setting, Layout, IsSound}
-use Rattle.protocol.specs.Worlds.{World, first_world, run}
+use Rattle.protocol.specs.Settings.{Layout, IsSound}
+use Rattle.protocol.specs.Worlds.{World, first_world}
 use Rattle.protocol.specs.Laws.{Laws}
-use Rattle.protocol.proofs.EveryRun.{every_run}
 use Rattle.node.specs.Copies.{copying}
 use Rattle.layout.specs.declared.faults.LayoutFault.{LayoutFault}
 use Rattle.layout.specs.declared.faults.LayoutFault.TheVariants.{Limit}
@@ -15,8 +13,9 @@ use Rattle.layout.specs.declared.faults.Key.TheVariants.{GroupM}
 use Rattle.layout.specs.Names.{fault_text}
 use Rattle.layout.specs.Texts.{layout_of}
 use Rattle.layout.proofs.Accepted.{accepted_is}
-use Rattle.world.specs.Runs.{after_line, after_lines, events_of}
+use Rattle.world.specs.Runs.{after_line, after_lines}
 use Rattle.world.specs.Texts.{text_of}
+use Rattle.world.proofs.RunLaws.{laws_of}
 use Rattle.replay.specs.declared.endings.Verdict.{Verdict}
 use Rattle.replay.specs.declared.endings.Verdict.TheVariants.{Whole}
 use Rattle.replay.specs.Inputs.{Input, Parted, TooLong, Endless}
@@ -24,20 +23,10 @@ use Rattle.replay.specs.Outputs.{Output, onto, output_line, output_from, output_
 use Rattle.replay.specs.Replays.{lines_text, IsStrictWorld, IsLinearizable, StaysStrict}
 use Rattle.replay.proofs.Copies.{sound_copies}
 
--- a run of lines is a run of events
-run_of_lines : (setting : Setting) (w : World) (lines : List Line) → run setting (events_of lines) w ≡ after_lines setting w lines
-run_of_lines setting w [] = refl
-run_of_lines setting w (Nothing ∷ lines) = run_of_lines setting w lines
-run_of_lines setting w (Invoke b g s op ∷ lines) = run_of_lines setting (after_line setting w (Invoke b g s op)) lines
-run_of_lines setting w (Deliver k ∷ lines) = run_of_lines setting (after_line setting w (Deliver k)) lines
-run_of_lines setting w (SetClock b v ∷ lines) = run_of_lines setting (after_line setting w (SetClock b v)) lines
-
 -- the laws hold in the world that lines leave
 laws : (layout : Layout) → IsSound (copying layout) → (lines : List Line)
     → Laws (copying layout) (after_lines (copying layout) (first_world layout) lines)
-laws layout sound lines =
-    subst (Laws (copying layout)) (run_of_lines (copying layout) (first_world layout) lines)
-    (every_run (copying layout) (events_of lines) sound)
+laws layout sound lines = laws_of (record { layout = layout; lines = lines }) sound
 
 -- by its laws the world that lines leave is strict
 strict_world : (layout : Layout) (lines : List Line) → Laws (copying layout) (after_lines (copying layout) (first_world layout) lines)
