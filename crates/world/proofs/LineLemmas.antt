@@ -6,10 +6,10 @@ use Rattle.std.specs.List.{starts_with}
 use Rattle.std.proofs.lemmas.Bool.{cond_both}
 use Rattle.fab_base.specs.declared.asks.Op.{Op}
 use Rattle.fab_base.specs.declared.asks.Op.TheVariants.{ReadStripe, WriteStripe}
-use Rattle.lines.specs.Grammar.{invoke, write_all, read_all, deliver, form, line_of_tokens, line_of}
+use Rattle.lines.specs.Grammar.{invoke, write_all, read_all, deliver, clock, form, line_of_tokens, line_of}
 use Rattle.lines.specs.Tokens.{tokens, number, bytes_of_hex}
 use Rattle.lines.specs.declared.forms.Line.{Line}
-use Rattle.lines.specs.declared.forms.Line.TheVariants.{Nothing, Invoke, Deliver}
+use Rattle.lines.specs.declared.forms.Line.TheVariants.{Nothing, Invoke, Deliver, SetClock}
 use Rattle.protocol.specs.Nodes.{is_stripe_op}
 use Rattle.world.specs.States.{IsOfStripes}
 
@@ -58,12 +58,23 @@ unfolding deliver
 deliver_asks (k ∷ []) = delivered (number k)
 deliver_asks _ = none
 
+set : (x y : Option ℕ) → AsksStripes (option_and_then (λ brick. option_and_then (λ time. Some (SetClock brick time)) y) x)
+set None y = none
+set (Some brick) None = none
+set (Some brick) (Some time) = some (SetClock brick time) tt
+
+clock_asks : (arguments : List (List ℕ)) → AsksStripes (clock arguments)
+unfolding clock
+clock_asks (b ∷ v ∷ []) = set (number b) (number v)
+clock_asks _ = none
+
 form_asks : (word : List ℕ) (arguments : List (List ℕ)) → AsksStripes (form word arguments)
 unfolding form
 form_asks word arguments =
     cond_both (bytes_eq word (codes "writeall")) _ _ AsksStripes (λ this. write_all_asks arguments)
     (λ other. cond_both (bytes_eq word (codes "readall")) _ _ AsksStripes (λ this. read_all_asks arguments)
-    (λ other. cond_both (bytes_eq word (codes "deliver")) _ _ AsksStripes (λ this. deliver_asks arguments) (λ other. none)))
+    (λ other. cond_both (bytes_eq word (codes "deliver")) _ _ AsksStripes (λ this. deliver_asks arguments)
+    (λ other. cond_both (bytes_eq word (codes "clock")) _ _ AsksStripes (λ this. clock_asks arguments) (λ other. none))))
 
 tokens_ask : (tokens : List (List ℕ)) → AsksStripes (line_of_tokens tokens)
 unfolding line_of_tokens

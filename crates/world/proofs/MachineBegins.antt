@@ -9,8 +9,8 @@ use Rattle.fab_base.specs.declared.answers.Refusal.{Refusal}
 use Rattle.fab_base.specs.declared.identities.BrickId.{BrickId}
 use Rattle.fab_wire.specs.declared.messages.Packet.{Packet}
 use Rattle.protocol.specs.Settings.{Layout, Setting, Group, group_of}
-use Rattle.protocol.specs.Nodes.{Node, is_stripe_op, has_block, has_length, is_spent, most_open, refusal_in, refusal_of, began, invoked, received}
-use Rattle.protocol.specs.Worlds.{World, Invokes, Delivers, is_brick, world_began, world_stepped, delivered, packet_of, happens}
+use Rattle.protocol.specs.Nodes.{Node, put, is_stripe_op, has_block, has_length, is_spent, most_open, refusal_in, refusal_of, began, invoked, received}
+use Rattle.protocol.specs.Worlds.{World, Invokes, Delivers, Sets, is_brick, world_began, world_stepped, replies_with, delivered, packet_of, happens}
 use Rattle.world.specs.Runs.{ask_of, refusal_at}
 
 -- where there is no such group there is no such stripe
@@ -60,14 +60,14 @@ pub happens_refused : (setting : Setting) (w : World) (brick : BrickId) (ask : A
     → happens setting w (Invokes brick ask) ≡ w
 unfolding happens
 happens_refused setting w brick ask reason is =
-    ap (λ b. cond b (world_began w brick ask (invoked setting brick 0 (w.nodes brick.0) ask)) w)
+    ap (λ b. cond b (world_began w brick ask (invoked setting brick (w.clocks brick.0) (w.nodes brick.0) ask)) w)
     (may_not (is_brick setting.layout brick) (is_stripe_op ask.op) (refusal_of setting.layout (w.nodes brick.0) ask) reason is)
 
 -- nothing begins at a brick that there is not
 pub happens_down : (setting : Setting) (w : World) (brick : BrickId) (ask : Ask) → setting.layout.bricks ≤ brick.0 → happens setting w (Invokes brick ask) ≡ w
 unfolding happens
 happens_down setting w brick ask past =
-    ap (λ b. cond (b && (is_stripe_op ask.op && not (is_some (refusal_of setting.layout (w.nodes brick.0) ask)))) (world_began w brick ask (invoked setting brick 0 (w.nodes brick.0) ask)) w)
+    ap (λ b. cond (b && (is_stripe_op ask.op && not (is_some (refusal_of setting.layout (w.nodes brick.0) ask)))) (world_began w brick ask (invoked setting brick (w.clocks brick.0) (w.nodes brick.0) ask)) w)
     (let e : nat_lt brick.0 setting.layout.bricks ≡ false = grind (arith, nat_tests) in e)
 
 may : (b c : Bool) (r : Option Refusal) → b ≡ true → c ≡ true → r ≡ None → b && (c && not (is_some r)) ≡ true
@@ -78,23 +78,29 @@ may false c r here stripe none = let never : false ≡ true = here in cc
 -- an operation that is not refused begins
 pub happens_begun : (setting : Setting) (w : World) (brick : BrickId) (ask : Ask) → brick.0 < setting.layout.bricks → is_stripe_op ask.op ≡ true
     → refusal_of setting.layout (w.nodes brick.0) ask ≡ None
-    → happens setting w (Invokes brick ask) ≡ world_began w brick ask (invoked setting brick 0 (w.nodes brick.0) ask)
+    → happens setting w (Invokes brick ask) ≡ world_began w brick ask (invoked setting brick (w.clocks brick.0) (w.nodes brick.0) ask)
 unfolding happens
 happens_begun setting w brick ask within stripe none =
-    ap (λ b. cond b (world_began w brick ask (invoked setting brick 0 (w.nodes brick.0) ask)) w)
+    ap (λ b. cond b (world_began w brick ask (invoked setting brick (w.clocks brick.0) (w.nodes brick.0) ask)) w)
     (may (is_brick setting.layout brick) (is_stripe_op ask.op) (refusal_of setting.layout (w.nodes brick.0) ask)
     (let e : nat_lt brick.0 setting.layout.bricks ≡ true = grind (arith, nat_tests) in e) stripe none)
 
-began_next : (setting : Setting) (brick : BrickId) (node : Node) (ask : Ask) (found : Option Group) → refusal_in setting.layout.block node ask found ≡ None
-    → (began setting brick 0 node ask found).node.seq ≡ node.seq + 1
-began_next setting brick node ask None none = absurd (let never : Some Refusal.NoStripe ≡ None = none in cc)
-began_next setting brick node ask (Some group) none = refl
+began_next : (setting : Setting) (brick : BrickId) (now : ℕ) (node : Node) (ask : Ask) (found : Option Group) → refusal_in setting.layout.block node ask found ≡ None
+    → (began setting brick now node ask found).node.seq ≡ node.seq + 1
+began_next setting brick now node ask None none = absurd (let never : Some Refusal.NoStripe ≡ None = none in cc)
+began_next setting brick now node ask (Some group) none = refl
 
 -- the call of a new operation is the brick's next
-pub invoked_next : (setting : Setting) (brick : BrickId) (node : Node) (ask : Ask) → refusal_of setting.layout node ask ≡ None
-    → (invoked setting brick 0 node ask).node.seq ≡ node.seq + 1
+pub invoked_next : (setting : Setting) (brick : BrickId) (now : ℕ) (node : Node) (ask : Ask) → refusal_of setting.layout node ask ≡ None
+    → (invoked setting brick now node ask).node.seq ≡ node.seq + 1
 unfolding invoked refusal_of
-invoked_next setting brick node ask none = began_next setting brick node ask (group_of setting.layout ask.group.0) none
+invoked_next setting brick now node ask none = began_next setting brick now node ask (group_of setting.layout ask.group.0) none
+
+-- the world after its brick handled a message
+abbrev pub after_message : Setting → World → Packet → World
+after_message setting w packet =
+    let step = received setting packet.to (w.clocks packet.to.0) (w.nodes packet.to.0) packet in
+    world_stepped (record w { replies = replies_with setting w packet }) packet.to step step.told
 
 -- a number that was not sent changes nothing
 pub happens_unsent : (setting : Setting) (w : World) (number : ℕ) → packet_of w.packets number ≡ None → happens setting w (Delivers number) ≡ w
@@ -107,14 +113,30 @@ pub happens_astray : (setting : Setting) (w : World) (number : ℕ) (packet : Pa
 unfolding happens
 happens_astray setting w number packet sent past =
     ap (delivered setting w) sent
-    ∙ ap (λ b. cond b (world_stepped w packet.to (received setting packet.to (w.nodes packet.to.0) packet) (received setting packet.to (w.nodes packet.to.0) packet).told) w)
+    ∙ ap (λ b. cond b (after_message setting w packet) w)
     (let e : nat_lt packet.to.0 setting.layout.bricks ≡ false = grind (arith, nat_tests) in e)
 
 -- a message is handled by its brick
 pub happens_handled : (setting : Setting) (w : World) (number : ℕ) (packet : Packet) → packet_of w.packets number ≡ Some packet → packet.to.0 < setting.layout.bricks
-    → (let step = received setting packet.to (w.nodes packet.to.0) packet in happens setting w (Delivers number) ≡ world_stepped w packet.to step step.told)
+    → happens setting w (Delivers number) ≡ after_message setting w packet
 unfolding happens
 happens_handled setting w number packet sent within =
     ap (delivered setting w) sent
-    ∙ ap (λ b. cond b (world_stepped w packet.to (received setting packet.to (w.nodes packet.to.0) packet) (received setting packet.to (w.nodes packet.to.0) packet).told) w)
+    ∙ ap (λ b. cond b (after_message setting w packet) w)
     (let e : nat_lt packet.to.0 setting.layout.bricks ≡ true = grind (arith, nat_tests) in e)
+
+-- a clock is set
+pub happens_set : (setting : Setting) (w : World) (brick : BrickId) (time : ℕ) → brick.0 < setting.layout.bricks
+    → happens setting w (Sets brick time) ≡ record w { clocks = put w.clocks brick.0 time }
+unfolding happens
+happens_set setting w brick time within =
+    ap (λ b. cond b (record w { clocks = put w.clocks brick.0 time }) w)
+    (let e : nat_lt brick.0 setting.layout.bricks ≡ true = grind (arith, nat_tests) in e)
+
+-- a clock that there is not changes nothing
+pub happens_unset : (setting : Setting) (w : World) (brick : BrickId) (time : ℕ) → setting.layout.bricks ≤ brick.0
+    → happens setting w (Sets brick time) ≡ w
+unfolding happens
+happens_unset setting w brick time past =
+    ap (λ b. cond b (record w { clocks = put w.clocks brick.0 time }) w)
+    (let e : nat_lt brick.0 setting.layout.bricks ≡ false = grind (arith, nat_tests) in e)

@@ -7,8 +7,8 @@ use Rattle.fab_wire.specs.declared.messages.Packet.{Packet}
 use Rattle.fab_wire.specs.declared.requests.Request.{Request}
 use Rattle.fab_wire.specs.declared.replies.Reply.{Reply}
 use Rattle.protocol.specs.Settings.{Setting, Group, group_of, seat_in}
-use Rattle.protocol.specs.Coordinators.{Coordinator, Next, Ignores, Waits, Sends, Ends, on_reply}
-use Rattle.protocol.specs.Nodes.{Node, NodeStep, known_after, requested_at, requested_in, requested, carried_out, replied_to, replied_at, replied, received}
+use Rattle.protocol.specs.Coordinators.{Coordinator, Next, Ignores, Waits, Reorders, Makes, Ends, on_reply}
+use Rattle.protocol.specs.Nodes.{Node, NodeStep, known_after, fresh_stamp, requested_at, requested_in, requested, carried_out, replied_to, replied_at, replied, received}
 use Rattle.world.specs.States.{IsOfCall}
 
 -- each open call knows its number, and is one of the brick's calls so far
@@ -41,35 +41,41 @@ carried_out_opens_none : (setting : Setting) (group : Group) (me : BrickId) (nod
     → 1 ≤ c.call.seq → c.call.seq ≤ node.seq → OpensNone node (carried_out setting group me node known c next)
 carried_out_opens_none setting group me node known c Ignores low high = record { seq = refl; told = tt }
 carried_out_opens_none setting group me node known c (Waits d) low high = record { seq = refl; told = tt }
-carried_out_opens_none setting group me node known c (Sends d) low high = record { seq = refl; told = (low, high) }
+carried_out_opens_none setting group me node known c (Reorders d) low high = record { seq = refl; told = tt }
+carried_out_opens_none setting group me node known c (Makes d) low high = record { seq = refl; told = (low, high) }
 carried_out_opens_none setting group me node known c (Ends answer seen stored) low high = record { seq = refl; told = (low, high) }
 
-replied_to_opens_none : (setting : Setting) (me from : BrickId) (node : Node) (call : Call) (reply : Reply) (c : Coordinator) (group : Option Group)
-    → 1 ≤ c.call.seq → c.call.seq ≤ node.seq → OpensNone node (replied_to setting me from node call reply c group)
-replied_to_opens_none setting me from node call reply c None low high = record { seq = refl; told = tt }
-replied_to_opens_none setting me from node call reply c (Some group) low high =
-    carried_out_opens_none setting group me node (known_after node.known reply) c (on_reply setting.layout.block setting.code group c from call reply) low high
+replied_to_opens_none : (setting : Setting) (me : BrickId) (now : ℕ) (from : BrickId) (node : Node) (call : Call) (reply : Reply) (c : Coordinator)
+    (group : Option Group) → 1 ≤ c.call.seq → c.call.seq ≤ node.seq → OpensNone node (replied_to setting me now from node call reply c group)
+replied_to_opens_none setting me now from node call reply c None low high = record { seq = refl; told = tt }
+replied_to_opens_none setting me now from node call reply c (Some group) low high =
+    let known : ℕ = known_after node.known reply in
+    carried_out_opens_none setting group me node known c
+    (on_reply setting.layout.block setting.code group (fresh_stamp me now node.boot known) c from call reply) low high
 
-replied_at_opens_none : (setting : Setting) (me from : BrickId) (node : Node) (call : Call) (reply : Reply) (found : Option Coordinator)
-    → CallsAreNumbered node → node.calls call.seq ≡ found → OpensNone node (replied_at setting me from node call reply found)
-replied_at_opens_none setting me from node call reply None numbered is = record { seq = refl; told = tt }
-replied_at_opens_none setting me from node call reply (Some c) numbered is =
+replied_at_opens_none : (setting : Setting) (me : BrickId) (now : ℕ) (from : BrickId) (node : Node) (call : Call) (reply : Reply)
+    (found : Option Coordinator) → CallsAreNumbered node → node.calls call.seq ≡ found
+    → OpensNone node (replied_at setting me now from node call reply found)
+replied_at_opens_none setting me now from node call reply None numbered is = record { seq = refl; told = tt }
+replied_at_opens_none setting me now from node call reply (Some c) numbered is =
     let at = numbered call.seq c is in
-    replied_to_opens_none setting me from node call reply c (group_of setting.layout c.ask.group.0) (omega (arith, at.0, at.1)) (omega (arith, at.0, at.2))
+    replied_to_opens_none setting me now from node call reply c (group_of setting.layout c.ask.group.0) (omega (arith, at.0, at.1)) (omega (arith, at.0, at.2))
 
-replied_opens_none : (setting : Setting) (me from : BrickId) (node : Node) (call : Call) (reply : Reply) → CallsAreNumbered node
-    → OpensNone node (replied setting me from node call reply)
+replied_opens_none : (setting : Setting) (me : BrickId) (now : ℕ) (from : BrickId) (node : Node) (call : Call) (reply : Reply)
+    → CallsAreNumbered node → OpensNone node (replied setting me now from node call reply)
 unfolding replied
-replied_opens_none setting me from node call reply numbered = replied_at_opens_none setting me from node call reply (node.calls call.seq) numbered refl
+replied_opens_none setting me now from node call reply numbered =
+    replied_at_opens_none setting me now from node call reply (node.calls call.seq) numbered refl
 
 -- a message
-received_as_opens_none : (setting : Setting) (me from to : BrickId) (node : Node) (message : Message) → CallsAreNumbered node
-    → OpensNone node (received setting me node (record { from = from; to = to; message = message }))
+received_as_opens_none : (setting : Setting) (me : BrickId) (now : ℕ) (from to : BrickId) (node : Node) (message : Message) → CallsAreNumbered node
+    → OpensNone node (received setting me now node (record { from = from; to = to; message = message }))
 unfolding received
-received_as_opens_none setting me from to node (Message.Request call request) numbered = requested_opens_none setting me from node call request
-received_as_opens_none setting me from to node (Message.Reply call reply) numbered = replied_opens_none setting me from node call reply numbered
-received_as_opens_none setting me from to node message numbered = record { seq = refl; told = tt }
+received_as_opens_none setting me now from to node (Message.Request call request) numbered = requested_opens_none setting me from node call request
+received_as_opens_none setting me now from to node (Message.Reply call reply) numbered = replied_opens_none setting me now from node call reply numbered
+received_as_opens_none setting me now from to node message numbered = record { seq = refl; told = tt }
 
-pub received_opens_none : (setting : Setting) (me : BrickId) (node : Node) (packet : Packet) → CallsAreNumbered node
-    → OpensNone node (received setting me node packet)
-received_opens_none setting me node packet numbered = received_as_opens_none setting me packet.from packet.to node packet.message numbered
+pub received_opens_none : (setting : Setting) (me : BrickId) (now : ℕ) (node : Node) (packet : Packet) → CallsAreNumbered node
+    → OpensNone node (received setting me now node packet)
+received_opens_none setting me now node packet numbered =
+    received_as_opens_none setting me now packet.from packet.to node packet.message numbered

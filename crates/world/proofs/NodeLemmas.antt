@@ -19,159 +19,178 @@ use Rattle.protocol.specs.Worlds.{World, first_world}
 use Rattle.protocol.specs.Settings.{Layout}
 use Rattle.protocol.specs.Nodes as machine
 use Rattle.world.specs.Runs.{brick_of}
-use Rattle.world.specs.States.{ShowsNodes}
+use Rattle.world.specs.States.{ShowsBrick, ShowsBricks}
+use Rattle.world.specs.declared.states.Brick.{Brick}
 use Rattle.world.proofs.Places.{grown, replaced, value_here, value_elsewhere}
 
--- one brick changed
-pub shows_changed : (layout : Layout) (nodes : List Node) (machines : ℕ → machine.Node) (b : ℕ) (node : Node) (next : machine.Node)
-    → node.me ≡ brick_of b → state_of layout.block node ≡ next → ShowsNodes layout nodes machines
-    → ShowsNodes layout (set nodes b node) (machine.put machines b next)
-shows_changed layout nodes machines b node next me state shows = record {
-  count = length-set nodes b node ∙ shows.count;
-  each = λ i x is.
+-- one brick changed, and no other
+shows_after : (layout : Layout) (bricks : List Brick) (b : ℕ) (brick : Brick) (nodes after : ℕ → machine.Node) (clocks times : ℕ → ℕ)
+    → ShowsBrick layout b brick (after b) (times b) → ((i : ℕ) → i ≢ b → after i ≡ nodes i) → ((i : ℕ) → i ≢ b → times i ≡ clocks i)
+    → ShowsBricks layout bricks nodes clocks → ShowsBricks layout (set bricks b brick) after times
+shows_after layout bricks b brick nodes after clocks times is stay keep shows = record {
+  count = length-set bricks b brick ∙ shows.count;
+  each = λ i x at.
       ⊎_elim
-      (λ (here : (i ≡ b) × (node ≡ x)). (
-        subst (λ (y : Node). y.me ≡ brick_of i) here.1 (me ∙ ap brick_of (sym here.0)),
-        subst (λ (y : Node). state_of layout.block y ≡ machine.put machines b next i) here.1 (state ∙ sym (value_here machines b i next here.0)),
-      ))
-      (λ (there : (i ≢ b) × (slice_get nodes i ≡ Some x)).
-      let old = shows.each i x there.1 in (old.0, old.1 ∙ sym (value_elsewhere machines b i next there.0)))
-      (replaced nodes b node i x is);
-}
-
--- one brick that is as it was
-pub shows_same : (layout : Layout) (nodes : List Node) (machines : ℕ → machine.Node) (b : ℕ) (old new : Node)
-    → slice_get nodes b ≡ Some old → new.me ≡ old.me → state_of layout.block new ≡ state_of layout.block old → ShowsNodes layout nodes machines
-    → ShowsNodes layout (set nodes b new) machines
-shows_same layout nodes machines b old new at me state shows = record {
-  count = length-set nodes b new ∙ shows.count;
-  each = λ i x is.
-      ⊎_elim
-      (λ (here : (i ≡ b) × (new ≡ x)).
-      let was = shows.each b old at in (
-        subst (λ (y : Node). y.me ≡ brick_of i) here.1 (me ∙ was.0 ∙ ap brick_of (sym here.0)),
-        subst (λ (y : Node). state_of layout.block y ≡ machines i) here.1 (state ∙ was.1 ∙ ap machines (sym here.0)),
-      ))
-      (λ (there : (i ≢ b) × (slice_get nodes i ≡ Some x)). shows.each i x there.1)
-      (replaced nodes b new i x is);
+      (λ (here : (i ≡ b) × (brick ≡ x)).
+      subst (λ (y : Brick). ShowsBrick layout i y (after i) (times i)) here.1
+      (subst (λ (k : ℕ). ShowsBrick layout k brick (after k) (times k)) (sym here.0) is))
+      (λ (there : (i ≢ b) × (slice_get bricks i ≡ Some x)).
+      subst (λ (t : ℕ). ShowsBrick layout i x (after i) t) (sym (keep i there.0))
+      (subst (λ (node : machine.Node). ShowsBrick layout i x node (clocks i)) (sym (stay i there.0)) (shows.each i x there.1)))
+      (replaced bricks b brick i x at);
 }
 
 -- what the brick of a number is
-node_at : (layout : Layout) (bricks : List Node) (machines : ℕ → machine.Node) (b : ℕ) (node : Node) → b < length bricks → node ≡ get_or bricks b node
-    → ShowsNodes layout bricks machines → (node.me ≡ brick_of b) × (state_of layout.block node ≡ machines b)
-node_at layout bricks machines b node within is shows = shows.each b node (slice_get_read bricks (length bricks) b node refl within is)
+brick_at : (layout : Layout) (bricks : List Brick) (nodes : ℕ → machine.Node) (clocks : ℕ → ℕ) (b : ℕ) (brick : Brick) → b < length bricks
+    → brick ≡ get_or bricks b brick → ShowsBricks layout bricks nodes clocks → ShowsBrick layout b brick (nodes b) (clocks b)
+brick_at layout bricks nodes clocks b brick within is shows = shows.each b brick (slice_get_read bricks (length bricks) b brick refl within is)
+
+-- the brick with this node
+abbrev with_node : Brick → Node → Brick
+with_node brick node = record { node = node; clock = brick.clock }
+
+-- a brick that took a step
+shows_step : (layout : Layout) (bricks : List Brick) (b : ℕ) (old : Brick) (new : Node) (w : World) (next : machine.Node)
+    → ShowsBrick layout b old (w.nodes b) (w.clocks b) → new.me ≡ old.node.me → state_of layout.block new ≡ next
+    → ShowsBricks layout bricks w.nodes w.clocks → ShowsBricks layout (set bricks b (with_node old new)) (machine.put w.nodes b next) w.clocks
+shows_step layout bricks b old new w next was me state shows =
+    shows_after layout bricks b (with_node old new) w.nodes (machine.put w.nodes b next) w.clocks w.clocks
+    (record { me = me ∙ was.me; state = state ∙ sym (value_here w.nodes b b next refl); clock = was.clock })
+    (λ i other. value_elsewhere w.nodes b i next other) (λ i other. refl) shows
+
+-- a brick's clock was set
+pub shows_clock : (layout : Layout) (bricks : List Brick) (b : ℕ) (old : Brick) (time : ℕ) (w : World) → b < length bricks → old ≡ get_or bricks b old
+    → ShowsBricks layout bricks w.nodes w.clocks
+    → ShowsBricks layout (set bricks b (record { node = old.node; clock = time })) w.nodes (machine.put w.clocks b time)
+shows_clock layout bricks b old time w within is shows =
+    let was = brick_at layout bricks w.nodes w.clocks b old within is shows in
+    shows_after layout bricks b (record { node = old.node; clock = time }) w.nodes w.nodes w.clocks (machine.put w.clocks b time)
+    (record { me = was.me; state = was.state; clock = sym (value_here w.clocks b b time refl) })
+    (λ i other. refl) (λ i other. value_elsewhere w.clocks b i time other) shows
 
 -- a brick refuses as the machine's does
-pub asked_refused : (layout : Layout) (bricks : List Node) (b : ℕ) (node : Node) (ask : Ask) (result : Result Begun NodeFault)
-    → b < length bricks → node ≡ get_or bricks b node → RefusesAs result (machine.refusal_of layout (state_of layout.block node) ask)
-    → (w : World) → ShowsNodes layout bricks w.nodes → RefusesAs result (machine.refusal_of layout (w.nodes b) ask)
-asked_refused layout bricks b node ask result within is refuses w shows =
-    subst (λ (x : machine.Node). RefusesAs result (machine.refusal_of layout x ask)) (node_at layout bricks w.nodes b node within is shows).1 refuses
+pub asked_refused : (layout : Layout) (bricks : List Brick) (b : ℕ) (brick : Brick) (ask : Ask) (result : Result Begun NodeFault)
+    → b < length bricks → brick ≡ get_or bricks b brick → RefusesAs result (machine.refusal_of layout (state_of layout.block brick.node) ask)
+    → (w : World) → ShowsBricks layout bricks w.nodes w.clocks → RefusesAs result (machine.refusal_of layout (w.nodes b) ask)
+asked_refused layout bricks b brick ask result within is refuses w shows =
+    subst (λ (x : machine.Node). RefusesAs result (machine.refusal_of layout x ask))
+    (brick_at layout bricks w.nodes w.clocks b brick within is shows).state refuses
 
 -- a brick begins as the machine's does
-pub asked_begun : (layout : Layout) (bricks : List Node) (b : ℕ) (old new : Node) (ask : Ask) (result : Result Begun NodeFault)
-    → b < length bricks → old ≡ get_or bricks b old → new.me ≡ old.me
-    → IfOk result (BeginsAs layout.block new (machine.invoked (copying layout) old.me 0 (state_of layout.block old) ask))
-    → IfOk result (λ begun. (w : World) → ShowsNodes layout bricks w.nodes
-    → (begun.packets.items ≡ (machine.invoked (copying layout) (brick_of b) 0 (w.nodes b) ask).packets)
-    × (begun.seq ≡ (machine.invoked (copying layout) (brick_of b) 0 (w.nodes b) ask).node.seq)
-    × ShowsNodes layout (set bricks b new) (machine.put w.nodes b (machine.invoked (copying layout) (brick_of b) 0 (w.nodes b) ask).node))
+pub asked_begun : (layout : Layout) (bricks : List Brick) (b : ℕ) (old : Brick) (new : Node) (ask : Ask) (result : Result Begun NodeFault)
+    → b < length bricks → old ≡ get_or bricks b old → new.me ≡ old.node.me
+    → IfOk result (BeginsAs layout.block new (machine.invoked (copying layout) old.node.me old.clock (state_of layout.block old.node) ask))
+    → IfOk result (λ begun. (w : World) → ShowsBricks layout bricks w.nodes w.clocks
+    → (let step = machine.invoked (copying layout) (brick_of b) (w.clocks b) (w.nodes b) ask in
+    (begun.packets.items ≡ step.packets) × (begun.seq ≡ step.node.seq)
+    × ShowsBricks layout (set bricks b (with_node old new)) (machine.put w.nodes b step.node) w.clocks))
 asked_begun layout bricks b old new ask result within is me begins =
-    IfOk-weaker result (BeginsAs layout.block new (machine.invoked (copying layout) old.me 0 (state_of layout.block old) ask)) _
+    IfOk-weaker result (BeginsAs layout.block new (machine.invoked (copying layout) old.node.me old.clock (state_of layout.block old.node) ask)) _
     (λ begun as_machine w shows.
-    let at = node_at layout bricks w.nodes b old within is shows in
-    let same : machine.invoked (copying layout) old.me 0 (state_of layout.block old) ask ≡ machine.invoked (copying layout) (brick_of b) 0 (w.nodes b) ask =
-    ap (λ (x : BrickId). machine.invoked (copying layout) x 0 (state_of layout.block old) ask) at.0
-    ∙ ap (λ (x : machine.Node). machine.invoked (copying layout) (brick_of b) 0 x ask) at.1
+    let at = brick_at layout bricks w.nodes w.clocks b old within is shows in
+    let same : machine.invoked (copying layout) old.node.me old.clock (state_of layout.block old.node) ask
+        ≡ machine.invoked (copying layout) (brick_of b) (w.clocks b) (w.nodes b) ask =
+    ap (λ (x : BrickId). machine.invoked (copying layout) x old.clock (state_of layout.block old.node) ask) at.me
+    ∙ ap (λ (t : ℕ). machine.invoked (copying layout) (brick_of b) t (state_of layout.block old.node) ask) at.clock
+    ∙ ap (λ (x : machine.Node). machine.invoked (copying layout) (brick_of b) (w.clocks b) x ask) at.state
     in (
       as_machine.packets ∙ ap (λ (x : machine.NodeStep). x.packets) same,
       as_machine.seq ∙ ap (λ (x : machine.NodeStep). x.node.seq) same,
-      shows_changed layout bricks w.nodes b new _ (me ∙ at.0) (as_machine.state ∙ ap (λ (x : machine.NodeStep). x.node) same) shows,
+      shows_step layout bricks b old new w _ at me (as_machine.state ∙ ap (λ (x : machine.NodeStep). x.node) same) shows,
     ))
     begins
 
 -- a brick that did not begin is as it was
-pub asked_same : {T E : Type 0} (layout : Layout) (bricks : List Node) (b : ℕ) (old new : Node) (result : Result T E)
-    → b < length bricks → old ≡ get_or bricks b old → new.me ≡ old.me → OnErr result ((block : ℕ) → state_of block new ≡ state_of block old)
-    → OnErr result ((w : World) → ShowsNodes layout bricks w.nodes → ShowsNodes layout (set bricks b new) w.nodes)
+pub asked_same : {T E : Type 0} (layout : Layout) (bricks : List Brick) (b : ℕ) (old : Brick) (new : Node) (result : Result T E)
+    → b < length bricks → old ≡ get_or bricks b old → new.me ≡ old.node.me → OnErr result ((block : ℕ) → state_of block new ≡ state_of block old.node)
+    → OnErr result ((w : World) → ShowsBricks layout bricks w.nodes w.clocks → ShowsBricks layout (set bricks b (with_node old new)) w.nodes w.clocks)
 asked_same layout bricks b old new result within is me same =
     on_err_weaker result
-    (λ (state : (block : ℕ) → state_of block new ≡ state_of block old) (w : World) (shows : ShowsNodes layout bricks w.nodes).
-    shows_same layout bricks w.nodes b old new (slice_get_read bricks (length bricks) b old refl within is) me (state layout.block) shows)
+    (λ (state : (block : ℕ) → state_of block new ≡ state_of block old.node) (w : World) (shows : ShowsBricks layout bricks w.nodes w.clocks).
+    let was = brick_at layout bricks w.nodes w.clocks b old within is shows in
+    shows_after layout bricks b (with_node old new) w.nodes w.nodes w.clocks w.clocks
+    (record { me = me ∙ was.me; state = state layout.block ∙ was.state; clock = was.clock }) (λ i other. refl) (λ i other. refl) shows)
     same
 
 -- a brick handles a message as the machine's does
-pub handed_over : (layout : Layout) (bricks : List Node) (b : ℕ) (old new : Node) (packet : Packet) (result : Result Outs NoMem)
-    → b < length bricks → old ≡ get_or bricks b old → new.me ≡ old.me
-    → IfOk result (StepsAs layout.block new (machine.received (copying layout) old.me (state_of layout.block old) packet))
-    → IfOk result (λ outs. (w : World) → ShowsNodes layout bricks w.nodes
-    → (outs.packets.items ≡ (machine.received (copying layout) (brick_of b) (w.nodes b) packet).packets)
-    × (outs.told ≡ (machine.received (copying layout) (brick_of b) (w.nodes b) packet).told)
-    × ShowsNodes layout (set bricks b new) (machine.put w.nodes b (machine.received (copying layout) (brick_of b) (w.nodes b) packet).node))
+pub handed_over : (layout : Layout) (bricks : List Brick) (b : ℕ) (old : Brick) (new : Node) (packet : Packet) (result : Result Outs NoMem)
+    → b < length bricks → old ≡ get_or bricks b old → new.me ≡ old.node.me
+    → IfOk result (StepsAs layout.block new (machine.received (copying layout) old.node.me old.clock (state_of layout.block old.node) packet))
+    → IfOk result (λ outs. (w : World) → ShowsBricks layout bricks w.nodes w.clocks
+    → (let step = machine.received (copying layout) (brick_of b) (w.clocks b) (w.nodes b) packet in
+    (outs.packets.items ≡ step.packets) × (outs.told ≡ step.told)
+    × ShowsBricks layout (set bricks b (with_node old new)) (machine.put w.nodes b step.node) w.clocks))
 handed_over layout bricks b old new packet result within is me steps =
-    IfOk-weaker result (StepsAs layout.block new (machine.received (copying layout) old.me (state_of layout.block old) packet)) _
+    IfOk-weaker result (StepsAs layout.block new (machine.received (copying layout) old.node.me old.clock (state_of layout.block old.node) packet)) _
     (λ outs as_machine w shows.
-    let at = node_at layout bricks w.nodes b old within is shows in
-    let same : machine.received (copying layout) old.me (state_of layout.block old) packet ≡ machine.received (copying layout) (brick_of b) (w.nodes b) packet =
-    ap (λ (x : BrickId). machine.received (copying layout) x (state_of layout.block old) packet) at.0
-    ∙ ap (λ (x : machine.Node). machine.received (copying layout) (brick_of b) x packet) at.1
+    let at = brick_at layout bricks w.nodes w.clocks b old within is shows in
+    let same : machine.received (copying layout) old.node.me old.clock (state_of layout.block old.node) packet
+        ≡ machine.received (copying layout) (brick_of b) (w.clocks b) (w.nodes b) packet =
+    ap (λ (x : BrickId). machine.received (copying layout) x old.clock (state_of layout.block old.node) packet) at.me
+    ∙ ap (λ (t : ℕ). machine.received (copying layout) (brick_of b) t (state_of layout.block old.node) packet) at.clock
+    ∙ ap (λ (x : machine.Node). machine.received (copying layout) (brick_of b) (w.clocks b) x packet) at.state
     in (
       as_machine.packets ∙ ap (λ (x : machine.NodeStep). x.packets) same,
       as_machine.told ∙ ap (λ (x : machine.NodeStep). x.told) same,
-      shows_changed layout bricks w.nodes b new _ (me ∙ at.0) (as_machine.state ∙ ap (λ (x : machine.NodeStep). x.node) same) shows,
+      shows_step layout bricks b old new w _ at me (as_machine.state ∙ ap (λ (x : machine.NodeStep). x.node) same) shows,
     ))
     steps
 
 -- the number of a brick's next call is above those so far
-pub next_above : (layout : Layout) (bricks : List Node) (b : ℕ) (node : Node) (next : Option ℕ) → b < length bricks → node ≡ get_or bricks b node
-    → ((block : ℕ) → SomeIff next ((state_of block node).seq + 1 < 2 ^ 64) ((state_of block node).seq + 1))
-    → (w : World) → ShowsNodes layout bricks w.nodes → ForSome next (λ seq. (w.nodes b).seq < seq)
-next_above layout bricks b node None within is gives w shows = λ seq never. let e : None ≡ Some seq = never in cc
-next_above layout bricks b node (Some next) within is gives w shows = λ seq at.
-    let same : (state_of layout.block node).seq ≡ (w.nodes b).seq = ap (λ (x : machine.Node). x.seq) (node_at layout bricks w.nodes b node within is shows).1 in
+pub next_above : (layout : Layout) (bricks : List Brick) (b : ℕ) (brick : Brick) (next : Option ℕ) → b < length bricks → brick ≡ get_or bricks b brick
+    → ((block : ℕ) → SomeIff next ((state_of block brick.node).seq + 1 < 2 ^ 64) ((state_of block brick.node).seq + 1))
+    → (w : World) → ShowsBricks layout bricks w.nodes w.clocks → ForSome next (λ seq. (w.nodes b).seq < seq)
+next_above layout bricks b brick None within is gives w shows = λ seq never. let e : None ≡ Some seq = never in cc
+next_above layout bricks b brick (Some next) within is gives w shows = λ seq at.
+    let same : (state_of layout.block brick.node).seq ≡ (w.nodes b).seq =
+    ap (λ (x : machine.Node). x.seq) (brick_at layout bricks w.nodes w.clocks b brick within is shows).state in
     let here : next ≡ seq = let e : Some next ≡ Some seq = at in cc in
-    let value : next ≡ (state_of layout.block node).seq + 1 = (gives layout.block).1 in
+    let value : next ≡ (state_of layout.block brick.node).seq + 1 = (gives layout.block).1 in
     omega arith
 
 -- a brick's next call is numbered where a number is left
-pub next_is : (layout : Layout) (bricks : List Node) (b : ℕ) (node : Node) (next : Option ℕ) → b < length bricks → node ≡ get_or bricks b node
-    → ((block : ℕ) → SomeIff next ((state_of block node).seq + 1 < 2 ^ 64) ((state_of block node).seq + 1))
-    → (w : World) → ShowsNodes layout bricks w.nodes → (w.nodes b).seq + 1 < 2 ^ 64 → next ≡ Some ((w.nodes b).seq + 1)
-next_is layout bricks b node None within is gives w shows left =
-    let same : (state_of layout.block node).seq ≡ (w.nodes b).seq = ap (λ (x : machine.Node). x.seq) (node_at layout bricks w.nodes b node within is shows).1 in
+pub next_is : (layout : Layout) (bricks : List Brick) (b : ℕ) (brick : Brick) (next : Option ℕ) → b < length bricks → brick ≡ get_or bricks b brick
+    → ((block : ℕ) → SomeIff next ((state_of block brick.node).seq + 1 < 2 ^ 64) ((state_of block brick.node).seq + 1))
+    → (w : World) → ShowsBricks layout bricks w.nodes w.clocks → (w.nodes b).seq + 1 < 2 ^ 64 → next ≡ Some ((w.nodes b).seq + 1)
+next_is layout bricks b brick None within is gives w shows left =
+    let same : (state_of layout.block brick.node).seq ≡ (w.nodes b).seq =
+    ap (λ (x : machine.Node). x.seq) (brick_at layout bricks w.nodes w.clocks b brick within is shows).state in
     absurd (gives layout.block (subst (λ n. n + 1 < 2 ^ 64) (sym same) left))
-next_is layout bricks b node (Some next) within is gives w shows left =
-    let same : (state_of layout.block node).seq ≡ (w.nodes b).seq = ap (λ (x : machine.Node). x.seq) (node_at layout bricks w.nodes b node within is shows).1 in
+next_is layout bricks b brick (Some next) within is gives w shows left =
+    let same : (state_of layout.block brick.node).seq ≡ (w.nodes b).seq =
+    ap (λ (x : machine.Node). x.seq) (brick_at layout bricks w.nodes w.clocks b brick within is shows).state in
     ap (λ n. Some n) ((gives layout.block).1 ∙ ap (λ n. n + 1) same)
 
--- bricks whose stores are fresh, each of which knows its number
-pub record AreFresh (bricks : List Node) (n : ℕ) : Type 0 where
+-- bricks whose stores are fresh and whose clocks read 0, each of which knows its number
+pub record AreFresh (bricks : List Brick) (n : ℕ) : Type 0 where
   pub count : length bricks ≡ n
-  pub each : (i : ℕ) (node : Node) → slice_get bricks i ≡ Some node
-      → (node.me ≡ brick_of i) × ((block : ℕ) → state_of block node ≡ machine.first_node block)
+  pub each : (i : ℕ) (brick : Brick) → slice_get bricks i ≡ Some brick
+      → (brick.node.me ≡ brick_of i) × ((block : ℕ) → state_of block brick.node ≡ machine.first_node block) × (brick.clock ≡ 0)
 
 -- no brick yet
 pub fresh_none : AreFresh [] 0
-fresh_none = record { count = refl; each = λ i node is. let e : None ≡ Some node = is in cc }
+fresh_none = record { count = refl; each = λ i brick is. let e : None ≡ Some brick = is in cc }
 
 -- one more
-pub fresh_more : (bricks : List Node) (n : ℕ) (node : Node) → AreFresh bricks n → node.me ≡ brick_of n
-    → ((block : ℕ) → state_of block node ≡ machine.first_node block) → AreFresh (bricks ++ node ∷ []) (n + 1)
+pub fresh_more : (bricks : List Brick) (n : ℕ) (node : Node) → AreFresh bricks n → node.me ≡ brick_of n
+    → ((block : ℕ) → state_of block node ≡ machine.first_node block) → AreFresh (bricks ++ record { node = node; clock = 0 } ∷ []) (n + 1)
 fresh_more bricks n node fresh me state = record {
-  count = length-append bricks (node ∷ []) ∙ ap (λ k. k + 1) fresh.count;
+  count = length-append bricks _ ∙ ap (λ k. k + 1) fresh.count;
   each = λ i x is.
       ⊎_elim
       (λ (old : slice_get bricks i ≡ Some x). fresh.each i x old)
-      (λ (new : (i ≡ length bricks) × (node ≡ x)). (
-        subst (λ (y : Node). y.me ≡ brick_of i) new.1 (me ∙ ap brick_of (sym (new.0 ∙ fresh.count))),
-        subst (λ (y : Node). (block : ℕ) → state_of block y ≡ machine.first_node block) new.1 state,
+      (λ (new : (i ≡ length bricks) × (record { node = node; clock = 0 } ≡ x)). (
+        subst (λ (y : Brick). y.node.me ≡ brick_of i) new.1 (me ∙ ap brick_of (sym (new.0 ∙ fresh.count))),
+        subst (λ (y : Brick). (block : ℕ) → state_of block y.node ≡ machine.first_node block) new.1 state,
+        subst (λ (y : Brick). y.clock ≡ 0) new.1 refl,
       ))
-      (grown bricks node i x is);
+      (grown bricks (record { node = node; clock = 0 }) i x is);
 }
 
 -- fresh bricks are those of the first world
-pub shows_fresh : (layout : Layout) (bricks : List Node) (n : ℕ) → n ≡ layout.bricks → AreFresh bricks n → ShowsNodes layout bricks (first_world layout).nodes
+pub shows_fresh : (layout : Layout) (bricks : List Brick) (n : ℕ) → n ≡ layout.bricks → AreFresh bricks n
+    → ShowsBricks layout bricks (first_world layout).nodes (first_world layout).clocks
 shows_fresh layout bricks n all fresh = record {
   count = fresh.count ∙ all;
-  each = λ i node is. let one = fresh.each i node is in (one.0, one.1 layout.block);
+  each = λ i brick is. let one = fresh.each i brick is in record { me = one.0; state = one.1 layout.block; clock = one.2 };
 }

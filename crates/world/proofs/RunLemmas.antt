@@ -1,14 +1,17 @@
 -- The world that a run leaves.
 use Rattle.std.proofs.Common.{◌≡◌, ℕ, ◌<◌, ◌-◌, Bool, true, false, cond, nat_lt, ◌&&◌, List, [], ◌∷◌, ◌++◌, length, take, drop, take_all, length-drop, Option, Some, None, refl, sym, ap, ◌∙◌, subst, arith}
+use Rattle.std.proofs.lemmas.Bool.{cond_both}
 use Rattle.std.proofs.lemmas.Bool.Decides.{nat_tests}
+use Rattle.fab_base.specs.declared.identities.BrickId.{BrickId}
 use Rattle.fab_base.specs.declared.answers.Refusal.{Refusal}
 use Rattle.fab_wire.specs.declared.requests.Version.{Version}
 use Rattle.reg_model.specs.declared.marks.Mark.{Mark}
 use Rattle.lines.specs.declared.forms.Line.{Line}
-use Rattle.lines.specs.declared.forms.Line.TheVariants.{Nothing, Invoke, Deliver}
+use Rattle.lines.specs.declared.forms.Line.TheVariants.{Nothing, Invoke, Deliver, SetClock}
 use Rattle.node.specs.Copies.{copying}
 use Rattle.protocol.specs.Settings.{Setting, Layout, Group, group_of}
-use Rattle.protocol.specs.Worlds.{World, first_world, packet_of, run}
+use Rattle.protocol.specs.Nodes.{put}
+use Rattle.protocol.specs.Worlds.{World, Sets, first_world, is_brick, packet_of, happens, run}
 use Rattle.protocol.proofs.Books.{Books}
 use Rattle.world.specs.Runs.{Run, after_line, after_lines, world_of, events_of, brick_of, ask_of, refusal_at}
 use Rattle.world.specs.States.{IsNumbered, Shows, outcome_of, refused_or_begun}
@@ -56,6 +59,7 @@ after_lines-run setting w [] = refl
 after_lines-run setting w (Nothing ∷ lines) = after_lines-run setting w lines
 after_lines-run setting w (Invoke b g s op ∷ lines) = after_lines-run setting (after_line setting w (Invoke b g s op)) lines
 after_lines-run setting w (Deliver k ∷ lines) = after_lines-run setting (after_line setting w (Deliver k)) lines
+after_lines-run setting w (SetClock b v ∷ lines) = after_lines-run setting (after_line setting w (SetClock b v)) lines
 
 -- the world that a run leaves is one that a schedule of events reaches
 pub world_of-run : (r : Run) → world_of r ≡ run (copying r.layout) (events_of r.lines) (first_world r.layout)
@@ -74,6 +78,13 @@ drop_all : {A : Type 0} (xs : List A) → drop (length xs) xs ≡ []
 drop_all [] = refl
 drop_all (x ∷ xs) = drop_all xs
 
+-- a clock that is set marks nothing
+no_mark : (setting : Setting) (w : World) (brick : BrickId) (time : ℕ) → new_marks w (happens setting w (Sets brick time)) ≡ []
+unfolding happens
+no_mark setting w brick time =
+    cond_both (is_brick setting.layout brick) (record w { clocks = put w.clocks brick.0 time }) w (λ (v : World). new_marks w v ≡ [])
+    (λ here. drop_all w.marks) (λ nowhere. drop_all w.marks)
+
 refused_text : (refusal : Option Refusal) (marks : List Mark) → outcome_text (refused_or_begun refusal) marks ≡ refused_or_marks refusal marks
 refused_text None marks = refl
 refused_text (Some refusal) marks = refl
@@ -89,6 +100,11 @@ outcome_text-text_of setting w (Deliver k) = by_test (is_deliverable setting (pa
         ≡ cond b (marks_text (new_marks w (after_line setting w (Deliver k)))) idle_text
     by_test true = refl
     by_test false = refl
+outcome_text-text_of setting w (SetClock b v) = by_brick (is_brick setting.layout (brick_of b))
+  where
+    by_brick : (x : Bool) → outcome_text (cond x Marks Idle) (new_marks w (after_line setting w (SetClock b v))) ≡ cond x [] idle_text
+    by_brick true = ap marks_text (no_mark setting w (brick_of b) v)
+    by_brick false = refl
 
 -- what a line came to, with the marks behind those before it, is what it prints
 pub text_is : (old new : Run) (line : Line) (outcome : Outcome) (marks : List Mark) (before : ℕ) (text : List ℕ)

@@ -6,10 +6,10 @@ use Rattle.fab_base.specs.declared.asks.Op.{Op}
 use Rattle.fab_base.specs.declared.answers.Refusal.{Refusal}
 use Rattle.fab_base.specs.declared.answers.Refusal.TheVariants.{Down}
 use Rattle.lines.specs.declared.forms.Line.{Line}
-use Rattle.lines.specs.declared.forms.Line.TheVariants.{Nothing, Invoke, Deliver}
+use Rattle.lines.specs.declared.forms.Line.TheVariants.{Nothing, Invoke, Deliver, SetClock}
 use Rattle.protocol.specs.Settings.{Setting, Layout}
 use Rattle.protocol.specs.Nodes.{refusal_of}
-use Rattle.protocol.specs.Worlds.{World, Event, Invokes, Delivers, first_world, is_brick, happens}
+use Rattle.protocol.specs.Worlds.{World, Event, Invokes, Delivers, Sets, first_world, is_brick, happens}
 use Rattle.node.specs.Copies.{copying}
 
 -- the lines that were run over the disk of this layout
@@ -30,6 +30,7 @@ abbrev pub after_line : Setting → World → Line → World
 after_line setting w Nothing = w
 after_line setting w (Invoke b g s op) = happens setting w (Invokes (brick_of b) (ask_of g s op))
 after_line setting w (Deliver k) = happens setting w (Delivers k)
+after_line setting w (SetClock b v) = happens setting w (Sets (brick_of b) v)
 
 abbrev pub after_lines : Setting → World → List Line → World
 after_lines setting w [] = w
@@ -41,6 +42,7 @@ events_of [] = []
 events_of (Nothing ∷ lines) = events_of lines
 events_of (Invoke b g s op ∷ lines) = Invokes (brick_of b) (ask_of g s op) ∷ events_of lines
 events_of (Deliver k ∷ lines) = Delivers k ∷ events_of lines
+events_of (SetClock b v ∷ lines) = Sets (brick_of b) v ∷ events_of lines
 
 -- the world that a run leaves
 abbrev pub world_of : Run → World

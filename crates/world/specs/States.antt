@@ -5,22 +5,23 @@ use Rattle.std.specs.Ordering.{nat_cmp, ordering_then}
 use Rattle.std.specs.BTreeMap.{get}
 use Rattle.std.specs.Option.{option_map}
 use Rattle.fab_base.specs.declared.answers.Refusal.{Refusal}
+use Rattle.fab_base.specs.declared.identities.BrickId.{BrickId}
 use Rattle.fab_base.specs.declared.stamps.Stamp.{Stamp}
 use Rattle.fab_wire.specs.declared.messages.Packet.{Packet}
 use Rattle.lines.specs.declared.forms.Line.{Line}
-use Rattle.lines.specs.declared.forms.Line.TheVariants.{Nothing, Invoke, Deliver}
-use Rattle.node.specs.declared.nodes.Node.{Node}
+use Rattle.lines.specs.declared.forms.Line.TheVariants.{Nothing, Invoke, Deliver, SetClock}
 use Rattle.node.specs.States.{state_of}
 use Rattle.protocol.specs.Settings.{Layout, Setting}
 use Rattle.protocol.specs.Coordinators.{Coordinator}
 use Rattle.protocol.specs.Nodes as machine
 use Rattle.protocol.specs.declared.tellings.Told.{Told}
 use Rattle.protocol.specs.declared.tellings.Told.TheVariants as told
-use Rattle.protocol.specs.Worlds.{World, Operation, packet_of, version_after}
+use Rattle.protocol.specs.Worlds.{World, Operation, is_brick, packet_of, version_after}
 use Rattle.world.specs.Runs.{brick_of, ask_of, refusal_at}
 use Rattle.world.specs.Texts.{is_deliverable}
 use Rattle.world.specs.declared.histories.History.{History}
 use Rattle.world.specs.declared.histories.Known.{Known}
+use Rattle.world.specs.declared.states.Brick.{Brick}
 use Rattle.world.specs.declared.states.State.{State}
 use Rattle.world.specs.declared.states.Outcome.{Outcome}
 use Rattle.world.specs.declared.states.Outcome.TheVariants.{Marks, Refused, Idle}
@@ -57,10 +58,16 @@ abbrev pub ChangesAt : List Known → List Known → ℕ → (Known → Known) �
 ChangesAt old new number change =
     (n : ℕ) → slice_get new n ≡ (if nat_eq (n + 1) number then option_map change (slice_get old n) else slice_get old n)
 
--- The bricks show the machine's: there is one for each number of the layout, and each knows its number.
-pub record ShowsNodes (layout : Layout) (bricks : List Node) (machines : ℕ → machine.Node) : Type 0 where
+-- The brick of a number knows its number, its state is the machine's, and its clock reads this time.
+pub record ShowsBrick (layout : Layout) (i : ℕ) (brick : Brick) (node : machine.Node) (time : ℕ) : Type 0 where
+  pub me : brick.node.me ≡ brick_of i
+  pub state : state_of layout.block brick.node ≡ node
+  pub clock : brick.clock ≡ time
+
+-- The bricks and their clocks show the machine's: there is one for each number of the layout.
+pub record ShowsBricks (layout : Layout) (bricks : List Brick) (nodes : ℕ → machine.Node) (clocks : ℕ → ℕ) : Type 0 where
   pub count : length bricks ≡ layout.bricks
-  pub each : (i : ℕ) (node : Node) → slice_get bricks i ≡ Some node → (node.me ≡ brick_of i) × (state_of layout.block node ≡ machines i)
+  pub each : (i : ℕ) (brick : Brick) → slice_get bricks i ≡ Some brick → ShowsBrick layout i brick (nodes i) (clocks i)
 
 -- The history tells the machine's world: every message, every mark, each operation, and the numbers of the calls so far.
 pub record Tells (history : History) (w : World) : Type 0 where
@@ -72,7 +79,7 @@ pub record Tells (history : History) (w : World) : Type 0 where
 
 -- The state shows the machine's world.
 pub record Shows (layout : Layout) (state : State) (w : World) : Type 0 where
-  pub nodes : ShowsNodes layout state.nodes.items w.nodes
+  pub bricks : ShowsBricks layout state.bricks.items w.nodes w.clocks
   pub history : Tells state.history w
 
 -- there is room for what one step of a brick adds
@@ -101,13 +108,19 @@ abbrev pub IsOfStripes : Line → Type 0
 IsOfStripes Nothing = Unit {0}
 IsOfStripes (Invoke b g s op) = machine.is_stripe_op op ≡ true
 IsOfStripes (Deliver k) = Unit {0}
+IsOfStripes (SetClock b v) = Unit {0}
 
 -- a message was handled, or there was none
 abbrev pub handled_or_idle : Setting → Option Packet → Outcome
 handled_or_idle setting packet = if is_deliverable setting packet then Marks else Idle
+
+-- a clock was set, or there is no such brick
+abbrev pub set_or_idle : Layout → BrickId → Outcome
+set_or_idle layout brick = if is_brick layout brick then Marks else Idle
 
 -- what a line comes to
 abbrev pub outcome_of : Setting → World → Line → Outcome
 outcome_of setting w Nothing = Marks
 outcome_of setting w (Invoke b g s op) = refused_or_begun (refusal_at setting w (brick_of b) (ask_of g s op))
 outcome_of setting w (Deliver k) = handled_or_idle setting (packet_of w.packets k)
+outcome_of setting w (SetClock b v) = set_or_idle setting.layout (brick_of b)

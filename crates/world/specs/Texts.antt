@@ -15,7 +15,7 @@ use Rattle.fab_base.specs.Stamps.{stamp_text}
 use Rattle.reg_model.specs.declared.marks.Mark.{Mark}
 use Rattle.reg_model.specs.declared.marks.Mark.TheVariants.{Begin, End, Crash}
 use Rattle.lines.specs.declared.forms.Line.{Line}
-use Rattle.lines.specs.declared.forms.Line.TheVariants.{Nothing, Invoke, Deliver}
+use Rattle.lines.specs.declared.forms.Line.TheVariants.{Nothing, Invoke, Deliver, SetClock}
 use Rattle.fab_wire.specs.declared.messages.Packet.{Packet}
 use Rattle.protocol.specs.Settings.{Setting}
 use Rattle.protocol.specs.Worlds.{World, is_brick, packet_of}
@@ -100,3 +100,4 @@ text_of setting w (Invoke b g s op) =
     refused_or_marks (refusal_at setting w (brick_of b) (ask_of g s op)) (new_marks w (after_line setting w (Invoke b g s op)))
 text_of setting w (Deliver k) =
     if is_deliverable setting (packet_of w.packets k) then marks_text (new_marks w (after_line setting w (Deliver k))) else idle_text
+text_of setting w (SetClock b v) = if is_brick setting.layout (brick_of b) then [] else idle_text

@@ -1,4 +1,4 @@
-//! What a world keeps: its bricks, and what happened.
+//! What a world keeps: its bricks and their clocks, and what happened.
 
 ghost use Rattle.std.specs.Prelude.{◌≡◌, ◌^◌, ◌<◌, ◌≤◌, ℕ, true, Some, IfNone, IfSome, IfOk, OnErr, length, vec_len};
 ghost use Rattle.protocol.specs.Nodes as machine;
@@ -8,7 +8,7 @@ ghost use Rattle.protocol.specs.Worlds.{World, first_world};
 ghost use Rattle.node.specs.Copies.{copying, KeepsCopies};
 ghost use Rattle.node.specs.States.{RefusesAs};
 ghost use Rattle.world.specs.Runs.{ask_of};
-ghost use Rattle.world.specs.States.{ShowsNodes};
+ghost use Rattle.world.specs.States.{ShowsBricks};
 
 use crate::histories::{History, packet_at};
 use fab_base::{Ask, BrickId, GroupId, NoMem, Op, Refusal, StripeNo};
@@ -18,10 +18,17 @@ use lines::Line;
 use node::{Begun, Node, NodeFault, Outs};
 use std::alloc::Global;
 
+/// A brick, and what its clock reads.
+#[derive(Drop)]
+pub struct Brick {
+    pub node: Node,
+    pub clock: u64,
+}
+
 /// What a world keeps: its bricks by number, and what happened.
 #[derive(Drop)]
 pub struct State {
-    pub nodes: Vec<Node>,
+    pub bricks: Vec<Brick>,
     pub history: History,
 }
 
@@ -36,60 +43,65 @@ pub enum Outcome {
     Idle,
 }
 
-/// All bricks of a layout, their stores fresh.
-fn fresh_nodes(alloc: Global, layout: &Layout) -> Result<Vec<Node>, NoMem>
-    ensures { IfOk result (λ nodes. ShowsNodes layout.now nodes.items (first_world layout.now).nodes) }
+/// All bricks of a layout, their stores fresh, their clocks at 0.
+fn fresh_bricks(alloc: Global, layout: &Layout) -> Result<Vec<Brick>, NoMem>
+    ensures { IfOk result (λ bricks. ShowsBricks layout.now bricks.items (first_world layout.now).nodes (first_world layout.now).clocks) }
 {
-    let mut nodes = Vec::new(alloc);
-    for brick in 0..layout.bricks() {
-        nodes.push(Node::new(alloc, BrickId(brick)))?;
+    let mut bricks = Vec::new(alloc);
+    for number in 0..layout.bricks() {
+        bricks.push(Brick {
+            node: Node::new(alloc, BrickId(number)),
+            clock: 0,
+        })?;
     }
-    Ok(nodes)
+    Ok(bricks)
 }
 
 /// A brick is asked for an operation. After a refusal of any kind no brick has changed.
-fn ask_node(
-    nodes: &mut Vec<Node>,
+fn ask_brick(
+    bricks: &mut Vec<Brick>,
     alloc: Global,
     layout: &Layout,
-    brick: BrickId,
+    number: BrickId,
     ask: &Ask,
 ) -> Result<Begun, NodeFault>
     requires copies { KeepsCopies layout.now }
-    requires brick { brick.0 < vec_len nodes.old }
+    requires brick { number.0 < vec_len bricks.old }
     requires stripes { is_stripe_op ask.now.op ≡ true }
-    ensures refused { (w : World) → ShowsNodes layout.now nodes.old.items w.nodes
-        → RefusesAs result (refusal_of layout.now (w.nodes brick.0) ask.now) }
-    ensures begun { IfOk result (λ begun. (w : World) → ShowsNodes layout.now nodes.old.items w.nodes
-        → (let step = invoked (copying layout.now) brick 0 (w.nodes brick.0) ask.now in
-        (begun.packets.items ≡ step.packets) × (begun.seq ≡ step.node.seq) × ShowsNodes layout.now nodes.new.items (changed w.nodes brick.0 step.node))) }
+    ensures refused { (w : World) → ShowsBricks layout.now bricks.old.items w.nodes w.clocks
+        → RefusesAs result (refusal_of layout.now (w.nodes number.0) ask.now) }
+    ensures begun { IfOk result (λ begun. (w : World) → ShowsBricks layout.now bricks.old.items w.nodes w.clocks
+        → (let step = invoked (copying layout.now) number (w.clocks number.0) (w.nodes number.0) ask.now in
+        (begun.packets.items ≡ step.packets) × (begun.seq ≡ step.node.seq)
+        × ShowsBricks layout.now bricks.new.items (changed w.nodes number.0 step.node) w.clocks)) }
     ensures few { IfOk result (λ begun. vec_len begun.packets ≤ 32) }
-    ensures err { OnErr result ((w : World) → ShowsNodes layout.now nodes.old.items w.nodes
-        → ShowsNodes layout.now nodes.new.items w.nodes) }
+    ensures err { OnErr result ((w : World) → ShowsBricks layout.now bricks.old.items w.nodes w.clocks
+        → ShowsBricks layout.now bricks.new.items w.nodes w.clocks) }
 {
-    let node = &mut nodes[brick.0 as usize];
-    node.invoke(alloc, layout, 0, ask)
+    let brick = &mut bricks[number.0 as usize];
+    brick.node.invoke(alloc, layout, brick.clock, ask)
 }
 
 /// A brick is handed a message. After a refusal for want of memory no brick has changed.
 fn hand_over(
-    nodes: &mut Vec<Node>,
+    bricks: &mut Vec<Brick>,
     alloc: Global,
     layout: &Layout,
-    brick: BrickId,
+    number: BrickId,
     packet: &Packet,
 ) -> Result<Outs, NoMem>
     requires copies { KeepsCopies layout.now }
-    requires brick { brick.0 < vec_len nodes.old }
-    ensures stepped { IfOk result (λ outs. (w : World) → ShowsNodes layout.now nodes.old.items w.nodes
-        → (let step = received (copying layout.now) brick (w.nodes brick.0) packet.now in
-        (outs.packets.items ≡ step.packets) × (outs.told ≡ step.told) × ShowsNodes layout.now nodes.new.items (changed w.nodes brick.0 step.node))) }
+    requires brick { number.0 < vec_len bricks.old }
+    ensures stepped { IfOk result (λ outs. (w : World) → ShowsBricks layout.now bricks.old.items w.nodes w.clocks
+        → (let step = received (copying layout.now) number (w.clocks number.0) (w.nodes number.0) packet.now in
+        (outs.packets.items ≡ step.packets) × (outs.told ≡ step.told)
+        × ShowsBricks layout.now bricks.new.items (changed w.nodes number.0 step.node) w.clocks)) }
     ensures few { IfOk result (λ outs. vec_len outs.packets ≤ 32) }
-    ensures err { OnErr result ((w : World) → ShowsNodes layout.now nodes.old.items w.nodes
-        → ShowsNodes layout.now nodes.new.items w.nodes) }
+    ensures err { OnErr result ((w : World) → ShowsBricks layout.now bricks.old.items w.nodes w.clocks
+        → ShowsBricks layout.now bricks.new.items w.nodes w.clocks) }
 {
-    let node = &mut nodes[brick.0 as usize];
-    node.on_message(alloc, layout, packet)
+    let brick = &mut bricks[number.0 as usize];
+    brick.node.on_message(alloc, layout, brick.clock, packet)
 }
 
 /// The stripe of these numbers. None exactly where there is none.
@@ -113,17 +125,17 @@ impl State {
     ghost use Rattle.std.specs.Prelude.{◌≡◌, ℕ, ◌<◌, ◌≤◌, ◌^◌, true, length, vec_len, IfOk, OnOk, OnErr};
     ghost use Rattle.protocol.specs.Nodes.{is_stripe_op};
     ghost use Rattle.protocol.specs.Worlds.{World, first_world, happens, packet_of};
-    ghost use Rattle.protocol.specs.Worlds.Event.{Invokes, Delivers};
+    ghost use Rattle.protocol.specs.Worlds.Event.{Invokes, Delivers, Sets};
     ghost use Rattle.node.specs.Copies.{copying, KeepsCopies};
     ghost use Rattle.world.specs.Runs.{brick_of, ask_of, refusal_at, after_line};
-    ghost use Rattle.world.specs.States.{Shows, IsNumbered, refused_or_begun, handled_or_idle, outcome_of, IsOfStripes};
+    ghost use Rattle.world.specs.States.{Shows, IsNumbered, refused_or_begun, handled_or_idle, set_or_idle, outcome_of, IsOfStripes};
 
-    /// All bricks up, their stores fresh, and nothing sent.
+    /// All bricks up, their stores fresh, their clocks at 0, and nothing sent.
     pub fn new(alloc: Global, layout: &Layout) -> Result<State, NoMem>
         ensures { IfOk result (λ state. Shows layout.now state (first_world layout.now)) }
     {
         Ok(State {
-            nodes: fresh_nodes(alloc, layout)?,
+            bricks: fresh_bricks(alloc, layout)?,
             history: History::new(alloc),
         })
     }
@@ -132,7 +144,7 @@ impl State {
     pub fn run(&mut self, alloc: Global, layout: &Layout, line: &Line) -> Result<Outcome, NoMem>
         requires copies { KeepsCopies layout.now }
         requires few { length layout.now.groups ≤ 2 ^ 32 }
-        requires bricks { vec_len self.old.nodes ≡ layout.now.bricks }
+        requires bricks { vec_len self.old.bricks ≡ layout.now.bricks }
         requires stripes { IsOfStripes line.now }
         ensures shows { OnOk result ((w : World) → IsNumbered w → Shows layout.now self.old w
             → Shows layout.now self.new (after_line (copying layout.now) w line.now)) }
@@ -150,6 +162,7 @@ impl State {
                 op,
             } => self.invoke(alloc, layout, *brick, *group, *stripe, op),
             Line::Deliver { message } => self.deliver(alloc, layout, *message),
+            Line::SetClock { brick, time } => Ok(self.set_clock(layout, *brick, *time)),
         }
     }
 
@@ -165,7 +178,7 @@ impl State {
     ) -> Result<Outcome, NoMem>
         requires copies { KeepsCopies layout.now }
         requires few { length layout.now.groups ≤ 2 ^ 32 }
-        requires bricks { vec_len self.old.nodes ≡ layout.now.bricks }
+        requires bricks { vec_len self.old.bricks ≡ layout.now.bricks }
         requires stripes { is_stripe_op op.now ≡ true }
         ensures shows { OnOk result ((w : World) → Shows layout.now self.old w
             → Shows layout.now self.new (happens (copying layout.now) w (Invokes (brick_of brick) (ask_of group stripe op.now)))) }
@@ -200,7 +213,7 @@ impl State {
     ) -> Result<Outcome, NoMem>
         requires copies { KeepsCopies layout.now }
         requires brick { brick.0 < layout.now.bricks }
-        requires bricks { vec_len self.old.nodes ≡ layout.now.bricks }
+        requires bricks { vec_len self.old.bricks ≡ layout.now.bricks }
         requires stripes { is_stripe_op ask.op ≡ true }
         ensures shows { OnOk result ((w : World) → Shows layout.now self.old w
             → Shows layout.now self.new (happens (copying layout.now) w (Invokes brick ask))) }
@@ -209,9 +222,9 @@ impl State {
         ensures err { OnErr result ((w : World) → Shows layout.now self.old w → Shows layout.now self.new w) }
         ensures marks { vec_len self.old.history.marks ≤ vec_len self.new.history.marks }
     {
-        let next = self.nodes[brick.0 as usize].next_seq();
+        let next = self.bricks[brick.0 as usize].node.next_seq();
         self.history.expect_call(brick, next)?;
-        match ask_node(&mut self.nodes, alloc, layout, brick, &ask) {
+        match ask_brick(&mut self.bricks, alloc, layout, brick, &ask) {
             Ok(begun) => {
                 self.history.begin(brick, ask, begun.packets);
                 Ok(Outcome::Marks)
@@ -224,7 +237,7 @@ impl State {
     /// Delivers the message of a number.
     fn deliver(&mut self, alloc: Global, layout: &Layout, message: u64) -> Result<Outcome, NoMem>
         requires copies { KeepsCopies layout.now }
-        requires bricks { vec_len self.old.nodes ≡ layout.now.bricks }
+        requires bricks { vec_len self.old.bricks ≡ layout.now.bricks }
         ensures shows { OnOk result ((w : World) → IsNumbered w → Shows layout.now self.old w
             → Shows layout.now self.new (happens (copying layout.now) w (Delivers message))) }
         ensures outcome { IfOk result (λ outcome. (w : World) → Shows layout.now self.old w
@@ -241,8 +254,23 @@ impl State {
         if to.0 >= layout.bricks() {
             return Ok(Outcome::Idle);
         }
-        let outs = hand_over(&mut self.nodes, alloc, layout, to, packet)?;
+        let outs = hand_over(&mut self.bricks, alloc, layout, to, packet)?;
         self.history.step(to, outs);
         Ok(Outcome::Marks)
+    }
+    /// Sets a brick's clock.
+    fn set_clock(&mut self, layout: &Layout, brick: u64, time: u64) -> Outcome
+        requires { vec_len self.old.bricks ≡ layout.now.bricks }
+        ensures shows { (w : World) → Shows layout.now self.old w
+            → Shows layout.now self.new (happens (copying layout.now) w (Sets (brick_of brick) time)) }
+        ensures outcome { result ≡ set_or_idle layout.now (brick_of brick) }
+        ensures history { self.new.history ≡ self.old.history }
+    {
+        if brick >= u64::from(layout.bricks()) {
+            return Outcome::Idle;
+        }
+        let brick = &mut self.bricks[brick as usize];
+        brick.clock = time;
+        Outcome::Marks
     }
 }

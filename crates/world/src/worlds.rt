@@ -163,8 +163,8 @@ impl World {
         if stripe.0 >= stripes {
             return None;
         }
-        let node = self.state.nodes.get(brick.0 as usize)?;
-        match node.log(group, stripe) {
+        let brick = self.state.bricks.get(brick.0 as usize)?;
+        match brick.node.log(group, stripe) {
             Some(log) => Some(log),
             None => Some(self.fresh.log()),
         }

@@ -5,10 +5,10 @@ use Rattle.world.proofs.states.hand_over.Goals as goal
 
 pub returns-clause-stepped : goal.returns-clause-stepped
 returns-clause-stepped c =
-    handed_over c.args.layout.now c.args.nodes.now.items c.args.brick.0 c.index_mut-node.result.now c.on_message.new.self c.args.packet.now c.on_message.result
-    (omega (arith, c.args.nodes.now.ok.0, c.requires.brick)) c.index_mut-node.ensures.value c.on_message.ensures.me c.on_message.ensures.step
+    handed_over c.args.layout.now c.args.bricks.now.items c.args.number.0 c.index_mut-brick.result.now c.on_message.new.self c.args.packet.now c.on_message.result
+    (omega (arith, c.args.bricks.now.ok.0, c.requires.brick)) c.index_mut-brick.ensures.value c.on_message.ensures.me c.on_message.ensures.step
 
 pub returns-clause-err : goal.returns-clause-err
 returns-clause-err c =
-    asked_same c.args.layout.now c.args.nodes.now.items c.args.brick.0 c.index_mut-node.result.now c.on_message.new.self c.on_message.result
-    (omega (arith, c.args.nodes.now.ok.0, c.requires.brick)) c.index_mut-node.ensures.value c.on_message.ensures.me c.on_message.ensures.err
+    asked_same c.args.layout.now c.args.bricks.now.items c.args.number.0 c.index_mut-brick.result.now c.on_message.new.self c.on_message.result
+    (omega (arith, c.args.bricks.now.ok.0, c.requires.brick)) c.index_mut-brick.ensures.value c.on_message.ensures.me c.on_message.ensures.err

@@ -2,20 +2,20 @@
 use Rattle.std.proofs.Common.{◌≡◌, None, arith, sym, ap, ◌∙◌}
 use Rattle.node.specs.Copies.{copying}
 use Rattle.protocol.specs.Nodes.{NodeStep, received}
-use Rattle.protocol.specs.Worlds.{packet_of}
+use Rattle.protocol.specs.Worlds.{packet_of, replies_with}
 use Rattle.world.specs.States.{handled_or_idle}
 use Rattle.world.proofs.MachineSteps.{received_opens_none}
-use Rattle.world.proofs.StateLemmas.{on_err_always, shows_unsent, shows_astray, shows_handled, handled_astray, handled_here}
+use Rattle.world.proofs.StateLemmas.{on_err_always, shows_unsent, shows_astray, shows_handled, tells_replies, handled_astray, handled_here}
 use Rattle.world.proofs.states.State.deliver.Goals as goal
 
 pub returns-in_err-make_room-clause-err : goal.returns-in_err-make_room-clause-err
 returns-in_err-make_room-clause-err c =
-    on_err_always c.from_residual.result (λ w shows. record { nodes = shows.nodes; history = c.make_room.ensures.same w shows.history })
+    on_err_always c.from_residual.result (λ w shows. record { bricks = shows.bricks; history = c.make_room.ensures.same w shows.history })
 
 pub returns-in-None-clause-shows : goal.returns-in-None-clause-shows
 returns-in-None-clause-shows c w numbered shows =
     shows_unsent c.args.layout.now _ w c.args.message (sym (ap (λ xs. packet_of xs c.args.message) (c.deref.ensures.value ∙ (c.make_room.ensures.same w shows.history).packets)) ∙ sym c.in-None.ensures)
-    (record { nodes = shows.nodes; history = c.make_room.ensures.same w shows.history })
+    (record { bricks = shows.bricks; history = c.make_room.ensures.same w shows.history })
 
 pub returns-in-None-clause-outcome : goal.returns-in-None-clause-outcome
 returns-in-None-clause-outcome c w shows =
@@ -25,7 +25,7 @@ returns-in-None-clause-outcome c w shows =
 pub returns-then-to-bricks-clause-shows : goal.returns-then-to-bricks-clause-shows
 returns-then-to-bricks-clause-shows c w numbered shows =
     shows_astray c.args.layout.now _ w c.args.message c.in-Some.packet.now (sym (ap (λ xs. packet_of xs c.args.message) (c.deref.ensures.value ∙ (c.make_room.ensures.same w shows.history).packets)) ∙ sym c.in-Some.ensures) (omega arith)
-    (record { nodes = shows.nodes; history = c.make_room.ensures.same w shows.history })
+    (record { bricks = shows.bricks; history = c.make_room.ensures.same w shows.history })
 
 pub returns-then-to-bricks-clause-outcome : goal.returns-then-to-bricks-clause-outcome
 returns-then-to-bricks-clause-outcome c w shows =
@@ -34,17 +34,18 @@ returns-then-to-bricks-clause-outcome c w shows =
 pub returns-in_err-outs-clause-err : goal.returns-in_err-outs-clause-err
 returns-in_err-outs-clause-err c =
     on_err_always c.from_residual-in_err-outs.result
-    (λ w shows. record { nodes = c.in_err-outs.ensures.err w shows.nodes; history = c.make_room.ensures.same w shows.history })
+    (λ w shows. record { bricks = c.in_err-outs.ensures.err w shows.bricks; history = c.make_room.ensures.same w shows.history })
 
 pub returns-clause-shows : goal.returns-clause-shows
 returns-clause-shows c w numbered shows =
-    let step : NodeStep = received (copying c.args.layout.now) c.in-Some.packet.now.to (w.nodes c.in-Some.packet.now.to.0) c.in-Some.packet.now in
-    let did = c.in_ok-outs.ensures.stepped w shows.nodes in
-    let opens = received_opens_none (copying c.args.layout.now) c.in-Some.packet.now.to (w.nodes c.in-Some.packet.now.to.0) c.in-Some.packet.now
+    let step : NodeStep = received (copying c.args.layout.now) c.in-Some.packet.now.to (w.clocks c.in-Some.packet.now.to.0) (w.nodes c.in-Some.packet.now.to.0) c.in-Some.packet.now in
+    let did = c.in_ok-outs.ensures.stepped w shows.bricks in
+    let opens = received_opens_none (copying c.args.layout.now) c.in-Some.packet.now.to (w.clocks c.in-Some.packet.now.to.0) (w.nodes c.in-Some.packet.now.to.0) c.in-Some.packet.now
     (λ k call open_at. numbered c.in-Some.packet.now.to.0 k call open_at)
     in
     shows_handled c.args.layout.now _ w c.args.message c.in-Some.packet.now (sym (ap (λ xs. packet_of xs c.args.message) (c.deref.ensures.value ∙ (c.make_room.ensures.same w shows.history).packets)) ∙ sym c.in-Some.ensures) (omega arith) did.2
-    (c.step.ensures.stepped w step (c.make_room.ensures.same w shows.history) did.0 did.1 opens.seq opens.told)
+    (c.step.ensures.stepped (record w { replies = replies_with (copying c.args.layout.now) w c.in-Some.packet.now }) step
+    (tells_replies c.args.layout.now _ w c.in-Some.packet.now (c.make_room.ensures.same w shows.history)) did.0 did.1 opens.seq opens.told)
 
 pub returns-clause-outcome : goal.returns-clause-outcome
 returns-clause-outcome c w shows =

@@ -2,4 +2,4 @@
 use Rattle.world.proofs.states.State.new.Goals as goal
 
 pub returns : goal.returns
-returns c = record { nodes = c.in_ok-fresh_nodes.ensures; history = c.new.ensures c.args.layout.now }
+returns c = record { bricks = c.in_ok-fresh_bricks.ensures; history = c.new.ensures c.args.layout.now }
