@@ -14,13 +14,11 @@ use Rattle.replay.specs.Outputs.{is_served}
 each_keeps : (groups : List Group) → list_all (λ group. nat_eq group.m 1) groups ≡ true → (g : ℕ) (group : Group) → slice_get groups g ≡ Some group
     → group.m ≡ 1
 each_keeps [] all g group is = cc
-each_keeps (first ∷ groups) all g group is =
-    let both = and_parts (nat_eq first.m 1) (list_all (λ x. nat_eq x.m 1) groups) all in
-    at g is (eqb-true first.m 1 both.0) both.1
-  where
-    at : (g : ℕ) → slice_get (first ∷ groups) g ≡ Some group → first.m ≡ 1 → list_all (λ x. nat_eq x.m 1) groups ≡ true → group.m ≡ 1
-    at zero is one more = subst (λ (x : Group). x.m ≡ 1) (same_Some first group is) one
-    at (suc g) is one more = each_keeps groups more g group is
+each_keeps (first ∷ groups) all zero group is =
+    subst (λ (x : Group). x.m ≡ 1) (same_Some first group is)
+    (eqb-true first.m 1 (and_parts (nat_eq first.m 1) (list_all (λ x. nat_eq x.m 1) groups) all).0)
+each_keeps (first ∷ groups) all (suc g) group is =
+    each_keeps groups (and_parts (nat_eq first.m 1) (list_all (λ x. nat_eq x.m 1) groups) all).1 g group is
 
 -- a layout that passes the program's test keeps copies
 pub keeps : (layout : Layout) → is_served layout ≡ true → KeepsCopies layout
@@ -40,5 +38,6 @@ sound_copies layout is none = record {
       any_block group.m (length group.members) content pieces are (let one : group.m ≡ 1 = keeps layout none g group here in omega (arith, one, enough));
   zero_blocks = λ g group seat here.
       let one : group.m ≡ 1 = keeps layout none g group here in
-      ap (λ (m : ℕ). zero_registers m layout.block) one ∙ ap (λ (k : ℕ). replicate k 0) (omega arith : 1 * layout.block ≡ layout.block);
+      let whole : 1 * layout.block ≡ layout.block = omega arith in
+      ap (λ (m : ℕ). zero_registers m layout.block) one ∙ ap (λ (k : ℕ). replicate k 0) whole;
 }

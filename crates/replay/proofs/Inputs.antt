@@ -17,7 +17,7 @@ use Rattle.replay.specs.declared.endings.Halt.{Halt}
 use Rattle.replay.specs.Inputs.{Input, Parted, TooLong, Endless, most_layout_bytes, input_of, IsInput}
 use Rattle.replay.specs.Outputs.{Output, output_of, output_with, output_from, bad_layout, is_served}
 use Rattle.replay.specs.Turns.{Prints, AreLinesOf, PrintsRest, PrintsHeaded, PrintsInput}
-use Rattle.replay.proofs.Heads.{within}
+use Rattle.replay.proofs.LayoutTexts.{within}
 use Rattle.replay.proofs.LeftLines.{some_lines}
 use Rattle.replay.proofs.Printing.{Prints-nothing, Prints-same}
 
@@ -89,20 +89,22 @@ pub PrintsInput-refused : (source old new : Option (List ℕ)) (input : Input) (
 PrintsInput-refused source old new input output r is_input is p =
     record { input = input; is_input = is_input; printed = Prints-same old new r (output_of input) output is p }
 
+-- an input of these parts, whose layout's text is within the limit
+input_of-parts : (bytes head : List ℕ) (schedule : List (List ℕ)) → length head ≤ most_layout_bytes
+    → parts bytes ≡ Some (record { layout = head; schedule = schedule }) → input_of bytes ≡ Parted head schedule
+unfolding input_of
+input_of-parts bytes head schedule under is = rw is (within head (Parted head schedule) under)
+
 -- the layout was taken, and what stands behind it was run
 pub PrintsInput-headed : (source left old new : Option (List ℕ)) (head : List ℕ) (r : Result Verdict Halt) → ReadsSchedule source left head []
     → length head ≤ most_layout_bytes → PrintsHeaded head left old new r → PrintsInput source old new r
 PrintsInput-headed source left old new head r reads under p =
     record { input = Parted head p.schedule; is_input = is_input source left reads p.are_lines; printed = p.printed }
   where
-    input_is : (bytes : List ℕ) → parts bytes ≡ Some (record { layout = head; schedule = p.schedule }) → input_of bytes ≡ Parted head p.schedule
-    unfolding input_of
-    input_is bytes is = rw is (within head (Parted head p.schedule) under)
-
     is_input : (source left : Option (List ℕ)) → ReadsSchedule source left head [] → AreLinesOf left p.schedule → IsInput source (Parted head p.schedule)
     is_input None left reads lines = tt
     is_input (Some x) None reads lines = absurd reads
-    is_input (Some x) (Some y) reads lines = input_is x (reads ∙ ap (λ l. Some (record { layout = head; schedule = l })) lines)
+    is_input (Some x) (Some y) reads lines = input_of-parts x head p.schedule under (reads ∙ ap (λ l. Some (record { layout = head; schedule = l })) lines)
 
 -- bytes that were not read yet stand before those of the source
 pub PrintsInput-unread : (unread : List ℕ) (source old new : Option (List ℕ)) (r : Result Verdict Halt) → unread ≡ []

@@ -4,7 +4,7 @@ pub mod LeftLines
 pub mod Rests
 pub mod Inputs
 pub mod StripeTexts
-pub mod Heads
+pub mod LayoutTexts
 pub mod Copies
 pub mod Linearity
 pub mod Statuses

@@ -1,6 +1,7 @@
 //! A run: the layout, then the lines of the schedule, one after another, and what closes the output.
 
-ghost use Rattle.std.specs.Prelude.{◌≡◌, ◌≢◌, false, true, [], IfOk, MatchOption};
+ghost use Rattle.std.specs.Prelude.{◌≡◌, ◌≢◌, false, nat_eq, true, [], IfOk, MatchOption};
+ghost use Rattle.std.specs.List.{list_all};
 ghost use Rattle.std.specs.Io.KnownBytes.{IsAtEnd, prepend_known};
 ghost use Rattle.fab_io.specs.Ends.{Kept};
 ghost use Rattle.layout.specs.Names.{fault_text};
@@ -12,7 +13,7 @@ use crate::heads::{Head, read_head};
 use crate::turns::{MOST_LINES, close, take_last_turn, take_turn};
 use fab_base::NoMem;
 use fab_io::{Sink, Source};
-use layout::{Key, Layout, LayoutFault};
+use layout::{Group, Key, Layout, LayoutFault};
 use lines::Unread;
 use std::alloc::Global;
 use world::World;
@@ -52,16 +53,11 @@ fn refuse_layout<K: Sink>(alloc: Global, sink: &mut K, fault: &LayoutFault) -> R
     close(sink, text.as_bytes(), Verdict::BadLayout)
 }
 
-/// Whether each stripe of a layout has one data block, of which each member keeps a copy.
-fn is_served(layout: &Layout) -> bool
-    ensures { result ≡ is_served layout.now }
+/// Whether each stripe of these groups has one data block, of which each member keeps a copy.
+fn are_copied(groups: &[Group]) -> bool
+    ensures { result ≡ list_all (λ group. nat_eq group.m 1) groups.now }
 {
-    for group in layout.groups() {
-        if group.m() != 1 {
-            return false;
-        }
-    }
-    true
+    groups.iter().all(|group| group.m() == 1)
 }
 
 /// The disk of a layout, where it is served.
@@ -69,7 +65,7 @@ pub(crate) fn disk_of(alloc: Global, layout: Layout) -> Result<Option<World>, No
     ensures { IfOk result (λ disk. MatchOption disk (is_served layout ≡ false)
         (λ world. (is_served layout ≡ true) × (world ≡ record { layout = layout; lines = [] }))) }
 {
-    if !is_served(&layout) {
+    if !are_copied(layout.groups()) {
         return Ok(None);
     }
     Ok(Some(World::new(alloc, layout)?))

@@ -1,17 +1,18 @@
 -- What an input is, once some lines of its layout were taken.
-use Rattle.std.proofs.Common.{◌≡◌, ℕ, ◌+◌, ◌-◌, ◌<◌, ◌≤◌, ◌==◌, Bool, true, false, List, [], ◌∷◌, ◌++◌, length, take, slice_index, ⊤, Option, Some, None, IfSome, refl, sym, ap, ◌∙◌, subst, arith, lt-ltb, le-ltb, length-append, length-take, codes}
-use Rattle.std.specs.Prelude.{nat_lt}
+use Rattle.std.proofs.Common.{◌≡◌, ℕ, ◌+◌, ◌-◌, ◌<◌, ◌≤◌, ◌==◌, Bool, true, false, List, [], ◌∷◌, ◌++◌, length, take, slice_index, Option, Some, None, IfSome, refl, sym, ap, ◌∙◌, subst, arith, lt-ltb, le-ltb, length-append, length-take, codes}
+use Rattle.std.specs.Prelude.{nat_lt, ⊤}
 use Rattle.std.specs.List.{list_any, concat}
 use Rattle.std.specs.Option.{option_map}
 use Rattle.std.specs.Str.{bytes_eq}
 use Rattle.std.specs.Str.Lines.{strip_carriage_return}
 use Rattle.std.specs.Io.KnownBytes.{IsAtEnd}
-use Rattle.std.proofs.lemmas.Bool.{cond_both}
+use Rattle.std.proofs.lemmas.Bool.{cond_both, or_parts}
+use Rattle.std.proofs.lemmas.List.Folds.{list_any-append}
 use Rattle.std.proofs.lemmas.Slice.Eq.{bytes_eq-Decides}
 use Rattle.lines.specs.Lines.{Parts, is_line_feed, raw_lines, content, ends_layout, parts, parts_of_lines, onto_layout}
 use Rattle.lines.specs.Reading.{Passes, BeginsLong, ReadsHead}
 use Rattle.lines.proofs.RawLines.{concat-raw_lines}
-use Rattle.lines.proofs.HeadLines.{none_ends, none_ends-push, ReadsHead-ended}
+use Rattle.lines.proofs.HeadLines.{ReadsHead-ended}
 use Rattle.replay.specs.Inputs.{Input, Parted, TooLong, Endless, most_layout_bytes, unless_long, input_in, input_of, IsInput}
 
 -- a text past the limit is too long
@@ -20,7 +21,7 @@ past text input over = rw (lt-ltb most_layout_bytes (length text) over) refl
 
 -- a text within the limit is not
 pub within : (text : List ℕ) (input : Input) → length text ≤ most_layout_bytes → unless_long text input ≡ input
-within text input under = rw (le-ltb (length text) most_layout_bytes under) refl
+within text input under = rw (le-ltb most_layout_bytes (length text) under) refl
 
 -- the layout of an input's parts, if it has them, has at least so many bytes
 abbrev LayoutHas : ℕ → Option Parts → Type 0
@@ -40,7 +41,7 @@ layout_has [] rest none = of_parts (parts_of_lines rest)
     of_parts None = tt
     of_parts (Some p) = omega arith
 layout_has (line ∷ lines) rest none =
-    let both = none_ends line lines none in
+    let both = or_parts (ends_layout line) (list_any ends_layout lines) none in
     let more = layout_has-line line (length (concat lines)) (parts_of_lines (lines ++ rest)) (layout_has lines rest both.1) in
     rw (both.0) (subst (λ (k : ℕ). LayoutHas k (option_map (onto_layout line) (parts_of_lines (lines ++ rest)))) (sym (length-append line (concat lines))) more)
 
@@ -98,7 +99,7 @@ too_long-next (Some x) None head (lines, taken, none, is) next = absurd taken
 too_long-next (Some x) (Some y) head (lines, taken, none, is) (line, rest, first, over) =
     too_long-lines x (lines ++ line ∷ []) rest
     (taken ∙ ap (λ l. lines ++ l) first ∙ sym (append_line lines))
-    (none_ends-push lines line none (long_ends line over))
+    (list_any-append ends_layout lines (line ∷ []) ∙ rw (none, long_ends line over) refl)
     (omega (arith, over, content_within line, last_of lines))
   where
     append_line : (lines : List (List ℕ)) → (lines ++ line ∷ []) ++ rest ≡ lines ++ (line ∷ rest)
