@@ -8,7 +8,7 @@ use crate::groups::Group;
 use fab_base::GroupId;
 use std::marker::Model;
 
-/// The layout of a disk, within the limits of the format: see [`Layout::group_count`] for what a proof knows of each.
+/// The layout of a disk. Each value is within the limits of the format, as a text that says it.
 #[derive(Debug, Drop)]
 pub struct Layout {
     block: u16,

@@ -1,10 +1,10 @@
 //! The checks of a layout text, one after another, over the table that it is as a TOML document.
 
-ghost use Rattle.std.specs.Prelude.{◌≡◌, ◌≢◌, ◌≤◌, Option, Some, None, Ok, Err, IfOk, IfErr, IfSome, length, map, option_map, option_copied, string_bytes};
-ghost use Rattle.toml.specs.Data.{Items, get_member, as_integer};
+ghost use Rattle.std.specs.Prelude.{◌≡◌, ◌≢◌, ◌≤◌, Some, None, Ok, Err, IfOk, IfErr, IfSome, length, map, option_map, option_copied};
+ghost use Rattle.toml.specs.Data.{get_member};
 ghost use Rattle.toml.specs.View.{view, array_view, table_view};
 ghost use Rattle.layout.specs.Names.{key_text};
-ghost use Rattle.layout.specs.Checks.{integer_at, array_at, brick_in, natural, within, number_at, port_at, least_other, keys_of, no_other, integers_in, bricks_in, stands_in, are_distinct, members_at, blocks_at, group_in, tables_in, tables_at, groups_in, is_known, description_in};
+ghost use Rattle.layout.specs.Checks.{integer_at, array_at, brick_in, natural, within, number_at, port_at, least_other, keys_of, integers_in, bricks_in, stands_in, are_distinct, members_at, blocks_at, group_in, tables_in, tables_at, groups_in, is_known, description_in};
 
 use crate::descriptions::Description;
 use crate::faults::{FieldName, Key, KeyText, LayoutFault};
