@@ -53,6 +53,16 @@ fn refuse_layout<K: Sink>(alloc: Global, sink: &mut K, fault: &LayoutFault) -> R
     close(sink, text.as_bytes(), Verdict::BadLayout)
 }
 
+/// Whether a layout was not read for want of memory.
+fn is_memory(fault: &LayoutFault) -> bool
+    ensures { result ≡ false → fault.now ≢ LayoutFault.NoMemory }
+{
+    match fault {
+        LayoutFault::NoMemory => true,
+        LayoutFault::Toml | LayoutFault::Field { .. } | LayoutFault::Limit { .. } => false,
+    }
+}
+
 /// Whether each stripe of these groups has one data block, of which each member keeps a copy.
 fn are_copied(groups: &[Group]) -> bool
     ensures { result ≡ list_all (λ group. nat_eq group.m 1) groups.now }
@@ -95,8 +105,12 @@ fn run_layout<S: Source, K: Sink>(
                 refuse_layout(alloc, sink, &fault)
             }
         },
-        Err(LayoutFault::NoMemory) => Err(Halt::Memory),
-        Err(fault) => refuse_layout(alloc, sink, &fault),
+        Err(fault) => {
+            if is_memory(&fault) {
+                return Err(Halt::Memory);
+            }
+            refuse_layout(alloc, sink, &fault)
+        }
     }
 }
 

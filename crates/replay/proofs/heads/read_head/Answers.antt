@@ -19,10 +19,10 @@ returns-then-is_layout_end-clause-head g c =
 pub returns-then-len-clause-head : goal.returns-then-len-clause-head
 returns-then-len-clause-head g c =
     let says = rw c.in-Whole.is at c.in_ok-line.ensures.says in
-    let other : ends_layout c.in-Whole.line.items ≡ false =
+    let other : ends_layout c.in-Whole.line ≡ false =
     ap ends_layout (sym c.as_slice.ensures.value) ∙ sym c.is_layout_end.ensures ∙ c.if-is_layout_end.false in
-    too_long _ _ (c.loop.head.items ++ c.in-Whole.line.items) (ReadsHead-line _ _ _ _ c.in-Whole.line.items c.loop.invariant.read says.1 other)
-    (omega (arith, length-append c.loop.head.items c.in-Whole.line.items, c.if-len.true, c.len.ensures, c.len-in-Whole.ensures))
+    too_long _ _ (c.loop.head.items ++ c.in-Whole.line) (ReadsHead-line _ _ _ _ c.in-Whole.line c.loop.invariant.read says.1 other)
+    (omega (arith, length-append c.loop.head.items c.in-Whole.line, c.if-len.true, c.len.ensures, c.len-in-Whole.ensures))
 
 pub returns-in-Long-clause-head : goal.returns-in-Long-clause-head
 returns-in-Long-clause-head g c =
@@ -37,15 +37,15 @@ returns-in-Ended-clause-head g c =
 pub loop-preserved : goal.loop-preserved
 loop-preserved g c =
     let says = rw c.in-Whole.is at c.in_ok-line.ensures.says in
-    let other : ends_layout c.in-Whole.line.items ≡ false =
+    let other : ends_layout c.in-Whole.line ≡ false =
     ap ends_layout (sym c.as_slice.ensures.value) ∙ sym c.is_layout_end.ensures ∙ c.if-is_layout_end.false in
-    let longer : c.extend_from_slice.new.self.items ≡ c.loop.head.items ++ c.in-Whole.line.items =
+    let longer : c.extend_from_slice.new.self.items ≡ c.loop.head.items ++ c.in-Whole.line =
     c.in_ok-extend_from_slice-in-Whole.ensures.items ∙ ap (λ l. c.loop.head.items ++ l) c.as_slice-in-Whole.ensures.value in
     record {
       read = subst (λ (l : List ℕ). ReadsHead (prepend_known c.args.unread.now (g.S.Source.told c.args.source.now))
           (prepend_known c.next.new.unread (g.S.Source.told c.next.new.source)) l) (sym longer)
-          (ReadsHead-line _ _ _ _ c.in-Whole.line.items c.loop.invariant.read says.1 other);
+          (ReadsHead-line _ _ _ _ c.in-Whole.line c.loop.invariant.read says.1 other);
       within = subst (λ (l : List ℕ). length l ≤ most_layout_bytes) (sym longer)
-          (omega (arith, length-append c.loop.head.items c.in-Whole.line.items, c.if-len.false, c.len.ensures, c.len-in-Whole.ensures));
+          (omega (arith, length-append c.loop.head.items c.in-Whole.line, c.if-len.false, c.len.ensures, c.len-in-Whole.ensures));
       source = Kept-trans c.loop.invariant.source (Kept-calm c.next.ensures.kept);
     }
