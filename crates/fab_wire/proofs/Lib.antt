@@ -1,0 +1,6 @@
+pub mod Loops
+pub mod Readings
+pub mod Writings
+pub mod Numbers
+pub mod Choices
+pub mod Parts
