@@ -10,7 +10,7 @@ use Rattle.fab_wire.proofs.Numbers.{field8, number_again, number_fails}
 pub record Rows {X : Type 0} (number : X → ℕ) (parts : X → List Field) (rows : ℕ → Option (Reads X)) : Type 0 where
   pub at_row : (n : ℕ) (at : Reads X) → rows n ≡ Some at → IsField (λ x. number x ≡ n) parts at
 
-chosen : {A : Type 0} (b : Bool) (x y z : A) → cond b x y ≡ z → ((b ≡ true) × (x ≡ z)) ⊎ ((b ≡ false) × (y ≡ z))
+pub chosen : {A : Type 0} (b : Bool) (x y z : A) → cond b x y ≡ z → ((b ≡ true) × (x ≡ z)) ⊎ ((b ≡ false) × (y ≡ z))
 chosen true x y z e = inl (refl, e)
 chosen false x y z e = inr (refl, e)
 

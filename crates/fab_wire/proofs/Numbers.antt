@@ -13,15 +13,14 @@ use Rattle.fab_wire.proofs.Readings.{IsBytes, IsBytes-take, IsBytes-drop, bind_o
 pub record IsSize (size : ℕ) : Type 0 where
   pub back : (bytes : List ℕ) → length bytes ≡ size → IsBytes bytes → number_bytes size (big_number size bytes) ≡ bytes
 
-size1 : IsSize 1
+one_byte : (bytes : List ℕ) → length bytes ≡ 1 → IsBytes bytes → number_bytes 1 (big_number 1 bytes) ≡ bytes
 unfolding number_bytes
-size1 = record { back = λ bytes len fits. one bytes len fits }
-  where
-    one : (bytes : List ℕ) → length bytes ≡ 1 → IsBytes bytes → number_bytes 1 (big_number 1 bytes) ≡ bytes
-    unfolding number_bytes
-    one [] len fits = absurd (omega arith)
-    one (b ∷ []) len fits = let lt : b < 256 = fits 0 in ap (λ (n : ℕ). n ∷ []) (omega arith)
-    one (b ∷ c ∷ bytes) len fits = absurd (omega arith)
+one_byte [] len fits = absurd (omega arith)
+one_byte (b ∷ []) len fits = let lt : b < 256 = fits 0 in ap (λ (n : ℕ). n ∷ []) (omega arith)
+one_byte (b ∷ c ∷ bytes) len fits = absurd (omega arith)
+
+size1 : IsSize 1
+size1 = record { back = one_byte }
 
 size2 : IsSize 2
 unfolding number_bytes
@@ -40,7 +39,7 @@ guard_past : {A : Type 0} (b : Bool) (left : ℕ) (r : Result A ℕ) (y : A) →
 guard_past true left r y e = absurd cc
 guard_past false left r y e = (refl, e)
 
-guard_held : {A : Type 0} (b : Bool) (left : ℕ) (r : Result A ℕ) (y : A) → cond b r (Err left) ≡ Ok y → (b ≡ true) × (r ≡ Ok y)
+pub guard_held : {A : Type 0} (b : Bool) (left : ℕ) (r : Result A ℕ) (y : A) → cond b r (Err left) ≡ Ok y → (b ≡ true) × (r ≡ Ok y)
 guard_held true left r y e = (refl, e)
 guard_held false left r y e = absurd cc
 
@@ -48,7 +47,7 @@ guard_err : {A : Type 0} (b : Bool) (here : ℕ) (x : A) (left : ℕ) → cond b
 guard_err true here x left e = cc
 guard_err false here x left e = absurd cc
 
-held_err : {A : Type 0} (b : Bool) (here : ℕ) (x : A) (left : ℕ) → cond b (Ok x) (Err here) ≡ Err left → left ≡ here
+pub held_err : {A : Type 0} (b : Bool) (here : ℕ) (x : A) (left : ℕ) → cond b (Ok x) (Err here) ≡ Err left → left ≡ here
 held_err true here x left e = absurd cc
 held_err false here x left e = cc
 
