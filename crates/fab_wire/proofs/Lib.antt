@@ -4,3 +4,4 @@ pub mod Writings
 pub mod Numbers
 pub mod Choices
 pub mod Parts
+pub mod MessageKinds
