@@ -14,13 +14,13 @@ pub chosen : {A : Type 0} (b : Bool) (x y z : A) → cond b x y ≡ z → ((b �
 chosen true x y z e = inl (refl, e)
 chosen false x y z e = inr (refl, e)
 
-abbrev made : {A : Type 0} → A → Option A
+abbrev pub made : {A : Type 0} → A → Option A
 made x = Some x
 
 some_is : {A : Type 0} (x y : A) → made x ≡ made y → x ≡ y
 some_is x y e = cc
 
-none_not_some : {A : Type 0} (x : A) → None ≡ made x → ⊥
+pub none_not_some : {A : Type 0} (x : A) → None ≡ made x → ⊥
 none_not_some x e = cc
 
 pub with_row : {X : Type 0} {number : X → ℕ} {parts : X → List Field} {at : Reads X} {others : ℕ → Option (Reads X)} (value : ℕ)

@@ -5,3 +5,4 @@ pub mod Numbers
 pub mod Choices
 pub mod Parts
 pub mod MessageKinds
+pub mod ClientKinds

@@ -41,7 +41,7 @@ use Rattle.fab_wire.proofs.Parts.{call_law, stamp_law, ballot_law, brick_law, gr
 -- ---- requests
 
 -- the kinds of requests and of replies
-request_small : (r : Request) → (request_row r).0 < 10
+pub request_small : (r : Request) → (request_row r).0 < 10
 request_small (requests.Read want) = omega arith
 request_small (requests.Order stamp) = omega arith
 request_small (requests.OrderRead stamp look want) = omega arith
@@ -52,7 +52,7 @@ request_small (requests.OldRead bound) = omega arith
 request_small (requests.Prepare ballot) = omega arith
 request_small (requests.Accept ballot members) = omega arith
 
-reply_between : (r : Reply) → (32 ≤ (reply_row r).0) × ((reply_row r).0 < 64)
+pub reply_between : (r : Reply) → (32 ≤ (reply_row r).0) × ((reply_row r).0 < 64)
 reply_between (replies.Found order newest) = (omega arith, omega arith)
 reply_between replies.Ordered = (omega arith, omega arith)
 reply_between (replies.OrderedRead found) = (omega arith, omega arith)
@@ -192,7 +192,7 @@ unfolding synced_at kind_of body_fields
 synced_law = made_field (λ (m : Message). kind_of m ≡ 11) body_fields (λ (p : GroupId × ViewNo). Synced p.0 p.1)
     (λ p is. refl) (λ p is. refl) find_synced (plain_pair group_law view_law)
 
-request_table : Rows kind_of body_fields request_rows
+pub request_table : Rows kind_of body_fields request_rows
 unfolding request_rows
 request_table = with_row 1 read_law (with_row 2 order_law (with_row 3 order_read_law (with_row 4 write_law (with_row 5 modify_law (with_row 6 collect_law (with_row 7 old_read_law (with_row 8 prepare_law (with_row 9 accept_law (with_row 10 learn_law (with_row 11 synced_law without_rows))))))))))
 
@@ -348,6 +348,6 @@ not_synced_law : IsField (λ (m : Message). kind_of m ≡ 45) body_fields not_sy
 unfolding not_synced_at
 not_synced_law = plain_law 45 replies.NotSynced (omega arith) (omega arith) refl refl is_not_synced
 
-reply_table : Rows kind_of body_fields reply_rows
+pub reply_table : Rows kind_of body_fields reply_rows
 unfolding reply_rows
 reply_table = with_row 32 found_law (with_row 33 ordered_law (with_row 34 ordered_read_law (with_row 35 stored_law (with_row 36 behind_law (with_row 37 later_law (with_row 38 full_law (with_row 39 moved_law (with_row 40 old_law (with_row 41 retired_law (with_row 42 promise_law (with_row 43 accepted_reply_law (with_row 44 outbid_law (with_row 45 not_synced_law without_rows)))))))))))))
