@@ -6,3 +6,6 @@ pub mod Choices
 pub mod Parts
 pub mod MessageKinds
 pub mod ClientKinds
+pub mod MessageLimits
+pub mod WholeMessages
+pub mod Sizes

@@ -35,7 +35,7 @@ unfolding number_bytes
 size8 = record { back = λ bytes len fits. be_bytes_8 bytes (big_number 8 bytes) len fits (omega arith) }
 
 -- a test that did not fail, and one that did
-guard_past : {A : Type 0} (b : Bool) (left : ℕ) (r : Result A ℕ) (y : A) → cond b (Err left) r ≡ Ok y → (b ≡ false) × (r ≡ Ok y)
+pub guard_past : {A : Type 0} (b : Bool) (left : ℕ) (r : Result A ℕ) (y : A) → cond b (Err left) r ≡ Ok y → (b ≡ false) × (r ≡ Ok y)
 guard_past true left r y e = absurd cc
 guard_past false left r y e = (refl, e)
 

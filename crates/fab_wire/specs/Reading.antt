@@ -51,6 +51,12 @@ abbrev pub Gives : {X Y : Type 0} → (X → Y) → Result X ReadFault → Resul
 Gives view (Ok x) read = read ≡ Ok (view x)
 Gives view (Err fault) read = Fails fault read
 
+-- it didn't run out: what has a fixed number of bytes takes none
+abbrev pub TakesNoMemory : {X : Type 0} → Result X ReadFault → Type 0
+TakesNoMemory (Ok x) = Unit {0}
+TakesNoMemory (Err (faults.Malformed left)) = Unit {0}
+TakesNoMemory (Err faults.NoMemory) = ⊥
+
 -- one field after another, and fields seen as something else
 abbrev pub then_at : {X Y : Type 0} → Reads X → Reads Y → Reads (X × Y)
 then_at first second bytes = first bytes >>= λ x. second x.1 >>= λ y. Ok ((x.0, y.0), y.1)

@@ -108,6 +108,14 @@ pub record Spells (bytes : List ℕ) (message : Message) : Type 0 where
   pub fits : AllFit (fields_of message)
   pub bytes_are : bytes ≡ spelled (fields_of message)
 
+-- these fields stand at this place of the bytes
+pub record IsAt (bytes : List ℕ) (at : ℕ) (fields : List Field) : Type 0 where
+  pub front : List ℕ
+  pub tail : List ℕ
+  pub fits : AllFit fields
+  pub bytes_are : bytes ≡ front ++ (spelled fields ++ tail)
+  pub at_is : length front ≡ at
+
 -- the bytes begin with the first fields of a message that has a spelling, so many bytes
 pub record Begins (bytes : List ℕ) (message : Message) (at : ℕ) : Type 0 where
   pub front : List Field

@@ -1,7 +1,7 @@
 //! Reading the fields of messages from left to right: a field's value and the bytes after it.
 
 ghost use Rattle.std.specs.Prelude.{◌≡◌, ◌≤◌};
-ghost use Rattle.fab_wire.specs.Reading.{Gives, number_at, limited_at, exactly_at, raw_at, times_at, option_at};
+ghost use Rattle.fab_wire.specs.Reading.{Gives, TakesNoMemory, number_at, limited_at, exactly_at, raw_at, times_at, option_at};
 ghost use Rattle.fab_wire.specs.Reading.{call_at, stamp_at, ballot_at, brick_at, group_at, view_number_at};
 ghost use Rattle.fab_wire.specs.Reading.{stripe_number_at, block_at, stripe_at, members_at, want_at, look_at};
 ghost use Rattle.fab_wire.specs.Reading.{version_at, accepted_at, lineage_at};
@@ -29,7 +29,8 @@ pub fn u8_of(bytes: &[u8]) -> Result<(u8, &[u8]), ReadFault>
 /// A number of two bytes.
 #[tactic(auto, unfolding(crate::specs::Reading::number_at))]
 pub fn u16_of(bytes: &[u8]) -> Result<(u16, &[u8]), ReadFault>
-    ensures { Gives (λ x. (x.0, x.1.now)) result (number_at 2 bytes.now) }
+    ensures gives { Gives (λ x. (x.0, x.1.now)) result (number_at 2 bytes.now) }
+    ensures memory { TakesNoMemory result }
 {
     if bytes.len() < 2 {
         return Err(ReadFault::Malformed(bytes.len()));
@@ -41,7 +42,8 @@ pub fn u16_of(bytes: &[u8]) -> Result<(u16, &[u8]), ReadFault>
 /// A number of four bytes.
 #[tactic(auto, unfolding(crate::specs::Reading::number_at))]
 pub fn u32_of(bytes: &[u8]) -> Result<(u32, &[u8]), ReadFault>
-    ensures { Gives (λ x. (x.0, x.1.now)) result (number_at 4 bytes.now) }
+    ensures gives { Gives (λ x. (x.0, x.1.now)) result (number_at 4 bytes.now) }
+    ensures memory { TakesNoMemory result }
 {
     if bytes.len() < 4 {
         return Err(ReadFault::Malformed(bytes.len()));
@@ -53,7 +55,8 @@ pub fn u32_of(bytes: &[u8]) -> Result<(u32, &[u8]), ReadFault>
 /// A number of eight bytes.
 #[tactic(auto, unfolding(crate::specs::Reading::number_at))]
 pub fn u64_of(bytes: &[u8]) -> Result<(u64, &[u8]), ReadFault>
-    ensures { Gives (λ x. (x.0, x.1.now)) result (number_at 8 bytes.now) }
+    ensures gives { Gives (λ x. (x.0, x.1.now)) result (number_at 8 bytes.now) }
+    ensures memory { TakesNoMemory result }
 {
     if bytes.len() < 8 {
         return Err(ReadFault::Malformed(bytes.len()));
@@ -102,7 +105,8 @@ pub fn stripe_of(alloc: Global, bytes: &[u8]) -> Result<(Bytes, &[u8]), ReadFaul
 /// A call.
 #[tactic(auto, unfolding(crate::specs::Reading::call_at))]
 pub fn call_of(bytes: &[u8]) -> Result<(Call, &[u8]), ReadFault>
-    ensures { Gives (λ x. (x.0, x.1.now)) result (call_at bytes.now) }
+    ensures gives { Gives (λ x. (x.0, x.1.now)) result (call_at bytes.now) }
+    ensures memory { TakesNoMemory result }
 {
     let (boot, rest) = u32_of(bytes)?;
     let (seq, rest) = u64_of(rest)?;
@@ -124,7 +128,8 @@ pub fn call_of(bytes: &[u8]) -> Result<(Call, &[u8]), ReadFault>
 /// A stamp.
 #[tactic(auto, unfolding(crate::specs::Reading::stamp_at))]
 pub fn stamp_of(bytes: &[u8]) -> Result<(Stamp, &[u8]), ReadFault>
-    ensures { Gives (λ x. (x.0, x.1.now)) result (stamp_at bytes.now) }
+    ensures gives { Gives (λ x. (x.0, x.1.now)) result (stamp_at bytes.now) }
+    ensures memory { TakesNoMemory result }
 {
     let (view, rest) = u32_of(bytes)?;
     let (time, rest) = u64_of(rest)?;
@@ -142,7 +147,8 @@ pub fn stamp_of(bytes: &[u8]) -> Result<(Stamp, &[u8]), ReadFault>
 /// A ballot.
 #[tactic(auto, unfolding(crate::specs::Reading::ballot_at))]
 pub fn ballot_of(bytes: &[u8]) -> Result<(Ballot, &[u8]), ReadFault>
-    ensures { Gives (λ x. (x.0, x.1.now)) result (ballot_at bytes.now) }
+    ensures gives { Gives (λ x. (x.0, x.1.now)) result (ballot_at bytes.now) }
+    ensures memory { TakesNoMemory result }
 {
     let (round, rest) = u32_of(bytes)?;
     let (brick, rest) = u16_of(rest)?;

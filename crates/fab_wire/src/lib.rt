@@ -8,6 +8,7 @@ pub mod calls;
 mod client_reads;
 mod client_writes;
 pub mod clients;
+mod datagrams;
 pub mod faults;
 mod field_reads;
 mod field_writes;
@@ -21,6 +22,7 @@ pub mod requests;
 
 pub use calls::Call;
 pub use clients::{ClientAnswer, ClientAsk, ClientOp};
+pub use datagrams::{decode, encode, read_ballot, read_call, read_stamp};
 pub use faults::WireFault;
 pub use messages::{Message, Packet};
 pub use replies::{Choice, Lineage, Reply};
