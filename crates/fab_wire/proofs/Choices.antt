@@ -65,22 +65,22 @@ tag_field : {X : Type 0} (rows : ℕ → Option (Reads X)) (n : ℕ) (at : Reads
     → IsField (HasRow rows) (λ (k : ℕ). exactly k ∷ []) (tag_at rows)
 tag_field {X} rows n at is lt = single_field (HasRow rows) (λ (k : ℕ). exactly k) (tag_at rows) n (record { at = at; is = is }) (lt, (omega arith, omega arith))
     (λ bytes k rest isb e.
-        let a = bind_ok (number_at 1 bytes) (λ x. checked (rows x.0) x (length bytes)) (k, rest) e in
-        let held = checked_ok (rows a.0.0) a.0 (k, rest) (length bytes) a.2 in
-        let took = field8.takes bytes a.0.0 a.0.1 isb a.1 in
-        let whole : HasRow rows a.0.0 × Takes bytes (exactly a.0.0 ∷ []) a.0.1 = (
-          record { at = held.0.0; is = held.0.1 },
-          record { parts = took.1.parts; fits = ((took.1.fits.0, (omega arith, omega arith)), tt); rest_fits = took.1.rest_fits },
-        ) in
-        subst (λ (p : ℕ × List ℕ). HasRow rows p.0 × Takes bytes (exactly p.0 ∷ []) p.1) held.1 whole)
+    let a = bind_ok (number_at 1 bytes) (λ x. checked (rows x.0) x (length bytes)) (k, rest) e in
+    let held = checked_ok (rows a.0.0) a.0 (k, rest) (length bytes) a.2 in
+    let took = field8.takes bytes a.0.0 a.0.1 isb a.1 in
+    let whole : HasRow rows a.0.0 × Takes bytes (exactly a.0.0 ∷ []) a.0.1 = (
+      record { at = held.0.0; is = held.0.1 },
+      record { parts = took.1.parts; fits = ((took.1.fits.0, (omega arith, omega arith)), tt); rest_fits = took.1.rest_fits },
+    ) in
+    subst (λ (p : ℕ × List ℕ). HasRow rows p.0 × Takes bytes (exactly p.0 ∷ []) p.1) held.1 whole)
     (λ k rest has fits.
-        ap (λ (r : Result (ℕ × List ℕ) ℕ). r >>= λ x. checked (rows x.0) x (length (number_bytes 1 k ++ rest))) (number_again 1 k rest fits.0)
-        ∙ ap (λ (o : Option (Reads X)). checked o (k, rest) (length (number_bytes 1 k ++ rest))) has.is)
+    ap (λ (r : Result (ℕ × List ℕ) ℕ). r >>= λ x. checked (rows x.0) x (length (number_bytes 1 k ++ rest))) (number_again 1 k rest fits.0)
+    ∙ ap (λ (o : Option (Reads X)). checked o (k, rest) (length (number_bytes 1 k ++ rest))) has.is)
     (λ bytes left e.
-        elim (bind_err (number_at 1 bytes) (λ x. checked (rows x.0) x (length bytes)) left e) [
-          | inl e1 ↦ number_fails 1 bytes left e1
-          | inr w ↦ checked_err (rows w.0.0) w.0 (length bytes) left w.2
-        ])
+    elim (bind_err (number_at 1 bytes) (λ x. checked (rows x.0) x (length bytes)) left e) [
+      | inl e1 ↦ number_fails 1 bytes left e1
+      | inr w ↦ checked_err (rows w.0.0) w.0 (length bytes) left w.2
+    ])
 
 -- ---- the byte and what follows
 
@@ -116,8 +116,8 @@ pub rows_field : {X : Type 0} {number : X → ℕ} {parts : X → List Field} {r
 rows_field {X} {number} {parts} {rows} known n at is lt =
     let following : (k : ℕ) → HasRow rows k → AllFit (exactly k ∷ []) → IsField (λ (x : X). (number x ≡ k) × Unit {0}) parts (λ bytes. row_at (rows k) 0 bytes)
     = λ k has fits.
-        same_field (λ (x : X). (number x ≡ k) × Unit {0}) (λ x e. (e, tt)) (λ x e fits. e.0)
-        (same_reading has.at (λ bytes. row_at (rows k) 0 bytes) (λ bytes. ap (λ o. row_at o 0 bytes) (sym has.is)) (known.at_row k has.at has.is)) in
+    same_field (λ (x : X). (number x ≡ k) × Unit {0}) (λ x e. (e, tt)) (λ x e fits. e.0)
+    (same_reading has.at (λ bytes. row_at (rows k) 0 bytes) (λ bytes. ap (λ o. row_at o 0 bytes) (sym has.is)) (known.at_row k has.at has.is)) in
     let both : IsField (λ (x : X). HasRow rows (number x) × Unit {0}) (λ (x : X). exactly (number x) ∷ parts x) (λ bytes. tag_at rows bytes >>= λ r. row_at (rows r.0) 0 r.1)
     = bind_field {Iz = λ (x : X). Unit {0}} number {pz = parts} {az = λ k bytes. row_at (rows k) 0 bytes} (tag_field rows n at is lt) following in
     same_field (λ (x : X). HasRow rows (number x)) (λ x is. is.0) (λ x is fits. (is, tt))

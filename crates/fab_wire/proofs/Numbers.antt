@@ -63,8 +63,7 @@ number_takes size is bytes n rest fits e =
     let n-is : big_number size (take size bytes) ≡ n = ap (λ (p : ℕ × List ℕ). p.0) same in
     let rest-is : drop size bytes ≡ rest = ap (λ (p : ℕ × List ℕ). p.1) same in
     let front_fits = IsBytes-take size bytes fits in
-    let front : number_bytes size n ≡ take size bytes = ap (number_bytes size) (sym n-is) ∙ is.back (take size bytes) (omega (arith, length-take size bytes)) front_fits in
-    (
+    let front : number_bytes size n ≡ take size bytes = ap (number_bytes size) (sym n-is) ∙ is.back (take size bytes) (omega (arith, length-take size bytes)) front_fits in (
       sym (take-append-drop size bytes) ∙ ap (λ (t : List ℕ). t ++ drop size bytes) (sym front) ∙ ap (λ (t : List ℕ). number_bytes size n ++ t) rest-is,
       subst (λ (k : ℕ). k < 256 ^ size) n-is (big_from-lt 0 size (take size bytes) front_fits),
       subst IsBytes rest-is (IsBytes-drop size bytes fits),
@@ -85,8 +84,8 @@ number_fails size bytes left e = guard_err (ltb (length bytes) size) (length byt
 number_field : (size : ℕ) → IsSize size → 0 < 256 ^ size → IsPlain (λ (n : ℕ). Number size n ∷ []) (number_at size)
 number_field size is some = single_field (λ (n : ℕ). Unit {0}) (λ (n : ℕ). Number size n) (number_at size) 0 tt some
     (λ bytes n rest isb e.
-        let took = number_takes size is bytes n rest isb e in
-        (tt, record { parts = took.0 ∙ ap (λ (t : List ℕ). t ++ rest) (sym (append-nil (number_bytes size n))); fits = (took.1, tt); rest_fits = took.2 }))
+    let took = number_takes size is bytes n rest isb e in
+    (tt, record { parts = took.0 ∙ ap (λ (t : List ℕ). t ++ rest) (sym (append-nil (number_bytes size n))); fits = (took.1, tt); rest_fits = took.2 }))
     (λ n rest u lt. number_again size n rest lt)
     (number_fails size)
 
@@ -201,21 +200,20 @@ pub raw_field : (count : ℕ) → IsField (λ (bytes : List ℕ). length bytes �
 unfolding raw_at
 raw_field count = single_field (λ (bytes : List ℕ). length bytes ≡ count) (λ (bytes : List ℕ). Raw bytes) (raw_at count) (zeros count) (length-zeros count) tt
     (λ bytes x rest isb e.
-        let g = guard_past (ltb (length bytes) count) (length bytes) (Ok (take count bytes, drop count bytes)) (x, rest) e in
-        let same = ok_is (take count bytes, drop count bytes) (x, rest) g.1 in
-        let long : count ≤ length bytes = ltb-false _ _ g.0 in
-        let x-is : take count bytes ≡ x = ap (λ (p : List ℕ × List ℕ). p.0) same in
-        let rest-is : drop count bytes ≡ rest = ap (λ (p : List ℕ × List ℕ). p.1) same in
-        (
-          subst (λ (b : List ℕ). length b ≡ count) x-is (omega (arith, length-take count bytes)),
-          record {
-            parts = sym (take-append-drop count bytes) ∙ ap (λ (t : List ℕ). t ++ drop count bytes) x-is ∙ ap (λ (t : List ℕ). x ++ t) rest-is
-                ∙ ap (λ (t : List ℕ). t ++ rest) (sym (append-nil x));
-            fits = (tt, tt);
-            rest_fits = subst IsBytes rest-is (IsBytes-drop count bytes isb);
-          },
-        ))
+    let g = guard_past (ltb (length bytes) count) (length bytes) (Ok (take count bytes, drop count bytes)) (x, rest) e in
+    let same = ok_is (take count bytes, drop count bytes) (x, rest) g.1 in
+    let long : count ≤ length bytes = ltb-false _ _ g.0 in
+    let x-is : take count bytes ≡ x = ap (λ (p : List ℕ × List ℕ). p.0) same in
+    let rest-is : drop count bytes ≡ rest = ap (λ (p : List ℕ × List ℕ). p.1) same in (
+      subst (λ (b : List ℕ). length b ≡ count) x-is (omega (arith, length-take count bytes)),
+      record {
+        parts = sym (take-append-drop count bytes) ∙ ap (λ (t : List ℕ). t ++ drop count bytes) x-is ∙ ap (λ (t : List ℕ). x ++ t) rest-is
+            ∙ ap (λ (t : List ℕ). t ++ rest) (sym (append-nil x));
+        fits = (tt, tt);
+        rest_fits = subst IsBytes rest-is (IsBytes-drop count bytes isb);
+      },
+    ))
     (λ x rest len u.
-        let long : ltb (length (x ++ rest)) count ≡ false = le-ltb _ _ (omega (arith, length-append x rest)) in
-        rw (long, take_at x rest count len, drop_at x rest count len) refl)
+    let long : ltb (length (x ++ rest)) count ≡ false = le-ltb _ _ (omega (arith, length-append x rest)) in
+    rw (long, take_at x rest count len, drop_at x rest count len) refl)
     (λ bytes left e. guard_err (ltb (length bytes) count) (length bytes) (take count bytes, drop count bytes) left e)

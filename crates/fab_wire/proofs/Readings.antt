@@ -179,8 +179,15 @@ same_parts {X} {I} {p} {at} q same field = record {
   stops = λ bytes left isb e.
       let s = field.stops bytes left isb e in
       record {
-        value = s.value; is = s.is; fits = subst (λ (fs : List Field). AllFit fs) (same s.value s.is) s.fits; front = s.front; back = s.back; tail = s.tail;
-        fields = sym (same s.value s.is) ∙ s.fields; bytes_are = s.bytes_are; left_is = s.left_is;
+        value = s.value;
+        is = s.is;
+        fits = subst (λ (fs : List Field). AllFit fs) (same s.value s.is) s.fits;
+        front = s.front;
+        back = s.back;
+        tail = s.tail;
+        fields = sym (same s.value s.is) ∙ s.fields;
+        bytes_are = s.bytes_are;
+        left_is = s.left_is;
       };
   furthest = λ bytes x front back tail isb is fits fields are.
       field.furthest bytes x front back tail isb is (subst (λ (fs : List Field). AllFit fs) (sym (same x is)) fits) (same x is ∙ fields) are;
@@ -347,8 +354,8 @@ pub pair_field : {X Y : Type 0} {Ix : X → Type 0} {Iy : Y → Type 0} {px : X 
 pair_field {X} {Y} {Ix} {Iy} {px} {py} {ax} {ay} first second =
     bind_field {Z = X × Y} {Iz = λ (p : X × Y). Iy p.1} (λ (p : X × Y). p.0) {pz = λ (p : X × Y). py p.1} {az = λ (x : X). as_at (λ (y : Y). (x, y)) ay} first
     (λ x ix fits. made_field (λ (p : X × Y). (p.0 ≡ x) × Iy p.1) (λ (p : X × Y). py p.1) (λ (y : Y). (x, y))
-        (λ y iy. (refl, iy)) (λ y iy. refl)
-        (λ p is. record { from = p.1; is = is.1; same = ap (λ (z : X). let pair : X × Y = (z, p.1) in pair) (sym is.0) }) second)
+    (λ y iy. (refl, iy)) (λ y iy. refl)
+    (λ p is. record { from = p.1; is = is.1; same = ap (λ (z : X). let pair : X × Y = (z, p.1) in pair) (sym is.0) }) second)
 
 pub plain_pair : {X Y : Type 0} {px : X → List Field} {py : Y → List Field} {ax : Reads X} {ay : Reads Y}
     → IsPlain px ax → IsPlain py ay → IsPlain (λ (p : X × Y). px p.0 ++ py p.1) (then_at ax ay)

@@ -122,29 +122,33 @@ begins_at bytes left at isb stops sum =
       | inl w ↦
           let took = (message_law.takes bytes w.0.0 w.0.1 isb w.1).1 in
           let rest : length w.0.1 ≡ left = sym (ap left_of w.1) ∙ stops in
-          let all = ap (λ (b : List ℕ). length b) took.parts in
-          (w.0.0, record {
-            front = fields_of w.0.0;
-            back = [];
-            tail = w.0.1;
-            fits = took.fits;
-            fields = sym (append-nil (fields_of w.0.0));
-            bytes_are = took.parts;
-            at_is = omega (arith, all, rest, sum, length-append (spelled (fields_of w.0.0)) w.0.1);
-          })
+          let all = ap (λ (b : List ℕ). length b) took.parts in (
+            w.0.0,
+            record {
+              front = fields_of w.0.0;
+              back = [];
+              tail = w.0.1;
+              fits = took.fits;
+              fields = sym (append-nil (fields_of w.0.0));
+              bytes_are = took.parts;
+              at_is = omega (arith, all, rest, sum, length-append (spelled (fields_of w.0.0)) w.0.1);
+            },
+          )
       | inr w ↦
           let s = message_law.stops bytes w.0 isb w.1 in
           let rest : w.0 ≡ left = sym (ap left_of w.1) ∙ stops in
-          let all = ap (λ (b : List ℕ). length b) s.bytes_are in
-          (s.value, record {
-            front = s.front;
-            back = s.back;
-            tail = s.tail;
-            fits = s.fits;
-            fields = s.fields;
-            bytes_are = s.bytes_are;
-            at_is = omega (arith, all, rest, sum, s.left_is, length-append (spelled s.front) s.tail);
-          })
+          let all = ap (λ (b : List ℕ). length b) s.bytes_are in (
+            s.value,
+            record {
+              front = s.front;
+              back = s.back;
+              tail = s.tail;
+              fits = s.fits;
+              fields = s.fields;
+              bytes_are = s.bytes_are;
+              at_is = omega (arith, all, rest, sum, s.left_is, length-append (spelled s.front) s.tail);
+            },
+          )
     ]
 
 pub malformed_at : (bytes : List ℕ) (left at : ℕ) → IsBytes bytes → datagram_of bytes ≡ Err left → at + left ≡ length bytes → IsMalformed bytes at

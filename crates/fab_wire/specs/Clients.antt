@@ -26,6 +26,10 @@ fields_for (ops.WriteStripe bytes) = (WriteStripe, 0, bytes)
 
 abbrev pub sent_as : ℕ → Ask → ClientAsk
 sent_as id ask = record {
-  id = id; group = ask.group; stripe = ask.stripe;
-  op = (fields_for ask.op).0; block = (fields_for ask.op).1; bytes = (fields_for ask.op).2;
+  id = id;
+  group = ask.group;
+  stripe = ask.stripe;
+  op = (fields_for ask.op).0;
+  block = (fields_for ask.op).1;
+  bytes = (fields_for ask.op).2;
 }

@@ -107,7 +107,12 @@ no_row n = None
 
 abbrev pub made_call : ℕ × (ℕ × (ℕ × (ℕ × (ℕ × ℕ)))) → Call
 made_call p = record {
-  boot = p.0; seq = p.1.0; phase = p.1.1.0; group = record { 0 = p.1.1.1.0 }; view = record { 0 = p.1.1.1.1.0 }; stripe = record { 0 = p.1.1.1.1.1 };
+  boot = p.0;
+  seq = p.1.0;
+  phase = p.1.1.0;
+  group = record { 0 = p.1.1.1.0 };
+  view = record { 0 = p.1.1.1.1.0 };
+  stripe = record { 0 = p.1.1.1.1.1 };
 }
 
 unfoldable pub call_at : Reads Call

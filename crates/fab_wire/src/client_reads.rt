@@ -7,8 +7,10 @@ ghost use Rattle.fab_wire.specs.Reading.{moved_answer_at};
 
 use crate::clients::{ClientAnswer, ClientAsk, ClientOp};
 use crate::faults::ReadFault;
-use crate::field_reads::{brick_of, group_of, stamp_of, stripe_number_of, stripe_of, u8_of, u32_of, u64_of};
-use crate::field_reads::view_number_of;
+use crate::field_reads::{
+    brick_of, group_of, stamp_of, stripe_number_of, stripe_of, u8_of, u32_of, u64_of,
+    view_number_of,
+};
 use crate::messages::Message;
 use fab_base::{Answer, Cause, Refusal};
 use std::alloc::Global;
@@ -44,7 +46,10 @@ fn later_answer_of(bytes: &[u8]) -> Result<(ClientAnswer, &[u8]), ReadFault>
 {
     let (brick, rest) = brick_of(bytes)?;
     let (stamp, rest) = stamp_of(rest)?;
-    Ok((ClientAnswer::Ended(Answer::Aborted(Cause::Later { brick, stamp })), rest))
+    Ok((
+        ClientAnswer::Ended(Answer::Aborted(Cause::Later { brick, stamp })),
+        rest,
+    ))
 }
 
 /// Aborted, since a brick had dropped the view before.
@@ -53,7 +58,10 @@ fn gone_of(bytes: &[u8]) -> Result<(ClientAnswer, &[u8]), ReadFault>
     ensures { Gives (λ x. (x.0, x.1.now)) result (gone_at bytes.now) }
 {
     let (brick, rest) = brick_of(bytes)?;
-    Ok((ClientAnswer::Ended(Answer::Aborted(Cause::Gone { brick })), rest))
+    Ok((
+        ClientAnswer::Ended(Answer::Aborted(Cause::Gone { brick })),
+        rest,
+    ))
 }
 
 /// Aborted, since a brick's store had no room.
@@ -63,7 +71,10 @@ fn full_answer_of(bytes: &[u8]) -> Result<(ClientAnswer, &[u8]), ReadFault>
 {
     let (brick, rest) = brick_of(bytes)?;
     let (live, rest) = u32_of(rest)?;
-    Ok((ClientAnswer::Ended(Answer::Aborted(Cause::Full { brick, live })), rest))
+    Ok((
+        ClientAnswer::Ended(Answer::Aborted(Cause::Full { brick, live })),
+        rest,
+    ))
 }
 
 /// Aborted, since a brick had learnt a later view.
@@ -73,7 +84,10 @@ fn moved_answer_of(bytes: &[u8]) -> Result<(ClientAnswer, &[u8]), ReadFault>
 {
     let (brick, rest) = brick_of(bytes)?;
     let (view, rest) = view_number_of(rest)?;
-    Ok((ClientAnswer::Ended(Answer::Aborted(Cause::Moved { brick, view })), rest))
+    Ok((
+        ClientAnswer::Ended(Answer::Aborted(Cause::Moved { brick, view })),
+        rest,
+    ))
 }
 
 /// A client's answer: its status, and what goes with it.
@@ -109,7 +123,17 @@ fn client_of(alloc: Global, bytes: &[u8]) -> Result<(Message, &[u8]), ReadFault>
     let (op, rest) = op_of(rest)?;
     let (block, rest) = u8_of(rest)?;
     let (bytes, rest) = stripe_of(alloc, rest)?;
-    Ok((Message::Client(ClientAsk { id, group, stripe, op, block, bytes }), rest))
+    Ok((
+        Message::Client(ClientAsk {
+            id,
+            group,
+            stripe,
+            op,
+            block,
+            bytes,
+        }),
+        rest,
+    ))
 }
 
 /// The answer to a client's invocation.

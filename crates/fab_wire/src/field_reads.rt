@@ -263,8 +263,8 @@ pub fn look_of(bytes: &[u8]) -> Result<(Look, &[u8]), ReadFault>
 pub fn stamp_option_of(bytes: &[u8]) -> Result<(Option<Stamp>, &[u8]), ReadFault>
     ensures { Gives (λ x. (x.0, x.1.now)) result (option_at stamp_at bytes.now) }
 {
-    let (flag, rest) = u8_of(bytes)?;
-    match flag {
+    let (has_stamp, rest) = u8_of(bytes)?;
+    match has_stamp {
         0 => Ok((None, rest)),
         1 => {
             let (stamp, rest) = stamp_of(rest)?;
@@ -285,14 +285,11 @@ fn version_of(alloc: Global, bytes: &[u8]) -> Result<(Version, &[u8]), ReadFault
 }
 
 /// A version, if there is one.
-pub fn version_option_of(
-    alloc: Global,
-    bytes: &[u8],
-) -> Result<(Option<Version>, &[u8]), ReadFault>
+pub fn version_option_of(alloc: Global, bytes: &[u8]) -> Result<(Option<Version>, &[u8]), ReadFault>
     ensures { Gives (λ x. (x.0, x.1.now)) result (option_at version_at bytes.now) }
 {
-    let (flag, rest) = u8_of(bytes)?;
-    match flag {
+    let (has_version, rest) = u8_of(bytes)?;
+    match has_version {
         0 => Ok((None, rest)),
         1 => {
             let (version, rest) = version_of(alloc, rest)?;
@@ -316,8 +313,8 @@ fn accepted_of(bytes: &[u8]) -> Result<(Choice, &[u8]), ReadFault>
 pub fn accepted_option_of(bytes: &[u8]) -> Result<(Option<Choice>, &[u8]), ReadFault>
     ensures { Gives (λ x. (x.0, x.1.now)) result (option_at accepted_at bytes.now) }
 {
-    let (flag, rest) = u8_of(bytes)?;
-    match flag {
+    let (was_accepted, rest) = u8_of(bytes)?;
+    match was_accepted {
         0 => Ok((None, rest)),
         1 => {
             let (accepted, rest) = accepted_of(rest)?;
@@ -341,8 +338,8 @@ fn lineage_of(bytes: &[u8]) -> Result<(Lineage, &[u8]), ReadFault>
 pub fn lineage_option_of(bytes: &[u8]) -> Result<(Option<Lineage>, &[u8]), ReadFault>
     ensures { Gives (λ x. (x.0, x.1.now)) result (option_at lineage_at bytes.now) }
 {
-    let (flag, rest) = u8_of(bytes)?;
-    match flag {
+    let (has_lineage, rest) = u8_of(bytes)?;
+    match has_lineage {
         0 => Ok((None, rest)),
         1 => {
             let (lineage, rest) = lineage_of(rest)?;

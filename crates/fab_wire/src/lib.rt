@@ -27,3 +27,6 @@ pub use faults::WireFault;
 pub use messages::{Message, Packet};
 pub use replies::{Choice, Lineage, Reply};
 pub use requests::{Look, Request, Version, Want};
+
+#[cfg(test)]
+mod tests;

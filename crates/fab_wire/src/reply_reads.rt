@@ -6,8 +6,10 @@ ghost use Rattle.fab_wire.specs.Reading.{stored_at, behind_at, later_at, full_at
 ghost use Rattle.fab_wire.specs.Reading.{retired_at, promise_at, accepted_reply_at, outbid_at, not_synced_at};
 
 use crate::faults::ReadFault;
-use crate::field_reads::{accepted_option_of, ballot_of, call_of, lineage_option_of, stamp_of};
-use crate::field_reads::{stamp_option_of, u32_of, version_option_of, view_number_of};
+use crate::field_reads::{
+    accepted_option_of, ballot_of, call_of, lineage_option_of, stamp_of, stamp_option_of, u32_of,
+    version_option_of, view_number_of,
+};
 use crate::messages::Message;
 use crate::replies::Reply;
 use std::alloc::Global;

@@ -7,8 +7,10 @@ ghost use Rattle.fab_wire.specs.Spelling.{fields_of, reply_row};
 ghost use Rattle.fab_wire.specs.declared.messages.Message.TheVariants as messages;
 
 use crate::calls::Call;
-use crate::field_writes::{put_ballot, put_choice_option, put_head, put_lineage_option, put_stamp};
-use crate::field_writes::{put_stamp_option, put_u32, put_version_option};
+use crate::field_writes::{
+    put_ballot, put_choice_option, put_head, put_lineage_option, put_stamp, put_stamp_option,
+    put_u32, put_version_option,
+};
 use crate::replies::{Lineage, Reply};
 use crate::requests::Version;
 use fab_base::{NoMem, Stamp, ViewNo};
@@ -73,7 +75,9 @@ fn put_reply_fields(out: &mut Vec<u8>, reply: &Reply) -> Result<(), NoMem>
         Reply::Moved { view, lineage } => put_moved(out, *view, lineage),
         Reply::Promise { accepted } => put_choice_option(out, accepted),
         Reply::Outbid { ballot } => put_ballot(out, *ballot),
-        Reply::Ordered | Reply::Stored | Reply::Retired | Reply::Accepted | Reply::NotSynced => Ok(()),
+        Reply::Ordered | Reply::Stored | Reply::Retired | Reply::Accepted | Reply::NotSynced => Ok(
+            (),
+        ),
     }
 }
 

@@ -6,8 +6,10 @@ ghost use Rattle.fab_wire.specs.Reading.{write_at, modify_at, collect_at, old_re
 ghost use Rattle.fab_wire.specs.Reading.{learn_at, synced_at};
 
 use crate::faults::ReadFault;
-use crate::field_reads::{ballot_of, block_of, call_of, group_of, look_of, members_of};
-use crate::field_reads::{data_block_of, stamp_of, stamp_option_of, view_number_of, want_of};
+use crate::field_reads::{
+    ballot_of, block_of, call_of, data_block_of, group_of, look_of, members_of, stamp_of,
+    stamp_option_of, view_number_of, want_of,
+};
 use crate::messages::Message;
 use crate::requests::Request;
 use fab_base::View;
@@ -42,7 +44,10 @@ fn order_read_of(bytes: &[u8]) -> Result<(Message, &[u8]), ReadFault>
     let (stamp, rest) = stamp_of(rest)?;
     let (look, rest) = look_of(rest)?;
     let (want, rest) = want_of(rest)?;
-    Ok((Message::Request(call, Request::OrderRead { stamp, look, want }), rest))
+    Ok((
+        Message::Request(call, Request::OrderRead { stamp, look, want }),
+        rest,
+    ))
 }
 
 /// Asks to store a block.
@@ -53,7 +58,10 @@ fn write_of(alloc: Global, bytes: &[u8]) -> Result<(Message, &[u8]), ReadFault>
     let (call, rest) = call_of(bytes)?;
     let (stamp, rest) = stamp_of(rest)?;
     let (block, rest) = block_of(alloc, rest)?;
-    Ok((Message::Request(call, Request::Write { stamp, block }), rest))
+    Ok((
+        Message::Request(call, Request::Write { stamp, block }),
+        rest,
+    ))
 }
 
 /// Asks to store a version that differs from its base in one data block.
@@ -66,7 +74,18 @@ fn modify_of(alloc: Global, bytes: &[u8]) -> Result<(Message, &[u8]), ReadFault>
     let (base, rest) = stamp_of(rest)?;
     let (data_block, rest) = data_block_of(rest)?;
     let (delta, rest) = block_of(alloc, rest)?;
-    Ok((Message::Request(call, Request::Modify { stamp, base, data_block, delta }), rest))
+    Ok((
+        Message::Request(
+            call,
+            Request::Modify {
+                stamp,
+                base,
+                data_block,
+                delta,
+            },
+        ),
+        rest,
+    ))
 }
 
 /// Says that a quorum holds a version.
@@ -107,7 +126,10 @@ fn accept_of(bytes: &[u8]) -> Result<(Message, &[u8]), ReadFault>
     let (call, rest) = call_of(bytes)?;
     let (ballot, rest) = ballot_of(rest)?;
     let (members, rest) = members_of(rest)?;
-    Ok((Message::Request(call, Request::Accept { ballot, members }), rest))
+    Ok((
+        Message::Request(call, Request::Accept { ballot, members }),
+        rest,
+    ))
 }
 
 /// Says that a view was decided.
@@ -119,7 +141,17 @@ fn learn_of(bytes: &[u8]) -> Result<(Message, &[u8]), ReadFault>
     let (number, rest) = view_number_of(rest)?;
     let (members, rest) = members_of(rest)?;
     let (prior, rest) = members_of(rest)?;
-    Ok((Message::Learn { group, view: View { number, members, prior } }, rest))
+    Ok((
+        Message::Learn {
+            group,
+            view: View {
+                number,
+                members,
+                prior,
+            },
+        },
+        rest,
+    ))
 }
 
 /// Says that each stripe has a version in a view.

@@ -8,8 +8,10 @@ ghost use Rattle.fab_wire.specs.Spelling.{fields_of, request_row};
 ghost use Rattle.fab_wire.specs.declared.messages.Message.TheVariants as messages;
 
 use crate::calls::Call;
-use crate::field_writes::{put_ballot, put_block, put_head, put_look, put_members, put_opening, put_stamp};
-use crate::field_writes::{put_stamp_option, put_u8, put_u32, put_want};
+use crate::field_writes::{
+    put_ballot, put_block, put_head, put_look, put_members, put_opening, put_stamp,
+    put_stamp_option, put_u8, put_u32, put_want,
+};
 use crate::requests::{Look, Request, Want};
 use fab_base::{Ballot, Bytes, GroupId, Members, NoMem, Stamp, View, ViewNo};
 
@@ -55,7 +57,13 @@ fn put_write(out: &mut Vec<u8>, stamp: Stamp, block: &Bytes) -> Result<(), NoMem
 
 /// A stamp, its base's, the data block and what changes.
 #[tactic(auto, using(crate::proofs::Writings::joined))]
-fn put_modify(out: &mut Vec<u8>, stamp: Stamp, base: Stamp, data_block: u8, delta: &Bytes) -> Result<(), NoMem>
+fn put_modify(
+    out: &mut Vec<u8>,
+    stamp: Stamp,
+    base: Stamp,
+    data_block: u8,
+    delta: &Bytes,
+) -> Result<(), NoMem>
     requires seat { data_block ≤ 15 }
     requires room { BlockFits delta.now }
     ensures bytes { OnOk result (out.new.items ≡ out.old.items ++ spelled (stamp_fields stamp ++ (stamp_fields base ++ (Limited 1 0 15 data_block ∷ block_fields delta.now)))) }
