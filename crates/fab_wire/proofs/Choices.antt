@@ -1,9 +1,9 @@
 -- A byte that says which fields follow.
 use Rattle.std.proofs.Common.{◌≡◌, ℕ, ◌^◌, ◌<◌, ◌≤◌, Bool, true, false, cond, eqb, List, [], ◌∷◌, ◌++◌, length, Option, Some, None, Result, Ok, Err, refl, sym, ap, subst, ◌∙◌, arith, ◌⊎◌, inl, inr}
 use Rattle.std.proofs.lemmas.Bool.{eqb-true}
-use Rattle.fab_wire.specs.Fields.{Field, Number, Limited, exactly, number_bytes, bytes_of, spelled, Fits, AllFit}
+use Rattle.fab_wire.specs.Fields.{Field, exactly, number_bytes, spelled, AllFit}
 use Rattle.fab_wire.specs.Reading.{Reads, ◌>>=◌, number_at, row_at, choice_at, row, no_row}
-use Rattle.fab_wire.proofs.Readings.{IsBytes, bind_ok, bind_err, ok_is, ok_not_err, left_of, Takes, Reaches, IsField, IsPlain, single_field, bind_field, same_field}
+use Rattle.fab_wire.proofs.Readings.{bind_ok, bind_err, ok_is, left_of, Takes, IsField, IsPlain, single_field, bind_field, same_field}
 use Rattle.fab_wire.proofs.Numbers.{field8, number_again, number_fails}
 
 -- the values that each byte stands for, and how they are read

@@ -1,6 +1,5 @@
 -- Clients' messages are read as they are spelled.
-use Rattle.std.proofs.Common.{◌≡◌, ℕ, ◌+◌, ◌^◌, ◌<◌, ◌≤◌, List, [], ◌∷◌, ◌++◌, Option, Some, None, Result, Ok, Err, refl, sym, ap, subst, ◌∙◌, arith}
-use Rattle.fab_base.specs.declared.answers.Answer.{Answer}
+use Rattle.std.proofs.Common.{◌≡◌, ℕ, ◌≤◌, List, [], ◌∷◌, Some, refl, ap, arith}
 use Rattle.fab_base.specs.declared.answers.Answer.TheVariants.{Data, Done, Aborted}
 use Rattle.fab_base.specs.declared.answers.Cause.{Cause}
 use Rattle.fab_base.specs.declared.answers.Cause.TheVariants as causes
@@ -17,9 +16,9 @@ use Rattle.fab_wire.specs.declared.clients.ClientOp.{ClientOp}
 use Rattle.fab_wire.specs.declared.messages.Message.{Message}
 use Rattle.fab_wire.specs.declared.messages.Message.TheVariants.{Learn, Synced, Client, ClientReply}
 use Rattle.fab_wire.specs.declared.messages.Message.TheVariants as messages
-use Rattle.fab_wire.specs.Fields.{Field, Limited, AllFit, u16, u32, exactly, stamp_fields, stripe_fields}
-use Rattle.fab_wire.specs.Spelling.{op_number, answer_fields, kind_of, body_fields}
-use Rattle.fab_wire.specs.Reading.{Reads, then_at, as_at, nothing_at, row, no_row, stripe_at, bare_at, data_at, later_answer_at, gone_at, full_answer_at, moved_answer_at, answer_rows, client_answer_at, client_at, client_reply_at, client_rows}
+use Rattle.fab_wire.specs.Fields.{Field, AllFit, u16, u32, exactly, stamp_fields, stripe_fields}
+use Rattle.fab_wire.specs.Spelling.{answer_fields, kind_of, body_fields}
+use Rattle.fab_wire.specs.Reading.{bare_at, data_at, later_answer_at, gone_at, full_answer_at, moved_answer_at, answer_rows, client_answer_at, client_at, client_reply_at, client_rows}
 use Rattle.fab_wire.proofs.Readings.{IsField, IsPlain, IsMade, made_field, plain_pair, nothing_field, same_field, same_parts}
 use Rattle.fab_wire.proofs.Numbers.{field8, field32, field64}
 use Rattle.fab_wire.proofs.Choices.{none_not_some, Rows, HasRow, with_row, without_rows, rows_field}

@@ -1,23 +1,12 @@
 -- Messages are read as they are spelled.
-use Rattle.std.proofs.Common.{◌≡◌, ℕ, ◌+◌, ◌^◌, ◌<◌, ◌≤◌, List, [], ◌∷◌, ◌++◌, length, cond, ltb, Option, Some, None, Result, Ok, Err, refl, sym, ap, subst, ◌∙◌, arith, ◌⊎◌, inl, inr}
+use Rattle.std.proofs.Common.{◌≡◌, ℕ, ◌<◌, ◌≤◌, List, [], ◌++◌, Option, refl, ap, ◌∙◌, arith}
 use Rattle.std.proofs.lemmas.List.{append-nil}
-use Rattle.fab_base.specs.declared.answers.Answer.{Answer}
-use Rattle.fab_base.specs.declared.answers.Answer.TheVariants.{Data, Done, Aborted}
-use Rattle.fab_base.specs.declared.answers.Cause.TheVariants as causes
-use Rattle.fab_base.specs.declared.answers.Refusal.{Refusal}
-use Rattle.fab_base.specs.declared.answers.Refusal.TheVariants.{Down, NoStripe, NoBlock, Length, Busy, Spent}
 use Rattle.fab_base.specs.declared.identities.BrickId.{BrickId}
 use Rattle.fab_base.specs.declared.identities.GroupId.{GroupId}
-use Rattle.fab_base.specs.declared.identities.StripeNo.{StripeNo}
 use Rattle.fab_base.specs.declared.identities.ViewNo.{ViewNo}
-use Rattle.fab_base.specs.declared.member_lists.View.{View}
 use Rattle.fab_base.specs.declared.stamps.Stamp.{Stamp}
 use Rattle.fab_base.specs.declared.stamps.Ballot.{Ballot}
 use Rattle.fab_wire.specs.declared.calls.Call.{Call}
-use Rattle.fab_wire.specs.declared.clients.ClientAnswer.{ClientAnswer}
-use Rattle.fab_wire.specs.declared.clients.ClientAnswer.TheVariants.{Ended, Refused}
-use Rattle.fab_wire.specs.declared.clients.ClientAsk.{ClientAsk}
-use Rattle.fab_wire.specs.declared.clients.ClientOp.{ClientOp}
 use Rattle.fab_wire.specs.declared.messages.Message.{Message}
 use Rattle.fab_wire.specs.declared.messages.Message.TheVariants.{Learn, Synced, Client, ClientReply}
 use Rattle.fab_wire.specs.declared.messages.Message.TheVariants as messages
@@ -30,13 +19,13 @@ use Rattle.fab_wire.specs.declared.replies.Choice.{Choice}
 use Rattle.fab_wire.specs.declared.replies.Lineage.{Lineage}
 use Rattle.fab_wire.specs.declared.replies.Reply.{Reply}
 use Rattle.fab_wire.specs.declared.replies.Reply.TheVariants as replies
-use Rattle.fab_wire.specs.Fields.{Field, Number, Limited, Raw, AllFit, u8, u16, u32, u64, exactly, call_fields, stamp_fields, ballot_fields, block_fields, stripe_fields, members_fields, option_fields, want_fields, look_fields, version_fields, choice_fields, lineage_fields}
-use Rattle.fab_wire.specs.Spelling.{request_row, reply_row, op_number, answer_fields, kind_of, body_fields, fabw, opening_fields, fields_of}
-use Rattle.fab_wire.specs.Reading.{Reads, then_at, as_at, nothing_at, number_at, limited_at, exactly_at, row, no_row, choice_at, call_at, stamp_at, ballot_at, brick_at, group_at, view_number_at, stripe_number_at, block_at, stripe_at, members_at, option_at, want_at, look_at, version_at, accepted_at, lineage_at, op_at, request_at, reply_at, plain_at, bare_at, answer_rows, client_answer_at, request_rows, reply_rows, read_at, order_at, order_read_at, write_at, modify_at, collect_at, old_read_at, prepare_at, accept_at, learn_at, synced_at, found_at, ordered_at, ordered_read_at, stored_at, behind_at, later_at, full_at, moved_at, old_at, retired_at, promise_at, accepted_reply_at, outbid_at, not_synced_at}
-use Rattle.fab_wire.proofs.Readings.{IsField, IsPlain, IsMade, made_field, plain_made, plain_pair, nothing_field, same_field, same_parts}
-use Rattle.fab_wire.proofs.Numbers.{field8, field32, field64, limited8, exactly8, exactly32}
-use Rattle.fab_wire.proofs.Choices.{chosen, Rows, HasRow, with_row, without_rows, rows_field, choice_field}
-use Rattle.fab_wire.proofs.Parts.{call_law, stamp_law, ballot_law, brick_law, group_law, view_law, stripe_number_law, block_law, stripe_law, members_law, option_law, want_law, look_law, version_law, choice_law, lineage_law, op_law}
+use Rattle.fab_wire.specs.Fields.{Field, call_fields}
+use Rattle.fab_wire.specs.Spelling.{request_row, reply_row, kind_of, body_fields}
+use Rattle.fab_wire.specs.Reading.{Reads, request_at, reply_at, plain_at, request_rows, reply_rows, read_at, order_at, order_read_at, write_at, modify_at, collect_at, old_read_at, prepare_at, accept_at, learn_at, synced_at, found_at, ordered_at, ordered_read_at, stored_at, behind_at, later_at, full_at, moved_at, old_at, retired_at, promise_at, accepted_reply_at, outbid_at, not_synced_at}
+use Rattle.fab_wire.proofs.Readings.{IsField, IsPlain, IsMade, made_field, plain_pair}
+use Rattle.fab_wire.proofs.Numbers.{field32, limited8}
+use Rattle.fab_wire.proofs.Choices.{Rows, with_row, without_rows}
+use Rattle.fab_wire.proofs.Parts.{call_law, stamp_law, ballot_law, group_law, view_law, block_law, members_law, option_law, want_law, look_law, version_law, choice_law, lineage_law}
 
 -- ---- requests
 

@@ -1,7 +1,6 @@
 -- A message whose fields fit has a spelling.
-use Rattle.std.proofs.Common.{◌≡◌, ℕ, ◌≤◌, List, [], ◌∷◌, ◌++◌, length, Option, Some, None, arith}
+use Rattle.std.proofs.Common.{ℕ, List, ◌∷◌, ◌++◌, Option, Some, None, arith}
 use Rattle.fab_base.specs.declared.answers.Answer.TheVariants.{Data, Done, Aborted}
-use Rattle.fab_base.specs.declared.answers.Cause.TheVariants as causes
 use Rattle.fab_base.specs.declared.answers.Refusal.TheVariants.{Down, NoStripe, NoBlock, Length, Busy, Spent}
 use Rattle.fab_base.specs.declared.identities.BrickId.{BrickId}
 use Rattle.fab_wire.specs.declared.clients.ClientAnswer.{ClientAnswer}
@@ -18,7 +17,7 @@ use Rattle.fab_wire.specs.declared.replies.Choice.{Choice}
 use Rattle.fab_wire.specs.declared.replies.Lineage.{Lineage}
 use Rattle.fab_wire.specs.declared.replies.Reply.{Reply}
 use Rattle.fab_wire.specs.declared.replies.Reply.TheVariants as replies
-use Rattle.fab_wire.specs.Fields.{Field, Limited, AllFit, u32, u64, u8, exactly, call_fields, stamp_fields, ballot_fields, block_fields, stripe_fields, members_fields, option_fields, want_fields, look_fields, version_fields, choice_fields, lineage_fields}
+use Rattle.fab_wire.specs.Fields.{Limited, AllFit, call_fields, stamp_fields, ballot_fields, block_fields, stripe_fields, members_fields, option_fields, want_fields, look_fields, version_fields, choice_fields, lineage_fields}
 use Rattle.fab_wire.specs.Spelling.{request_row, reply_row, answer_fields, body_fields, fields_of, Spells}
 use Rattle.fab_wire.specs.Limits.{WantFits, BlockFits, StripeFits, HasMembers, VersionFits, LineageFits, ChoiceFits, RequestFits, ReplyFits, AnswerFits, HasSpelling}
 use Rattle.fab_wire.proofs.Readings.{AllFit-front, AllFit-back}

@@ -1,13 +1,13 @@
 -- Numbers and counted bytes are fields: each is read as it is spelled.
-use Rattle.std.proofs.Common.{◌≡◌, ◌≢◌, ℕ, zero, suc, ◌+◌, ◌-◌, ◌*◌, ◌^◌, ◌%◌, ◌<◌, ◌≤◌, Bool, true, false, ◌&&◌, cond, eqb, ltb, leb, List, [], ◌∷◌, ◌++◌, length, get_or, take, drop, Result, Ok, Err, refl, sym, ap, subst, ◌∙◌, append_assoc, arith, ◌⊎◌, inl, inr}
-use Rattle.std.proofs.lemmas.Bool.{eqb-true, eq-eqb, ltb-false, ltb-true, le-ltb, leb-true, le-leb, and_parts, and_from}
+use Rattle.std.proofs.Common.{◌≡◌, ℕ, zero, suc, ◌^◌, ◌<◌, ◌≤◌, Bool, true, false, ◌&&◌, cond, eqb, ltb, leb, List, [], ◌∷◌, ◌++◌, length, take, drop, Result, Ok, Err, refl, sym, ap, subst, ◌∙◌, arith, inl, inr}
+use Rattle.std.proofs.lemmas.Bool.{eqb-true, eq-eqb, ltb-false, le-ltb, leb-true, le-leb, and_parts, and_from}
 use Rattle.std.proofs.lemmas.List.{append-nil, take_at, drop_at, take-append-drop, length-append, length-take}
 use Rattle.std.proofs.lemmas.Nat.{be_bytes_2, be_bytes_4, be_bytes_8}
 use Rattle.byteorder.specs.Endian.{big_number}
 use Rattle.byteorder.specs.Numbers.{big_number-reads_back, big_from-lt, length-bytes_high_first}
-use Rattle.fab_wire.specs.Fields.{Field, Number, Limited, Raw, number_bytes, bytes_of, spelled, Fits}
-use Rattle.fab_wire.specs.Reading.{Reads, ◌>>=◌, number_at, limited_at, exactly_at, raw_at}
-use Rattle.fab_wire.proofs.Readings.{IsBytes, IsBytes-take, IsBytes-drop, bind_ok, bind_err, ok_is, ok_not_err, Takes, IsField, IsPlain, single_field}
+use Rattle.fab_wire.specs.Fields.{Number, Limited, Raw, number_bytes, Fits}
+use Rattle.fab_wire.specs.Reading.{◌>>=◌, number_at, limited_at, exactly_at, raw_at}
+use Rattle.fab_wire.proofs.Readings.{IsBytes, IsBytes-take, IsBytes-drop, bind_ok, bind_err, ok_is, Takes, IsField, IsPlain, single_field}
 
 -- the bytes of a number of this size are its own
 pub record IsSize (size : ℕ) : Type 0 where

@@ -1,5 +1,5 @@
 -- Calls, stamps, lists of members and the other parts of messages are fields: each is read as it is spelled.
-use Rattle.std.proofs.Common.{◌≡◌, ℕ, zero, suc, cond, ltb, eqb, ◌^◌, ◌<◌, ◌≤◌, List, [], ◌∷◌, ◌++◌, length, map, Option, Some, None, Result, Ok, Err, refl, sym, ap, subst, ◌∙◌, arith, ◌⊎◌, inl, inr}
+use Rattle.std.proofs.Common.{◌≡◌, ℕ, cond, ltb, eqb, ◌<◌, List, [], ◌∷◌, ◌++◌, length, Option, Some, None, Result, Ok, Err, refl, sym, ap, subst, ◌∙◌, arith, inl, inr}
 use Rattle.std.proofs.lemmas.Bool.{eqb-true, ltb-true, lt-ltb}
 use Rattle.fab_base.specs.declared.identities.BrickId.{BrickId}
 use Rattle.fab_base.specs.declared.identities.GroupId.{GroupId}
@@ -17,12 +17,12 @@ use Rattle.fab_wire.specs.declared.requests.Look.{Look}
 use Rattle.fab_wire.specs.declared.requests.Look.TheVariants.{Below, At}
 use Rattle.fab_wire.specs.declared.replies.Choice.{Choice}
 use Rattle.fab_wire.specs.declared.replies.Lineage.{Lineage}
-use Rattle.fab_wire.specs.Fields.{Field, Number, Limited, Raw, number_bytes, bytes_of, spelled, Fits, AllFit, u16, u32, exactly, call_fields, stamp_fields, ballot_fields, block_fields, stripe_fields, brick_field, members_fields, option_fields, want_fields, look_fields, version_fields, choice_fields, lineage_fields}
+use Rattle.fab_wire.specs.Fields.{Field, Number, Limited, number_bytes, bytes_of, spelled, Fits, u16, u32, exactly, call_fields, stamp_fields, ballot_fields, block_fields, stripe_fields, members_fields, option_fields, want_fields, look_fields, version_fields, choice_fields, lineage_fields}
 use Rattle.fab_wire.specs.Spelling.{op_number}
-use Rattle.fab_wire.specs.Reading.{Reads, ◌>>=◌, then_at, as_at, nothing_at, number_at, limited_at, raw_at, times_at, row, no_row, choice_at, made_call, call_at, made_stamp, stamp_at, made_ballot, ballot_at, made_brick, brick_at, made_group, group_at, made_view_number, view_number_at, made_stripe, stripe_number_at, block_at, stripe_at, members_at, made_some, made_none, option_at, want_at, look_at, made_version, version_at, made_choice, accepted_at, made_lineage, lineage_at, op_at}
+use Rattle.fab_wire.specs.Reading.{Reads, ◌>>=◌, as_at, nothing_at, number_at, row, no_row, made_call, call_at, made_stamp, stamp_at, made_ballot, ballot_at, made_brick, brick_at, made_group, group_at, made_view_number, view_number_at, made_stripe, stripe_number_at, block_at, stripe_at, members_at, made_some, made_none, option_at, want_at, look_at, made_version, version_at, made_choice, accepted_at, made_lineage, lineage_at, op_at}
 use Rattle.fab_wire.proofs.Readings.{IsBytes, bind_ok, bind_err, ok_is, ok_not_err, Takes, IsField, IsPlain, IsMade, plain_made, plain_pair, made_field, nothing_field, times_field, bind_field, same_field, same_parts, single_field}
 use Rattle.fab_wire.proofs.Numbers.{field8, field16, field32, field64, limited8, limited16, limited32, raw_field, number_again, number_fails, guard_held, held_err}
-use Rattle.fab_wire.proofs.Choices.{chosen, Rows, HasRow, with_row, without_rows, choice_field}
+use Rattle.fab_wire.proofs.Choices.{chosen, HasRow, with_row, without_rows, choice_field}
 
 pub call_law : IsPlain call_fields call_at
 unfolding call_at call_fields

@@ -1,8 +1,8 @@
 -- Readers of fields: what one takes is spelled so, what is spelled so it reads again, and where it stops nothing goes further.
-use Rattle.std.proofs.Common.{◌≡◌, ℕ, zero, suc, ◌+◌, ◌^◌, ◌<◌, ◌≤◌, Bool, true, false, cond, eqb, List, [], ◌∷◌, ◌++◌, length, get_or, take, drop, map, Option, Some, None, Result, Ok, Err, refl, sym, ap, subst, ◌∙◌, append_assoc, arith, ◌⊎◌, inl, inr}
-use Rattle.std.proofs.lemmas.Bool.{cases_lt, eqb-true}
+use Rattle.std.proofs.Common.{◌≡◌, ℕ, zero, suc, ◌+◌, ◌<◌, ◌≤◌, List, [], ◌∷◌, ◌++◌, length, get_or, take, drop, map, Result, Ok, Err, refl, sym, ap, subst, ◌∙◌, append_assoc, arith, ◌⊎◌, inl, inr}
+use Rattle.std.proofs.lemmas.Bool.{cases_lt}
 use Rattle.std.proofs.lemmas.List.{append-nil, length-append, length-take, get_or-drop, get_or-take, get_or_past}
-use Rattle.fab_wire.specs.Fields.{Field, Number, Limited, Raw, bytes_of, spelled, Fits, AllFit, number_bytes}
+use Rattle.fab_wire.specs.Fields.{Field, bytes_of, spelled, Fits, AllFit}
 use Rattle.fab_wire.specs.Reading.{Reads, ◌>>=◌, then_at, as_at, nothing_at, times_at}
 
 abbrev pub IsBytes : List ℕ → Type 0

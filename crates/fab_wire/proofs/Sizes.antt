@@ -1,11 +1,11 @@
 -- Fields of a fixed number of bytes are read exactly where they end within the bytes.
-use Rattle.std.proofs.Common.{◌≡◌, ℕ, ◌+◌, ◌<◌, ◌≤◌, Bool, true, false, cond, ltb, List, [], ◌∷◌, ◌++◌, length, take, drop, Option, Some, None, Result, Ok, Err, refl, sym, ap, subst, ◌∙◌, arith, ◌⊎◌, inl, inr}
+use Rattle.std.proofs.Common.{◌≡◌, ℕ, ◌+◌, ◌<◌, ◌≤◌, ltb, List, ◌++◌, length, take, drop, Ok, Err, sym, ap, ◌∙◌, arith, inl, inr}
 use Rattle.std.proofs.lemmas.Bool.{ltb-false, ltb-true}
-use Rattle.std.proofs.lemmas.List.{length-append, length-take, length-drop, take-append-drop}
+use Rattle.std.proofs.lemmas.List.{length-take, length-drop, take-append-drop}
 use Rattle.byteorder.specs.Endian.{big_number}
 use Rattle.fab_wire.specs.declared.faults.ReadFault.{ReadFault}
 use Rattle.fab_wire.specs.declared.faults.ReadFault.TheVariants as faults
-use Rattle.fab_wire.specs.Fields.{Field, AllFit, spelled, call_fields, stamp_fields, ballot_fields}
+use Rattle.fab_wire.specs.Fields.{Field}
 use Rattle.fab_wire.specs.Spelling.{IsAt}
 use Rattle.fab_wire.specs.Reading.{Reads, ◌>>=◌, Fails, TakesNoMemory, then_at, as_at, number_at, made_call, call_at, made_stamp, stamp_at, made_ballot, ballot_at}
 use Rattle.fab_wire.proofs.Readings.{IsBytes, IsBytes-drop, bind_ok, bind_err, ok_is, ok_not_err, made_is, IsPlain}

@@ -1,23 +1,16 @@
 -- Whole datagrams: which message they spell, and where they stop being one.
-use Rattle.std.proofs.Common.{◌≡◌, ℕ, zero, suc, ◌+◌, ◌-◌, ◌^◌, ◌<◌, ◌≤◌, Bool, true, false, cond, ltb, eqb, List, [], ◌∷◌, ◌++◌, length, drop, get_or, Option, Some, None, Result, Ok, Err, refl, sym, ap, subst, ◌∙◌, arith, ◌⊎◌, inl, inr}
-use Rattle.std.specs.Prelude.{IfOk, IfErr}
+use Rattle.std.proofs.Common.{◌≡◌, ℕ, ◌+◌, ◌≤◌, cond, ltb, eqb, List, [], ◌++◌, length, Some, Result, Ok, Err, refl, sym, ap, subst, ◌∙◌, arith, inl, inr}
 use Rattle.std.proofs.lemmas.Bool.{eqb-true}
 use Rattle.std.proofs.lemmas.List.{append-nil, length-append, nil_from_length}
-use Rattle.fab_base.specs.declared.answers.Answer.TheVariants.{Data, Done, Aborted}
-use Rattle.fab_base.specs.declared.answers.Refusal.TheVariants.{Down, NoStripe, NoBlock, Length, Busy, Spent}
-use Rattle.fab_wire.specs.declared.clients.ClientAnswer.{ClientAnswer}
-use Rattle.fab_wire.specs.declared.clients.ClientAnswer.TheVariants.{Ended, Refused}
 use Rattle.fab_wire.specs.declared.messages.Message.{Message}
 use Rattle.fab_wire.specs.declared.messages.Message.TheVariants.{Learn, Synced, Client, ClientReply}
 use Rattle.fab_wire.specs.declared.messages.Message.TheVariants as messages
-use Rattle.fab_wire.specs.declared.requests.Request.{Request}
 use Rattle.fab_wire.specs.declared.requests.Request.TheVariants as requests
-use Rattle.fab_wire.specs.declared.replies.Reply.{Reply}
 use Rattle.fab_wire.specs.declared.replies.Reply.TheVariants as replies
-use Rattle.fab_wire.specs.Fields.{Field, AllFit, spelled, exactly}
+use Rattle.fab_wire.specs.Fields.{spelled}
 use Rattle.fab_wire.specs.Spelling.{kind_of, body_fields, fabw, fields_of, Spells, Begins, IsMalformed}
-use Rattle.fab_wire.specs.Reading.{Reads, ◌>>=◌, then_at, as_at, exactly_at, choice_at, request_rows, reply_rows, client_rows, kinds, message_at, datagram_of, read_at, order_at, order_read_at, write_at, modify_at, collect_at, old_read_at, prepare_at, accept_at, learn_at, synced_at, found_at, ordered_at, ordered_read_at, stored_at, behind_at, later_at, full_at, moved_at, old_at, retired_at, promise_at, accepted_reply_at, outbid_at, not_synced_at, client_at, client_reply_at}
-use Rattle.fab_wire.proofs.Readings.{IsBytes, bind_ok, bind_err, ok_is, ok_not_err, left_of, result_cases, Takes, IsField, IsPlain, no_more, plain_made, plain_pair}
+use Rattle.fab_wire.specs.Reading.{◌>>=◌, request_rows, reply_rows, client_rows, kinds, message_at, datagram_of, read_at, order_at, order_read_at, write_at, modify_at, collect_at, old_read_at, prepare_at, accept_at, learn_at, synced_at, found_at, ordered_at, ordered_read_at, stored_at, behind_at, later_at, full_at, moved_at, old_at, retired_at, promise_at, accepted_reply_at, outbid_at, not_synced_at, client_at, client_reply_at}
+use Rattle.fab_wire.proofs.Readings.{IsBytes, bind_ok, bind_err, ok_is, ok_not_err, left_of, result_cases, IsPlain, no_more, plain_made, plain_pair}
 use Rattle.fab_wire.proofs.Numbers.{exactly8, exactly32, guard_held, held_err}
 use Rattle.fab_wire.proofs.Choices.{chosen, made, Rows, HasRow, choice_field}
 use Rattle.fab_wire.proofs.MessageKinds.{request_table, reply_table}

@@ -1,11 +1,9 @@
 -- The bytes of messages. The kinds and their fields stand in the order of the table of docs/formats.md.
-use Rattle.std.specs.Prelude.{◌≡◌, ℕ, ◌≤◌, List, [], ◌∷◌, ◌++◌, length, Option, IfSome, Result, Ok, Err}
-use Rattle.fab_base.specs.declared.answers.Answer.{Answer}
+use Rattle.std.specs.Prelude.{◌≡◌, ℕ, ◌≤◌, List, [], ◌∷◌, ◌++◌, length}
 use Rattle.fab_base.specs.declared.answers.Answer.TheVariants.{Data, Done, Aborted}
 use Rattle.fab_base.specs.declared.answers.Cause.TheVariants as causes
 use Rattle.fab_base.specs.declared.answers.Refusal.{Refusal}
 use Rattle.fab_base.specs.declared.answers.Refusal.TheVariants.{Down, NoStripe, NoBlock, Length, Busy, Spent}
-use Rattle.fab_wire.specs.declared.calls.Call.{Call}
 use Rattle.fab_wire.specs.declared.clients.ClientOp.{ClientOp}
 use Rattle.fab_wire.specs.declared.clients.ClientOp.TheVariants.{ReadBlock, WriteBlock, ReadStripe, WriteStripe}
 use Rattle.fab_wire.specs.declared.clients.ClientAnswer.{ClientAnswer}
@@ -19,7 +17,7 @@ use Rattle.fab_wire.specs.declared.requests.Request.{Request}
 use Rattle.fab_wire.specs.declared.requests.Request.TheVariants as requests
 use Rattle.fab_wire.specs.declared.replies.Reply.{Reply}
 use Rattle.fab_wire.specs.declared.replies.Reply.TheVariants as replies
-use Rattle.fab_wire.specs.Fields.{Field, Number, Limited, Raw, spelled, AllFit, u8, u16, u32, u64, exactly, call_fields, stamp_fields, ballot_fields, block_fields, stripe_fields, members_fields, option_fields, want_fields, look_fields, version_fields, choice_fields, lineage_fields}
+use Rattle.fab_wire.specs.Fields.{Field, Limited, spelled, AllFit, u8, u16, u32, u64, exactly, call_fields, stamp_fields, ballot_fields, block_fields, stripe_fields, members_fields, option_fields, want_fields, look_fields, version_fields, choice_fields, lineage_fields}
 
 -- a request's kind, and its fields after the call
 abbrev pub request_row : Request → ℕ × List Field

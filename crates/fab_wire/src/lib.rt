@@ -9,7 +9,7 @@ mod client_reads;
 mod client_writes;
 pub mod clients;
 mod datagrams;
-pub mod faults;
+mod faults;
 mod field_reads;
 mod field_writes;
 pub mod messages;
