@@ -1,0 +1,5 @@
+pub mod Fields
+pub mod Spelling
+pub mod Limits
+pub mod Reading
+pub mod Clients

@@ -1,0 +1,11 @@
+pub mod Loops
+pub mod Readings
+pub mod Writings
+pub mod Numbers
+pub mod Choices
+pub mod Parts
+pub mod MessageKinds
+pub mod ClientKinds
+pub mod MessageLimits
+pub mod WholeMessages
+pub mod Sizes

@@ -1,0 +1,101 @@
+-- Fields of a fixed number of bytes are read exactly where they end within the bytes.
+use Rattle.std.proofs.Common.{◌≡◌, ℕ, ◌+◌, ◌<◌, ◌≤◌, ltb, List, ◌++◌, length, take, drop, Ok, Err, sym, ap, ◌∙◌, arith, inl, inr}
+use Rattle.std.proofs.lemmas.Bool.{ltb-false, ltb-true}
+use Rattle.std.proofs.lemmas.List.{length-take, length-drop, take-append-drop}
+use Rattle.byteorder.specs.Endian.{big_number}
+use Rattle.fab_wire.specs.declared.faults.ReadFault.{ReadFault}
+use Rattle.fab_wire.specs.declared.faults.ReadFault.TheVariants as faults
+use Rattle.fab_wire.specs.Fields.{Field}
+use Rattle.fab_wire.specs.Spelling.{IsAt}
+use Rattle.fab_wire.specs.Reading.{Reads, ◌>>=◌, Fails, TakesNoMemory, then_at, as_at, number_at, made_call, call_at, made_stamp, stamp_at, made_ballot, ballot_at}
+use Rattle.fab_wire.proofs.Readings.{IsBytes, IsBytes-drop, bind_ok, bind_err, ok_is, ok_not_err, made_is, IsPlain}
+use Rattle.fab_wire.proofs.Numbers.{guard_past}
+use Rattle.fab_wire.proofs.Choices.{chosen}
+
+-- how many bytes a field takes
+pub record IsSized {X : Type 0} (size : ℕ) (at : Reads X) : Type 0 where
+  pub read : (bytes : List ℕ) (x : X × List ℕ) → at bytes ≡ Ok x → length bytes ≡ size + length x.1
+  pub short : (bytes : List ℕ) (left : ℕ) → at bytes ≡ Err left → length bytes < size
+
+abbrev number_read : ℕ → List ℕ → ℕ × List ℕ
+number_read size bytes = (big_number size (take size bytes), drop size bytes)
+
+number_sized : (size : ℕ) → IsSized size (number_at size)
+unfolding number_at
+number_sized size = record {
+  read = λ bytes x e.
+      let g = guard_past (ltb (length bytes) size) (length bytes) (Ok (number_read size bytes)) x e in
+      let long : size ≤ length bytes = ltb-false _ _ g.0 in
+      let rest : drop size bytes ≡ x.1 = ap (λ (p : ℕ × List ℕ). p.1) (ok_is (number_read size bytes) x g.1) in
+      omega (arith, ap (λ (b : List ℕ). length b) rest, length-drop size bytes);
+  short = λ bytes left e.
+      elim (chosen (ltb (length bytes) size) (Err (length bytes)) (Ok (number_read size bytes)) (Err left) e) [
+        | inl w ↦ ltb-true _ _ w.0
+        | inr w ↦ absurd (ok_not_err (number_read size bytes) left w.1)
+      ];
+}
+
+then_sized : {X Y : Type 0} {m n : ℕ} {first : Reads X} {second : Reads Y} → IsSized m first → IsSized n second → IsSized (m + n) (then_at first second)
+then_sized {X} {Y} {m} {n} {first} {second} one two = record {
+  read = λ bytes p e.
+      let a = bind_ok (first bytes) (λ x. second x.1 >>= λ y. Ok ((x.0, y.0), y.1)) p e in
+      let b = bind_ok (second a.0.1) (λ y. Ok ((a.0.0, y.0), y.1)) p a.2 in
+      let both : (X × Y) × List ℕ = ((a.0.0, b.0.0), b.0.1) in
+      let rest : b.0.1 ≡ p.1 = ap (λ (q : (X × Y) × List ℕ). q.1) (ok_is both p b.2) in
+      omega (arith, one.read bytes a.0 a.1, two.read a.0.1 b.0 b.1, ap (λ (t : List ℕ). length t) rest);
+  short = λ bytes left e.
+      elim (bind_err (first bytes) (λ x. second x.1 >>= λ y. Ok ((x.0, y.0), y.1)) left e) [
+        | inl e1 ↦ omega (arith, one.short bytes left e1)
+        | inr w ↦ elim (bind_err (second w.0.1) (λ y. Ok ((w.0.0, y.0), y.1)) left w.2) [
+          | inl e2 ↦ omega (arith, one.read bytes w.0 w.1, two.short w.0.1 left e2)
+          | inr v ↦ absurd (ok_not_err ((w.0.0, v.0.0), v.0.1) left v.2)
+        ]
+      ];
+}
+
+as_sized : {X Y : Type 0} {n : ℕ} {at : Reads X} (made : X → Y) → IsSized n at → IsSized n (as_at made at)
+as_sized {X} {Y} {n} {at} made sized = record {
+  read = λ bytes y e.
+      let read = made_is made at bytes y.0 y.1 e in
+      sized.read bytes (read.0, y.1) read.2;
+  short = λ bytes left e.
+      elim (bind_err (at bytes) (λ x. Ok (made x.0, x.1)) left e) [
+        | inl e1 ↦ sized.short bytes left e1
+        | inr w ↦ absurd (ok_not_err (made w.0.0, w.0.1) left w.2)
+      ];
+}
+
+pub call_sized : IsSized 28 call_at
+unfolding call_at
+call_sized = as_sized made_call (then_sized (number_sized 4) (then_sized (number_sized 8) (then_sized (number_sized 4) (then_sized (number_sized 4) (then_sized (number_sized 4) (number_sized 4))))))
+
+pub stamp_sized : IsSized 18 stamp_at
+unfolding stamp_at
+stamp_sized = as_sized made_stamp (then_sized (number_sized 4) (then_sized (number_sized 8) (then_sized (number_sized 2) (number_sized 4))))
+
+pub ballot_sized : IsSized 10 ballot_at
+unfolding ballot_at
+ballot_sized = as_sized made_ballot (then_sized (number_sized 4) (then_sized (number_sized 2) (number_sized 4)))
+
+-- ---- at a place
+
+pub found_at : {X : Type 0} {parts : X → List Field} {reads : Reads X} → IsPlain parts reads → (bytes : List ℕ) (at : ℕ) (x : X) (rest : List ℕ) → IsBytes bytes → at ≤ length bytes
+    → reads (drop at bytes) ≡ Ok (x, rest) → IsAt bytes at (parts x)
+found_at law bytes at x rest isb within e =
+    let took = (law.takes (drop at bytes) x rest (IsBytes-drop at bytes isb) e).1 in
+    record {
+      front = take at bytes;
+      tail = rest;
+      fits = took.fits;
+      bytes_are = sym (take-append-drop at bytes) ∙ ap (λ (t : List ℕ). take at bytes ++ t) took.parts;
+      at_is = omega (arith, length-take at bytes);
+    }
+
+pub ends_within : {X : Type 0} {size : ℕ} {reads : Reads X} → IsSized size reads → (bytes : List ℕ) (at : ℕ) (x : X) (rest : List ℕ) → at ≤ length bytes
+    → reads (drop at bytes) ≡ Ok (x, rest) → at + size ≤ length bytes
+ends_within sized bytes at x rest within e = omega (arith, sized.read (drop at bytes) (x, rest) e, length-drop at bytes)
+
+pub ends_past : {X : Type 0} {size : ℕ} {reads : Reads X} → IsSized size reads → (bytes : List ℕ) (at : ℕ) (fault : ReadFault) → at ≤ length bytes
+    → Fails fault (reads (drop at bytes)) → TakesNoMemory {X = Unit {0}} (Err fault) → length bytes < at + size
+ends_past sized bytes at (faults.Malformed left) within e memory = omega (arith, sized.short (drop at bytes) left e, length-drop at bytes)
+ends_past sized bytes at faults.NoMemory within e memory = absurd memory
