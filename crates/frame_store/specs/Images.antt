@@ -1,12 +1,12 @@
 -- What the bytes of a disk stand for as a store.
-use Rattle.std.specs.Prelude.{◌≡◌, ◌≢◌, ◌⊎◌, ℕ, ◌+◌, ◌-◌, ◌*◌, ◌%◌, ◌^◌, ◌<◌, ◌≤◌, List, [], ◌∷◌, length, take, drop, Option, Some, None}
+use Rattle.std.specs.Prelude.{◌≡◌, ◌≢◌, ◌⊎◌, ℕ, ◌+◌, ◌-◌, ◌*◌, ◌%◌, ◌^◌, ◌<◌, ◌≤◌, List, [], ◌∷◌, length, get_or, take, drop, Bool, true, Option, Some, None}
 use Rattle.std.specs.Int.{w64, from_be_bytes}
 use Rattle.frame_store.specs.declared.frames.Frame.{Frame}
 use Rattle.frame_store.specs.declared.shapes.Shape.{Shape}
 use Rattle.frame_store.specs.declared.shapes.Half.{Half}
 use Rattle.frame_store.specs.declared.shapes.Half.TheVariants.{A, B}
 use Rattle.frame_store.specs.Layouts.{header_at, slot_at, half_at, half_size, identity}
-use Rattle.frame_store.specs.Listed.{frames_of}
+use Rattle.frame_store.specs.Listed.{frames_of, size_of}
 
 -- n bytes from a place on
 abbrev pub part : ℕ → ℕ → List ℕ → List ℕ
@@ -38,11 +38,23 @@ InForce shape B image = IsOpen shape B image × (IsOpen shape A image → IsLate
 abbrev pub half_bytes : Shape → Half → List ℕ → List ℕ
 half_bytes shape half image = part (half_at shape half) (half_size shape) image
 
--- the image opens as a store with these frames
-pub record OpensAs (shape : Shape) (frames : List Frame) (image : List ℕ) : Type 0 where
+-- a gate that is not open stands here
+abbrev pub IsShut : ℕ → List ℕ → Type 0
+IsShut at image = get_or image at 0 ≢ 165
+
+-- a closed gate stands after these frames, in the half and in the file
+pub record EndsClosed (shape : Shape) (half : Half) (frames : List Frame) (image : List ℕ) : Type 0 where
+  pub within_half : size_of frames < half_size shape
+  pub within_file : half_at shape half + size_of frames < length image
+  pub shut : IsShut (half_at shape half + size_of frames) image
+
+-- The image opens as a store with these frames; closed says whether a closed gate stands after them.
+pub record OpensAs (shape : Shape) (frames : List Frame) (closed : Bool) (image : List ℕ) : Type 0 where
   pub half : Half
   pub in_force : InForce shape half image
   pub listed : frames_of (half_bytes shape half image) ≡ frames
+  pub ended : closed ≡ true → EndsClosed shape half frames image
+  pub not_ended : EndsClosed shape half frames image → closed ≡ true
 
 -- no header is open
 pub record IsNoStore (shape : Shape) (image : List ℕ) : Type 0 where
@@ -73,14 +85,15 @@ pub record KeepsSlots (shape : Shape) (put : Option (ℕ × List ℕ)) (content 
   pub size : length content ≤ length image
   pub same : (slot : ℕ) → HasSlot shape (length content) slot → IsOther put slot → block_in shape slot image ≡ block_in shape slot content
 
--- The image is that of a store after a change of this content: it opens as these frames, with the block put in its slot.
+-- The image is that of a store after a change of this content: it opens as these frames, with a closed gate after
+-- them, and with the block put in its slot.
 pub record IsAfter (shape : Shape) (frames : List Frame) (put : Option (ℕ × List ℕ)) (content image : List ℕ) : Type 0 where
-  pub opens : OpensAs shape frames image
+  pub opens : OpensAs shape frames true image
   pub stands : StandsIn shape put image
   pub slots : KeepsSlots shape put content image
 
 -- The image is that of a store at a moment of a change of this content: it opens as the frames before the change or as those
--- after it, and then with the block put in its slot. No other slot differs.
+-- after it, with a closed gate after them, and then with the block put in its slot. No other slot differs.
 pub record IsBeforeOrAfter (shape : Shape) (before after : List Frame) (put : Option (ℕ × List ℕ)) (content image : List ℕ) : Type 0 where
-  pub opens : OpensAs shape before image ⊎ (OpensAs shape after image × StandsIn shape put image)
+  pub opens : OpensAs shape before true image ⊎ (OpensAs shape after true image × StandsIn shape put image)
   pub slots : KeepsSlots shape put content image

@@ -27,7 +27,7 @@ pub record Held (D : Type 0) : Type 0 where
 
 -- while the store is not halted, what a read of the disk gives opens as its frames
 pub record Shows {D : Type 0} (seen : D → List ℕ) (store : Held D) : Type 0 where
-  pub opens : OpensAs store.shape store.frames (seen store.disk)
+  pub opens : OpensAs store.shape store.frames store.closed (seen store.disk)
   pub size : length (seen store.disk) ≡ store.size
 
 abbrev pub IsRead : {D : Type 0} → Type 0 → (D → List ℕ) → Held D → Type 0

@@ -66,7 +66,7 @@ pub fn format<D: Disk>(
     requires block_range { (1 ≤ block) × (block ≤ 4096) }
     requires records_range { (1 ≤ records) × (records ≤ 1048576) }
     // Each image opens as a store with no frames, and has all slots.
-    ensures empty { D.tells → OnOk result (OpensAs (shape_of me block records) [] (D.seen disk.new)) }
+    ensures empty { D.tells → OnOk result (OpensAs (shape_of me block records) [] true (D.seen disk.new)) }
     ensures slots { D.tells → OnOk result ((slot : ℕ) → slot < records → HasSlot (shape_of me block records) (length (D.seen disk.new)) slot) }
     ensures durable { D.tells → OnOk result (Only (D.seen disk.new) (D.may_leave disk.new)) }
     ensures counted { D.tells → OnOk result (D.moment disk.new ≡ D.moment disk.old + 5) }
@@ -228,7 +228,7 @@ impl<D: Disk> FrameStore<D> {
         ensures after { D.tells → OnOk result (IsAfter self.old.shape (frames.items) None (D.seen self.old.disk) (D.seen self.new.disk)) }
         ensures durable { D.tells → OnOk result (IsDurable D.tells D.seen D.may_leave self.new) }
         // At each moment of the call each image opens as the list before it or as the one after it.
-        ensures any_moment { IsDurable D.tells D.seen D.may_leave self.old → LeavesOnly D.moment D.left_since self.old.disk self.new.disk (IsBeforeOrAfter self.old.shape self.old.frames (frames.items) None (D.seen self.old.disk)) }
+        ensures any_moment { IsDurable D.tells D.seen D.may_leave self.old → self.old.closed ≡ true → LeavesOnly D.moment D.left_since self.old.disk self.new.disk (IsBeforeOrAfter self.old.shape self.old.frames (frames.items) None (D.seen self.old.disk)) }
         ensures ok { OnOk result (HasNow (frames.items) self.old self.new) }
         ensures counted { D.tells → OnOk result (D.moment self.new.disk ≡ D.moment self.old.disk + 7) }
         ensures plan { OnOk result (RunsPlan 7 (D.fails_in self.old.disk) (D.fails_in self.new.disk)) }
