@@ -1,3 +1,5 @@
 pub mod Standing
 pub mod Parts
 pub mod Listing
+pub mod Plans
+pub mod Runs

@@ -1,8 +1,9 @@
 -- Parts of a content, before and after a write.
-use Rattle.std.proofs.Common.{◌≡◌, ◌≢◌, ◌⊎◌, inl, inr, ℕ, ◌+◌, ◌-◌, ◌<◌, ◌≤◌, max, min, List, [], ◌∷◌, ◌++◌, length, get_or, take, drop, replicate, refl, sym, ◌∙◌, ap, arith, length-append}
+use Rattle.std.proofs.Common.{◌≡◌, ◌≢◌, ◌⊎◌, inl, inr, ℕ, zero, suc, ◌+◌, ◌-◌, ◌<◌, ◌≤◌, max, min, List, [], ◌∷◌, ◌++◌, length, get_or, take, drop, replicate, refl, sym, ◌∙◌, ap, arith, length-append}
 use Rattle.std.proofs.lemmas.Bool.{cases_lt}
 use Rattle.std.proofs.lemmas.Grind.{same_number_lists}
-use Rattle.std.proofs.lemmas.List.{places, get_or-take, get_or-drop, length-replicate}
+use Rattle.std.proofs.lemmas.List.{places, get_or-take, get_or-drop, get_or_append_left, length-replicate}
+use Rattle.std.proofs.Math.Seq.{get_or-append_right}
 use Rattle.fab_disk.specs.Disk.{padded, overlaid, written, Torn, IsOutside}
 use Rattle.fab_disk.proofs.Writes.{written_some, written_torn}
 use Rattle.frame_store.specs.Images.{part}
@@ -76,13 +77,46 @@ part_written at (byte ∷ bytes) old =
     (λ k lt. part_get at (length (byte ∷ bytes)) (written at (byte ∷ bytes) old) k (omega (arith, len)) ∙ written_get at (byte ∷ bytes) old k (omega (arith, len)))
 
 -- a part of a part
-pub part_of_part : (at n from k : ℕ) (image : List ℕ) → from + k ≤ n → at + n ≤ length image → part from k (part at n image) ≡ part (at + from) k image
-part_of_part at n from k image within fits =
+pub part_of_part : (at n from k to : ℕ) (image : List ℕ) → from + k ≤ n → at + n ≤ length image → to ≡ at + from → part from k (part at n image) ≡ part to k image
+part_of_part at n from k to image within fits is =
     let len = length-part at n image fits in
     let inner = length-part from k (part at n image) (omega (arith, len)) in
-    let outer = length-part (at + from) k image (omega arith) in
-    same_number_lists (part from k (part at n image)) (part (at + from) k image) (inner ∙ sym outer)
-    (λ i lt. part_get from k (part at n image) i (omega (arith, inner)) ∙ part_get at n image (from + i) (omega (arith, inner)) ∙ index i ∙ sym (part_get (at + from) k image i (omega (arith, inner))))
+    let outer = length-part to k image (omega arith) in
+    same_number_lists (part from k (part at n image)) (part to k image) (inner ∙ sym outer)
+    (λ i lt. part_get from k (part at n image) i (omega (arith, inner)) ∙ part_get at n image (from + i) (omega (arith, inner)) ∙ index i ∙ sym (part_get to k image i (omega (arith, inner))))
   where
-    index : (i : ℕ) → get_or image (at + (from + i)) 0 ≡ get_or image (at + from + i) 0
-    index i = let same : at + (from + i) ≡ at + from + i = omega arith in ap (λ (j : ℕ). get_or image j 0) same
+    index : (i : ℕ) → get_or image (at + (from + i)) 0 ≡ get_or image (to + i) 0
+    index i = let same : at + (from + i) ≡ to + i = omega arith in ap (λ (j : ℕ). get_or image j 0) same
+
+-- two parts side by side
+pub part_join : (at n k to : ℕ) (image : List ℕ) → at + n + k ≤ length image → to ≡ at + n → part at (n + k) image ≡ part at n image ++ part to k image
+part_join at n k to image fits is =
+    let whole = length-part at (n + k) image (omega arith) in
+    let left = length-part at n image (omega arith) in
+    let right = length-part to k image (omega arith) in
+    let both = length-append (part at n image) (part to k image) in
+    same_number_lists (part at (n + k) image) (part at n image ++ part to k image) (omega arith) (λ i lt. place i (omega arith) left)
+  where
+    further : (i : ℕ) → n ≤ i → get_or image (at + i) 0 ≡ get_or image (to + (i - n)) 0
+    further i high = let same : at + i ≡ to + (i - n) = omega arith in ap (λ (j : ℕ). get_or image j 0) same
+
+    behind : (i : ℕ) → n ≤ i → length (part at n image) ≡ n → get_or (part at n image ++ part to k image) i 0 ≡ get_or (part to k image) (i - n) 0
+    behind i high left =
+        let same : i - length (part at n image) ≡ i - n = omega (arith, left) in
+        get_or-append_right (part at n image) (part to k image) i 0 (omega (arith, left)) ∙ ap (λ (j : ℕ). get_or (part to k image) j 0) same
+
+    place : (i : ℕ) → i < n + k → length (part at n image) ≡ n → get_or (part at (n + k) image) i 0 ≡ get_or (part at n image ++ part to k image) i 0
+    place i lt left = elim (cases_lt i n) [
+      | inl low ↦ part_get at (n + k) image i lt ∙ sym (part_get at n image i low) ∙ sym (get_or_append_left (part at n image) (part to k image) 0 i (omega (arith, left)))
+      | inr high ↦ part_get at (n + k) image i lt ∙ further i high ∙ sym (part_get to k image (i - n) (omega arith)) ∙ sym (behind i high left)
+    ]
+
+-- a part of one byte
+pub part_one : (at : ℕ) (image : List ℕ) → at < length image → part at 1 image ≡ get_or image at 0 ∷ []
+part_one at image lt =
+    let len = length-part at 1 image (omega arith) in
+    same_number_lists (part at 1 image) (get_or image at 0 ∷ []) len (λ i within. at_zero i (omega (arith, len)))
+  where
+    at_zero : (i : ℕ) → i < 1 → get_or (part at 1 image) i 0 ≡ get_or (get_or image at 0 ∷ []) i 0
+    at_zero zero lt_one = part_get at 1 image 0 lt_one ∙ (let same : at + 0 ≡ at = omega arith in ap (λ (j : ℕ). get_or image j 0) same)
+    at_zero (suc i) lt_one = absurd (omega arith)

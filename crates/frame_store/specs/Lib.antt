@@ -3,3 +3,4 @@ pub mod Listed
 pub mod Images
 pub mod Stores
 pub mod Laid
+pub mod Steps

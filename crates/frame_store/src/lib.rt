@@ -8,6 +8,7 @@
 mod faults;
 mod frames;
 mod shapes;
+mod steps;
 mod stores;
 
 pub use faults::FrameFault;

@@ -1,0 +1,87 @@
+//! Runs of calls of a disk, for which room in memory was made before.
+
+ghost use Rattle.std.specs.Prelude.{◌≡◌, ◌+◌, ◌≤◌, ◌^◌, ◌∷◌, [], List, ℕ, length, OnOk, IsOkUnless};
+ghost use Rattle.fab_disk.specs.Disk.{written, Torn, Follows, Only, Elapses, LeavesOnly, Kept};
+ghost use Rattle.frame_store.specs.Stores.{RunsPlan};
+ghost use Rattle.frame_store.specs.Steps.{IsGated, IsBothGated, both_written};
+
+use crate::faults::FrameFault;
+use fab_disk::Disk;
+
+// One write.
+fn write<D: Disk>(disk: &mut D, at: u64, bytes: &[u8]) -> Result<(), FrameFault>
+    requires reach { at + length bytes.now ≤ 2 ^ 48 }
+    requires room { D.has_room disk.old 1 (length bytes.now) (at + length bytes.now) }
+    ensures written { D.tells → OnOk result (D.seen disk.new ≡ written at bytes.now (D.seen disk.old)) }
+    ensures crash { Follows (Torn at (length bytes.now)) (D.may_leave disk.old) (D.may_leave disk.new) }
+    ensures time { Elapses (D.moment disk.old) (D.moment disk.new) (D.left_since disk.old) (D.left_since disk.new) (D.may_leave disk.new) }
+    ensures counted { D.tells → OnOk result (D.moment disk.new ≡ D.moment disk.old + 1) }
+    ensures left { OnOk result ((calls room end : ℕ) → at + length bytes.now ≤ end → D.has_room disk.old (calls + 1) (room + length bytes.now) end → D.has_room disk.new calls room end) }
+    ensures plan { OnOk result (RunsPlan 1 (D.fails_in disk.old) (D.fails_in disk.new)) }
+    ensures only { IsOkUnless result FrameFault.Disk }
+    ensures cause { Kept (D.faults disk.old) (D.faults disk.new) (D.sound disk.old) (D.sound disk.new) (result ≡ Err FrameFault.Disk) }
+{
+    match disk.write_at(at, bytes) {
+        Ok(()) => Ok(()),
+        Err(_) => Err(FrameFault::Disk),
+    }
+}
+
+// One sync.
+fn sync<D: Disk>(disk: &mut D) -> Result<(), FrameFault>
+    requires room { D.has_room disk.old 1 0 0 }
+    ensures durable { D.tells → OnOk result (Only (D.seen disk.old) (D.may_leave disk.new)) }
+    ensures content { D.seen disk.new ≡ D.seen disk.old }
+    ensures crash { (image : List ℕ) → D.may_leave disk.new image → D.may_leave disk.old image }
+    ensures time { Elapses (D.moment disk.old) (D.moment disk.new) (D.left_since disk.old) (D.left_since disk.new) (D.may_leave disk.new) }
+    ensures counted { D.tells → OnOk result (D.moment disk.new ≡ D.moment disk.old + 1) }
+    ensures left { OnOk result ((calls room end : ℕ) → D.has_room disk.old (calls + 1) room end → D.has_room disk.new calls room end) }
+    ensures plan { OnOk result (RunsPlan 1 (D.fails_in disk.old) (D.fails_in disk.new)) }
+    ensures only { IsOkUnless result FrameFault.Disk }
+    ensures cause { Kept (D.faults disk.old) (D.faults disk.new) (D.sound disk.old) (D.sound disk.new) (result ≡ Err FrameFault.Disk) }
+{
+    match disk.sync() {
+        Ok(()) => Ok(()),
+        Err(_) => Err(FrameFault::Disk),
+    }
+}
+
+// One write that is synced.
+pub(crate) fn write_synced<D: Disk>(disk: &mut D, at: u64, bytes: &[u8]) -> Result<(), FrameFault>
+    requires reach { at + length bytes.now ≤ 2 ^ 48 }
+    requires room { D.has_room disk.old 2 (length bytes.now) (at + length bytes.now) }
+    ensures written { D.tells → OnOk result (D.seen disk.new ≡ written at bytes.now (D.seen disk.old)) }
+    ensures durable { D.tells → OnOk result (Only (D.seen disk.new) (D.may_leave disk.new)) }
+    ensures moments { Only (D.seen disk.old) (D.may_leave disk.old) → LeavesOnly D.moment D.left_since disk.old disk.new (Torn at (length bytes.now) (D.seen disk.old)) }
+    ensures counted { D.tells → OnOk result (D.moment disk.new ≡ D.moment disk.old + 2) }
+    ensures left { OnOk result ((calls room end : ℕ) → at + length bytes.now ≤ end → D.has_room disk.old (calls + 2) (room + length bytes.now) end → D.has_room disk.new calls room end) }
+    ensures plan { OnOk result (RunsPlan 2 (D.fails_in disk.old) (D.fails_in disk.new)) }
+    ensures only { IsOkUnless result FrameFault.Disk }
+    ensures cause { Kept (D.faults disk.old) (D.faults disk.new) (D.sound disk.old) (D.sound disk.new) (result ≡ Err FrameFault.Disk) }
+{
+    write(disk, at, bytes)?;
+    sync(disk)
+}
+
+// One write that is synced, and then an open gate.
+pub(crate) fn write_gated<D: Disk>(
+    disk: &mut D,
+    at: u64,
+    bytes: &[u8],
+    gate: u64,
+) -> Result<(), FrameFault>
+    requires reach { at + length bytes.now ≤ 2 ^ 48 }
+    requires gate { gate + 1 ≤ at + length bytes.now }
+    requires room { D.has_room disk.old 4 (length bytes.now + 1) (at + length bytes.now) }
+    ensures written { D.tells → OnOk result (D.seen disk.new ≡ written gate (165 ∷ []) (written at bytes.now (D.seen disk.old))) }
+    ensures durable { D.tells → OnOk result (Only (D.seen disk.new) (D.may_leave disk.new)) }
+    ensures moments { D.tells → Only (D.seen disk.old) (D.may_leave disk.old) → LeavesOnly D.moment D.left_since disk.old disk.new (IsGated at bytes.now gate (D.seen disk.old)) }
+    ensures counted { D.tells → OnOk result (D.moment disk.new ≡ D.moment disk.old + 4) }
+    ensures left { OnOk result ((calls room end : ℕ) → at + length bytes.now ≤ end → D.has_room disk.old (calls + 4) (room + (length bytes.now + 1)) end → D.has_room disk.new calls room end) }
+    ensures plan { OnOk result (RunsPlan 4 (D.fails_in disk.old) (D.fails_in disk.new)) }
+    ensures only { IsOkUnless result FrameFault.Disk }
+    ensures cause { Kept (D.faults disk.old) (D.faults disk.new) (D.sound disk.old) (D.sound disk.new) (result ≡ Err FrameFault.Disk) }
+{
+    write_synced(disk, at, bytes)?;
+    write_synced(disk, gate, &[0xA5])
+}
