@@ -3,7 +3,7 @@
 ghost use Rattle.std.specs.Prelude.{◌≡◌, ◌+◌, ◌≤◌, ◌^◌, ◌∷◌, [], List, ℕ, length, OnOk, IsOkUnless};
 ghost use Rattle.fab_disk.specs.Disk.{written, Torn, Follows, Only, Elapses, LeavesOnly, Kept};
 ghost use Rattle.frame_store.specs.Stores.{RunsPlan};
-ghost use Rattle.frame_store.specs.Steps.{IsGated, IsBothGated, both_written};
+ghost use Rattle.frame_store.specs.Steps.{IsStaged, IsGated, IsBothGated, both_written};
 
 use crate::faults::FrameFault;
 use fab_disk::Disk;
@@ -83,5 +83,56 @@ pub(crate) fn write_gated<D: Disk>(
     ensures cause { Kept (D.faults disk.old) (D.faults disk.new) (D.sound disk.old) (D.sound disk.new) (result ≡ Err FrameFault.Disk) }
 {
     write_synced(disk, at, bytes)?;
+    write_synced(disk, gate, &[0xA5])
+}
+
+// Two writes that are synced.
+fn write_both_synced<D: Disk>(
+    disk: &mut D,
+    from: u64,
+    first: &[u8],
+    at: u64,
+    second: &[u8],
+) -> Result<(), FrameFault>
+    requires reach { at + length second.now ≤ 2 ^ 48 }
+    requires first { from + length first.now ≤ at + length second.now }
+    requires room { D.has_room disk.old 3 (length first.now + length second.now) (at + length second.now) }
+    ensures written { D.tells → OnOk result (D.seen disk.new ≡ both_written from first.now at second.now (D.seen disk.old)) }
+    ensures durable { D.tells → OnOk result (Only (D.seen disk.new) (D.may_leave disk.new)) }
+    ensures moments { Only (D.seen disk.old) (D.may_leave disk.old) → LeavesOnly D.moment D.left_since disk.old disk.new (IsStaged from (length first.now) at (length second.now) (D.seen disk.old)) }
+    ensures counted { D.tells → OnOk result (D.moment disk.new ≡ D.moment disk.old + 3) }
+    ensures left { OnOk result ((calls room end : ℕ) → at + length second.now ≤ end → D.has_room disk.old (calls + 3) (room + (length first.now + length second.now)) end → D.has_room disk.new calls room end) }
+    ensures plan { OnOk result (RunsPlan 3 (D.fails_in disk.old) (D.fails_in disk.new)) }
+    ensures only { IsOkUnless result FrameFault.Disk }
+    ensures cause { Kept (D.faults disk.old) (D.faults disk.new) (D.sound disk.old) (D.sound disk.new) (result ≡ Err FrameFault.Disk) }
+{
+    write(disk, from, first)?;
+    write(disk, at, second)?;
+    sync(disk)
+}
+
+// Two writes that are synced, and then an open gate.
+pub(crate) fn write_both_gated<D: Disk>(
+    disk: &mut D,
+    from: u64,
+    first: &[u8],
+    at: u64,
+    second: &[u8],
+    gate: u64,
+) -> Result<(), FrameFault>
+    requires reach { at + length second.now ≤ 2 ^ 48 }
+    requires first { from + length first.now ≤ at + length second.now }
+    requires gate { gate + 1 ≤ at + length second.now }
+    requires room { D.has_room disk.old 5 (length first.now + length second.now + 1) (at + length second.now) }
+    ensures written { D.tells → OnOk result (D.seen disk.new ≡ written gate (165 ∷ []) (both_written from first.now at second.now (D.seen disk.old))) }
+    ensures durable { D.tells → OnOk result (Only (D.seen disk.new) (D.may_leave disk.new)) }
+    ensures moments { D.tells → Only (D.seen disk.old) (D.may_leave disk.old) → LeavesOnly D.moment D.left_since disk.old disk.new (IsBothGated from first.now at second.now gate (D.seen disk.old)) }
+    ensures counted { D.tells → OnOk result (D.moment disk.new ≡ D.moment disk.old + 5) }
+    ensures left { OnOk result ((calls room end : ℕ) → at + length second.now ≤ end → D.has_room disk.old (calls + 5) (room + (length first.now + length second.now + 1)) end → D.has_room disk.new calls room end) }
+    ensures plan { OnOk result (RunsPlan 5 (D.fails_in disk.old) (D.fails_in disk.new)) }
+    ensures only { IsOkUnless result FrameFault.Disk }
+    ensures cause { Kept (D.faults disk.old) (D.faults disk.new) (D.sound disk.old) (D.sound disk.new) (result ≡ Err FrameFault.Disk) }
+{
+    write_both_synced(disk, from, first, at, second)?;
     write_synced(disk, gate, &[0xA5])
 }
