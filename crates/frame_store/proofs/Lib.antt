@@ -3,3 +3,7 @@ pub mod Parts
 pub mod Listing
 pub mod Plans
 pub mod Runs
+pub mod Headers
+pub mod Indexes
+pub mod Slots
+pub mod Appending
