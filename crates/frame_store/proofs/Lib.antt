@@ -7,3 +7,5 @@ pub mod Headers
 pub mod Indexes
 pub mod Slots
 pub mod Appending
+pub mod Changes
+pub mod Rewriting
