@@ -10,7 +10,7 @@ use Rattle.frame_store.specs.declared.shapes.Shape.{Shape}
 use Rattle.frame_store.specs.declared.shapes.Half.{Half}
 use Rattle.frame_store.specs.declared.shapes.Half.TheVariants.{A, B}
 use Rattle.frame_store.specs.Layouts.{IsShape, header_at, half_at, half_size, slot_at}
-use Rattle.frame_store.specs.Listed.{spelled, size_of, frames_of, frame_rest, Fits}
+use Rattle.frame_store.specs.Listed.{spelled, size_of, frames_of, frame_rest, line_of, Fits}
 use Rattle.frame_store.specs.Laid.{other, Laid}
 use Rattle.frame_store.specs.Images.{part, IsOpen, InForce, IsShut, EndsClosed, OpensAs, half_bytes, generation_at}
 use Rattle.frame_store.proofs.Parts.{IsClear, below, above, part_get, length-part, part_kept, byte_kept, part_join, part_one, part_of_part, part_written, written_get, length-written}
@@ -18,10 +18,7 @@ use Rattle.frame_store.proofs.Listing.{length-spelled, size_of-append, spelled-a
 use Rattle.frame_store.proofs.Headers.{header_within, in_force_kept, generation_kept}
 use Rattle.frame_store.proofs.Indexes.{Index, half_behind, index_kept, listed_closed}
 
--- what an append writes behind the gate: the rest of the frame, and the next gate, which is closed
-abbrev pub line_of : Frame → List ℕ
-line_of frame = frame_rest frame ++ 0 ∷ []
-
+-- how many bytes an append writes behind the gate
 pub length-line : (frame : Frame) → length (line_of frame) ≡ length frame.body + 6
 length-line frame = omega (arith, length-append (frame_rest frame) (0 ∷ []))
 

@@ -6,7 +6,7 @@ use Rattle.frame_store.specs.declared.frames.Frame.{Frame}
 use Rattle.frame_store.specs.declared.shapes.Shape.{Shape}
 use Rattle.frame_store.specs.declared.shapes.Half.{Half}
 use Rattle.frame_store.specs.Layouts.{IsShape, half_at, slot_at}
-use Rattle.frame_store.specs.Listed.{size_of, Fits}
+use Rattle.frame_store.specs.Listed.{size_of, line_of, Fits}
 use Rattle.frame_store.specs.Laid.{Laid}
 use Rattle.frame_store.specs.Images.{part, HasSlot, StandsIn, KeepsSlots, OpensAs, IsAfter, IsBeforeOrAfter}
 use Rattle.frame_store.specs.Steps.{IsStaged, IsGated, IsBothGated, both_written}
@@ -14,7 +14,7 @@ use Rattle.frame_store.proofs.Parts.{below, above, part_written, length-written}
 use Rattle.frame_store.proofs.Indexes.{Index, index_opens, index_kept, half_behind}
 use Rattle.frame_store.proofs.Slots.{slots_kept, clear_behind, clear_slot, slot_before_half, stands_behind}
 use Rattle.frame_store.proofs.Standing.{slots_same}
-use Rattle.frame_store.proofs.Appending.{line_of, index_staged, index_gated, appended, appended_laid, Rooted, rooted_kept}
+use Rattle.frame_store.proofs.Appending.{index_staged, index_gated, appended, appended_laid, Rooted, rooted_kept}
 
 -- a list that is known to be laid opens
 pub laid_opens : (shape : Shape) (half : Half) (number : ℕ) (other_shut : Bool) (frames : List Frame) (closed : Bool) (image : List ℕ)

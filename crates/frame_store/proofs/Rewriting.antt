@@ -10,10 +10,10 @@ use Rattle.frame_store.specs.declared.shapes.Shape.{Shape}
 use Rattle.frame_store.specs.declared.shapes.Half.{Half}
 use Rattle.frame_store.specs.declared.shapes.Half.TheVariants.{A, B}
 use Rattle.frame_store.specs.Layouts.{IsShape, header_at, half_at, half_size, slot_at, header_rest}
-use Rattle.frame_store.specs.Listed.{spelled, size_of}
+use Rattle.frame_store.specs.Listed.{spelled, size_of, closed_list}
 use Rattle.frame_store.specs.Laid.{other, Laid}
 use Rattle.frame_store.specs.Images.{part, IsOpen, InForce, IsLater, IsShut, EndsClosed, OpensAs, IsAfter, IsBeforeOrAfter, KeepsSlots, generation_at}
-use Rattle.frame_store.specs.Steps.{IsStaged, IsBothGated, both_written}
+use Rattle.frame_store.specs.Steps.{IsStaged, IsBothGated, both_written, closing, next_of}
 use Rattle.frame_store.proofs.Parts.{IsClear, below, above, unwritten, part_get, part_kept, same_part, byte_kept, part_of_part, part_written, written_get, length-written}
 use Rattle.frame_store.proofs.Listing.{length-spelled}
 use Rattle.frame_store.proofs.Headers.{header_within, gate_of_open, shut_is_not_open, open_back, generation_kept, header_is_open, header_generation, next_is_later, not_later_than_next}
@@ -23,21 +23,8 @@ use Rattle.frame_store.proofs.Standing.{slots_same}
 use Rattle.frame_store.proofs.Appending.{Rooted, rooted_kept, laid_of}
 use Rattle.frame_store.proofs.Changes.{laid_opens}
 
--- what shuts the other header's gate: nothing where it is shut already, since a torn 00 might open it
-abbrev pub closing : Bool → List ℕ
-closing true = []
-closing false = 0 ∷ []
-
--- a list, and a closed gate
-abbrev pub closed_list : List Frame → List ℕ
-closed_list frames = spelled frames ++ 0 ∷ []
-
 pub length-closed_list : (frames : List Frame) → length (closed_list frames) ≡ size_of frames + 1
 length-closed_list frames = omega (arith, length-append (spelled frames) (0 ∷ []), length-spelled frames)
-
--- the generation of the next list
-abbrev pub next_of : ℕ → ℕ
-next_of number = (number + 1) % 2 ^ 64
 
 -- a list and its closed gate, found where they were written
 pub closed_list_stands : (at : ℕ) (frames : List Frame) (image : List ℕ) → at + size_of frames + 1 ≤ length image → part at (length (closed_list frames)) image ≡ closed_list frames

@@ -14,7 +14,15 @@ abbrev pub spelled : List Frame → List ℕ
 spelled [] = []
 spelled (frame ∷ frames) = 165 ∷ (frame_rest frame ++ spelled frames)
 
--- how many bytes that is
+-- what is written behind a gate for a frame: the rest of it, and the next gate, which is closed
+abbrev pub line_of : Frame → List ℕ
+line_of frame = frame_rest frame ++ 0 ∷ []
+
+-- a list, and a closed gate
+abbrev pub closed_list : List Frame → List ℕ
+closed_list frames = spelled frames ++ 0 ∷ []
+
+-- how many bytes the frames are
 abbrev pub size_of : List Frame → ℕ
 size_of [] = 0
 size_of (frame ∷ frames) = 6 + length frame.body + size_of frames

@@ -1,5 +1,5 @@
 -- What runs of writes and syncs do to the content of a disk.
-use Rattle.std.specs.Prelude.{◌≡◌, ◌⊎◌, ℕ, List, length}
+use Rattle.std.specs.Prelude.{◌≡◌, ◌⊎◌, ℕ, ◌+◌, ◌%◌, ◌^◌, Bool, true, false, List, [], ◌∷◌, length}
 use Rattle.fab_disk.specs.Disk.{written, Torn}
 
 -- an image after two writes of which both may be torn
@@ -20,3 +20,12 @@ IsGated at line gate content image = Torn at (length line) content image ⊎ Tor
 abbrev pub IsBothGated : ℕ → List ℕ → ℕ → List ℕ → ℕ → List ℕ → List ℕ → Type 0
 IsBothGated from first at second gate content image =
     IsStaged from (length first) at (length second) content image ⊎ Torn gate 1 (both_written from first at second content) image
+
+-- what shuts the other header's gate: nothing where it is shut already, since a torn 00 might open it
+abbrev pub closing : Bool → List ℕ
+closing true = []
+closing false = 0 ∷ []
+
+-- the generation of the next list
+abbrev pub next_of : ℕ → ℕ
+next_of number = (number + 1) % 2 ^ 64

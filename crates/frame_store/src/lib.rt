@@ -5,6 +5,7 @@
 //! crash leaves at whatever moment opens as the list from before the call or as the one after it.
 #![tactic(auto)]
 
+mod buffers;
 mod faults;
 mod frames;
 mod shapes;
