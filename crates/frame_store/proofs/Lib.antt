@@ -9,3 +9,4 @@ pub mod Slots
 pub mod Appending
 pub mod Changes
 pub mod Rewriting
+pub mod Exits

@@ -9,6 +9,7 @@ mod buffers;
 mod faults;
 mod frames;
 mod shapes;
+mod staging;
 mod steps;
 mod stores;
 

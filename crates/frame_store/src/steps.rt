@@ -1,12 +1,34 @@
 //! Runs of calls of a disk, for which room in memory was made before.
 
-ghost use Rattle.std.specs.Prelude.{◌≡◌, ◌+◌, ◌≤◌, ◌^◌, ◌∷◌, [], List, ℕ, length, OnOk, IsOkUnless};
-ghost use Rattle.fab_disk.specs.Disk.{written, Torn, Follows, Only, Elapses, LeavesOnly, Kept};
+ghost use Rattle.std.specs.Prelude.{◌≡◌, ◌+◌, ◌≤◌, ◌^◌, ◌∷◌, [], List, ℕ, length, OnOk, IsOk, IsOkUnless};
+ghost use Rattle.fab_disk.specs.Disk.{written, Torn, Follows, Only, Elapses, IsUntouched, LeavesOnly, Kept, KeepsRoom, KeepsPlan};
 ghost use Rattle.frame_store.specs.Stores.{RunsPlan};
 ghost use Rattle.frame_store.specs.Steps.{IsStaged, IsGated, IsBothGated, both_written};
 
 use crate::faults::FrameFault;
 use fab_disk::Disk;
+
+// Makes room in memory for calls of the disk.
+pub(crate) fn reserve<D: Disk>(
+    disk: &mut D,
+    calls: usize,
+    bytes: usize,
+    end: u64,
+) -> Result<(), FrameFault>
+    requires { end ≤ 2 ^ 48 }
+    ensures made { OnOk result (D.has_room disk.new calls bytes end) }
+    ensures enough { D.has_room disk.old calls bytes end → IsOk result }
+    ensures only { IsOkUnless result FrameFault.NoMemory }
+    ensures untouched { IsUntouched D.seen D.may_leave D.moment D.left_since disk.old disk.new }
+    ensures room { KeepsRoom (D.has_room disk.old) (D.has_room disk.new) }
+    ensures plan { KeepsPlan (D.fails_in disk.old) (D.fails_in disk.new) }
+    ensures cause { Kept (D.faults disk.old) (D.faults disk.new) (D.sound disk.old) (D.sound disk.new) ⊥ }
+{
+    match disk.reserve(calls, bytes, end) {
+        Ok(()) => Ok(()),
+        Err(_) => Err(FrameFault::NoMemory),
+    }
+}
 
 // One write.
 fn write<D: Disk>(disk: &mut D, at: u64, bytes: &[u8]) -> Result<(), FrameFault>

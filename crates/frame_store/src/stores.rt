@@ -8,9 +8,12 @@ ghost use Rattle.frame_store.specs.Listed.{Fits, size_of, frame_of};
 ghost use Rattle.frame_store.specs.Images.{OpensAs, IsNoStore, HasSlot, block_in, IsAfter, IsBeforeOrAfter};
 ghost use Rattle.frame_store.specs.Stores.{Shows, IsRead, IsDurable, IsSame, HasNow, IsAnswer, HasRoom, RunsPlan};
 
+use crate::buffers::copied;
 use crate::faults::FrameFault;
 use crate::frames::Frame;
 use crate::shapes::{Half, Shape};
+use crate::staging::stage;
+use crate::steps::write_gated;
 use fab_disk::{Armed, Disk, Plan};
 use std::alloc::Global;
 use std::marker::Model;
@@ -185,7 +188,54 @@ impl<D: Disk> FrameStore<D> {
         if self.halted {
             return Err(FrameFault::Halted);
         }
-        Err(FrameFault::NoMemory)
+        let body = copied(self.alloc, &mut self.spare, body)?;
+        self.append_frame(Frame { kind, body })
+    }
+
+    // Appends a frame to a store that is not halted.
+    fn append_frame(&mut self, frame: Frame) -> Result<(), FrameFault>
+        requires runs { self.old.halted ≡ false }
+        requires fits { Fits self.old.shape self.old.frames (length frame.body) }
+        // After Ok each image opens as the new list.
+        ensures after { D.tells → OnOk result (IsAfter self.old.shape (self.old.frames ++ frame ∷ []) None (D.seen self.old.disk) (D.seen self.new.disk)) }
+        ensures durable { D.tells → OnOk result (IsDurable D.tells D.seen D.may_leave self.new) }
+        // At each moment of the call each image opens as the list before it or as the one after it.
+        ensures any_moment { IsDurable D.tells D.seen D.may_leave self.old → self.old.closed ≡ true → LeavesOnly D.moment D.left_since self.old.disk self.new.disk (IsBeforeOrAfter self.old.shape self.old.frames (self.old.frames ++ frame ∷ []) None (D.seen self.old.disk)) }
+        ensures ok { OnOk result (HasNow (self.old.frames ++ frame ∷ []) self.old self.new) }
+        ensures counted { D.tells → OnOk result (D.moment self.new.disk ≡ D.moment self.old.disk + 4) }
+        ensures plan { OnOk result (RunsPlan 4 (D.fails_in self.old.disk) (D.fails_in self.new.disk)) }
+        ensures answer { IsAnswer self.old.halted self.new.halted result }
+        ensures refused { OnErr result (IsSame self.old self.new) }
+        ensures no_memory { result ≡ Err FrameFault.NoMemory → IsUntouched D.seen D.may_leave D.moment D.left_since self.old.disk self.new.disk }
+        ensures no_call { result ≡ Err FrameFault.Halted → self.new ≡ self.old }
+        ensures cause { Kept (D.faults self.old.disk) (D.faults self.new.disk) (D.sound self.old.disk) (D.sound self.new.disk) (result ≡ Err FrameFault.Disk) }
+        ensures read { IsRead D.tells D.seen self.new }
+    {
+        let end = self.shape.end();
+        stage(
+            &mut self.disk,
+            &mut self.frames,
+            &mut self.line,
+            &frame,
+            4,
+            0,
+            end,
+        )?;
+        let gate = self.shape.half_at(self.half) + self.used;
+        let bytes = self.line.len() as u64;
+        match write_gated(&mut self.disk, gate + 1, &self.line, gate) {
+            Ok(()) => {
+                self.used += bytes;
+                self.size = self.size.max(gate + 1 + bytes);
+                self.closed = true;
+                self.frames.push(frame).unwrap();
+                Ok(())
+            }
+            Err(fault) => {
+                self.halted = true;
+                Err(fault)
+            }
+        }
     }
 
     /// Puts a block in a slot and appends a frame, which stands only where the block does. It makes five calls of `write_at`
