@@ -1,5 +1,5 @@
 -- What the calls of a store leave at each of their exits.
-use Rattle.std.proofs.Common.{◌≡◌, ◌⊎◌, inl, inr, ℕ, ◌+◌, ◌*◌, ◌^◌, ◌<◌, ◌≤◌, max, Bool, true, false, List, [], ◌∷◌, ◌++◌, length, Option, Some, None, refl, sym, ◌∙◌, ap, subst, arith, length-append}
+use Rattle.std.proofs.Common.{◌≡◌, ◌⊎◌, inl, inr, ℕ, ◌+◌, ◌-◌, ◌*◌, ◌^◌, ◌<◌, ◌≤◌, max, Bool, true, false, List, [], ◌∷◌, ◌++◌, length, Option, Some, None, refl, sym, ◌∙◌, ap, subst, arith, length-append}
 use Rattle.std.proofs.Math.Nat.{mul-le-mul_left, mul-le-mul_right}
 use Rattle.fab_disk.specs.Disk.{Torn, written, Only, IsUntouched, LeavesOnly}
 use Rattle.fab_disk.proofs.Moments.{started, goes_on, joined, widened}
@@ -7,18 +7,20 @@ use Rattle.frame_store.specs.declared.frames.Frame.{Frame}
 use Rattle.frame_store.specs.declared.shapes.Shape.{Shape}
 use Rattle.frame_store.specs.declared.shapes.Half.{Half}
 use Rattle.frame_store.specs.declared.shapes.Half.TheVariants.{A, B}
-use Rattle.frame_store.specs.Layouts.{IsShape, half_at, half_size, slot_at, store_end}
-use Rattle.frame_store.specs.Listed.{size_of, line_of, Fits}
-use Rattle.frame_store.specs.Laid.{Laid, IsCounted}
+use Rattle.frame_store.specs.Layouts.{IsShape, header_at, header_rest, half_at, half_size, slot_at, store_end}
+use Rattle.frame_store.specs.Listed.{size_of, line_of, closed_list, Fits}
+use Rattle.frame_store.specs.Laid.{other, Laid, IsCounted}
 use Rattle.frame_store.specs.Images.{OpensAs, IsAfter, IsBeforeOrAfter}
-use Rattle.frame_store.specs.Steps.{IsGated, IsBothGated, both_written}
+use Rattle.frame_store.specs.Steps.{IsGated, IsBothGated, IsRewritten, both_written, closing, next_of}
 use Rattle.frame_store.specs.Stores.{Held, Shows, IsDurable}
 use Rattle.frame_store.proofs.Parts.{length-written}
 use Rattle.frame_store.proofs.Standing.{before_is}
 use Rattle.frame_store.proofs.Listing.{size_of-append}
 use Rattle.frame_store.proofs.Slots.{slot_before_half}
 use Rattle.frame_store.proofs.Indexes.{Index}
-use Rattle.frame_store.proofs.Appending.{length-line, index_of, rooted_of, appended, appended_laid}
+use Rattle.frame_store.proofs.Appending.{Rooted, length-line, index_of, rooted_of, appended, appended_laid}
+use Rattle.frame_store.proofs.Headers.{header_within}
+use Rattle.frame_store.proofs.Rewriting.{length-closed_list, rewrite_first, rewrite_then, rewritten_laid, rewrite_after}
 use Rattle.frame_store.proofs.Changes.{laid_opens, append_moment, append_after, put_moment, put_after, rooted_put}
 
 -- the whole store lies below 2^48
@@ -31,6 +33,11 @@ end_small shape limits =
 pub half_within : (shape : Shape) (half : Half) → half_at shape half + half_size shape ≤ store_end shape
 half_within shape A = omega arith
 half_within shape B = omega arith
+
+-- what shuts a gate is a byte at most
+pub closing_short : (b : Bool) → length (closing b) ≤ 1
+closing_short true = omega arith
+closing_short false = omega arith
 
 -- what a store keeps true of its disk, where it is not halted
 abbrev pub Invariant : {D : Type 0} → Type 0 → (D → List ℕ) → Held D → Half → ℕ → Bool → Type 0
@@ -202,3 +209,80 @@ module _ {D : Type 0} (tells : Type 0) (seen : D → List ℕ) (may_leave : D �
               gate_is,
             ),
           )
+
+  -- a rewrite
+  module _ (s : Held D) (half : Half) (number : ℕ) (other_shut : Bool) (used : ℕ) (mid new : D) (fs : List Frame) (gate at : ℕ) (shut rest line : List ℕ)
+      (counted : IsCounted s.shape s.frames used) (inv : Invariant tells seen s half number other_shut) (untouched : IsUntouched seen may_leave moment left_since s.disk mid)
+      (fits : size_of fs + 1 ≤ half_size s.shape) (small : number < 2 ^ 64) (gate_is : gate ≡ header_at (other half)) (at_is : at ≡ half_at s.shape (other half))
+      (shut_is : shut ≡ closing other_shut) (rest_is : rest ≡ header_rest s.shape (next_of number)) (line_is : line ≡ closed_list fs) where
+    as_written : (content image : List ℕ) → IsRewritten gate shut rest at line content image
+        → IsRewritten (header_at (other half)) (closing other_shut) (header_rest s.shape (next_of number)) (half_at s.shape (other half)) (closed_list fs) content image
+    as_written content image q =
+        subst (λ (x : List ℕ). IsRewritten (header_at (other half)) (closing other_shut) (header_rest s.shape (next_of number)) (half_at s.shape (other half)) x content image) line_is
+        (subst (λ (x : ℕ). IsRewritten (header_at (other half)) (closing other_shut) (header_rest s.shape (next_of number)) x line content image) at_is
+        (subst (λ (x : List ℕ). IsRewritten (header_at (other half)) (closing other_shut) x at line content image) rest_is
+        (subst (λ (x : List ℕ). IsRewritten (header_at (other half)) x rest at line content image) shut_is
+        (subst (λ (x : ℕ). IsRewritten x shut rest at line content image) gate_is q))))
+
+    rooted_now : tells → s.halted ≡ false → Rooted s.shape half number other_shut s.frames (seen s.disk)
+    rooted_now told runs = rooted_of s.shape half number other_shut s.frames s.closed (seen s.disk) (inv told runs).0
+
+    rewrite_means : (told : tells) (runs : s.halted ≡ false) → s.closed ≡ true → (image : List ℕ)
+        → IsRewritten (header_at (other half)) (closing other_shut) (header_rest s.shape (next_of number)) (half_at s.shape (other half)) (closed_list fs) (seen s.disk) image
+        → IsBeforeOrAfter s.shape s.frames fs None (seen s.disk) image
+    rewrite_means told runs closed image (inl first) =
+        rewrite_first s.shape half number other_shut s.frames fs (seen s.disk) counted.limits small fits (rooted_now told runs)
+        (index_now s.shape half number other_shut s.frames s.closed (seen s.disk) (inv told runs).0 closed) image first
+    rewrite_means told runs closed image (inr then) =
+        rewrite_then s.shape half number other_shut s.frames fs (seen s.disk) counted.limits small fits (rooted_now told runs)
+        (index_now s.shape half number other_shut s.frames s.closed (seen s.disk) (inv told runs).0 closed) image then
+
+    pub rewrite_moments : ((disk : D) (image : List ℕ) → left_since disk (moment disk) image → may_leave disk image)
+        → (tells → Only (seen mid) (may_leave mid) → LeavesOnly moment left_since mid new (IsRewritten gate shut rest at line (seen mid)))
+        → Moments tells seen may_leave moment left_since (λ old. fs) None new s
+    rewrite_moments only_now run =
+        moments_run tells seen may_leave moment left_since only_now s half number other_shut (λ old. fs) None mid new (λ c. IsRewritten gate shut rest at line c) inv untouched run
+        (λ told runs closed image q. rewrite_means told runs closed image (as_written (seen s.disk) image q))
+
+    abbrev content_after : List ℕ → List ℕ
+    content_after content = written (header_at (other half)) (165 ∷ []) (both_written (header_at (other half) + 1) (header_rest s.shape (next_of number)) (half_at s.shape (other half)) (closed_list fs) (written (header_at (other half)) (closing other_shut) content))
+
+    is_content : seen new ≡ written gate (165 ∷ []) (both_written (gate + 1) rest at line (written gate shut (seen mid))) → seen new ≡ content_after (seen s.disk)
+    is_content is =
+        is ∙ ap (λ (c : List ℕ). written gate (165 ∷ []) (both_written (gate + 1) rest at line (written gate shut c))) untouched.content
+        ∙ ap (λ (x : ℕ). written x (165 ∷ []) (both_written (x + 1) rest at line (written x shut (seen s.disk)))) gate_is
+        ∙ ap (λ (x : List ℕ). written (header_at (other half)) (165 ∷ []) (both_written (header_at (other half) + 1) rest at line (written (header_at (other half)) x (seen s.disk)))) shut_is
+        ∙ ap (λ (x : List ℕ). written (header_at (other half)) (165 ∷ []) (both_written (header_at (other half) + 1) x at line (written (header_at (other half)) (closing other_shut) (seen s.disk)))) rest_is
+        ∙ ap (λ (x : ℕ). written (header_at (other half)) (165 ∷ []) (both_written (header_at (other half) + 1) (header_rest s.shape (next_of number)) x line (written (header_at (other half)) (closing other_shut) (seen s.disk)))) at_is
+        ∙ ap (λ (x : List ℕ). written (header_at (other half)) (165 ∷ []) (both_written (header_at (other half) + 1) (header_rest s.shape (next_of number)) (half_at s.shape (other half)) x (written (header_at (other half)) (closing other_shut) (seen s.disk)))) line_is
+
+    pub rewrite_done : s.halted ≡ false → (tells → seen new ≡ written gate (165 ∷ []) (both_written (gate + 1) rest at line (written gate shut (seen mid))))
+        → After tells seen may_leave moment left_since (λ old. fs) None new s
+    rewrite_done runs is told =
+        subst (λ (c : List ℕ). IsAfter s.shape fs None (seen s.disk) c) (sym (is_content (is told)))
+        (rewrite_after s.shape half number other_shut s.frames fs (seen s.disk) counted.limits small fits (rooted_now told runs))
+
+    size_shut : (b : Bool) (content : List ℕ) → 64 ≤ length content → length (written (header_at (other half)) (closing b) content) ≡ length content
+    size_shut true content whole = refl
+    size_shut false content whole = omega (arith, length-written (header_at (other half)) (0 ∷ []) content (omega arith), header_within (other half))
+
+    pub rewrite_laid : s.halted ≡ false → (tells → seen new ≡ written gate (165 ∷ []) (both_written (gate + 1) rest at line (written gate shut (seen mid)))) → tells
+        → Laid s.shape (other half) (next_of number) false fs true (seen new) × (length (seen new) ≡ max s.size (at + length line))
+    rewrite_laid runs is told =
+        let here = inv told runs in
+        let rooted = rooted_now told runs in
+        let shut_content = written (header_at (other half)) (closing other_shut) (seen s.disk) in
+        let first = size_shut other_shut (seen s.disk) rooted.whole in
+        let rest_content = written (header_at (other half) + 1) (header_rest s.shape (next_of number)) shut_content in
+        let second = length-written (header_at (other half) + 1) (header_rest s.shape (next_of number)) shut_content (omega arith) in
+        let list = closed_list fs in
+        let long = length-closed_list fs in
+        let third = length-written (half_at s.shape (other half)) list rest_content (omega (arith, long)) in
+        let fourth = length-written (header_at (other half)) (165 ∷ []) (written (half_at s.shape (other half)) list rest_content) (omega arith) in (
+          subst (λ (c : List ℕ). Laid s.shape (other half) (next_of number) false fs true c) (sym (is_content (is told)))
+              (rewritten_laid s.shape half number other_shut s.frames fs (seen s.disk) counted.limits small fits rooted),
+          omega (arith, ap length (is_content (is told)), first, second, third, fourth, here.1, header_within (other half), rooted.whole, at_is, ap length line_is),
+        )
+
+    pub rewrite_counted : IsCounted s.shape fs (length line - 1)
+    rewrite_counted = record { limits = counted.limits; used_is = omega (arith, ap length line_is, length-closed_list fs); within = omega arith }

@@ -29,3 +29,8 @@ closing false = 0 ∷ []
 -- the generation of the next list
 abbrev pub next_of : ℕ → ℕ
 next_of number = (number + 1) % 2 ^ 64
+
+-- A crash while a gate is shut, then the rest of its header and a list are written, and then it is opened.
+abbrev pub IsRewritten : ℕ → List ℕ → List ℕ → ℕ → List ℕ → List ℕ → List ℕ → Type 0
+IsRewritten gate shut rest at list content image =
+    Torn gate (length shut) content image ⊎ IsBothGated (gate + 1) rest at list gate (written gate shut content) image

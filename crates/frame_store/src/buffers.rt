@@ -2,6 +2,7 @@
 
 ghost use Rattle.std.specs.Prelude.{◌≡◌, ◌+◌, ◌*◌, ◌^◌, ◌<◌, ◌≤◌, ◌++◌, ◌∷◌, [], length, vec_len, vec_capacity, OnOk, IfOk, IsOk};
 ghost use Rattle.frame_store.specs.Layouts.{identity, header_rest};
+ghost use Rattle.frame_store.specs.Steps.{closing};
 ghost use Rattle.frame_store.specs.Listed.{frame_rest, line_of, closed_list, spelled, size_of};
 
 use crate::frames::Frame;
@@ -52,6 +53,13 @@ pub(crate) fn header_rest(shape: Shape, generation: u64) -> [u8; 31]
         i0, i1, i2, i3, i4, i5, i6, i7, i8, i9, i10, i11, i12, i13, i14, i15, g0, g1, g2, g3, g4,
         g5, g6, g7, 0, 0, 0, 0, 0, 0, 0,
     ]
+}
+
+// What shuts the gate of a header. Where it is shut already nothing is written, since a torn 00 might open it.
+pub(crate) fn closing(shut: bool) -> &'static [u8]
+    ensures { result.now ≡ closing shut }
+{
+    if shut { &[] } else { &[0] }
 }
 
 // A copy of a body, in the memory that was spared for it.

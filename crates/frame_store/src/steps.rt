@@ -3,7 +3,7 @@
 ghost use Rattle.std.specs.Prelude.{◌≡◌, ◌+◌, ◌≤◌, ◌^◌, ◌∷◌, [], List, ℕ, length, OnOk, IsOk, IsOkUnless};
 ghost use Rattle.fab_disk.specs.Disk.{written, Torn, Follows, Only, Elapses, IsUntouched, LeavesOnly, Kept, KeepsRoom, KeepsPlan};
 ghost use Rattle.frame_store.specs.Stores.{RunsPlan};
-ghost use Rattle.frame_store.specs.Steps.{IsStaged, IsGated, IsBothGated, both_written};
+ghost use Rattle.frame_store.specs.Steps.{IsStaged, IsGated, IsBothGated, IsRewritten, both_written};
 
 use crate::faults::FrameFault;
 use fab_disk::Disk;
@@ -157,4 +157,30 @@ pub(crate) fn write_both_gated<D: Disk>(
 {
     write_both_synced(disk, from, first, at, second)?;
     write_synced(disk, gate, &[0xA5])
+}
+
+// Shuts a gate, writes what stands behind it and a list, and opens the gate.
+pub(crate) fn rewrite_gated<D: Disk>(
+    disk: &mut D,
+    gate: u64,
+    shut: &[u8],
+    rest: &[u8],
+    at: u64,
+    list: &[u8],
+) -> Result<(), FrameFault>
+    requires reach { at + length list.now ≤ 2 ^ 48 }
+    requires shut { gate + length shut.now ≤ at + length list.now }
+    requires rest { gate + 1 + length rest.now ≤ at + length list.now }
+    requires room { D.has_room disk.old 7 (length shut.now + (length rest.now + length list.now + 1)) (at + length list.now) }
+    ensures written { D.tells → OnOk result (D.seen disk.new ≡ written gate (165 ∷ []) (both_written (gate + 1) rest.now at list.now (written gate shut.now (D.seen disk.old)))) }
+    ensures durable { D.tells → OnOk result (Only (D.seen disk.new) (D.may_leave disk.new)) }
+    ensures moments { D.tells → Only (D.seen disk.old) (D.may_leave disk.old) → LeavesOnly D.moment D.left_since disk.old disk.new (IsRewritten gate shut.now rest.now at list.now (D.seen disk.old)) }
+    ensures counted { D.tells → OnOk result (D.moment disk.new ≡ D.moment disk.old + 7) }
+    ensures left { OnOk result ((calls room end : ℕ) → at + length list.now ≤ end → D.has_room disk.old (calls + 7) (room + (length shut.now + (length rest.now + length list.now + 1))) end → D.has_room disk.new calls room end) }
+    ensures plan { OnOk result (RunsPlan 7 (D.fails_in disk.old) (D.fails_in disk.new)) }
+    ensures only { IsOkUnless result FrameFault.Disk }
+    ensures cause { Kept (D.faults disk.old) (D.faults disk.new) (D.sound disk.old) (D.sound disk.new) (result ≡ Err FrameFault.Disk) }
+{
+    write_synced(disk, gate, shut)?;
+    write_both_gated(disk, gate + 1, rest, at, list, gate)
 }

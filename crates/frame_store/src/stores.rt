@@ -1,6 +1,6 @@
 //! The store.
 
-ghost use Rattle.std.specs.Prelude.{◌≡◌, ◌≢◌, ◌⊎◌, ◌↔◌, ◌+◌, ◌≤◌, ◌<◌, ◌^◌, ◌++◌, ◌∷◌, [], ℕ, List, true, false, length, IsTrue, IfOk, IfErr, OnOk, OnErr, Some, None};
+ghost use Rattle.std.specs.Prelude.{max, ◌≡◌, ◌≢◌, ◌⊎◌, ◌↔◌, ◌+◌, ◌≤◌, ◌<◌, ◌^◌, ◌++◌, ◌∷◌, [], ℕ, List, true, false, length, IsTrue, IfOk, IfErr, OnOk, OnErr, Some, None};
 ghost use Rattle.fab_disk.specs.Disk.{Only, Elapses, IsUntouched, LeavesOnly, Kept, KeepsRoom, KeepsPlan};
 ghost use Rattle.fab_disk.specs.Plan.{IsPlanned};
 ghost use Rattle.frame_store.specs.Layouts.{shape_of, half_size};
@@ -8,13 +8,13 @@ ghost use Rattle.frame_store.specs.Listed.{Fits, size_of, frame_of};
 ghost use Rattle.frame_store.specs.Images.{OpensAs, IsNoStore, HasSlot, block_in, IsAfter, IsBeforeOrAfter};
 ghost use Rattle.frame_store.specs.Stores.{Shows, IsRead, IsDurable, IsSame, HasNow, IsAnswer, HasRoom, RunsPlan};
 
-use crate::buffers::copied;
+use crate::buffers::{closing, copied, header_rest, size_of};
 use crate::faults::FrameFault;
 use crate::frames::Frame;
 use crate::shapes::{Half, Shape};
-use crate::staging::stage;
-use crate::steps::write_gated;
-use fab_disk::{Armed, Disk, Plan};
+use crate::staging::{Sizes, make_room, replace, stage, stage_list};
+use crate::steps::{rewrite_gated, write_both_gated, write_gated};
+use fab_disk::{Armed, Disk, IoFault, Plan};
 use std::alloc::Global;
 use std::marker::Model;
 
@@ -161,7 +161,14 @@ impl<D: Disk> FrameStore<D> {
         if self.halted {
             return Err(FrameFault::Halted);
         }
-        Err(FrameFault::NoMemory)
+        match self.disk.read_at(self.shape.slot_at(slot), into) {
+            Ok(()) => Ok(()),
+            Err(IoFault::NoMemory) => Err(FrameFault::NoMemory),
+            Err(IoFault::Failed) => {
+                self.halted = true;
+                Err(FrameFault::Disk)
+            }
+        }
     }
 
     /// Appends a frame. It makes four calls of `write_at` and `sync`.
@@ -184,6 +191,8 @@ impl<D: Disk> FrameStore<D> {
         ensures no_call { result ≡ Err FrameFault.Halted → self.new ≡ self.old }
         ensures cause { Kept (D.faults self.old.disk) (D.faults self.new.disk) (D.sound self.old.disk) (D.sound self.new.disk) (result ≡ Err FrameFault.Disk) }
         ensures read { IsRead D.tells D.seen self.new }
+        // Within what `reserve` made, memory is not refused.
+        ensures room { HasRoom D.has_room self.old 4 (length body.now + 7) (length body.now + 6) (length self.old.frames + 1) (length body.now) → result ≢ Err FrameFault.NoMemory }
     {
         if self.halted {
             return Err(FrameFault::Halted);
@@ -210,6 +219,7 @@ impl<D: Disk> FrameStore<D> {
         ensures no_call { result ≡ Err FrameFault.Halted → self.new ≡ self.old }
         ensures cause { Kept (D.faults self.old.disk) (D.faults self.new.disk) (D.sound self.old.disk) (D.sound self.new.disk) (result ≡ Err FrameFault.Disk) }
         ensures read { IsRead D.tells D.seen self.new }
+        ensures room { HasRoom D.has_room self.old 4 (length frame.body + 7) (length frame.body + 6) (length self.old.frames + 1) 0 → result ≢ Err FrameFault.NoMemory }
     {
         let end = self.shape.end();
         stage(
@@ -261,11 +271,38 @@ impl<D: Disk> FrameStore<D> {
         ensures no_call { result ≡ Err FrameFault.Halted → self.new ≡ self.old }
         ensures cause { Kept (D.faults self.old.disk) (D.faults self.new.disk) (D.sound self.old.disk) (D.sound self.new.disk) (result ≡ Err FrameFault.Disk) }
         ensures read { IsRead D.tells D.seen self.new }
+        // Within what `reserve` made, memory is not refused.
+        ensures room { HasRoom D.has_room self.old 5 (self.old.shape.block + (length frame.body + 7)) (length frame.body + 6) (length self.old.frames + 1) 0 → result ≢ Err FrameFault.NoMemory }
     {
         if self.halted {
             return Err(FrameFault::Halted);
         }
-        Err(FrameFault::NoMemory)
+        let end = self.shape.end();
+        stage(
+            &mut self.disk,
+            &mut self.frames,
+            &mut self.line,
+            &frame,
+            5,
+            block.len(),
+            end,
+        )?;
+        let at = self.shape.slot_at(slot);
+        let gate = self.shape.half_at(self.half) + self.used;
+        let bytes = self.line.len() as u64;
+        match write_both_gated(&mut self.disk, at, block, gate + 1, &self.line, gate) {
+            Ok(()) => {
+                self.used += bytes;
+                self.size = self.size.max(gate + 1 + bytes);
+                self.closed = true;
+                self.frames.push(frame).unwrap();
+                Ok(())
+            }
+            Err(fault) => {
+                self.halted = true;
+                Err(fault)
+            }
+        }
     }
 
     /// Puts a list of frames in the place of the one that is there. It makes seven calls of `write_at` and `sync`.
@@ -288,11 +325,44 @@ impl<D: Disk> FrameStore<D> {
         ensures no_call { result ≡ Err FrameFault.Halted → self.new ≡ self.old }
         ensures cause { Kept (D.faults self.old.disk) (D.faults self.new.disk) (D.sound self.old.disk) (D.sound self.new.disk) (result ≡ Err FrameFault.Disk) }
         ensures read { IsRead D.tells D.seen self.new }
+        // Within what `reserve` made, memory is not refused, and what was made beyond this call is left.
+        ensures room { HasRoom D.has_room self.old 7 (size_of frames.items + 34) (size_of frames.items + 1) (length frames.items) 0 → result ≢ Err FrameFault.NoMemory }
+        ensures left { OnOk result ((calls bytes written listed body : ℕ) → HasRoom D.has_room self.old (calls + 7) (bytes + (size_of frames.items + 34)) written listed body → HasRoom D.has_room self.new calls bytes written listed body) }
     {
         if self.halted {
             return Err(FrameFault::Halted);
         }
-        Err(FrameFault::NoMemory)
+        let end = self.shape.end();
+        stage_list(
+            &mut self.disk,
+            &mut self.frames,
+            &mut self.line,
+            &frames,
+            end,
+        )?;
+        let other = self.half.other();
+        let at = self.shape.half_at(other);
+        let generation = self.generation.wrapping_add(1);
+        let rest = header_rest(self.shape, generation);
+        let shut = closing(self.other_shut);
+        let bytes = self.line.len() as u64;
+        let gate = other.header_at();
+        match rewrite_gated(&mut self.disk, gate, shut, &rest, at, &self.line) {
+            Ok(()) => {
+                self.half = other;
+                self.generation = generation;
+                self.other_shut = false;
+                self.used = bytes - 1;
+                self.size = self.size.max(at + bytes);
+                self.closed = true;
+                replace(&mut self.frames, frames);
+                Ok(())
+            }
+            Err(fault) => {
+                self.halted = true;
+                Err(fault)
+            }
+        }
     }
 
     /// Makes room in memory for the next `sync`, the next `rewrite` of a list equal to this one, and the next append of a body
@@ -301,8 +371,8 @@ impl<D: Disk> FrameStore<D> {
     ///
     /// # Errors
     /// [`FrameFault::Halted`], [`FrameFault::Disk`]; [`FrameFault::NoMemory`].
-    pub fn reserve(&mut self, frames: &[Frame], length: usize) -> Result<(), FrameFault>
-        requires fits { Fits self.old.shape frames.now length }
+    pub fn reserve(&mut self, frames: &[Frame], body: usize) -> Result<(), FrameFault>
+        requires fits { Fits self.old.shape frames.now body }
         ensures same { IsSame self.old self.new }
         ensures untouched { IsUntouched D.seen D.may_leave D.moment D.left_since self.old.disk self.new.disk }
         ensures plan { KeepsPlan (D.fails_in self.old.disk) (D.fails_in self.new.disk) }
@@ -310,11 +380,26 @@ impl<D: Disk> FrameStore<D> {
         ensures no_call { result ≡ Err FrameFault.Halted → self.new ≡ self.old }
         ensures cause { Kept (D.faults self.old.disk) (D.faults self.new.disk) (D.sound self.old.disk) (D.sound self.new.disk) (result ≡ Err FrameFault.Disk) }
         ensures read { IsRead D.tells D.seen self.new }
+        ensures room { OnOk result (HasRoom D.has_room self.new 13 (size_of frames.now + 34 + (self.old.shape.block + body + 7)) (max (size_of frames.now + 1) (body + 6)) (max (length self.old.frames + 1) (length frames.now + 1)) body) }
     {
         if self.halted {
             return Err(FrameFault::Halted);
         }
-        Err(FrameFault::NoMemory)
+        let sizes = Sizes {
+            list: size_of(frames) as usize,
+            frames: frames.len(),
+            block: self.shape.block as usize,
+            body,
+        };
+        let end = self.shape.end();
+        make_room(
+            &mut self.disk,
+            &mut self.frames,
+            &mut self.line,
+            &mut self.spare,
+            sizes,
+            end,
+        )
     }
 
     /// Syncs the disk: after it a crash leaves what a read gives.
@@ -334,11 +419,21 @@ impl<D: Disk> FrameStore<D> {
         ensures no_call { result ≡ Err FrameFault.Halted → self.new ≡ self.old }
         ensures cause { Kept (D.faults self.old.disk) (D.faults self.new.disk) (D.sound self.old.disk) (D.sound self.new.disk) (result ≡ Err FrameFault.Disk) }
         ensures read { IsRead D.tells D.seen self.new }
+        // Within what `reserve` made, memory is not refused, and what was made beyond this call is left.
+        ensures room { (calls bytes written listed body : ℕ) → HasRoom D.has_room self.old (calls + 1) bytes written listed body → result ≢ Err FrameFault.NoMemory }
+        ensures left { OnOk result ((calls bytes written listed body : ℕ) → HasRoom D.has_room self.old (calls + 1) bytes written listed body → HasRoom D.has_room self.new calls bytes written listed body) }
     {
         if self.halted {
             return Err(FrameFault::Halted);
         }
-        Err(FrameFault::NoMemory)
+        match self.disk.sync() {
+            Ok(()) => Ok(()),
+            Err(IoFault::NoMemory) => Err(FrameFault::NoMemory),
+            Err(IoFault::Failed) => {
+                self.halted = true;
+                Err(FrameFault::Disk)
+            }
+        }
     }
 
     /// The disk. It makes no call of it.
