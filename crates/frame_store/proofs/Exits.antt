@@ -1,6 +1,9 @@
 -- What the calls of a store leave at each of their exits.
-use Rattle.std.proofs.Common.{◌≡◌, ◌⊎◌, inl, inr, ℕ, ◌+◌, ◌-◌, ◌*◌, ◌^◌, ◌<◌, ◌≤◌, max, Bool, true, false, List, [], ◌∷◌, ◌++◌, length, Option, Some, None, refl, sym, ◌∙◌, ap, subst, arith, length-append}
+use Rattle.std.proofs.Common.{◌≡◌, ◌⊎◌, inl, inr, ℕ, ◌+◌, ◌-◌, ◌*◌, ◌^◌, ◌<◌, ◌≤◌, max, min, Bool, true, false, List, [], ◌∷◌, ◌++◌, length, Option, Some, None, refl, sym, ◌∙◌, ap, subst, arith, length-append, length-take, length-drop, take, drop}
 use Rattle.std.proofs.Math.Nat.{mul-le-mul_left, mul-le-mul_right}
+use Rattle.std.proofs.lemmas.Bool.{cases_lt}
+use Rattle.std.proofs.lemmas.Grind.{same_number_lists}
+use Rattle.std.proofs.lemmas.List.{places}
 use Rattle.fab_disk.specs.Disk.{Torn, written, Only, IsUntouched, LeavesOnly}
 use Rattle.fab_disk.proofs.Moments.{started, goes_on, joined, widened}
 use Rattle.frame_store.specs.declared.frames.Frame.{Frame}
@@ -10,7 +13,7 @@ use Rattle.frame_store.specs.declared.shapes.Half.TheVariants.{A, B}
 use Rattle.frame_store.specs.Layouts.{IsShape, header_at, header_rest, half_at, half_size, slot_at, store_end}
 use Rattle.frame_store.specs.Listed.{size_of, line_of, closed_list, Fits}
 use Rattle.frame_store.specs.Laid.{other, Laid, IsCounted}
-use Rattle.frame_store.specs.Images.{OpensAs, IsAfter, IsBeforeOrAfter}
+use Rattle.frame_store.specs.Images.{part, OpensAs, IsAfter, IsBeforeOrAfter}
 use Rattle.frame_store.specs.Steps.{IsGated, IsBothGated, IsRewritten, both_written, closing, next_of}
 use Rattle.frame_store.specs.Stores.{Held, Shows, IsDurable}
 use Rattle.frame_store.proofs.Parts.{length-written}
@@ -286,3 +289,23 @@ module _ {D : Type 0} (tells : Type 0) (seen : D → List ℕ) (may_leave : D �
 
     pub rewrite_counted : IsCounted s.shape fs (length line - 1)
     rewrite_counted = record { limits = counted.limits; used_is = omega (arith, ap length line_is, length-closed_list fs); within = omega arith }
+
+-- what is read of a half, as far as the file goes
+pub half_read : (x h size at n : ℕ) (image : List ℕ) → length image ≡ size → at ≡ min x size → n ≡ min h (size - at) → part at n image ≡ part x h image
+half_read x h size at n image long at_is n_is = elim (cases_lt x size) [
+  | inl inside ↦
+      let here : at ≡ x = omega arith in
+      let got = length-drop x image in
+      ap (λ (a : ℕ). take n (drop a image)) here ∙ enough (drop x image) (omega (arith, got))
+  | inr past ↦
+      let none : n ≡ 0 = omega arith in
+      let got = length-drop x image in
+      ap (λ (k : ℕ). part at k image) none ∙ sym (empty (drop x image) (omega (arith, got)))
+]
+  where
+    enough : (l : List ℕ) → n ≡ min h (length l) → take n l ≡ take h l
+    enough l is = same_number_lists (take n l) (take h l) (omega (arith, length-take n l, length-take h l)) (λ k lt. grind (arith, places))
+
+    empty : (l : List ℕ) → length l ≡ 0 → take h l ≡ take 0 l
+    empty [] is = grind (arith, places)
+    empty (y ∷ l) is = absurd (omega arith)

@@ -3,6 +3,7 @@
 ghost use Rattle.std.specs.Prelude.{◌≡◌};
 ghost use Rattle.frame_store.specs.declared.faults.FrameFault.TheVariants.{NoMemory};
 
+use fab_base::NoMem;
 use std::alloc::{AllocError, AllocFailed};
 use thiserror::Error;
 
@@ -35,6 +36,14 @@ impl<T: Drop> From<AllocFailed<T>> for FrameFault {
     ghost from_gives = { λ _ e. e ≡ NoMemory };
 
     fn from(_: AllocFailed<T>) -> Self {
+        FrameFault::NoMemory
+    }
+}
+
+impl From<NoMem> for FrameFault {
+    ghost from_gives = { λ _ e. e ≡ NoMemory };
+
+    fn from(_: NoMem) -> Self {
         FrameFault::NoMemory
     }
 }

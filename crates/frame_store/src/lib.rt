@@ -8,6 +8,7 @@
 mod buffers;
 mod faults;
 mod frames;
+mod reading;
 mod shapes;
 mod staging;
 mod steps;
