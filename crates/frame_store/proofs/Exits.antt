@@ -289,23 +289,3 @@ module _ {D : Type 0} (tells : Type 0) (seen : D → List ℕ) (may_leave : D �
 
     pub rewrite_counted : IsCounted s.shape fs (length line - 1)
     rewrite_counted = record { limits = counted.limits; used_is = omega (arith, ap length line_is, length-closed_list fs); within = omega arith }
-
--- what is read of a half, as far as the file goes
-pub half_read : (x h size at n : ℕ) (image : List ℕ) → length image ≡ size → at ≡ min x size → n ≡ min h (size - at) → part at n image ≡ part x h image
-half_read x h size at n image long at_is n_is = elim (cases_lt x size) [
-  | inl inside ↦
-      let here : at ≡ x = omega arith in
-      let got = length-drop x image in
-      ap (λ (a : ℕ). take n (drop a image)) here ∙ enough (drop x image) (omega (arith, got))
-  | inr past ↦
-      let none : n ≡ 0 = omega arith in
-      let got = length-drop x image in
-      ap (λ (k : ℕ). part at k image) none ∙ sym (empty (drop x image) (omega (arith, got)))
-]
-  where
-    enough : (l : List ℕ) → n ≡ min h (length l) → take n l ≡ take h l
-    enough l is = same_number_lists (take n l) (take h l) (omega (arith, length-take n l, length-take h l)) (λ k lt. grind (arith, places))
-
-    empty : (l : List ℕ) → length l ≡ 0 → take h l ≡ take 0 l
-    empty [] is = grind (arith, places)
-    empty (y ∷ l) is = absurd (omega arith)

@@ -10,3 +10,5 @@ pub mod Appending
 pub mod Changes
 pub mod Rewriting
 pub mod Exits
+pub mod Openings
+pub mod Formatting

@@ -16,13 +16,3 @@ pub before_is : (shape : Shape) (before after : List Frame) (put : Option (ℕ �
     → OpensAs shape before true content → image ≡ content → IsBeforeOrAfter shape before after put content image
 before_is shape before after put content image opens same =
     subst (IsBeforeOrAfter shape before after put content) (sym same) (record { opens = inl opens; slots = slots_same shape put content })
-
--- while nothing is done, a durable store is left as it is
-pub stands : {D : Type 0} (tells : Type 0) (seen : D → List ℕ) (may_leave : D → List ℕ → Type 0) (moment : D → ℕ) (left_since : D → ℕ → List ℕ → Type 0)
-    (only_now : (disk : D) (image : List ℕ) → left_since disk (moment disk) image → may_leave disk image)
-    (store : Held D) (after : List Frame) (put : Option (ℕ × List ℕ)) → IsRead tells seen store → IsDurable tells seen may_leave store → store.closed ≡ true
-    → LeavesOnly moment left_since store.disk store.disk (IsBeforeOrAfter store.shape store.frames after put (seen store.disk))
-stands tells seen may_leave moment left_since only_now store after put read durable closed =
-    let opens : OpensAs store.shape store.frames true (seen store.disk) = subst (λ (b : Bool). OpensAs store.shape store.frames b (seen store.disk)) closed (read durable.told durable.runs).opens in
-    started moment left_since store.disk (IsBeforeOrAfter store.shape store.frames after put (seen store.disk))
-    (λ image left. before_is store.shape store.frames after put (seen store.disk) image opens (durable.only image (only_now store.disk image left)))

@@ -55,6 +55,16 @@ pub(crate) fn header_rest(shape: Shape, generation: u64) -> [u8; 31]
     ]
 }
 
+// Both headers with gates that are not open, the first of generation 1 and the second of generation 0.
+pub(crate) fn shut_headers(shape: Shape) -> [u8; 64]
+    ensures { result ≡ (0 ∷ header_rest shape 1) ++ (0 ∷ header_rest shape 0) }
+{
+    let mut headers = [0; 64];
+    headers[1..32].copy_from_slice(&header_rest(shape, 1));
+    headers[33..64].copy_from_slice(&header_rest(shape, 0));
+    headers
+}
+
 // What shuts the gate of a header. Where it is shut already nothing is written, since a torn 00 might open it.
 pub(crate) fn closing(shut: bool) -> &'static [u8]
     ensures { result.now ≡ closing shut }

@@ -151,6 +151,7 @@ fn parse(alloc: Global, bytes: &[u8]) -> Result<Vec<Frame>, FrameFault>
 }
 
 // What a store knows of its disk when it is opened.
+#[derive(Drop)]
 pub(crate) struct Found {
     pub(crate) half: Half,
     pub(crate) generation: u64,

@@ -8,12 +8,13 @@ ghost use Rattle.frame_store.specs.Listed.{Fits, size_of, frame_of};
 ghost use Rattle.frame_store.specs.Images.{OpensAs, IsNoStore, HasSlot, block_in, IsAfter, IsBeforeOrAfter};
 ghost use Rattle.frame_store.specs.Stores.{Shows, IsRead, IsDurable, IsSame, HasNow, IsAnswer, HasRoom, RunsPlan};
 
-use crate::buffers::{closing, copied, header_rest, size_of};
+use crate::buffers::{closing, copied, header_rest, shut_headers, size_of};
 use crate::faults::FrameFault;
 use crate::frames::Frame;
+use crate::reading::read_store;
 use crate::shapes::{Half, Shape};
 use crate::staging::{Sizes, make_room, replace, stage, stage_list};
-use crate::steps::{rewrite_gated, write_both_gated, write_gated};
+use crate::steps::{reserve, rewrite_gated, write_both_gated, write_gated};
 use fab_disk::{Armed, Disk, IoFault, Plan};
 use std::alloc::Global;
 use std::marker::Model;
@@ -78,7 +79,11 @@ pub fn format<D: Disk>(
     ensures plan { OnOk result (RunsPlan 5 (D.fails_in disk.old) (D.fails_in disk.new)) }
     ensures cause { Kept (D.faults disk.old) (D.faults disk.new) (D.sound disk.old) (D.sound disk.new) (result ≡ Err FrameFault.Disk) }
 {
-    Err(FrameFault::NoMemory)
+    let shape = Shape { me, block, records };
+    let headers = shut_headers(shape);
+    let first = shape.half_at(Half::A);
+    reserve(disk, 5, 66, shape.end())?;
+    write_both_gated(disk, 0, &headers, first, &[0], 0)
 }
 
 /// Opens the store that a disk holds for a brick, with these blocks and slots. It reads alone, and changes nothing.
@@ -87,7 +92,7 @@ pub fn format<D: Disk>(
 /// Each hands the disk back. [`FrameFault::NotAStore`]: neither header is open. [`FrameFault::Disk`]: the disk failed.
 /// [`FrameFault::NoMemory`]: memory was refused.
 pub fn open_store<D: Disk>(
-    _alloc: Global,
+    alloc: Global,
     disk: D,
     me: u16,
     block: u16,
@@ -108,7 +113,26 @@ pub fn open_store<D: Disk>(
     ensures cause { IfOk result (λ store. Kept (D.faults disk) (D.faults store.disk) (D.sound disk) (D.sound store.disk) ⊥) }
     ensures cause_err { IfErr result (λ e. Kept (D.faults disk) (D.faults e.1) (D.sound disk) (D.sound e.1) (e.0 ≡ FrameFault.Disk)) }
 {
-    Err((FrameFault::NoMemory, disk))
+    let shape = Shape { me, block, records };
+    let mut disk = disk;
+    match read_store(alloc, &mut disk, shape) {
+        Ok(found) => Ok(FrameStore {
+            disk,
+            alloc,
+            shape,
+            half: found.half,
+            generation: found.generation,
+            other_shut: found.other_shut,
+            frames: found.frames,
+            used: found.used,
+            closed: found.closed,
+            size: found.size,
+            halted: false,
+            line: Vec::new(alloc),
+            spare: Vec::new(alloc),
+        }),
+        Err(fault) => Err((fault, disk)),
+    }
 }
 
 impl<D: Disk> FrameStore<D> {
