@@ -1,0 +1,14 @@
+pub mod Standing
+pub mod Parts
+pub mod Listing
+pub mod Plans
+pub mod Runs
+pub mod Headers
+pub mod Indexes
+pub mod Slots
+pub mod Appending
+pub mod Changes
+pub mod Rewriting
+pub mod Exits
+pub mod Openings
+pub mod Formatting

@@ -1,0 +1,87 @@
+use Rattle.std.proofs.Common.{◌≡◌, ◌++◌, ◌∷◌, [], ◌+◌, max, length, ℕ, List, true, None, sym, ap, subst, rules, arith, ◌∙◌}
+use Rattle.frame_store.specs.declared.frames.Frame.{Frame}
+use Rattle.frame_store.specs.Layouts.{half_at}
+use Rattle.frame_store.specs.Listed.{line_of}
+use Rattle.frame_store.specs.Laid.{Laid, IsCounted}
+use Rattle.frame_store.specs.Stores.{Held, Shows}
+use Rattle.frame_store.proofs.Changes.{laid_opens}
+use Rattle.frame_store.proofs.Exits.{Ready, Moments, After, Invariant, moments_untouched, append_moments, append_done, append_laid, append_counted}
+use Rattle.frame_store.proofs.stores.FrameStore.append_frame.Goals as goal
+
+pub returns-in_err-stage-clause-any_moment : goal.returns-in_err-stage-clause-any_moment
+returns-in_err-stage-clause-any_moment g c =
+    let x = c.self.inside in
+    let d = g.D.Disk in
+    subst (λ (s : Held g.row.D.Denot). Moments d.tells d.seen d.may_leave d.moment d.left_since (λ fs. fs ++ c.args.frame ∷ []) None c.stage.new.disk s) c.self.view_is
+    (moments_untouched d.tells d.seen d.may_leave d.moment d.left_since g.met.D.Disk.only_now _ x.half x.generation x.other_shut (λ fs. fs ++ c.args.frame ∷ []) None c.stage.new.disk c.self.invariant.1 c.stage.ensures.untouched)
+
+pub returns-in-Err-clause-any_moment : goal.returns-in-Err-clause-any_moment
+returns-in-Err-clause-any_moment g c =
+    let x = c.self.inside in
+    let d = g.D.Disk in
+    let p = c.half_at.result + x.used in
+    let place : p ≡ half_at x.shape x.half + x.used = omega (arith, c.half_at.ensures) in
+    let line_is : c.deref.result.now ≡ line_of c.args.frame = c.deref.ensures.value ∙ c.in_ok-stage.ensures.line in
+    let ready = subst (λ (s : Held g.row.D.Denot). Ready d.tells d.seen d.may_leave d.moment d.left_since x.half x.generation x.other_shut x.used c.stage.new.disk p s) c.self.view_is
+    (record { counted = c.self.invariant.0; invariant = c.self.invariant.1; untouched = c.stage.ensures.untouched; place = place }) in
+    append_moments d.tells d.seen d.may_leave d.moment d.left_since c.args.self.now x.half x.generation x.other_shut x.used c.stage.new.disk c.write_gated.new.disk p c.args.frame c.deref.result.now
+    ready c.requires.fits line_is g.met.D.Disk.only_now c.write_gated.ensures.moments
+
+pub returns-in-Ok-clause-any_moment : goal.returns-in-Ok-clause-any_moment
+returns-in-Ok-clause-any_moment g c =
+    let x = c.self.inside in
+    let d = g.D.Disk in
+    let p = c.half_at.result + x.used in
+    let place : p ≡ half_at x.shape x.half + x.used = omega (arith, c.half_at.ensures) in
+    let line_is : c.deref.result.now ≡ line_of c.args.frame = c.deref.ensures.value ∙ c.in_ok-stage.ensures.line in
+    let ready = subst (λ (s : Held g.row.D.Denot). Ready d.tells d.seen d.may_leave d.moment d.left_since x.half x.generation x.other_shut x.used c.stage.new.disk p s) c.self.view_is
+    (record { counted = c.self.invariant.0; invariant = c.self.invariant.1; untouched = c.stage.ensures.untouched; place = place }) in
+    append_moments d.tells d.seen d.may_leave d.moment d.left_since c.args.self.now x.half x.generation x.other_shut x.used c.stage.new.disk c.write_gated.new.disk p c.args.frame c.deref.result.now
+    ready c.requires.fits line_is g.met.D.Disk.only_now c.write_gated.ensures.moments
+
+pub returns-in-Ok-clause-after : goal.returns-in-Ok-clause-after
+returns-in-Ok-clause-after g c =
+    let x = c.self.inside in
+    let d = g.D.Disk in
+    let p = c.half_at.result + x.used in
+    let place : p ≡ half_at x.shape x.half + x.used = omega (arith, c.half_at.ensures) in
+    let line_is : c.deref.result.now ≡ line_of c.args.frame = c.deref.ensures.value ∙ c.in_ok-stage.ensures.line in
+    let ready = subst (λ (s : Held g.row.D.Denot). Ready d.tells d.seen d.may_leave d.moment d.left_since x.half x.generation x.other_shut x.used c.stage.new.disk p s) c.self.view_is
+    (record { counted = c.self.invariant.0; invariant = c.self.invariant.1; untouched = c.stage.ensures.untouched; place = place }) in
+    append_done d.tells d.seen d.may_leave d.moment d.left_since c.args.self.now x.half x.generation x.other_shut x.used c.stage.new.disk c.write_gated.new.disk p c.args.frame c.deref.result.now
+    ready c.requires.fits line_is c.requires.runs c.in-Ok.ensures.written
+
+-- the new list is laid, and counted
+pub invariant_of-self-in-Ok : goal.invariant_of-self-in-Ok
+invariant_of-self-in-Ok g c =
+    let x = c.self.inside in
+    let d = g.D.Disk in
+    let p = c.half_at.result + x.used in
+    let place : p ≡ half_at x.shape x.half + x.used = omega (arith, c.half_at.ensures) in
+    let line_is : c.deref.result.now ≡ line_of c.args.frame = c.deref.ensures.value ∙ c.in_ok-stage.ensures.line in
+    let bytes : c.len-bytes.result ≡ length c.deref.result.now = omega arith in
+    let items : c.push.new.self.items ≡ x.frames.items ++ c.args.frame ∷ [] = search rules in
+    let size : c.max-self-inside.result ≡ max x.size (p + 1 + length c.deref.result.now) = omega (arith, bytes, c.max-self-inside.ensures) in
+    let ready = subst (λ (s : Held g.row.D.Denot). Ready d.tells d.seen d.may_leave d.moment d.left_since x.half x.generation x.other_shut x.used c.stage.new.disk p s) c.self.view_is
+    (record { counted = c.self.invariant.0; invariant = c.self.invariant.1; untouched = c.stage.ensures.untouched; place = place }) in
+    let laid = subst (λ (s : Held g.row.D.Denot). d.tells → Laid s.shape x.half x.generation x.other_shut (s.frames ++ c.args.frame ∷ []) true (d.seen c.write_gated.new.disk)
+    × (length (d.seen c.write_gated.new.disk) ≡ max s.size (p + 1 + length c.deref.result.now))) (sym c.self.view_is)
+    (append_laid d.tells d.seen d.may_leave d.moment d.left_since c.args.self.now x.half x.generation x.other_shut x.used c.stage.new.disk c.write_gated.new.disk p c.args.frame c.deref.result.now
+    ready c.requires.fits line_is c.requires.runs c.in-Ok.ensures.written) in
+    let counted = subst (λ (s : Held g.row.D.Denot). IsCounted s.shape (s.frames ++ c.args.frame ∷ []) (x.used + length c.deref.result.now)) (sym c.self.view_is)
+    (append_counted d.tells d.seen d.may_leave d.moment d.left_since c.args.self.now x.half x.generation x.other_shut x.used c.stage.new.disk c.write_gated.new.disk p c.args.frame c.deref.result.now
+    ready c.requires.fits line_is) in
+    let used : x.used + length c.deref.result.now ≡ x.used + c.len-bytes.result = omega (arith, bytes) in (
+      subst (λ (n : ℕ). IsCounted x.shape c.push.new.self.items n) used
+          (subst (λ (fs : List Frame). IsCounted x.shape fs (x.used + length c.deref.result.now)) (sym items) counted),
+      λ told runs. (
+        subst (λ (fs : List Frame). Laid x.shape x.half x.generation x.other_shut fs true (d.seen c.write_gated.new.disk)) (sym items) (laid told).0,
+        (laid told).1 ∙ sym size,
+      ),
+    )
+
+pub returns-in-Ok-clause-read : goal.returns-in-Ok-clause-read
+returns-in-Ok-clause-read g c = λ told runs.
+    let x = c.self.inside in
+    let now = (invariant_of-self-in-Ok g c).1 told runs in
+    record { opens = laid_opens x.shape x.half x.generation x.other_shut c.push.new.self.items true (g.D.Disk.seen c.write_gated.new.disk) now.0; size = now.1 }

@@ -1,0 +1,17 @@
+use Rattle.std.proofs.Common.{◌+◌, ◌≤◌, sym, subst, arith}
+use Rattle.frame_store.specs.Layouts.{store_end}
+use Rattle.frame_store.specs.Stores.{Held, HasRoom, RunsPlan}
+use Rattle.frame_store.proofs.Plans.{ran_one}
+use Rattle.frame_store.proofs.stores.FrameStore.sync.Goals as goal
+
+pub returns-in-Ok-clause-plan : goal.returns-in-Ok-clause-plan
+returns-in-Ok-clause-plan g c =
+    subst (λ (s : Held g.row.D.Denot). RunsPlan 1 (g.D.Disk.fails_in s.disk) (g.D.Disk.fails_in c.sync.new.self)) c.self.view_is
+    (ran_one (g.D.Disk.fails_in c.self.inside.disk) (g.D.Disk.fails_in c.sync.new.self) c.in-Ok.ensures.plan)
+
+pub returns-in-Err-NoMemory-clause-room : goal.returns-in-Err-NoMemory-clause-room
+returns-in-Err-NoMemory-clause-room g c = λ calls bytes written listed body had refused.
+    let x = c.self.inside in
+    let before = subst (λ (s : Held g.row.D.Denot). HasRoom g.D.Disk.has_room s (calls + 1) bytes written listed body) (sym c.self.view_is) had in
+    let room = g.met.D.Disk.room_for_less x.disk (calls + 1) bytes (store_end x.shape) (calls + 1) (bytes + 0) (store_end x.shape) (omega arith) (omega arith) (omega arith) before.disk in
+    c.sync.ensures.room.enough calls bytes (store_end x.shape) (omega arith) room (cc)

@@ -1,0 +1,36 @@
+-- What runs of writes and syncs do to the content of a disk.
+use Rattle.std.specs.Prelude.{◌≡◌, ◌⊎◌, ℕ, ◌+◌, ◌%◌, ◌^◌, Bool, true, false, List, [], ◌∷◌, length}
+use Rattle.fab_disk.specs.Disk.{written, Torn}
+
+-- an image after two writes of which both may be torn
+pub record IsStaged (from n at k : ℕ) (content image : List ℕ) : Type 0 where
+  pub between : List ℕ
+  pub first : Torn from n content between
+  pub second : Torn at k between image
+
+-- the content after two writes
+abbrev pub both_written : ℕ → List ℕ → ℕ → List ℕ → List ℕ → List ℕ
+both_written from first at second content = written at second (written from first content)
+
+-- A crash while a byte is written behind a sync, and before it the bytes of one write.
+abbrev pub IsGated : ℕ → List ℕ → ℕ → List ℕ → List ℕ → Type 0
+IsGated at line gate content image = Torn at (length line) content image ⊎ Torn gate 1 (written at line content) image
+
+-- and before it the bytes of two
+abbrev pub IsBothGated : ℕ → List ℕ → ℕ → List ℕ → ℕ → List ℕ → List ℕ → Type 0
+IsBothGated from first at second gate content image =
+    IsStaged from (length first) at (length second) content image ⊎ Torn gate 1 (both_written from first at second content) image
+
+-- what shuts the other header's gate: nothing where it is shut already, since a torn 00 might open it
+abbrev pub closing : Bool → List ℕ
+closing true = []
+closing false = 0 ∷ []
+
+-- the generation of the next list
+abbrev pub next_of : ℕ → ℕ
+next_of number = (number + 1) % 2 ^ 64
+
+-- A crash while a gate is shut, then the rest of its header and a list are written, and then it is opened.
+abbrev pub IsRewritten : ℕ → List ℕ → List ℕ → ℕ → List ℕ → List ℕ → List ℕ → Type 0
+IsRewritten gate shut rest at list content image =
+    Torn gate (length shut) content image ⊎ IsBothGated (gate + 1) rest at list gate (written gate shut content) image

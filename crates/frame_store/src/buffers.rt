@@ -1,0 +1,141 @@
+//! The bytes that are written.
+
+ghost use Rattle.std.specs.Prelude.{◌≡◌, ◌+◌, ◌*◌, ◌^◌, ◌<◌, ◌≤◌, ◌++◌, ◌∷◌, [], length, vec_len, vec_capacity, OnOk, IfOk, IsOk};
+ghost use Rattle.frame_store.specs.Layouts.{identity, header_rest};
+ghost use Rattle.frame_store.specs.Steps.{closing};
+ghost use Rattle.frame_store.specs.Listed.{frame_rest, line_of, closed_list, spelled, size_of};
+
+use crate::frames::Frame;
+use crate::shapes::Shape;
+use fab_base::Bytes;
+use std::alloc::{AllocError, Global};
+use std::mem;
+
+// An open gate.
+pub(crate) const OPEN: u8 = 0xA5;
+
+// The identity of a header.
+pub(crate) fn identity(shape: Shape) -> [u8; 16]
+    ensures { result ≡ identity shape }
+{
+    let [m0, m1] = shape.me.to_be_bytes();
+    let [b0, b1] = shape.block.to_be_bytes();
+    let [r0, r1, r2, r3] = shape.records.to_be_bytes();
+    [
+        70, 65, 66, 83, 84, 79, 82, 2, m0, m1, b0, b1, r0, r1, r2, r3,
+    ]
+}
+
+// A header but for its gate.
+pub(crate) fn header_rest(shape: Shape, generation: u64) -> [u8; 31]
+    ensures { result ≡ header_rest shape generation }
+{
+    let [
+        i0,
+        i1,
+        i2,
+        i3,
+        i4,
+        i5,
+        i6,
+        i7,
+        i8,
+        i9,
+        i10,
+        i11,
+        i12,
+        i13,
+        i14,
+        i15,
+    ] = identity(shape);
+    let [g0, g1, g2, g3, g4, g5, g6, g7] = generation.to_be_bytes();
+    [
+        i0, i1, i2, i3, i4, i5, i6, i7, i8, i9, i10, i11, i12, i13, i14, i15, g0, g1, g2, g3, g4,
+        g5, g6, g7, 0, 0, 0, 0, 0, 0, 0,
+    ]
+}
+
+// Both headers with gates that are not open, the first of generation 1 and the second of generation 0.
+pub(crate) fn shut_headers(shape: Shape) -> [u8; 64]
+    ensures { result ≡ (0 ∷ header_rest shape 1) ++ (0 ∷ header_rest shape 0) }
+{
+    let mut headers = [0; 64];
+    headers[1..32].copy_from_slice(&header_rest(shape, 1));
+    headers[33..64].copy_from_slice(&header_rest(shape, 0));
+    headers
+}
+
+// What shuts the gate of a header. Where it is shut already nothing is written, since a torn 00 might open it.
+pub(crate) fn closing(shut: bool) -> &'static [u8]
+    ensures { result.now ≡ closing shut }
+{
+    if shut { &[] } else { &[0] }
+}
+
+// A copy of a body, in the memory that was spared for it.
+pub(crate) fn copied(alloc: Global, spare: &mut Vec<u8>, body: &[u8]) -> Result<Bytes, AllocError>
+    ensures copy { IfOk result (λ made. made ≡ body.now) }
+    ensures enough { length body.now ≤ vec_capacity spare.old → IsOk result }
+{
+    spare.clear();
+    spare.extend_from_slice(body)?;
+    Ok(Bytes::from_vec(mem::replace(spare, Vec::new(alloc))))
+}
+
+// Adds a frame but for its gate.
+fn put_rest(line: &mut Vec<u8>, frame: &Frame)
+    requires short { length frame.now.body < 2 ^ 32 }
+    requires room { vec_len line.old + 5 + length frame.now.body ≤ vec_capacity line.old }
+    ensures items { line.new.items ≡ line.old.items ++ frame_rest frame.now }
+    ensures len { vec_len line.new ≡ vec_len line.old + 5 + length frame.now.body }
+    ensures capacity { vec_capacity line.old ≤ vec_capacity line.new }
+{
+    let body = frame.body.as_slice();
+    line.push(frame.kind).unwrap();
+    line.extend_from_slice(&(body.len() as u32).to_be_bytes())
+        .unwrap();
+    line.extend_from_slice(body).unwrap();
+}
+
+// What is written behind a gate for a frame.
+pub(crate) fn put_line(line: &mut Vec<u8>, frame: &Frame) -> Result<(), AllocError>
+    requires short { length frame.now.body < 2 ^ 32 }
+    ensures made { OnOk result (line.new.items ≡ line_of frame.now) }
+    ensures enough { length frame.now.body + 6 ≤ vec_capacity line.old → IsOk result }
+    ensures capacity { vec_capacity line.old ≤ vec_capacity line.new }
+{
+    line.clear();
+    line.reserve(frame.body.len() + 6)?;
+    put_rest(line, frame);
+    line.push(0).unwrap();
+    Ok(())
+}
+
+// How many bytes the frames are, with their gates.
+pub(crate) fn size_of(frames: &[Frame]) -> u64
+    requires { size_of frames.now < 2 ^ 32 }
+    ensures { result ≡ size_of frames.now }
+{
+    let mut size = 0;
+    for frame in frames {
+        size += 6 + frame.body.len() as u64;
+    }
+    size
+}
+
+// The frames with open gates, and a closed gate.
+pub(crate) fn put_list(line: &mut Vec<u8>, frames: &[Frame]) -> Result<(), AllocError>
+    requires short { size_of frames.now < 2 ^ 32 }
+    ensures made { OnOk result (line.new.items ≡ closed_list frames.now) }
+    ensures enough { size_of frames.now + 1 ≤ vec_capacity line.old → IsOk result }
+    ensures capacity { vec_capacity line.old ≤ vec_capacity line.new }
+{
+    line.clear();
+    line.reserve(size_of(frames) as usize + 1)?;
+    for frame in frames {
+        line.push(OPEN).unwrap();
+        put_rest(line, frame);
+    }
+    line.push(0).unwrap();
+    Ok(())
+}

@@ -1,0 +1,186 @@
+//! Runs of calls of a disk, for which room in memory was made before.
+
+ghost use Rattle.std.specs.Prelude.{◌≡◌, ◌+◌, ◌≤◌, ◌^◌, ◌∷◌, [], List, ℕ, length, OnOk, IsOk, IsOkUnless};
+ghost use Rattle.fab_disk.specs.Disk.{written, Torn, Follows, Only, Elapses, IsUntouched, LeavesOnly, Kept, KeepsRoom, KeepsPlan};
+ghost use Rattle.frame_store.specs.Stores.{RunsPlan};
+ghost use Rattle.frame_store.specs.Steps.{IsStaged, IsGated, IsBothGated, IsRewritten, both_written};
+
+use crate::faults::FrameFault;
+use fab_disk::Disk;
+
+// Makes room in memory for calls of the disk.
+pub(crate) fn reserve<D: Disk>(
+    disk: &mut D,
+    calls: usize,
+    bytes: usize,
+    end: u64,
+) -> Result<(), FrameFault>
+    requires { end ≤ 2 ^ 48 }
+    ensures made { OnOk result (D.has_room disk.new calls bytes end) }
+    ensures enough { D.has_room disk.old calls bytes end → IsOk result }
+    ensures only { IsOkUnless result FrameFault.NoMemory }
+    ensures untouched { IsUntouched D.seen D.may_leave D.moment D.left_since disk.old disk.new }
+    ensures room { KeepsRoom (D.has_room disk.old) (D.has_room disk.new) }
+    ensures plan { KeepsPlan (D.fails_in disk.old) (D.fails_in disk.new) }
+    ensures cause { Kept (D.faults disk.old) (D.faults disk.new) (D.sound disk.old) (D.sound disk.new) ⊥ }
+{
+    match disk.reserve(calls, bytes, end) {
+        Ok(()) => Ok(()),
+        Err(_) => Err(FrameFault::NoMemory),
+    }
+}
+
+// One write.
+fn write<D: Disk>(disk: &mut D, at: u64, bytes: &[u8]) -> Result<(), FrameFault>
+    requires reach { at + length bytes.now ≤ 2 ^ 48 }
+    requires room { D.has_room disk.old 1 (length bytes.now) (at + length bytes.now) }
+    ensures written { D.tells → OnOk result (D.seen disk.new ≡ written at bytes.now (D.seen disk.old)) }
+    ensures crash { Follows (Torn at (length bytes.now)) (D.may_leave disk.old) (D.may_leave disk.new) }
+    ensures time { Elapses (D.moment disk.old) (D.moment disk.new) (D.left_since disk.old) (D.left_since disk.new) (D.may_leave disk.new) }
+    ensures counted { D.tells → OnOk result (D.moment disk.new ≡ D.moment disk.old + 1) }
+    ensures left { OnOk result ((calls room end : ℕ) → at + length bytes.now ≤ end → D.has_room disk.old (calls + 1) (room + length bytes.now) end → D.has_room disk.new calls room end) }
+    ensures plan { OnOk result (RunsPlan 1 (D.fails_in disk.old) (D.fails_in disk.new)) }
+    ensures only { IsOkUnless result FrameFault.Disk }
+    ensures cause { Kept (D.faults disk.old) (D.faults disk.new) (D.sound disk.old) (D.sound disk.new) (result ≡ Err FrameFault.Disk) }
+{
+    match disk.write_at(at, bytes) {
+        Ok(()) => Ok(()),
+        Err(_) => Err(FrameFault::Disk),
+    }
+}
+
+// One sync.
+fn sync<D: Disk>(disk: &mut D) -> Result<(), FrameFault>
+    requires room { D.has_room disk.old 1 0 0 }
+    ensures durable { D.tells → OnOk result (Only (D.seen disk.old) (D.may_leave disk.new)) }
+    ensures content { D.seen disk.new ≡ D.seen disk.old }
+    ensures crash { (image : List ℕ) → D.may_leave disk.new image → D.may_leave disk.old image }
+    ensures time { Elapses (D.moment disk.old) (D.moment disk.new) (D.left_since disk.old) (D.left_since disk.new) (D.may_leave disk.new) }
+    ensures counted { D.tells → OnOk result (D.moment disk.new ≡ D.moment disk.old + 1) }
+    ensures left { OnOk result ((calls room end : ℕ) → D.has_room disk.old (calls + 1) room end → D.has_room disk.new calls room end) }
+    ensures plan { OnOk result (RunsPlan 1 (D.fails_in disk.old) (D.fails_in disk.new)) }
+    ensures only { IsOkUnless result FrameFault.Disk }
+    ensures cause { Kept (D.faults disk.old) (D.faults disk.new) (D.sound disk.old) (D.sound disk.new) (result ≡ Err FrameFault.Disk) }
+{
+    match disk.sync() {
+        Ok(()) => Ok(()),
+        Err(_) => Err(FrameFault::Disk),
+    }
+}
+
+// One write that is synced.
+pub(crate) fn write_synced<D: Disk>(disk: &mut D, at: u64, bytes: &[u8]) -> Result<(), FrameFault>
+    requires reach { at + length bytes.now ≤ 2 ^ 48 }
+    requires room { D.has_room disk.old 2 (length bytes.now) (at + length bytes.now) }
+    ensures written { D.tells → OnOk result (D.seen disk.new ≡ written at bytes.now (D.seen disk.old)) }
+    ensures durable { D.tells → OnOk result (Only (D.seen disk.new) (D.may_leave disk.new)) }
+    ensures moments { Only (D.seen disk.old) (D.may_leave disk.old) → LeavesOnly D.moment D.left_since disk.old disk.new (Torn at (length bytes.now) (D.seen disk.old)) }
+    ensures counted { D.tells → OnOk result (D.moment disk.new ≡ D.moment disk.old + 2) }
+    ensures left { OnOk result ((calls room end : ℕ) → at + length bytes.now ≤ end → D.has_room disk.old (calls + 2) (room + length bytes.now) end → D.has_room disk.new calls room end) }
+    ensures plan { OnOk result (RunsPlan 2 (D.fails_in disk.old) (D.fails_in disk.new)) }
+    ensures only { IsOkUnless result FrameFault.Disk }
+    ensures cause { Kept (D.faults disk.old) (D.faults disk.new) (D.sound disk.old) (D.sound disk.new) (result ≡ Err FrameFault.Disk) }
+{
+    write(disk, at, bytes)?;
+    sync(disk)
+}
+
+// One write that is synced, and then an open gate.
+pub(crate) fn write_gated<D: Disk>(
+    disk: &mut D,
+    at: u64,
+    bytes: &[u8],
+    gate: u64,
+) -> Result<(), FrameFault>
+    requires reach { at + length bytes.now ≤ 2 ^ 48 }
+    requires gate { gate + 1 ≤ at + length bytes.now }
+    requires room { D.has_room disk.old 4 (length bytes.now + 1) (at + length bytes.now) }
+    ensures written { D.tells → OnOk result (D.seen disk.new ≡ written gate (165 ∷ []) (written at bytes.now (D.seen disk.old))) }
+    ensures durable { D.tells → OnOk result (Only (D.seen disk.new) (D.may_leave disk.new)) }
+    ensures moments { D.tells → Only (D.seen disk.old) (D.may_leave disk.old) → LeavesOnly D.moment D.left_since disk.old disk.new (IsGated at bytes.now gate (D.seen disk.old)) }
+    ensures counted { D.tells → OnOk result (D.moment disk.new ≡ D.moment disk.old + 4) }
+    ensures left { OnOk result ((calls room end : ℕ) → at + length bytes.now ≤ end → D.has_room disk.old (calls + 4) (room + (length bytes.now + 1)) end → D.has_room disk.new calls room end) }
+    ensures plan { OnOk result (RunsPlan 4 (D.fails_in disk.old) (D.fails_in disk.new)) }
+    ensures only { IsOkUnless result FrameFault.Disk }
+    ensures cause { Kept (D.faults disk.old) (D.faults disk.new) (D.sound disk.old) (D.sound disk.new) (result ≡ Err FrameFault.Disk) }
+{
+    write_synced(disk, at, bytes)?;
+    write_synced(disk, gate, &[0xA5])
+}
+
+// Two writes that are synced.
+fn write_both_synced<D: Disk>(
+    disk: &mut D,
+    from: u64,
+    first: &[u8],
+    at: u64,
+    second: &[u8],
+) -> Result<(), FrameFault>
+    requires reach { at + length second.now ≤ 2 ^ 48 }
+    requires first { from + length first.now ≤ at + length second.now }
+    requires room { D.has_room disk.old 3 (length first.now + length second.now) (at + length second.now) }
+    ensures written { D.tells → OnOk result (D.seen disk.new ≡ both_written from first.now at second.now (D.seen disk.old)) }
+    ensures durable { D.tells → OnOk result (Only (D.seen disk.new) (D.may_leave disk.new)) }
+    ensures moments { Only (D.seen disk.old) (D.may_leave disk.old) → LeavesOnly D.moment D.left_since disk.old disk.new (IsStaged from (length first.now) at (length second.now) (D.seen disk.old)) }
+    ensures counted { D.tells → OnOk result (D.moment disk.new ≡ D.moment disk.old + 3) }
+    ensures left { OnOk result ((calls room end : ℕ) → at + length second.now ≤ end → D.has_room disk.old (calls + 3) (room + (length first.now + length second.now)) end → D.has_room disk.new calls room end) }
+    ensures plan { OnOk result (RunsPlan 3 (D.fails_in disk.old) (D.fails_in disk.new)) }
+    ensures only { IsOkUnless result FrameFault.Disk }
+    ensures cause { Kept (D.faults disk.old) (D.faults disk.new) (D.sound disk.old) (D.sound disk.new) (result ≡ Err FrameFault.Disk) }
+{
+    write(disk, from, first)?;
+    write(disk, at, second)?;
+    sync(disk)
+}
+
+// Two writes that are synced, and then an open gate.
+pub(crate) fn write_both_gated<D: Disk>(
+    disk: &mut D,
+    from: u64,
+    first: &[u8],
+    at: u64,
+    second: &[u8],
+    gate: u64,
+) -> Result<(), FrameFault>
+    requires reach { at + length second.now ≤ 2 ^ 48 }
+    requires first { from + length first.now ≤ at + length second.now }
+    requires gate { gate + 1 ≤ at + length second.now }
+    requires room { D.has_room disk.old 5 (length first.now + length second.now + 1) (at + length second.now) }
+    ensures written { D.tells → OnOk result (D.seen disk.new ≡ written gate (165 ∷ []) (both_written from first.now at second.now (D.seen disk.old))) }
+    ensures durable { D.tells → OnOk result (Only (D.seen disk.new) (D.may_leave disk.new)) }
+    ensures moments { D.tells → Only (D.seen disk.old) (D.may_leave disk.old) → LeavesOnly D.moment D.left_since disk.old disk.new (IsBothGated from first.now at second.now gate (D.seen disk.old)) }
+    ensures counted { D.tells → OnOk result (D.moment disk.new ≡ D.moment disk.old + 5) }
+    ensures left { OnOk result ((calls room end : ℕ) → at + length second.now ≤ end → D.has_room disk.old (calls + 5) (room + (length first.now + length second.now + 1)) end → D.has_room disk.new calls room end) }
+    ensures plan { OnOk result (RunsPlan 5 (D.fails_in disk.old) (D.fails_in disk.new)) }
+    ensures only { IsOkUnless result FrameFault.Disk }
+    ensures cause { Kept (D.faults disk.old) (D.faults disk.new) (D.sound disk.old) (D.sound disk.new) (result ≡ Err FrameFault.Disk) }
+{
+    write_both_synced(disk, from, first, at, second)?;
+    write_synced(disk, gate, &[0xA5])
+}
+
+// Shuts a gate, writes what stands behind it and a list, and opens the gate.
+pub(crate) fn rewrite_gated<D: Disk>(
+    disk: &mut D,
+    gate: u64,
+    shut: &[u8],
+    rest: &[u8],
+    at: u64,
+    list: &[u8],
+) -> Result<(), FrameFault>
+    requires reach { at + length list.now ≤ 2 ^ 48 }
+    requires shut { gate + length shut.now ≤ at + length list.now }
+    requires rest { gate + 1 + length rest.now ≤ at + length list.now }
+    requires room { D.has_room disk.old 7 (length shut.now + (length rest.now + length list.now + 1)) (at + length list.now) }
+    ensures written { D.tells → OnOk result (D.seen disk.new ≡ written gate (165 ∷ []) (both_written (gate + 1) rest.now at list.now (written gate shut.now (D.seen disk.old)))) }
+    ensures durable { D.tells → OnOk result (Only (D.seen disk.new) (D.may_leave disk.new)) }
+    ensures moments { D.tells → Only (D.seen disk.old) (D.may_leave disk.old) → LeavesOnly D.moment D.left_since disk.old disk.new (IsRewritten gate shut.now rest.now at list.now (D.seen disk.old)) }
+    ensures counted { D.tells → OnOk result (D.moment disk.new ≡ D.moment disk.old + 7) }
+    ensures left { OnOk result ((calls room end : ℕ) → at + length list.now ≤ end → D.has_room disk.old (calls + 7) (room + (length shut.now + (length rest.now + length list.now + 1))) end → D.has_room disk.new calls room end) }
+    ensures plan { OnOk result (RunsPlan 7 (D.fails_in disk.old) (D.fails_in disk.new)) }
+    ensures only { IsOkUnless result FrameFault.Disk }
+    ensures cause { Kept (D.faults disk.old) (D.faults disk.new) (D.sound disk.old) (D.sound disk.new) (result ≡ Err FrameFault.Disk) }
+{
+    write_synced(disk, gate, shut)?;
+    write_both_gated(disk, gate + 1, rest, at, list, gate)
+}
