@@ -89,7 +89,7 @@ asked_begun layout bricks b old new ask result within is me begins =
     (λ begun as_machine w shows.
     let at = brick_at layout bricks w.nodes w.clocks b old within is shows in
     let same : machine.invoked (copying layout) old.node.me old.clock (state_of layout.block old.node) ask
-        ≡ machine.invoked (copying layout) (brick_of b) (w.clocks b) (w.nodes b) ask =
+    ≡ machine.invoked (copying layout) (brick_of b) (w.clocks b) (w.nodes b) ask =
     ap (λ (x : BrickId). machine.invoked (copying layout) x old.clock (state_of layout.block old.node) ask) at.me
     ∙ ap (λ (t : ℕ). machine.invoked (copying layout) (brick_of b) t (state_of layout.block old.node) ask) at.clock
     ∙ ap (λ (x : machine.Node). machine.invoked (copying layout) (brick_of b) (w.clocks b) x ask) at.state
@@ -125,7 +125,7 @@ handed_over layout bricks b old new packet result within is me steps =
     (λ outs as_machine w shows.
     let at = brick_at layout bricks w.nodes w.clocks b old within is shows in
     let same : machine.received (copying layout) old.node.me old.clock (state_of layout.block old.node) packet
-        ≡ machine.received (copying layout) (brick_of b) (w.clocks b) (w.nodes b) packet =
+    ≡ machine.received (copying layout) (brick_of b) (w.clocks b) (w.nodes b) packet =
     ap (λ (x : BrickId). machine.received (copying layout) x old.clock (state_of layout.block old.node) packet) at.me
     ∙ ap (λ (t : ℕ). machine.received (copying layout) (brick_of b) t (state_of layout.block old.node) packet) at.clock
     ∙ ap (λ (x : machine.Node). machine.received (copying layout) (brick_of b) (w.clocks b) x packet) at.state

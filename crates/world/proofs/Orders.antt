@@ -1,19 +1,17 @@
 -- Entries have one ascending order, and a sort gives it.
-use Rattle.std.proofs.Common.{◌≡◌, ℕ, suc, ◌+◌, ⊎_elim, Bool, true, false, cond, List, [], ◌∷◌, refl, sym, ap, ap₂, ◌∙◌, subst, arith}
+use Rattle.std.proofs.Common.{◌≡◌, ℕ, suc, ◌+◌, Bool, true, false, cond, List, [], ◌∷◌, refl, sym, ap, ap₂, ◌∙◌, arith}
 use Rattle.std.specs.List.{All, sum_by}
 use Rattle.std.specs.List.Sorted.{IsPermutation, IsSorted}
-use Rattle.std.proofs.lemmas.Bool.{both_ways, or_parts, and_cases}
 use Rattle.std.proofs.lemmas.Bool.Decides.{nat_tests}
 use Rattle.std.proofs.lemmas.List.Elements.{All-cons, All-head, All-tail}
 use Rattle.std.proofs.lemmas.List.Sums.{sum_by-cons}
 use Rattle.std.proofs.lemmas.List.Sorted.{sorted_far, sum_by-IsPermutation}
 use Rattle.fab_base.specs.declared.stamps.Stamp.{Stamp}
-use Rattle.fab_base.specs.Stamps.{stamp_below, stamp_same}
-use Rattle.fab_base.proofs.StampOrder.{stamp_neither_below, stamp_same_refl}
+use Rattle.fab_base.proofs.StampOrder.{stamp_neither_below}
 use Rattle.reg_model.specs.declared.entries.Entry.{Entry}
 use Rattle.reg_model.specs.contracts.entries.EntryOrd.TheImpl.{cmp-value}
 use Rattle.reg_model.specs.Walk.{turn_below, entry_below}
-use Rattle.reg_model.proofs.EntryOrder.{entry_order, IsSortedBy-from_sort}
+use Rattle.reg_model.proofs.EntryOrder.{not_before_parts, entry_order, IsSortedBy-from_sort}
 use Rattle.protocol.specs.Happenings.{ascending}
 use Rattle.protocol.proofs.Sorting.{InOrder, ascending_permutation, ascending_order}
 
@@ -30,25 +28,11 @@ entry_from a b stamp turn =
     ∙ ap (λ (r : Bool). let e : Entry = record { stamp = b.stamp; reader = r; operation = a.operation } in e) turn.0
     ∙ ap (λ (n : ℕ). let e : Entry = record { stamp = b.stamp; reader = b.reader; operation = n } in e) turn.1
 
--- what is not before an entry has no smaller stamp, and of the same version no earlier turn
-not_before : (a b : Entry) → entry_below a b ≡ false
-    → (stamp_below a.stamp b.stamp ≡ false) × (a.stamp ≡ b.stamp → turn_below a.reader a.operation b.reader b.operation ≡ false)
-unfolding entry_below
-not_before a b h =
-    let parts = or_parts _ _ h in (
-      parts.0,
-      λ same. ⊎_elim
-          (λ (differ : stamp_same a.stamp b.stamp ≡ false). absurd (both_ways (stamp_same a.stamp b.stamp) differ
-          (subst (λ (t : Stamp). stamp_same a.stamp t ≡ true) same (stamp_same_refl a.stamp))))
-          (λ (turn : turn_below a.reader a.operation b.reader b.operation ≡ false). turn)
-          (and_cases _ _ parts.1),
-    )
-
 -- entries of which neither is before the other are the same
 same_entry : (a b : Entry) → entry_below a b ≡ false → entry_below b a ≡ false → a ≡ b
 same_entry a b g h =
-    let first = not_before a b g in
-    let second = not_before b a h in
+    let first = not_before_parts a b g in
+    let second = not_before_parts b a h in
     let stamp : a.stamp ≡ b.stamp = stamp_neither_below a.stamp b.stamp first.0 second.0 in
     entry_from a b stamp (same_turn a.reader b.reader a.operation b.operation (first.1 stamp) (second.1 (sym stamp)))
 

@@ -1,7 +1,6 @@
 -- What a world always keeps.
-use Rattle.std.specs.Prelude.{◌≡◌, ◌≤◌, ◌^◌, length}
-use Rattle.node.specs.Copies.{copying, KeepsCopies}
-use Rattle.protocol.specs.Settings.{IsSound}
+use Rattle.std.specs.Prelude.{◌≡◌}
+use Rattle.node.specs.Copies.{KeepsCopies}
 use Rattle.protocol.specs.Replicas.{first_replica}
 use Rattle.world.specs.Runs.{Run, world_of}
 use Rattle.world.specs.States.{Shows}
@@ -15,6 +14,4 @@ run_of inside = record { layout = inside.layout; lines = inside.lines.items }
 pub record IsStanding (inside : Inside) : Type 0 where
   pub shows : Shows inside.layout inside.state (world_of (run_of inside))
   pub copies : KeepsCopies inside.layout
-  pub few : length inside.layout.groups ≤ 2 ^ 32
-  pub sound : IsSound (copying inside.layout)
   pub fresh : inside.fresh ≡ first_replica inside.layout.block

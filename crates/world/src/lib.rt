@@ -4,6 +4,8 @@
 mod histories;
 mod rooms;
 mod states;
+#[cfg(test)]
+mod tests;
 mod texts;
 mod walks;
 mod worlds;

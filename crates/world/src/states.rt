@@ -1,6 +1,6 @@
 //! What a world keeps: its bricks and their clocks, and what happened.
 
-ghost use Rattle.std.specs.Prelude.{◌≡◌, ◌^◌, ◌<◌, ◌≤◌, ℕ, true, Some, IfNone, IfSome, IfOk, OnErr, length, vec_len};
+ghost use Rattle.std.specs.Prelude.{◌≡◌, ◌<◌, ◌≤◌, ℕ, true, Some, IfNone, IfSome, IfOk, OnErr, vec_len};
 ghost use Rattle.protocol.specs.Nodes as machine;
 ghost use Rattle.protocol.specs.Nodes.{refusal_of, is_stripe_op, invoked, received};
 ghost use Rattle.protocol.specs.Nodes.{put as changed};
@@ -106,7 +106,6 @@ fn hand_over(
 
 /// The stripe of these numbers. None exactly where there is none.
 fn place_of(layout: &Layout, group: u64, stripe: u64) -> Option<(GroupId, StripeNo)>
-    requires { length layout.now.groups ≤ 2 ^ 32 }
     ensures none { IfNone result ((node : machine.Node) (op : _) → refusal_of layout.now node (ask_of group stripe op) ≡ Some Refusal.NoStripe) }
     ensures some { IfSome result (λ place. (place.0.0 ≡ group) × (place.1.0 ≡ stripe)) }
 {
@@ -122,7 +121,7 @@ fn place_of(layout: &Layout, group: u64, stripe: u64) -> Option<(GroupId, Stripe
 }
 
 impl State {
-    ghost use Rattle.std.specs.Prelude.{◌≡◌, ℕ, ◌<◌, ◌≤◌, ◌^◌, true, length, vec_len, IfOk, OnOk, OnErr};
+    ghost use Rattle.std.specs.Prelude.{◌≡◌, ℕ, ◌<◌, ◌≤◌, true, vec_len, IfOk, OnOk, OnErr};
     ghost use Rattle.protocol.specs.Nodes.{is_stripe_op};
     ghost use Rattle.protocol.specs.Worlds.{World, first_world, happens, packet_of};
     ghost use Rattle.protocol.specs.Worlds.Event.{Invokes, Delivers, Sets};
@@ -143,7 +142,6 @@ impl State {
     /// Runs a line. After a refusal for want of memory the state shows what it showed.
     pub fn run(&mut self, alloc: Global, layout: &Layout, line: &Line) -> Result<Outcome, NoMem>
         requires copies { KeepsCopies layout.now }
-        requires few { length layout.now.groups ≤ 2 ^ 32 }
         requires bricks { vec_len self.old.bricks ≡ layout.now.bricks }
         requires stripes { IsOfStripes line.now }
         ensures shows { OnOk result ((w : World) → IsNumbered w → Shows layout.now self.old w
@@ -177,7 +175,6 @@ impl State {
         op: &Op,
     ) -> Result<Outcome, NoMem>
         requires copies { KeepsCopies layout.now }
-        requires few { length layout.now.groups ≤ 2 ^ 32 }
         requires bricks { vec_len self.old.bricks ≡ layout.now.bricks }
         requires stripes { is_stripe_op op.now ≡ true }
         ensures shows { OnOk result ((w : World) → Shows layout.now self.old w

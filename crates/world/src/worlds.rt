@@ -72,21 +72,19 @@ fn print(alloc: Global, outcome: Outcome, marks: &[Mark]) -> Result<Bytes, NoMem
 }
 
 impl World {
-    ghost use Rattle.std.specs.Prelude.{◌≡◌, ◌^◌, ◌≤◌, [], None, IfOk, OnOk, OnErr, IsErrOf, length};
+    ghost use Rattle.std.specs.Prelude.{◌≡◌, ◌≤◌, [], None, IfOk, OnOk, OnErr, IsErrOf, length};
     ghost use Rattle.std.specs.Option.{option_copied};
     ghost use Rattle.lines.specs.Grammar.{line_of};
     ghost use Rattle.node.specs.Copies.{copying, KeepsCopies};
-    ghost use Rattle.protocol.specs.Settings.{IsSound};
     ghost use Rattle.protocol.specs.Happenings.{happenings_of};
     ghost use Rattle.world.specs.Runs.{world_of};
     ghost use Rattle.world.specs.States.{outcome_of, IsOfStripes};
     ghost use Rattle.world.specs.Steps.{Ran, Stands, with_line, log_at};
 
-    /// All bricks up, their stores fresh, and nothing sent.
+    /// All bricks up, their stores fresh, their clocks at 0, and nothing sent. Each stripe of the layout has one data block, of which
+    /// each member keeps a copy.
     pub fn new(alloc: Global, layout: Layout) -> Result<World, NoMem>
         requires copies { KeepsCopies layout }
-        requires few { length layout.groups ≤ 2 ^ 32 }
-        requires sound { IsSound (copying layout) }
         ensures { IfOk result (λ world. world ≡ record { layout = layout; lines = [] }) }
     {
         let state = State::new(alloc, &layout)?;

@@ -14,13 +14,19 @@ returns-in_err-parse_number c =
 pub returns-in_err-parse_number-2 : goal.returns-in_err-parse_number-2
 unfolding clock
 returns-in_err-parse_number-2 c =
-    rw (two_words _ c.if-arguments-ne2.false, sym c.parse_number.ensures ∙ c.in_ok-parse_number.was,
-    sym c.parse_number-2.ensures ∙ c.in_err-parse_number-2.was)
+    rw (
+      two_words _ c.if-arguments-ne2.false,
+      sym c.parse_number.ensures ∙ c.in_ok-parse_number.was,
+      sym c.parse_number-2.ensures ∙ c.in_err-parse_number-2.was,
+    )
     c.from_residual-in_err-parse_number-2.ensures
 
 pub returns : goal.returns
 unfolding clock
 returns c =
-    rw (two_words _ c.if-arguments-ne2.false, sym c.parse_number.ensures ∙ c.in_ok-parse_number.was,
-    sym c.parse_number-2.ensures ∙ c.in_ok-parse_number-2.was)
+    rw (
+      two_words _ c.if-arguments-ne2.false,
+      sym c.parse_number.ensures ∙ c.in_ok-parse_number.was,
+      sym c.parse_number-2.ensures ∙ c.in_ok-parse_number-2.was,
+    )
     refl

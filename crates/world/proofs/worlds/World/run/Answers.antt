@@ -13,8 +13,6 @@ invariant_of-self-in_err-outcome c = record {
   shows = subst (λ (lines : List Line). Shows c.self.inside.layout c.run.new.self (world_of (record { layout = c.self.inside.layout; lines = lines })))
       (sym c.reserve.ensures.items) (c.in_err-outcome.ensures.err (world_of (run_of c.self.inside)) c.self.invariant.shows);
   copies = c.self.invariant.copies;
-  few = c.self.invariant.few;
-  sound = c.self.invariant.sound;
   fresh = c.self.invariant.fresh;
 }
 
@@ -24,8 +22,6 @@ invariant_of-self-2 c = record {
       (c.put.ensures ∙ ap (λ (lines : List Line). lines ++ c.args.line ∷ []) c.reserve.ensures.items)
       (c.in_ok-outcome.ensures.shows (world_of (run_of c.self.inside)) (numbered (run_of c.self.inside)) c.self.invariant.shows));
   copies = c.self.invariant.copies;
-  few = c.self.invariant.few;
-  sound = c.self.invariant.sound;
   fresh = c.self.invariant.fresh;
 }
 
