@@ -1,9 +1,8 @@
-use Rattle.std.proofs.Common.{◌≡◌, true, sym, ap, ◌∙◌, subst}
+use Rattle.std.proofs.Common.{◌≡◌, true, sym, ap, ◌∙◌}
 use Rattle.std.specs.Prelude.{nat_eq}
 use Rattle.std.specs.List.{list_all}
-use Rattle.layout.specs.Limits.{IsLayout}
 use Rattle.replay.specs.Outputs.{is_served}
-use Rattle.replay.proofs.Copies.{keeps, sound_copies}
+use Rattle.replay.proofs.Copies.{keeps}
 use Rattle.replay.proofs.schedules.disk_of.Goals as goal
 
 pub new-requires-clause-copies : goal.new-requires-clause-copies
@@ -11,9 +10,3 @@ new-requires-clause-copies c =
     let served : is_served c.args.layout ≡ true =
     ap (λ groups. list_all (λ group. nat_eq group.m 1) groups) (sym c.groups.ensures) ∙ sym c.are_copied.ensures ∙ c.if-not-are_copied.false in
     keeps c.args.layout served
-
-pub new-requires-clause-sound : goal.new-requires-clause-sound
-new-requires-clause-sound c =
-    let served : is_served c.args.layout ≡ true =
-    ap (λ groups. list_all (λ group. nat_eq group.m 1) groups) (sym c.groups.ensures) ∙ sym c.are_copied.ensures ∙ c.if-not-are_copied.false in
-    sound_copies c.args.layout (subst IsLayout c.layout.view_is c.layout.invariant) served
