@@ -1,7 +1,7 @@
 -- A brick begins an operation, with a stamp that no part of any stripe has.
-use Rattle.std.proofs.Common.{◌≡◌, ◌≢◌, ℕ, ◌+◌, ◌<◌, ◌≤◌, ◌⊎◌, inl, inr, true, false, List, [], ◌∷◌, length, Some, None, refl, sym, ap, ◌∙◌, subst, ⊎_elim, arith}
-use Rattle.std.specs.Prelude.{slice_get, nat_eq}
-use Rattle.std.proofs.lemmas.Bool.{ne_eqb, cond-false, false≢true}
+use Rattle.std.proofs.Common.{◌≡◌, ℕ, ◌+◌, ◌<◌, ◌≤◌, ◌⊎◌, inl, inr, true, false, List, [], ◌∷◌, length, Option, Some, None, refl, sym, ap, ◌∙◌, subst, ⊎_elim, arith}
+use Rattle.std.specs.Prelude.{slice_get}
+use Rattle.std.proofs.lemmas.Bool.{false≢true}
 use Rattle.std.proofs.lemmas.List.{length-append}
 use Rattle.fab_base.specs.declared.identities.BrickId.{BrickId}
 use Rattle.fab_base.specs.declared.stamps.Stamp.{Stamp}
@@ -18,21 +18,17 @@ use Rattle.reg_model.specs.Marks.{life_of, position_of}
 use Rattle.reg_model.specs.Walk.{last_of}
 use Rattle.protocol.specs.Settings.{Setting, Code, Group, group_of}
 use Rattle.protocol.specs.Replicas.{top_of}
-use Rattle.protocol.specs.Coordinators.{Coordinator, Phase, Looks, Orders, request_of}
+use Rattle.protocol.specs.Coordinators.{Coordinator, Phase, Looks, Orders, Stores, request_of}
 use Rattle.protocol.specs.Nodes.{Node, put, is_stripe_op, first_phase, new_coordinator, opened, began_in, phase_packets}
 use Rattle.protocol.specs.Worlds.{World, Operation, world_began}
 use Rattle.protocol.specs.Laws.{part_of, IsGuarded}
 use Rattle.protocol.proofs.Books.{Books, IsOperation}
-use Rattle.protocol.proofs.Said.{Stamping, Said, IsStampOf, IsCalled, FitsPhase, FloorsAtLeast, RequestSays, PacketSays, OperationSays, CallSays, IsInOrder}
+use Rattle.protocol.proofs.Said.{Stamping, Said, IsStamped, IsKnown, IsStampOf, IsCalled, FitsPhase, FloorsAtLeast, RequestSays, PacketSays, OperationSays, CallSays, IsInOrder}
 use Rattle.protocol.proofs.Tables.{put_each, put_same, get_grown, get_one, sent_to_member}
 use Rattle.protocol.proofs.Lives.{last_grows}
 use Rattle.protocol.proofs.Growth.{Grows, continues_same}
 use Rattle.protocol.proofs.Steps.{keeps_same, never_falls_by, held_by, sent_by, said_after}
-use Rattle.protocol.proofs.OwnStamps.{not_first}
-
--- another value than the new one
-put_other : {A : Type 0} (f : ℕ → A) (k : ℕ) (v : A) (i : ℕ) → i ≢ k → put f k v i ≡ f i
-put_other f k v i other = cond-false (nat_eq i k) v (f i) (ne_eqb i k other)
+use Rattle.protocol.proofs.Stampings.{ComesFrom, stays_known, later_unknown, with_stamp, stamp_now, stamps_other, phases_other, stamp_last, stamps_grow, stamps_say}
 
 -- what a phase asks
 request_looks : (code : Code) (m : ℕ) (c : Coordinator) (seat : ℕ) → c.phase ≡ Looks → request_of code m c seat ≡ Request.Read Want.All
@@ -56,9 +52,9 @@ module _ (setting : Setting) (w : World) (stamps : Stamping) (me : BrickId) (ask
   abbrev old : Node
   old = w.nodes me.0
 
-  -- its new coordinator
+  -- its new coordinator, at what its clock reads
   abbrev c : Coordinator
-  c = new_coordinator me 0 (w.nodes me.0) ask
+  c = new_coordinator me (w.clocks me.0) (w.nodes me.0) ask
 
   -- the brick after
   abbrev node : Node
@@ -66,7 +62,7 @@ module _ (setting : Setting) (w : World) (stamps : Stamping) (me : BrickId) (ask
 
   -- the stamps after
   abbrev pub later : Stamping
-  later = put stamps me.0 (put (stamps me.0) c.call.seq c.stamp)
+  later = with_stamp stamps me.0 c.call.seq c.call.phase c.stamp
 
   abbrev pub next : World
   next = world_began w me ask (began_in setting group me (w.nodes me.0) c)
@@ -85,15 +81,23 @@ module _ (setting : Setting) (w : World) (stamps : Stamping) (me : BrickId) (ask
         floor = λ i. top_of ((w.nodes i).replicas ask.group.0 ask.stripe.0);
       }
 
-  -- the new stamp
-  later_now : later me.0 c.call.seq ≡ c.stamp
-  later_now = ap (λ row. row c.call.seq) (put_same stamps me.0 (put (stamps me.0) c.call.seq c.stamp)) ∙ put_same (stamps me.0) c.call.seq c.stamp
+  -- the new stamp is the brick's, and nobody knows it
+  own : IsStampOf node.known me.0 c.stamp
+  own = record { view = refl; boot = books.boots me.0; brick = refl; positive = omega arith; bounded = omega arith }
 
-  stamped : (i k : ℕ) → k ≤ (w.nodes i).seq → later i k ≡ stamps i k
-  stamped =
-      put_each (λ j row. (k : ℕ) → k ≤ (w.nodes j).seq → row k ≡ stamps j k) stamps me.0 (put (stamps me.0) c.call.seq c.stamp)
-      (put_each (λ k v. k ≤ (w.nodes me.0).seq → v ≡ stamps me.0 k) (stamps me.0) c.call.seq c.stamp (λ within. absurd (omega arith)) (λ k other within. refl))
-      (λ j other k within. refl)
+  unknown : IsKnown stamps c.stamp → ⊥
+  unknown = later_unknown w stamps said.stamps_say node.known me.0 c.stamp own (omega arith)
+
+  from : ComesFrom stamps me.0 c.call.seq c.stamp
+  from = inr unknown
+
+  -- the new call has no stamp before
+  no_stamp : (p : ℕ) (z : Option Stamp) → stamps me.0 c.call.seq p ≡ z → z ≡ None
+  no_stamp p None is = refl
+  no_stamp p (Some t) is = absurd (let begun = said.stamps_say.begun me.0 c.call.seq p t is in omega (arith, begun.1))
+
+  none : (p : ℕ) → c.call.phase ≤ p → stamps me.0 c.call.seq p ≡ None
+  none p most = no_stamp p (stamps me.0 c.call.seq p) refl
 
   numbered : (i k : ℕ) → k ≤ (w.nodes i).seq → next.numbers i k ≡ w.numbers i k
   numbered =
@@ -125,60 +129,10 @@ module _ (setting : Setting) (w : World) (stamps : Stamping) (me : BrickId) (ask
     sent = sent_by w next (phase_packets setting group me c) refl;
     operations = λ n o is. (o, goes_on n o is, continues_same o);
     contents = λ g s t made. refl;
-    seqs = put_each (λ j x. (w.nodes j).seq ≤ x.seq) w.nodes me.0 node (omega arith) (λ j other. omega arith);
-    stamped = stamped;
+    grow = stamps_grow stamps me.0 c.call.seq c.call.phase c.stamp none from;
     numbered = numbered;
     marks = (let longer : length next.marks ≡ length w.marks + 1 = length-append w.marks (Begin (length w.marks) (w.begun + 1) me ask ∷ []) in omega arith);
   }
-
-  -- the new stamp is the brick's
-  own : IsStampOf node.known me.0 c.stamp
-  own = record { view = refl; boot = books.boots me.0; brick = refl; positive = omega arith; bounded = omega arith }
-
-  stamps_are : (i k : ℕ) → 1 ≤ k → k ≤ (next.nodes i).seq → IsStampOf (next.nodes i).known i (later i k)
-  stamps_are =
-      put_each (λ j x. (k : ℕ) → 1 ≤ k → k ≤ x.seq → IsStampOf x.known j (later j k)) w.nodes me.0 node
-      (λ k some most.
-      subst (λ (row : ℕ → Stamp). IsStampOf node.known me.0 (row k)) (sym (put_same stamps me.0 (put (stamps me.0) c.call.seq c.stamp)))
-      (put_each (λ l v. 1 ≤ l → l ≤ node.seq → IsStampOf node.known me.0 v) (stamps me.0) c.call.seq c.stamp
-      (λ l_some l_most. own)
-      (λ l other l_some l_most.
-      let is : IsStampOf (w.nodes me.0).known me.0 (stamps me.0 l) = said.stamps_are me.0 l l_some (omega arith) in
-      record { view = is.view; boot = is.boot; brick = is.brick; positive = is.positive; bounded = omega (arith, is.bounded) })
-      k some most))
-      (λ j other k some most.
-      subst (λ (row : ℕ → Stamp). IsStampOf (w.nodes j).known j (row k)) (sym (put_other stamps me.0 (put (stamps me.0) c.call.seq c.stamp) j other))
-      (said.stamps_are j k some most))
-
-  stamps_rise : (i k l : ℕ) → 1 ≤ k → k < l → l ≤ (next.nodes i).seq → (later i k).time < (later i l).time
-  stamps_rise =
-      put_each (λ j x. (k l : ℕ) → 1 ≤ k → k < l → l ≤ x.seq → (later j k).time < (later j l).time) w.nodes me.0 node
-      (λ k l some less most.
-      let here : later me.0 k ≡ stamps me.0 k = stamped me.0 k (omega arith) in
-      let known : (stamps me.0 k).time ≤ (w.nodes me.0).known = (said.stamps_are me.0 k some (omega arith)).bounded in
-      subst (λ (t : Stamp). t.time < (later me.0 l).time) (sym here)
-      (subst (λ (row : ℕ → Stamp). (stamps me.0 k).time < (row l).time) (sym (put_same stamps me.0 (put (stamps me.0) c.call.seq c.stamp)))
-      (put_each (λ q v. k < q → q ≤ node.seq → (stamps me.0 k).time < v.time) (stamps me.0) c.call.seq c.stamp
-      (λ q_less q_most. omega arith)
-      (λ q other q_less q_most. said.stamps_rise me.0 k q some q_less (omega arith))
-      l less most)))
-      (λ j other k l some less most.
-      subst (λ (row : ℕ → Stamp). (row k).time < (row l).time) (sym (put_other stamps me.0 (put (stamps me.0) c.call.seq c.stamp) j other))
-      (said.stamps_rise j k l some less most))
-
-  -- no part of a stripe has the new stamp as its top
-  fresh : (g s i : ℕ) → top_of (part_of w g s i) ≡ c.stamp → ⊥
-  fresh g s i same = ⊎_elim
-      (λ (first : top_of (part_of w g s i) ≡ first_stamp). not_first node.known me.0 c.stamp own (sym same ∙ first))
-      (λ (known : (j l : ℕ) × (1 ≤ l) × (l ≤ (w.nodes j).seq) × (top_of (part_of w g s i) ≡ stamps j l)).
-      let is : IsStampOf (w.nodes known.0).known known.0 (stamps known.0 known.1) = said.stamps_are known.0 known.1 known.2 known.3 in
-      let stamp : c.stamp ≡ stamps known.0 known.1 = sym same ∙ known.4 in
-      let brick : known.0 ≡ me.0 = sym is.brick ∙ ap (λ (t : Stamp). t.brick.0) (sym stamp) in
-      let bounded : (stamps known.0 known.1).time ≤ (w.nodes me.0).known
-      = subst (λ (j : ℕ). (stamps known.0 known.1).time ≤ (w.nodes j).known) brick is.bounded in
-      let time : c.stamp.time ≡ (stamps known.0 known.1).time = ap (λ (t : Stamp). t.time) stamp in
-      absurd (omega arith))
-      (said.tops g s i)
 
   called : IsCalled next me.0 c.call new
   called = record {
@@ -193,12 +147,26 @@ module _ (setting : Setting) (w : World) (stamps : Stamping) (me : BrickId) (ask
   operation_says = record {
     begin = grows.marks;
     floors = λ i. grows.tops ask.group.0 ask.stripe.0 i;
-    fresh = λ i same. fresh ask.group.0 ask.stripe.0 i (same ∙ later_now);
+    floors_known = λ i. stays_known stamps later grows.grow (top_of (part_of w ask.group.0 ask.stripe.0 i)) (said.tops ask.group.0 ask.stripe.0 i);
+    fresh = λ i p stamped. ⊎_elim
+        (λ (own_was : (q : ℕ) × IsStamped stamps me.0 c.call.seq q (top_of (part_of w ask.group.0 ask.stripe.0 i))).
+        let begun = said.stamps_say.begun me.0 c.call.seq own_was.0 (top_of (part_of w ask.group.0 ask.stripe.0 i)) own_was.1 in omega (arith, begun.1))
+        (λ (never : IsKnown stamps (top_of (part_of w ask.group.0 ask.stripe.0 i)) → ⊥). never (said.tops ask.group.0 ask.stripe.0 i))
+        (grows.grow.newer me.0 c.call.seq p (top_of (part_of w ask.group.0 ask.stripe.0 i)) stamped);
     made = λ made. absurd (false≢true made);
-    content = λ made. absurd (false≢true made);
+    content = λ v made version. absurd (false≢true made);
     version = λ v has. cc;
     answered = λ answered bytes op. absurd (false≢true answered);
   }
+
+  stamped_now : IsStamped later me.0 c.call.seq c.call.phase c.stamp
+  stamped_now = stamp_now stamps me.0 c.call.seq c.call.phase c.stamp
+
+  said_not_new : (q : ℕ) → q < c.call.phase → IsStamped later me.0 c.call.seq q c.stamp → ⊥
+  said_not_new q less was =
+      let before : IsStamped stamps me.0 c.call.seq q c.stamp
+      = sym (phases_other stamps me.0 c.call.seq c.call.phase c.stamp q (λ same. omega arith)) ∙ was in
+      unknown (inr (me.0, c.call.seq, q, before))
 
   -- the first request
   request_says : (j seat : ℕ) → RequestSays setting next later me.0 j c.call (request_of setting.code group.m c seat)
@@ -208,7 +176,7 @@ module _ (setting : Setting) (w : World) (stamps : Stamping) (me : BrickId) (ask
       (refl, (new, called)))
       (λ (writes : (bytes : List ℕ) × (ask.op ≡ WriteStripe bytes)).
       subst (λ (r : Request). RequestSays setting next later me.0 j c.call r) (sym (request_orders setting.code group.m c seat (ap first_phase writes.1)))
-      (sym later_now, (new, called)))
+      (stamped_now, (λ q less was. said_not_new q less was), (new, called)))
       (op_cases ask.op stripe_op)
 
   fits : FitsPhase (first_phase ask.op) ask.op
@@ -217,13 +185,29 @@ module _ (setting : Setting) (w : World) (stamps : Stamping) (me : BrickId) (ask
       (λ (writes : (bytes : List ℕ) × (ask.op ≡ WriteStripe bytes)). subst (λ (p : Phase). FitsPhase p ask.op) (sym (ap first_phase writes.1)) writes)
       (op_cases ask.op stripe_op)
 
-  calls : (k : ℕ) (d : Coordinator) → node.calls k ≡ Some d → ((w.nodes me.0).calls k ≡ Some d) ⊎ CallSays setting next later me.0 k d
+  not_stores : (op : Op) → first_phase op ≡ Stores → ⊥
+  not_stores (ReadBlock j) is = absurd (let no : ⊥ = cc in no)
+  not_stores (WriteBlock j bytes) is = absurd (let no : ⊥ = cc in no)
+  not_stores ReadStripe is = absurd (let no : ⊥ = cc in no)
+  not_stores (WriteStripe bytes) is = absurd (let no : ⊥ = cc in no)
+
+  calls : (k : ℕ) (d : Coordinator) → node.calls k ≡ Some d
+      → (((w.nodes me.0).calls k ≡ Some d) × ((p : ℕ) → later me.0 k p ≡ stamps me.0 k p)) ⊎ CallSays setting next later me.0 k d
   calls k d =
-      put_each (λ j x. x ≡ Some d → ((w.nodes me.0).calls j ≡ Some d) ⊎ CallSays setting next later me.0 j d) (w.nodes me.0).calls c.call.seq (Some c)
+      put_each (λ j x. x ≡ Some d
+      → (((w.nodes me.0).calls j ≡ Some d) × ((p : ℕ) → later me.0 j p ≡ stamps me.0 j p)) ⊎ CallSays setting next later me.0 j d)
+      (w.nodes me.0).calls c.call.seq (Some c)
       (λ at. let same : c ≡ d = cc in
       inr (subst (λ (z : Coordinator). CallSays setting next later me.0 c.call.seq z) same
-      (record { stamp = sym later_now; fits = fits; counted = tt; once = tt })))
-      (λ j other at. inl at) k
+      (record {
+        stamp = stamped_now;
+        last = stamp_last stamps me.0 c.call.seq c.call.phase c.stamp none from;
+        ordered = λ stores. absurd (not_stores ask.op stores);
+        fits = fits;
+        counted = tt;
+        once = tt;
+      })))
+      (λ j other at. inl (at, stamps_other stamps me.0 c.call.seq c.call.phase c.stamp me.0 j (λ brick same. other same))) k
 
   -- a version that was there is guarded when the operation begins
   floors_at_least : (a : ℕ) (earlier : Operation) (u : Stamp) → IsOperation w a earlier → earlier.ask.group.0 ≡ ask.group.0
@@ -262,8 +246,11 @@ module _ (setting : Setting) (w : World) (stamps : Stamping) (me : BrickId) (ask
   pub said_began : Said setting next later
   said_began =
       said_after setting w next stamps later books said grows (record {
-        stamps_are = stamps_are;
-        stamps_rise = stamps_rise;
+        stamps_say = stamps_say stamps me.0 c.call.seq c.call.phase c.stamp none from w next said.stamps_say
+            (put_each (λ j x. (w.nodes j).known ≤ x.known) w.nodes me.0 node (omega arith) (λ j other. omega arith))
+            (put_each (λ j x. (w.nodes j).seq ≤ x.seq) w.nodes me.0 node (omega arith) (λ j other. omega arith))
+            (subst (λ (x : Node). IsStampOf x.known me.0 c.stamp) (sym (put_same w.nodes me.0 node)) own) (omega arith)
+            (let here : (put w.nodes me.0 node me.0).seq ≡ c.call.seq = ap (λ (x : Node). x.seq) (put_same w.nodes me.0 node) in omega arith);
         tops = λ g s i. inl (put_each (λ j x. top_of (x.replicas g s) ≡ top_of ((w.nodes j).replicas g s)) w.nodes me.0 node refl (λ j other. refl) i);
         logs = λ g s i k version is. inl
             (put_each (λ j x. slice_get (x.replicas g s).log k ≡ Some version → slice_get ((w.nodes j).replicas g s).log k ≡ Some version) w.nodes me.0 node
@@ -279,8 +266,10 @@ module _ (setting : Setting) (w : World) (stamps : Stamping) (me : BrickId) (ask
             (λ is. let same : new ≡ e = cc in inr (subst (λ (z : Operation). OperationSays setting next later (w.begun + 1) z) same operation_says))
             (λ i other is. inl is) a;
         calls = λ i k d.
-            put_each (λ j x. x.calls k ≡ Some d → ((w.nodes j).calls k ≡ Some d) ⊎ CallSays setting next later j k d)
-            w.nodes me.0 node (calls k d) (λ j other is. inl is) i;
+            put_each (λ j x. x.calls k ≡ Some d
+            → (((w.nodes j).calls k ≡ Some d) × ((p : ℕ) → later j k p ≡ stamps j k p)) ⊎ CallSays setting next later j k d)
+            w.nodes me.0 node (calls k d)
+            (λ j other is. inl (is, stamps_other stamps me.0 c.call.seq c.call.phase c.stamp j k (λ brick same. other brick))) i;
         ends = λ k q a answer at. ⊎_elim
             (λ (there : slice_get w.marks k ≡ Some (End q a answer)). inl there)
             (λ (added : (j : ℕ) × (slice_get (Begin (length w.marks) (w.begun + 1) me ask ∷ []) j ≡ Some (End q a answer))).

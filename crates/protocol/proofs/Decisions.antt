@@ -15,27 +15,29 @@ use Rattle.fab_wire.specs.declared.replies.Reply.{Reply}
 use Rattle.quorum.specs.Quorums.{IsWithinLimits}
 use Rattle.protocol.specs.Settings.{Setting, Group, group_of, quorum_of, IsSound, seat_in}
 use Rattle.protocol.specs.Replicas.{top_of, stamp_max}
-use Rattle.protocol.specs.Coordinators.{Coordinator, Counted, Refuser, Orders, answers_phase, refuser_of, greatest_refuser, fast_version, found_bytes, pieces_of}
+use Rattle.protocol.specs.Coordinators.{Coordinator, Counted, Orders, answers_phase, refuser_of, greatest_refuser, fast_version, found_bytes, pieces_of}
 use Rattle.protocol.specs.Worlds.{World, Operation, zero_content}
 use Rattle.protocol.specs.Nodes.{has_length}
-use Rattle.protocol.specs.Laws.{WasSent, AskedAt, Evidence, part_of, brick_at, IsGuarded}
+use Rattle.protocol.specs.Laws.{part_of, brick_at, IsGuarded}
 use Rattle.protocol.proofs.Books.{Books, OperationBooks, CallBooks, IsOperation, IsCall}
-use Rattle.protocol.proofs.Said.{Stamping, Said, IsMadeOrFirst, FloorsAtMost, OrderedSays, FoundSays, ReplySays, OperationSays, CountedSays, EachCounted, AreOnce}
+use Rattle.protocol.proofs.Said.{Stamping, Said, IsStamped, IsMadeOrFirst, FloorsAtMost, OrderedSays, FoundSays, ReplySays, CountedSays, EachCounted, AreOnce}
 use Rattle.protocol.proofs.Tables.{seat_within, brick_at_seat}
 use Rattle.protocol.proofs.Reactions.{max_right, max_most}
-use Rattle.protocol.proofs.Counting.{each_then, each_both, at_quorum, TellsVersion, fast_each, none_refuses, refuser_counted, IsPieceOf, are_pieces, pieces_length}
+use Rattle.protocol.proofs.Counting.{each_then, each_both, at_quorum, TellsVersion, fast_each, none_refuses, IsPieceOf, are_pieces, pieces_length}
 
--- an order that was answered, by its operation
-ordered_at : (w : World) (stamps : Stamping) (j i : ℕ) (call : Call) (o : Operation) → IsOperation w (w.numbers i call.seq) o → OrderedSays w stamps j i call
-    → (stamp_below (top_of (part_of w o.ask.group.0 o.ask.stripe.0 j)) (stamps i call.seq) ≡ false)
-    × (stamp_below (stamps i call.seq) (o.floor j) ≡ false)
-ordered_at w stamps j i call o is says =
+-- an order that was answered, by its operation and its stamp
+ordered_at : (w : World) (stamps : Stamping) (j i : ℕ) (call : Call) (o : Operation) (t : Stamp) → IsOperation w (w.numbers i call.seq) o
+    → IsStamped stamps i call.seq call.phase t → OrderedSays w stamps j i call
+    → (stamp_below (top_of (part_of w o.ask.group.0 o.ask.stripe.0 j)) t ≡ false) × (stamp_below t (o.floor j) ≡ false)
+ordered_at w stamps j i call o t is stamp says =
     let same : says.operation ≡ o = (let e : Some says.operation ≡ Some o = sym says.called.is ∙ is in cc) in
-    let promised : stamp_below (top_of (part_of w says.operation.ask.group.0 says.operation.ask.stripe.0 j)) (stamps i call.seq) ≡ false
-    = ap (λ (g : ℕ). stamp_below (top_of (part_of w g says.operation.ask.stripe.0 j)) (stamps i call.seq)) says.called.group
-    ∙ ap (λ (s : ℕ). stamp_below (top_of (part_of w call.group.0 s j)) (stamps i call.seq)) says.called.stripe ∙ says.promised in
-    subst (λ (p : Operation). (stamp_below (top_of (part_of w p.ask.group.0 p.ask.stripe.0 j)) (stamps i call.seq) ≡ false)
-    × (stamp_below (stamps i call.seq) (p.floor j) ≡ false)) same (promised, says.floor)
+    let at : says.stamp ≡ t = (let e : Some says.stamp ≡ Some t = sym says.stamp_is ∙ stamp in cc) in
+    let promised : stamp_below (top_of (part_of w says.operation.ask.group.0 says.operation.ask.stripe.0 j)) says.stamp ≡ false
+    = ap (λ (g : ℕ). stamp_below (top_of (part_of w g says.operation.ask.stripe.0 j)) says.stamp) says.called.group
+    ∙ ap (λ (s : ℕ). stamp_below (top_of (part_of w call.group.0 s j)) says.stamp) says.called.stripe ∙ says.promised in
+    subst (λ (p : Operation). (stamp_below (top_of (part_of w p.ask.group.0 p.ask.stripe.0 j)) t ≡ false) × (stamp_below t (p.floor j) ≡ false)) same
+    (subst (λ (u : Stamp). (stamp_below (top_of (part_of w says.operation.ask.group.0 says.operation.ask.stripe.0 j)) u ≡ false)
+    × (stamp_below u (says.operation.floor j) ≡ false)) at (promised, says.floor))
 
 -- the version that was found, by the operation of a read
 pub record FoundAt (setting : Setting) (w : World) (j : ℕ) (o : Operation) (order : Stamp) (version : Version) : Type 0 where
@@ -86,12 +88,9 @@ module _ (setting : Setting) (sound : IsSound setting) (w : World) (stamps : Sta
   abbrev its : CallBooks setting w me.0 c.call.seq c
   its = books.calls me.0 c.call.seq c is
 
-  -- the operation, and its stamp
+  -- the operation
   abbrev pub its_operation : Operation
   its_operation = (books.calls me.0 c.call.seq c is).operation
-
-  abbrev pub its_stamp : Stamp
-  its_stamp = stamps me.0 c.call.seq
 
   its_group : group_of setting.layout its_operation.ask.group.0 ≡ Some group
   its_group = ap (λ a. group_of setting.layout a.group.0) (sym its.ask) ∙ group_is
@@ -109,15 +108,15 @@ module _ (setting : Setting) (sound : IsSound setting) (w : World) (stamps : Sta
 
   -- an order that was answered by its seat
   ordered_seat : (x : Counted) → CountedSays setting w me.0 c x → x.reply ≡ Reply.Ordered
-      → (stamp_below (top_of (part_of w its_operation.ask.group.0 its_operation.ask.stripe.0 (brick_at group x.seat))) its_stamp ≡ false)
-      × (stamp_below its_stamp (its_operation.floor (brick_at group x.seat)) ≡ false)
+      → (stamp_below (top_of (part_of w its_operation.ask.group.0 its_operation.ask.stripe.0 (brick_at group x.seat))) c.stamp ≡ false)
+      × (stamp_below c.stamp (its_operation.floor (brick_at group x.seat)) ≡ false)
   ordered_seat x says ordered =
       let told : OrderedSays w stamps x.brick.0 me.0 c.call
       = subst (λ (r : Reply). ReplySays setting w stamps x.brick (record { 0 = me.0 }) c.call r) ordered (counted_says x says) in
-      subst (λ (j : ℕ). (stamp_below (top_of (part_of w its_operation.ask.group.0 its_operation.ask.stripe.0 j)) its_stamp ≡ false)
-      × (stamp_below its_stamp (its_operation.floor j) ≡ false))
+      subst (λ (j : ℕ). (stamp_below (top_of (part_of w its_operation.ask.group.0 its_operation.ask.stripe.0 j)) c.stamp ≡ false)
+      × (stamp_below c.stamp (its_operation.floor j) ≡ false))
       (sym (seat_fits x says).1)
-      (ordered_at w stamps x.brick.0 me.0 c.call its_operation its.operation_is told)
+      (ordered_at w stamps x.brick.0 me.0 c.call its_operation c.stamp its.operation_is (said.calls me.0 c.call.seq c is).stamp told)
 
   all_ordered : c.phase ≡ Orders → greatest_refuser counted ≡ None
       → EachCounted (λ x. CountedSays setting w me.0 c x × (x.reply ≡ Reply.Ordered)) counted
@@ -128,48 +127,27 @@ module _ (setting : Setting) (sound : IsSound setting) (w : World) (stamps : Sta
 
   -- an order that a quorum answered guards its stamp
   pub ordered_guards : c.phase ≡ Orders → greatest_refuser counted ≡ None
-      → IsGuarded w its_operation.ask.group.0 its_operation.ask.stripe.0 group its_stamp
+      → IsGuarded w its_operation.ask.group.0 its_operation.ask.stripe.0 group c.stamp
   ordered_guards orders none =
-      at_quorum group counted (λ seat. not (stamp_below (top_of (part_of w its_operation.ask.group.0 its_operation.ask.stripe.0 (brick_at group seat))) its_stamp))
+      at_quorum group counted (λ seat. not (stamp_below (top_of (part_of w its_operation.ask.group.0 its_operation.ask.stripe.0 (brick_at group seat))) c.stamp))
       (each_then (λ x. CountedSays setting w me.0 c x × (x.reply ≡ Reply.Ordered))
       (λ x. (x.seat < length group.members)
-      × (not (stamp_below (top_of (part_of w its_operation.ask.group.0 its_operation.ask.stripe.0 (brick_at group x.seat))) its_stamp) ≡ true))
+      × (not (stamp_below (top_of (part_of w its_operation.ask.group.0 its_operation.ask.stripe.0 (brick_at group x.seat))) c.stamp) ≡ true))
       counted
       (λ x h. ((seat_fits x h.0).0, not_from_false _ (ordered_seat x h.0 h.1).0))
       (all_ordered orders none))
       once many
 
   -- an order that a quorum answered is at or above its floors there
-  pub ordered_floors : c.phase ≡ Orders → greatest_refuser counted ≡ None → FloorsAtMost its_operation group its_stamp
+  pub ordered_floors : c.phase ≡ Orders → greatest_refuser counted ≡ None → FloorsAtMost its_operation group c.stamp
   ordered_floors orders none =
-      at_quorum group counted (λ seat. not (stamp_below its_stamp (its_operation.floor (brick_at group seat))))
+      at_quorum group counted (λ seat. not (stamp_below c.stamp (its_operation.floor (brick_at group seat))))
       (each_then (λ x. CountedSays setting w me.0 c x × (x.reply ≡ Reply.Ordered))
-      (λ x. (x.seat < length group.members) × (not (stamp_below its_stamp (its_operation.floor (brick_at group x.seat))) ≡ true))
+      (λ x. (x.seat < length group.members) × (not (stamp_below c.stamp (its_operation.floor (brick_at group x.seat))) ≡ true))
       counted
       (λ x h. ((seat_fits x h.0).0, not_from_false _ (ordered_seat x h.0 h.1).1))
       (all_ordered orders none))
       once many
-
-  -- a refusal is evidence
-  pub refusal_shows : (r : Refuser) → greatest_refuser counted ≡ Some r → Evidence w its_operation r.brick r.stamp
-  refusal_shows r is_greatest =
-      let found = refuser_counted (CountedSays setting w me.0 c) counted r each is_greatest in
-      let x : Counted = found.0 in
-      let brick : its_operation.brick ≡ record { 0 = me.0 } = ap (λ (j : ℕ). record { 0 = j }) its.brick in
-      let told : (t : Stamp) × AskedAt w c.call (record { 0 = me.0 }) x.brick t × (stamp_below t r.stamp ≡ true)
-      = subst (λ (z : Reply). ReplySays setting w stamps x.brick (record { 0 = me.0 }) c.call z) found.2 (counted_says x found.1) in
-      let sent : WasSent w (record { from = x.brick; to = record { 0 = me.0 }; message = Message.Reply c.call (Reply.Later r.stamp) })
-      = subst (λ (z : Reply). WasSent w (record { from = x.brick; to = record { 0 = me.0 }; message = Message.Reply c.call z })) found.2 found.1.sent in
-      record {
-        call = c.call;
-        stamp = told.0;
-        own = sym its.seq;
-        asked = subst (λ (b : BrickId). AskedAt w c.call b r.brick told.0) (sym brick)
-            (subst (λ (b : BrickId). AskedAt w c.call (record { 0 = me.0 }) b told.0) found.3 told.1);
-        told = subst (λ (b : BrickId). WasSent w (record { from = r.brick; to = b; message = Message.Reply c.call (Reply.Later r.stamp) })) (sym brick)
-            (subst (λ (b : BrickId). WasSent w (record { from = b; to = record { 0 = me.0 }; message = Message.Reply c.call (Reply.Later r.stamp) })) found.3 sent);
-        above = told.2;
-      }
 
   -- what a reply that tells version v shows
   record TellsAt (v : Stamp) (x : Counted) : Type 0 where
@@ -248,18 +226,15 @@ module _ (setting : Setting) (sound : IsSound setting) (w : World) (stamps : Sta
   content_length v (inr made) =
       let p : Operation = made.1 in
       let p_books : OperationBooks setting w made.0 p = books.operations made.0 p made.2 in
-      let p_says : OperationSays setting w stamps made.0 p = said.operations made.0 p made.2 in
-      let stamp : stamps p.brick.0 p.seq ≡ v = (let e : Some (stamps p.brick.0 p.seq) ≡ Some v = sym (p_says.made made.5) ∙ made.6 in cc) in
-      let content : w.contents p.ask.group.0 p.ask.stripe.0 (stamps p.brick.0 p.seq) ≡ w.contents its_operation.ask.group.0 its_operation.ask.stripe.0 v
-      = ap (λ (g : ℕ). w.contents g p.ask.stripe.0 (stamps p.brick.0 p.seq)) made.3
-      ∙ ap (λ (s : ℕ). w.contents its_operation.ask.group.0 s (stamps p.brick.0 p.seq)) made.4
-      ∙ ap (λ (t : Stamp). w.contents its_operation.ask.group.0 its_operation.ask.stripe.0 t) stamp in
+      let content : w.contents p.ask.group.0 p.ask.stripe.0 v ≡ w.contents its_operation.ask.group.0 its_operation.ask.stripe.0 v
+      = ap (λ (g : ℕ). w.contents g p.ask.stripe.0 v) made.3 ∙ ap (λ (s : ℕ). w.contents its_operation.ask.group.0 s v) made.4 in
       let group_same : p_books.group ≡ group
       = (let e : Some p_books.group ≡ Some group = sym p_books.group_is ∙ ap (group_of setting.layout) made.3 ∙ its_group in cc) in
-      let fits : has_length p_books.group.m setting.layout.block (WriteStripe (w.contents p.ask.group.0 p.ask.stripe.0 (stamps p.brick.0 p.seq))) ≡ true
-      = subst (λ (op : Op). has_length p_books.group.m setting.layout.block op ≡ true) (p_says.content made.5) p_books.length_fits in
+      let fits : has_length p_books.group.m setting.layout.block (WriteStripe (w.contents p.ask.group.0 p.ask.stripe.0 v)) ≡ true
+      = subst (λ (op : Op). has_length p_books.group.m setting.layout.block op ≡ true) ((said.operations made.0 p made.2).content v made.5 made.6)
+      p_books.length_fits in
       ap (λ (l : List ℕ). length l) (sym content)
-      ∙ eqb-true (length (w.contents p.ask.group.0 p.ask.stripe.0 (stamps p.brick.0 p.seq))) (p_books.group.m * setting.layout.block) fits
+      ∙ eqb-true (length (w.contents p.ask.group.0 p.ask.stripe.0 v)) (p_books.group.m * setting.layout.block) fits
       ∙ ap (λ (z : Group). z.m * setting.layout.block) group_same
 
   -- and the replies decode to its content

@@ -1,5 +1,5 @@
 -- A coordinator ends its operation.
-use Rattle.std.proofs.Common.{◌≡◌, ℕ, ◌+◌, ◌-◌, ◌≤◌, ◌⊎◌, inl, inr, true, false, List, [], ◌∷◌, ◌++◌, length, Option, Some, None, refl, sym, ap, subst, ⊎_elim, arith}
+use Rattle.std.proofs.Common.{◌≡◌, ℕ, ◌+◌, ◌-◌, ◌≤◌, ◌⊎◌, inl, inr, true, false, List, [], ◌∷◌, ◌++◌, length, Option, Some, None, refl, sym, ap, ◌∙◌, subst, ⊎_elim, arith}
 use Rattle.std.specs.Prelude.{slice_get}
 use Rattle.std.proofs.lemmas.List.{length-append}
 use Rattle.fab_base.specs.declared.identities.BrickId.{BrickId}
@@ -7,7 +7,6 @@ use Rattle.fab_base.specs.declared.stamps.Stamp.{Stamp}
 use Rattle.fab_base.specs.declared.asks.Op.TheVariants.{WriteStripe}
 use Rattle.fab_base.specs.declared.answers.Answer.{Answer}
 use Rattle.fab_base.specs.declared.answers.Answer.TheVariants.{Data, Done, Aborted}
-use Rattle.fab_base.specs.declared.answers.Cause.{Cause}
 use Rattle.fab_wire.specs.declared.messages.Packet.{Packet}
 use Rattle.fab_wire.specs.declared.requests.Request.TheVariants as Request
 use Rattle.reg_model.specs.declared.marks.Mark.{Mark}
@@ -16,12 +15,13 @@ use Rattle.protocol.specs.Settings.{Setting, Group}
 use Rattle.protocol.specs.Coordinators.{Coordinator}
 use Rattle.protocol.specs.Nodes.{Node, Answers, put, with_call, collect_packets}
 use Rattle.protocol.specs.Worlds.{World, Operation, world_stepped, with_answer, version_after, is_answer}
-use Rattle.protocol.specs.Laws.{Evidence}
 use Rattle.protocol.proofs.Books.{Books, CallBooks, IsCall}
 use Rattle.protocol.proofs.Said.{Stamping, Said, PacketSays, HasVersion, OperationSays, CallSays, EndShows}
 use Rattle.protocol.proofs.Tables.{put_each, put_same, get_grown, get_one, sent_to_member}
 use Rattle.protocol.proofs.Lives.{last_grows}
-use Rattle.protocol.proofs.Growth.{Grows, Continues, stays_operation, stays_has_version, stays_evidence}
+use Rattle.protocol.proofs.Stampings.{stamps_same}
+use Rattle.protocol.proofs.Steps.{stamps_stay_by}
+use Rattle.protocol.proofs.Growth.{Grows, Continues, stays_operation, stays_has_version}
 use Rattle.protocol.proofs.Operated.{operated, OperatedKeeps, operated_grows, said_operated}
 use Rattle.protocol.proofs.Stores.{open_until}
 
@@ -30,7 +30,6 @@ abbrev pub WillShow : World → Operation → Option Stamp → Answer → Type 0
 WillShow w o seen (Data bytes) =
     (v : Stamp) × (version_after o.version seen ≡ Some v) × (o.made ≡ false) × (bytes ≡ w.contents o.ask.group.0 o.ask.stripe.0 v)
 WillShow w o seen Done = Unit {0}
-WillShow w o seen (Aborted (Cause.Later brick x)) = Evidence w o brick x
 WillShow w o seen (Aborted cause) = Unit {0}
 
 module _ (setting : Setting) (w : World) (stamps : Stamping) (me : BrickId) (c : Coordinator) (group : Group) (known : ℕ)
@@ -73,12 +72,14 @@ module _ (setting : Setting) (w : World) (stamps : Stamping) (me : BrickId) (c :
       ap (λ (x : Option Operation).
       record {
         nodes = put w.nodes me.0 node;
+        clocks = w.clocks;
         packets = w.packets ++ collect_packets group me c.call stored;
         marks = marks;
         begun = w.begun;
         operations = put w.operations n (with_answer answer seen x);
         numbers = w.numbers;
         contents = w.contents;
+        replies = w.replies;
       })
       its.operation_is
 
@@ -106,7 +107,8 @@ module _ (setting : Setting) (w : World) (stamps : Stamping) (me : BrickId) (c :
     }
 
     grows : Grows w next stamps stamps
-    grows = operated_grows setting w stamps me node (collect_packets group me c.call stored) marks n o ended w.contents keeps
+    grows =
+        operated_grows setting w stamps stamps me node (collect_packets group me c.call stored) marks n o ended w.contents keeps (stamps_same stamps)
 
     ended_has : (v : Stamp) → version_after o.version seen ≡ Some v → HasVersion setting next ended v
     ended_has v has =
@@ -120,17 +122,24 @@ module _ (setting : Setting) (w : World) (stamps : Stamping) (me : BrickId) (c :
         record {
           begin = old.begin;
           floors = old.floors;
+          floors_known = old.floors_known;
           fresh = old.fresh;
-          made = λ made. keeps_version (stamps o.brick.0 o.seq) (old.made made);
-          content = old.content;
+          made = λ made. let had = old.made made in (had.0, had.1, keeps_version had.0 had.2, had.3);
+          content = λ v made has.
+              let had = old.made made in
+              let same : had.0 ≡ v = (let e : Some had.0 ≡ Some v = sym (keeps_version had.0 had.2) ∙ has in cc) in
+              old.content v made (had.2 ∙ ap (λ (t : Stamp). Some t) same);
           version = ended_has;
           answered = answered_made;
         }
 
-    calls : (k : ℕ) (d : Coordinator) → node.calls k ≡ Some d → ((w.nodes me.0).calls k ≡ Some d) ⊎ CallSays setting next stamps me.0 k d
+    calls : (k : ℕ) (d : Coordinator) → node.calls k ≡ Some d
+        → (((w.nodes me.0).calls k ≡ Some d) × ((p : ℕ) → stamps me.0 k p ≡ stamps me.0 k p)) ⊎ CallSays setting next stamps me.0 k d
     calls k d =
-        put_each (λ j x. x ≡ Some d → ((w.nodes me.0).calls j ≡ Some d) ⊎ CallSays setting next stamps me.0 j d) (w.nodes me.0).calls c.call.seq None
-        (λ at. cc) (λ j other at. inl at) k
+        put_each (λ j x. x ≡ Some d
+        → (((w.nodes me.0).calls j ≡ Some d) × ((p : ℕ) → stamps me.0 j p ≡ stamps me.0 j p)) ⊎ CallSays setting next stamps me.0 j d)
+        (w.nodes me.0).calls c.call.seq None
+        (λ at. cc) (λ j other at. inl (at, λ p. refl)) k
 
     packets : (o : Option Stamp) (k : ℕ) (packet : Packet) → slice_get (collect_packets group me c.call o) k ≡ Some packet → PacketSays setting next stamps packet
     packets None k packet at = cc
@@ -150,9 +159,6 @@ module _ (setting : Setting) (w : World) (stamps : Stamping) (me : BrickId) (c :
           bytes_are = told.3;
         }
     end_shows Done same = tt
-    end_shows (Aborted (Cause.Later brick x)) same =
-        let told : WillShow w o seen (Aborted (Cause.Later brick x)) = subst (λ (z : Answer). WillShow w o seen z) (sym same) shows in
-        (ended, put_same w.operations n (Some ended), stays_evidence setting w next stamps stamps books grows o ended brick x on told)
     end_shows (Aborted cause) same = tt
 
     ends : (k q a : ℕ) (other : Answer) → slice_get marks k ≡ Some (End q a other) → (slice_get w.marks k ≡ Some (End q a other)) ⊎ EndShows next a other
@@ -170,5 +176,12 @@ module _ (setting : Setting) (w : World) (stamps : Stamping) (me : BrickId) (c :
         (world_stepped w me (record { node = node; packets = collect_packets group me c.call stored; told = Answers c.call.seq answer seen }) (Answers c.call.seq answer seen)) stamps
     said_ended =
         subst (λ (z : World). Said setting z stamps) (sym next_is)
-        (said_operated setting w stamps me node (collect_packets group me c.call stored) marks n o ended w.contents books said keeps
-        (record { operation = operation_says; calls = calls; packets = packets stored; ends = ends }))
+        (said_operated setting w stamps stamps me node (collect_packets group me c.call stored) marks n o ended w.contents books said (stamps_same stamps) keeps
+        (record {
+          stamps_say = stamps_stay_by setting w next stamps me.0 node said refl refl more_known;
+          stamps_other = λ i k other p. refl;
+          operation = operation_says;
+          calls = calls;
+          packets = packets stored;
+          ends = ends;
+        }))

@@ -1,12 +1,11 @@
 -- What was said stays said: nothing falls, messages and versions stay, and a version's content does not change.
-use Rattle.std.proofs.Common.{◌≡◌, ℕ, ◌≤◌, inl, inr, true, false, not, List, length, Some, refl, sym, ap, ◌∙◌, subst, arith}
+use Rattle.std.proofs.Common.{◌≡◌, ℕ, ◌≤◌, inl, inr, true, false, not, List, length, Some, refl, sym, ap, ◌∙◌, subst, ⊎_elim, arith}
 use Rattle.std.proofs.lemmas.Bool.{not-true, not_from_false}
 use Rattle.fab_base.specs.declared.identities.BrickId.{BrickId}
 use Rattle.fab_base.specs.declared.stamps.Stamp.{Stamp}
 use Rattle.fab_base.specs.declared.asks.Op.TheVariants.{WriteStripe}
 use Rattle.fab_base.specs.declared.answers.Answer.{Answer}
 use Rattle.fab_base.specs.declared.answers.Answer.TheVariants.{Data, Done, Aborted}
-use Rattle.fab_base.specs.declared.answers.Cause.{Cause}
 use Rattle.fab_base.specs.Stamps.{stamp_below}
 use Rattle.fab_base.proofs.StampOrder.{stamp_not_below_trans}
 use Rattle.fab_wire.specs.declared.calls.Call.{Call}
@@ -20,9 +19,10 @@ use Rattle.protocol.specs.Settings.{Setting, Group}
 use Rattle.protocol.specs.Replicas.{top_of, is_held, stamp_max}
 use Rattle.protocol.specs.Coordinators.{Coordinator, Counted}
 use Rattle.protocol.specs.Worlds.{World, Operation}
-use Rattle.protocol.specs.Laws.{WasSent, AskedAt, Evidence, NeverFalls, part_of, brick_at, IsGuarded}
+use Rattle.protocol.specs.Laws.{WasSent, AskedAt, NeverFalls, part_of, brick_at, IsGuarded}
 use Rattle.protocol.proofs.Books.{Books, OperationBooks, CallBooks, IsOperation, IsCall}
-use Rattle.protocol.proofs.Said.{Stamping, IsMadeOrFirst, IsKnown, IsCalled, IsBlockOf, VersionSays, WriteSays, RequestSays, OrderedSays, FoundSays, ReplySays, MessageSays, PacketSays, HasVersion, OperationSays, CountedSays, CallSays, DataShown, EndShows}
+use Rattle.protocol.proofs.Said.{Stamping, IsStamped, IsNewIn, WasOrdered, IsMadeOrFirst, IsKnown, IsCalled, IsBlockOf, VersionSays, WriteSays, RequestSays, OrderedSays, FoundSays, ReplySays, MessageSays, PacketSays, HasVersion, OperationSays, CountedSays, CallSays, DataShown, EndShows}
+use Rattle.protocol.proofs.Stampings.{StampsGrow, stays_stamped, stays_known}
 use Rattle.protocol.proofs.Counting.{each_then}
 
 -- an operation goes on: it keeps what it is, and a version that it has
@@ -46,8 +46,7 @@ pub record Grows (w next : World) (stamps later : Stamping) : Type 0 where
   pub sent : (packet : Packet) → WasSent w packet → WasSent next packet
   pub operations : (n : ℕ) (o : Operation) → IsOperation w n o → (p : Operation) × IsOperation next n p × Continues o p
   pub contents : (g s : ℕ) (t : Stamp) → IsMadeOrFirst w g s t → next.contents g s t ≡ w.contents g s t
-  pub seqs : (i : ℕ) → (w.nodes i).seq ≤ (next.nodes i).seq
-  pub stamped : (i k : ℕ) → k ≤ (w.nodes i).seq → later i k ≡ stamps i k
+  pub grow : StampsGrow stamps later
   pub numbered : (i k : ℕ) → k ≤ (w.nodes i).seq → next.numbers i k ≡ w.numbers i k
   pub marks : length w.marks ≤ length next.marks
 
@@ -84,14 +83,6 @@ module _ (setting : Setting) (w next : World) (stamps later : Stamping) (books :
         on.version t made.6,
       )
 
-  -- a known stamp stays known
-  pub stays_known : (t : Stamp) → IsKnown w stamps t → IsKnown next later t
-  stays_known t (inl first) = inl first
-  stays_known t (inr known) =
-      let within : known.1 ≤ (w.nodes known.0).seq = known.3 in
-      let grown : (w.nodes known.0).seq ≤ (next.nodes known.0).seq = grows.seqs known.0 in
-      inr (known.0, known.1, known.2, omega arith, known.4 ∙ sym (grows.stamped known.0 known.1 within))
-
   -- the number of an operation's call is one of its brick's
   pub called_within : (i : ℕ) (call : Call) (o : Operation) → IsCalled w i call o → call.seq ≤ (w.nodes i).seq
   called_within i call o called =
@@ -118,9 +109,17 @@ module _ (setting : Setting) (w next : World) (stamps later : Stamping) (books :
         on,
       )
 
-  -- the stamp of an operation's call stays
-  pub stays_stamp : (i : ℕ) (call : Call) (o : Operation) → IsCalled w i call o → stamps i call.seq ≡ later i call.seq
-  stays_stamp i call o called = sym (grows.stamped i call.seq (called_within i call o called))
+  -- a phase keeps its stamp
+  pub stays_stamp : (i k p : ℕ) (t : Stamp) → IsStamped stamps i k p t → IsStamped later i k p t
+  stays_stamp i k p t is = stays_stamped stamps later grows.grow i k p t is
+
+  -- a stamp that is new in its phase stays so
+  pub stays_new : (i k p : ℕ) (t : Stamp) → IsStamped stamps i k p t → IsNewIn stamps i k p t → IsNewIn later i k p t
+  stays_new i k p t is new q less was = new q less (sym (grows.grow.stamped i k p q t is (omega arith)) ∙ was)
+
+  -- a stamp that was ordered stays so
+  pub stays_was : (i k p : ℕ) (t : Stamp) → WasOrdered stamps i k p t → WasOrdered later i k p t
+  stays_was i k p t was = (was.0, was.1, stays_stamp i k was.0 t was.2)
 
   -- what is at or above t stays so
   pub stays_above : (g s i : ℕ) (t : Stamp) → stamp_below (top_of (part_of w g s i)) t ≡ false → stamp_below (top_of (part_of next g s i)) t ≡ false
@@ -154,7 +153,8 @@ module _ (setting : Setting) (w next : World) (stamps later : Stamping) (books :
       record {
         operation = goes.0;
         called = goes.1;
-        stamp = says.stamp ∙ stays_stamp from call says.operation says.called;
+        stamp = stays_stamp from call.seq call.phase t says.stamp;
+        ordered = stays_was from call.seq call.phase t says.ordered;
         made = goes.2.made t says.version ∙ says.made;
         version = goes.2.version t says.version;
         member = says.member;
@@ -165,21 +165,21 @@ module _ (setting : Setting) (w next : World) (stamps later : Stamping) (books :
   pub stays_request : (i j : ℕ) (call : Call) (request : Request) → RequestSays setting w stamps i j call request → RequestSays setting next later i j call request
   stays_request i j call (Request.Read want) says = let goes = stays_called i call says.1.0 says.1.1 in (says.0, (goes.0, goes.1))
   stays_request i j call (Request.Order t) says =
-      let goes = stays_called i call says.1.0 says.1.1 in (says.0 ∙ stays_stamp i call says.1.0 says.1.1, (goes.0, goes.1))
+      let goes = stays_called i call says.2.0 says.2.1 in
+      (stays_stamp i call.seq call.phase t says.0, stays_new i call.seq call.phase t says.0 says.1, (goes.0, goes.1))
   stays_request i j call (Request.Write t block) says = stays_write i j call t block says
   stays_request i j call request says = tt
 
   pub stays_ordered : (j i : ℕ) (call : Call) → OrderedSays w stamps j i call → OrderedSays next later j i call
   stays_ordered j i call says =
       let goes = stays_called i call says.operation says.called in
-      let stamp : stamps i call.seq ≡ later i call.seq = stays_stamp i call says.operation says.called in
       record {
         operation = goes.0;
         called = goes.1;
-        promised = subst (λ (t : Stamp). stamp_below (top_of (part_of next call.group.0 call.stripe.0 j)) t ≡ false) stamp
-            (stays_above call.group.0 call.stripe.0 j (stamps i call.seq) says.promised);
-        floor = subst (λ (t : Stamp). stamp_below t (goes.0.floor j) ≡ false) stamp
-            (subst (λ (f : ℕ → Stamp). stamp_below (stamps i call.seq) (f j) ≡ false) (sym goes.2.floor) says.floor);
+        stamp = says.stamp;
+        stamp_is = stays_stamp i call.seq call.phase says.stamp says.stamp_is;
+        promised = stays_above call.group.0 call.stripe.0 j says.stamp says.promised;
+        floor = subst (λ (f : ℕ → Stamp). stamp_below says.stamp (f j) ≡ false) (sym goes.2.floor) says.floor;
       }
 
   pub stays_found : (j i : ℕ) (call : Call) (order : Stamp) (version : Version) → FoundSays setting w j i call order version → FoundSays setting next j i call order version
@@ -228,28 +228,25 @@ module _ (setting : Setting) (w next : World) (stamps later : Stamping) (books :
     floors = has.floors;
   }
 
-  -- an operation's stamp stays
-  pub stays_own_stamp : (n : ℕ) (o : Operation) → IsOperation w n o → stamps o.brick.0 o.seq ≡ later o.brick.0 o.seq
-  stays_own_stamp n o is = sym (grows.stamped o.brick.0 o.seq (books.operations n o is).called.1)
-
   -- what an operation says stays said
   pub stays_operation : (n : ℕ) (o : Operation) → IsOperation w n o → OperationSays setting w stamps n o → OperationSays setting next later n o
-  stays_operation n o is says =
-      let stamp : stamps o.brick.0 o.seq ≡ later o.brick.0 o.seq = stays_own_stamp n o is in
-      record {
-        begin = omega (arith, says.begin, grows.marks);
-        floors = λ i. stays_above o.ask.group.0 o.ask.stripe.0 i (o.floor i) (says.floors i);
-        fresh = λ i same. says.fresh i (same ∙ sym stamp);
-        made = λ made. says.made made ∙ ap (λ (t : Stamp). Some t) stamp;
-        content = λ made.
-            let content : next.contents o.ask.group.0 o.ask.stripe.0 (stamps o.brick.0 o.seq) ≡ w.contents o.ask.group.0 o.ask.stripe.0 (stamps o.brick.0 o.seq)
-            = grows.contents o.ask.group.0 o.ask.stripe.0 (stamps o.brick.0 o.seq) (inr (n, o, is, refl, refl, made, says.made made)) in
-            says.content made
-            ∙ ap (λ (bytes : List ℕ). WriteStripe bytes)
-            (sym content ∙ ap (λ (t : Stamp). next.contents o.ask.group.0 o.ask.stripe.0 t) stamp);
-        version = λ v has. stays_has_version o v (says.version v has);
-        answered = says.answered;
-      }
+  stays_operation n o is says = record {
+    begin = omega (arith, says.begin, grows.marks);
+    floors = λ i. stays_above o.ask.group.0 o.ask.stripe.0 i (o.floor i) (says.floors i);
+    floors_known = λ i. stays_known stamps later grows.grow (o.floor i) (says.floors_known i);
+    fresh = λ i p stamped. ⊎_elim
+        (λ (own : (q : ℕ) × IsStamped stamps o.brick.0 o.seq q (o.floor i)). says.fresh i own.0 own.1)
+        (λ (unknown : IsKnown stamps (o.floor i) → ⊥). unknown (says.floors_known i))
+        (grows.grow.newer o.brick.0 o.seq p (o.floor i) stamped);
+    made = λ made.
+        let had = says.made made in (had.0, had.1, had.2, stays_stamp o.brick.0 o.seq had.1 had.0 had.3);
+    content = λ v made version.
+        says.content v made version
+        ∙ ap (λ (bytes : List ℕ). WriteStripe bytes)
+        (sym (grows.contents o.ask.group.0 o.ask.stripe.0 v (inr (n, o, is, refl, refl, made, version))));
+    version = λ v has. stays_has_version o v (says.version v has);
+    answered = says.answered;
+  }
 
   pub stays_counted : (i : ℕ) (c : Coordinator) (x : Counted) → CountedSays setting w i c x → CountedSays setting next i c x
   stays_counted i c x says = record {
@@ -258,37 +255,15 @@ module _ (setting : Setting) (w next : World) (stamps later : Stamping) (books :
     seat = says.seat;
   }
 
-  -- what a coordinator says stays said
-  pub stays_open : (i k : ℕ) (c : Coordinator) → k ≤ (w.nodes i).seq → CallSays setting w stamps i k c → CallSays setting next later i k c
-  stays_open i k c here says = record {
-    stamp = says.stamp ∙ sym (grows.stamped i k here);
+  -- what a coordinator says stays said, where its call has no new stamp
+  pub stays_call : (i k : ℕ) (c : Coordinator) → ((p : ℕ) → later i k p ≡ stamps i k p) → CallSays setting w stamps i k c → CallSays setting next later i k c
+  stays_call i k c same says = record {
+    stamp = stays_stamp i k c.call.phase c.stamp says.stamp;
+    last = λ p less. same p ∙ says.last p less;
+    ordered = λ stores. stays_was i k c.call.phase c.stamp (says.ordered stores);
     fits = says.fits;
     counted = each_then (CountedSays setting w i c) (CountedSays setting next i c) c.counted (λ x h. stays_counted i c x h) says.counted;
     once = says.once;
-  }
-
-  -- the number of an open call is one of its brick's
-  pub call_within : (i k : ℕ) (c : Coordinator) → IsCall w i k c → k ≤ (w.nodes i).seq
-  call_within i k c is =
-      let its : CallBooks setting w i k c = books.calls i k c is in
-      let within : its.operation.seq ≤ (w.nodes its.operation.brick.0).seq = (books.operations (w.numbers i k) its.operation its.operation_is).called.1 in
-      let at : its.operation.seq ≤ (w.nodes i).seq = subst (λ (j : ℕ). its.operation.seq ≤ (w.nodes j).seq) its.brick within in
-      subst (λ (j : ℕ). j ≤ (w.nodes i).seq) its.seq at
-
-  -- what an open operation's coordinator says stays said
-  pub stays_call : (i k : ℕ) (c : Coordinator) → IsCall w i k c → CallSays setting w stamps i k c → CallSays setting next later i k c
-  stays_call i k c is says = stays_open i k c (call_within i k c is) says
-
-  -- evidence stays
-  pub stays_evidence : (o p : Operation) (brick : BrickId) (x : Stamp) → Continues o p → Evidence w o brick x → Evidence next p brick x
-  stays_evidence o p brick x on shown = record {
-    call = shown.call;
-    stamp = shown.stamp;
-    own = shown.own ∙ sym on.seq;
-    asked = subst (λ (b : BrickId). AskedAt next shown.call b brick shown.stamp) (sym on.brick) (stays_asked shown.call o.brick brick shown.stamp shown.asked);
-    told = subst (λ (b : BrickId). WasSent next (record { from = brick; to = b; message = Message.Reply shown.call (Reply.Later x) })) (sym on.brick)
-        (grows.sent (record { from = brick; to = o.brick; message = Message.Reply shown.call (Reply.Later x) }) shown.told);
-    above = shown.above;
   }
 
   pub stays_shown : (said : (n : ℕ) (o : Operation) → IsOperation w n o → OperationSays setting w stamps n o) (n : ℕ) (bytes : List ℕ) → DataShown w n bytes
@@ -312,7 +287,4 @@ module _ (setting : Setting) (w next : World) (stamps later : Stamping) (books :
   pub stays_end : (said : (n : ℕ) (o : Operation) → IsOperation w n o → OperationSays setting w stamps n o) (n : ℕ) (answer : Answer) → EndShows w n answer → EndShows next n answer
   stays_end said n (Data bytes) shows = stays_shown said n bytes shows
   stays_end said n Done shows = tt
-  stays_end said n (Aborted (Cause.Later brick x)) shows =
-      let goes = grows.operations n shows.0 shows.1 in
-      (goes.0, goes.1, stays_evidence shows.0 goes.0 brick x goes.2 shows.2)
   stays_end said n (Aborted cause) shows = tt

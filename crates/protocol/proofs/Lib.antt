@@ -22,12 +22,14 @@ pub mod OwnStamps
 pub mod Puts
 pub mod QuorumFacts
 pub mod Reactions
+pub mod Reorders
 pub mod Replies
 pub mod Requests
 pub mod RisingMarks
 pub mod Said
 pub mod SaidAlways
 pub mod Sorting
+pub mod Stampings
 pub mod Steps
 pub mod Stores
 pub mod StripeLives

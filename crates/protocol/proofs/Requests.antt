@@ -1,5 +1,5 @@
 -- A member handles a request: what its part of the stripe, and its reply, then say.
-use Rattle.std.proofs.Common.{◌≡◌, ℕ, ◌≤◌, ◌⊎◌, inl, inr, true, false, Option, Some, None, refl, sym, ap, ◌∙◌, subst, ⊎_elim, arith}
+use Rattle.std.proofs.Common.{◌≡◌, ℕ, ◌⊎◌, inl, inr, true, false, Option, Some, None, refl, sym, ap, ◌∙◌, subst, ⊎_elim, arith}
 use Rattle.std.specs.Prelude.{slice_get}
 use Rattle.fab_base.specs.declared.identities.BrickId.{BrickId}
 use Rattle.fab_base.specs.declared.stamps.Stamp.{Stamp}
@@ -16,12 +16,13 @@ use Rattle.protocol.specs.Replicas.{Replica, newest_of, top_of, is_held, stamp_m
 use Rattle.protocol.specs.Nodes.{Node, put, with_replica, reply_packets}
 use Rattle.protocol.specs.Worlds.{World, Operation}
 use Rattle.protocol.specs.Laws.{WasSent, AskedAt, part_of}
-use Rattle.protocol.proofs.Books.{Books, OperationBooks}
+use Rattle.protocol.proofs.Books.{Books}
 use Rattle.protocol.proofs.Said.{Stamping, Said, IsKnown, IsCalled, VersionSays, WriteSays, RequestSays, OrderedSays, FoundSays, ReplySays, PacketSays}
 use Rattle.protocol.proofs.Tables.{put_each, put_same, get_one}
 use Rattle.protocol.proofs.Reactions.{IsAfter, IsAsked, ReactionSays, SaysIf, after_top, after_held, after_asked, after_log, top_is, newest_stands}
-use Rattle.protocol.proofs.Growth.{Grows, stays_known, stays_version, stays_called, stays_found}
-use Rattle.protocol.proofs.Steps.{KeepsParts, quiet, quiet_grows, said_quiet}
+use Rattle.protocol.proofs.Stampings.{stamps_same}
+use Rattle.protocol.proofs.Growth.{Grows, stays_version, stays_called, stays_found}
+use Rattle.protocol.proofs.Steps.{KeepsParts, quiet, quiet_grows, said_quiet, stamps_stay_by}
 
 -- what holds of the changed part, and of each part as it was
 pub parts_each : (Q : ℕ → ℕ → Replica → Type 0) (node : Node) (call : Call) (part : Replica) → Q call.group.0 call.stripe.0 part
@@ -56,24 +57,15 @@ module _ (setting : Setting) (w : World) (stamps : Stamping) (me from : BrickId)
   asks : RequestSays setting w stamps from.0 me.0 call request
   asks = said.packets sent.0 (record { from = from; to = me; message = Message.Request call request }) sent.1
 
-  -- the stamp of an operation's call is known
-  called_known : (t : Stamp) (o : Operation) → IsCalled w from.0 call o → t ≡ stamps from.0 call.seq → IsKnown w stamps t
-  called_known t o called is =
-      let its : OperationBooks setting w (w.numbers from.0 call.seq) o = books.operations (w.numbers from.0 call.seq) o called.is in
-      let some : 1 ≤ o.seq = its.called.0 in
-      let most : o.seq ≤ (w.nodes from.0).seq = subst (λ (j : ℕ). o.seq ≤ (w.nodes j).seq) called.brick its.called.1 in
-      let same : o.seq ≡ call.seq = called.seq in
-      inr (from.0, call.seq, omega arith, omega arith, is)
-
   -- a stamp that is asked for is known
-  asked_known : (t : Stamp) → IsAsked request t → IsKnown w stamps t
+  asked_known : (t : Stamp) → IsAsked request t → IsKnown stamps t
   asked_known t (inl is) =
       let says : RequestSays setting w stamps from.0 me.0 call (Request.Order t) = subst (λ (r : Request). RequestSays setting w stamps from.0 me.0 call r) is asks in
-      called_known t says.1.0 says.1.1 says.0
+      inr (from.0, call.seq, call.phase, says.0)
   asked_known t (inr is) =
       let says : WriteSays setting w stamps from.0 me.0 call t is.0
       = subst (λ (r : Request). RequestSays setting w stamps from.0 me.0 call r) is.1 asks in
-      called_known t says.operation says.called says.stamp
+      inr (from.0, call.seq, call.phase, says.stamp)
 
   module _ (part : Replica) (reply : Option Reply) (after : IsAfter before request part) (tells : SaysIf before request part reply) where
     -- the world after it
@@ -84,14 +76,14 @@ module _ (setting : Setting) (w : World) (stamps : Stamping) (me from : BrickId)
     keeps = parts_keep (w.nodes me.0) call request part after
 
     grows : Grows w next stamps stamps
-    grows = quiet_grows w stamps me (with_replica (w.nodes me.0) call part) (reply_packets me from call reply) keeps refl
+    grows = quiet_grows w stamps stamps me (with_replica (w.nodes me.0) call part) (reply_packets me from call reply) (stamps_same stamps) keeps
 
     tops : (g s : ℕ) → (top_of ((with_replica (w.nodes me.0) call part).replicas g s) ≡ top_of ((w.nodes me.0).replicas g s))
-        ⊎ IsKnown next stamps (top_of ((with_replica (w.nodes me.0) call part).replicas g s))
-    tops = parts_each (λ g s r. (top_of r ≡ top_of ((w.nodes me.0).replicas g s)) ⊎ IsKnown next stamps (top_of r)) (w.nodes me.0) call part
+        ⊎ IsKnown stamps (top_of ((with_replica (w.nodes me.0) call part).replicas g s))
+    tops = parts_each (λ g s r. (top_of r ≡ top_of ((w.nodes me.0).replicas g s)) ⊎ IsKnown stamps (top_of r)) (w.nodes me.0) call part
         (⊎_elim (λ (same : top_of part ≡ top_of before). inl same)
         (λ (asked : IsAsked request (top_of part)).
-        inr (stays_known setting w next stamps stamps books grows (top_of part) (asked_known (top_of part) asked)))
+        inr (asked_known (top_of part) asked))
         (after_asked before request part after))
         (λ g s. inl refl)
 
@@ -154,17 +146,16 @@ module _ (setting : Setting) (w : World) (stamps : Stamping) (me from : BrickId)
     ordered_says told =
         let says : RequestSays setting w stamps from.0 me.0 call (Request.Order told.0)
         = subst (λ (r : Request). RequestSays setting w stamps from.0 me.0 call r) told.1 asks in
-        let goes = stays_called setting w next stamps stamps books grows from.0 call says.1.0 says.1.1 in
-        let top : top_of (part_of next call.group.0 call.stripe.0 me.0) ≡ stamps from.0 call.seq
-        = ap (λ (r : Replica). top_of r) now ∙ told.3 ∙ says.0 in
-        let above : stamp_below (stamps from.0 call.seq) (top_of before) ≡ false
-        = subst (λ (t : Stamp). stamp_below t (top_of before) ≡ false) says.0 told.2 in
+        let goes = stays_called setting w next stamps stamps books grows from.0 call says.2.0 says.2.1 in
+        let top : top_of (part_of next call.group.0 call.stripe.0 me.0) ≡ told.0 = ap (λ (r : Replica). top_of r) now ∙ told.3 in
         record {
           operation = goes.0;
           called = goes.1;
-          promised = subst (λ (t : Stamp). stamp_below t (stamps from.0 call.seq) ≡ false) (sym top) (stamp_below_irrefl (stamps from.0 call.seq));
-          floor = subst (λ (f : ℕ → Stamp). stamp_below (stamps from.0 call.seq) (f me.0) ≡ false) (sym goes.2.floor)
-              (stamp_not_below_trans (says.1.0.floor me.0) (top_of before) (stamps from.0 call.seq) (floor_below says.1.0 says.1.1) above);
+          stamp = told.0;
+          stamp_is = says.0;
+          promised = subst (λ (t : Stamp). stamp_below t told.0 ≡ false) (sym top) (stamp_below_irrefl told.0);
+          floor = subst (λ (f : ℕ → Stamp). stamp_below told.0 (f me.0) ≡ false) (sym goes.2.floor)
+              (stamp_not_below_trans (says.2.0.floor me.0) (top_of before) told.0 (floor_below says.2.0 says.2.1) told.2);
         }
 
     later_asked : (t : Stamp) → IsAsked request t → AskedAt next call from me t
@@ -202,12 +193,12 @@ module _ (setting : Setting) (w : World) (stamps : Stamping) (me from : BrickId)
     -- a member's step on a request keeps the invariant
     pub said_after_request : Said setting next stamps
     said_after_request =
-        said_quiet setting w stamps me (with_replica (w.nodes me.0) call part) (reply_packets me from call reply) books said (record {
+        said_quiet setting w stamps stamps me (with_replica (w.nodes me.0) call part) (reply_packets me from call reply) books said (stamps_same stamps) (record {
           keeps = keeps;
-          seq = refl;
-          known = omega arith;
+          stamps_say = stamps_stay_by setting w next stamps me.0 (with_replica (w.nodes me.0) call part) said refl refl (omega arith);
+          stamps_other = λ i k other p. refl;
           tops = tops;
           logs = logs;
-          calls = λ k c is. inl is;
+          calls = λ k c is. inl (is, λ p. refl);
           packets = packets reply tells;
         })

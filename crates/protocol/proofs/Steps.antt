@@ -1,5 +1,5 @@
 -- What an event owes to the invariant: only what is new.
-use Rattle.std.proofs.Common.{◌≡◌, ℕ, ◌<◌, ◌≤◌, ◌⊎◌, inl, inr, true, false, List, ◌++◌, Some, refl, sym, ◌∙◌, subst, ⊎_elim, arith}
+use Rattle.std.proofs.Common.{◌≡◌, ◌≢◌, ℕ, ◌≤◌, ◌⊎◌, inl, inr, true, false, List, ◌++◌, Some, refl, sym, ◌∙◌, subst, ⊎_elim, arith}
 use Rattle.std.specs.Prelude.{slice_get}
 use Rattle.fab_base.specs.declared.identities.BrickId.{BrickId}
 use Rattle.fab_base.specs.declared.stamps.Stamp.{Stamp}
@@ -11,26 +11,27 @@ use Rattle.reg_model.specs.declared.marks.Mark.TheVariants.{End}
 use Rattle.fab_base.proofs.StampOrder.{stamp_below_irrefl}
 use Rattle.protocol.specs.Settings.{Setting}
 use Rattle.protocol.specs.Replicas.{Replica, top_of, is_held}
-use Rattle.protocol.specs.Coordinators.{Coordinator}
+use Rattle.protocol.specs.Coordinators.{Coordinator, Counted}
 use Rattle.protocol.specs.Nodes.{Node, Nothing, put}
 use Rattle.protocol.specs.Worlds.{World, Operation, world_stepped}
 use Rattle.protocol.specs.Laws.{WasSent, NeverFalls, part_of}
 use Rattle.protocol.proofs.Books.{Books, IsOperation, IsCall}
-use Rattle.protocol.proofs.Said.{Stamping, Said, IsKnown, IsStampOf, VersionSays, PacketSays, OperationSays, CallSays, EndShows, IsInOrder}
+use Rattle.protocol.proofs.Said.{Stamping, Said, StampsSay, IsKnown, VersionSays, PacketSays, OperationSays, CallSays, EndShows, IsInOrder}
 use Rattle.protocol.proofs.Tables.{put_each, get_kept, get_grown}
-use Rattle.protocol.proofs.Growth.{Grows, continues_same, stays_known, stays_version, stays_packet, stays_operation, stays_call, stays_end}
+use Rattle.protocol.proofs.Stampings.{StampsGrow, stamps_same, stays_known, stamps_stay}
+use Rattle.protocol.proofs.Growth.{Grows, continues_same, stays_version, stays_packet, stays_operation, stays_call, stays_end}
 
 -- what is new in the next world says what it should
 pub record Owes (setting : Setting) (w next : World) (stamps later : Stamping) : Type 0 where
-  pub stamps_are : (i k : ℕ) → 1 ≤ k → k ≤ (next.nodes i).seq → IsStampOf (next.nodes i).known i (later i k)
-  pub stamps_rise : (i k l : ℕ) → 1 ≤ k → k < l → l ≤ (next.nodes i).seq → (later i k).time < (later i l).time
-  pub tops : (g s i : ℕ) → (top_of (part_of next g s i) ≡ top_of (part_of w g s i)) ⊎ IsKnown next later (top_of (part_of next g s i))
+  pub stamps_say : StampsSay next later
+  pub tops : (g s i : ℕ) → (top_of (part_of next g s i) ≡ top_of (part_of w g s i)) ⊎ IsKnown later (top_of (part_of next g s i))
   pub logs : (g s i k : ℕ) (version : Version) → slice_get (part_of next g s i).log k ≡ Some version
       → (slice_get (part_of w g s i).log k ≡ Some version) ⊎ VersionSays setting next g s i version
   pub packets : (k : ℕ) (packet : Packet) → slice_get next.packets k ≡ Some packet
       → (slice_get w.packets k ≡ Some packet) ⊎ PacketSays setting next later packet
   pub operations : (n : ℕ) (o : Operation) → IsOperation next n o → IsOperation w n o ⊎ OperationSays setting next later n o
-  pub calls : (i k : ℕ) (c : Coordinator) → IsCall next i k c → IsCall w i k c ⊎ CallSays setting next later i k c
+  pub calls : (i k : ℕ) (c : Coordinator) → IsCall next i k c
+      → (IsCall w i k c × ((p : ℕ) → later i k p ≡ stamps i k p)) ⊎ CallSays setting next later i k c
   pub ends : (k p n : ℕ) (answer : Answer) → slice_get next.marks k ≡ Some (End p n answer)
       → (slice_get w.marks k ≡ Some (End p n answer)) ⊎ EndShows next n answer
   pub order : IsInOrder setting next
@@ -39,12 +40,11 @@ pub record Owes (setting : Setting) (w next : World) (stamps later : Stamping) :
 pub said_after : (setting : Setting) (w next : World) (stamps later : Stamping) → Books setting w → Said setting w stamps
     → Grows w next stamps later → Owes setting w next stamps later → Said setting next later
 said_after setting w next stamps later books said grows owes = record {
-  stamps_are = owes.stamps_are;
-  stamps_rise = owes.stamps_rise;
+  stamps_say = owes.stamps_say;
   tops = λ g s i. ⊎_elim
       (λ (same : top_of (part_of next g s i) ≡ top_of (part_of w g s i)).
-      subst (λ (t : Stamp). IsKnown next later t) (sym same) (stays_known setting w next stamps later books grows (top_of (part_of w g s i)) (said.tops g s i)))
-      (λ (new : IsKnown next later (top_of (part_of next g s i))). new)
+      subst (λ (t : Stamp). IsKnown later t) (sym same) (stays_known stamps later grows.grow (top_of (part_of w g s i)) (said.tops g s i)))
+      (λ (new : IsKnown later (top_of (part_of next g s i))). new)
       (owes.tops g s i);
   logs = λ g s i k version is. ⊎_elim
       (λ (old : slice_get (part_of w g s i).log k ≡ Some version).
@@ -60,7 +60,8 @@ said_after setting w next stamps later books said grows owes = record {
       (λ (new : OperationSays setting next later n o). new)
       (owes.operations n o is);
   calls = λ i k c is. ⊎_elim
-      (λ (old : IsCall w i k c). stays_call setting w next stamps later books grows i k c old (said.calls i k c old))
+      (λ (old : IsCall w i k c × ((p : ℕ) → later i k p ≡ stamps i k p)).
+      stays_call setting w next stamps later books grows i k c old.1 (said.calls i k c old.0))
       (λ (new : CallSays setting next later i k c). new)
       (owes.calls i k c is);
   ends = λ k p n answer is. ⊎_elim
@@ -116,60 +117,43 @@ known_by w next me node nodes more i =
     subst (λ (f : ℕ → Node). (w.nodes i).known ≤ (f i).known) (sym nodes)
     (put_each (λ j x. (w.nodes j).known ≤ x.known) w.nodes me node more (λ j other. omega arith) i)
 
--- stamps are as they were where call numbers are, and no known time falls
-pub stamps_are_by : (setting : Setting) (w next : World) (stamps : Stamping) → Said setting w stamps → ((i : ℕ) → (next.nodes i).seq ≡ (w.nodes i).seq)
-    → ((i : ℕ) → (w.nodes i).known ≤ (next.nodes i).known)
-    → (i k : ℕ) → 1 ≤ k → k ≤ (next.nodes i).seq → IsStampOf (next.nodes i).known i (stamps i k)
-stamps_are_by setting w next stamps said seqs known i k some below =
-    let same : (next.nodes i).seq ≡ (w.nodes i).seq = seqs i in
-    let is : IsStampOf (w.nodes i).known i (stamps i k) = said.stamps_are i k some (omega arith) in
-    record { view = is.view; boot = is.boot; brick = is.brick; positive = is.positive; bounded = omega (arith, is.bounded, known i) }
-
-pub stamps_rise_by : (setting : Setting) (w next : World) (stamps : Stamping) → Said setting w stamps → ((i : ℕ) → (next.nodes i).seq ≡ (w.nodes i).seq)
-    → (i k l : ℕ) → 1 ≤ k → k < l → l ≤ (next.nodes i).seq → (stamps i k).time < (stamps i l).time
-stamps_rise_by setting w next stamps said seqs i k l some less below =
-    let same : (next.nodes i).seq ≡ (w.nodes i).seq = seqs i in said.stamps_rise i k l some less (omega arith)
-
 -- the world after a brick's step that is told of no operation
 abbrev pub quiet : World → BrickId → Node → List Packet → World
 quiet w me node more = world_stepped w me (record { node = node; packets = more; told = Nothing }) Nothing
 
-pub quiet_grows : (w : World) (stamps : Stamping) (me : BrickId) (node : Node) (more : List Packet) → KeepsParts (w.nodes me.0) node
-    → node.seq ≡ (w.nodes me.0).seq → Grows w (quiet w me node more) stamps stamps
-quiet_grows w stamps me node more keeps seq = record {
+pub quiet_grows : (w : World) (stamps later : Stamping) (me : BrickId) (node : Node) (more : List Packet) → StampsGrow stamps later
+    → KeepsParts (w.nodes me.0) node → Grows w (quiet w me node more) stamps later
+quiet_grows w stamps later me node more grow keeps = record {
   tops = never_falls_by w (quiet w me node more) me.0 node refl keeps;
   held = held_by w (quiet w me node more) me.0 node refl keeps;
   sent = sent_by w (quiet w me node more) more refl;
   operations = λ n o is. (o, is, continues_same o);
   contents = λ g s t made. refl;
-  seqs = λ i. omega (arith, seqs_by w (quiet w me node more) me.0 node refl seq i);
-  stamped = λ i k within. refl;
+  grow = grow;
   numbered = λ i k within. refl;
   marks = omega arith;
 }
 
 -- what a quiet step owes
-pub record QuietOwes (setting : Setting) (w : World) (stamps : Stamping) (me : BrickId) (node : Node) (more : List Packet) : Type 0 where
+pub record QuietOwes (setting : Setting) (w : World) (stamps later : Stamping) (me : BrickId) (node : Node) (more : List Packet) : Type 0 where
   pub keeps : KeepsParts (w.nodes me.0) node
-  pub seq : node.seq ≡ (w.nodes me.0).seq
-  pub known : (w.nodes me.0).known ≤ node.known
-  pub tops : (g s : ℕ) → (top_of (node.replicas g s) ≡ top_of ((w.nodes me.0).replicas g s)) ⊎ IsKnown (quiet w me node more) stamps (top_of (node.replicas g s))
+  pub stamps_say : StampsSay (quiet w me node more) later
+  pub stamps_other : (i k : ℕ) → i ≢ me.0 → (p : ℕ) → later i k p ≡ stamps i k p
+  pub tops : (g s : ℕ) → (top_of (node.replicas g s) ≡ top_of ((w.nodes me.0).replicas g s)) ⊎ IsKnown later (top_of (node.replicas g s))
   pub logs : (g s k : ℕ) (version : Version) → slice_get (node.replicas g s).log k ≡ Some version
       → (slice_get ((w.nodes me.0).replicas g s).log k ≡ Some version) ⊎ VersionSays setting (quiet w me node more) g s me.0 version
   pub calls : (k : ℕ) (c : Coordinator) → node.calls k ≡ Some c
-      → ((w.nodes me.0).calls k ≡ Some c) ⊎ CallSays setting (quiet w me node more) stamps me.0 k c
-  pub packets : (k : ℕ) (packet : Packet) → slice_get more k ≡ Some packet → PacketSays setting (quiet w me node more) stamps packet
+      → (((w.nodes me.0).calls k ≡ Some c) × ((p : ℕ) → later me.0 k p ≡ stamps me.0 k p)) ⊎ CallSays setting (quiet w me node more) later me.0 k c
+  pub packets : (k : ℕ) (packet : Packet) → slice_get more k ≡ Some packet → PacketSays setting (quiet w me node more) later packet
 
-pub said_quiet : (setting : Setting) (w : World) (stamps : Stamping) (me : BrickId) (node : Node) (more : List Packet) → Books setting w
-    → Said setting w stamps → QuietOwes setting w stamps me node more → Said setting (quiet w me node more) stamps
-said_quiet setting w stamps me node more books said owes =
+pub said_quiet : (setting : Setting) (w : World) (stamps later : Stamping) (me : BrickId) (node : Node) (more : List Packet) → Books setting w
+    → Said setting w stamps → StampsGrow stamps later → QuietOwes setting w stamps later me node more → Said setting (quiet w me node more) later
+said_quiet setting w stamps later me node more books said grow owes =
     let next : World = quiet w me node more in
-    let seqs : (i : ℕ) → (next.nodes i).seq ≡ (w.nodes i).seq = seqs_by w next me.0 node refl owes.seq in
-    said_after setting w next stamps stamps books said (quiet_grows w stamps me node more owes.keeps owes.seq) (record {
-      stamps_are = stamps_are_by setting w next stamps said seqs (known_by w next me.0 node refl owes.known);
-      stamps_rise = stamps_rise_by setting w next stamps said seqs;
+    said_after setting w next stamps later books said (quiet_grows w stamps later me node more grow owes.keeps) (record {
+      stamps_say = owes.stamps_say;
       tops = λ g s i.
-          put_each (λ j x. (top_of (x.replicas g s) ≡ top_of ((w.nodes j).replicas g s)) ⊎ IsKnown (quiet w me node more) stamps (top_of (x.replicas g s)))
+          put_each (λ j x. (top_of (x.replicas g s) ≡ top_of ((w.nodes j).replicas g s)) ⊎ IsKnown later (top_of (x.replicas g s)))
           w.nodes me.0 node (owes.tops g s) (λ j other. inl refl) i;
       logs = λ g s i k version.
           put_each (λ j x. slice_get (x.replicas g s).log k ≡ Some version
@@ -181,8 +165,42 @@ said_quiet setting w stamps me node more books said owes =
           (get_grown w.packets more k packet is);
       operations = λ n o is. inl is;
       calls = λ i k c.
-          put_each (λ j x. x.calls k ≡ Some c → ((w.nodes j).calls k ≡ Some c) ⊎ CallSays setting (quiet w me node more) stamps j k c)
-          w.nodes me.0 node (owes.calls k c) (λ j other is. inl is) i;
+          put_each (λ j x. x.calls k ≡ Some c
+          → (((w.nodes j).calls k ≡ Some c) × ((p : ℕ) → later j k p ≡ stamps j k p)) ⊎ CallSays setting (quiet w me node more) later j k c)
+          w.nodes me.0 node (owes.calls k c) (λ j other is. inl (is, owes.stamps_other j k other)) i;
+      ends = λ k p n answer is. inl is;
+      order = said.order;
+    })
+
+-- what the stamps say where they stay, and one brick keeps its call number and knows no less
+pub stamps_stay_by : (setting : Setting) (w next : World) (stamps : Stamping) (me : ℕ) (node : Node) → Said setting w stamps → next.nodes ≡ put w.nodes me node
+    → node.seq ≡ (w.nodes me).seq → (w.nodes me).known ≤ node.known → StampsSay next stamps
+stamps_stay_by setting w next stamps me node said nodes seq known =
+    stamps_stay w next stamps said.stamps_say (known_by w next me node nodes known) (λ i. omega (arith, seqs_by w next me node nodes seq i))
+
+-- other clocks, and other replies that count, change nothing of what is said
+pub said_beside : (setting : Setting) (w : World) (stamps : Stamping) (clocks : ℕ → ℕ) (replies : ℕ → ℕ → List Counted) → Books setting w
+    → Said setting w stamps → Said setting (record w { clocks = clocks; replies = replies }) stamps
+said_beside setting w stamps clocks replies books said =
+    let next : World = record w { clocks = clocks; replies = replies } in
+    said_after setting w next stamps stamps books said
+    (record {
+      tops = λ g s i. stamp_below_irrefl (top_of (part_of w g s i));
+      held = λ g s i t held. held;
+      sent = λ packet sent. sent;
+      operations = λ n o is. (o, is, continues_same o);
+      contents = λ g s t made. refl;
+      grow = stamps_same stamps;
+      numbered = λ i k within. refl;
+      marks = omega arith;
+    })
+    (record {
+      stamps_say = stamps_stay w next stamps said.stamps_say (λ i. omega arith) (λ i. omega arith);
+      tops = λ g s i. inl refl;
+      logs = λ g s i k version is. inl is;
+      packets = λ k packet is. inl is;
+      operations = λ n o is. inl is;
+      calls = λ i k c is. inl (is, λ p. refl);
       ends = λ k p n answer is. inl is;
       order = said.order;
     })

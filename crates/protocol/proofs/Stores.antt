@@ -17,9 +17,11 @@ use Rattle.protocol.specs.Nodes.{Node, Made, put, with_call, phase_packets}
 use Rattle.protocol.specs.Worlds.{World, Operation, world_stepped, with_made, with_content}
 use Rattle.protocol.specs.Laws.{IsGuarded}
 use Rattle.protocol.proofs.Books.{Books, OperationBooks, CallBooks, MadeInPhase, IsCall}
-use Rattle.protocol.proofs.Said.{Stamping, Said, IsMadeOrFirst, FitsPhase, FloorsAtMost, WriteSays, PacketSays, HasVersion, OperationSays, CallSays}
+use Rattle.protocol.proofs.Said.{Stamping, Said, StampsSay, IsStampOf, IsStamped, WasOrdered, IsMadeOrFirst, FitsPhase, FloorsAtMost, WriteSays, PacketSays, HasVersion, OperationSays, CallSays}
 use Rattle.protocol.proofs.Tables.{put_each, put_same, seat_of_member, sent_to_member}
 use Rattle.protocol.proofs.Lives.{open_last}
+use Rattle.protocol.proofs.Stampings.{ComesFrom, StampsGrow, stays_stamped, with_stamp, stamp_now, stamps_other, stamp_last, stamps_grow, stamps_say}
+use Rattle.protocol.proofs.Steps.{seqs_by, known_by}
 use Rattle.protocol.proofs.Growth.{Grows, stays_guarded, stays_operation}
 use Rattle.protocol.proofs.Operated.{operated, OperatedKeeps, operated_grows, said_operated}
 use Rattle.protocol.proofs.OwnStamps.{not_made_yet}
@@ -58,6 +60,10 @@ module _ (setting : Setting) (sound : IsSound setting) (w : World) (stamps : Sta
   abbrev contents : ℕ → ℕ → Stamp → List ℕ
   contents = with_content w.contents c.stamp (Some o)
 
+  -- the stamps after: the store phase has that of its round of ordering
+  abbrev later : Stamping
+  later = with_stamp stamps me.0 c.call.seq (storing c).call.phase c.stamp
+
   abbrev next : World
   next = operated w me node (phase_packets setting group me (storing c)) w.marks n made contents
 
@@ -67,12 +73,14 @@ module _ (setting : Setting) (sound : IsSound setting) (w : World) (stamps : Sta
       ap (λ (x : Option Operation).
       record {
         nodes = put w.nodes me.0 node;
+        clocks = w.clocks;
         packets = w.packets ++ phase_packets setting group me (storing c);
         marks = w.marks;
         begun = w.begun;
         operations = put w.operations n (with_made c.stamp x);
         numbers = w.numbers;
         contents = with_content w.contents c.stamp x;
+        replies = w.replies;
       })
       its.operation_is
 
@@ -82,13 +90,31 @@ module _ (setting : Setting) (sound : IsSound setting) (w : World) (stamps : Sta
   unmade : (o.version ≡ None) × (o.made ≡ false)
   unmade = subst (λ (phase : Phase). MadeInPhase c o phase) orders its.made
 
-  own : c.stamp ≡ stamps o.brick.0 o.seq
-  own = says.stamp ∙ ap (λ (i : ℕ). stamps i c.call.seq) (sym its.brick) ∙ ap (λ (k : ℕ). stamps o.brick.0 k) (sym its.seq)
+  own : IsStamped stamps o.brick.0 o.seq c.call.phase c.stamp
+  own =
+      subst (λ (i : ℕ). IsStamped stamps i o.seq c.call.phase c.stamp) (sym its.brick)
+      (subst (λ (k : ℕ). IsStamped stamps me.0 k c.call.phase c.stamp) (sym its.seq) says.stamp)
+
+  none : (r : ℕ) → (storing c).call.phase ≤ r → stamps me.0 c.call.seq r ≡ None
+  none r most = says.last r (omega arith)
+
+  from : ComesFrom stamps me.0 c.call.seq c.stamp
+  from = inl (c.call.phase, says.stamp)
+
+  grow : StampsGrow stamps later
+  grow = stamps_grow stamps me.0 c.call.seq (storing c).call.phase c.stamp none from
+
+  stamp_is : IsStamped later me.0 c.call.seq (storing c).call.phase c.stamp
+  stamp_is = stamp_now stamps me.0 c.call.seq (storing c).call.phase c.stamp
+
+  was_ordered : WasOrdered later me.0 c.call.seq (storing c).call.phase c.stamp
+  was_ordered = (c.call.phase, omega arith, stays_stamped stamps later grow me.0 c.call.seq c.call.phase c.stamp says.stamp)
 
   -- no version of its stamp was made
   not_yet : (g s : ℕ) (u : Stamp) → u ≡ c.stamp → IsMadeOrFirst w g s u → ⊥
   not_yet g s u same is_made =
-      not_made_yet setting w stamps books said n o its.operation_is unmade.1 g s (subst (λ (t : Stamp). IsMadeOrFirst w g s t) (same ∙ own) is_made)
+      not_made_yet setting w stamps books said n o c.call.phase c.stamp its.operation_is unmade.1 own g s
+      (subst (λ (t : Stamp). IsMadeOrFirst w g s t) same is_made)
 
   -- the contents of versions stay
   kept : (g s : ℕ) (u : Stamp) → IsMadeOrFirst w g s u → contents g s u ≡ w.contents g s u
@@ -138,8 +164,8 @@ module _ (setting : Setting) (sound : IsSound setting) (w : World) (stamps : Sta
     unended = open_until setting w me.0 c.call.seq c books is;
   }
 
-  grows : Grows w next stamps stamps
-  grows = operated_grows setting w stamps me node (phase_packets setting group me (storing c)) w.marks n o made contents keeps
+  grows : Grows w next stamps later
+  grows = operated_grows setting w stamps later me node (phase_packets setting group me (storing c)) w.marks n o made contents keeps grow
 
   -- what it writes
   writes : (bytes : List ℕ) × (o.ask.op ≡ WriteStripe bytes)
@@ -160,23 +186,25 @@ module _ (setting : Setting) (sound : IsSound setting) (w : World) (stamps : Sta
     guarded_by : (other : Group) → group_of setting.layout o.ask.group.0 ≡ Some other → IsGuarded next o.ask.group.0 o.ask.stripe.0 other c.stamp
     guarded_by other other_is =
         let same : group ≡ other = (let e : Some group ≡ Some other = sym its_group ∙ other_is in cc) in
-        stays_guarded setting w next stamps stamps books grows o.ask.group.0 o.ask.stripe.0 other c.stamp
+        stays_guarded setting w next stamps later books grows o.ask.group.0 o.ask.stripe.0 other c.stamp
         (subst (λ (z : Group). IsGuarded w o.ask.group.0 o.ask.stripe.0 z c.stamp) same guarded)
 
-    operation_says : OperationSays setting next stamps n made
+    operation_says : OperationSays setting next later n made
     operation_says =
-        let old : OperationSays setting next stamps n o
-        = stays_operation setting w next stamps stamps books grows n o its.operation_is (said.operations n o its.operation_is) in
+        let old : OperationSays setting next later n o
+        = stays_operation setting w next stamps later books grows n o its.operation_is (said.operations n o its.operation_is) in
         record {
           begin = old.begin;
           floors = old.floors;
+          floors_known = old.floors_known;
           fresh = old.fresh;
-          made = λ is_made. ap (λ (t : Stamp). Some t) own;
-          content = λ is_made.
+          made = λ is_made. (c.stamp, c.call.phase, refl, stays_stamped stamps later grow o.brick.0 o.seq c.call.phase c.stamp own);
+          content = λ v is_made has.
+              let same : c.stamp ≡ v = cc in
               writes.1
               ∙ ap (λ (bytes : List ℕ). WriteStripe bytes)
               (ap (λ (op : Op). written_content op) (sym writes.1) ∙ sym content_now
-              ∙ ap (λ (t : Stamp). contents o.ask.group.0 o.ask.stripe.0 t) own);
+              ∙ ap (λ (t : Stamp). contents o.ask.group.0 o.ask.stripe.0 t) same);
           version = λ v has.
               let same : c.stamp ≡ v = cc in
               subst (λ (t : Stamp). HasVersion setting next made t) same (record {
@@ -191,7 +219,7 @@ module _ (setting : Setting) (sound : IsSound setting) (w : World) (stamps : Sta
 
     -- a write to a member
     write_says : (k : ℕ) (member : BrickId) → slice_get group.members k ≡ Some member
-        → WriteSays setting next stamps me.0 member.0 (storing c).call c.stamp (setting.code.encode group.m (written_content c.ask.op) (0 + k))
+        → WriteSays setting next later me.0 member.0 (storing c).call c.stamp (setting.code.encode group.m (written_content c.ask.op) (0 + k))
     write_says k member at =
         let seat : seat_in group.members member.0 ≡ Some k = seat_of_member group.members k member (sound.distinct c.ask.group.0 group group_is) at in
         record {
@@ -203,7 +231,8 @@ module _ (setting : Setting) (sound : IsSound setting) (w : World) (stamps : Sta
             group = call_group;
             stripe = call_stripe;
           };
-          stamp = says.stamp;
+          stamp = stamp_is;
+          ordered = was_ordered;
           made = refl;
           version = refl;
           member = λ other other_is.
@@ -229,24 +258,51 @@ module _ (setting : Setting) (sound : IsSound setting) (w : World) (stamps : Sta
               ∙ ap (setting.code.encode other.m (contents c.call.group.0 c.call.stripe.0 c.stamp)) zero;
         }
 
-    packets : (k : ℕ) (packet : Packet) → slice_get (phase_packets setting group me (storing c)) k ≡ Some packet → PacketSays setting next stamps packet
+    packets : (k : ℕ) (packet : Packet) → slice_get (phase_packets setting group me (storing c)) k ≡ Some packet → PacketSays setting next later packet
     unfolding request_of
     packets k packet at =
         let sent = sent_to_member me (storing c).call (request_of setting.code group.m (storing c)) 0 group.members k packet at in
-        subst (λ (z : Packet). PacketSays setting next stamps z) (sym sent.2) (write_says k sent.0 sent.1)
+        subst (λ (z : Packet). PacketSays setting next later z) (sym sent.2) (write_says k sent.0 sent.1)
 
-    calls : (k : ℕ) (d : Coordinator) → node.calls k ≡ Some d → ((w.nodes me.0).calls k ≡ Some d) ⊎ CallSays setting next stamps me.0 k d
+    calls : (k : ℕ) (d : Coordinator) → node.calls k ≡ Some d
+        → (((w.nodes me.0).calls k ≡ Some d) × ((p : ℕ) → later me.0 k p ≡ stamps me.0 k p)) ⊎ CallSays setting next later me.0 k d
     calls k d =
-        put_each (λ j x. x ≡ Some d → ((w.nodes me.0).calls j ≡ Some d) ⊎ CallSays setting next stamps me.0 j d) (w.nodes me.0).calls c.call.seq (Some (storing c))
+        put_each (λ j x. x ≡ Some d
+        → (((w.nodes me.0).calls j ≡ Some d) × ((p : ℕ) → later me.0 j p ≡ stamps me.0 j p)) ⊎ CallSays setting next later me.0 j d)
+        (w.nodes me.0).calls c.call.seq (Some (storing c))
         (λ at. let same : storing c ≡ d = cc in
-        inr (subst (λ (z : Coordinator). CallSays setting next stamps me.0 c.call.seq z) same
-        (record { stamp = says.stamp; fits = (writes.0, ap (λ a. a.op) its.ask ∙ writes.1); counted = tt; once = tt })))
-        (λ j other at. inl at) k
+        inr (subst (λ (z : Coordinator). CallSays setting next later me.0 c.call.seq z) same
+        (record {
+          stamp = stamp_is;
+          last = stamp_last stamps me.0 c.call.seq (storing c).call.phase c.stamp none from;
+          ordered = λ stores. was_ordered;
+          fits = (writes.0, ap (λ a. a.op) its.ask ∙ writes.1);
+          counted = tt;
+          once = tt;
+        })))
+        (λ j other at. inl (at, stamps_other stamps me.0 c.call.seq (storing c).call.phase c.stamp me.0 j (λ brick same. other same))) k
+
+    -- what the stamps then say
+    say : StampsSay next later
+    say =
+        let at : IsStampOf (w.nodes me.0).known me.0 c.stamp = said.stamps_say.are me.0 c.call.seq c.call.phase c.stamp says.stamp in
+        let begun = said.stamps_say.begun me.0 c.call.seq c.call.phase c.stamp says.stamp in
+        stamps_say stamps me.0 c.call.seq (storing c).call.phase c.stamp none from w next said.stamps_say
+        (known_by w next me.0 node refl more_known) (λ j. omega (arith, seqs_by w next me.0 node refl refl j))
+        (record { view = at.view; boot = at.boot; brick = at.brick; positive = at.positive; bounded = omega (arith, at.bounded, known_by w next me.0 node refl more_known me.0) })
+        begun.0 (omega (arith, begun.1, seqs_by w next me.0 node refl refl me.0))
 
     -- the invariant holds when a version was made
     pub said_made : Said setting
-        (world_stepped w me (record { node = node; packets = phase_packets setting group me (storing c); told = Made c.call.seq c.stamp }) (Made c.call.seq c.stamp)) stamps
+        (world_stepped w me (record { node = node; packets = phase_packets setting group me (storing c); told = Made c.call.seq c.stamp }) (Made c.call.seq c.stamp)) later
     said_made =
-        subst (λ (z : World). Said setting z stamps) (sym next_is)
-        (said_operated setting w stamps me node (phase_packets setting group me (storing c)) w.marks n o made contents books said keeps
-        (record { operation = operation_says; calls = calls; packets = packets; ends = λ k q a answer at. inl at }))
+        subst (λ (z : World). Said setting z later) (sym next_is)
+        (said_operated setting w stamps later me node (phase_packets setting group me (storing c)) w.marks n o made contents books said grow keeps
+        (record {
+          stamps_say = say;
+          stamps_other = λ i k other. stamps_other stamps me.0 c.call.seq (storing c).call.phase c.stamp i k (λ brick same. other brick);
+          operation = operation_says;
+          calls = calls;
+          packets = packets;
+          ends = λ k q a answer at. inl at;
+        }))
