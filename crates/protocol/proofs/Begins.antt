@@ -8,7 +8,6 @@ use Rattle.fab_base.specs.declared.stamps.Stamp.{Stamp}
 use Rattle.fab_base.specs.declared.asks.Ask.{Ask}
 use Rattle.fab_base.specs.declared.asks.Op.{Op}
 use Rattle.fab_base.specs.declared.asks.Op.TheVariants.{ReadBlock, WriteBlock, ReadStripe, WriteStripe}
-use Rattle.fab_base.specs.Stamps.{first_stamp}
 use Rattle.fab_wire.specs.declared.messages.Packet.{Packet}
 use Rattle.fab_wire.specs.declared.requests.Request.{Request}
 use Rattle.fab_wire.specs.declared.requests.Want.TheVariants as Want
@@ -23,7 +22,7 @@ use Rattle.protocol.specs.Nodes.{Node, put, is_stripe_op, first_phase, new_coord
 use Rattle.protocol.specs.Worlds.{World, Operation, world_began}
 use Rattle.protocol.specs.Laws.{part_of, IsGuarded}
 use Rattle.protocol.proofs.Books.{Books, IsOperation}
-use Rattle.protocol.proofs.Said.{Stamping, Said, IsStamped, IsKnown, IsStampOf, IsCalled, FitsPhase, FloorsAtLeast, RequestSays, PacketSays, OperationSays, CallSays, IsInOrder}
+use Rattle.protocol.proofs.Said.{Stamping, Said, IsSaid, IsStamped, IsKnown, IsStampOf, IsCalled, FitsPhase, FloorsAtLeast, RequestSays, PacketSays, OperationSays, CallSays, IsInOrder}
 use Rattle.protocol.proofs.Tables.{put_each, put_same, get_grown, get_one, sent_to_member}
 use Rattle.protocol.proofs.Lives.{last_grows}
 use Rattle.protocol.proofs.Growth.{Grows, continues_same}
@@ -61,10 +60,10 @@ module _ (setting : Setting) (w : World) (stamps : Stamping) (me : BrickId) (ask
   node = opened (w.nodes me.0) c
 
   -- the stamps after
-  abbrev pub later : Stamping
+  abbrev later : Stamping
   later = with_stamp stamps me.0 c.call.seq c.call.phase c.stamp
 
-  abbrev pub next : World
+  abbrev next : World
   next = world_began w me ask (began_in setting group me (w.nodes me.0) c)
 
   -- the new operation
@@ -186,10 +185,10 @@ module _ (setting : Setting) (w : World) (stamps : Stamping) (me : BrickId) (ask
       (op_cases ask.op stripe_op)
 
   not_stores : (op : Op) → first_phase op ≡ Stores → ⊥
-  not_stores (ReadBlock j) is = absurd (let no : ⊥ = cc in no)
-  not_stores (WriteBlock j bytes) is = absurd (let no : ⊥ = cc in no)
-  not_stores ReadStripe is = absurd (let no : ⊥ = cc in no)
-  not_stores (WriteStripe bytes) is = absurd (let no : ⊥ = cc in no)
+  not_stores (ReadBlock j) is = cc
+  not_stores (WriteBlock j bytes) is = cc
+  not_stores ReadStripe is = cc
+  not_stores (WriteStripe bytes) is = cc
 
   calls : (k : ℕ) (d : Coordinator) → node.calls k ≡ Some d
       → (((w.nodes me.0).calls k ≡ Some d) × ((p : ℕ) → later me.0 k p ≡ stamps me.0 k p)) ⊎ CallSays setting next later me.0 k d
@@ -243,39 +242,41 @@ module _ (setting : Setting) (w : World) (stamps : Stamping) (me : BrickId) (ask
       a earlier_is
 
   -- the invariant holds when an operation began
-  pub said_began : Said setting next later
-  said_began =
-      said_after setting w next stamps later books said grows (record {
-        stamps_say = stamps_say stamps me.0 c.call.seq c.call.phase c.stamp none from w next said.stamps_say
-            (put_each (λ j x. (w.nodes j).known ≤ x.known) w.nodes me.0 node (omega arith) (λ j other. omega arith))
-            (put_each (λ j x. (w.nodes j).seq ≤ x.seq) w.nodes me.0 node (omega arith) (λ j other. omega arith))
-            (subst (λ (x : Node). IsStampOf x.known me.0 c.stamp) (sym (put_same w.nodes me.0 node)) own) (omega arith)
-            (let here : (put w.nodes me.0 node me.0).seq ≡ c.call.seq = ap (λ (x : Node). x.seq) (put_same w.nodes me.0 node) in omega arith);
-        tops = λ g s i. inl (put_each (λ j x. top_of (x.replicas g s) ≡ top_of ((w.nodes j).replicas g s)) w.nodes me.0 node refl (λ j other. refl) i);
-        logs = λ g s i k version is. inl
-            (put_each (λ j x. slice_get (x.replicas g s).log k ≡ Some version → slice_get ((w.nodes j).replicas g s).log k ≡ Some version) w.nodes me.0 node
-            (λ has. has) (λ j other has. has) i is);
-        packets = λ k packet is. ⊎_elim
-            (λ (there : slice_get w.packets k ≡ Some packet). inl there)
-            (λ (sent : (j : ℕ) × (slice_get (phase_packets setting group me c) j ≡ Some packet)).
-            let to = sent_to_member me c.call (request_of setting.code group.m c) 0 group.members sent.0 packet sent.1 in
-            inr (subst (λ (z : Packet). PacketSays setting next later z) (sym to.2) (request_says to.0.0 (0 + sent.0))))
-            (get_grown w.packets (phase_packets setting group me c) k packet is);
-        operations = λ a e.
-            put_each (λ i x. x ≡ Some e → IsOperation w i e ⊎ OperationSays setting next later i e) w.operations (w.begun + 1) (Some new)
-            (λ is. let same : new ≡ e = cc in inr (subst (λ (z : Operation). OperationSays setting next later (w.begun + 1) z) same operation_says))
-            (λ i other is. inl is) a;
-        calls = λ i k d.
-            put_each (λ j x. x.calls k ≡ Some d
-            → (((w.nodes j).calls k ≡ Some d) × ((p : ℕ) → later j k p ≡ stamps j k p)) ⊎ CallSays setting next later j k d)
-            w.nodes me.0 node (calls k d)
-            (λ j other is. inl (is, stamps_other stamps me.0 c.call.seq c.call.phase c.stamp j k (λ brick same. other brick))) i;
-        ends = λ k q a answer at. ⊎_elim
-            (λ (there : slice_get w.marks k ≡ Some (End q a answer)). inl there)
-            (λ (added : (j : ℕ) × (slice_get (Begin (length w.marks) (w.begun + 1) me ask ∷ []) j ≡ Some (End q a answer))).
-            let bad : Begin (length w.marks) (w.begun + 1) me ask ≡ End q a answer
-            = get_one (Begin (length w.marks) (w.begun + 1) me ask) (End q a answer) added.0 added.1 in
-            absurd (let no : ⊥ = cc in no))
-            (get_grown w.marks (Begin (length w.marks) (w.begun + 1) me ask ∷ []) k (End q a answer) at);
-        order = in_order;
-      })
+  pub said_began : IsSaid setting next
+  said_began = (
+    later,
+    said_after setting w next stamps later books said grows (record {
+      stamps_say = stamps_say stamps me.0 c.call.seq c.call.phase c.stamp none from w next said.stamps_say
+          (put_each (λ j x. (w.nodes j).known ≤ x.known) w.nodes me.0 node (omega arith) (λ j other. omega arith))
+          (put_each (λ j x. (w.nodes j).seq ≤ x.seq) w.nodes me.0 node (omega arith) (λ j other. omega arith))
+          (subst (λ (x : Node). IsStampOf x.known me.0 c.stamp) (sym (put_same w.nodes me.0 node)) own) (omega arith)
+          (let here : (put w.nodes me.0 node me.0).seq ≡ c.call.seq = ap (λ (x : Node). x.seq) (put_same w.nodes me.0 node) in omega arith);
+      tops = λ g s i. inl (put_each (λ j x. top_of (x.replicas g s) ≡ top_of ((w.nodes j).replicas g s)) w.nodes me.0 node refl (λ j other. refl) i);
+      logs = λ g s i k version is. inl
+          (put_each (λ j x. slice_get (x.replicas g s).log k ≡ Some version → slice_get ((w.nodes j).replicas g s).log k ≡ Some version) w.nodes me.0 node
+          (λ has. has) (λ j other has. has) i is);
+      packets = λ k packet is. ⊎_elim
+          (λ (there : slice_get w.packets k ≡ Some packet). inl there)
+          (λ (sent : (j : ℕ) × (slice_get (phase_packets setting group me c) j ≡ Some packet)).
+          let to = sent_to_member me c.call (request_of setting.code group.m c) 0 group.members sent.0 packet sent.1 in
+          inr (subst (λ (z : Packet). PacketSays setting next later z) (sym to.2) (request_says to.0.0 (0 + sent.0))))
+          (get_grown w.packets (phase_packets setting group me c) k packet is);
+      operations = λ a e.
+          put_each (λ i x. x ≡ Some e → IsOperation w i e ⊎ OperationSays setting next later i e) w.operations (w.begun + 1) (Some new)
+          (λ is. let same : new ≡ e = cc in inr (subst (λ (z : Operation). OperationSays setting next later (w.begun + 1) z) same operation_says))
+          (λ i other is. inl is) a;
+      calls = λ i k d.
+          put_each (λ j x. x.calls k ≡ Some d
+          → (((w.nodes j).calls k ≡ Some d) × ((p : ℕ) → later j k p ≡ stamps j k p)) ⊎ CallSays setting next later j k d)
+          w.nodes me.0 node (calls k d)
+          (λ j other is. inl (is, stamps_other stamps me.0 c.call.seq c.call.phase c.stamp j k (λ brick same. other brick))) i;
+      ends = λ k q a answer at. ⊎_elim
+          (λ (there : slice_get w.marks k ≡ Some (End q a answer)). inl there)
+          (λ (added : (j : ℕ) × (slice_get (Begin (length w.marks) (w.begun + 1) me ask ∷ []) j ≡ Some (End q a answer))).
+          let bad : Begin (length w.marks) (w.begun + 1) me ask ≡ End q a answer
+          = get_one (Begin (length w.marks) (w.begun + 1) me ask) (End q a answer) added.0 added.1 in
+          absurd (let no : ⊥ = cc in no))
+          (get_grown w.marks (Begin (length w.marks) (w.begun + 1) me ask ∷ []) k (End q a answer) at);
+      order = in_order;
+    }),
+  )

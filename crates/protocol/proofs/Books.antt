@@ -1,13 +1,17 @@
 -- What a world's books say: operations, calls, numbers and marks agree, at every moment of every run.
-use Rattle.std.proofs.Common.{◌≡◌, ℕ, ◌<◌, ◌≤◌, true, false, Some, None}
+use Rattle.std.proofs.Common.{◌≡◌, ℕ, ◌<◌, ◌≤◌, true, false, List, Some, None}
 use Rattle.std.specs.Prelude.{slice_get}
 use Rattle.reg_model.specs.declared.marks.Mark.{Mark}
 use Rattle.reg_model.specs.Marks.{Life, life_of, IsOpen, IsWellFormed, position_of}
 use Rattle.reg_model.specs.Strict.{IsAnswered}
 use Rattle.protocol.specs.Settings.{Setting, Group, group_of}
-use Rattle.protocol.specs.Coordinators.{Coordinator, Phase, Orders, Stores, most_rounds}
+use Rattle.protocol.specs.Coordinators.{Coordinator, Counted, Phase, Orders, Stores, most_rounds}
 use Rattle.protocol.specs.Nodes.{is_stripe_op, has_length}
 use Rattle.protocol.specs.Worlds.{World, Operation}
+
+-- the replies that have counted, by operation and phase
+abbrev pub Replies : Type 0
+Replies = ℕ → ℕ → List Counted
 
 -- operation n is o
 abbrev pub IsOperation : World → ℕ → Operation → Type 0

@@ -15,7 +15,7 @@ use Rattle.protocol.specs.Nodes.{Node, put, is_stripe_op, has_length, first_phas
 use Rattle.protocol.specs.Worlds.{World, Operation, world_began}
 use Rattle.protocol.proofs.Books.{Books, OperationBooks, CallBooks, IsOperation, IsCall, MadeInPhase}
 use Rattle.protocol.proofs.BooksKept.{operation_kept, call_kept, cases_call}
-use Rattle.protocol.proofs.OnwardLives.{Stays, Stays-push, Stays-before, life_of-begin}
+use Rattle.protocol.proofs.Lives.{Stays, Stays-push, Stays-before, life_of-begin}
 use Rattle.protocol.proofs.MarkLists.{Places-push, well_formed_begin, numbers_below}
 use Rattle.protocol.proofs.Puts.{put_other}
 use Rattle.protocol.proofs.Tables.{put_each, put_same}
@@ -77,30 +77,30 @@ module _ (setting : Setting) (w : World) (brick : BrickId) (now : ℕ) (ask : As
   other_life : (m : ℕ) → m ≢ n → Stays (life_of w.marks m) (life_of later.marks m)
   other_life m other = Stays-push w.marks (Begin (length w.marks) n brick ask) m (λ same. other (sym same))
 
-  call_is : (later.nodes i).calls k ≡ Some c
+  pub call_is : (later.nodes i).calls k ≡ Some c
   call_is = ap (λ (x : Node). x.calls k) (put_same w.nodes i (opened node c)) ∙ put_same node.calls k (Some c)
 
-  other_calls : (j l : ℕ) → (j ≡ i → l ≡ k → ⊥) → (later.nodes j).calls l ≡ (w.nodes j).calls l
+  pub other_calls : (j l : ℕ) → (j ≡ i → l ≡ k → ⊥) → (later.nodes j).calls l ≡ (w.nodes j).calls l
   other_calls j l other = put_each (λ (x : ℕ) (y : Node). (x ≡ i → l ≡ k → ⊥) → y.calls l ≡ (w.nodes x).calls l) w.nodes i (opened node c)
       (λ apart. put_other node.calls k (Some c) l (λ same. apart refl same)) (λ x at apart. refl) j other
 
-  number_is : later.numbers i k ≡ n
+  pub number_is : later.numbers i k ≡ n
   number_is = ap (λ (f : ℕ → ℕ). f k) (put_same w.numbers i (put (w.numbers i) k n)) ∙ put_same (w.numbers i) k n
 
-  other_numbers : (j l : ℕ) → (j ≡ i → l ≡ k → ⊥) → later.numbers j l ≡ w.numbers j l
+  pub other_numbers : (j l : ℕ) → (j ≡ i → l ≡ k → ⊥) → later.numbers j l ≡ w.numbers j l
   other_numbers j l other = put_each (λ (x : ℕ) (f : ℕ → ℕ). (x ≡ i → l ≡ k → ⊥) → f l ≡ w.numbers x l) w.numbers i (put (w.numbers i) k n)
       (λ apart. put_other (w.numbers i) k n l (λ same. apart refl same)) (λ x at apart. refl) j other
 
   operation_is : later.operations n ≡ Some o
   operation_is = put_same w.operations n (Some o)
 
-  other_operations : (m : ℕ) → m ≢ n → later.operations m ≡ w.operations m
+  pub other_operations : (m : ℕ) → m ≢ n → later.operations m ≡ w.operations m
   other_operations m other = put_other w.operations n (Some o) m other
 
   seqs : (j : ℕ) → (w.nodes j).seq ≤ (later.nodes j).seq
   seqs j = put_each (λ (x : ℕ) (y : Node). (w.nodes x).seq ≤ y.seq) w.nodes i (opened node c) (omega arith) (λ x at. omega arith) j
 
-  knows : (j : ℕ) → (w.nodes j).known ≤ (later.nodes j).known
+  pub knows : (j : ℕ) → (w.nodes j).known ≤ (later.nodes j).known
   knows j = put_each (λ (x : ℕ) (y : Node). (w.nodes x).known ≤ y.known) w.nodes i (opened node c) (omega arith) (λ x at. omega arith) j
 
   own_seq : (later.nodes i).seq ≡ k

@@ -15,7 +15,7 @@ use Rattle.protocol.specs.Nodes.{Node, is_stripe_op, has_length}
 use Rattle.protocol.specs.Worlds.{World, Operation, is_answer}
 use Rattle.protocol.proofs.Books.{Books, OperationBooks, CallBooks, IsOperation, IsCall}
 use Rattle.protocol.proofs.BooksKept.{KeepsNumbers, operation_kept, call_kept, calls_apart, cases_call}
-use Rattle.protocol.proofs.OnwardLives.{Stays, Stays-push, Stays-before, with_ending, life_of-end}
+use Rattle.protocol.proofs.Lives.{Stays, Stays-push, Stays-before, with_ending, life_of-end}
 use Rattle.protocol.proofs.MarkLists.{Places-push, well_formed_end}
 
 -- an End that answers and does not abort makes an operation answered

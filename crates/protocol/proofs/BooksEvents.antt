@@ -18,28 +18,24 @@ use Rattle.protocol.specs.Replicas.{handle}
 use Rattle.protocol.specs.Coordinators.{Phase, Looks, Orders, Stores, Stalls, Coordinator, Next, Ignores, Waits, Reorders, Makes, Ends, Counted, most_rounds, with_reply, once_full, counted_at, counts_at, on_reply}
 use Rattle.protocol.specs.Nodes.{Node, NodeStep, Nothing, put, no_step, is_stripe_op, has_block, has_length, refusal_in, refusal_of, began, invoked, with_replica, replica_at, reply_packets, requested_at, requested_in, requested, has_later_time, next_time, new_stamp, fresh_stamp, known_after, with_call, with_known, carried_out, phase_packets, collect_packets, replied_to, replied_at, replied, received}
 use Rattle.protocol.specs.Worlds.{World, Operation, Event, Invokes, Delivers, Sets, is_answer, version_after, first_world, is_brick, may_begin, world_began, world_stepped, with_made, with_answer, with_content, replies_with, delivered, packet_of, happens, run}
-use Rattle.protocol.proofs.Books.{Books, CallBooks, IsCall, MadeInPhase}
+use Rattle.protocol.proofs.Books.{Replies, Books, CallBooks, IsCall, MadeInPhase}
 use Rattle.protocol.proofs.BooksKept.{KeepsNumbers}
 use Rattle.protocol.proofs.BooksQuiet.{books_quiet}
 use Rattle.protocol.proofs.BooksTurns.{IsBookedStamp, books_turned}
 use Rattle.protocol.proofs.BooksEnds.{books_ended}
 use Rattle.protocol.proofs.BooksBegins.{books_began}
-use Rattle.protocol.proofs.Outcomes.{SameOperation, EndFits, NextFits, once_full_fits}
+use Rattle.protocol.proofs.Outcomes.{SameOperation, EndFits, NextFits, waits_orders, once_full_fits}
 use Rattle.protocol.proofs.Puts.{put_other}
 use Rattle.protocol.proofs.Tables.{put_each, put_same}
 
 -- a brick that keeps its numbers, among those that stay
-keeps_put : (w : World) (i : ℕ) (node : Node) → KeepsNumbers (w.nodes i) node → (j : ℕ) → KeepsNumbers (w.nodes j) (put w.nodes i node j)
+pub keeps_put : (w : World) (i : ℕ) (node : Node) → KeepsNumbers (w.nodes i) node → (j : ℕ) → KeepsNumbers (w.nodes j) (put w.nodes i node j)
 keeps_put w i node keeps j =
     put_each (λ (x : ℕ) (y : Node). KeepsNumbers (w.nodes x) y) w.nodes i node keeps
     (λ x other. record { boot = refl; seq = refl; known = omega arith }) j
 
--- the replies that have counted, by operation and phase
-abbrev Replies : Type 0
-Replies = ℕ → ℕ → List Counted
-
 -- the world after a brick's step, with these counted replies
-abbrev stepped : World → Replies → BrickId → NodeStep → World
+abbrev pub stepped : World → Replies → BrickId → NodeStep → World
 stepped w replies brick step = world_stepped (record w { replies = replies }) brick step step.told
 
 -- a step that tells nothing and keeps a brick's calls and numbers keeps the books
@@ -107,7 +103,7 @@ ends_version c o Stores answer (Some v) made fits is = (v, refl)
 ends_version c o Stalls answer seen made fits is = absurd fits
 
 -- a fresh stamp is above all that its brick knows
-fresh_is : (me : BrickId) (now boot known : ℕ) (t : Stamp) → fresh_stamp me now boot known ≡ Some t
+pub fresh_is : (me : BrickId) (now boot known : ℕ) (t : Stamp) → fresh_stamp me now boot known ≡ Some t
     → (t ≡ new_stamp me now boot known) × (known ≤ next_time now known) × (1 ≤ next_time now known)
 fresh_is me now boot known t is =
     cond_both (has_later_time known) (Some (new_stamp me now boot known)) None
@@ -117,7 +113,7 @@ fresh_is me now boot known t is =
     is
 
 -- a brick is its number
-brick_of : (a b : BrickId) → a.0 ≡ b.0 → a ≡ b
+pub brick_of : (a b : BrickId) → a.0 ≡ b.0 → a ≡ b
 brick_of a b same = ap (λ (x : ℕ). let b : BrickId = record { 0 = x } in b) same
 
 -- brick me took a reply, which counts in coordinator c, and knows this time; a new round would have this stamp
@@ -182,17 +178,19 @@ module _ (setting : Setting) (group : Group) (w : World) (replies : Replies) (me
       → (node.known ≤ t.time) × IsBookedStamp (put w.nodes i (with_call node t.time node.busy k d) i).known mine.operation t
   stamp_fresh d t is =
       let facts = fresh_is me now node.boot known t is in
-      let time : t.time ≡ next_time now known = ap (λ (x : Stamp). x.time) facts.0 in
-      (omega (arith, facts.1, time), subst (λ (x : ℕ). IsBookedStamp x mine.operation t) (own_known t.time node.busy d) (record {
-        brick = ap (λ (x : Stamp). x.brick) facts.0 ∙ brick_of me mine.operation.brick (sym mine.brick);
-        view = ap (λ (x : Stamp). x.view.0) facts.0;
-        boot = ap (λ (x : Stamp). x.boot) facts.0 ∙ books.boots i;
-        time = (omega (arith, facts.2, time), omega arith);
-      }))
+      let time : t.time ≡ next_time now known = ap (λ (x : Stamp). x.time) facts.0 in (
+        omega (arith, facts.1, time),
+        subst (λ (x : ℕ). IsBookedStamp x mine.operation t) (own_known t.time node.busy d) (record {
+          brick = ap (λ (x : Stamp). x.brick) facts.0 ∙ brick_of me mine.operation.brick (sym mine.brick);
+          view = ap (λ (x : Stamp). x.view.0) facts.0;
+          boot = ap (λ (x : Stamp). x.boot) facts.0 ∙ books.boots i;
+          time = (omega (arith, facts.2, time), omega arith);
+        }),
+      )
 
   -- what a brick does with what its coordinator decided
   books_carried_out : (next : Next) → NextFits fresh then' next → Books setting (stepped w replies me (carried_out setting group me node known c next))
-  books_carried_out Ignores fits = books_known setting w replies me known books grows
+  books_carried_out Ignores fits = absurd fits
   books_carried_out (Waits d) fits =
       books_turned setting w i k c d mine.operation mine.operation (put w.nodes i (with_call node known node.busy k (Some d))) (w.packets ++ [])
       w.operations w.contents replies books
@@ -202,7 +200,7 @@ module _ (setting : Setting) (group : Group) (w : World) (replies : Replies) (me
         same = same_of d fits.same;
         stamp = stamp_stays (Some d) d.stamp fits.stamp;
         rounds = subst (λ (x : ℕ). (1 ≤ x) × (x ≤ most_rounds)) (sym fits.round) mine.rounds;
-        in_round = λ orders. ap (λ (x : Call). x.phase) fits.call ∙ mine.in_round (waits_orders d fits.phase orders) ∙ sym fits.round;
+        in_round = λ orders. ap (λ (x : Call). x.phase) fits.call ∙ mine.in_round (waits_orders then' d fits orders) ∙ sym fits.round;
         same_ask = record { brick = refl; seq = refl; begin = refl; ask = refl; answered = refl };
         made = made_waits c d mine.operation c.phase fits.stamp mine.made fits.phase;
         keeps = keeps_call known node.busy (Some d) grows;
@@ -211,10 +209,6 @@ module _ (setting : Setting) (group : Group) (w : World) (replies : Replies) (me
         operation_is = mine.operation_is;
         other_operations = λ m other. refl;
       })
-    where
-      waits_orders : (d : Coordinator) → (d.phase ≡ c.phase) ⊎ ((c.phase ≡ Looks) × (d.phase ≡ Stalls)) → d.phase ≡ Orders → c.phase ≡ Orders
-      waits_orders d (inl same) orders = sym same ∙ orders
-      waits_orders d (inr stalls) orders = absurd (let never : Stalls ≡ Orders = sym stalls.1 ∙ orders in cc)
   books_carried_out (Reorders d) fits =
       let fresh = stamp_fresh (Some d) d.stamp fits.stamp in
       let made : (mine.operation.version ≡ None) × (mine.operation.made ≡ false)
@@ -374,23 +368,37 @@ no_value : (r : Option Refusal) → is_some r ≡ false → r ≡ None
 no_value None h = refl
 no_value (Some r) h = absurd (let never : true ≡ false = h in cc)
 
--- an invocation
-books_invoked : (setting : Setting) (w : World) (brick : BrickId) (ask : Ask) → Books setting w → may_begin setting w brick ask ≡ true
-    → Books setting (world_began w brick ask (invoked setting brick (w.clocks brick.0) (w.nodes brick.0) ask))
-unfolding invoked refusal_of
-books_invoked setting w brick ask books may =
+-- an operation that may begin has its group, and fits it
+pub record BeginFits (setting : Setting) (ask : Ask) : Type 0 where
+  pub group : Group
+  pub group_is : group_of setting.layout ask.group.0 ≡ Some group
+  pub is_stripe_op : is_stripe_op ask.op ≡ true
+  pub stripe : ask.stripe.0 < group.stripes
+  pub length_fits : has_length group.m setting.layout.block ask.op ≡ true
+
+pub begin_fits : (setting : Setting) (w : World) (brick : BrickId) (ask : Ask) → may_begin setting w brick ask ≡ true → BeginFits setting ask
+unfolding refusal_of
+begin_fits setting w brick ask may =
     let both = and_parts (is_brick setting.layout brick) (is_stripe_op ask.op && not (is_some (refusal_of setting.layout (w.nodes brick.0) ask))) may in
     let rest = and_parts (is_stripe_op ask.op) (not (is_some (refusal_of setting.layout (w.nodes brick.0) ask))) both.1 in
     let none : refusal_of setting.layout (w.nodes brick.0) ask ≡ None = no_value (refusal_of setting.layout (w.nodes brick.0) ask) (not-true _ rest.1) in
     let fits = not_refused setting.layout.block (w.nodes brick.0) ask (group_of setting.layout ask.group.0) none in
-    subst (λ (found : Option Group). Books setting (world_began w brick ask (began setting brick (w.clocks brick.0) (w.nodes brick.0) ask found))) (sym fits.1)
-    (books_began setting w brick (w.clocks brick.0) ask fits.0 books rest.0 fits.1 fits.2 fits.3)
+    record { group = fits.0; group_is = fits.1; is_stripe_op = rest.0; stripe = fits.2; length_fits = fits.3 }
+
+-- an invocation
+books_invoked : (setting : Setting) (w : World) (brick : BrickId) (now : ℕ) (ask : Ask) → Books setting w → may_begin setting w brick ask ≡ true
+    → Books setting (world_began w brick ask (invoked setting brick now (w.nodes brick.0) ask))
+unfolding invoked
+books_invoked setting w brick now ask books may =
+    let fits : BeginFits setting ask = begin_fits setting w brick ask may in
+    subst (λ (found : Option Group). Books setting (world_began w brick ask (began setting brick now (w.nodes brick.0) ask found))) (sym fits.group_is)
+    (books_began setting w brick now ask fits.group books fits.is_stripe_op fits.group_is fits.stripe fits.length_fits)
 
 -- every event keeps the books
 pub books_kept : (setting : Setting) (w : World) (event : Event) → Books setting w → Books setting (happens setting w event)
 unfolding happens
 books_kept setting w (Invokes brick ask) books =
-    cond_both (may_begin setting w brick ask) _ _ (λ (x : World). Books setting x) (λ may. books_invoked setting w brick ask books may) (λ refused. books)
+    cond_both (may_begin setting w brick ask) _ _ (λ (x : World). Books setting x) (λ may. books_invoked setting w brick (w.clocks brick.0) ask books may) (λ refused. books)
 books_kept setting w (Delivers number) books = books_delivered setting w (packet_of w.packets number) books
 books_kept setting w (Sets brick time) books =
     cond_both (is_brick setting.layout brick) _ _ (λ (x : World). Books setting x)

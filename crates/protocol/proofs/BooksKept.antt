@@ -8,7 +8,7 @@ use Rattle.protocol.specs.Coordinators.{Coordinator}
 use Rattle.protocol.specs.Nodes.{Node}
 use Rattle.protocol.specs.Worlds.{World, Operation}
 use Rattle.protocol.proofs.Books.{OperationBooks, CallBooks, IsOperation, IsCall}
-use Rattle.protocol.proofs.OnwardLives.{Stays, LifeStays, EndingStays-answered, EndingStays-answered_before, EndingStays-open, EndingStays-open_before}
+use Rattle.protocol.proofs.Lives.{Stays, LifeStays, EndingStays-answered, EndingStays-answered_before, EndingStays-open, EndingStays-open_before}
 
 -- the books of an operation that a step leaves alone
 pub operation_kept : (setting : Setting) (w later : World) (n : ℕ) (o : Operation) → OperationBooks setting w n o

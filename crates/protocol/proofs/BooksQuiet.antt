@@ -8,7 +8,7 @@ use Rattle.protocol.specs.Nodes.{Node}
 use Rattle.protocol.specs.Worlds.{World}
 use Rattle.protocol.proofs.Books.{Books, OperationBooks}
 use Rattle.protocol.proofs.BooksKept.{KeepsNumbers, operation_kept, call_kept}
-use Rattle.protocol.proofs.OnwardLives.{Stays-refl}
+use Rattle.protocol.proofs.Lives.{Stays-refl}
 
 -- the world with other bricks, clocks, packets and counted replies
 abbrev pub quiet_world : World → (ℕ → Node) → (ℕ → ℕ) → List Packet → (ℕ → ℕ → List Counted) → World

@@ -12,7 +12,7 @@ use Rattle.protocol.specs.Worlds.{World, Operation}
 use Rattle.protocol.proofs.Books.{Books, OperationBooks, CallBooks, IsOperation, IsCall, MadeInPhase}
 use Rattle.protocol.proofs.BooksKept.{KeepsNumbers, operation_kept, call_kept, calls_apart, cases_call}
 use Rattle.protocol.proofs.Outcomes.{SameOperation}
-use Rattle.protocol.proofs.OnwardLives.{Stays-refl}
+use Rattle.protocol.proofs.Lives.{Stays-refl}
 
 -- what is known of an operation that is open, but for its version
 pub record SameAsk (o later : Operation) : Type 0 where

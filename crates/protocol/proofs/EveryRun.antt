@@ -6,17 +6,20 @@ use Rattle.protocol.proofs.Books.{Books}
 use Rattle.protocol.proofs.BooksEvents.{books}
 use Rattle.protocol.proofs.Falls.{no_event_lowers}
 use Rattle.protocol.proofs.QuorumFacts.{QuorumFacts, quorum_facts}
+use Rattle.protocol.proofs.Tallies.{Tallied}
+use Rattle.protocol.proofs.TalliesEvents.{tallied}
 use Rattle.protocol.proofs.StripeLives.{well_formed_stripe, numbers_from_one}
 use Rattle.protocol.proofs.Walks.{happenings_strict}
 
--- the laws, from the books and from what quorums show
-laws : (setting : Setting) (w : World) → Books setting w → QuorumFacts setting w → Laws setting w
-laws setting w booked facts = record {
+-- the laws, from the books, from what quorums show, and from the history of replies
+laws : (setting : Setting) (w : World) → Books setting w → QuorumFacts setting w → Tallied w → Laws setting w
+laws setting w booked facts history = record {
   one_content = facts.one_content;
   guarded = facts.guarded;
   stored = facts.stored;
   real_time = facts.real_time;
-  aborts = facts.aborts;
+  counted = history.counted;
+  aborts = history.aborts;
   well_formed = booked.well_formed;
   stripe_well_formed = λ g s. well_formed_stripe g s w.marks booked.well_formed (numbers_from_one w.marks (λ n life is. (booked.lives n life is).0));
   strict = λ g s group is. happenings_strict setting w g s booked facts group is;
@@ -26,6 +29,7 @@ laws setting w booked facts = record {
 pub every_run : EveryRunKeepsTheLaws
 every_run setting events sound =
     laws setting (run setting events (first_world setting.layout)) (books setting events) (quorum_facts setting events sound (λ more. books setting more))
+    (tallied setting events sound (λ more. books setting more))
 
 -- no event of any run lowers what a brick has promised or stored
 pub no_event : NoEventLowers

@@ -12,9 +12,9 @@ use Rattle.fab_wire.specs.declared.requests.Request.{Request}
 use Rattle.fab_wire.specs.declared.replies.Reply.{Reply}
 use Rattle.protocol.specs.Settings.{Setting, Group, group_of, seat_in}
 use Rattle.protocol.specs.Replicas.{top_of, is_held, handle}
-use Rattle.protocol.specs.Coordinators.{Coordinator, Next, Ignores, Waits, Sends, Ends, on_reply}
-use Rattle.protocol.specs.Nodes.{Node, NodeStep, Told, Nothing, Made, Answers, put, began, invoked, replica_at, requested_at, requested_in, requested, known_after, carried_out, replied_to, replied_at, replied, received}
-use Rattle.protocol.specs.Worlds.{World, Event, Invokes, Delivers, is_brick, may_begin, world_began, world_stepped, delivered, packet_of, happens, first_world, run}
+use Rattle.protocol.specs.Coordinators.{Coordinator, Next, Ignores, Waits, Reorders, Makes, Ends, on_reply}
+use Rattle.protocol.specs.Nodes.{Node, NodeStep, fresh_stamp, Told, Nothing, Made, Answers, put, began, invoked, replica_at, requested_at, requested_in, requested, known_after, carried_out, replied_to, replied_at, replied, received}
+use Rattle.protocol.specs.Worlds.{World, Event, Invokes, Delivers, Sets, replies_with, is_brick, may_begin, world_began, world_stepped, delivered, packet_of, happens, first_world, run}
 use Rattle.protocol.specs.Laws.{NeverFalls, NoEventLowers, IsGuarded, part_of}
 use Rattle.protocol.proofs.Reactions.{handle_after}
 use Rattle.protocol.proofs.Requests.{parts_keep}
@@ -32,21 +32,24 @@ decision_keeps : (setting : Setting) (group : Group) (me : BrickId) (node : Node
     → KeepsParts node (carried_out setting group me node known c decision).node
 decision_keeps setting group me node known c Ignores = keeps_same node (carried_out setting group me node known c Ignores).node refl
 decision_keeps setting group me node known c (Waits d) = keeps_same node (carried_out setting group me node known c (Waits d)).node refl
-decision_keeps setting group me node known c (Sends d) = keeps_same node (carried_out setting group me node known c (Sends d)).node refl
+decision_keeps setting group me node known c (Reorders d) = keeps_same node (carried_out setting group me node known c (Reorders d)).node refl
+decision_keeps setting group me node known c (Makes d) = keeps_same node (carried_out setting group me node known c (Makes d)).node refl
 decision_keeps setting group me node known c (Ends answer seen stored) =
     keeps_same node (carried_out setting group me node known c (Ends answer seen stored)).node refl
 
-reply_keeps : (setting : Setting) (me from : BrickId) (node : Node) (call : Call) (reply : Reply) → KeepsParts node (replied setting me from node call reply).node
+reply_keeps : (setting : Setting) (me : BrickId) (now : ℕ) (from : BrickId) (node : Node) (call : Call) (reply : Reply)
+    → KeepsParts node (replied setting me now from node call reply).node
 unfolding replied
-reply_keeps setting me from node call reply = at_call (node.calls call.seq)
+reply_keeps setting me now from node call reply = at_call (node.calls call.seq)
   where
-    in_group : (c : Coordinator) (z : Option Group) → KeepsParts node (replied_to setting me from node call reply c z).node
+    in_group : (c : Coordinator) (z : Option Group) → KeepsParts node (replied_to setting me now from node call reply c z).node
     in_group c None = keeps_same node node refl
     in_group c (Some group) =
-        decision_keeps setting group me node (known_after node.known reply) c (on_reply setting.layout.block setting.code group c from call reply)
+        decision_keeps setting group me node (known_after node.known reply) c
+        (on_reply setting.layout.block setting.code group (fresh_stamp me now node.boot (known_after node.known reply)) c from call reply)
 
-    at_call : (z : Option Coordinator) → KeepsParts node (replied_at setting me from node call reply z).node
-    at_call None = keeps_same node (replied_at setting me from node call reply None).node refl
+    at_call : (z : Option Coordinator) → KeepsParts node (replied_at setting me now from node call reply z).node
+    at_call None = keeps_same node (replied_at setting me now from node call reply None).node refl
     at_call (Some c) = in_group c (group_of setting.layout c.ask.group.0)
 
 request_keeps : (setting : Setting) (me from : BrickId) (node : Node) (call : Call) (request : Request)
@@ -63,12 +66,12 @@ request_keeps setting me from node call request = in_group (group_of setting.lay
     in_group None = keeps_same node node refl
     in_group (Some group) = at_seat (seat_in group.members me.0)
 
-message_keeps : (setting : Setting) (me from to : BrickId) (node : Node) (message : Message)
-    → KeepsParts node (received setting me node (record { from = from; to = to; message = message })).node
+message_keeps : (setting : Setting) (me from to : BrickId) (now : ℕ) (node : Node) (message : Message)
+    → KeepsParts node (received setting me now node (record { from = from; to = to; message = message })).node
 unfolding received
-message_keeps setting me from to node (Message.Request call request) = request_keeps setting me from node call request
-message_keeps setting me from to node (Message.Reply call reply) = reply_keeps setting me from node call reply
-message_keeps setting me from to node message = keeps_same node node refl
+message_keeps setting me from to now node (Message.Request call request) = request_keeps setting me from node call request
+message_keeps setting me from to now node (Message.Reply call reply) = reply_keeps setting me now from node call reply
+message_keeps setting me from to now node message = keeps_same node node refl
 
 -- from one world to the next no part falls, and what is held stays held
 pub record PartsStay (w next : World) : Type 0 where
@@ -86,29 +89,34 @@ stay_by w next me node nodes keeps = record { tops = never_falls_by w next me no
 delivery_stays : (setting : Setting) (w : World) (z : Option Packet) → PartsStay w (delivered setting w z)
 delivery_stays setting w None = unchanged w
 delivery_stays setting w (Some packet) =
-    let step : NodeStep = received setting packet.to (w.nodes packet.to.0) packet in
-    cond_both (is_brick setting.layout packet.to) (world_stepped w packet.to step step.told) w (λ (next : World). PartsStay w next)
-    (λ is. stay_by w (world_stepped w packet.to step step.told) packet.to.0 step.node (stepped_nodes w packet.to step step.told)
-    (message_keeps setting packet.to packet.from packet.to (w.nodes packet.to.0) packet.message))
+    let step : NodeStep = received setting packet.to (w.clocks packet.to.0) (w.nodes packet.to.0) packet in
+    let counted : World = record w { replies = replies_with setting w packet } in
+    cond_both (is_brick setting.layout packet.to) (world_stepped counted packet.to step step.told) w (λ (next : World). PartsStay w next)
+    (λ is. stay_by w (world_stepped counted packet.to step step.told) packet.to.0 step.node (stepped_nodes counted packet.to step step.told)
+    (message_keeps setting packet.to packet.from packet.to (w.clocks packet.to.0) (w.nodes packet.to.0) packet.message))
     (λ isnt. unchanged w)
 
-invoked_keeps : (setting : Setting) (me : BrickId) (node : Node) (ask : Ask) → KeepsParts node (invoked setting me 0 node ask).node
+invoked_keeps : (setting : Setting) (me : BrickId) (now : ℕ) (node : Node) (ask : Ask) → KeepsParts node (invoked setting me now node ask).node
 unfolding invoked
-invoked_keeps setting me node ask = in_group (group_of setting.layout ask.group.0)
+invoked_keeps setting me now node ask = in_group (group_of setting.layout ask.group.0)
   where
-    in_group : (z : Option Group) → KeepsParts node (began setting me 0 node ask z).node
+    in_group : (z : Option Group) → KeepsParts node (began setting me now node ask z).node
     in_group None = keeps_same node node refl
-    in_group (Some group) = keeps_same node (began setting me 0 node ask (Some group)).node refl
+    in_group (Some group) = keeps_same node (began setting me now node ask (Some group)).node refl
 
 -- through any event
 pub parts_stay : (setting : Setting) (w : World) (event : Event) → PartsStay w (happens setting w event)
 unfolding happens
 parts_stay setting w (Invokes brick ask) =
-    cond_both (may_begin setting w brick ask) (world_began w brick ask (invoked setting brick 0 (w.nodes brick.0) ask)) w (λ (next : World). PartsStay w next)
-    (λ may. stay_by w (world_began w brick ask (invoked setting brick 0 (w.nodes brick.0) ask)) brick.0 (invoked setting brick 0 (w.nodes brick.0) ask).node refl
-    (invoked_keeps setting brick (w.nodes brick.0) ask))
+    let step : NodeStep = invoked setting brick (w.clocks brick.0) (w.nodes brick.0) ask in
+    cond_both (may_begin setting w brick ask) (world_began w brick ask step) w (λ (next : World). PartsStay w next)
+    (λ may. stay_by w (world_began w brick ask step) brick.0 step.node refl (invoked_keeps setting brick (w.clocks brick.0) (w.nodes brick.0) ask))
     (λ isnt. unchanged w)
 parts_stay setting w (Delivers number) = delivery_stays setting w (packet_of w.packets number)
+parts_stay setting w (Sets brick time) =
+    cond_both (is_brick setting.layout brick) (record w { clocks = put w.clocks brick.0 time }) w (λ (next : World). PartsStay w next)
+    (λ is. record { tops = λ g s i. stamp_below_irrefl (top_of (part_of w g s i)); held = λ g s i t held. held })
+    (λ isnt. unchanged w)
 
 -- no event of any run lowers a top
 pub no_event_lowers : NoEventLowers

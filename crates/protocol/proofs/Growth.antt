@@ -20,7 +20,7 @@ use Rattle.protocol.specs.Replicas.{top_of, is_held, stamp_max}
 use Rattle.protocol.specs.Coordinators.{Coordinator, Counted}
 use Rattle.protocol.specs.Worlds.{World, Operation}
 use Rattle.protocol.specs.Laws.{WasSent, AskedAt, NeverFalls, part_of, brick_at, IsGuarded}
-use Rattle.protocol.proofs.Books.{Books, OperationBooks, CallBooks, IsOperation, IsCall}
+use Rattle.protocol.proofs.Books.{Books, OperationBooks, IsOperation}
 use Rattle.protocol.proofs.Said.{Stamping, IsStamped, IsNewIn, WasOrdered, IsMadeOrFirst, IsKnown, IsCalled, IsBlockOf, VersionSays, WriteSays, RequestSays, OrderedSays, FoundSays, ReplySays, MessageSays, PacketSays, HasVersion, OperationSays, CountedSays, CallSays, DataShown, EndShows}
 use Rattle.protocol.proofs.Stampings.{StampsGrow, stays_stamped, stays_known}
 use Rattle.protocol.proofs.Counting.{each_then}

@@ -7,6 +7,7 @@ pub mod BooksKept
 pub mod BooksQuiet
 pub mod BooksTurns
 pub mod Counting
+pub mod CountsAt
 pub mod Decisions
 pub mod Ends
 pub mod Entries
@@ -15,7 +16,6 @@ pub mod Falls
 pub mod Growth
 pub mod Lives
 pub mod MarkLists
-pub mod OnwardLives
 pub mod Operated
 pub mod Outcomes
 pub mod OwnStamps
@@ -34,4 +34,8 @@ pub mod Steps
 pub mod Stores
 pub mod StripeLives
 pub mod Tables
+pub mod Tallies
+pub mod TalliesCounts
+pub mod TalliesEvents
+pub mod TalliesKept
 pub mod Walks

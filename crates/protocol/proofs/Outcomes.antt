@@ -1,5 +1,5 @@
 -- What a coordinator decides once a reply counts, by its phase.
-use Rattle.std.proofs.Common.{◌≡◌, ℕ, ◌+◌, ◌<◌, ◌≤◌, ◌⊎◌, inl, inr, true, false, List, [], length, Option, Some, None, is_some, refl}
+use Rattle.std.proofs.Common.{◌≡◌, ℕ, ◌+◌, ◌<◌, ◌≤◌, ◌⊎◌, inl, inr, true, false, List, [], length, Option, Some, None, is_some, refl, sym, ◌∙◌}
 use Rattle.std.specs.Prelude.{nat_lt}
 use Rattle.std.proofs.lemmas.Bool.{cond_both, ltb-true, ltb-false}
 use Rattle.fab_base.specs.declared.asks.Ask.{Ask}
@@ -10,7 +10,7 @@ use Rattle.fab_base.specs.declared.answers.Answer.TheVariants.{Data, Done, Abort
 use Rattle.fab_base.specs.declared.answers.Cause.TheVariants as Cause
 use Rattle.fab_wire.specs.declared.calls.Call.{Call}
 use Rattle.protocol.specs.Settings.{Group, Code, quorum_of}
-use Rattle.protocol.specs.Coordinators.{Phase, Looks, Orders, Stores, Stalls, Counted, Coordinator, Refuser, Next, Ignores, Waits, Reorders, Makes, Ends, next_phase, storing, reordering, most_rounds, aborted_by, ordered_again, once_ordered, unless_refused, answered_fast, greatest_refuser, fast_version, decided, once_full}
+use Rattle.protocol.specs.Coordinators.{Phase, Looks, Orders, Stores, Stalls, Counted, Coordinator, Refuser, Next, Ignores, Waits, Reorders, Makes, Ends, next_phase, reordering, most_rounds, aborted_by, ordered_again, once_ordered, unless_refused, answered_fast, greatest_refuser, fast_version, decided, once_full}
 use Rattle.protocol.specs.Worlds.{is_answer}
 
 -- the coordinator of the same operation, under the same call
@@ -30,6 +30,14 @@ pub record WaitsFits (c d : Coordinator) : Type 0 where
   pub call : d.call ≡ c.call
   pub phase : (d.phase ≡ c.phase) ⊎ ((c.phase ≡ Looks) × (d.phase ≡ Stalls))
   pub counted : d.counted ≡ c.counted
+
+-- what waits in a round of ordering was in it
+pub waits_orders : (c d : Coordinator) → WaitsFits c d → d.phase ≡ Orders → c.phase ≡ Orders
+waits_orders c d fits orders = by fits.phase
+  where
+    by : (d.phase ≡ c.phase) ⊎ ((c.phase ≡ Looks) × (d.phase ≡ Stalls)) → c.phase ≡ Orders
+    by (inl same) = sym same ∙ orders
+    by (inr stalls) = absurd (let never : Stalls ≡ Orders = sym stalls.1 ∙ orders in cc)
 
 -- an order that was refused is in its next round, with the fresh stamp
 pub record ReordersFits (fresh : Option Stamp) (c d : Coordinator) : Type 0 where
@@ -78,7 +86,7 @@ AnswerFits fresh c (Aborted cause) = Unit {0}
 
 -- what is decided fits the coordinator
 abbrev pub NextFits : Option Stamp → Coordinator → Next → Type 0
-NextFits fresh c Ignores = Unit {0}
+NextFits fresh c Ignores = ⊥
 NextFits fresh c (Waits d) = WaitsFits c d
 NextFits fresh c (Reorders d) = ReordersFits fresh c d
 NextFits fresh c (Makes d) = MakesFits c d

@@ -1,5 +1,5 @@
 -- Each call has stamps of its own.
-use Rattle.std.proofs.Common.{◌≡◌, ℕ, ◌<◌, ◌≤◌, inl, inr, true, false, List, Some, sym, ap, ◌∙◌, subst}
+use Rattle.std.proofs.Common.{◌≡◌, ℕ, inl, inr, true, false, List, Some, sym, ap, ◌∙◌, subst}
 use Rattle.std.proofs.lemmas.Option.{same_Some}
 use Rattle.fab_base.specs.declared.identities.BrickId.{BrickId}
 use Rattle.fab_base.specs.declared.stamps.Stamp.{Stamp}
@@ -12,7 +12,7 @@ use Rattle.protocol.specs.Coordinators.{Coordinator, Stores}
 use Rattle.protocol.specs.Worlds.{World, Operation}
 use Rattle.protocol.specs.Laws.{WasSent, WriteSent}
 use Rattle.protocol.proofs.Books.{Books, OperationBooks, IsOperation, IsCall}
-use Rattle.protocol.proofs.Said.{Stamping, Said, IsMadeOrFirst, IsStampOf, IsStamped, IsNewIn, WasOrdered, RequestSays, WriteSays}
+use Rattle.protocol.proofs.Said.{Stamping, Said, IsMadeOrFirst, IsStamped, IsNewIn, WasOrdered, RequestSays, WriteSays}
 use Rattle.protocol.proofs.Stampings.{not_first}
 
 module _ (setting : Setting) (w : World) (stamps : Stamping) (books : Books setting w) (said : Said setting w stamps) where

@@ -5,8 +5,7 @@ use Rattle.std.proofs.lemmas.Bool.{and_parts, cases_Bool, eqb-true, not-true}
 use Rattle.fab_base.specs.declared.identities.BrickId.{BrickId}
 use Rattle.fab_base.specs.declared.stamps.Stamp.{Stamp}
 use Rattle.fab_base.specs.declared.asks.Op.TheVariants.{ReadStripe, WriteStripe}
-use Rattle.fab_base.specs.declared.answers.Answer.TheVariants.{Data, Aborted}
-use Rattle.fab_base.specs.declared.answers.Cause.TheVariants as Cause
+use Rattle.fab_base.specs.declared.answers.Answer.TheVariants.{Data}
 use Rattle.fab_base.specs.Stamps.{stamp_below, first_stamp}
 use Rattle.fab_base.proofs.StampOrder.{stamp_not_below_trans, stamp_neither_below}
 use Rattle.fab_wire.specs.declared.calls.Call.{Call}
@@ -20,13 +19,13 @@ use Rattle.reg_model.specs.Registers.{zero_registers}
 use Rattle.reg_model.specs.Walk.{last_of}
 use Rattle.protocol.specs.Settings.{Setting, Group, group_of, IsSound, seat_in}
 use Rattle.protocol.specs.Worlds.{World, Event, Operation, zero_content, first_world, run}
-use Rattle.protocol.specs.Laws.{OneContent, WritesAreGuarded, StoredIsHeld, FollowsRealTime, AbortsShow, WriteSent, brick_at}
+use Rattle.protocol.specs.Laws.{OneContent, WritesAreGuarded, StoredIsHeld, FollowsRealTime, WriteSent, brick_at}
 use Rattle.protocol.proofs.Books.{Books, OperationBooks, IsOperation}
-use Rattle.protocol.proofs.Said.{Stamping, Said, IsMadeOrFirst, FloorsAtLeast, WriteSays, HasVersion, DataShown}
+use Rattle.protocol.proofs.Said.{Stamping, Said, IsSaid, IsStamped, IsMadeOrFirst, FloorsAtLeast, WriteSays, HasVersion, DataShown}
 use Rattle.protocol.proofs.Tables.{seat_within, brick_at_seat}
 use Rattle.protocol.proofs.Lives.{answered_has_end}
-use Rattle.protocol.proofs.OwnStamps.{not_first, own_stamp, maker_stamp, operation_unique}
-use Rattle.protocol.proofs.SaidAlways.{IsSaid, said_first, said_run}
+use Rattle.protocol.proofs.OwnStamps.{maker_stamp, made_later, operation_unique}
+use Rattle.protocol.proofs.SaidAlways.{said_first, said_run}
 
 -- an operation that made a version writes that version's content
 pub record MakerFacts (w : World) (o : Operation) (t : Stamp) : Type 0 where
@@ -55,7 +54,6 @@ pub record QuorumFacts (setting : Setting) (w : World) : Type 0 where
   pub one_content : OneContent setting w
   pub guarded : WritesAreGuarded setting w
   pub stored : StoredIsHeld w
-  pub aborts : AbortsShow w
 
 module _ (setting : Setting) (sound : IsSound setting) (w : World) (stamps : Stamping) (books : Books setting w) (said : Said setting w stamps) where
   -- of two versions between which a quorum's floors lie, the lower is not above the other, nor equal to it where the later operation made it
@@ -68,10 +66,11 @@ module _ (setting : Setting) (sound : IsSound setting) (w : World) (stamps : Sta
       let same : u ≡ v = stamp_neither_below u v not_less not_above in
       ⊎_elim
       (λ (made : later.made ≡ true).
-      let own : v ≡ stamps later.brick.0 later.seq = maker_stamp setting w stamps said b later v is made version in
+      let own : (p : ℕ) × IsStamped stamps later.brick.0 later.seq p v = maker_stamp setting w stamps books said b later v is made version in
       let floor : later.floor i ≡ v
       = stamp_neither_below (later.floor i) v (subst (λ (t : Stamp). stamp_below (later.floor i) t ≡ false) same above) below in
-      absurd ((said.operations b later is).fresh i (floor ∙ own)))
+      absurd ((said.operations b later is).fresh i own.0
+      (subst (λ (t : Stamp). IsStamped stamps later.brick.0 later.seq own.0 t) (sym floor) own.1)))
       (λ (unmade : later.made ≡ false). inr (same, unmade))
       (cases_Bool later.made))
       (cases_Bool (stamp_below u v))
@@ -101,13 +100,10 @@ module _ (setting : Setting) (sound : IsSound setting) (w : World) (stamps : Sta
       (eqb-true earlier.ask.stripe.0 s a_at.1 ∙ sym (eqb-true later.ask.stripe.0 s b_at.1)) a_version)
 
   maker_holds : (n : ℕ) (o : Operation) (t : Stamp) → IsOperation w n o → o.made ≡ true → o.version ≡ Some t → MakerFacts w o t
-  maker_holds n o t is made version =
-      let own : t ≡ stamps o.brick.0 o.seq = maker_stamp setting w stamps said n o t is made version in
-      record {
-        op = (said.operations n o is).content made
-            ∙ ap (λ (u : Stamp). WriteStripe (w.contents o.ask.group.0 o.ask.stripe.0 u)) (sym own);
-        later = λ first. not_first (w.nodes o.brick.0).known o.brick.0 (stamps o.brick.0 o.seq) (own_stamp setting w stamps books said n o is) (sym own ∙ first);
-      }
+  maker_holds n o t is made version = record {
+    op = (said.operations n o is).content t made version;
+    later = made_later setting w stamps books said n o t is made version;
+  }
 
   reader_holds : (n : ℕ) (o : Operation) (t : Stamp) → IsOperation w n o → o.made ≡ false → o.version ≡ Some t → ReaderFacts w n o t
   reader_holds n o t is unmade version =
@@ -137,9 +133,10 @@ module _ (setting : Setting) (sound : IsSound setting) (w : World) (stamps : Sta
   facts = record {
     real_time = real_time_holds;
     maker_unique = λ a b one other t one_is other_is one_made other_made one_version other_version.
-        operation_unique setting w stamps books said a b one other one_is other_is
-        (sym (maker_stamp setting w stamps said a one t one_is one_made one_version) ∙ maker_stamp setting w stamps said b other t other_is other_made other_version);
-    made_version = λ n o is made. (stamps o.brick.0 o.seq, (said.operations n o is).made made);
+        let first = maker_stamp setting w stamps books said a one t one_is one_made one_version in
+        let second = maker_stamp setting w stamps books said b other t other_is other_made other_version in
+        operation_unique setting w stamps books said a b one other first.0 second.0 t one_is other_is first.1 second.1;
+    made_version = λ n o is made. let had = (said.operations n o is).made made in (had.0, had.2);
     maker = maker_holds;
     reader = reader_holds;
     answered_write = λ n o bytes is answered op. (said.operations n o is).answered answered bytes op;
@@ -157,7 +154,6 @@ module _ (setting : Setting) (sound : IsSound setting) (w : World) (stamps : Sta
     };
     guarded = λ call from to t block group group_is sent. (write_says call from to t block sent).guarded group group_is;
     stored = λ call from to sent. said.packets sent.0 (record { from = from; to = to; message = Message.Reply call Reply.Stored }) sent.1;
-    aborts = λ k p n brick x at. said.ends k p n (Aborted (Cause.Later brick x)) at;
   }
 
 -- the facts hold in every world that a run reaches, where the books do

@@ -1,17 +1,15 @@
 -- A coordinator whose order was refused begins another round of ordering, with a stamp that nobody knows.
-use Rattle.std.proofs.Common.{◌≡◌, ℕ, ◌+◌, ◌<◌, ◌≤◌, ◌⊎◌, inl, inr, List, Some, None, refl, sym, ap, ◌∙◌, subst, arith}
+use Rattle.std.proofs.Common.{◌≡◌, ℕ, ◌<◌, ◌≤◌, ◌⊎◌, inl, inr, Some, None, refl, sym, ap, ◌∙◌, subst, arith}
 use Rattle.std.specs.Prelude.{slice_get}
 use Rattle.fab_base.specs.declared.identities.BrickId.{BrickId}
 use Rattle.fab_base.specs.declared.stamps.Stamp.{Stamp}
-use Rattle.fab_base.specs.declared.asks.Op.TheVariants.{WriteStripe}
 use Rattle.fab_wire.specs.declared.messages.Packet.{Packet}
-use Rattle.fab_wire.specs.declared.requests.Request.TheVariants as Request
 use Rattle.protocol.specs.Settings.{Setting, Group}
 use Rattle.protocol.specs.Coordinators.{Coordinator, Phase, Orders, reordering, request_of}
 use Rattle.protocol.specs.Nodes.{Node, with_call, phase_packets}
 use Rattle.protocol.specs.Worlds.{World, Operation}
 use Rattle.protocol.proofs.Books.{Books, CallBooks, IsCall}
-use Rattle.protocol.proofs.Said.{Stamping, Said, IsStamped, IsNewIn, IsKnown, IsStampOf, IsCalled, FitsPhase, RequestSays, PacketSays, CallSays}
+use Rattle.protocol.proofs.Said.{Stamping, Said, IsSaid, IsStamped, IsNewIn, IsKnown, IsStampOf, IsCalled, FitsPhase, PacketSays, CallSays}
 use Rattle.protocol.proofs.Tables.{put_each, put_same, sent_to_member}
 use Rattle.protocol.proofs.Stampings.{ComesFrom, StampsGrow, later_unknown, with_stamp, stamp_now, stamps_other, phases_other, stamp_last, stamps_grow, stamps_say}
 use Rattle.protocol.proofs.Steps.{keeps_same, seqs_by, known_by, quiet, said_quiet}
@@ -39,7 +37,7 @@ module _ (setting : Setting) (w : World) (stamps : Stamping) (me : BrickId) (c :
   next = quiet w me node (phase_packets setting group me (reordering c t))
 
   -- the stamps after
-  abbrev pub later : Stamping
+  abbrev later : Stamping
   later = with_stamp stamps me.0 c.call.seq (reordering c t).call.phase t
 
   none : (r : ℕ) → d.call.phase ≤ r → stamps me.0 c.call.seq r ≡ None
@@ -82,7 +80,7 @@ module _ (setting : Setting) (w : World) (stamps : Stamping) (me : BrickId) (c :
   d_says = record {
     stamp = stamp_is;
     last = stamp_last stamps me.0 c.call.seq d.call.phase t none from;
-    ordered = λ stores. absurd (let no : ⊥ = cc in no);
+    ordered = λ stores. cc;
     fits = subst (λ (phase : Phase). FitsPhase phase c.ask.op) orders says.fits;
     counted = tt;
     once = tt;
@@ -98,18 +96,20 @@ module _ (setting : Setting) (w : World) (stamps : Stamping) (me : BrickId) (c :
       (λ j other at. inl (at, stamps_other stamps me.0 c.call.seq d.call.phase t me.0 j (λ brick same. other same))) k
 
   -- the invariant holds when another round of ordering began
-  pub said_reordered : Said setting next later
+  pub said_reordered : IsSaid setting next
   said_reordered =
-      let begun = said.stamps_say.begun me.0 c.call.seq c.call.phase c.stamp says.stamp in
-      said_quiet setting w stamps later me node (phase_packets setting group me d) books said grow (record {
-        keeps = keeps_same (w.nodes me.0) node refl;
-        stamps_say = stamps_say stamps me.0 c.call.seq d.call.phase t none from w next said.stamps_say
-            (known_by w next me.0 node refl (omega arith)) (λ j. omega (arith, seqs_by w next me.0 node refl refl j))
-            (subst (λ (x : Node). IsStampOf x.known me.0 t) (sym (put_same w.nodes me.0 node)) of)
-            begun.0 (omega (arith, begun.1, seqs_by w next me.0 node refl refl me.0));
-        stamps_other = λ i k other. stamps_other stamps me.0 c.call.seq d.call.phase t i k (λ brick same. other brick);
-        tops = λ g s. inl refl;
-        logs = λ g s k version at. inl at;
-        calls = calls;
-        packets = packets;
-      })
+      let begun = said.stamps_say.begun me.0 c.call.seq c.call.phase c.stamp says.stamp in (
+        later,
+        said_quiet setting w stamps later me node (phase_packets setting group me d) books said grow (record {
+          keeps = keeps_same (w.nodes me.0) node refl;
+          stamps_say = stamps_say stamps me.0 c.call.seq d.call.phase t none from w next said.stamps_say
+              (known_by w next me.0 node refl (omega arith)) (λ j. omega (arith, seqs_by w next me.0 node refl refl j))
+              (subst (λ (x : Node). IsStampOf x.known me.0 t) (sym (put_same w.nodes me.0 node)) of)
+              begun.0 (omega (arith, begun.1, seqs_by w next me.0 node refl refl me.0));
+          stamps_other = λ i k other. stamps_other stamps me.0 c.call.seq d.call.phase t i k (λ brick same. other brick);
+          tops = λ g s. inl refl;
+          logs = λ g s k version at. inl at;
+          calls = calls;
+          packets = packets;
+        }),
+      )

@@ -1,8 +1,8 @@
 -- What is said is so in every world that a run reaches.
-use Rattle.std.proofs.Common.{◌≡◌, ℕ, zero, suc, inl, true, not, ◌&&◌, List, [], ◌∷◌, replicate, Option, Some, None, refl, sym, ap, ◌∙◌, subst, arith}
-use Rattle.std.specs.Prelude.{is_some}
-use Rattle.std.proofs.lemmas.Bool.{cond_both, cond-false, false≢true, and_parts}
+use Rattle.std.proofs.Common.{◌≡◌, ℕ, ◌<◌, ◌≤◌, zero, suc, inl, true, List, [], ◌∷◌, replicate, Option, Some, None, refl, sym, ap, ◌∙◌, subst, arith}
+use Rattle.std.proofs.lemmas.Bool.{cond_both, cond-false}
 use Rattle.fab_base.specs.declared.identities.BrickId.{BrickId}
+use Rattle.fab_base.specs.declared.stamps.Stamp.{Stamp}
 use Rattle.fab_base.specs.declared.asks.Ask.{Ask}
 use Rattle.fab_base.specs.Stamps.{stamp_below, first_stamp}
 use Rattle.fab_base.proofs.StampOrder.{stamp_below_irrefl}
@@ -14,21 +14,20 @@ use Rattle.fab_wire.specs.declared.requests.Version.{Version}
 use Rattle.fab_wire.specs.declared.replies.Reply.{Reply}
 use Rattle.protocol.specs.Settings.{Setting, Group, group_of, IsSound, seat_in}
 use Rattle.protocol.specs.Replicas.{first_replica, top_of, handle}
-use Rattle.protocol.specs.Coordinators.{Coordinator}
-use Rattle.protocol.specs.Nodes.{Node, NodeStep, no_step, is_stripe_op, refusal_in, refusal_of, began, invoked, requested_at, requested_in, requested, known_after, replied_to, replied_at, replied, received}
-use Rattle.protocol.specs.Worlds.{World, Event, Invokes, Delivers, first_world, zero_content, is_brick, may_begin, world_began, world_stepped, delivered, packet_of, happens, run}
+use Rattle.protocol.specs.Coordinators.{Coordinator, Counted}
+use Rattle.protocol.specs.Nodes.{NodeStep, put, new_stamp, fresh_stamp, no_step, began, invoked, requested_at, requested_in, requested, known_after, replied_to, replied_at, replied, received}
+use Rattle.protocol.specs.Worlds.{World, Event, Invokes, Delivers, Sets, replies_with, first_world, zero_content, is_brick, may_begin, world_began, world_stepped, delivered, packet_of, happens, run}
 use Rattle.protocol.specs.Laws.{WasSent, part_of}
 use Rattle.protocol.proofs.Books.{Books, IsCall}
-use Rattle.protocol.proofs.Said.{Stamping, Said, VersionSays}
+use Rattle.protocol.proofs.Said.{Stamping, Said, IsSaid, IsStampOf, VersionSays}
+use Rattle.protocol.proofs.BooksQuiet.{books_quiet}
+use Rattle.protocol.proofs.BooksEvents.{known_grows, fresh_is, BeginFits, begin_fits}
 use Rattle.protocol.proofs.Tables.{get_one}
 use Rattle.protocol.proofs.Reactions.{top_is, handle_after, handle_says}
+use Rattle.protocol.proofs.Steps.{said_beside}
 use Rattle.protocol.proofs.Requests.{said_after_request}
-use Rattle.protocol.proofs.Replies.{known_more, said_known, said_after_reply}
-use Rattle.protocol.proofs.Begins.{later, said_began}
-
--- what is said of a world, by some stamps of its calls
-abbrev pub IsSaid : Setting → World → Type 0
-IsSaid setting w = (stamps : Stamping) × Said setting w stamps
+use Rattle.protocol.proofs.Replies.{said_known, said_after_reply}
+use Rattle.protocol.proofs.Begins.{said_began}
 
 -- the world after a brick's step
 abbrev stepped : World → BrickId → NodeStep → World
@@ -59,74 +58,95 @@ request_said setting w stamps me from call request books said sent = in_group (g
     in_group None = nothing_said setting w stamps me books said
     in_group (Some group) = at_seat (seat_in group.members me.0)
 
+-- a fresh stamp is its brick's, and above all that it knows
+fresh_says : (setting : Setting) (w : World) (me : BrickId) (now known : ℕ) (t : Stamp) → Books setting w → (w.nodes me.0).known ≤ known
+    → fresh_stamp me now (w.nodes me.0).boot known ≡ Some t → IsStampOf t.time me.0 t × ((w.nodes me.0).known < t.time)
+fresh_says setting w me now known t books more is =
+    let new : Stamp = new_stamp me now (w.nodes me.0).boot known in
+    subst (λ (z : Stamp). IsStampOf z.time me.0 z × ((w.nodes me.0).known < z.time)) (sym (fresh_is me now (w.nodes me.0).boot known t is).0)
+    (record { view = refl; boot = books.boots me.0; brick = refl; positive = omega arith; bounded = omega arith }, omega arith)
+
 -- a reply is delivered
-reply_said : (setting : Setting) (w : World) (stamps : Stamping) (me from : BrickId) (call : Call) (reply : Reply) → IsSound setting → Books setting w
-    → Said setting w stamps → WasSent w (record { from = from; to = me; message = Message.Reply call reply })
-    → Said setting (stepped w me (replied setting me from (w.nodes me.0) call reply)) stamps
+reply_said : (setting : Setting) (w : World) (stamps : Stamping) (me from : BrickId) (now : ℕ) (call : Call) (reply : Reply) → IsSound setting
+    → Books setting w → Said setting w stamps → WasSent w (record { from = from; to = me; message = Message.Reply call reply })
+    → IsSaid setting (stepped w me (replied setting me now from (w.nodes me.0) call reply))
 unfolding replied
-reply_said setting w stamps me from call reply sound books said sent = at_call ((w.nodes me.0).calls call.seq) refl
+reply_said setting w stamps me from now call reply sound books said sent = at_call ((w.nodes me.0).calls call.seq) refl
   where
     in_group : (c : Coordinator) → IsCall w me.0 c.call.seq c → (z : Option Group) → group_of setting.layout c.ask.group.0 ≡ z
-        → Said setting (stepped w me (replied_to setting me from (w.nodes me.0) call reply c z)) stamps
-    in_group c is None none = nothing_said setting w stamps me books said
+        → IsSaid setting (stepped w me (replied_to setting me now from (w.nodes me.0) call reply c z))
+    in_group c is None none = (stamps, nothing_said setting w stamps me books said)
     in_group c is (Some group) group_is =
-        said_after_reply setting sound w stamps me c group (known_after (w.nodes me.0).known reply) books said is group_is
-        (known_more (w.nodes me.0).known reply) from call reply sent
+        said_after_reply setting sound w stamps me c group (known_after (w.nodes me.0).known reply) books said is group_is (known_grows (w.nodes me.0).known reply)
+        (fresh_stamp me now (w.nodes me.0).boot (known_after (w.nodes me.0).known reply))
+        (λ t new. fresh_says setting w me now (known_after (w.nodes me.0).known reply) t books (known_grows (w.nodes me.0).known reply) new) from call reply sent
 
-    at_call : (z : Option Coordinator) → (w.nodes me.0).calls call.seq ≡ z → Said setting (stepped w me (replied_at setting me from (w.nodes me.0) call reply z)) stamps
-    at_call None none = said_known setting w stamps me (known_after (w.nodes me.0).known reply) books said (known_more (w.nodes me.0).known reply)
+    at_call : (z : Option Coordinator) → (w.nodes me.0).calls call.seq ≡ z
+        → IsSaid setting (stepped w me (replied_at setting me now from (w.nodes me.0) call reply z))
+    at_call None none = (stamps, said_known setting w stamps me (known_after (w.nodes me.0).known reply) books said (known_grows (w.nodes me.0).known reply))
     at_call (Some c) is =
         let seq : c.call.seq ≡ call.seq = (books.calls me.0 call.seq c is).call_seq in
         in_group c (subst (λ (k : ℕ). IsCall w me.0 k c) (sym seq) is) (group_of setting.layout c.ask.group.0) refl
 
 -- a message is delivered
-message_said : (setting : Setting) (w : World) (stamps : Stamping) (me from : BrickId) (message : Message) → IsSound setting → Books setting w
-    → Said setting w stamps → WasSent w (record { from = from; to = me; message = message })
-    → Said setting (stepped w me (received setting me (w.nodes me.0) (record { from = from; to = me; message = message }))) stamps
+message_said : (setting : Setting) (w : World) (stamps : Stamping) (me from : BrickId) (now : ℕ) (message : Message) → IsSound setting
+    → Books setting w → Said setting w stamps → WasSent w (record { from = from; to = me; message = message })
+    → IsSaid setting (stepped w me (received setting me now (w.nodes me.0) (record { from = from; to = me; message = message })))
 unfolding received
-message_said setting w stamps me from (Message.Request call request) sound books said sent = request_said setting w stamps me from call request books said sent
-message_said setting w stamps me from (Message.Reply call reply) sound books said sent = reply_said setting w stamps me from call reply sound books said sent
-message_said setting w stamps me from message sound books said sent = nothing_said setting w stamps me books said
+message_said setting w stamps me from now (Message.Request call request) sound books said sent =
+    (stamps, request_said setting w stamps me from call request books said sent)
+message_said setting w stamps me from now (Message.Reply call reply) sound books said sent =
+    reply_said setting w stamps me from now call reply sound books said sent
+message_said setting w stamps me from now message sound books said sent = (stamps, nothing_said setting w stamps me books said)
+
+-- the books do not change with the clocks, nor with the replies that count
+books_beside : (setting : Setting) (w : World) (clocks : ℕ → ℕ) (replies : ℕ → ℕ → List Counted) → Books setting w
+    → Books setting (record w { clocks = clocks; replies = replies })
+books_beside setting w clocks replies books =
+    books_quiet setting w w.nodes clocks w.packets replies books (λ i. record { boot = refl; seq = refl; known = omega arith }) (λ i k. refl)
 
 delivered_said : (setting : Setting) (w : World) (stamps : Stamping) (z : Option Packet) → IsSound setting → Books setting w → Said setting w stamps
-    → ((packet : Packet) → z ≡ Some packet → WasSent w packet) → Said setting (delivered setting w z) stamps
-delivered_said setting w stamps None sound books said sent = said
+    → ((packet : Packet) → z ≡ Some packet → WasSent w packet) → IsSaid setting (delivered setting w z)
+delivered_said setting w stamps None sound books said sent = (stamps, said)
 delivered_said setting w stamps (Some packet) sound books said sent =
-    cond_both (is_brick setting.layout packet.to) (stepped w packet.to (received setting packet.to (w.nodes packet.to.0) packet)) w
-    (λ (next : World). Said setting next stamps)
-    (λ is. message_said setting w stamps packet.to packet.from packet.message sound books said (sent packet refl))
-    (λ isnt. said)
+    let counted : World = record w { replies = replies_with setting w packet } in
+    cond_both (is_brick setting.layout packet.to)
+    (stepped counted packet.to (received setting packet.to (w.clocks packet.to.0) (w.nodes packet.to.0) packet)) w
+    (λ (next : World). IsSaid setting next)
+    (λ is. message_said setting counted stamps packet.to packet.from (w.clocks packet.to.0) packet.message sound
+    (books_beside setting w w.clocks (replies_with setting w packet) books)
+    (said_beside setting w stamps w.clocks (replies_with setting w packet) books said)
+    (sent packet refl))
+    (λ isnt. (stamps, said))
 
-packet_was_sent : (w : World) (number : ℕ) (packet : Packet) → packet_of w.packets number ≡ Some packet → WasSent w packet
+-- a packet of a number was sent
+pub packet_was_sent : (w : World) (number : ℕ) (packet : Packet) → packet_of w.packets number ≡ Some packet → WasSent w packet
 packet_was_sent w zero packet is = cc
 packet_was_sent w (suc k) packet is = (k, is)
 
--- an operation that is not refused has its group
-no_refusal : (block : ℕ) (node : Node) (ask : Ask) (z : Option Group) → not (is_some (refusal_in block node ask z)) ≡ true → (group : Group) × (z ≡ Some group)
-no_refusal block node ask None is = absurd (false≢true is)
-no_refusal block node ask (Some group) is = (group, refl)
-
 -- an operation is invoked
 invoked_said : (setting : Setting) (w : World) (stamps : Stamping) (me : BrickId) (ask : Ask) → Books setting w → Said setting w stamps
-    → may_begin setting w me ask ≡ true → IsSaid setting (world_began w me ask (invoked setting me 0 (w.nodes me.0) ask))
-unfolding invoked refusal_of
+    → may_begin setting w me ask ≡ true → IsSaid setting (world_began w me ask (invoked setting me (w.clocks me.0) (w.nodes me.0) ask))
+unfolding invoked
 invoked_said setting w stamps me ask books said may =
-    let p = and_parts (is_brick setting.layout me) (is_stripe_op ask.op && not (is_some (refusal_of setting.layout (w.nodes me.0) ask))) may in
-    let q = and_parts (is_stripe_op ask.op) (not (is_some (refusal_of setting.layout (w.nodes me.0) ask))) p.1 in
-    let group = no_refusal setting.layout.block (w.nodes me.0) ask (group_of setting.layout ask.group.0) q.1 in
-    subst (λ (z : Option Group). IsSaid setting (world_began w me ask (began setting me 0 (w.nodes me.0) ask z))) (sym group.1)
-    (later setting w stamps me ask group.0 books said group.1 q.0, said_began setting w stamps me ask group.0 books said group.1 q.0)
+    let fits : BeginFits setting ask = begin_fits setting w me ask may in
+    subst (λ (z : Option Group). IsSaid setting (world_began w me ask (began setting me (w.clocks me.0) (w.nodes me.0) ask z))) (sym fits.group_is)
+    (said_began setting w stamps me ask fits.group books said fits.group_is fits.is_stripe_op)
 
 -- every event keeps the invariant
 pub said_happens : (setting : Setting) (w : World) (event : Event) → IsSound setting → Books setting w → IsSaid setting w → IsSaid setting (happens setting w event)
 unfolding happens
 said_happens setting w (Invokes brick ask) sound books said =
-    cond_both (may_begin setting w brick ask) (world_began w brick ask (invoked setting brick 0 (w.nodes brick.0) ask)) w
+    cond_both (may_begin setting w brick ask) (world_began w brick ask (invoked setting brick (w.clocks brick.0) (w.nodes brick.0) ask)) w
     (λ (next : World). IsSaid setting next)
     (λ may. invoked_said setting w said.0 brick ask books said.1 may)
     (λ isnt. said)
 said_happens setting w (Delivers number) sound books said =
-    (said.0, delivered_said setting w said.0 (packet_of w.packets number) sound books said.1 (packet_was_sent w number))
+    delivered_said setting w said.0 (packet_of w.packets number) sound books said.1 (packet_was_sent w number)
+said_happens setting w (Sets brick time) sound books said =
+    cond_both (is_brick setting.layout brick) (record w { clocks = put w.clocks brick.0 time }) w (λ (next : World). IsSaid setting next)
+    (λ is. (said.0, said_beside setting w said.0 (put w.clocks brick.0 time) w.replies books said.1))
+    (λ isnt. said)
 
 -- the first world
 first_top : (block : ℕ) → top_of (first_replica block) ≡ first_stamp
@@ -136,10 +156,9 @@ first_top block =
 
 pub said_first : (setting : Setting) → IsSound setting → IsSaid setting (first_world setting.layout)
 said_first setting sound = (
-  (λ i k. first_stamp),
+  (λ i k p. None),
   record {
-    stamps_are = λ i k some most. absurd (omega arith);
-    stamps_rise = λ i k l some less most. absurd (omega arith);
+    stamps_say = record { are = λ i k p t is. cc; begun = λ i k p t is. cc; apart = λ i k l p q t is its. cc };
     tops = λ g s i. inl (first_top setting.layout.block);
     logs = λ g s i k version is.
         let same : record { stamp = first_stamp; block = replicate setting.layout.block 0 } ≡ version

@@ -17,7 +17,7 @@ use Rattle.protocol.specs.Nodes.{Node, Made, put, with_call, phase_packets}
 use Rattle.protocol.specs.Worlds.{World, Operation, world_stepped, with_made, with_content}
 use Rattle.protocol.specs.Laws.{IsGuarded}
 use Rattle.protocol.proofs.Books.{Books, OperationBooks, CallBooks, MadeInPhase, IsCall}
-use Rattle.protocol.proofs.Said.{Stamping, Said, StampsSay, IsStampOf, IsStamped, WasOrdered, IsMadeOrFirst, FitsPhase, FloorsAtMost, WriteSays, PacketSays, HasVersion, OperationSays, CallSays}
+use Rattle.protocol.proofs.Said.{Stamping, Said, IsSaid, StampsSay, IsStampOf, IsStamped, WasOrdered, IsMadeOrFirst, FitsPhase, FloorsAtMost, WriteSays, PacketSays, HasVersion, OperationSays, CallSays}
 use Rattle.protocol.proofs.Tables.{put_each, put_same, seat_of_member, sent_to_member}
 use Rattle.protocol.proofs.Lives.{open_last}
 use Rattle.protocol.proofs.Stampings.{ComesFrom, StampsGrow, stays_stamped, with_stamp, stamp_now, stamps_other, stamp_last, stamps_grow, stamps_say}
@@ -293,16 +293,18 @@ module _ (setting : Setting) (sound : IsSound setting) (w : World) (stamps : Sta
         begun.0 (omega (arith, begun.1, seqs_by w next me.0 node refl refl me.0))
 
     -- the invariant holds when a version was made
-    pub said_made : Said setting
-        (world_stepped w me (record { node = node; packets = phase_packets setting group me (storing c); told = Made c.call.seq c.stamp }) (Made c.call.seq c.stamp)) later
+    pub said_made : IsSaid setting
+        (world_stepped w me (record { node = node; packets = phase_packets setting group me (storing c); told = Made c.call.seq c.stamp }) (Made c.call.seq c.stamp))
     said_made =
-        subst (λ (z : World). Said setting z later) (sym next_is)
-        (said_operated setting w stamps later me node (phase_packets setting group me (storing c)) w.marks n o made contents books said grow keeps
-        (record {
-          stamps_say = say;
-          stamps_other = λ i k other. stamps_other stamps me.0 c.call.seq (storing c).call.phase c.stamp i k (λ brick same. other brick);
-          operation = operation_says;
-          calls = calls;
-          packets = packets;
-          ends = λ k q a answer at. inl at;
-        }))
+        subst (λ (z : World). IsSaid setting z) (sym next_is) (
+          later,
+          said_operated setting w stamps later me node (phase_packets setting group me (storing c)) w.marks n o made contents books said grow keeps
+              (record {
+                stamps_say = say;
+                stamps_other = λ i k other. stamps_other stamps me.0 c.call.seq (storing c).call.phase c.stamp i k (λ brick same. other brick);
+                operation = operation_says;
+                calls = calls;
+                packets = packets;
+                ends = λ k q a answer at. inl at;
+              }),
+        )

@@ -9,7 +9,7 @@ use Rattle.fab_base.specs.declared.asks.Ask.{Ask}
 use Rattle.reg_model.specs.declared.marks.Mark.{Mark}
 use Rattle.reg_model.specs.declared.marks.Mark.TheVariants.{Begin, End, Crash}
 use Rattle.reg_model.specs.Marks.{Ending, Answered, Interrupted, ending_of, Life, life_of, IsUnended, IsOpen, IsWellFormed, begun_numbers, is_of_stripe, concerns, stripe_marks}
-use Rattle.protocol.proofs.OnwardLives.{EndingStays, EndingStays-open, LifeStays, with_ending, onward, life_onward, life_of-append}
+use Rattle.protocol.proofs.Lives.{EndingStays, EndingStays-open, LifeStays, with_ending, onward, life_onward, life_of-append}
 use Rattle.protocol.proofs.RisingMarks.{RisesFrom-filter, increasing_positions, NumbersRise, NumbersRise-filter, NumbersRise-none, NumbersRise-increasing, RisesFrom-increasing, increasing_numbers, begin_cases}
 use Rattle.protocol.proofs.MarkLists.{begun_lives}
 

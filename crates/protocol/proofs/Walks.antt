@@ -25,7 +25,7 @@ use Rattle.protocol.specs.Worlds.{World, Operation}
 use Rattle.protocol.specs.Happenings.{is_of, entries_to, is_effective, ascending, walk_of, happenings_of}
 use Rattle.protocol.proofs.Books.{Books, OperationBooks, IsOperation}
 use Rattle.protocol.proofs.Entries.{IsEntryOf, entry_of, entries_of, entries_distinct, entries_have, Contains-filter, Contains-number, answered_effective, read_effective}
-use Rattle.protocol.proofs.OnwardLives.{EndingStays, EndingStays-answered_before, LifeStays}
+use Rattle.protocol.proofs.Lives.{EndingStays, EndingStays-answered_before, LifeStays}
 use Rattle.protocol.proofs.QuorumFacts.{QuorumFacts, MakerFacts, ReaderFacts}
 use Rattle.protocol.proofs.RisingMarks.{RisesFrom, RisesFrom-increasing, RisesFrom-filter, NumbersRise, NumbersRise-increasing, NumbersRise-filter, life_within, begins_before_open, begins_in_order}
 use Rattle.protocol.proofs.Said.{IsMadeOrFirst}

@@ -2,8 +2,8 @@
 
 ghost use Rattle.protocol.specs.Laws.{EveryRunKeepsTheLaws, NoEventLowers};
 
-/// Every run of the disk keeps its laws, whatever is asked of it, and whichever of its messages are delivered, lost, repeated
-/// or overtaken.
+/// Every run of the disk keeps its laws, whatever is asked of it, whatever its clocks read, and whichever of its messages are
+/// delivered, lost, repeated or overtaken.
 ///
 /// This holds for every layout whose groups are within the limits of a quorum, and for every code that gives back what it
 /// encodes. The laws are these.
@@ -16,7 +16,10 @@ ghost use Rattle.protocol.specs.Laws.{EveryRunKeepsTheLaws, NoEventLowers};
 ///   block that a member keeps under it, is its seat's block of that content.
 /// - Before a version was sent to be written, a quorum had promised to take nothing below its stamp.
 /// - A member says that it stored a version only where it was asked to, and holds it.
-/// - An operation is aborted only where a member had told its coordinator of a later stamp than the one that it was asked at.
+/// - Each reply that counted in a phase of an operation was sent to its coordinator, as a reply to that phase.
+/// - An operation is aborted only where a member had told its coordinator of a later stamp than the one that it was asked at, and
+///   no reply that counted in that phase told a greater one. A round of ordering, of which an operation has four at most, aborts
+///   only where it is the last: the three rounds before it had each counted a later stamp, or its coordinator knows no later time.
 /// - Marks are well formed: positions and numbers rise, and only an operation that is open ends.
 pub fn every_run_keeps_the_laws()
     ensures { EveryRunKeepsTheLaws }

@@ -1,0 +1,61 @@
+-- The history of the replies that counted: what it says of each open operation, and what the marks show by it.
+use Rattle.std.proofs.Common.{◌≡◌, ℕ, ◌<◌, ◌≤◌, ◌⊎◌, true, List, [], is_some}
+use Rattle.fab_base.specs.declared.identities.BrickId.{BrickId}
+use Rattle.fab_base.specs.declared.stamps.Stamp.{Stamp}
+use Rattle.fab_base.specs.Stamps.{stamp_below}
+use Rattle.fab_wire.specs.declared.calls.Call.{Call}
+use Rattle.fab_wire.specs.declared.messages.Message.TheVariants as Message
+use Rattle.fab_wire.specs.declared.messages.Packet.{Packet}
+use Rattle.fab_wire.specs.declared.requests.Request.TheVariants as Request
+use Rattle.fab_wire.specs.declared.replies.Reply.TheVariants as Reply
+use Rattle.reg_model.specs.Marks.{life_of, IsOpen}
+use Rattle.protocol.specs.Coordinators.{Coordinator, Counted, Orders, Stores, greatest_refuser}
+use Rattle.protocol.specs.Worlds.{World, Operation}
+use Rattle.protocol.specs.Laws.{WasSent, WriteSent, AskedAt, Evidence, CountedWereSent, AbortsShow}
+use Rattle.protocol.proofs.Books.{Replies, IsOperation, IsCall}
+use Rattle.protocol.proofs.Said.{EachCounted}
+
+-- The open operation of number n at coordinator c: in its present phase those replies counted that c has, and none in a later one; each round
+-- of ordering before the present one had counted a later stamp.
+pub record CallTallied (replies : Replies) (n : ℕ) (c : Coordinator) : Type 0 where
+  pub now : replies n c.call.phase ≡ c.counted
+  pub later : (p : ℕ) → c.call.phase < p → replies n p ≡ []
+  pub refused : c.phase ≡ Orders → (p : ℕ) → 1 ≤ p → p < c.call.phase → is_some (greatest_refuser (replies n p)) ≡ true
+
+-- a reply that counted in a phase of operation n was sent to it
+abbrev pub CountedSent : World → ℕ → ℕ → Counted → Type 0
+CountedSent w n phase x =
+    (o : Operation) × IsOperation w n o
+    × ((call : Call) × (call.seq ≡ o.seq) × (call.phase ≡ phase)
+    × WasSent w (record { from = x.brick; to = o.brick; message = Message.Reply call x.reply }))
+
+-- the abort of operation n shows its evidence
+abbrev pub AbortShown : World → ℕ → BrickId → Stamp → Type 0
+AbortShown w n brick x = (o : Operation) × IsOperation w n o × Evidence w n o brick x
+
+-- the history of a world
+pub record Tallied (w : World) : Type 0 where
+  pub calls : (i k : ℕ) (c : Coordinator) → IsCall w i k c → CallTallied w.replies (w.numbers i k) c
+  pub unbegun : (n p : ℕ) → w.begun < n → w.replies n p ≡ []
+  pub counted : CountedWereSent w
+  pub aborts : AbortsShow w
+
+-- What the messages of a world show: a later stamp answers what was asked at a lower one, no phase of a call both orders and writes, a store
+-- phase has ordered nothing, and the replies that a coordinator has were sent to it.
+pub record MessagesShow (w : World) : Type 0 where
+  pub later : (call : Call) (from to : BrickId) (x : Stamp) → WasSent w (record { from = from; to = to; message = Message.Reply call (Reply.Later x) })
+      → (t : Stamp) × AskedAt w call to from t × (stamp_below t x ≡ true)
+  pub order_or_write : (call : Call) (from to other : BrickId) (t u : Stamp) (block : List ℕ) → WriteSent w call from to t block
+      → WasSent w (record { from = from; to = other; message = Message.Request call (Request.Order u) }) → ⊥
+  pub stores_no_order : (i k : ℕ) (c : Coordinator) (to : BrickId) (u : Stamp) → IsCall w i k c → c.phase ≡ Stores
+      → WasSent w (record { from = record { 0 = i }; to = to; message = Message.Request c.call (Request.Order u) }) → ⊥
+  pub counted : (i k : ℕ) (c : Coordinator) → IsCall w i k c
+      → EachCounted (λ x. WasSent w (record { from = x.brick; to = record { 0 = i }; message = Message.Reply c.call x.reply })) c.counted
+
+-- From one world to the next: what was sent stays sent, no brick forgets a time, operations stay who they are, and replies count only in
+-- operations that are open.
+pub record Furthers (w next : World) : Type 0 where
+  pub sent : (packet : Packet) → WasSent w packet → WasSent next packet
+  pub known : (i : ℕ) → (w.nodes i).known ≤ (next.nodes i).known
+  pub operations : (n : ℕ) (o : Operation) → IsOperation w n o → (p : Operation) × IsOperation next n p × (p.brick ≡ o.brick) × (p.seq ≡ o.seq)
+  pub replies : (n : ℕ) → ((p : ℕ) → next.replies n p ≡ w.replies n p) ⊎ IsOpen (life_of w.marks n)

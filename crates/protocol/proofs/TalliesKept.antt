@@ -1,0 +1,125 @@
+-- What the history of replies has shown stays shown.
+use Rattle.std.proofs.Common.{◌≡◌, ℕ, ◌<◌, ◌≤◌, ◌⊎◌, inl, inr, ⊎_elim, false, List, [], Some, is_some, sym, ap, ◌∙◌, subst, arith}
+use Rattle.std.specs.Prelude.{slice_get, nat_lt}
+use Rattle.std.proofs.lemmas.Bool.{ltb-false, le-ltb}
+use Rattle.fab_base.specs.declared.identities.BrickId.{BrickId}
+use Rattle.fab_base.specs.declared.stamps.Stamp.{Stamp}
+use Rattle.fab_base.specs.declared.answers.Answer.TheVariants.{Aborted}
+use Rattle.fab_base.specs.declared.answers.Cause.TheVariants as Cause
+use Rattle.fab_wire.specs.declared.calls.Call.{Call}
+use Rattle.fab_wire.specs.declared.messages.Message.TheVariants as Message
+use Rattle.fab_wire.specs.declared.requests.Request.TheVariants as Request
+use Rattle.fab_wire.specs.declared.replies.Reply.TheVariants as Reply
+use Rattle.reg_model.specs.declared.marks.Mark.TheVariants.{End}
+use Rattle.reg_model.specs.Marks.{life_of, IsOpen}
+use Rattle.protocol.specs.Settings.{Setting}
+use Rattle.protocol.specs.Coordinators.{Coordinator, Counted, greatest_refuser}
+use Rattle.protocol.specs.Nodes.{has_later_time}
+use Rattle.protocol.specs.Worlds.{World, Operation}
+use Rattle.protocol.specs.Laws.{WasSent, AskedAt, IsLastRound, Evidence}
+use Rattle.protocol.proofs.Books.{Replies, Books, IsCall}
+use Rattle.protocol.proofs.Lives.{ended_not_open}
+use Rattle.protocol.proofs.Tallies.{CallTallied, CountedSent, AbortShown, Tallied, MessagesShow, Furthers}
+
+-- an operation whose replies stay
+pub call_tallied_on : (replies later : Replies) (n m : ℕ) (c : Coordinator) → m ≡ n → ((p : ℕ) → later n p ≡ replies n p)
+    → CallTallied replies n c → CallTallied later m c
+call_tallied_on replies later n m c number same tallied =
+    subst (λ (x : ℕ). CallTallied later x c) (sym number) (record {
+      now = same c.call.phase ∙ tallied.now;
+      later = λ p above. same p ∙ tallied.later p above;
+      refused = λ orders p low high. ap (λ (l : List Counted). is_some (greatest_refuser l)) (same p) ∙ tallied.refused orders p low high;
+    })
+
+-- what is not below a limit stays so as it grows
+not_below : (limit known later : ℕ) → known ≤ later → nat_lt known limit ≡ false → nat_lt later limit ≡ false
+not_below limit known later more isnt =
+    let at : limit ≤ known = ltb-false known limit isnt in le-ltb later limit (omega arith)
+
+module _ (w next : World) (on : Furthers w next) where
+  pub counted_on : (n phase : ℕ) (x : Counted) → CountedSent w n phase x → CountedSent next n phase x
+  counted_on n phase x was =
+      let goes = on.operations n was.0 was.1 in
+      let call : Call = was.2.0 in (
+        goes.0,
+        goes.1,
+        (
+          call,
+          was.2.1 ∙ sym goes.3,
+          was.2.2,
+          subst (λ (b : BrickId). WasSent next (record { from = x.brick; to = b; message = Message.Reply call x.reply })) (sym goes.2)
+              (on.sent (record { from = x.brick; to = was.0.brick; message = Message.Reply call x.reply }) was.2.3),
+        ),
+      )
+
+  pub asked_on : (call : Call) (from to : BrickId) (t : Stamp) → AskedAt w call from to t → AskedAt next call from to t
+  asked_on call from to t (inl order) = inl (on.sent (record { from = from; to = to; message = Message.Request call (Request.Order t) }) order)
+  asked_on call from to t (inr write) =
+      inr (write.0, on.sent (record { from = from; to = to; message = Message.Request call (Request.Write t write.0) }) write.1)
+
+  last_round_on : (n : ℕ) (o p : Operation) (phase : ℕ) → p.brick ≡ o.brick → ((q : ℕ) → next.replies n q ≡ w.replies n q)
+      → IsLastRound w n o phase → IsLastRound next n p phase
+  last_round_on n o p phase brick same (inl most) =
+      inl (most.0, λ e few less. ap (λ (l : List Counted). is_some (greatest_refuser l)) (same e) ∙ most.1 e few less)
+  last_round_on n o p phase brick same (inr none) =
+      inr (subst (λ (b : BrickId). has_later_time (next.nodes b.0).known ≡ false) (sym brick)
+      (not_below _ (w.nodes o.brick.0).known (next.nodes o.brick.0).known (on.known o.brick.0) none))
+
+  -- the evidence of an abort stays, where the replies of its operation do
+  evidence_on : MessagesShow next → (n : ℕ) (o p : Operation) (brick : BrickId) (x : Stamp) → p.brick ≡ o.brick → p.seq ≡ o.seq
+      → ((q : ℕ) → next.replies n q ≡ w.replies n q) → Evidence w n o brick x → Evidence next n p brick x
+  evidence_on shows n o p brick x brick_is seq same was =
+      let call : Call = was.call in
+      let t : Stamp = was.stamp in
+      let asked : AskedAt next call p.brick brick t
+      = subst (λ (b : BrickId). AskedAt next call b brick t) (sym brick_is) (asked_on call o.brick brick t was.asked) in
+      record {
+        call = call;
+        stamp = t;
+        seat = was.seat;
+        own = was.own ∙ sym seq;
+        asked = asked;
+        told = subst (λ (b : BrickId). WasSent next (record { from = brick; to = b; message = Message.Reply call (Reply.Later x) })) (sym brick_is)
+            (on.sent (record { from = brick; to = o.brick; message = Message.Reply call (Reply.Later x) }) was.told);
+        above = was.above;
+        greatest = ap (λ (l : List Counted). greatest_refuser l) (same call.phase) ∙ was.greatest;
+        last = λ sent. last_by sent was.asked;
+      }
+    where
+      last_by : WasSent next (record { from = p.brick; to = brick; message = Message.Request was.call (Request.Order was.stamp) })
+          → AskedAt w was.call o.brick brick was.stamp → IsLastRound next n p was.call.phase
+      last_by sent (inl order) = last_round_on n o p was.call.phase brick_is same (was.last order)
+      last_by sent (inr write) =
+          absurd (shows.order_or_write was.call o.brick brick brick was.stamp was.stamp write.0
+          (on.sent (record { from = o.brick; to = brick; message = Message.Request was.call (Request.Write was.stamp write.0) }) write.1)
+          (subst (λ (b : BrickId). WasSent next (record { from = b; to = brick; message = Message.Request was.call (Request.Order was.stamp) })) brick_is sent))
+
+-- the history of the next world: what is new in it is shown
+pub tallied_on : (setting : Setting) (w next : World) → Books setting w → Tallied w → MessagesShow next → Furthers w next
+    → ((i k : ℕ) (c : Coordinator) → IsCall next i k c → CallTallied next.replies (next.numbers i k) c)
+    → ((n p : ℕ) → next.begun < n → next.replies n p ≡ [])
+    → ((n phase k : ℕ) (x : Counted) → slice_get (next.replies n phase) k ≡ Some x
+    → (slice_get (w.replies n phase) k ≡ Some x) ⊎ CountedSent next n phase x)
+    → ((k p n : ℕ) (brick : BrickId) (x : Stamp) → slice_get next.marks k ≡ Some (End p n (Aborted (Cause.Later brick x)))
+    → (slice_get w.marks k ≡ Some (End p n (Aborted (Cause.Later brick x)))) ⊎ AbortShown next n brick x)
+    → Tallied next
+tallied_on setting w next books tallied shows on calls unbegun counted aborts = record {
+  calls = calls;
+  unbegun = unbegun;
+  counted = λ n phase k x is. ⊎_elim
+      (λ (old : slice_get (w.replies n phase) k ≡ Some x). counted_on w next on n phase x (tallied.counted n phase k x old))
+      (λ (new : CountedSent next n phase x). new)
+      (counted n phase k x is);
+  aborts = λ k p n brick x is. ⊎_elim
+      (λ (old : slice_get w.marks k ≡ Some (End p n (Aborted (Cause.Later brick x)))).
+      let was : AbortShown w n brick x = tallied.aborts k p n brick x old in
+      let goes = on.operations n was.0 was.1 in
+      ⊎_elim
+      (λ (same : (q : ℕ) → next.replies n q ≡ w.replies n q).
+      (goes.0, goes.1, evidence_on w next on shows n was.0 goes.0 brick x goes.2 goes.3 same was.2))
+      (λ (open' : IsOpen (life_of w.marks n)).
+      absurd (ended_not_open w.marks k p n (Aborted (Cause.Later brick x)) books.well_formed old open'))
+      (on.replies n))
+      (λ (new : AbortShown next n brick x). new)
+      (aborts k p n brick x is);
+}
