@@ -11,7 +11,7 @@ use Rattle.fab_wire.specs.declared.replies.Reply.{Reply}
 use Rattle.quorum.specs.Quorums.{count, with_seat}
 use Rattle.quorum.proofs.Counts.{count_same, count_empty, count_monotone, count_with_seat}
 use Rattle.protocol.specs.Settings.{Group, Code, Piece, ArePiecesOf, quorum_of}
-use Rattle.protocol.specs.Coordinators.{Counted, Refuser, has_seat, fast_version, newest_stamp, tells, all_tell, told_by_all, found_bytes, pieces_of, refuser_of, greater_refuser, greatest_refuser}
+use Rattle.protocol.specs.Coordinators.{Counted, Refuser, has_seat, fast_version, told_stamp, tells, all_tell, told_by_all, found_bytes, pieces_of, refuser_of, greater_refuser, greatest_refuser}
 use Rattle.protocol.specs.Laws.{AtQuorum}
 use Rattle.protocol.proofs.Said.{EachCounted, AreOnce}
 
@@ -128,7 +128,7 @@ told_each (Some u) v counted is =
 pub fast_each : (counted : List Counted) (v : Stamp) → fast_version counted ≡ Some v → EachCounted (λ x. TellsVersion v x.reply) counted
 unfolding fast_version
 fast_each [] v is = tt
-fast_each (x ∷ counted) v is = told_each (newest_stamp x.reply) v (x ∷ counted) is
+fast_each (x ∷ counted) v is = told_each (told_stamp x.reply) v (x ∷ counted) is
 
 -- of two refusers one is the greater
 greater_one : (a b : Refuser) → (greater_refuser (Some a) (Some b) ≡ Some a) ⊎ (greater_refuser (Some a) (Some b) ≡ Some b)
