@@ -1,5 +1,6 @@
 -- Logs ascend: no version is below one that stands before it. So the last version below a bound is the greatest one there.
-use Rattle.std.proofs.Common.{◌≡◌, ◌⊎◌, inl, inr, Bool, true, false, cond, List, [], ◌∷◌, ◌++◌, Option, Some, None, refl, sym, ap, ◌∙◌, subst, ⊎_elim}
+use Rattle.std.proofs.Common.{◌≡◌, ℕ, zero, suc, ◌⊎◌, inl, inr, Bool, true, false, cond, List, [], ◌∷◌, ◌++◌, Option, Some, None, refl, sym, ap, ◌∙◌, subst, ⊎_elim}
+use Rattle.std.specs.Prelude.{slice_get}
 use Rattle.std.proofs.lemmas.Bool.{cond_both, cond-true, cond-false, cases_Bool, false≢true, or_cases, or_left, or_right}
 use Rattle.fab_base.specs.declared.stamps.Stamp.{Stamp}
 use Rattle.fab_base.specs.Stamps.{stamp_below, stamp_same}
@@ -38,6 +39,12 @@ held_cases d x log held = ⊎_elim
 held_here : (x : Version) (log : List Version) → is_held x.stamp (x ∷ log) ≡ true
 held_here x log = or_left (stamp_same x.stamp x.stamp) (is_held x.stamp log) (stamp_same_refl x.stamp)
 
+-- the last version stands in the log
+pub newest_stands : (log : List Version) (version : Version) → newest_of log ≡ Some version → (k : ℕ) × (slice_get log k ≡ Some version)
+newest_stands [] version is = cc
+newest_stands (x ∷ []) version is = (0, is)
+newest_stands (x ∷ (y ∷ log)) version is = let rest = newest_stands (y ∷ log) version is in (suc rest.0, rest.1)
+
 -- the last version is held
 pub newest_held : (log : List Version) (version : Version) → newest_of log ≡ Some version → is_held version.stamp log ≡ true
 newest_held [] version is = cc
@@ -56,6 +63,28 @@ below_held bound d (x ∷ log) held =
     (held_cases d x (below bound log) h))
     (λ isnt h. or_right (stamp_same x.stamp d) (is_held d log) (below_held bound d log h))
     held
+
+-- the place in a longer list
+place_next : (x version : Version) (log more : List Version) → ((k : ℕ) → slice_get more k ≡ Some version → (j : ℕ) × (slice_get log j ≡ Some version))
+    → (k : ℕ) → slice_get (x ∷ more) k ≡ Some version → (j : ℕ) × (slice_get (x ∷ log) j ≡ Some version)
+place_next x version log more old zero at = (zero, at)
+place_next x version log more old (suc k) at = let rest = old k at in (suc rest.0, rest.1)
+
+below_stands : (bound : Stamp) (log : List Version) (version : Version) (k : ℕ) → slice_get (below bound log) k ≡ Some version
+    → (j : ℕ) × (slice_get log j ≡ Some version)
+below_stands bound [] version k is = (k, is)
+below_stands bound (x ∷ log) version k is =
+    cond_both (stamp_below x.stamp bound) (x ∷ below bound log) (below bound log)
+    (λ (l : List Version). slice_get l k ≡ Some version → (j : ℕ) × (slice_get (x ∷ log) j ≡ Some version))
+    (λ less at. place_next x version log (below bound log) (below_stands bound log version) k at)
+    (λ not_less at. let rest = below_stands bound log version k at in (suc rest.0, rest.1))
+    is
+
+-- the last version below a bound stands in the log
+pub newest_stands_below : (bound : Stamp) (log : List Version) (version : Version) → newest_of (below bound log) ≡ Some version
+    → (k : ℕ) × (slice_get log k ≡ Some version)
+newest_stands_below bound log version is =
+    let at = newest_stands (below bound log) version is in below_stands bound log version at.0 at.1
 
 -- the last version of a log, where something stands before it that is at most it
 newest_after : (x : Version) (log : List Version) (d : Stamp) → IsWithin (newest_of log) d → IsWithin (newest_of (x ∷ log)) d

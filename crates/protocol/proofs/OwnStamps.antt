@@ -16,8 +16,8 @@ use Rattle.protocol.specs.Coordinators.{Coordinator, Phase, Orders, Recovers, De
 use Rattle.protocol.specs.Worlds.{World, Operation}
 use Rattle.protocol.specs.Laws.{WasSent, WriteSent, OrderSent, AskedAt}
 use Rattle.protocol.proofs.Books.{Books, OperationBooks, IsOperation, IsCall}
-use Rattle.protocol.proofs.Said.{Begun, Stamping, Said, IsMadeOrFirst, IsBegun, IsStamped, RequestSays, WriteSays}
-use Rattle.protocol.proofs.Stampings.{not_first}
+use Rattle.protocol.proofs.Said.{Stamping, Said, IsMadeOrFirst, IsBegun, IsStamped, RequestSays, WriteSays}
+use Rattle.protocol.proofs.Stampings.{not_first, begun_once}
 
 module _ (setting : Setting) (w : World) (stamps : Stamping) (books : Books setting w) (said : Said setting w stamps) where
   -- two phases with one stamp are of the same call
@@ -60,13 +60,6 @@ module _ (setting : Setting) (w : World) (stamps : Stamping) (books : Books sett
       let bad : true ≡ false = sym made.5 ∙ ap (λ (z : Operation). z.made) same ∙ unmade in
       cc
 
-  -- what a phase that was begun does, and its stamp
-  begun_once : (i k p : ℕ) (one other : Phase) (t u : Stamp) → IsBegun stamps i k p one t → IsBegun stamps i k p other u → (one ≡ other) × (t ≡ u)
-  begun_once i k p one other t u first second =
-      let same : record { stamp = t; phase = one } ≡ record { stamp = u; phase = other }
-      = same_Some (record { stamp = t; phase = one }) (record { stamp = u; phase = other }) (sym first ∙ second) in
-      (ap (λ (b : Begun). b.phase) same, ap (λ (b : Begun). b.stamp) same)
-
   -- what a request that was sent says
   sent_says : (call : Call) (from to : BrickId) (request : Request) → WasSent w (record { from = from; to = to; message = Message.Request call request })
       → RequestSays setting w stamps from.0 to.0 call request
@@ -92,9 +85,9 @@ module _ (setting : Setting) (w : World) (stamps : Stamping) (books : Books sett
       → OrderSent w call from other u → (phase ≡ Orders) ⊎ (phase ≡ Recovers)
   no_order call from other phase t u begun sent = ⊎_elim
       (λ (orders : IsBegun stamps from.0 call.seq call.phase Orders u).
-      inl (begun_once from.0 call.seq call.phase phase Orders t u begun orders).0)
+      inl (begun_once stamps from.0 call.seq call.phase phase Orders t u begun orders).0)
       (λ (recovers : IsBegun stamps from.0 call.seq call.phase Recovers u).
-      inr (begun_once from.0 call.seq call.phase phase Recovers t u begun recovers).0)
+      inr (begun_once stamps from.0 call.seq call.phase phase Recovers t u begun recovers).0)
       (order_begun call from other u sent)
 
   pub order_or_write : (call : Call) (from to other : BrickId) (t u : Stamp) (block : List ℕ) → WriteSent w call from to t block
@@ -137,10 +130,10 @@ module _ (setting : Setting) (w : World) (stamps : Stamping) (books : Books sett
           (no_order c.call from to Stores c.stamp t begun order)
       asked_as (inr (inl sent)) = ⊎_elim
           (λ (own : (sent.0 ≡ t) × IsBegun stamps from.0 c.call.seq c.call.phase Recovers t).
-          let bad : Stores ≡ Recovers = (begun_once from.0 c.call.seq c.call.phase Stores Recovers c.stamp t begun own.1).0 in
+          let bad : Stores ≡ Recovers = (begun_once stamps from.0 c.call.seq c.call.phase Stores Recovers c.stamp t begun own.1).0 in
           absurd (let never : ⊥ = cc in never))
           (λ (lower : (stamp_below sent.0 t ≡ true) × IsBegun stamps from.0 c.call.seq c.call.phase (Descends sent.0) t).
-          let bad : Stores ≡ Descends sent.0 = (begun_once from.0 c.call.seq c.call.phase Stores (Descends sent.0) c.stamp t begun lower.1).0 in
+          let bad : Stores ≡ Descends sent.0 = (begun_once stamps from.0 c.call.seq c.call.phase Stores (Descends sent.0) c.stamp t begun lower.1).0 in
           absurd (let never : ⊥ = cc in never))
           (sent_says c.call from to (Request.OrderRead t (Look.Below sent.0) Want.All) sent.1).1
       asked_as (inr (inr write)) = write
@@ -152,26 +145,23 @@ module _ (setting : Setting) (w : World) (stamps : Stamping) (books : Books sett
       × WasSent w (record { from = from; to = to; message = Message.Request c.call (Request.OrderRead t (Look.Below bound) Want.All) })
   descends_asked from to c bound t is descends asked = asked_as asked
     where
-      Asked : Type 0
-      Asked = (stamp_below bound t ≡ true)
-          × WasSent w (record { from = from; to = to; message = Message.Request c.call (Request.OrderRead t (Look.Below bound) Want.All) })
-
       begun : IsBegun stamps from.0 c.call.seq c.call.phase (Descends bound) c.stamp
       begun = subst (λ (p : Phase). IsBegun stamps from.0 c.call.seq c.call.phase p c.stamp) descends (said.calls from.0 c.call.seq c is).begun
 
-      asked_as : AskedAt w c.call from to t → Asked
-      unfolding Asked
+      asked_as : AskedAt w c.call from to t
+          → (stamp_below bound t ≡ true)
+          × WasSent w (record { from = from; to = to; message = Message.Request c.call (Request.OrderRead t (Look.Below bound) Want.All) })
       asked_as (inl order) = ⊎_elim
           (λ (orders : Descends bound ≡ Orders). absurd (let never : ⊥ = cc in never))
           (λ (recovers : Descends bound ≡ Recovers). absurd (let never : ⊥ = cc in never))
           (no_order c.call from to (Descends bound) c.stamp t begun order)
       asked_as (inr (inl sent)) = ⊎_elim
           (λ (own : (sent.0 ≡ t) × IsBegun stamps from.0 c.call.seq c.call.phase Recovers t).
-          let bad : Descends bound ≡ Recovers = (begun_once from.0 c.call.seq c.call.phase (Descends bound) Recovers c.stamp t begun own.1).0 in
+          let bad : Descends bound ≡ Recovers = (begun_once stamps from.0 c.call.seq c.call.phase (Descends bound) Recovers c.stamp t begun own.1).0 in
           absurd (let never : ⊥ = cc in never))
           (λ (lower : (stamp_below sent.0 t ≡ true) × IsBegun stamps from.0 c.call.seq c.call.phase (Descends sent.0) t).
           let phases : Descends bound ≡ Descends sent.0
-          = (begun_once from.0 c.call.seq c.call.phase (Descends bound) (Descends sent.0) c.stamp t begun lower.1).0 in
+          = (begun_once stamps from.0 c.call.seq c.call.phase (Descends bound) (Descends sent.0) c.stamp t begun lower.1).0 in
           let same : bound ≡ sent.0 = cc in
           subst (λ (b : Stamp). (stamp_below b t ≡ true)
           × WasSent w (record { from = from; to = to; message = Message.Request c.call (Request.OrderRead t (Look.Below b) Want.All) }))
@@ -179,5 +169,5 @@ module _ (setting : Setting) (w : World) (stamps : Stamping) (books : Books sett
           (sent_says c.call from to (Request.OrderRead t (Look.Below sent.0) Want.All) sent.1).1
       asked_as (inr (inr write)) =
           let bad : Descends bound ≡ Stores
-          = (begun_once from.0 c.call.seq c.call.phase (Descends bound) Stores c.stamp t begun (write_begun c.call from to t write.0 write.1)).0 in
+          = (begun_once stamps from.0 c.call.seq c.call.phase (Descends bound) Stores c.stamp t begun (write_begun c.call from to t write.0 write.1)).0 in
           absurd (let never : ⊥ = cc in never)

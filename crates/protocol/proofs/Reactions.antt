@@ -52,12 +52,6 @@ newest_cases log = cases_of (newest_of log)
     cases_of None = inr refl
     cases_of (Some version) = inl (version, refl)
 
--- the newest version stands in the log
-pub newest_stands : (log : List Version) (version : Version) → newest_of log ≡ Some version → (k : ℕ) × (slice_get log k ≡ Some version)
-newest_stands [] version is = cc
-newest_stands (x ∷ []) version is = (0, is)
-newest_stands (x ∷ (y ∷ log)) version is = let rest = newest_stands (y ∷ log) version is in (suc rest.0, rest.1)
-
 -- the order stamp is at most the top, and so is the newest version
 top_order : (replica : Replica) → stamp_below (top_of replica) replica.order ≡ false
 top_order replica = ⊎_elim

@@ -76,6 +76,14 @@ stamp_each P stamps i k p b new old j l q =
     (λ e other c. old i e c (λ d f g. other f)))
     (λ a other e c. old a e c (λ d f g. other d)) j l q
 
+-- a phase does one thing, with one stamp
+pub begun_once : (stamps : Stamping) (i k p : ℕ) (one other : Phase) (t u : Stamp) → IsBegun stamps i k p one t → IsBegun stamps i k p other u
+    → (one ≡ other) × (t ≡ u)
+begun_once stamps i k p one other t u first second =
+    let same : record { stamp = t; phase = one } ≡ record { stamp = u; phase = other }
+    = same_Some (record { stamp = t; phase = one }) (record { stamp = u; phase = other }) (sym first ∙ second) in
+    (ap (λ (b : Begun). b.phase) same, ap (λ (b : Begun). b.stamp) same)
+
 -- the stamp of a phase that was begun
 stamp_of : (b : Begun) (phase : Phase) (t : Stamp) → Some b ≡ Some (record { stamp = t; phase = phase }) → b.stamp ≡ t
 stamp_of b phase t is =
