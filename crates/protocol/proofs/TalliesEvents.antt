@@ -1,5 +1,5 @@
 -- Every event keeps the history of replies.
-use Rattle.std.proofs.Common.{◌≡◌, ℕ, zero, suc, ◌+◌, ◌≤◌, inl, ⊎_elim, true, Option, Some, None, List, [], ◌∷◌, ◌++◌, length, refl, sym, ◌∙◌, subst, arith}
+use Rattle.std.proofs.Common.{◌≡◌, ℕ, ◌+◌, ◌≤◌, inl, ⊎_elim, true, Option, Some, None, List, [], ◌∷◌, ◌++◌, length, refl, sym, ◌∙◌, subst, arith}
 use Rattle.std.specs.Prelude.{slice_get}
 use Rattle.std.proofs.lemmas.Bool.{cond_both}
 use Rattle.std.proofs.lemmas.Option.{same_Some}
@@ -27,7 +27,7 @@ use Rattle.protocol.proofs.BooksBegins.{call_is, other_calls, number_is, other_n
 use Rattle.protocol.proofs.BooksEvents.{keeps_put, stepped, known_grows, BeginFits, begin_fits}
 use Rattle.protocol.proofs.Outcomes.{once_full_fits}
 use Rattle.protocol.proofs.Said.{Stamping, Said, IsSaid, CountedSays}
-use Rattle.protocol.proofs.SaidAlways.{said_first, said_run}
+use Rattle.protocol.proofs.SaidAlways.{packet_was_sent, said_first, said_run}
 use Rattle.protocol.proofs.OwnStamps.{order_or_write, stores_no_order}
 use Rattle.protocol.proofs.Counting.{each_then}
 use Rattle.protocol.proofs.CountsAt.{CountsAt, counts_facts}
@@ -221,10 +221,6 @@ tallied_invoked setting w brick now ask books tallied may =
     → Tallied (world_began w brick ask (began setting brick now (w.nodes brick.0) ask found))) (sym fits.group_is)
     (tallied_began setting w brick now ask fits books tallied)
 
-was_sent : (w : World) (number : ℕ) (packet : Packet) → packet_of w.packets number ≡ Some packet → WasSent w packet
-was_sent w zero packet is = cc
-was_sent w (suc k) packet is = (k, is)
-
 -- every event keeps the history of replies
 tallied_happens : (setting : Setting) (w : World) (event : Event) → Books setting w → Tallied w → MessagesShow w
     → MessagesShow (happens setting w event) → Tallied (happens setting w event)
@@ -233,7 +229,7 @@ tallied_happens setting w (Invokes brick ask) books tallied shows later =
     cond_both (may_begin setting w brick ask) _ _ (λ (x : World). MessagesShow x → Tallied x)
     (λ may. tallied_invoked setting w brick (w.clocks brick.0) ask books tallied may) (λ refused same. tallied) later
 tallied_happens setting w (Delivers number) books tallied shows later =
-    tallied_delivered setting w (packet_of w.packets number) books tallied shows (was_sent w number) later
+    tallied_delivered setting w (packet_of w.packets number) books tallied shows (packet_was_sent w number) later
 tallied_happens setting w (Sets brick time) books tallied shows later =
     cond_both (is_brick setting.layout brick) _ _ (λ (x : World). MessagesShow x → Tallied x)
     (λ member more. tallied_quiet setting w w.nodes (put w.clocks brick.0 time) w.packets books tallied more
