@@ -19,25 +19,34 @@ use Rattle.reg_model.specs.Registers.{zero_registers}
 use Rattle.reg_model.specs.Walk.{last_of}
 use Rattle.protocol.specs.Settings.{Setting, Group, group_of, IsSound, seat_in}
 use Rattle.protocol.specs.Worlds.{World, Event, Operation, zero_content, first_world, run}
-use Rattle.protocol.specs.Laws.{OneContent, WritesAreGuarded, StoredIsHeld, FollowsRealTime, WriteSent, brick_at}
+use Rattle.protocol.specs.Laws.{OneContent, BasesAreNewest, WritesAreGuarded, StoredIsHeld, FollowsRealTime, WriteSent, brick_at}
 use Rattle.protocol.proofs.Books.{Books, OperationBooks, IsOperation}
-use Rattle.protocol.proofs.Said.{Stamping, Said, IsSaid, IsStamped, IsMadeOrFirst, FloorsAtLeast, WriteSays, HasVersion, DataShown}
+use Rattle.protocol.proofs.Said.{Stamping, Said, IsSaid, IsStamped, IsMadeOrFirst, Stands, WritesWhole, ReadsBack, FloorsAtLeast, WriteSays, HasVersion, DataShown}
 use Rattle.protocol.proofs.Tables.{seat_within, brick_at_seat}
 use Rattle.protocol.proofs.Lives.{answered_has_end}
 use Rattle.protocol.proofs.OwnStamps.{maker_stamp, made_later, operation_unique}
 use Rattle.protocol.proofs.SaidAlways.{said_first, said_run}
 
--- an operation that made a version writes that version's content
-pub record MakerFacts (w : World) (o : Operation) (t : Stamp) : Type 0 where
-  pub op : o.ask.op ≡ WriteStripe (w.contents o.ask.group.0 o.ask.stripe.0 t)
-  pub later : t ≡ first_stamp → ⊥
+-- an operation that made version t by reading its base back: the base is below it, was made itself or is the first, and is its content; and
+-- nothing that a quorum holds lies between the two
+pub record BaseSays (setting : Setting) (w : World) (o : Operation) (t : Stamp) : Type 0 where
+  pub base : Stamp
+  pub base_is : o.base ≡ Some base
+  pub op : o.ask.op ≡ ReadStripe
+  pub below : stamp_below base t ≡ true
+  pub made : IsMadeOrFirst w o.ask.group.0 o.ask.stripe.0 base
+  pub content : w.contents o.ask.group.0 o.ask.stripe.0 t ≡ w.contents o.ask.group.0 o.ask.stripe.0 base
+  pub none_between : (u : Stamp) → Stands setting w o.ask.group.0 o.ask.stripe.0 u → stamp_below base u ≡ true → stamp_below u t ≡ true → ⊥
 
--- an operation that read a version reads a stripe, and the version is the first one or was made; what it was answered is the version's content
-pub record ReaderFacts (w : World) (n : ℕ) (o : Operation) (t : Stamp) : Type 0 where
+-- an operation that made version t wrote it whole, on no base, or read its base back
+pub record MakerFacts (setting : Setting) (w : World) (o : Operation) (t : Stamp) : Type 0 where
+  pub how : WritesWhole w o t ⊎ BaseSays setting w o t
+  pub later : stamp_below first_stamp t ≡ true
+
+-- an operation that read version t at once reads a stripe, and the version is the first one or was made
+pub record ReaderFacts (w : World) (o : Operation) (t : Stamp) : Type 0 where
   pub op : o.ask.op ≡ ReadStripe
   pub made : IsMadeOrFirst w o.ask.group.0 o.ask.stripe.0 t
-  pub answered : (life : Life) (p : ℕ) (bytes : List ℕ) → life_of w.marks n ≡ Some life → life.ending ≡ Answered p (Data bytes)
-      → bytes ≡ w.contents o.ask.group.0 o.ask.stripe.0 t
 
 -- the facts on versions
 pub record QuorumFacts (setting : Setting) (w : World) : Type 0 where
@@ -45,13 +54,18 @@ pub record QuorumFacts (setting : Setting) (w : World) : Type 0 where
   pub maker_unique : (a b : ℕ) (one other : Operation) (t : Stamp) → IsOperation w a one → IsOperation w b other
       → one.made ≡ true → other.made ≡ true → one.version ≡ Some t → other.version ≡ Some t → a ≡ b
   pub made_version : (n : ℕ) (o : Operation) → IsOperation w n o → o.made ≡ true → (t : Stamp) × (o.version ≡ Some t)
-  pub maker : (n : ℕ) (o : Operation) (t : Stamp) → IsOperation w n o → o.made ≡ true → o.version ≡ Some t → MakerFacts w o t
-  pub reader : (n : ℕ) (o : Operation) (t : Stamp) → IsOperation w n o → o.made ≡ false → o.version ≡ Some t → ReaderFacts w n o t
+  pub maker : (n : ℕ) (o : Operation) (t : Stamp) → IsOperation w n o → o.made ≡ true → o.version ≡ Some t → MakerFacts setting w o t
+  pub reader : (n : ℕ) (o : Operation) (t : Stamp) → IsOperation w n o → o.made ≡ false → o.version ≡ Some t → ReaderFacts w o t
+  pub stands : (n : ℕ) (o : Operation) (t : Stamp) → IsOperation w n o → o.version ≡ Some t → (o.made ≡ false) ⊎ (o.answered ≡ true)
+      → Stands setting w o.ask.group.0 o.ask.stripe.0 t
+  pub answered_data : (n : ℕ) (o : Operation) (t : Stamp) (life : Life) (p : ℕ) (bytes : List ℕ) → IsOperation w n o → o.version ≡ Some t
+      → life_of w.marks n ≡ Some life → life.ending ≡ Answered p (Data bytes) → bytes ≡ w.contents o.ask.group.0 o.ask.stripe.0 t
   pub answered_write : (n : ℕ) (o : Operation) (bytes : List ℕ) → IsOperation w n o → o.answered ≡ true → o.ask.op ≡ WriteStripe bytes
       → o.made ≡ true
   pub first : (g s : ℕ) (group : Group) → group_of setting.layout g ≡ Some group
       → w.contents g s first_stamp ≡ zero_registers group.m setting.layout.block
   pub one_content : OneContent setting w
+  pub bases : BasesAreNewest setting w
   pub guarded : WritesAreGuarded setting w
   pub stored : StoredIsHeld w
 
