@@ -1,3 +1,4 @@
+pub mod Chains
 pub mod EntryOrder
 pub mod Fits
 pub mod MarkLists
