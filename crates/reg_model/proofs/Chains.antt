@@ -1,7 +1,7 @@
 -- No version's base chain crosses another's: of two neighbours among the effective versions, what was made on a base was made on
 -- the lower one.
-use Rattle.std.proofs.Common.{◌≡◌, ℕ, ◌<◌, ◌≤◌, ◌+◌, ◌-◌, Bool, true, false, ◌⊎◌, inl, inr, ⊎_elim, List, [], ◌∷◌, length, get_or, Option, Some, None, refl, sym, ◌∙◌, ap, subst, arith, zero, suc, add-one}
-use Rattle.std.specs.List.{All, Contains}
+use Rattle.std.proofs.Common.{◌≡◌, ℕ, ◌<◌, ◌≤◌, ◌+◌, ◌-◌, true, false, inl, inr, ⊎_elim, List, ◌∷◌, length, get_or, Option, Some, None, refl, sym, ◌∙◌, ap, subst, arith, zero, suc}
+use Rattle.std.specs.List.{Contains}
 use Rattle.std.proofs.lemmas.Bool.{cases_Bool, cases_lt, cases_eq, both_ways}
 use Rattle.std.proofs.lemmas.List.{get_or_default}
 use Rattle.std.proofs.lemmas.Option.{same_Some}
@@ -48,11 +48,15 @@ places_differ versions up i j less inside same =
     (subst (λ (s : Stamp). stamp_below s (version_at versions j) ≡ true) same (rises_far versions up i j less inside))
 
 module _ (Stands : Stamp → Type 0) (base : Stamp → Option Stamp) (facts : BaseFacts Stands base) where
+  -- the first version has no base
+  pub first_has_no_base : (b : Stamp) → base first_stamp ≡ Some b → ⊥
+  first_has_no_base b is = both_ways (stamp_below b first_stamp) (stamp_below_first b) (facts.below first_stamp b is)
+
   -- u does not lie between t and its base
   abbrev IsOutside : Stamp → Stamp → Type 0
   IsOutside u t = (b : Stamp) → base t ≡ Some b → IsBetween b u t → ⊥
 
-  -- what was made on u is above u: where neither it nor t lies between the other and its base, u is outside too
+  -- w was made on u: where neither w nor t lies between the other and its base, u does not lie between t and its base
   base_outside : (w u t : Stamp) → base w ≡ Some u → IsOutside w t → IsOutside t w → IsOutside u t
   base_outside w u t on outside crossed b is between =
       ⊎_elim
@@ -67,12 +71,12 @@ module _ (Stands : Stamp → Type 0) (base : Stamp → Option Stamp) (facts : Ba
       (cases_Bool (stamp_below t w)))
       (cases_Bool (stamp_below w t))
 
-  -- up the chain of t: where u is outside everything, everything is outside u
+  -- where u lies between no effective version and its base, no effective version lies between u and its base: by the chain down to t
   all_outside : (u : Stamp) → ((t : Stamp) → IsEffective Stands base t → IsOutside u t) → (t : Stamp) → IsEffective Stands base t → IsOutside t u
   all_outside u outside t (Standing _ stands) = λ b is between. facts.none_between u b t is stands between
   all_outside u outside t (BaseOf w _ effective on) = base_outside w t u on (all_outside u outside w effective) (outside w effective)
 
-  -- up the chain of u: neither of two effective versions lies between the other and its base
+  -- neither of two effective versions lies between the other and its base: by the chain down to u
   both_outside : (u : Stamp) → IsEffective Stands base u → (t : Stamp) → IsEffective Stands base t → IsOutside u t × IsOutside t u
   both_outside u (Standing _ stands) t effective = (
     λ b is between. facts.none_between t b u is stands between,

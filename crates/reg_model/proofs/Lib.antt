@@ -3,4 +3,5 @@ pub mod EntryOrder
 pub mod Fits
 pub mod MarkLists
 pub mod Places
+pub mod Versions
 pub mod Walk

@@ -1,6 +1,6 @@
 -- A stripe's versions by rising stamp, and which of them was made on which. A version that a recovery or a write of one block makes has
 -- a base: the version whose blocks its maker read (Frølund et al. 2004). A write of the whole stripe has none.
-use Rattle.std.specs.Prelude.{◌≡◌, Bool, true, ◌⊎◌, List, ◌∷◌, length, Option, Some, None, All, Contains}
+use Rattle.std.specs.Prelude.{◌≡◌, true, ◌⊎◌, if◌then◌else◌, List, [], ◌∷◌, length, Option, Some, None, All, Contains}
 use Rattle.std.specs.List.{AllAdjacentBelow}
 use Rattle.fab_base.specs.declared.stamps.Stamp.{Stamp}
 use Rattle.fab_base.specs.Stamps.{stamp_below, first_stamp}
@@ -37,3 +37,13 @@ pub record AreEffective (Stands : Stamp → Type 0) (base : Stamp → Option Sta
   pub ascend : Ascends versions
   pub effective : All (λ v. IsEffective Stands base v) versions
   pub complete : (t : Stamp) → IsEffective Stands base t → stamp_below first_stamp t ≡ true → Contains versions t
+
+-- a stamp in its place among rising stamps, where it stands once
+abbrev pub added : Stamp → List Stamp → List Stamp
+added t [] = t ∷ []
+added t (v ∷ versions) = if stamp_below t v then t ∷ (v ∷ versions) else (if stamp_below v t then v ∷ added t versions else v ∷ versions)
+
+-- the stamps above the first, rising, each once
+abbrev pub versions_of : List Stamp → List Stamp
+versions_of [] = []
+versions_of (t ∷ stamps) = if stamp_below first_stamp t then added t (versions_of stamps) else versions_of stamps

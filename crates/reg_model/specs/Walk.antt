@@ -74,7 +74,7 @@ abbrev pub IsMadeFrom : ℕ → List Mark → (Stamp → List ℕ) → List Entr
 IsMadeFrom block marks content entries u v =
     Any (λ e. IsMaker v e × (content v ≡ after_life block (content u) (life_of marks e.operation))) entries
 
--- no maker of v stands among the entries, and v has the content of u: a recovery that was not answered wrote it back
+-- no maker of v stands among the entries, and v has the content of u: a recovery that answered nobody wrote it back
 abbrev pub IsWrittenBack : (Stamp → List ℕ) → List Entry → Stamp → Stamp → Type 0
 IsWrittenBack content entries u v = (IsMade entries v → ⊥) × (content v ≡ content u)
 
