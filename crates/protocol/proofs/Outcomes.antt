@@ -1,5 +1,5 @@
 -- What a coordinator decides once a reply counts, by its phase.
-use Rattle.std.proofs.Common.{◌≡◌, ℕ, ◌+◌, ◌<◌, ◌≤◌, ◌⊎◌, inl, inr, true, false, List, [], length, Option, Some, None, is_some, refl, sym, ◌∙◌}
+use Rattle.std.proofs.Common.{◌≡◌, ℕ, ◌+◌, ◌<◌, ◌≤◌, ◌⊎◌, inl, inr, true, false, List, [], length, Option, Some, None, is_some, refl, sym, ◌∙◌, arith}
 use Rattle.std.specs.Prelude.{nat_lt}
 use Rattle.std.proofs.lemmas.Bool.{cond_both, ltb-true, ltb-false}
 use Rattle.fab_base.specs.declared.asks.Ask.{Ask}
@@ -49,6 +49,13 @@ first_round Orders = 1
 first_round Recovers = 2
 first_round (Descends bound) = 1
 first_round Stores = 1
+
+pub first_round_above : (p : Phase) → 1 ≤ first_round p
+first_round_above Looks = omega arith
+first_round_above Orders = omega arith
+first_round_above Recovers = omega arith
+first_round_above (Descends bound) = omega arith
+first_round_above Stores = omega arith
 
 -- an order that was refused is in its next round, with the fresh stamp
 pub record ReordersFits (fresh : Option Stamp) (c d : Coordinator) : Type 0 where
