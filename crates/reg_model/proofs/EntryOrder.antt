@@ -30,7 +30,7 @@ turn_below_asym true false k l h = cc
 turn_below_asym true true k l h = grind (arith, nat_tests)
 
 -- where a is not before b, its stamp is not below, and of one version its turn is not before
-not_before_parts : (a b : Entry) → entry_below a b ≡ false
+pub not_before_parts : (a b : Entry) → entry_below a b ≡ false
     → (stamp_below a.stamp b.stamp ≡ false) × (a.stamp ≡ b.stamp → turn_below a.reader a.operation b.reader b.operation ≡ false)
 unfolding entry_below
 not_before_parts a b h =
