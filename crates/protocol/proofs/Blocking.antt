@@ -76,19 +76,17 @@ twice_quorum : (m n : ℕ) → m ≤ n → n + m ≤ (n - (n - m) / 2) + (n - (n
 twice_quorum m n most = omega arith
 
 -- a stamp is blocked where so many seats pass it by that with m more they would be more than a quorum
-pub blocked_by : (w : World) (g s : ℕ) (group : Group) (d : Stamp) (test : ℕ → Bool) → IsWithinLimits group.m (length group.members)
-    → quorum_of group < count (length group.members) test + group.m
-    → ((k : ℕ) → k < length group.members → test k ≡ true
-    → (stamp_below d (top_of (part_of w g s (brick_at group k))) ≡ true) × (is_held d (part_of w g s (brick_at group k)).log ≡ false))
-    → IsBlocked w g s group d
-blocked_by w g s group d test limits many passes =
-    let more = count_monotone (length group.members) test (passes_by w g s group d)
-    (λ k below is.
-    let pass = passes k below is in
-    and_from (stamp_below d (top_of (part_of w g s (brick_at group k)))) (not (is_held d (part_of w g s (brick_at group k)).log)) pass.0
-    (not_from_false (is_held d (part_of w g s (brick_at group k)).log) pass.1)) in
-    let twice = twice_quorum group.m (length group.members) limits.enough_seats in
-    omega (arith, many, more, twice)
+pub blocked_by : (w : World) (g s : ℕ) (group : Group) (d : Stamp) → IsWithinLimits group.m (length group.members)
+    → quorum_of group < count (length group.members) (passes_by w g s group d) + group.m → IsBlocked w g s group d
+blocked_by w g s group d limits many =
+    let twice = twice_quorum group.m (length group.members) limits.enough_seats in omega (arith, many, twice)
+
+-- a part that is above a stamp, and does not hold it
+pub passes : (w : World) (g s : ℕ) (group : Group) (d : Stamp) (seat : ℕ) → stamp_below d (top_of (part_of w g s (brick_at group seat))) ≡ true
+    → is_held d (part_of w g s (brick_at group seat)).log ≡ false → passes_by w g s group d seat ≡ true
+passes w g s group d seat above isnt =
+    and_from (stamp_below d (top_of (part_of w g s (brick_at group seat)))) (not (is_held d (part_of w g s (brick_at group seat)).log)) above
+    (not_from_false (is_held d (part_of w g s (brick_at group seat)).log) isnt)
 
 cell_split : (a b : Bool) → one_if a ≤ one_if (a && b) + one_if (a && not b)
 cell_split true true = omega arith
