@@ -210,6 +210,7 @@ module _ (setting : Setting) (w : World) (stamps : Stamping) (me : BrickId) (ask
         last = stamp_last stamps me.0 c.call.seq c.call.phase first none from;
         fits = fits;
         unbased = λ orders. refl;
+        above = λ bound descends. absurd (not_descends ask.op bound descends);
         below = λ bound descends. absurd (not_descends ask.op bound descends);
         covered = λ bound descends. absurd (not_descends ask.op bound descends);
         stores = λ stores. absurd (not_stores ask.op stores);

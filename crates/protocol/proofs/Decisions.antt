@@ -135,7 +135,7 @@ recovery_same stamps i k p phase t u bound b begun (inr looks) (inr lower) =
     (sym same.1, let e : b ≡ bound = cc in e)
 
 -- a quorum has at least m seats
-quorum_enough : (m n : ℕ) → m ≤ n → m ≤ n - (n - m) / 2
+pub quorum_enough : (m n : ℕ) → m ≤ n → m ≤ n - (n - m) / 2
 quorum_enough m n le = omega arith
 
 module _ (setting : Setting) (sound : IsSound setting) (w : World) (stamps : Stamping) (me : BrickId) (c : Coordinator) (group : Group)

@@ -330,6 +330,7 @@ module _ (setting : Setting) (w next : World) (stamps later : Stamping) (books :
     last = λ p less. same p ∙ says.last p less;
     fits = says.fits;
     unbased = says.unbased;
+    above = says.above;
     below = says.below;
     covered = λ bound is.
         stay_blocked c.ask.group.0 c.ask.stripe.0 (λ d. (stamp_below d bound ≡ false) × (stamp_below d c.stamp ≡ true)) (says.covered bound is);

@@ -8,7 +8,7 @@ use Rattle.fab_base.specs.declared.stamps.Stamp.{Stamp}
 use Rattle.fab_base.specs.declared.asks.Op.TheVariants.{ReadStripe, WriteStripe}
 use Rattle.fab_base.specs.declared.answers.Answer.TheVariants.{Data}
 use Rattle.fab_base.specs.Stamps.{stamp_below, first_stamp}
-use Rattle.fab_base.proofs.StampOrder.{stamp_below_first, stamp_not_below_trans, stamp_neither_below}
+use Rattle.fab_base.proofs.StampOrder.{stamp_not_below_trans, stamp_neither_below}
 use Rattle.fab_wire.specs.declared.calls.Call.{Call}
 use Rattle.fab_wire.specs.declared.messages.Message.TheVariants as Message
 use Rattle.fab_wire.specs.declared.requests.Request.TheVariants as Request
@@ -28,6 +28,7 @@ use Rattle.protocol.proofs.Said.{Stamping, Said, IsSaid, IsStamped, IsMadeOrFirs
 use Rattle.protocol.proofs.Blocking.{blocked_never_stands}
 use Rattle.protocol.proofs.Tables.{seat_within, brick_at_seat}
 use Rattle.protocol.proofs.Lives.{answered_has_end}
+use Rattle.protocol.proofs.Stampings.{above_first}
 use Rattle.protocol.proofs.OwnStamps.{maker_stamp, made_later, operation_unique}
 use Rattle.protocol.proofs.SaidAlways.{said_first, said_run}
 
@@ -131,13 +132,6 @@ module _ (setting : Setting) (sound : IsSound setting) (w : World) (stamps : Sta
         none_between = λ u stands above less.
             blocked_never_stands w o.ask.group.0 o.ask.stripe.0 its.group u (back.blocked its.group its.group_is u (above, less)) (stands its.group its.group_is);
       }
-
-  -- the first stamp is below any other
-  above_first : (t : Stamp) → (t ≡ first_stamp → ⊥) → stamp_below first_stamp t ≡ true
-  above_first t other = ⊎_elim
-      (λ (above : stamp_below first_stamp t ≡ true). above)
-      (λ (isnt : stamp_below first_stamp t ≡ false). absurd (other (stamp_neither_below t first_stamp (stamp_below_first t) isnt)))
-      (cases_Bool (stamp_below first_stamp t))
 
   maker_holds : (n : ℕ) (o : Operation) (t : Stamp) → IsOperation w n o → o.made ≡ true → o.version ≡ Some t → MakerFacts setting w o t
   maker_holds n o t is made version = record {

@@ -1,30 +1,32 @@
 -- What a quorum of replies to a recovery decides: nothing that a quorum holds, or ever will, lies between the greatest version found and the
 -- recovery's stamp; nor that version itself, where too few blocks of it were found.
-use Rattle.std.proofs.Common.{◌≡◌, ℕ, ◌+◌, ◌-◌, ◌/◌, ◌<◌, ◌≤◌, ◌⊎◌, inl, inr, Bool, true, false, not, List, length, Option, Some, None, refl, sym, ap, ◌∙◌, subst, ⊎_elim, arith}
+use Rattle.std.proofs.Common.{◌≡◌, ℕ, ◌+◌, ◌-◌, ◌/◌, ◌<◌, ◌≤◌, ◌⊎◌, inl, inr, Bool, true, false, not, List, [], ◌∷◌, length, Option, Some, None, refl, sym, ap, ◌∙◌, subst, ⊎_elim, arith}
 use Rattle.std.specs.Prelude.{filter}
 use Rattle.std.specs.Option.{option_map}
-use Rattle.std.proofs.lemmas.Bool.{false≢true, cases_Bool, not-true}
+use Rattle.std.proofs.lemmas.Bool.{cond_both, false≢true, cases_Bool, not-true}
 use Rattle.std.proofs.lemmas.Option.{same_Some}
 use Rattle.std.proofs.lemmas.List.Filters.{length-filter_both}
 use Rattle.fab_base.specs.declared.identities.BrickId.{BrickId}
 use Rattle.fab_base.specs.declared.stamps.Stamp.{Stamp}
-use Rattle.fab_base.specs.Stamps.{stamp_below, stamp_same}
+use Rattle.fab_base.specs.Stamps.{stamp_below, stamp_same, first_stamp}
 use Rattle.fab_base.proofs.StampOrder.{stamp_not_below_trans, stamp_below_trans, stamp_neither_below, stamp_same_refl, stamp_same_true}
 use Rattle.fab_base.specs.declared.asks.Ask.{Ask}
 use Rattle.fab_wire.specs.declared.requests.Version.{Version}
 use Rattle.fab_wire.specs.declared.replies.Reply.{Reply}
 use Rattle.quorum.specs.Quorums.{count, IsWithinLimits}
+use Rattle.quorum.proofs.Counts.{count_full}
 use Rattle.protocol.specs.Settings.{Setting, Group, group_of, quorum_of, IsSound}
 use Rattle.protocol.specs.Replicas.{Replica, top_of, is_held}
-use Rattle.protocol.specs.Coordinators.{Coordinator, Counted, Recovers, Descends, told_in, told_stamp, finds, bytes_of, pieces_at, greatest_found}
+use Rattle.protocol.specs.Coordinators.{Coordinator, Counted, Recovers, Descends, told_in, told_stamp, finds, bytes_of, pieces_at, greater_stamp, greatest_found}
 use Rattle.protocol.specs.Worlds.{World, Operation}
 use Rattle.protocol.specs.Laws.{part_of, brick_at, IsBlocked}
 use Rattle.protocol.proofs.Books.{Books, CallBooks, IsCall}
 use Rattle.protocol.proofs.Logs.{IsWithin, below_above}
-use Rattle.protocol.proofs.Blocking.{passes_by, passes, blocked_by}
-use Rattle.protocol.proofs.Said.{Stamping, Said, IsContent, IsMadeOrFirst, CallSays, CountedSays, EachCounted, AreOnce}
+use Rattle.protocol.proofs.Blocking.{passes_by, passes, blocked_by, blocked_never_stands}
+use Rattle.protocol.proofs.Said.{Stamping, Said, IsContent, IsMadeOrFirst, IsStampOf, CallSays, CountedSays, EachCounted, AreOnce}
 use Rattle.protocol.proofs.Counting.{each_then, each_both, each_filter, once_filter, at_seats, TellsAtMost, found_most, found_one, IsPieceOf, are_pieces, pieces_length}
-use Rattle.protocol.proofs.Decisions.{PromisesAt, ReadsAt, LooksBelow, content_formed}
+use Rattle.protocol.proofs.Stampings.{not_first, above_first}
+use Rattle.protocol.proofs.Decisions.{quorum_enough, PromisesAt, ReadsAt, LooksBelow, content_formed}
 
 -- the version that is told
 told_version_is : (x : Counted) (found : Option Version) (v : Stamp) → told_in x.reply ≡ found → told_stamp x.reply ≡ Some v
@@ -48,6 +50,58 @@ told_finds v seat brick (Reply.Found order (Some version)) is =
 told_finds v seat brick (Reply.OrderedRead (Some version)) is =
     subst (λ (t : Stamp). stamp_same t v ≡ true) (sym (same_Some version.stamp v is)) (stamp_same_refl v)
 told_finds v seat brick reply is = cc
+
+-- nothing is told where nothing is found
+none_told : (found : Option Version) → option_map (λ (z : Version). z.stamp) found ≡ None → found ≡ None
+none_told None is = refl
+none_told (Some version) is = cc
+
+-- neither of two stamps is there, where the greater is not
+none_greater : (a b : Option Stamp) → greater_stamp a b ≡ None → a ≡ None
+none_greater None b is = refl
+none_greater (Some a) None is = is
+none_greater (Some a) (Some b) is =
+    cond_both (stamp_below a b) (Some b) (Some a) (λ (z : Option Stamp). z ≡ None → Some a ≡ None) (λ less e. cc) (λ above e. cc) is
+
+module _ (setting : Setting) (sound : IsSound setting) (w : World) (stamps : Stamping) (me : BrickId) (c : Coordinator) (group : Group)
+    (books : Books setting w) (said : Said setting w stamps) (is : IsCall w me.0 c.call.seq c)
+    (group_is : group_of setting.layout c.ask.group.0 ≡ Some group)
+    (counted : List Counted) (each : EachCounted (CountedSays setting w me.0 c) counted) (once : AreOnce counted)
+    (many : quorum_of group ≤ length counted) (bound : Stamp) (looks : LooksBelow c bound)
+    (all : EachCounted (ReadsAt setting sound w stamps me c group books said is group_is counted each once many bound) counted) where
+  -- what a reply reads
+  abbrev Reading : Counted → Type 0
+  Reading x = ReadsAt setting sound w stamps me c group books said is group_is counted each once many bound x
+
+  -- the bound is above the first stamp
+  first_under : stamp_below first_stamp bound ≡ true
+  first_under = ⊎_elim
+      (λ (own : (c.phase ≡ Recovers) × (bound ≡ c.stamp)).
+      let its_stamp : IsStampOf (w.nodes me.0).known me.0 c.stamp
+      = said.stamps_say.are me.0 c.call.seq c.call.phase c.stamp (c.phase, (said.calls me.0 c.call.seq c is).begun) in
+      subst (λ (t : Stamp). stamp_below first_stamp t ≡ true) (sym own.1) (above_first c.stamp (not_first (w.nodes me.0).known me.0 c.stamp its_stamp)))
+      (λ (lower : c.phase ≡ Descends bound). (said.calls me.0 c.call.seq c is).above bound lower)
+      looks
+
+  -- a reply tells some version, since each member holds the first
+  tells_some : (x : Counted) → Reading x → told_stamp x.reply ≡ None → ⊥
+  tells_some x reads nothing =
+      let none : reads.found ≡ None = none_told reads.found (sym (ap (option_map (λ (z : Version). z.stamp)) reads.found_is) ∙ nothing) in
+      subst (λ (z : Option Version). IsWithin z first_stamp) none
+      (reads.newest first_stamp
+      (said.first_held (books.calls me.0 c.call.seq c is).operation.ask.group.0 (books.calls me.0 c.call.seq c is).operation.ask.stripe.0 (brick_at group x.seat))
+      first_under)
+
+  each_some : (l : List Counted) → EachCounted Reading l → greatest_found l ≡ None → 1 ≤ length l → ⊥
+  each_some [] reads nothing some = absurd (omega arith)
+  each_some (x ∷ l) reads nothing some = tells_some x reads.0 (none_greater (told_stamp x.reply) (greatest_found l) nothing)
+
+  -- so a quorum of replies finds one
+  pub something_found : greatest_found counted ≡ None → ⊥
+  something_found nothing =
+      let limits : IsWithinLimits group.m (length group.members) = sound.limits c.ask.group.0 group group_is in
+      let enough : group.m ≤ quorum_of group = quorum_enough group.m (length group.members) limits.enough_seats in
+      each_some counted all nothing (omega (arith, limits.some_block, enough, many))
 
 module _ (setting : Setting) (sound : IsSound setting) (w : World) (stamps : Stamping) (me : BrickId) (c : Coordinator) (group : Group)
     (books : Books setting w) (said : Said setting w stamps) (is : IsCall w me.0 c.call.seq c)
@@ -189,6 +243,16 @@ module _ (setting : Setting) (sound : IsSound setting) (w : World) (stamps : Sta
       let split : length (filter (finds v) counted) + length others ≡ length counted = length-filter_both (finds v) test (λ x. refl) counted in
       let pieces : length (pieces_at v counted) ≡ length (filter (finds v) counted) = pieces_length (filter (finds v) counted) in
       blocked_by w o.ask.group.0 o.ask.stripe.0 group v limits (omega (arith, seats, split, pieces, few, many))
+
+  -- such a version is not the first, which each member holds
+  pub version_above : length (pieces_at v counted) < group.m → stamp_below first_stamp v ≡ true
+  version_above few =
+      above_first v (λ first.
+      blocked_never_stands w o.ask.group.0 o.ask.stripe.0 group first_stamp
+      (subst (λ (t : Stamp). IsBlocked w o.ask.group.0 o.ask.stripe.0 group t) first (too_few_blocked few))
+      (let full = count_full (length group.members) (λ seat. is_held first_stamp (part seat).log)
+      (λ k below. said.first_held o.ask.group.0 o.ask.stripe.0 (brick_at group k)) in
+      omega (arith, full)))
 
   -- a reply that finds v tells its seat's block
   piece_at : (x : Counted) → Reads x → finds v x ≡ true

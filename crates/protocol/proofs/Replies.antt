@@ -16,7 +16,7 @@ use Rattle.fab_wire.specs.declared.messages.Message.TheVariants as Message
 use Rattle.fab_wire.specs.declared.replies.Reply.{Reply}
 use Rattle.protocol.specs.Settings.{Setting, Code, Group, group_of, quorum_of, IsSound, seat_in}
 use Rattle.protocol.specs.Replicas.{is_held}
-use Rattle.protocol.specs.Coordinators.{Coordinator, Refuser, Phase, Looks, Orders, Recovers, Descends, Stores, Next, Waits, Sends, Makes, Ends, answers_phase, has_seat, counts_at, fast_version, pieces_of, pieces_at, greatest_found, greatest_refuser, stored_by, in_phase, restoring, reordering, forgetting, most_rounds, aborted_by, unless_refused, ordered_again, once_ordered, answered_fast, read_back, answer_of, decided, with_reply, once_full, counted_at, on_reply}
+use Rattle.protocol.specs.Coordinators.{Coordinator, Refuser, Phase, Looks, Orders, Recovers, Descends, Stores, Next, Waits, Sends, Makes, Ends, answers_phase, has_seat, counts_at, fast_version, pieces_of, pieces_at, greatest_found, greatest_refuser, stored_by, in_phase, restoring, reordering, most_rounds, aborted_by, unless_refused, ordered_again, once_ordered, answered_fast, read_back, answer_of, decided, with_reply, once_full, counted_at, on_reply}
 use Rattle.protocol.specs.Nodes.{Node, with_known, with_call, carried_out}
 use Rattle.protocol.specs.Worlds.{World, Operation, world_stepped}
 use Rattle.protocol.specs.Laws.{WasSent, part_of, brick_at, AtQuorum, IsGuarded, IsBlocked}
@@ -29,7 +29,7 @@ use Rattle.protocol.proofs.Stampings.{ComesFrom, stamps_same, later_unknown}
 use Rattle.protocol.proofs.Growth.{Grows, stays_call}
 use Rattle.protocol.proofs.Steps.{keeps_same, quiet, quiet_grows, said_quiet, stamps_stay_by}
 use Rattle.protocol.proofs.Decisions.{PromisesAt, ReadsAt, LooksBelow, all_ordered, all_read, promises_guard, promises_floors, stored_stands, fast_guards, fast_floors, fast_stands, fast_made, fast_decodes, content_formed}
-use Rattle.protocol.proofs.Recoveries.{version_lower, version_made, between_blocked, too_few_blocked, read_decodes}
+use Rattle.protocol.proofs.Recoveries.{something_found, version_lower, version_above, version_made, between_blocked, too_few_blocked, read_decodes}
 use Rattle.protocol.proofs.Stores.{said_made}
 use Rattle.protocol.proofs.Sends.{IsCovered, AsksPromises, said_sent}
 use Rattle.protocol.proofs.Ends.{WillShow, said_ended}
@@ -165,26 +165,13 @@ module _ (setting : Setting) (sound : IsSound setting) (w : World) (stamps : Sta
       last = says.last;
       fits = says.fits;
       unbased = says.unbased;
+      above = says.above;
       below = says.below;
       covered = says.covered;
       stores = says.stores;
       counted = each_then (CountedSays setting w me.0 c) (CountedSays setting w me.0 d) d.counted
           (λ x h. record { sent = h.sent; answers = h.answers; seat = h.seat }) each;
       once = once;
-    }
-
-    -- the coordinator, once it forgot the replies
-    forgets : CallSays setting w stamps me.0 c.call.seq (forgetting d)
-    forgets = record {
-      begun = says.begun;
-      last = says.last;
-      fits = says.fits;
-      unbased = says.unbased;
-      below = says.below;
-      covered = says.covered;
-      stores = says.stores;
-      counted = tt;
-      once = tt;
     }
 
     -- the operation's group, by the stripe that is asked for
@@ -307,7 +294,8 @@ module _ (setting : Setting) (sound : IsSound setting) (w : World) (stamps : Sta
           descends_on few =
               said_sent setting w stamps me c group known books said is more_known c.stamp c.round (Descends v) own_of own_from
               reads (λ bad. absurd (let never : ⊥ = cc in never))
-              (lower, of_ask (λ a. AreBlocked setting w a.group.0 a.stripe.0 (IsCovered v c.stamp)) (covered few))
+              (version_above setting sound w stamps me c group books said is group_is d.counted each once many bound looks all v greatest few,
+              lower, of_ask (λ a. AreBlocked setting w a.group.0 a.stripe.0 (IsCovered v c.stamp)) (covered few))
 
           restores_on : group.m ≤ length (pieces_at v d.counted)
               → IsSaid setting (after (Makes (restoring d v (setting.code.decode group.m (pieces_at v d.counted)))))
@@ -334,7 +322,7 @@ module _ (setting : Setting) (sound : IsSound setting) (w : World) (stamps : Sta
               }))
 
         reads_on : (z : Option Stamp) → greatest_found d.counted ≡ z → IsSaid setting (after (read_back setting.code group.m d z))
-        reads_on None nothing = said_waits (forgetting d) forgets
+        reads_on None nothing = absurd (something_found setting sound w stamps me c group books said is group_is d.counted each once many bound looks all nothing)
         reads_on (Some v) greatest =
             cond_both (nat_lt (length (pieces_at v d.counted)) group.m) (Sends (in_phase d (Descends v)))
             (Makes (restoring d v (setting.code.decode group.m (pieces_at v d.counted)))) (λ (z : Next). IsSaid setting (after z))

@@ -244,13 +244,14 @@ abbrev pub AreOnce : List Counted → Type 0
 AreOnce [] = Unit {0}
 AreOnce (x ∷ counted) = (has_seat x.seat counted ≡ false) × AreOnce counted
 
--- the open operation of brick i's call k. Its present phase is the last that was begun; where it looks below a bound, no quorum will ever hold
--- a version from there up to its stamp; and where it stores, it stores the content of its version.
+-- the open operation of brick i's call k. Its present phase is the last that was begun; where it looks below a bound, which is above the first
+-- stamp, no quorum will ever hold a version from there up to its stamp; and where it stores, it stores the content of its version.
 pub record CallSays (setting : Setting) (w : World) (stamps : Stamping) (i k : ℕ) (c : Coordinator) : Type 0 where
   pub begun : IsBegun stamps i k c.call.phase c.phase c.stamp
   pub last : (p : ℕ) → c.call.phase < p → stamps i k p ≡ None
   pub fits : FitsPhase c.phase c.ask.op
   pub unbased : c.phase ≡ Orders → c.base ≡ None
+  pub above : (bound : Stamp) → c.phase ≡ Descends bound → stamp_below first_stamp bound ≡ true
   pub below : (bound : Stamp) → c.phase ≡ Descends bound → stamp_below bound c.stamp ≡ true
   pub covered : (bound : Stamp) → c.phase ≡ Descends bound
       → AreBlocked setting w c.ask.group.0 c.ask.stripe.0 (λ d. (stamp_below d bound ≡ false) × (stamp_below d c.stamp ≡ true))
@@ -286,6 +287,7 @@ pub record Said (setting : Setting) (w : World) (stamps : Stamping) : Type 0 whe
   pub stamps_say : StampsSay w stamps
   pub tops : (g s i : ℕ) → IsKnown stamps (top_of (part_of w g s i))
   pub ascends : (g s i : ℕ) → LogAscends (part_of w g s i).log
+  pub first_held : (g s i : ℕ) → is_held first_stamp (part_of w g s i).log ≡ true
   pub logs : (g s i k : ℕ) (version : Version) → slice_get (part_of w g s i).log k ≡ Some version → VersionSays setting w g s i version
   pub packets : (k : ℕ) (packet : Packet) → slice_get w.packets k ≡ Some packet → PacketSays setting w stamps packet
   pub operations : (n : ℕ) (o : Operation) → IsOperation w n o → OperationSays setting w stamps n o

@@ -3,7 +3,7 @@ use Rattle.std.proofs.Common.{◌≡◌, ℕ, ◌+◌, ◌≤◌, max, ◌⊎◌
 use Rattle.std.specs.Prelude.{slice_get}
 use Rattle.fab_base.specs.declared.identities.BrickId.{BrickId}
 use Rattle.fab_base.specs.declared.stamps.Stamp.{Stamp}
-use Rattle.fab_base.specs.Stamps.{stamp_below}
+use Rattle.fab_base.specs.Stamps.{stamp_below, first_stamp}
 use Rattle.fab_wire.specs.declared.messages.Packet.{Packet}
 use Rattle.protocol.specs.Settings.{Setting, Group}
 use Rattle.protocol.specs.Coordinators.{Coordinator, Phase, Looks, Orders, Recovers, Descends, Stores, next_phase, request_of}
@@ -20,12 +20,13 @@ use Rattle.protocol.proofs.Steps.{keeps_same, seqs_by, known_by, quiet, quiet_gr
 abbrev pub IsCovered : Stamp → Stamp → Stamp → Type 0
 IsCovered bound t d = (stamp_below d bound ≡ false) × (stamp_below d t ≡ true)
 
--- a phase that asks for promises of t; where it looks below a bound, no quorum holds anything from there up to t
+-- a phase that asks for promises of t; where it looks below a bound above the first stamp, no quorum holds anything from there up to t
 abbrev pub AsksPromises : Setting → World → ℕ → ℕ → Stamp → Phase → Type 0
 AsksPromises setting w g s t Looks = ⊥
 AsksPromises setting w g s t Orders = Unit {0}
 AsksPromises setting w g s t Recovers = Unit {0}
-AsksPromises setting w g s t (Descends bound) = (stamp_below bound t ≡ true) × AreBlocked setting w g s (IsCovered bound t)
+AsksPromises setting w g s t (Descends bound) =
+    (stamp_below first_stamp bound ≡ true) × (stamp_below bound t ≡ true) × AreBlocked setting w g s (IsCovered bound t)
 AsksPromises setting w g s t Stores = ⊥
 
 module _ (setting : Setting) (w : World) (stamps : Stamping) (me : BrickId) (c : Coordinator) (group : Group) (known : ℕ) (books : Books setting w)
@@ -92,7 +93,7 @@ module _ (setting : Setting) (w : World) (stamps : Stamping) (me : BrickId) (c :
   request_says Looks bad at j seat = absurd bad
   request_says Orders ok at j seat = (at, (o, called))
   request_says Recovers ok at j seat = (refl, inl (refl, at), (o, called))
-  request_says (Descends bound) ok at j seat = (refl, inr (ok.0, at), (o, called))
+  request_says (Descends bound) ok at j seat = (refl, inr (ok.1, at), (o, called))
   request_says Stores bad at j seat = absurd bad
 
   packets : (k : ℕ) (packet : Packet) → slice_get more k ≡ Some packet → PacketSays setting next later packet
@@ -109,9 +110,10 @@ module _ (setting : Setting) (w : World) (stamps : Stamping) (me : BrickId) (c :
     last = stamp_last stamps me.0 c.call.seq (c.call.phase + 1) begun none from;
     fits = fits;
     unbased = unbased;
-    below = λ bound descends. (asks_as (Descends bound) descends).0;
+    above = λ bound descends. (asks_as (Descends bound) descends).0;
+    below = λ bound descends. (asks_as (Descends bound) descends).1;
     covered = λ bound descends.
-        stay_blocked setting w next stamps later books grows c.ask.group.0 c.ask.stripe.0 (IsCovered bound t) (asks_as (Descends bound) descends).1;
+        stay_blocked setting w next stamps later books grows c.ask.group.0 c.ask.stripe.0 (IsCovered bound t) (asks_as (Descends bound) descends).2;
     stores = λ stores. absurd (asks_as Stores stores);
     counted = tt;
     once = tt;

@@ -1,8 +1,10 @@
 -- The stamps of phases, and how they grow: a phase that is begun takes a stamp of its own call, or one that nobody knew.
-use Rattle.std.proofs.Common.{◌≡◌, ℕ, ◌<◌, ◌≤◌, ◌⊎◌, inl, inr, Option, Some, None, refl, sym, ap, ◌∙◌, subst, ⊎_elim, arith}
+use Rattle.std.proofs.Common.{◌≡◌, ℕ, ◌<◌, ◌≤◌, ◌⊎◌, inl, inr, true, false, Option, Some, None, refl, sym, ap, ◌∙◌, subst, ⊎_elim, arith}
+use Rattle.std.proofs.lemmas.Bool.{cases_Bool}
 use Rattle.std.proofs.lemmas.Option.{same_Some}
 use Rattle.fab_base.specs.declared.stamps.Stamp.{Stamp}
-use Rattle.fab_base.specs.Stamps.{first_stamp}
+use Rattle.fab_base.specs.Stamps.{stamp_below, first_stamp}
+use Rattle.fab_base.proofs.StampOrder.{stamp_below_first, stamp_neither_below}
 use Rattle.protocol.specs.Nodes.{put}
 use Rattle.protocol.specs.Worlds.{World}
 use Rattle.protocol.specs.Coordinators.{Phase}
@@ -51,6 +53,13 @@ stamps_stay w next stamps say known seqs = record {
 -- a brick's stamp is not the first one
 pub not_first : (known i : ℕ) (t : Stamp) → IsStampOf known i t → t ≡ first_stamp → ⊥
 not_first known i t is first = let view : t.view.0 ≡ 0 = ap (λ (z : Stamp). z.view.0) first in absurd (omega (arith, view, is.view))
+
+-- the first stamp is below any other
+pub above_first : (t : Stamp) → (t ≡ first_stamp → ⊥) → stamp_below first_stamp t ≡ true
+above_first t other = ⊎_elim
+    (λ (above : stamp_below first_stamp t ≡ true). above)
+    (λ (isnt : stamp_below first_stamp t ≡ false). absurd (other (stamp_neither_below t first_stamp (stamp_below_first t) isnt)))
+    (cases_Bool (stamp_below first_stamp t))
 
 -- nobody knows a brick's stamp of a time above all that the brick knows
 pub later_unknown : (w : World) (stamps : Stamping) → StampsSay w stamps → (known i : ℕ) (t : Stamp) → IsStampOf known i t → (w.nodes i).known < t.time

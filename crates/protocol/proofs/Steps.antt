@@ -44,6 +44,7 @@ pub said_after : (setting : Setting) (w next : World) (stamps later : Stamping) 
 said_after setting w next stamps later books said grows owes = record {
   stamps_say = owes.stamps_say;
   ascends = λ g s i. grows.parts.ascends g s i (said.ascends g s i);
+  first_held = λ g s i. grows.parts.held g s i first_stamp (said.first_held g s i);
   tops = λ g s i. ⊎_elim
       (λ (same : top_of (part_of next g s i) ≡ top_of (part_of w g s i)).
       subst (λ (t : Stamp). IsKnown later t) (sym same) (stays_known stamps later grows.grow (top_of (part_of w g s i)) (said.tops g s i)))

@@ -377,6 +377,7 @@ module _ (setting : Setting) (sound : IsSound setting) (w : World) (stamps : Sta
         last = stamp_last stamps me.0 c.call.seq (c.call.phase + 1) begun none from;
         fits = tt;
         unbased = λ bad. cc;
+        above = λ bound bad. cc;
         below = λ bound bad. cc;
         covered = λ bound bad. absurd (let never : ⊥ = cc in never);
         stores = λ stores. (subst (λ (a : Ask). IsMadeOrFirst next a.group.0 a.stripe.0 c.stamp) (sym its.ask) made_now, sym content_now);
