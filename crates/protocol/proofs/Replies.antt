@@ -9,7 +9,7 @@ use Rattle.fab_base.specs.declared.asks.Op.{Op}
 use Rattle.fab_base.specs.declared.asks.Op.TheVariants.{ReadBlock, WriteBlock, ReadStripe, WriteStripe}
 use Rattle.fab_base.specs.Stamps.{stamp_below}
 use Rattle.fab_base.proofs.StampOrder.{stamp_neither_below}
-use Rattle.fab_base.specs.declared.answers.Answer.TheVariants.{Data, Done, Aborted}
+use Rattle.fab_base.specs.declared.answers.Answer.TheVariants.{Data, Aborted}
 use Rattle.fab_base.specs.declared.answers.Cause.TheVariants as Cause
 use Rattle.fab_wire.specs.declared.calls.Call.{Call}
 use Rattle.fab_wire.specs.declared.messages.Message.TheVariants as Message
