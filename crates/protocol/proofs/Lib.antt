@@ -9,6 +9,7 @@ pub mod BooksTurns
 pub mod Counting
 pub mod CountsAt
 pub mod Decisions
+pub mod Effects
 pub mod Ends
 pub mod Entries
 pub mod EveryRun
