@@ -1,4 +1,5 @@
 pub mod Begins
+pub mod Blocking
 pub mod Books
 pub mod BooksBegins
 pub mod BooksEnds
@@ -16,6 +17,7 @@ pub mod EveryRun
 pub mod Falls
 pub mod Growth
 pub mod Lives
+pub mod Logs
 pub mod MarkLists
 pub mod Operated
 pub mod Outcomes
@@ -23,12 +25,13 @@ pub mod OwnStamps
 pub mod Puts
 pub mod QuorumFacts
 pub mod Reactions
-pub mod Reorders
+pub mod Recoveries
 pub mod Replies
 pub mod Requests
 pub mod RisingMarks
 pub mod Said
 pub mod SaidAlways
+pub mod Sends
 pub mod Sorting
 pub mod Stampings
 pub mod Steps

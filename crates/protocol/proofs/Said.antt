@@ -26,6 +26,7 @@ use Rattle.protocol.specs.Coordinators.{Phase, Looks, Orders, Recovers, Descends
 use Rattle.protocol.specs.Worlds.{World, Operation, zero_content}
 use Rattle.protocol.specs.Laws.{WasSent, WriteSent, AskedAt, part_of, brick_at, AtQuorum, IsGuarded, IsBlocked}
 use Rattle.protocol.proofs.Books.{IsOperation, IsCall}
+use Rattle.protocol.proofs.Logs.{LogAscends, IsWithin}
 
 -- a phase that was begun: its stamp, and what it does
 pub record Begun : Type 0 where
@@ -143,11 +144,6 @@ pub record OrderedSays (w : World) (stamps : Stamping) (j i : ℕ) (call : Call)
   pub stamp_is : IsBegun stamps i call.seq call.phase Orders stamp
   pub promised : stamp_below (top_of (part_of w call.group.0 call.stripe.0 j)) stamp ≡ false
   pub floor : stamp_below stamp (operation.floor j) ≡ false
-
--- d is at most the version that was found
-abbrev pub IsWithin : Option Version → Stamp → Type 0
-IsWithin None d = ⊥
-IsWithin (Some version) d = stamp_below version.stamp d ≡ false
 
 -- what brick j found below a bound, when it promised the stamp of a recovery: each version that it holds below the bound is at most that
 pub record OrderedReadSays (setting : Setting) (w : World) (stamps : Stamping) (j i : ℕ) (call : Call) (found : Option Version) : Type 0 where
@@ -289,6 +285,7 @@ IsInOrder setting w =
 pub record Said (setting : Setting) (w : World) (stamps : Stamping) : Type 0 where
   pub stamps_say : StampsSay w stamps
   pub tops : (g s i : ℕ) → IsKnown stamps (top_of (part_of w g s i))
+  pub ascends : (g s i : ℕ) → LogAscends (part_of w g s i).log
   pub logs : (g s i k : ℕ) (version : Version) → slice_get (part_of w g s i).log k ≡ Some version → VersionSays setting w g s i version
   pub packets : (k : ℕ) (packet : Packet) → slice_get w.packets k ≡ Some packet → PacketSays setting w stamps packet
   pub operations : (n : ℕ) (o : Operation) → IsOperation w n o → OperationSays setting w stamps n o

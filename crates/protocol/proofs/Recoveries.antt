@@ -1,0 +1,1 @@
+-- What the replies to a recovery decide.
