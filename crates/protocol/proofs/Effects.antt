@@ -19,13 +19,13 @@ use Rattle.protocol.proofs.Entries.{any_passes}
 use Rattle.protocol.proofs.Sorting.{InOrder, AllPairs-head, AllPairs-tail}
 
 -- what a list has is in front, or behind
-has_front : {A : Type 0} (x : A) (xs : List A) → Contains (x ∷ xs) x
+pub has_front : {A : Type 0} (x : A) (xs : List A) → Contains (x ∷ xs) x
 has_front x xs = (0, omega arith, refl)
 
-has_behind : {A : Type 0} (y : A) (xs : List A) (x : A) → Contains xs x → Contains (y ∷ xs) x
+pub has_behind : {A : Type 0} (y : A) (xs : List A) (x : A) → Contains xs x → Contains (y ∷ xs) x
 has_behind y xs x (k, inside, is) = (suc k, omega arith, is)
 
-has_cases : {A : Type 0} (y : A) (xs : List A) (x : A) → Contains (y ∷ xs) x → (y ≡ x) ⊎ Contains xs x
+pub has_cases : {A : Type 0} (y : A) (xs : List A) (x : A) → Contains (y ∷ xs) x → (y ≡ x) ⊎ Contains xs x
 has_cases y xs x (zero, inside, is) = inl is
 has_cases y xs x (suc k, inside, is) = inr (k, omega arith, is)
 

@@ -7,6 +7,7 @@ pub mod BooksEvents
 pub mod BooksKept
 pub mod BooksQuiet
 pub mod BooksTurns
+pub mod Chains
 pub mod Counting
 pub mod CountsAt
 pub mod Decisions
