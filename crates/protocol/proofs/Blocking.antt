@@ -1,8 +1,9 @@
 -- What no quorum holds, or ever will: it stays so.
-use Rattle.std.proofs.Common.{◌≡◌, ℕ, zero, suc, ◌+◌, ◌-◌, ◌/◌, ◌<◌, ◌≤◌, ◌⊎◌, Bool, true, false, not, ◌&&◌, length, refl, sym, ◌∙◌, ⊎_elim, arith}
+use Rattle.std.proofs.Common.{◌≡◌, ℕ, zero, suc, ◌+◌, ◌-◌, ◌/◌, ◌<◌, ◌≤◌, ◌⊎◌, inr, Bool, true, false, not, ◌&&◌, length, refl, sym, ◌∙◌, ⊎_elim, arith}
 use Rattle.std.proofs.lemmas.Bool.{cases_Bool, and_from, and_parts, not-true, not_from_false, false≢true}
 use Rattle.fab_base.specs.declared.stamps.Stamp.{Stamp}
 use Rattle.fab_base.specs.Stamps.{stamp_below}
+use Rattle.fab_base.proofs.StampOrder.{stamp_not_below_trans}
 use Rattle.quorum.specs.Quorums.{count, one_if, both, IsWithinLimits}
 use Rattle.quorum.proofs.Counts.{count_none, count_suc, count_both, count_monotone, count_empty}
 use Rattle.protocol.specs.Settings.{Group, quorum_of}
@@ -18,6 +19,19 @@ pub record PartsStay (w next : World) : Type 0 where
   pub newer : (g s i : ℕ) (t : Stamp) → is_held t (part_of next g s i).log ≡ true
       → (is_held t (part_of w g s i).log ≡ true) ⊎ (stamp_below t (top_of (part_of w g s i)) ≡ false)
   pub ascends : (g s i : ℕ) → LogAscends (part_of w g s i).log → LogAscends (part_of next g s i).log
+
+-- and so through two steps
+pub parts_then : (w mid next : World) → PartsStay w mid → PartsStay mid next → PartsStay w next
+parts_then w mid next first second = record {
+  tops = λ g s i. stamp_not_below_trans (top_of (part_of w g s i)) (top_of (part_of mid g s i)) (top_of (part_of next g s i)) (first.tops g s i) (second.tops g s i);
+  held = λ g s i t held. second.held g s i t (first.held g s i t held);
+  newer = λ g s i t held. ⊎_elim
+      (λ (was : is_held t (part_of mid g s i).log ≡ true). first.newer g s i t was)
+      (λ (new : stamp_below t (top_of (part_of mid g s i)) ≡ false).
+      inr (stamp_not_below_trans (top_of (part_of w g s i)) (top_of (part_of mid g s i)) t (first.tops g s i) new))
+      (second.newer g s i t held);
+  ascends = λ g s i ascends. second.ascends g s i (first.ascends g s i ascends);
+}
 
 -- the part at a seat is above d, and does not hold it
 abbrev pub passes_by : World → ℕ → ℕ → Group → Stamp → ℕ → Bool
@@ -76,19 +90,17 @@ twice_quorum : (m n : ℕ) → m ≤ n → n + m ≤ (n - (n - m) / 2) + (n - (n
 twice_quorum m n most = omega arith
 
 -- a stamp is blocked where so many seats pass it by that with m more they would be more than a quorum
-pub blocked_by : (w : World) (g s : ℕ) (group : Group) (d : Stamp) (test : ℕ → Bool) → IsWithinLimits group.m (length group.members)
-    → quorum_of group < count (length group.members) test + group.m
-    → ((k : ℕ) → k < length group.members → test k ≡ true
-    → (stamp_below d (top_of (part_of w g s (brick_at group k))) ≡ true) × (is_held d (part_of w g s (brick_at group k)).log ≡ false))
-    → IsBlocked w g s group d
-blocked_by w g s group d test limits many passes =
-    let more = count_monotone (length group.members) test (passes_by w g s group d)
-    (λ k below is.
-    let pass = passes k below is in
-    and_from (stamp_below d (top_of (part_of w g s (brick_at group k)))) (not (is_held d (part_of w g s (brick_at group k)).log)) pass.0
-    (not_from_false (is_held d (part_of w g s (brick_at group k)).log) pass.1)) in
-    let twice = twice_quorum group.m (length group.members) limits.enough_seats in
-    omega (arith, many, more, twice)
+pub blocked_by : (w : World) (g s : ℕ) (group : Group) (d : Stamp) → IsWithinLimits group.m (length group.members)
+    → quorum_of group < count (length group.members) (passes_by w g s group d) + group.m → IsBlocked w g s group d
+blocked_by w g s group d limits many =
+    let twice = twice_quorum group.m (length group.members) limits.enough_seats in omega (arith, many, twice)
+
+-- a part that is above a stamp, and does not hold it
+pub passes : (w : World) (g s : ℕ) (group : Group) (d : Stamp) (seat : ℕ) → stamp_below d (top_of (part_of w g s (brick_at group seat))) ≡ true
+    → is_held d (part_of w g s (brick_at group seat)).log ≡ false → passes_by w g s group d seat ≡ true
+passes w g s group d seat above isnt =
+    and_from (stamp_below d (top_of (part_of w g s (brick_at group seat)))) (not (is_held d (part_of w g s (brick_at group seat)).log)) above
+    (not_from_false (is_held d (part_of w g s (brick_at group seat)).log) isnt)
 
 cell_split : (a b : Bool) → one_if a ≤ one_if (a && b) + one_if (a && not b)
 cell_split true true = omega arith
