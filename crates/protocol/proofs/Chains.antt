@@ -1,7 +1,7 @@
 -- The effective versions of a stripe: which was made on which, and that the sweep finds exactly these; of two neighbours the upper was
 -- written whole, or was made on the lower.
-use Rattle.std.proofs.Common.{◌≡◌, ℕ, zero, suc, ◌+◌, ◌<◌, ◌≤◌, ◌⊎◌, inl, inr, ⊎_elim, Bool, true, false, not, ◌&&◌, if◌then◌else◌, List, [], ◌∷◌, length, get_or, Option, Some, None, refl, sym, ap, ◌∙◌, subst, arith}
-use Rattle.std.specs.Prelude.{slice_get, nat_eq}
+use Rattle.std.proofs.Common.{◌≡◌, ℕ, zero, suc, ◌+◌, ◌<◌, ◌≤◌, ◌⊎◌, inl, inr, ⊎_elim, true, false, not, ◌&&◌, if◌then◌else◌, List, [], ◌∷◌, length, get_or, Option, Some, None, refl, sym, ap, ◌∙◌, subst, arith}
+use Rattle.std.specs.Prelude.{nat_eq}
 use Rattle.std.specs.List.{All, AllPairs, Contains}
 use Rattle.std.proofs.lemmas.Bool.{cond_both, both_ways, cases_Bool, cases_lt, cases_eq, and_parts, and_from, not-true, not-false, eqb-true, eq-eqb}
 use Rattle.std.proofs.lemmas.Option.{same_Some, slice_get_within, get_or_from_slice_get}
@@ -10,19 +10,19 @@ use Rattle.std.proofs.lemmas.List.Sorted.{All-permutation, Contains-permutation}
 use Rattle.fab_base.specs.declared.stamps.Stamp.{Stamp}
 use Rattle.fab_base.specs.declared.asks.Op.TheVariants.{WriteStripe}
 use Rattle.fab_base.specs.Stamps.{stamp_below, stamp_same, first_stamp}
-use Rattle.fab_base.proofs.StampOrder.{stamp_below_irrefl, stamp_below_trans, stamp_not_below_trans, stamp_below_first, stamp_neither_below, stamp_same_refl, stamp_same_true}
-use Rattle.reg_model.specs.Chains.{BaseFacts, IsEffective, Standing, BaseOf, AreEffective, IsBetween, versions_of}
+use Rattle.fab_base.proofs.StampOrder.{stamp_below_irrefl, stamp_not_below_trans, stamp_below_first, stamp_neither_below, stamp_same_refl, stamp_same_true}
+use Rattle.reg_model.specs.Chains.{BaseFacts, IsEffective, Standing, BaseOf, AreEffective, versions_of}
 use Rattle.reg_model.specs.declared.entries.Entry.{Entry}
 use Rattle.reg_model.proofs.Chains.{no_crossing}
 use Rattle.reg_model.proofs.Versions.{versions_are_effective}
 use Rattle.protocol.specs.Settings.{Setting}
 use Rattle.protocol.specs.Worlds.{World, Operation}
-use Rattle.protocol.specs.Happenings.{is_of, entries_to, ascending, was_answered, base_of, Effect, effect_of, effect_in}
+use Rattle.protocol.specs.Happenings.{is_of, entries_to, ascending, was_answered, base_of, Effect, effect_of}
 use Rattle.protocol.specs.Laws.{IsMadeOn, NeighboursFollow}
 use Rattle.protocol.proofs.Books.{Books, OperationBooks, IsOperation}
 use Rattle.protocol.proofs.Effects.{has_front, has_behind, IsSwept, IsAboveBase, answered_swept, needed_swept, version_swept, versions_all, versions_order, all_effective}
 use Rattle.protocol.proofs.Entries.{IsEntryOf, entry_of, entries_of, entries_have}
-use Rattle.protocol.proofs.QuorumFacts.{QuorumFacts, MakerFacts, BaseSays, ReaderFacts}
+use Rattle.protocol.proofs.QuorumFacts.{QuorumFacts, MakerFacts, BaseSays}
 use Rattle.protocol.proofs.Said.{IsMadeOrFirst, Stands, WritesWhole}
 use Rattle.protocol.proofs.Sorting.{InOrder, ascending_permutation, ascending_order}
 

@@ -2,7 +2,7 @@
 use Rattle.std.proofs.Common.{◌≡◌, ℕ, zero, suc, ◌⊎◌, inl, inr, ⊎_elim, Bool, true, false, ◌||◌, cond, List, [], ◌∷◌, ◌++◌, Option, Some, None, refl, sym, ap, ◌∙◌, subst, arith}
 use Rattle.std.specs.Option.{option_to_list}
 use Rattle.std.specs.List.{All, AllPairs, Contains}
-use Rattle.std.proofs.lemmas.Bool.{cond_both, both_ways, cases_Bool, or_cases, or_parts, or_left, or_right}
+use Rattle.std.proofs.lemmas.Bool.{cond_both, both_ways, cases_Bool, or_cases, or_left, or_right}
 use Rattle.std.proofs.lemmas.List.Elements.{All-cons, All-nil, All-head, All-tail, All-append, All-weaker, All-contains, Contains-append_left, Contains-append_right, Contains-append_cases}
 use Rattle.std.proofs.lemmas.List.Folds.{Any-from_list_any}
 use Rattle.std.proofs.lemmas.List.Kept.{AllPairs-cons}
@@ -14,7 +14,7 @@ use Rattle.reg_model.specs.declared.entries.Entry.{Entry}
 use Rattle.reg_model.specs.Walk.{entry_below}
 use Rattle.reg_model.proofs.EntryOrder.{after_entry}
 use Rattle.protocol.specs.Worlds.{Operation}
-use Rattle.protocol.specs.Happenings.{was_answered, is_told, base_of, is_among, Effect, needs, with_entry, effect_of}
+use Rattle.protocol.specs.Happenings.{was_answered, is_told, base_of, is_among, Effect, needs, effect_of}
 use Rattle.protocol.proofs.Entries.{any_passes}
 use Rattle.protocol.proofs.Sorting.{InOrder, AllPairs-head, AllPairs-tail}
 

@@ -1,6 +1,6 @@
 -- What a quorum of replies to a recovery decides: nothing that a quorum holds, or ever will, lies between the greatest version found and the
 -- recovery's stamp; nor that version itself, where too few blocks of it were found.
-use Rattle.std.proofs.Common.{◌≡◌, ℕ, ◌+◌, ◌-◌, ◌/◌, ◌<◌, ◌≤◌, ◌⊎◌, inl, inr, Bool, true, false, not, List, length, Option, Some, None, refl, sym, ap, ◌∙◌, subst, ⊎_elim, arith}
+use Rattle.std.proofs.Common.{◌≡◌, ℕ, ◌+◌, ◌<◌, ◌≤◌, Bool, true, false, not, List, length, Option, Some, None, refl, sym, ap, ◌∙◌, subst, ⊎_elim, arith}
 use Rattle.std.specs.Prelude.{filter}
 use Rattle.std.specs.Option.{option_map}
 use Rattle.std.proofs.lemmas.Bool.{false≢true, cases_Bool, not-true}
@@ -24,7 +24,7 @@ use Rattle.protocol.proofs.Logs.{IsWithin, below_above}
 use Rattle.protocol.proofs.Blocking.{passes_by, passes, blocked_by}
 use Rattle.protocol.proofs.Said.{Stamping, Said, IsContent, IsMadeOrFirst, CallSays, CountedSays, EachCounted, AreOnce}
 use Rattle.protocol.proofs.Counting.{each_then, each_both, each_filter, once_filter, at_seats, TellsAtMost, found_most, found_one, IsPieceOf, are_pieces, pieces_length}
-use Rattle.protocol.proofs.Decisions.{PromisesAt, ReadsAt, LooksBelow, content_formed}
+use Rattle.protocol.proofs.Decisions.{ReadsAt, LooksBelow, content_formed}
 
 -- the version that is told
 told_version_is : (x : Counted) (found : Option Version) (v : Stamp) → told_in x.reply ≡ found → told_stamp x.reply ≡ Some v

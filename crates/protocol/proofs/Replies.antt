@@ -9,7 +9,7 @@ use Rattle.fab_base.specs.declared.asks.Op.{Op}
 use Rattle.fab_base.specs.declared.asks.Op.TheVariants.{ReadBlock, WriteBlock, ReadStripe, WriteStripe}
 use Rattle.fab_base.specs.Stamps.{stamp_below}
 use Rattle.fab_base.proofs.StampOrder.{stamp_neither_below}
-use Rattle.fab_base.specs.declared.answers.Answer.TheVariants.{Data, Done, Aborted}
+use Rattle.fab_base.specs.declared.answers.Answer.TheVariants.{Data, Aborted}
 use Rattle.fab_base.specs.declared.answers.Cause.TheVariants as Cause
 use Rattle.fab_wire.specs.declared.calls.Call.{Call}
 use Rattle.fab_wire.specs.declared.messages.Message.TheVariants as Message
@@ -125,9 +125,9 @@ module _ (setting : Setting) (sound : IsSound setting) (w : World) (stamps : Sta
         (λ v has. has)
         (λ v has. (said.operations (w.numbers me.0 c.call.seq) o its.operation_is).version v has)
         (λ v has how. (said.operations (w.numbers me.0 c.call.seq) o its.operation_is).stands v has (⊎_elim
-            (λ (unmade : o.made ≡ false). inl unmade)
-            (λ (bad : false ≡ true). absurd (false≢true bad))
-            how))
+        (λ (unmade : o.made ≡ false). inl unmade)
+        (λ (bad : false ≡ true). absurd (false≢true bad))
+        how))
         (λ bad bytes op. absurd (false≢true bad))
         tt,
   )

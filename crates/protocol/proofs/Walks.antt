@@ -7,7 +7,7 @@ use Rattle.std.proofs.lemmas.List.Elements.{All-weaker, All-contains, All-contai
 use Rattle.std.proofs.lemmas.List.Sorted.{sorted_far}
 use Rattle.fab_base.specs.declared.stamps.Stamp.{Stamp}
 use Rattle.fab_base.specs.declared.asks.Op.{Op}
-use Rattle.fab_base.specs.declared.asks.Op.TheVariants.{ReadStripe, WriteStripe}
+use Rattle.fab_base.specs.declared.asks.Op.TheVariants.{ReadStripe}
 use Rattle.fab_base.specs.declared.answers.Answer.{Answer}
 use Rattle.fab_base.specs.declared.answers.Answer.TheVariants.{Data, Done, Aborted}
 use Rattle.fab_base.specs.Stamps.{stamp_below, stamp_same, first_stamp}
@@ -249,10 +249,16 @@ module _ (setting : Setting) (w : World) (g s : ℕ) (books : Books setting w) (
           → Follows setting.layout.block marks (w.contents g s) walk u r.stamp
       made_from told changes =
           let stands : Contains walk r = swept.told (ap (λ (o : Option Operation). is_told o) mine.is ∙ told) in
-          inl (stands.0, r, stands.1, stands.2, (
-            (maker, refl),
-            subst (λ (x : Option Life). w.contents g s r.stamp ≡ after_life setting.layout.block (w.contents g s u) x) (sym its.life_is) changes,
-          ))
+          inl (
+            stands.0,
+            r,
+            stands.1,
+            stands.2,
+            (
+              (maker, refl),
+              subst (λ (x : Option Life). w.contents g s r.stamp ≡ after_life setting.layout.block (w.contents g s u) x) (sym its.life_is) changes,
+            ),
+          )
 
       -- what was read back is the version before
       base_is_u : (says : BaseSays setting w mine.operation r.stamp) → says.base ≡ u
@@ -395,7 +401,7 @@ module _ (setting : Setting) (w : World) (g s : ℕ) (books : Books setting w) (
     of_versions = walk_versions;
     one_maker = λ stamp a b a_has b_has a_makes b_makes.
         one_maker setting w g s books facts a b (All-contains (Contains entries) walk a walk_entries a_has)
-            (All-contains (Contains entries) walk b walk_entries b_has) a_makes.0 b_makes.0 (a_makes.1 ∙ sym b_makes.1);
+        (All-contains (Contains entries) walk b walk_entries b_has) a_makes.0 b_makes.0 (a_makes.1 ∙ sym b_makes.1);
     turns = walk_turns;
     first_is_zero = facts.first g s group is;
     each_follows = each_follows;
