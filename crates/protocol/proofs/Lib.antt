@@ -7,9 +7,11 @@ pub mod BooksEvents
 pub mod BooksKept
 pub mod BooksQuiet
 pub mod BooksTurns
+pub mod Chains
 pub mod Counting
 pub mod CountsAt
 pub mod Decisions
+pub mod Effects
 pub mod Ends
 pub mod Entries
 pub mod EveryRun

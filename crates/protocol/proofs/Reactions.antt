@@ -216,16 +216,24 @@ order_read_says : (replica : Replica) (t : Stamp) (look : Look) (want : Want) (s
     → SaysIf replica (OrderRead t look want) (order_read replica t look (is_wanted want seat)).replica (order_read replica t look (is_wanted want seat)).reply
 order_read_says replica t look want seat =
     cond_both (stamp_below t (top_of replica)) (record { replica = replica; reply = Some (Later (top_of replica)) })
-    (record { replica = record { order = t; log = replica.log };
-    reply = Some (OrderedRead (told_version (is_wanted want seat) (looked_up look replica.log))) })
+    (record {
+      replica = record { order = t; log = replica.log };
+      reply = Some (OrderedRead (told_version (is_wanted want seat) (looked_up look replica.log)));
+    })
     (λ (z : Reaction). SaysIf replica (OrderRead t look want) z.replica z.reply)
     (λ under. (t, inl (inr (look, want, refl)), under))
     (λ at. (
       t,
-      (look, want, refl, at, refl,
+      (
+        look,
+        want,
+        refl,
+        at,
+        refl,
         (λ bound look_is want_is.
-        ap (λ (x : Want). told_version (is_wanted x seat) (looked_up look replica.log)) want_is ∙ told_true (looked_up look replica.log)
-        ∙ ap (λ (l : Look). looked_up l replica.log) look_is)),
+            ap (λ (x : Want). told_version (is_wanted x seat) (looked_up look replica.log)) want_is ∙ told_true (looked_up look replica.log)
+            ∙ ap (λ (l : Look). looked_up l replica.log) look_is),
+      ),
     ))
 
 written_says : (replica : Replica) (t : Stamp) (block : List ℕ) → SaysIf replica (Write t block) (written replica t block).replica (written replica t block).reply

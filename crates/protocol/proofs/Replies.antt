@@ -125,9 +125,9 @@ module _ (setting : Setting) (sound : IsSound setting) (w : World) (stamps : Sta
         (λ v has. has)
         (λ v has. (said.operations (w.numbers me.0 c.call.seq) o its.operation_is).version v has)
         (λ v has how. (said.operations (w.numbers me.0 c.call.seq) o its.operation_is).stands v has (⊎_elim
-            (λ (unmade : o.made ≡ false). inl unmade)
-            (λ (bad : false ≡ true). absurd (false≢true bad))
-            how))
+        (λ (unmade : o.made ≡ false). inl unmade)
+        (λ (bad : false ≡ true). absurd (false≢true bad))
+        how))
         (λ bad bytes op. absurd (false≢true bad))
         tt,
   )

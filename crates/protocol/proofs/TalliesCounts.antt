@@ -13,7 +13,6 @@ use Rattle.fab_base.specs.declared.answers.Cause.TheVariants as Cause
 use Rattle.fab_wire.specs.declared.calls.Call.{Call}
 use Rattle.fab_wire.specs.declared.messages.Message.TheVariants as Message
 use Rattle.fab_wire.specs.declared.messages.Packet.{Packet}
-use Rattle.fab_wire.specs.declared.requests.Request.TheVariants as Request
 use Rattle.fab_wire.specs.declared.replies.Reply.{Reply}
 use Rattle.reg_model.specs.declared.marks.Mark.TheVariants.{End}
 use Rattle.reg_model.specs.Marks.{Life, life_of, IsOpen}
@@ -24,7 +23,7 @@ use Rattle.protocol.specs.Worlds.{World, Operation, with_made, with_answer, with
 use Rattle.protocol.specs.Laws.{WasSent, WriteSent, OrderSent, AskedAt, IsLastRound}
 use Rattle.protocol.proofs.Books.{Replies, Books, OperationBooks, CallBooks, IsOperation, IsCall, InRound}
 use Rattle.protocol.proofs.BooksKept.{calls_apart}
-use Rattle.protocol.proofs.BooksEvents.{fresh_is, brick_of}
+use Rattle.protocol.proofs.BooksEvents.{brick_of}
 use Rattle.protocol.proofs.Outcomes.{IsRound, first_round, ReordersFits, RecoversFits, SendsFits, NoRoundFits, LastFits, AbortFits, AnswerFits, NextFits}
 use Rattle.protocol.proofs.Said.{EachCounted}
 use Rattle.protocol.proofs.Counting.{each_more, refuser_counted}
