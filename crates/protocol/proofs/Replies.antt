@@ -293,9 +293,11 @@ module _ (setting : Setting) (sound : IsSound setting) (w : World) (stamps : Sta
           descends_on : length (pieces_at v d.counted) < group.m → IsSaid setting (after (Sends (in_phase d (Descends v))))
           descends_on few =
               said_sent setting w stamps me c group known books said is more_known c.stamp c.round (Descends v) own_of own_from
-              reads (λ bad. absurd (let never : ⊥ = cc in never))
-              (version_above setting sound w stamps me c group books said is group_is d.counted each once many bound looks all v greatest few,
-              lower, of_ask (λ a. AreBlocked setting w a.group.0 a.stripe.0 (IsCovered v c.stamp)) (covered few))
+              reads (λ bad. absurd (let never : ⊥ = cc in never)) (
+                version_above setting sound w stamps me c group books said is group_is d.counted each once many bound looks all v greatest few,
+                lower,
+                of_ask (λ a. AreBlocked setting w a.group.0 a.stripe.0 (IsCovered v c.stamp)) (covered few),
+              )
 
           restores_on : group.m ≤ length (pieces_at v d.counted)
               → IsSaid setting (after (Makes (restoring d v (setting.code.decode group.m (pieces_at v d.counted)))))
