@@ -130,7 +130,11 @@ pub(crate) fn run<S: Source, K: Sink>(
     let mut unread = Unread::new(alloc);
     match read_head(alloc, source, &mut unread)? {
         Head::Text(text) => run_layout(alloc, text.as_slice(), source, &mut unread, sink),
-        Head::TooLong => close(sink, b"bad layout: limit layout\n".as_slice(), Verdict::BadLayout),
+        Head::TooLong => close(
+            sink,
+            b"bad layout: limit layout\n".as_slice(),
+            Verdict::BadLayout,
+        ),
         Head::Endless => close(sink, b"bad layout: end\n".as_slice(), Verdict::BadLayout),
     }
 }
