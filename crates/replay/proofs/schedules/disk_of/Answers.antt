@@ -5,8 +5,8 @@ use Rattle.replay.specs.Outputs.{is_served}
 use Rattle.replay.proofs.Copies.{keeps}
 use Rattle.replay.proofs.schedules.disk_of.Goals as goal
 
-pub new-requires-clause-copies : goal.new-requires-clause-copies
-new-requires-clause-copies c =
+pub new-requires : goal.new-requires
+new-requires c =
     let served : is_served c.args.layout ≡ true =
     ap (λ groups. list_all (λ group. nat_eq group.m 1) groups) (sym c.groups.ensures) ∙ sym c.are_copied.ensures ∙ c.if-not-are_copied.false in
-    keeps c.args.layout served
+    record { copies = keeps c.args.layout served }
