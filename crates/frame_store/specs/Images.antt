@@ -1,0 +1,86 @@
+-- What the bytes of a disk stand for as a store.
+use Rattle.std.specs.Prelude.{◌≡◌, ◌≢◌, ◌⊎◌, ℕ, ◌+◌, ◌-◌, ◌*◌, ◌%◌, ◌^◌, ◌<◌, ◌≤◌, List, [], ◌∷◌, length, take, drop, Option, Some, None}
+use Rattle.std.specs.Int.{w64, from_be_bytes}
+use Rattle.frame_store.specs.declared.frames.Frame.{Frame}
+use Rattle.frame_store.specs.declared.shapes.Shape.{Shape}
+use Rattle.frame_store.specs.declared.shapes.Half.{Half}
+use Rattle.frame_store.specs.declared.shapes.Half.TheVariants.{A, B}
+use Rattle.frame_store.specs.Layouts.{header_at, slot_at, half_at, half_size, identity}
+use Rattle.frame_store.specs.Listed.{frames_of}
+
+-- n bytes from a place on
+abbrev pub part : ℕ → ℕ → List ℕ → List ℕ
+part at n image = take n (drop at image)
+
+-- a header is open: both headers are there, its gate is open, and it is of this store
+pub record IsOpen (shape : Shape) (half : Half) (image : List ℕ) : Type 0 where
+  pub whole : 64 ≤ length image
+  pub front : part (header_at half) 17 image ≡ 165 ∷ identity shape
+
+-- how often the index had been rewritten when the header was
+abbrev pub generation_at : Half → List ℕ → ℕ
+generation_at half image = from_be_bytes w64 (part (header_at half + 17) 8 image)
+
+-- how far one generation is ahead of another; they start again after 2^64 - 1
+abbrev pub ahead : ℕ → ℕ → ℕ
+ahead first second = ((second + 2 ^ 64) - first) % 2 ^ 64
+
+-- the second generation comes after the first
+pub record IsLater (first second : ℕ) : Type 0 where
+  pub ahead_some : 1 ≤ ahead first second
+  pub ahead_less : ahead first second < 2 ^ 63
+
+-- The half that an image is read by: that of the open header; of two, B's where its generation is the later, else A's.
+abbrev pub InForce : Shape → Half → List ℕ → Type 0
+InForce shape A image = IsOpen shape A image × (IsOpen shape B image → IsLater (generation_at A image) (generation_at B image) → ⊥)
+InForce shape B image = IsOpen shape B image × (IsOpen shape A image → IsLater (generation_at A image) (generation_at B image))
+
+abbrev pub half_bytes : Shape → Half → List ℕ → List ℕ
+half_bytes shape half image = part (half_at shape half) (half_size shape) image
+
+-- the image opens as a store with these frames
+pub record OpensAs (shape : Shape) (frames : List Frame) (image : List ℕ) : Type 0 where
+  pub half : Half
+  pub in_force : InForce shape half image
+  pub listed : frames_of (half_bytes shape half image) ≡ frames
+
+-- no header is open
+pub record IsNoStore (shape : Shape) (image : List ℕ) : Type 0 where
+  pub first : IsOpen shape A image → ⊥
+  pub second : IsOpen shape B image → ⊥
+
+-- a file of this size has this slot
+pub record HasSlot (shape : Shape) (size slot : ℕ) : Type 0 where
+  pub is_slot : slot < shape.records
+  pub inside : slot_at shape slot + shape.block ≤ size
+
+-- the block in a slot
+abbrev pub block_in : Shape → ℕ → List ℕ → List ℕ
+block_in shape slot image = part (slot_at shape slot) shape.block image
+
+-- the block that is put in a slot, if one is, stands there
+abbrev pub StandsIn : Shape → Option (ℕ × List ℕ) → List ℕ → Type 0
+StandsIn shape None image = Unit {0}
+StandsIn shape (Some put) image = HasSlot shape (length image) put.0 × (block_in shape put.0 image ≡ put.1)
+
+-- nothing is put in this slot
+abbrev pub IsOther : Option (ℕ × List ℕ) → ℕ → Type 0
+IsOther None slot = Unit {0}
+IsOther (Some put) slot = slot ≢ put.0
+
+-- each slot that a content had is still there, and holds what it held, but for the one that a block is put in
+pub record KeepsSlots (shape : Shape) (put : Option (ℕ × List ℕ)) (content image : List ℕ) : Type 0 where
+  pub size : length content ≤ length image
+  pub same : (slot : ℕ) → HasSlot shape (length content) slot → IsOther put slot → block_in shape slot image ≡ block_in shape slot content
+
+-- The image is that of a store after a change of this content: it opens as these frames, with the block put in its slot.
+pub record IsAfter (shape : Shape) (frames : List Frame) (put : Option (ℕ × List ℕ)) (content image : List ℕ) : Type 0 where
+  pub opens : OpensAs shape frames image
+  pub stands : StandsIn shape put image
+  pub slots : KeepsSlots shape put content image
+
+-- The image is that of a store at a moment of a change of this content: it opens as the frames before the change or as those
+-- after it, and then with the block put in its slot. No other slot differs.
+pub record IsBeforeOrAfter (shape : Shape) (before after : List Frame) (put : Option (ℕ × List ℕ)) (content image : List ℕ) : Type 0 where
+  pub opens : OpensAs shape before image ⊎ (OpensAs shape after image × StandsIn shape put image)
+  pub slots : KeepsSlots shape put content image

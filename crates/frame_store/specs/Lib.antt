@@ -1,0 +1,5 @@
+pub mod Layouts
+pub mod Listed
+pub mod Images
+pub mod Stores
+pub mod Laid

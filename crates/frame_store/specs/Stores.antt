@@ -1,0 +1,79 @@
+-- What a clause sees of a store.
+use Rattle.std.specs.Prelude.{◌≡◌, ◌≢◌, ℕ, ◌+◌, ◌-◌, ◌≤◌, ◌<◌, Bool, true, false, List, [], ◌∷◌, length, Result, Ok, Err}
+use Rattle.fab_disk.specs.Disk.{Only}
+use Rattle.frame_store.specs.declared.faults.FrameFault.{FrameFault}
+use Rattle.frame_store.specs.declared.faults.FrameFault.TheVariants.{Disk, Halted, NotAStore, NoMemory}
+use Rattle.frame_store.specs.declared.frames.Frame.{Frame}
+use Rattle.frame_store.specs.declared.shapes.Shape.{Shape}
+use Rattle.frame_store.specs.Layouts.{store_end}
+use Rattle.frame_store.specs.Images.{OpensAs}
+
+-- room in memory: for the bytes of a write, for frames, and for a body
+pub record Room : Type 0 where
+  pub line : ℕ
+  pub listed : ℕ
+  pub spare : ℕ
+
+-- A store over a disk: what it was made for, its frames, whether a closed gate stands after the last of them, how long the
+-- file is, and whether a call of it answered Disk.
+pub record Held (D : Type 0) : Type 0 where
+  pub disk : D
+  pub shape : Shape
+  pub frames : List Frame
+  pub closed : Bool
+  pub size : ℕ
+  pub halted : Bool
+  pub room : Room
+
+-- while the store is not halted, what a read of the disk gives opens as its frames
+pub record Shows {D : Type 0} (seen : D → List ℕ) (store : Held D) : Type 0 where
+  pub opens : OpensAs store.shape store.frames (seen store.disk)
+  pub size : length (seen store.disk) ≡ store.size
+
+abbrev pub IsRead : {D : Type 0} → Type 0 → (D → List ℕ) → Held D → Type 0
+IsRead tells seen store = tells → store.halted ≡ false → Shows seen store
+
+-- A crash leaves what a read gives: a sync succeeded since the last change, and the store is not halted.
+pub record IsDurable {D : Type 0} (tells : Type 0) (seen : D → List ℕ) (may_leave : D → List ℕ → Type 0) (store : Held D) : Type 0 where
+  pub told : tells
+  pub runs : store.halted ≡ false
+  pub only : Only (seen store.disk) (may_leave store.disk)
+
+-- the same store, but for the disk, the room, and whether it is halted
+pub record IsSame {D : Type 0} (old new : Held D) : Type 0 where
+  pub shape : new.shape ≡ old.shape
+  pub frames : new.frames ≡ old.frames
+  pub closed : new.closed ≡ old.closed
+  pub size : new.size ≡ old.size
+
+-- the store now has these frames and a closed gate after them
+pub record HasNow {D : Type 0} (listed : List Frame) (old new : Held D) : Type 0 where
+  pub shape : new.shape ≡ old.shape
+  pub frames : new.frames ≡ listed
+  pub closed : new.closed ≡ true
+  pub size : old.size ≤ new.size
+
+-- a store is halted once a call of it answered Disk
+abbrev pub halted_after : {T : Type 0} → Bool → Result T FrameFault → Bool
+halted_after halted (Err Disk) = true
+halted_after halted (Err other) = halted
+halted_after halted (Ok value) = halted
+
+-- the call answers Halted exactly where the store was halted, and never NotAStore
+pub record IsAnswer {T : Type 0} (halted halted_now : Bool) (result : Result T FrameFault) : Type 0 where
+  pub refused : halted ≡ true → result ≡ Err Halted
+  pub only_then : result ≡ Err Halted → halted ≡ true
+  pub a_store : result ≢ Err NotAStore
+  pub halts : halted_now ≡ halted_after halted result
+
+-- Room for so many calls of the disk, with so many bytes in all, and in memory for so many bytes of a write, so many frames
+-- and a body of so many bytes.
+pub record HasRoom {D : Type 0} (has_room : D → ℕ → ℕ → ℕ → Type 0) (store : Held D) (calls bytes written frames body : ℕ) : Type 0 where
+  pub disk : has_room store.disk calls bytes (store_end store.shape)
+  pub line : written ≤ store.room.line
+  pub listed : frames ≤ store.room.listed
+  pub spare : body ≤ store.room.spare
+
+-- so many calls of the disk were made, none of which was to fail, and what was to fail comes so many calls sooner
+abbrev pub RunsPlan : ℕ → (ℕ → Type 0) → (ℕ → Type 0) → Type 0
+RunsPlan calls old new = (n : ℕ) → 1 ≤ n → old n → (calls < n) × new (n - calls)

@@ -1,0 +1,16 @@
+//! A store over a disk: a list of frames, each appended whole or not at all, and slots for blocks.
+//!
+//! The index, which is the list of frames, stands in one of two halves. An append writes a frame behind a closed gate, syncs,
+//! opens the gate and syncs. A rewrite writes a new list in the other half, and then opens that half's header. So whatever a
+//! crash leaves at whatever moment opens as the list from before the call or as the one after it.
+#![tactic(auto)]
+
+mod faults;
+mod frames;
+mod shapes;
+mod stores;
+
+pub use faults::FrameFault;
+pub use frames::Frame;
+pub use shapes::{Half, Shape};
+pub use stores::{FrameStore, format, open_store};

@@ -1,0 +1,331 @@
+//! The store.
+
+ghost use Rattle.std.specs.Prelude.{◌≡◌, ◌≢◌, ◌⊎◌, ◌↔◌, ◌+◌, ◌≤◌, ◌<◌, ◌^◌, ◌++◌, ◌∷◌, [], ℕ, List, true, false, length, IsTrue, IfOk, IfErr, OnOk, OnErr, Some, None};
+ghost use Rattle.fab_disk.specs.Disk.{Only, Elapses, IsUntouched, LeavesOnly, Kept, KeepsRoom, KeepsPlan};
+ghost use Rattle.fab_disk.specs.Plan.{IsPlanned};
+ghost use Rattle.frame_store.specs.Layouts.{shape_of, half_size};
+ghost use Rattle.frame_store.specs.Listed.{Fits, size_of, frame_of};
+ghost use Rattle.frame_store.specs.Images.{OpensAs, IsNoStore, HasSlot, block_in, IsAfter, IsBeforeOrAfter};
+ghost use Rattle.frame_store.specs.Stores.{Shows, IsRead, IsDurable, IsSame, HasNow, IsAnswer, HasRoom, RunsPlan};
+
+use crate::faults::FrameFault;
+use crate::frames::Frame;
+use crate::shapes::{Half, Shape};
+use fab_disk::{Armed, Disk, Plan};
+use std::alloc::Global;
+use std::marker::Model;
+
+/// An open store over a disk.
+///
+/// A clause sees the disk, what the store was made for, the list of frames, whether a closed gate stands after it, how long
+/// the file is, and whether the store is halted.
+#[derive(Drop)]
+pub struct FrameStore<D: Disk> {
+    disk: D,
+    alloc: Global,
+    shape: Shape,
+    half: Half,
+    generation: u64,
+    other_shut: bool,
+    frames: Vec<Frame>,
+    used: u64,
+    closed: bool,
+    size: u64,
+    halted: bool,
+    line: Vec<u8>,
+    spare: Vec<u8>,
+}
+
+impl<D: Disk> Model for FrameStore<D> {
+    ghost use Rattle.std.specs.Prelude.{vec_capacity};
+    ghost use Rattle.frame_store.specs.Stores.{Held};
+
+    ghost Value = { Held D };
+
+    ghost view = { λ s. record { disk = s.disk; shape = s.shape; frames = s.frames.items; closed = s.closed; size = s.size; halted = s.halted; room = record { line = vec_capacity s.line; listed = vec_capacity s.frames; spare = vec_capacity s.spare } } };
+
+    ghost use Rattle.std.specs.Prelude.{◌≡◌, false, length};
+    ghost use Rattle.frame_store.specs.Laid.{Laid, IsCounted};
+
+    ghost invariant = { λ s. IsCounted s.shape s.frames.items s.used
+        × (D.tells → s.halted ≡ false → Laid s.shape s.half s.generation s.other_shut s.frames.items s.closed (D.seen s.disk) × (length (D.seen s.disk) ≡ s.size)) };
+}
+
+/// Makes an empty store of these blocks and slots for a brick, in the place of whatever the disk holds. It makes five calls of
+/// `write_at` and `sync`. What the disk opens as after a format that did not succeed is not told.
+///
+/// # Errors
+/// [`FrameFault::Disk`]: the disk failed. [`FrameFault::NoMemory`]: memory was refused, and the disk is as it was.
+pub fn format<D: Disk>(
+    _alloc: Global,
+    disk: &mut D,
+    me: u16,
+    block: u16,
+    records: u32,
+) -> Result<(), FrameFault>
+    requires block_range { (1 ≤ block) × (block ≤ 4096) }
+    requires records_range { (1 ≤ records) × (records ≤ 1048576) }
+    // Each image opens as a store with no frames, and has all slots.
+    ensures empty { D.tells → OnOk result (OpensAs (shape_of me block records) [] (D.seen disk.new)) }
+    ensures slots { D.tells → OnOk result ((slot : ℕ) → slot < records → HasSlot (shape_of me block records) (length (D.seen disk.new)) slot) }
+    ensures durable { D.tells → OnOk result (Only (D.seen disk.new) (D.may_leave disk.new)) }
+    ensures counted { D.tells → OnOk result (D.moment disk.new ≡ D.moment disk.old + 5) }
+    ensures only { OnErr result ((result ≡ Err FrameFault.Disk) ⊎ (result ≡ Err FrameFault.NoMemory)) }
+    ensures no_memory { result ≡ Err FrameFault.NoMemory → IsUntouched D.seen D.may_leave D.moment D.left_since disk.old disk.new }
+    ensures plan { OnOk result (RunsPlan 5 (D.fails_in disk.old) (D.fails_in disk.new)) }
+    ensures cause { Kept (D.faults disk.old) (D.faults disk.new) (D.sound disk.old) (D.sound disk.new) (result ≡ Err FrameFault.Disk) }
+{
+    Err(FrameFault::NoMemory)
+}
+
+/// Opens the store that a disk holds for a brick, with these blocks and slots. It reads alone, and changes nothing.
+///
+/// # Errors
+/// Each hands the disk back. [`FrameFault::NotAStore`]: neither header is open. [`FrameFault::Disk`]: the disk failed.
+/// [`FrameFault::NoMemory`]: memory was refused.
+pub fn open_store<D: Disk>(
+    _alloc: Global,
+    disk: D,
+    me: u16,
+    block: u16,
+    records: u32,
+) -> Result<FrameStore<D>, (FrameFault, D)>
+    requires block_range { (1 ≤ block) × (block ≤ 4096) }
+    requires records_range { (1 ≤ records) × (records ≤ 1048576) }
+    ensures shape { IfOk result (λ store. store.shape ≡ shape_of me block records) }
+    ensures runs { IfOk result (λ store. store.halted ≡ false) }
+    // The frames are those that the disk opens as.
+    ensures read { IfOk result (λ store. IsRead D.tells D.seen store) }
+    ensures untouched { IfOk result (λ store. IsUntouched D.seen D.may_leave D.moment D.left_since disk store.disk) }
+    ensures untouched_err { IfErr result (λ e. IsUntouched D.seen D.may_leave D.moment D.left_since disk e.1) }
+    ensures not_a_store { IfErr result (λ e. e.0 ≡ FrameFault.NotAStore → D.tells → IsNoStore (shape_of me block records) (D.seen disk)) }
+    ensures not_halted { IfErr result (λ e. e.0 ≢ FrameFault.Halted) }
+    ensures plan { IfOk result (λ store. KeepsPlan (D.fails_in disk) (D.fails_in store.disk)) }
+    ensures plan_err { IfErr result (λ e. KeepsPlan (D.fails_in disk) (D.fails_in e.1)) }
+    ensures cause { IfOk result (λ store. Kept (D.faults disk) (D.faults store.disk) (D.sound disk) (D.sound store.disk) ⊥) }
+    ensures cause_err { IfErr result (λ e. Kept (D.faults disk) (D.faults e.1) (D.sound disk) (D.sound e.1) (e.0 ≡ FrameFault.Disk)) }
+{
+    Err((FrameFault::NoMemory, disk))
+}
+
+impl<D: Disk> FrameStore<D> {
+    /// The list of frames.
+    pub fn frames(&self) -> &[Frame]
+        ensures { result.now ≡ self.now.frames }
+    {
+        self.frames.as_slice()
+    }
+
+    /// Whether a closed gate stands after the last frame. Where none does, the list ended at the end of the file or within a
+    /// frame: rewrite it before anything is appended, since what stands behind it might count as frames after a crash.
+    pub fn is_closed(&self) -> bool
+        ensures { result ≡ self.now.closed }
+    {
+        self.closed
+    }
+
+    /// Whether a frame with a body of this length, and the next gate, fit in the half of the index.
+    pub fn fits(&self, length: usize) -> bool
+        ensures { IsTrue result ↔ Fits self.now.shape self.now.frames length }
+    {
+        let left = self.shape.half_size() - self.used;
+        left >= 7 && length as u64 <= left - 7
+    }
+
+    /// Whether there is a slot of this number inside the file.
+    pub fn has_slot(&self, slot: u32) -> bool
+        ensures { IsTrue result ↔ HasSlot self.now.shape self.now.size slot }
+    {
+        slot < self.shape.records && self.shape.slot_at(slot + 1) <= self.size
+    }
+
+    /// Reads the block in a slot.
+    ///
+    /// # Errors
+    /// [`FrameFault::Halted`], [`FrameFault::Disk`]; [`FrameFault::NoMemory`] where the disk answers it.
+    pub fn read_slot(&mut self, slot: u32, into: &mut [u8]) -> Result<(), FrameFault>
+        requires slot { HasSlot self.old.shape self.old.size slot }
+        requires block { length into.old ≡ self.old.shape.block }
+        ensures bytes { D.tells → OnOk result (into.new ≡ block_in self.old.shape slot (D.seen self.old.disk)) }
+        ensures same { IsSame self.old self.new }
+        ensures untouched { IsUntouched D.seen D.may_leave D.moment D.left_since self.old.disk self.new.disk }
+        ensures plan { KeepsPlan (D.fails_in self.old.disk) (D.fails_in self.new.disk) }
+        ensures answer { IsAnswer self.old.halted self.new.halted result }
+        ensures no_call { result ≡ Err FrameFault.Halted → self.new ≡ self.old }
+        ensures cause { Kept (D.faults self.old.disk) (D.faults self.new.disk) (D.sound self.old.disk) (D.sound self.new.disk) (result ≡ Err FrameFault.Disk) }
+        ensures read { IsRead D.tells D.seen self.new }
+    {
+        if self.halted {
+            return Err(FrameFault::Halted);
+        }
+        Err(FrameFault::NoMemory)
+    }
+
+    /// Appends a frame. It makes four calls of `write_at` and `sync`.
+    ///
+    /// # Errors
+    /// [`FrameFault::Halted`], [`FrameFault::Disk`]; [`FrameFault::NoMemory`], before the disk changed.
+    pub fn append(&mut self, kind: u8, body: &[u8]) -> Result<(), FrameFault>
+        requires fits { Fits self.old.shape self.old.frames (length body.now) }
+        // After Ok each image opens as the new list.
+        ensures after { D.tells → OnOk result (IsAfter self.old.shape (self.old.frames ++ frame_of kind body.now ∷ []) None (D.seen self.old.disk) (D.seen self.new.disk)) }
+        ensures durable { D.tells → OnOk result (IsDurable D.tells D.seen D.may_leave self.new) }
+        // At each moment of the call each image opens as the list before it or as the one after it.
+        ensures any_moment { IsDurable D.tells D.seen D.may_leave self.old → self.old.closed ≡ true → LeavesOnly D.moment D.left_since self.old.disk self.new.disk (IsBeforeOrAfter self.old.shape self.old.frames (self.old.frames ++ frame_of kind body.now ∷ []) None (D.seen self.old.disk)) }
+        ensures ok { OnOk result (HasNow (self.old.frames ++ frame_of kind body.now ∷ []) self.old self.new) }
+        ensures counted { D.tells → OnOk result (D.moment self.new.disk ≡ D.moment self.old.disk + 4) }
+        ensures plan { OnOk result (RunsPlan 4 (D.fails_in self.old.disk) (D.fails_in self.new.disk)) }
+        ensures answer { IsAnswer self.old.halted self.new.halted result }
+        ensures refused { OnErr result (IsSame self.old self.new) }
+        ensures no_memory { result ≡ Err FrameFault.NoMemory → IsUntouched D.seen D.may_leave D.moment D.left_since self.old.disk self.new.disk }
+        ensures no_call { result ≡ Err FrameFault.Halted → self.new ≡ self.old }
+        ensures cause { Kept (D.faults self.old.disk) (D.faults self.new.disk) (D.sound self.old.disk) (D.sound self.new.disk) (result ≡ Err FrameFault.Disk) }
+        ensures read { IsRead D.tells D.seen self.new }
+    {
+        if self.halted {
+            return Err(FrameFault::Halted);
+        }
+        Err(FrameFault::NoMemory)
+    }
+
+    /// Puts a block in a slot and appends a frame, which stands only where the block does. It makes five calls of `write_at`
+    /// and `sync`.
+    ///
+    /// # Errors
+    /// [`FrameFault::Halted`], [`FrameFault::Disk`]; [`FrameFault::NoMemory`], before the disk changed.
+    pub fn append_with(&mut self, slot: u32, block: &[u8], frame: Frame) -> Result<(), FrameFault>
+        requires fits { Fits self.old.shape self.old.frames (length frame.body) }
+        requires slot { slot < self.old.shape.records }
+        requires block { length block.now ≡ self.old.shape.block }
+        // After Ok each image opens as the new list.
+        ensures after { D.tells → OnOk result (IsAfter self.old.shape (self.old.frames ++ frame ∷ []) (Some (slot, block.now)) (D.seen self.old.disk) (D.seen self.new.disk)) }
+        ensures durable { D.tells → OnOk result (IsDurable D.tells D.seen D.may_leave self.new) }
+        // At each moment of the call each image opens as the list before it or as the one after it.
+        ensures any_moment { IsDurable D.tells D.seen D.may_leave self.old → self.old.closed ≡ true → LeavesOnly D.moment D.left_since self.old.disk self.new.disk (IsBeforeOrAfter self.old.shape self.old.frames (self.old.frames ++ frame ∷ []) (Some (slot, block.now)) (D.seen self.old.disk)) }
+        ensures ok { OnOk result (HasNow (self.old.frames ++ frame ∷ []) self.old self.new) }
+        ensures counted { D.tells → OnOk result (D.moment self.new.disk ≡ D.moment self.old.disk + 5) }
+        ensures plan { OnOk result (RunsPlan 5 (D.fails_in self.old.disk) (D.fails_in self.new.disk)) }
+        ensures answer { IsAnswer self.old.halted self.new.halted result }
+        ensures refused { OnErr result (IsSame self.old self.new) }
+        ensures no_memory { result ≡ Err FrameFault.NoMemory → IsUntouched D.seen D.may_leave D.moment D.left_since self.old.disk self.new.disk }
+        ensures no_call { result ≡ Err FrameFault.Halted → self.new ≡ self.old }
+        ensures cause { Kept (D.faults self.old.disk) (D.faults self.new.disk) (D.sound self.old.disk) (D.sound self.new.disk) (result ≡ Err FrameFault.Disk) }
+        ensures read { IsRead D.tells D.seen self.new }
+    {
+        if self.halted {
+            return Err(FrameFault::Halted);
+        }
+        Err(FrameFault::NoMemory)
+    }
+
+    /// Puts a list of frames in the place of the one that is there. It makes seven calls of `write_at` and `sync`.
+    ///
+    /// # Errors
+    /// [`FrameFault::Halted`], [`FrameFault::Disk`]; [`FrameFault::NoMemory`], before the disk changed.
+    pub fn rewrite(&mut self, frames: Vec<Frame>) -> Result<(), FrameFault>
+        requires fits { size_of frames.items + 1 ≤ half_size self.old.shape }
+        // After Ok each image opens as the new list.
+        ensures after { D.tells → OnOk result (IsAfter self.old.shape (frames.items) None (D.seen self.old.disk) (D.seen self.new.disk)) }
+        ensures durable { D.tells → OnOk result (IsDurable D.tells D.seen D.may_leave self.new) }
+        // At each moment of the call each image opens as the list before it or as the one after it.
+        ensures any_moment { IsDurable D.tells D.seen D.may_leave self.old → LeavesOnly D.moment D.left_since self.old.disk self.new.disk (IsBeforeOrAfter self.old.shape self.old.frames (frames.items) None (D.seen self.old.disk)) }
+        ensures ok { OnOk result (HasNow (frames.items) self.old self.new) }
+        ensures counted { D.tells → OnOk result (D.moment self.new.disk ≡ D.moment self.old.disk + 7) }
+        ensures plan { OnOk result (RunsPlan 7 (D.fails_in self.old.disk) (D.fails_in self.new.disk)) }
+        ensures answer { IsAnswer self.old.halted self.new.halted result }
+        ensures refused { OnErr result (IsSame self.old self.new) }
+        ensures no_memory { result ≡ Err FrameFault.NoMemory → IsUntouched D.seen D.may_leave D.moment D.left_since self.old.disk self.new.disk }
+        ensures no_call { result ≡ Err FrameFault.Halted → self.new ≡ self.old }
+        ensures cause { Kept (D.faults self.old.disk) (D.faults self.new.disk) (D.sound self.old.disk) (D.sound self.new.disk) (result ≡ Err FrameFault.Disk) }
+        ensures read { IsRead D.tells D.seen self.new }
+    {
+        if self.halted {
+            return Err(FrameFault::Halted);
+        }
+        Err(FrameFault::NoMemory)
+    }
+
+    /// Makes room in memory for the next `sync`, the next `rewrite` of a list equal to this one, and the next append of a body
+    /// of this length with a block, made in this order with any of them left out: none of them then answers NoMemory. It makes
+    /// no call of `write_at` or `sync`.
+    ///
+    /// # Errors
+    /// [`FrameFault::Halted`], [`FrameFault::Disk`]; [`FrameFault::NoMemory`].
+    pub fn reserve(&mut self, frames: &[Frame], length: usize) -> Result<(), FrameFault>
+        requires fits { Fits self.old.shape frames.now length }
+        ensures same { IsSame self.old self.new }
+        ensures untouched { IsUntouched D.seen D.may_leave D.moment D.left_since self.old.disk self.new.disk }
+        ensures plan { KeepsPlan (D.fails_in self.old.disk) (D.fails_in self.new.disk) }
+        ensures answer { IsAnswer self.old.halted self.new.halted result }
+        ensures no_call { result ≡ Err FrameFault.Halted → self.new ≡ self.old }
+        ensures cause { Kept (D.faults self.old.disk) (D.faults self.new.disk) (D.sound self.old.disk) (D.sound self.new.disk) (result ≡ Err FrameFault.Disk) }
+        ensures read { IsRead D.tells D.seen self.new }
+    {
+        if self.halted {
+            return Err(FrameFault::Halted);
+        }
+        Err(FrameFault::NoMemory)
+    }
+
+    /// Syncs the disk: after it a crash leaves what a read gives.
+    ///
+    /// # Errors
+    /// [`FrameFault::Halted`], [`FrameFault::Disk`]; [`FrameFault::NoMemory`], where nothing changed.
+    pub fn sync(&mut self) -> Result<(), FrameFault>
+        ensures durable { D.tells → OnOk result (IsDurable D.tells D.seen D.may_leave self.new) }
+        ensures same { IsSame self.old self.new }
+        ensures content { D.seen self.new.disk ≡ D.seen self.old.disk }
+        ensures crash { (image : List ℕ) → D.may_leave self.new.disk image → D.may_leave self.old.disk image }
+        ensures time { Elapses (D.moment self.old.disk) (D.moment self.new.disk) (D.left_since self.old.disk) (D.left_since self.new.disk) (D.may_leave self.new.disk) }
+        ensures counted { D.tells → OnOk result (D.moment self.new.disk ≡ D.moment self.old.disk + 1) }
+        ensures plan { OnOk result (RunsPlan 1 (D.fails_in self.old.disk) (D.fails_in self.new.disk)) }
+        ensures answer { IsAnswer self.old.halted self.new.halted result }
+        ensures no_memory { result ≡ Err FrameFault.NoMemory → IsUntouched D.seen D.may_leave D.moment D.left_since self.old.disk self.new.disk }
+        ensures no_call { result ≡ Err FrameFault.Halted → self.new ≡ self.old }
+        ensures cause { Kept (D.faults self.old.disk) (D.faults self.new.disk) (D.sound self.old.disk) (D.sound self.new.disk) (result ≡ Err FrameFault.Disk) }
+        ensures read { IsRead D.tells D.seen self.new }
+    {
+        if self.halted {
+            return Err(FrameFault::Halted);
+        }
+        Err(FrameFault::NoMemory)
+    }
+
+    /// The disk. It makes no call of it.
+    pub fn into_disk(self) -> D
+        ensures { result ≡ self.disk }
+    {
+        let FrameStore {
+            disk,
+            alloc: _,
+            shape: _,
+            half: _,
+            generation: _,
+            other_shut: _,
+            frames: _,
+            used: _,
+            closed: _,
+            size: _,
+            halted: _,
+            line: _,
+            spare: _,
+        } = self;
+        disk
+    }
+}
+
+impl<D: Armed> FrameStore<D> {
+    /// Passes a plan on to the disk: see [`Armed::arm`].
+    pub fn arm(&mut self, plan: Plan)
+        ensures same { IsSame self.old self.new }
+        ensures halted { self.new.halted ≡ self.old.halted }
+        ensures content { D.seen self.new.disk ≡ D.seen self.old.disk }
+        ensures crash { (image : List ℕ) → D.may_leave self.new.disk image → D.may_leave self.old.disk image }
+        ensures planned { (n : ℕ) → IsPlanned plan n → D.fails_in self.new.disk n }
+        ensures faults { D.faults self.new.disk ≡ D.faults self.old.disk }
+        ensures room { KeepsRoom (D.has_room self.old.disk) (D.has_room self.new.disk) }
+        ensures sound { plan ≡ Plan.Never → D.sound self.old.disk → D.sound self.new.disk }
+    {
+        self.disk.arm(plan);
+    }
+}
