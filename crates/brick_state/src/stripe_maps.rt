@@ -1,0 +1,97 @@
+//! The stripes of a brick by their places. Places where nothing happened may be in the map or not: a clause sees no difference.
+
+ghost use Rattle.std.specs.Prelude.{◌≡◌, ◌<◌, ◌==◌, not, ◌&&◌, nat_lt, filter, option_copied, option_map, IsOk, IsSome, OnOk, OnErr, IfNone, IfSome};
+ghost use Rattle.brick_state.specs.States.{first_stripe, stripe_in, stripe_of, put, with_order, with_added, with_bottom, with_collected, stamp_of, is_of_view};
+ghost use Rattle.fab_base.specs.Stamps.{stamp_below};
+ghost use Rattle.brick_state.specs.Indexes.{listed, HasRoom};
+
+use crate::stripes::{Entry, Place, Stripe};
+use fab_base::{NoMem, Stamp};
+use std::alloc::Global;
+use std::collections::BTreeMap;
+
+/// The stripe at a place, where the map has it. Where it has none, nothing happened there.
+#[tactic(auto, unfolding(crate::specs::Indexes::listed))]
+pub fn find(stripes: &BTreeMap<Place, Stripe>, place: Place) -> Option<&Stripe>
+    ensures none { IfNone result (stripe_in (listed stripes.now.entries) place ≡ first_stripe place) }
+    ensures some { IfSome result (λ stripe. stripe_in (listed stripes.now.entries) place ≡ stripe_of stripe.now) }
+{
+    let _count = stripes.len();
+    stripes.get(&place)
+}
+
+/// Makes room for a change of a stripe.
+#[tactic(auto, unfolding(crate::specs::Indexes::listed))]
+pub fn make_room(alloc: Global, stripes: &mut BTreeMap<Place, Stripe>, place: Place) -> Result<(), NoMem>
+    ensures same { listed stripes.new.entries ≡ listed stripes.old.entries }
+    ensures room { OnOk result (HasRoom stripes.new place) }
+    ensures enough { HasRoom stripes.old place → IsOk result }
+{
+    if !stripes.contains_key(&place) {
+        stripes.insert(place, Stripe::first(alloc, place))?;
+    }
+    match stripes.get_mut(&place) {
+        Some(stripe) => {
+            stripe.added.reserve(1)?;
+            Ok(())
+        }
+        None => Ok(()),
+    }
+}
+
+/// Sets an order stamp.
+pub fn set_order(stripes: &mut BTreeMap<Place, Stripe>, place: Place, stamp: Stamp)
+    requires { HasRoom stripes.old place }
+    ensures { listed stripes.new.entries ≡ put place (with_order stamp (stripe_in (listed stripes.old.entries) place)) (listed stripes.old.entries) }
+{
+    if let Some(stripe) = stripes.get_mut(&place) {
+        stripe.order = stamp;
+    }
+}
+
+/// Adds a version.
+pub fn add(stripes: &mut BTreeMap<Place, Stripe>, place: Place, entry: Entry)
+    requires { HasRoom stripes.old place }
+    ensures { listed stripes.new.entries ≡ put place (with_added entry (stripe_in (listed stripes.old.entries) place)) (listed stripes.old.entries) }
+{
+    if let Some(stripe) = stripes.get_mut(&place) {
+        let _ = stripe.added.push(entry);
+    }
+}
+
+/// Adds a version in the place of all that are there.
+pub fn set_bottom(stripes: &mut BTreeMap<Place, Stripe>, place: Place, entry: Entry)
+    requires { HasRoom stripes.old place }
+    ensures { listed stripes.new.entries ≡ put place (with_bottom entry (stripe_in (listed stripes.old.entries) place)) (listed stripes.old.entries) }
+{
+    if let Some(stripe) = stripes.get_mut(&place) {
+        stripe.from_start = false;
+        stripe.added.clear();
+        let _ = stripe.added.push(entry);
+    }
+}
+
+/// Drops the versions below a stamp.
+pub fn collect(stripes: &mut BTreeMap<Place, Stripe>, place: Place, stamp: Stamp)
+    requires { HasRoom stripes.old place }
+    ensures { listed stripes.new.entries ≡ put place (with_collected stamp_of stamp (stripe_in (listed stripes.old.entries) place)) (listed stripes.old.entries) }
+{
+    if let Some(stripe) = stripes.get_mut(&place) {
+        stripe.from_start = stripe.from_start && !Stamp::FIRST.is_below(stamp);
+        drop_below(&mut stripe.added, stamp);
+    }
+}
+
+// Drops the entries below the stamp, in place.
+fn drop_below(entries: &mut Vec<Entry>, stamp: Stamp)
+    ensures { entries.new.items ≡ filter (λ e. not (stamp_below (stamp_of e) stamp)) entries.old.items }
+{
+    entries.retain(|entry| !entry.stamp.is_below(stamp));
+}
+
+/// Drops the stripes of a group in the views below one.
+pub fn drop_views(stripes: &mut BTreeMap<Place, Stripe>, group: u32, first: u32)
+    ensures { listed stripes.new.entries ≡ filter (λ e. not (is_of_view group first e.0)) (listed stripes.old.entries) }
+{
+    stripes.retain(|place, _| !(place.0 == group && place.1 < first));
+}
