@@ -1,8 +1,9 @@
 //! The stripes of a brick by their places. Places where nothing happened may be in the map or not: a clause sees no difference.
 
-ghost use Rattle.std.specs.Prelude.{◌≡◌, ◌<◌, ◌==◌, not, ◌&&◌, nat_lt, filter, option_copied, option_map, IsOk, IsSome, OnOk, OnErr, IfNone, IfSome};
-ghost use Rattle.brick_state.specs.States.{first_stripe, stripe_in, stripe_of, put, with_order, with_added, with_bottom, with_collected, stamp_of, is_of_view};
+ghost use Rattle.std.specs.Prelude.{◌≡◌, not, filter, IsOk, IsSome, OnOk, IfNone, IfSome};
+ghost use Rattle.brick_state.specs.States.{place_cmp, first_stripe, stripe_in, stripe_of, put, with_order, with_added, with_bottom, with_collected, stamp_of, is_of_view};
 ghost use Rattle.fab_base.specs.Stamps.{stamp_below};
+ghost use Rattle.std.specs.BTreeMap.{get};
 ghost use Rattle.brick_state.specs.Indexes.{listed, HasRoom};
 
 use crate::stripes::{Entry, Place, Stripe};
@@ -11,7 +12,6 @@ use std::alloc::Global;
 use std::collections::BTreeMap;
 
 /// The stripe at a place, where the map has it. Where it has none, nothing happened there.
-#[tactic(auto, unfolding(crate::specs::Indexes::listed))]
 pub fn find(stripes: &BTreeMap<Place, Stripe>, place: Place) -> Option<&Stripe>
     ensures none { IfNone result (stripe_in (listed stripes.now.entries) place ≡ first_stripe place) }
     ensures some { IfSome result (λ stripe. stripe_in (listed stripes.now.entries) place ≡ stripe_of stripe.now) }
@@ -20,16 +20,28 @@ pub fn find(stripes: &BTreeMap<Place, Stripe>, place: Place) -> Option<&Stripe>
     stripes.get(&place)
 }
 
+// Lists a place, as one where nothing happened where it is new.
+#[tactic(auto, using(crate::proofs::StripeMaps::first_unseen))]
+fn make_entry(alloc: Global, stripes: &mut BTreeMap<Place, Stripe>, place: Place) -> Result<(), NoMem>
+    ensures same { listed stripes.new.entries ≡ listed stripes.old.entries }
+    ensures there { OnOk result (IsSome (get place_cmp stripes.new place)) }
+    ensures enough { IsSome (get place_cmp stripes.old place) → IsOk result × (stripes.new ≡ stripes.old) }
+{
+    if stripes.contains_key(&place) {
+        return Ok(());
+    }
+    let stripe = Stripe::first(alloc, place);
+    stripes.insert(place, stripe)?;
+    Ok(())
+}
+
 /// Makes room for a change of a stripe.
-#[tactic(auto, unfolding(crate::specs::Indexes::listed))]
 pub fn make_room(alloc: Global, stripes: &mut BTreeMap<Place, Stripe>, place: Place) -> Result<(), NoMem>
     ensures same { listed stripes.new.entries ≡ listed stripes.old.entries }
     ensures room { OnOk result (HasRoom stripes.new place) }
     ensures enough { HasRoom stripes.old place → IsOk result }
 {
-    if !stripes.contains_key(&place) {
-        stripes.insert(place, Stripe::first(alloc, place))?;
-    }
+    make_entry(alloc, stripes, place)?;
     match stripes.get_mut(&place) {
         Some(stripe) => {
             stripe.added.reserve(1)?;

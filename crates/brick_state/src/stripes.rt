@@ -50,7 +50,7 @@ impl Stripe {
         requires { length self.now.added.items < 2 ^ 62 }
         ensures { result ≡ weight (stripe_of self.now) }
     {
-        let order = if self.order == Stamp::FIRST { 0 } else { 1 };
+        let order = if self.order.is_same(Stamp::FIRST) { 0 } else { 1 };
         order + self.added.len()
     }
 }
