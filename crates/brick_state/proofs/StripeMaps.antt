@@ -1,12 +1,12 @@
 -- The map of the stripes, and what a clause sees of it.
-use Rattle.std.proofs.Common.{◌≡◌, ℕ, ◌<◌, ◌≤◌, Bool, true, false, not, ◌&&◌, ◌||◌, cond, eqb, Option, Some, None, Result, Ok, Err, is_ok, OnErr, Bor, List, [], ◌∷◌, ◌++◌, length, map, refl, sym, ap, subst, ◌∙◌, arith}
+use Rattle.std.proofs.Common.{◌≡◌, ℕ, ◌+◌, ◌<◌, ◌≤◌, Bool, true, false, not, ◌&&◌, ◌||◌, cond, eqb, Option, Some, None, Result, Ok, Err, is_ok, OnErr, Bor, List, [], ◌∷◌, ◌++◌, length, map, refl, sym, ap, subst, ◌∙◌, arith}
 use Rattle.std.specs.declared.cmp.Ordering.{Ordering}
 use Rattle.std.specs.declared.cmp.Ordering.TheVariants.{Less, Equal, Greater}
 use Rattle.std.specs.Ordering.{nat_cmp, ordering_then}
 use Rattle.std.specs.Cmp.{IsTotalOrder}
-use Rattle.std.specs.List.{filter}
+use Rattle.std.specs.List.{filter, sum_by}
 use Rattle.std.specs.List.Sorted.{IsStrictlySortedBy}
-use Rattle.std.specs.Map.{lookup, set_value, remove_entry, keys_of}
+use Rattle.std.specs.Map.{lookup, set_value, remove_entry, keys_of, values_of}
 use Rattle.std.specs.BTreeMap.{insert_entry, is_at}
 use Rattle.std.specs.Option.{unwrap_or, option_map, option_copied, is_some, IsSome, IfSome, IfNone}
 use Rattle.std.proofs.lemmas.Cmp.{nat_cmp_total, then_total, on_total}
@@ -21,8 +21,8 @@ use Rattle.fab_base.proofs.StampOrder.{stamp_same_true, stamp_same_refl}
 use Rattle.std.specs.declared.alloc.AllocFailed.{AllocFailed}
 use Rattle.brick_state.specs.declared.stripes.Entry.{Entry}
 use Rattle.brick_state.specs.declared.stripes.Stripe.{Stripe}
-use Rattle.brick_state.specs.States.{Place, StripeOf, place_cmp, first_stripe, is_first, stripe_in, put, stripe_of}
-use Rattle.brick_state.specs.Indexes.{listed, seen_entry, is_listed}
+use Rattle.brick_state.specs.States.{Place, StripeOf, place_cmp, first_stripe, is_first, stripe_in, put, weight, live_in, stripe_of}
+use Rattle.brick_state.specs.Maps.{listed, seen_entry, is_listed}
 use Rattle.brick_state.proofs.Listings.{map_values-filter, filter-filter, filter-set_value, lookup-filter, lookup-filter-none, filter-insert_left_out, map_values-set_value, map_values-insert_entry}
 
 -- places are in a total order, and equal places are the same
@@ -163,3 +163,20 @@ same_versions s new order from items = stripe_is (stripe_of new) s.order s.from_
 pub none_is : {X : Type 0} (found : Option X) → is_some found ≡ false → found ≡ None
 none_is None h = refl
 none_is (Some x) h = absurd cc
+
+-- ---- live records
+
+weight_first : {E : Type 0} (p : Place) (s : StripeOf E) → is_first p s ≡ true → weight s ≡ 0
+weight_first p s h = ap weight (is_first-true p s h) ∙ rw (stamp_same_refl first_stamp) refl
+
+-- what is not seen is no live record
+pub live-listed : (entries : List (Place × Stripe)) → live_in (listed entries) ≡ sum_by (λ s. weight (stripe_of s)) (values_of entries)
+unfolding listed
+live-listed [] = refl
+live-listed (e ∷ entries) = by (is_first e.0 (stripe_of e.1)) refl (live-listed entries)
+  where
+    by : (b : Bool) → is_first e.0 (stripe_of e.1) ≡ b → live_in (filter is_listed (map seen_entry entries)) ≡ sum_by (λ s. weight (stripe_of s)) (values_of entries)
+        → live_in (cond (not b) (seen_entry e ∷ filter is_listed (map seen_entry entries)) (filter is_listed (map seen_entry entries)))
+        ≡ weight (stripe_of e.1) + sum_by (λ s. weight (stripe_of s)) (values_of entries)
+    by true at h = h ∙ omega (arith, weight_first e.0 (stripe_of e.1) at)
+    by false at h = ap (λ n. weight (stripe_of e.1) + n) h

@@ -1,26 +1,34 @@
 -- What the index in memory says.
-use Rattle.std.specs.Prelude.{◌≡◌, ℕ, ◌<◌, Bool, not, Option, Some, List, map, filter, vec_len, vec_capacity}
-use Rattle.std.specs.BTreeMap.{BTreeMap, get}
+use Rattle.std.specs.Prelude.{◌≡◌, Bool, true, false, Option, Some, None, List}
 use Rattle.brick_state.specs.declared.stripes.Entry.{Entry}
-use Rattle.brick_state.specs.declared.stripes.Stripe.{Stripe}
 use Rattle.brick_state.specs.declared.indexes.Index.{Index}
-use Rattle.brick_state.specs.States.{Place, StripeOf, place_cmp, is_first, stripe_of}
-
--- the entries of the map, and of these the ones where something happened
-abbrev pub seen_entry : Place × Stripe → Place × StripeOf Entry
-seen_entry e = (e.0, stripe_of e.1)
-
-abbrev pub is_listed : Place × StripeOf Entry → Bool
-is_listed e = not (is_first e.0 e.1)
-
-unfoldable pub listed : List (Place × Stripe) → List (Place × StripeOf Entry)
-listed entries = filter is_listed (map seen_entry entries)
+use Rattle.brick_state.specs.States.{StateOf, Place, StripeOf}
+use Rattle.stamp_store.specs.declared.kept_records.Kept.TheVariants.{Boot, Ballots, Order}
+use Rattle.stamp_store.specs.declared.kept_records.Kept.TheVariants as kinds
+use Rattle.brick_state.specs.declared.records.Record.{Record}
+use Rattle.brick_state.specs.declared.records.Record.TheVariants as forms
+use Rattle.brick_state.specs.Folds.{Limits, place}
+use Rattle.brick_state.specs.Maps.{listed, HasRoom}
 
 abbrev pub stripes_of : Index → List (Place × StripeOf Entry)
 stripes_of index = listed index.stripes.entries
 
--- there is room for one version more at this place
-pub record HasRoom (stripes : BTreeMap Place Stripe) (p : Place) : Type 0 where
-  pub stripe : Stripe
-  pub there : get place_cmp stripes p ≡ Some stripe
-  pub room : vec_len stripe.added < vec_capacity stripe.added
+abbrev pub limits_of : Index → Limits
+limits_of index = record { records = index.records; slots = index.slots }
+
+-- what the brick keeps
+abbrev pub state_of : Index → StateOf Entry
+state_of index = record { boot = index.boot; groups = index.groups.items; stripes = stripes_of index }
+
+-- the answer of a change: it was made, or it can't be
+abbrev pub Answers : StateOf Entry → Option (StateOf Entry) → Bool → Type 0
+Answers now None answer = answer ≡ false
+Answers now (Some st) answer = (answer ≡ true) × (now ≡ st)
+
+-- there is room for the change
+abbrev pub IsReady : Index → Record → Type 0
+IsReady index (forms.Kept (Boot count)) = Unit {0}
+IsReady index (forms.Kept (kinds.View g view synced)) = Unit {0}
+IsReady index (forms.Kept (Ballots g v promised accepted)) = Unit {0}
+IsReady index (forms.Kept (Order g v s t)) = HasRoom index.stripes (place g v s)
+IsReady index (forms.Logged r) = HasRoom index.stripes (place r.group r.view r.stripe)

@@ -1,2 +1,5 @@
 pub mod States
+pub mod Maps
+pub mod Weights
 pub mod Indexes
+pub mod Folds

@@ -1,9 +1,9 @@
 -- What a brick keeps: how often its store was opened; per group the greatest view learnt and its ballots; and per group, view
 -- and stripe an order stamp and a log of versions.
-use Rattle.std.specs.Prelude.{◌≡◌, ℕ, ◌+◌, ◌-◌, ◌<◌, ◌≤◌, Bool, true, false, not, ◌&&◌, ◌||◌, nat_lt, nat_le, ◌==◌, if◌then◌else◌, Option, Some, None, unwrap_or, option_map, is_some, List, [], ◌∷◌, ◌++◌, length, map, filter, sum_by, slice_get, slice_set}
+use Rattle.std.specs.Prelude.{◌≡◌, ℕ, ◌+◌, ◌-◌, ◌<◌, ◌≤◌, Bool, true, false, not, ◌&&◌, ◌||◌, nat_lt, nat_le, ◌==◌, if◌then◌else◌, Option, Some, None, unwrap_or, option_map, is_some, List, [], ◌∷◌, ◌++◌, length, map, filter, sum_by, slice_get, slice_set, slice_index_or, replicate}
 use Rattle.std.specs.declared.cmp.Ordering.{Ordering}
 use Rattle.std.specs.Ordering.{nat_cmp, ordering_then}
-use Rattle.std.specs.Map.{lookup, remove_entry}
+use Rattle.std.specs.Map.{lookup, remove_entry, values_of}
 use Rattle.std.specs.BTreeMap.{insert_entry, is_at}
 use Rattle.std.specs.List.{list_any}
 use Rattle.fab_base.specs.declared.stamps.Stamp.{Stamp}
@@ -11,6 +11,7 @@ use Rattle.fab_base.specs.declared.stamps.Ballot.{Ballot}
 use Rattle.fab_base.specs.declared.identities.BrickId.{BrickId}
 use Rattle.fab_base.specs.declared.member_lists.View.{View}
 use Rattle.fab_base.specs.Stamps.{stamp_below, stamp_same, first_stamp}
+use Rattle.brick_state.specs.declared.groups.Group.{Group}
 use Rattle.brick_state.specs.declared.stripes.Entry.{Entry}
 use Rattle.brick_state.specs.declared.stripes.Stripe.{Stripe}
 
@@ -29,16 +30,10 @@ pub record StripeOf (E : Type 0) : Type 0 where
   pub from_start : Bool
   pub added : List E
 
--- What is kept of a group: the greatest view learnt, above 1, and whether all its stripes are known to be in it; the ballot
--- promised for its successor, with the ballot accepted and its members.
-pub record GroupState : Type 0 where
-  pub known : Option (View × Bool)
-  pub ballots : Option (Ballot × Option (Ballot × List BrickId))
-
 -- what a brick keeps
 pub record StateOf (E : Type 0) : Type 0 where
   pub boot : ℕ
-  pub groups : List GroupState
+  pub groups : List Group
   pub stripes : List (Place × StripeOf E)
 
 -- a stripe that nothing happened to
@@ -66,11 +61,11 @@ with_stripe p s st = record st { stripes = put p s st.stripes }
 abbrev pub weight : {E : Type 0} → StripeOf E → ℕ
 weight s = (if stamp_same s.order first_stamp then 0 else 1) + length s.added
 
-abbrev pub weight_in : {E : Type 0} → Place × StripeOf E → ℕ
-weight_in e = weight e.1
+abbrev pub live_in : {E : Type 0} → List (Place × StripeOf E) → ℕ
+live_in stripes = sum_by weight (values_of stripes)
 
 abbrev pub live : {E : Type 0} → StateOf E → ℕ
-live st = sum_by weight_in st.stripes
+live st = live_in st.stripes
 
 -- a version with the slot of its block
 abbrev pub stamp_of : Entry → Stamp
@@ -118,3 +113,41 @@ stripe_of s = record { order = s.order; from_start = s.from_start; added = s.add
 -- the place is of a view of the group below this one
 abbrev pub is_of_view : ℕ → ℕ → Place → Bool
 is_of_view group first p = (p.0 == group) && nat_lt p.1 first
+
+-- a group that nothing is kept of
+abbrev pub no_group : Group
+no_group = record { known = None; ballots = None }
+
+abbrev pub group_at : {E : Type 0} → StateOf E → ℕ → Group
+group_at st g = slice_index_or st.groups g no_group
+
+-- nothing is kept: the state of a store that was just made
+abbrev pub empty : {E : Type 0} → StateOf E
+empty = record { boot = 0; groups = replicate 64 no_group; stripes = [] }
+
+-- a boot count
+abbrev pub booted : {E : Type 0} → ℕ → StateOf E → StateOf E
+booted n st = record { boot = n; groups = st.groups; stripes = st.stripes }
+
+-- A view. What was promised and accepted for the successor of another view is forgotten, and the logs of the views before its
+-- predecessor are dropped, with their order stamps; those of the predecessor too where all stripes are known to be in the view.
+abbrev pub is_numbered : Option (View × Bool) → ℕ → Bool
+is_numbered None n = false
+is_numbered (Some known) n = known.0.number.0 == n
+
+abbrev pub with_view : View → Bool → Group → Group
+with_view view synced group = record { known = Some (view, synced); ballots = if is_numbered group.known view.number.0 then group.ballots else None }
+
+abbrev pub viewed : {E : Type 0} → ℕ → View → Bool → StateOf E → StateOf E
+viewed g view synced st = record {
+  boot = st.boot;
+  groups = slice_set st.groups g (with_view view synced (group_at st g));
+  stripes = filter (λ e. not (is_of_view g (if synced then view.number.0 else (view.number.0 - 1)) e.0)) st.stripes;
+}
+
+-- ballots
+abbrev pub with_ballots : Ballot → Option (Ballot × List BrickId) → Group → Group
+with_ballots promised accepted group = record { known = group.known; ballots = Some (promised, accepted) }
+
+abbrev pub balloted : {E : Type 0} → ℕ → Ballot → Option (Ballot × List BrickId) → StateOf E → StateOf E
+balloted g promised accepted st = record { boot = st.boot; groups = slice_set st.groups g (with_ballots promised accepted (group_at st g)); stripes = st.stripes }

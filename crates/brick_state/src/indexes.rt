@@ -1,26 +1,186 @@
-//! The index.
+//! The index: what a brick keeps, in memory.
 
+ghost use Rattle.std.specs.Prelude.{◌≡◌, length};
+
+use crate::groups::Group;
+use crate::records::Record;
+use crate::stripe_maps;
 use crate::stripes::{Place, Stripe};
-use fab_base::{Ballot, Members, View};
+use fab_base::{Ballot, Members, NoMem, Stamp, View};
+use stamp_store::{Kept, Logged};
 use std::alloc::Global;
 use std::collections::BTreeMap;
-
-/// What is kept of a group.
-#[derive(Debug, Drop)]
-pub struct Group {
-    /// The greatest view learnt, above 1, and whether all its stripes are known to be in it.
-    pub known: Option<(View, bool)>,
-    /// The ballot promised for its successor, with the ballot accepted and its members.
-    pub ballots: Option<(Ballot, Option<(Ballot, Members)>)>,
-}
 
 /// What a brick keeps, with the slots of its blocks.
 #[derive(Drop)]
 pub struct Index {
     alloc: Global,
     records: u32,
+    slots: u32,
     boot: u32,
     groups: Vec<Group>,
     stripes: BTreeMap<Place, Stripe>,
+    ghost all_groups: { length groups.items ≡ 64 },
 }
 
+impl Index {
+    ghost use Rattle.std.specs.Prelude.{◌≡◌, ◌-◌, ◌^◌, min, true, false, Ok, Some, None, ◌&&◌, nat_lt, nat_le, if◌then◌else◌, IfOk, OnOk, OnErr, IsOk};
+    ghost use Rattle.brick_state.specs.States.{empty, live, viewed, balloted, ordered, stripe_at};
+    ghost use Rattle.brick_state.specs.Folds.{applied, place, is_full, adds_order, placed, log_changed};
+    ghost use Rattle.brick_state.specs.Maps.{HasRoom};
+    ghost use Rattle.brick_state.specs.Indexes.{state_of, limits_of, Answers, IsReady};
+
+    /// The index of a brick that keeps nothing yet, with so many live records at most, and so many slots.
+    pub fn new(alloc: Global, records: u32, slots: u32) -> Result<Index, NoMem>
+        ensures { IfOk result (λ index. state_of index ≡ empty) }
+    {
+        let mut groups = Vec::new(alloc);
+        for _ in 0..64u8 {
+            groups.push(Group {
+                known: None,
+                ballots: None,
+            })?;
+        }
+        Ok(Index {
+            alloc,
+            records,
+            slots,
+            boot: 0,
+            groups,
+            stripes: BTreeMap::new(alloc),
+        })
+    }
+
+    /// How many live records there are: order stamps other than the first, and versions added. At most
+    /// 2^32 - 1 are told.
+    pub fn live(&self) -> u32
+        ensures { result ≡ min (live (state_of self.now)) (2 ^ 32 - 1) }
+    {
+        let total = stripe_maps::weigh(&self.stripes);
+        total.min(4294967295) as u32
+    }
+
+    /// Makes room for a change of a stripe.
+    pub fn reserve(&mut self, place: Place) -> Result<(), NoMem>
+        ensures same { state_of self.new ≡ state_of self.old }
+        ensures limits { limits_of self.new ≡ limits_of self.old }
+        ensures room { OnOk result (HasRoom self.new.stripes place) }
+    {
+        stripe_maps::make_room(self.alloc, &mut self.stripes, place)
+    }
+
+    /// Makes a change. False where the record can't be: then nothing is changed. It takes no memory where
+    /// [`Index::reserve`] made room at the record's place.
+    #[tactic(auto, unfolding(crate::specs::Folds::applied))]
+    pub fn apply(&mut self, record: &Record) -> Result<bool, NoMem>
+        ensures answer { IfOk result (Answers (state_of self.new) (applied (limits_of self.old) record.now (state_of self.old))) }
+        ensures refused { result ≡ Ok false → state_of self.new ≡ state_of self.old }
+        ensures err { OnErr result (state_of self.new ≡ state_of self.old) }
+        ensures limits { limits_of self.new ≡ limits_of self.old }
+        ensures enough { IsReady self.old record.now → IsOk result }
+    {
+        match record {
+            Record::Kept(Kept::Boot(count)) => {
+                self.boot = *count;
+                Ok(true)
+            }
+            Record::Kept(Kept::View {
+                group,
+                view,
+                synced,
+            }) => Ok(self.set_view(group.0, view, *synced)),
+            Record::Kept(Kept::Ballots {
+                group,
+                promised,
+                accepted,
+                ..
+            }) => Ok(self.set_ballots(group.0, *promised, accepted)),
+            Record::Kept(Kept::Order {
+                group,
+                view,
+                stripe,
+                stamp,
+            }) => self.set_order((group.0, view.0, stripe.0), *stamp),
+            Record::Logged(logged) => self.change_log(logged),
+        }
+    }
+
+    fn is_full(&self) -> bool
+        ensures { result ≡ is_full (limits_of self.now) (state_of self.now) }
+    {
+        self.live() >= self.records
+    }
+
+    fn set_view(&mut self, group: u32, view: &View, synced: bool) -> bool
+        ensures answer { Answers (state_of self.new) (if nat_lt group 64 && nat_le 2 view.now.number.0 then Some (viewed group view.now synced (state_of self.old)) else None) result }
+        ensures refused { result ≡ false → state_of self.new ≡ state_of self.old }
+        ensures limits { limits_of self.new ≡ limits_of self.old }
+    {
+        if group >= 64 || view.number.0 < 2 {
+            return false;
+        }
+        let first = if synced { view.number.0 } else { view.number.0 - 1 };
+        let entry = &mut self.groups[group as usize];
+        entry.learn(view, synced);
+        stripe_maps::drop_views(&mut self.stripes, group, first);
+        true
+    }
+
+    fn set_ballots(&mut self, group: u32, promised: Ballot, accepted: &Option<(Ballot, Members)>) -> bool
+        ensures answer { Answers (state_of self.new) (if nat_lt group 64 then Some (balloted group promised accepted.now (state_of self.old)) else None) result }
+        ensures refused { result ≡ false → state_of self.new ≡ state_of self.old }
+        ensures limits { limits_of self.new ≡ limits_of self.old }
+    {
+        if group >= 64 {
+            return false;
+        }
+        let entry = &mut self.groups[group as usize];
+        entry.promise(promised, accepted);
+        true
+    }
+
+    fn set_order(&mut self, place: Place, stamp: Stamp) -> Result<bool, NoMem>
+        ensures answer { IfOk result (Answers (state_of self.new) (if nat_lt place.0 64 then (if adds_order stamp (stripe_at (state_of self.old) place) && is_full (limits_of self.old) (state_of self.old) then None else Some (ordered place stamp (state_of self.old))) else None)) }
+        ensures refused { result ≡ Ok false → state_of self.new ≡ state_of self.old }
+        ensures err { OnErr result (state_of self.new ≡ state_of self.old) }
+        ensures limits { limits_of self.new ≡ limits_of self.old }
+        ensures enough { HasRoom self.old.stripes place → IsOk result }
+    {
+        if place.0 >= 64 {
+            return Ok(false);
+        }
+        stripe_maps::make_room(self.alloc, &mut self.stripes, place)?;
+        let adds = self.order(place).is_same(Stamp::FIRST) && !stamp.is_same(Stamp::FIRST);
+        if adds && self.is_full() {
+            return Ok(false);
+        }
+        stripe_maps::set_order(&mut self.stripes, place, stamp);
+        Ok(true)
+    }
+
+    /// The order stamp of a stripe.
+    pub fn order(&self, place: Place) -> Stamp
+        ensures { result ≡ (stripe_at (state_of self.now) place).order }
+    {
+        match stripe_maps::find(&self.stripes, place) {
+            Some(stripe) => stripe.order,
+            None => Stamp::FIRST,
+        }
+    }
+
+    fn change_log(&mut self, logged: &Logged) -> Result<bool, NoMem>
+        ensures answer { IfOk result (Answers (state_of self.new) (if nat_lt logged.now.group.0 64 then placed (place logged.now.group logged.now.view logged.now.stripe) (state_of self.old) (log_changed (limits_of self.old) (is_full (limits_of self.old) (state_of self.old)) logged.now.change logged.now.stamp (stripe_at (state_of self.old) (place logged.now.group logged.now.view logged.now.stripe))) else None)) }
+        ensures refused { result ≡ Ok false → state_of self.new ≡ state_of self.old }
+        ensures err { OnErr result (state_of self.new ≡ state_of self.old) }
+        ensures limits { limits_of self.new ≡ limits_of self.old }
+        ensures enough { HasRoom self.old.stripes (place logged.now.group logged.now.view logged.now.stripe) → IsOk result }
+    {
+        if logged.group.0 >= 64 {
+            return Ok(false);
+        }
+        let place = (logged.group.0, logged.view.0, logged.stripe.0);
+        stripe_maps::make_room(self.alloc, &mut self.stripes, place)?;
+        let full = self.is_full();
+        Ok(stripe_maps::change_log(&mut self.stripes, place, logged.stamp, logged.change, self.slots, full))
+    }
+}

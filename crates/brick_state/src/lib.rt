@@ -5,11 +5,13 @@
 //! Of a version's block it keeps the slot that the block lies in. It knows no disk.
 #![tactic(auto)]
 
+pub mod groups;
 pub mod indexes;
 pub mod records;
 mod stripe_maps;
 pub mod stripes;
 
-pub use indexes::{Group, Index};
+pub use groups::Group;
+pub use indexes::Index;
 pub use records::Record;
 pub use stripes::{Entry, Place, Stripe, ZERO_SLOT};

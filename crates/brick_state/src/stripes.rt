@@ -1,8 +1,8 @@
 //! What is kept of one stripe.
 
 
-ghost use Rattle.std.specs.Prelude.{◌≡◌, ◌<◌, ◌^◌, length};
-ghost use Rattle.brick_state.specs.States.{first_stripe, weight, stripe_of};
+ghost use Rattle.std.specs.Prelude.{◌≡◌, ◌-◌, ◌^◌, min};
+ghost use Rattle.brick_state.specs.States.{first_stripe, weight, stripe_of, newest_entry, has_version};
 
 use fab_base::{NoMem, Stamp};
 use std::alloc::Global;
@@ -20,6 +20,14 @@ pub struct Entry {
     pub stamp: Stamp,
     /// The slot.
     pub slot: u32,
+}
+
+impl Entry {
+    /// The version that a stripe of view 1 begins with.
+    pub const FIRST: Entry = Entry {
+        stamp: Stamp::FIRST,
+        slot: ZERO_SLOT,
+    };
 }
 
 /// The order stamp and the log of a stripe in a view.
@@ -47,10 +55,40 @@ impl Stripe {
 
     /// How many live records it has: the order stamp where it is not the first, and the versions added.
     pub fn weight(&self) -> usize
-        requires { length self.now.added.items < 2 ^ 62 }
-        ensures { result ≡ weight (stripe_of self.now) }
+        ensures { result ≡ min (weight (stripe_of self.now)) (2 ^ 64 - 1) }
     {
-        let order = if self.order.is_same(Stamp::FIRST) { 0 } else { 1 };
-        order + self.added.len()
+        let order = if self.order.is_same(Stamp::FIRST) { 0 } else { 1usize };
+        order.saturating_add(self.added.len())
+    }
+
+    /// The version that a stripe of this place begins with, if there is one.
+    pub fn first_entry(place: Place) -> Option<Entry>
+        ensures { result ≡ newest_entry (first_stripe place) }
+    {
+        if place.1 == 1 { Some(Entry::FIRST) } else { None }
+    }
+
+    /// The version with the greatest stamp.
+    pub fn newest(&self) -> Option<Entry>
+        ensures { result ≡ newest_entry (stripe_of self.now) }
+    {
+        match self.added.last() {
+            Some(entry) => Some(*entry),
+            None => {
+                if self.from_start {
+                    Some(Entry::FIRST)
+                } else {
+                    None
+                }
+            }
+        }
+    }
+
+    /// Whether there is a version with this stamp.
+    pub fn has(&self, stamp: Stamp) -> bool
+        ensures { result ≡ has_version stamp (stripe_of self.now) }
+    {
+        (self.from_start && Stamp::FIRST.is_same(stamp))
+            || self.added.iter().any(|entry| entry.stamp.is_same(stamp))
     }
 }

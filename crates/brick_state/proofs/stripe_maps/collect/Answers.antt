@@ -4,7 +4,7 @@ use Rattle.std.specs.List.{filter}
 use Rattle.fab_base.specs.Stamps.{stamp_below, first_stamp}
 use Rattle.brick_state.specs.declared.stripes.Stripe.{Stripe}
 use Rattle.brick_state.specs.States.{put, with_collected, stamp_of}
-use Rattle.brick_state.specs.Indexes.{listed}
+use Rattle.brick_state.specs.Maps.{listed}
 use Rattle.brick_state.proofs.StripeMaps.{written_at, found_at}
 use Rattle.brick_state.proofs.stripe_maps.collect.Goals as goal
 use Rattle.brick_state.proofs.stripe_maps.collect.Goals.{then-stripe, else-stripe}

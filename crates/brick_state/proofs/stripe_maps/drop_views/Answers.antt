@@ -4,7 +4,7 @@ use Rattle.std.proofs.lemmas.Map.Made.{filter_same_pairs}
 use Rattle.std.specs.List.{filter}
 use Rattle.brick_state.specs.declared.stripes.Stripe.{Stripe}
 use Rattle.brick_state.specs.States.{Place, is_of_view}
-use Rattle.brick_state.specs.Indexes.{listed}
+use Rattle.brick_state.specs.Maps.{listed}
 use Rattle.brick_state.proofs.StripeMaps.{listed-filter}
 use Rattle.brick_state.proofs.stripe_maps.drop_views.Goals as goal
 

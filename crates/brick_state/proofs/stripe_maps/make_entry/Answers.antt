@@ -1,6 +1,6 @@
 -- A stripe that nothing happened to is not seen.
 use Rattle.std.proofs.Common.{◌≡◌, None, sym, ap, ◌∙◌, rules}
-use Rattle.brick_state.specs.Indexes.{listed}
+use Rattle.brick_state.specs.Maps.{listed}
 use Rattle.brick_state.proofs.StripeMaps.{first_unseen, none_is}
 use Rattle.brick_state.proofs.stripe_maps.make_entry.Goals as goal
 

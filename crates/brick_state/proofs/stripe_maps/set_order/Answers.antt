@@ -1,7 +1,7 @@
 -- The stripe with the order stamp stands in the map.
 use Rattle.std.proofs.Common.{sym, ap, ◌∙◌}
 use Rattle.brick_state.specs.States.{put, with_order}
-use Rattle.brick_state.specs.Indexes.{listed}
+use Rattle.brick_state.specs.Maps.{listed}
 use Rattle.brick_state.proofs.StripeMaps.{written_at, found_at}
 use Rattle.brick_state.proofs.stripe_maps.set_order.Goals as goal
 
