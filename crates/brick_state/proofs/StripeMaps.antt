@@ -13,6 +13,7 @@ use Rattle.std.proofs.lemmas.Cmp.{nat_cmp_total, then_total, on_total}
 use Rattle.std.proofs.lemmas.Map.Lookups.{exact_unsigned}
 use Rattle.std.proofs.lemmas.Map.Made.{lookup-map_values, keys_of-map_values}
 use Rattle.std.proofs.lemmas.Map.Steps.{set_value_same}
+use Rattle.std.proofs.lemmas.List.Sums.{sum_by-cons}
 use Rattle.std.proofs.lemmas.Bool.{and_parts, eqb-true}
 use Rattle.std.proofs.lemmas.List.{nil_from_length}
 use Rattle.fab_base.specs.declared.stamps.Stamp.{Stamp}
@@ -173,10 +174,10 @@ weight_first p s h = ap weight (is_first-true p s h) ∙ rw (stamp_same_refl fir
 pub live-listed : (entries : List (Place × Stripe)) → live_in (listed entries) ≡ sum_by (λ s. weight (stripe_of s)) (values_of entries)
 unfolding listed
 live-listed [] = refl
-live-listed (e ∷ entries) = by (is_first e.0 (stripe_of e.1)) refl (live-listed entries)
+live-listed (e ∷ entries) = by (is_first e.0 (stripe_of e.1)) refl (live-listed entries) ∙ sym (sum_by-cons (λ s. weight (stripe_of s)) e.1 (values_of entries))
   where
     by : (b : Bool) → is_first e.0 (stripe_of e.1) ≡ b → live_in (filter is_listed (map seen_entry entries)) ≡ sum_by (λ s. weight (stripe_of s)) (values_of entries)
         → live_in (cond (not b) (seen_entry e ∷ filter is_listed (map seen_entry entries)) (filter is_listed (map seen_entry entries)))
         ≡ weight (stripe_of e.1) + sum_by (λ s. weight (stripe_of s)) (values_of entries)
     by true at h = h ∙ omega (arith, weight_first e.0 (stripe_of e.1) at)
-    by false at h = ap (λ n. weight (stripe_of e.1) + n) h
+    by false at h = rw sum_by-cons (ap (λ n. weight (stripe_of e.1) + n) h)

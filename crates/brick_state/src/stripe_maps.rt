@@ -1,9 +1,9 @@
 //! The stripes of a brick by their places. Places where nothing happened may be in the map or not: a clause sees no difference.
 
-ghost use Rattle.std.specs.Prelude.{◌≡◌, ◌-◌, ◌^◌, ◌==◌, ◌&&◌, ◌||◌, Some, None, if◌then◌else◌, length, min, not, filter, IsOk, IsSome, OnOk, IfNone, IfSome};
-ghost use Rattle.brick_state.specs.States.{place_cmp, first_stripe, stripe_in, stripe_of, put, with_order, with_added, with_bottom, with_collected, stamp_of, is_of_view, newest_entry, has_version};
+ghost use Rattle.std.specs.Prelude.{◌≡◌, ◌-◌, ◌^◌, ◌==◌, ◌&&◌, ◌||◌, Some, None, if◌then◌else◌, length, min, sum_by, not, filter, IsOk, IsSome, OnOk, IfNone, IfSome};
+ghost use Rattle.brick_state.specs.States.{place_cmp, weight, first_stripe, stripe_in, stripe_of, put, with_order, with_added, with_bottom, with_collected, stamp_of, is_of_view, newest_entry, has_version};
 ghost use Rattle.fab_base.specs.Stamps.{stamp_below};
-ghost use Rattle.std.specs.BTreeMap.{get};
+ghost use Rattle.std.specs.BTreeMap.{get, values};
 ghost use Rattle.brick_state.specs.Weights.{live_of};
 ghost use Rattle.brick_state.specs.Maps.{listed, HasRoom, AnswersAt};
 ghost use Rattle.brick_state.specs.Folds.{log_changed, same_added, is_above, slot_limits};
@@ -41,6 +41,12 @@ fn make_entry(alloc: Global, stripes: &mut BTreeMap<Place, Stripe>, place: Place
 /// How many live records the stripes have, where that is below 2^64.
 pub fn weigh(stripes: &BTreeMap<Place, Stripe>) -> usize
     ensures { result ≡ min (live_of stripes.now) (2 ^ 64 - 1) }
+{
+    weigh_all(stripes)
+}
+
+fn weigh_all(stripes: &BTreeMap<Place, Stripe>) -> usize
+    ensures { result ≡ min (sum_by (λ s. weight (stripe_of s)) (values stripes.now)) (2 ^ 64 - 1) }
 {
     let mut total = 0usize;
     for stripe in stripes.values() {

@@ -2,6 +2,8 @@
 
 
 ghost use Rattle.std.specs.Prelude.{◌≡◌, ◌-◌, ◌^◌, min};
+ghost use Rattle.std.specs.List.{list_any};
+ghost use Rattle.fab_base.specs.Stamps.{stamp_same};
 ghost use Rattle.brick_state.specs.States.{first_stripe, weight, stripe_of, newest_entry, has_version};
 
 use fab_base::{NoMem, Stamp};
@@ -88,7 +90,13 @@ impl Stripe {
     pub fn has(&self, stamp: Stamp) -> bool
         ensures { result ≡ has_version stamp (stripe_of self.now) }
     {
-        (self.from_start && Stamp::FIRST.is_same(stamp))
-            || self.added.iter().any(|entry| entry.stamp.is_same(stamp))
+        let added = any_has(&self.added, stamp);
+        (self.from_start && Stamp::FIRST.is_same(stamp)) || added
     }
+}
+
+fn any_has(entries: &[Entry], stamp: Stamp) -> bool
+    ensures { result ≡ list_any (λ e. stamp_same e.stamp stamp) entries.now }
+{
+    entries.iter().any(|entry| entry.stamp.is_same(stamp))
 }
