@@ -3,3 +3,4 @@ pub mod Maps
 pub mod Weights
 pub mod Indexes
 pub mod Folds
+pub mod Rewrites

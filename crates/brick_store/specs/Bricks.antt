@@ -1,6 +1,8 @@
 -- What a clause sees of a brick's store, and of the answers of its calls.
 use Rattle.std.specs.Prelude.{◌≡◌, ◌≢◌, ℕ, ◌<◌, Bool, true, false, Result, Ok, Err}
 use Rattle.version_log.specs.Versions.{Version}
+use Rattle.frame_store.specs.declared.faults.FrameFault.{FrameFault}
+use Rattle.frame_store.specs.declared.faults.FrameFault.TheVariants as frames
 use Rattle.frame_store.specs.declared.shapes.Shape.{Shape}
 use Rattle.brick_state.specs.States.{StateOf, live}
 use Rattle.brick_store.specs.declared.faults.StoreFault.{StoreFault}
@@ -34,3 +36,10 @@ pub record IsAnswer (records live_before : ℕ) (adds : Bool) (halted halted_now
   pub a_store : result ≢ Err NotAStore
   pub not_worn : result ≢ Err Worn
   pub halts : halted_now ≡ halted_after halted result
+
+-- a fault of the list of frames is one of the store
+abbrev pub fault_of : FrameFault → StoreFault
+fault_of frames.Disk = Disk
+fault_of frames.Halted = Halted
+fault_of frames.NotAStore = NotAStore
+fault_of frames.NoMemory = NoMemory

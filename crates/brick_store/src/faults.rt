@@ -4,6 +4,7 @@ ghost use Rattle.std.specs.Prelude.{◌≡◌};
 ghost use Rattle.brick_store.specs.declared.faults.StoreFault.TheVariants.{NoMemory};
 
 use fab_base::NoMem;
+use frame_store::FrameFault;
 use std::alloc::{AllocError, AllocFailed};
 use thiserror::Error;
 
@@ -31,6 +32,21 @@ pub enum StoreFault {
     /// Memory was refused, and nothing changed.
     #[error("out of memory")]
     NoMemory,
+}
+
+impl From<FrameFault> for StoreFault {
+    ghost use Rattle.brick_store.specs.Bricks.{fault_of};
+
+    ghost from_gives = { λ fault e. e ≡ fault_of fault };
+
+    fn from(fault: FrameFault) -> Self {
+        match fault {
+            FrameFault::Disk => StoreFault::Disk,
+            FrameFault::Halted => StoreFault::Halted,
+            FrameFault::NotAStore => StoreFault::NotAStore,
+            FrameFault::NoMemory => StoreFault::NoMemory,
+        }
+    }
 }
 
 impl From<AllocError> for StoreFault {

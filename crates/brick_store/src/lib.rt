@@ -5,3 +5,7 @@
 #![tactic(auto)]
 
 pub mod faults;
+pub mod formats;
+
+pub use faults::StoreFault;
+pub use formats::format;
