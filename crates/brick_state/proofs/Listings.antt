@@ -14,7 +14,6 @@ use Rattle.std.proofs.lemmas.Map.Entries.{none_below_head}
 use Rattle.std.proofs.lemmas.Map.Keys.{sorted_head, sorted_tail}
 
 module _ {K X : Type 0} {R : K → K → Ordering} (o : IsTotalOrder R) (exact : (x y : K) → R x y ≡ Equal → x ≡ y) where
-
   -- an entry whose key is below all keys goes to the front
   pub insert_front : (k : K) (v : X) (es : List (K × X)) → AllByRecursion (λ e. R k e.0 ≡ Less) es → insert_entry R es k v ≡ (k, v) ∷ es
   insert_front k v [] below = refl
@@ -119,6 +118,7 @@ module _ {K X : Type 0} {R : K → K → Ordering} (o : IsTotalOrder R) (exact :
         where
           some_value : {a b : X} → Some a ≡ Some b → a ≡ b
           some_value h = cc
+
           pair_is : e.0 ≡ k → e.1 ≡ v → e ≡ (k, v)
           pair_is p q = ap (λ (x : K). (x, e.1)) p ∙ ap (λ (y : X). (k, y)) q
       by_order Greater at found ih =
@@ -136,6 +136,7 @@ lookup-filter-none {K} {X} test keep (e ∷ es) none = by_test (test e.0) refl n
     kept : (b : Bool) → test e.0 ≡ false → lookup test (filter keep es) ≡ None → lookup test (cond b (e ∷ filter keep es) (filter keep es)) ≡ None
     kept true past rest = rw past rest
     kept false past rest = rest
+
     by_test : (b : Bool) → test e.0 ≡ b → cond (test e.0) (Some e.1) (lookup test es) ≡ None → (lookup test es ≡ None → lookup test (filter keep es) ≡ None) → lookup test (filter keep (e ∷ es)) ≡ None
     by_test true at h ih = absurd (some_none (sym (ap (λ (b : Bool). cond b (Some e.1) (lookup test es)) at) ∙ h))
       where
@@ -151,6 +152,7 @@ filter-insert_left_out {K} {X} R keep k v (e ∷ es) none out = by_order (R k e.
   where
     after : (b : Bool) → filter keep (insert_entry R es k v) ≡ filter keep es → cond b (e ∷ filter keep (insert_entry R es k v)) (filter keep (insert_entry R es k v)) ≡ cond b (e ∷ filter keep es) (filter keep es)
     after b same = ap (λ (fs : List (K × X)). cond b (e ∷ fs) fs) same
+
     by_order : (r : Ordering) → R k e.0 ≡ r → (lookup (is_at (R k)) es ≡ None → filter keep (insert_entry R es k v) ≡ filter keep es) → filter keep (insert_entry R (e ∷ es) k v) ≡ filter keep (e ∷ es)
     by_order Less at ih = rw (at, out) refl
     by_order Equal at ih = absurd (some_none (sym (ap (λ (b : Bool). cond b (Some e.1) (lookup (is_at (R k)) es)) (ap is_eq at)) ∙ none))

@@ -43,6 +43,7 @@ place_exact x y h =
   where
     made : ℕ → ℕ → ℕ → Place
     made g v s = (g, v, s)
+
     same : (g h v w s t : ℕ) → g ≡ h → v ≡ w → s ≡ t → made g v s ≡ made h w t
     same g h v w s t p q r = cc
 

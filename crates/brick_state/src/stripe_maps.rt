@@ -25,7 +25,11 @@ pub fn find(stripes: &BTreeMap<Place, Stripe>, place: Place) -> Option<&Stripe>
 
 // Lists a place, as one where nothing happened where it is new.
 #[tactic(auto, using(crate::proofs::StripeMaps::first_unseen))]
-fn make_entry(alloc: Global, stripes: &mut BTreeMap<Place, Stripe>, place: Place) -> Result<(), NoMem>
+fn make_entry(
+    alloc: Global,
+    stripes: &mut BTreeMap<Place, Stripe>,
+    place: Place,
+) -> Result<(), NoMem>
     ensures same { listed stripes.new.entries ≡ listed stripes.old.entries }
     ensures there { OnOk result (IsSome (get place_cmp stripes.new place)) }
     ensures enough { IsSome (get place_cmp stripes.old place) → IsOk result × (stripes.new ≡ stripes.old) }
@@ -56,7 +60,11 @@ fn weigh_all(stripes: &BTreeMap<Place, Stripe>) -> usize
 }
 
 /// Makes room for a change of a stripe.
-pub fn make_room(alloc: Global, stripes: &mut BTreeMap<Place, Stripe>, place: Place) -> Result<(), NoMem>
+pub fn make_room(
+    alloc: Global,
+    stripes: &mut BTreeMap<Place, Stripe>,
+    place: Place,
+) -> Result<(), NoMem>
     ensures same { listed stripes.new.entries ≡ listed stripes.old.entries }
     ensures room { OnOk result (HasRoom stripes.new place) }
     ensures enough { HasRoom stripes.old place → IsOk result }

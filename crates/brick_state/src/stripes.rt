@@ -1,6 +1,5 @@
 //! What is kept of one stripe.
 
-
 ghost use Rattle.std.specs.Prelude.{◌≡◌, ◌-◌, ◌^◌, min};
 ghost use Rattle.std.specs.List.{list_any};
 ghost use Rattle.fab_base.specs.Stamps.{stamp_same};
@@ -59,7 +58,11 @@ impl Stripe {
     pub fn weight(&self) -> usize
         ensures { result ≡ min (weight (stripe_of self.now)) (2 ^ 64 - 1) }
     {
-        let order = if self.order.is_same(Stamp::FIRST) { 0 } else { 1usize };
+        let order = if self.order.is_same(Stamp::FIRST) {
+            0
+        } else {
+            1usize
+        };
         order.saturating_add(self.added.len())
     }
 
@@ -67,7 +70,11 @@ impl Stripe {
     pub fn first_entry(place: Place) -> Option<Entry>
         ensures { result ≡ newest_entry (first_stripe place) }
     {
-        if place.1 == 1 { Some(Entry::FIRST) } else { None }
+        if place.1 == 1 {
+            Some(Entry::FIRST)
+        } else {
+            None
+        }
     }
 
     /// The version with the greatest stamp.
