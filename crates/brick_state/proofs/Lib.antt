@@ -1,3 +1,6 @@
 pub mod Listings
 pub mod StripeMaps
 pub mod Applying
+pub mod Rewriting
+pub mod Growing
+pub mod StripeRewrites

@@ -2,7 +2,8 @@
 use Rattle.std.proofs.Common.{◌≡◌, ℕ, Bool, true, false, cond, Option, Some, None, List, [], ◌∷◌, ◌++◌, map, refl, sym, ap, subst, ◌∙◌}
 use Rattle.std.specs.declared.cmp.Ordering.{Ordering}
 use Rattle.std.specs.declared.cmp.Ordering.TheVariants.{Less, Equal, Greater}
-use Rattle.std.specs.Ordering.{is_eq, match_ordering}
+use Rattle.std.specs.Ordering.{is_eq, match_ordering, ordering_reverse}
+use Rattle.std.proofs.lemmas.Cmp.{tied_itself}
 use Rattle.std.specs.Cmp.{IsTotalOrder}
 use Rattle.std.specs.List.{filter, AllByRecursion}
 use Rattle.std.specs.List.Sorted.{IsStrictlySortedBy}
@@ -214,3 +215,38 @@ map_values-filter {K} {X} {Y} f keep (e ∷ es) = by (keep e.0) (map_values-filt
         → map_values f (cond b (e ∷ filter (λ g. keep g.0) es) (filter (λ g. keep g.0) es)) ≡ cond b ((e.0, f e.1) ∷ filter (λ g. keep g.0) (map_values f es)) (filter (λ g. keep g.0) (map_values f es))
     by true h = ap (λ (fs : List (K × Y)). (e.0, f e.1) ∷ fs) h
     by false h = h
+
+-- ---- an entry above all others
+
+after_from : {K : Type 0} {R : K → K → Ordering} → IsTotalOrder R → (k q : K) → R q k ≡ Less → R k q ≡ Greater
+after_from o k q less = o.antisymm k q ∙ ap ordering_reverse less
+
+module _ {K X : Type 0} {R : K → K → Ordering} (o : IsTotalOrder R) where
+
+  -- each key is below this one
+  abbrev pub AllBelow : K → List (K × X) → Type 0
+  AllBelow k es = AllByRecursion (λ e. R e.0 k ≡ Less) es
+
+  pub insert_last : (k : K) (v : X) (es : List (K × X)) → AllBelow k es → insert_entry R es k v ≡ es ++ (k, v) ∷ []
+  insert_last k v [] below = refl
+  insert_last k v (e ∷ es) below = rw (after_from o k e.0 below.0) (ap (λ (fs : List (K × X)). e ∷ fs) (insert_last k v es below.1))
+
+  pub insert_again : (k : K) (v w : X) (es : List (K × X)) → AllBelow k es → insert_entry R (es ++ (k, v) ∷ []) k w ≡ es ++ (k, w) ∷ []
+  insert_again k v w [] below = rw (tied_itself o k) refl
+  insert_again k v w (e ∷ es) below = rw (after_from o k e.0 below.0) (ap (λ (fs : List (K × X)). e ∷ fs) (insert_again k v w es below.1))
+
+  pub lookup_last : (k : K) (v : X) (es : List (K × X)) → AllBelow k es → lookup (is_at (R k)) (es ++ (k, v) ∷ []) ≡ Some v
+  lookup_last k v [] below = rw (tied_itself o k) refl
+  lookup_last k v (e ∷ es) below = rw (after_from o k e.0 below.0) (lookup_last k v es below.1)
+
+  pub lookup_above : (k : K) (es : List (K × X)) → AllBelow k es → lookup (is_at (R k)) es ≡ None
+  lookup_above k [] below = refl
+  lookup_above k (e ∷ es) below = rw (after_from o k e.0 below.0) (lookup_above k es below.1)
+
+  pub remove_above : (k : K) (es : List (K × X)) → AllBelow k es → remove_entry (is_at (R k)) es ≡ es
+  remove_above k [] below = refl
+  remove_above k (e ∷ es) below = rw (after_from o k e.0 below.0) (ap (λ (fs : List (K × X)). e ∷ fs) (remove_above k es below.1))
+
+  pub remove_last : (k : K) (v : X) (es : List (K × X)) → AllBelow k es → remove_entry (is_at (R k)) (es ++ (k, v) ∷ []) ≡ es
+  remove_last k v [] below = rw (tied_itself o k) refl
+  remove_last k v (e ∷ es) below = rw (after_from o k e.0 below.0) (ap (λ (fs : List (K × X)). e ∷ fs) (remove_last k v es below.1))

@@ -48,7 +48,7 @@ place_exact x y h =
     same g h v w s t p q r = cc
 
 -- a stripe that nothing happened to is the first one
-stripe_is : {E : Type 0} (s : StripeOf E) (order : Stamp) (from : Bool) (added : List E) → s.order ≡ order → s.from_start ≡ from → s.added ≡ added → s ≡ record { order = order; from_start = from; added = added }
+pub stripe_is : {E : Type 0} (s : StripeOf E) (order : Stamp) (from : Bool) (added : List E) → s.order ≡ order → s.from_start ≡ from → s.added ≡ added → s ≡ record { order = order; from_start = from; added = added }
 stripe_is {E} s order from added p q r =
     ap (λ (t : Stamp). record { order = t; from_start = s.from_start; added = s.added }) p
     ∙ ap (λ (t : Bool). record { order = order; from_start = t; added = s.added }) q
@@ -168,7 +168,7 @@ none_is (Some x) h = absurd cc
 
 -- ---- live records
 
-weight_first : {E : Type 0} (p : Place) (s : StripeOf E) → is_first p s ≡ true → weight s ≡ 0
+pub weight_first : {E : Type 0} (p : Place) (s : StripeOf E) → is_first p s ≡ true → weight s ≡ 0
 weight_first p s h = ap weight (is_first-true p s h) ∙ rw (stamp_same_refl first_stamp) refl
 
 -- what is not seen is no live record

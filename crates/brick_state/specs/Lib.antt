@@ -4,3 +4,4 @@ pub mod Weights
 pub mod Indexes
 pub mod Folds
 pub mod Rewrites
+pub mod KeptStates

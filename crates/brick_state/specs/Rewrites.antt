@@ -49,8 +49,11 @@ unfoldable pub groups_records : ℕ → List Group → List Record
 groups_records g [] = []
 groups_records g (group ∷ groups) = group_records g group ++ groups_records (suc g) groups
 
+abbrev pub order_record : Place → Stamp → Record
+order_record p t = forms.Kept (Order (group_id p.0) (view_no p.1) (stripe_no p.2) t)
+
 abbrev pub order_records : Place → Stamp → List Record
-order_records p t = if stamp_same t first_stamp then [] else forms.Kept (Order (group_id p.0) (view_no p.1) (stripe_no p.2) t) ∷ []
+order_records p t = if stamp_same t first_stamp then [] else order_record p t ∷ []
 
 -- A version by the one below it: with its block, or in a slot of its own. Where none stays below it, all below were dropped.
 abbrev pub version_change : Option Entry → Entry → LogChange
