@@ -4,3 +4,4 @@ pub mod Applying
 pub mod Rewriting
 pub mod Growing
 pub mod StripeRewrites
+pub mod StateRewrites

@@ -34,13 +34,19 @@ abbrev pub learnt_number : Option (View × Bool) → ℕ
 learnt_number None = 1
 learnt_number (Some known) = known.0.number.0
 
+abbrev pub view_record : ℕ → View × Bool → Record
+view_record g known = forms.Kept (kinds.View (group_id g) known.0 known.1)
+
 abbrev pub view_records : ℕ → Option (View × Bool) → List Record
 view_records g None = []
-view_records g (Some known) = forms.Kept (kinds.View (group_id g) known.0 known.1) ∷ []
+view_records g (Some known) = view_record g known ∷ []
+
+abbrev pub ballot_record : ℕ → ℕ → Ballot × Option (Ballot × List BrickId) → Record
+ballot_record g v b = forms.Kept (Ballots (group_id g) (view_no v) b.0 b.1)
 
 abbrev pub ballot_records : ℕ → ℕ → Option (Ballot × Option (Ballot × List BrickId)) → List Record
 ballot_records g v None = []
-ballot_records g v (Some b) = forms.Kept (Ballots (group_id g) (view_no v) b.0 b.1) ∷ []
+ballot_records g v (Some b) = ballot_record g v b ∷ []
 
 abbrev pub group_records : ℕ → Group → List Record
 group_records g group = view_records g group.known ++ ballot_records g (learnt_number group.known) group.ballots
