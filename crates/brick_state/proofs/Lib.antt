@@ -5,3 +5,4 @@ pub mod Rewriting
 pub mod Growing
 pub mod StripeRewrites
 pub mod StateRewrites
+pub mod Preserving

@@ -250,3 +250,74 @@ module _ {K X : Type 0} {R : K → K → Ordering} (o : IsTotalOrder R) where
   pub remove_last : (k : K) (v : X) (es : List (K × X)) → AllBelow k es → remove_entry (is_at (R k)) (es ++ (k, v) ∷ []) ≡ es
   remove_last k v [] below = rw (tied_itself o k) refl
   remove_last k v (e ∷ es) below = rw (after_from o k e.0 below.0) (ap (λ (fs : List (K × X)). e ∷ fs) (remove_last k v es below.1))
+
+-- ---- order, and what holds of each entry, after a change
+
+module _ {K X : Type 0} {R : K → K → Ordering} (o : IsTotalOrder R) where
+
+  all_inserted : (q k : K) (v : X) (es : List (K × X)) → R q k ≡ Less → AllByRecursion (λ y. R q y ≡ Less) (keys_of es) → AllByRecursion (λ y. R q y ≡ Less) (keys_of (insert_entry R es k v))
+  all_inserted q k v [] less all = (less, tt)
+  all_inserted q k v (e ∷ es) less all = by (R k e.0) (all_inserted q k v es less all.1)
+    where
+      by : (r : Ordering) → AllByRecursion (λ y. R q y ≡ Less) (keys_of (insert_entry R es k v))
+          → AllByRecursion (λ y. R q y ≡ Less) (keys_of (match_ordering r ((k, v) ∷ e ∷ es) ((e.0, v) ∷ es) (e ∷ insert_entry R es k v)))
+      by Less rest = (less, all)
+      by Equal rest = all
+      by Greater rest = (all.0, rest)
+
+  below_all : (k q : K) (es : List (K × X)) → R k q ≡ Less → AllByRecursion (λ y. R q y ≡ Less) (keys_of es) → AllByRecursion (λ y. R k y ≡ Less) (keys_of es)
+  below_all k q [] less all = tt
+  below_all k q (e ∷ es) less all = (o.trans k q e.0 less all.0, below_all k q es less all.1)
+
+  pub sorted_inserted : (k : K) (v : X) (es : List (K × X)) → IsStrictlySortedBy R (keys_of es) → IsStrictlySortedBy R (keys_of (insert_entry R es k v))
+  unfolding IsStrictlySortedBy
+  sorted_inserted k v [] sorted = (tt, tt)
+  sorted_inserted k v (e ∷ es) sorted = by (R k e.0) refl (sorted_inserted k v es sorted.1)
+    where
+      by : (r : Ordering) → R k e.0 ≡ r → IsStrictlySortedBy R (keys_of (insert_entry R es k v))
+          → IsStrictlySortedBy R (keys_of (match_ordering r ((k, v) ∷ e ∷ es) ((e.0, v) ∷ es) (e ∷ insert_entry R es k v)))
+      by Less at rest = ((at, below_all k e.0 es at sorted.0), sorted)
+      by Equal at rest = sorted
+      by Greater at rest = (all_inserted e.0 k v es (o.antisymm e.0 k ∙ ap ordering_reverse at) sorted.0, rest)
+
+-- what holds of each entry holds of each once one more is put in, or one is taken away, or some are left out
+pub all_insert : {K X : Type 0} (P : K × X → Type 0) (R : K → K → Ordering) (exact : (x y : K) → R x y ≡ Equal → x ≡ y) (k : K) (v : X) (es : List (K × X)) → P (k, v) → AllByRecursion P es → AllByRecursion P (insert_entry R es k v)
+all_insert P R exact k v [] new all = (new, tt)
+all_insert {K} {X} P R exact k v (e ∷ es) new all = by (R k e.0) refl (all_insert P R exact k v es new all.1)
+  where
+    by : (r : Ordering) → R k e.0 ≡ r → AllByRecursion P (insert_entry R es k v) → AllByRecursion P (match_ordering r ((k, v) ∷ e ∷ es) ((e.0, v) ∷ es) (e ∷ insert_entry R es k v))
+    by Less at rest = (new, all)
+    by Equal at rest = (subst (λ (q : K). P (q, v)) (exact k e.0 at) new, all.1)
+    by Greater at rest = (all.0, rest)
+
+pub all_remove : {K X : Type 0} (P : K × X → Type 0) (test : K → Bool) (es : List (K × X)) → AllByRecursion P es → AllByRecursion P (remove_entry test es)
+all_remove P test [] all = tt
+all_remove {K} {X} P test (e ∷ es) all = by (test e.0) (all_remove P test es all.1)
+  where
+    by : (b : Bool) → AllByRecursion P (remove_entry test es) → AllByRecursion P (cond b es (e ∷ remove_entry test es))
+    by true rest = all.1
+    by false rest = (all.0, rest)
+
+pub all_filter : {X : Type 0} (P : X → Type 0) (keep : X → Bool) (xs : List X) → AllByRecursion P xs → AllByRecursion P (filter keep xs)
+all_filter P keep [] all = tt
+all_filter {X} P keep (x ∷ xs) all = by (keep x) (all_filter P keep xs all.1)
+  where
+    by : (b : Bool) → AllByRecursion P (filter keep xs) → AllByRecursion P (cond b (x ∷ filter keep xs) (filter keep xs))
+    by true rest = (all.0, rest)
+    by false rest = rest
+
+pub sorted_removed : {K X : Type 0} (R : K → K → Ordering) (test : K → Bool) (es : List (K × X)) → IsStrictlySortedBy R (keys_of es) → IsStrictlySortedBy R (keys_of (remove_entry test es))
+unfolding IsStrictlySortedBy
+sorted_removed R test [] sorted = tt
+sorted_removed {K} {X} R test (e ∷ es) sorted = by (test e.0) (sorted_removed R test es sorted.1) (keys_left e.0 es sorted.0)
+  where
+    keys_left : (q : K) (fs : List (K × X)) → AllByRecursion (λ y. R q y ≡ Less) (keys_of fs) → AllByRecursion (λ y. R q y ≡ Less) (keys_of (remove_entry test fs))
+    keys_left q [] all = tt
+    keys_left q (f ∷ fs) all = one (test f.0) (keys_left q fs all.1)
+      where
+        one : (b : Bool) → AllByRecursion (λ y. R q y ≡ Less) (keys_of (remove_entry test fs)) → AllByRecursion (λ y. R q y ≡ Less) (keys_of (cond b fs (f ∷ remove_entry test fs)))
+        one true rest = all.1
+        one false rest = (all.0, rest)
+    by : (b : Bool) → IsStrictlySortedBy R (keys_of (remove_entry test es)) → AllByRecursion (λ y. R e.0 y ≡ Less) (keys_of (remove_entry test es)) → IsStrictlySortedBy R (keys_of (cond b es (e ∷ remove_entry test es)))
+    by true rest all = sorted.1
+    by false rest all = (all, rest)
