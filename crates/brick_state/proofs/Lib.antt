@@ -6,3 +6,4 @@ pub mod Growing
 pub mod StripeRewrites
 pub mod StateRewrites
 pub mod Preserving
+pub mod SoundStripes
