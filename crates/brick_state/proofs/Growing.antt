@@ -59,6 +59,7 @@ live_last p s done = by (is_first p s) refl
   where
     one : sum_by weight (values_of done ++ s ∷ []) ≡ live_in done + weight s
     one = sum_by-append weight (values_of done) (s ∷ []) ∙ ap (λ n. live_in done + n) (sum_by-cons weight s [] ∙ omega arith)
+
     by : (b : Bool) → is_first p s ≡ b → live_in (cond b done (done ++ (p, s) ∷ [])) ≡ live_in done + weight s
     by true at = omega (arith, weight_first p s at)
     by false at = ap (sum_by weight) (map-append (λ (e : Place × StripeOf Entry). e.1) done ((p, s) ∷ [])) ∙ one

@@ -222,7 +222,6 @@ after_from : {K : Type 0} {R : K → K → Ordering} → IsTotalOrder R → (k q
 after_from o k q less = o.antisymm k q ∙ ap ordering_reverse less
 
 module _ {K X : Type 0} {R : K → K → Ordering} (o : IsTotalOrder R) where
-
   -- each key is below this one
   abbrev pub AllBelow : K → List (K × X) → Type 0
   AllBelow k es = AllByRecursion (λ e. R e.0 k ≡ Less) es
@@ -254,7 +253,6 @@ module _ {K X : Type 0} {R : K → K → Ordering} (o : IsTotalOrder R) where
 -- ---- order, and what holds of each entry, after a change
 
 module _ {K X : Type 0} {R : K → K → Ordering} (o : IsTotalOrder R) where
-
   all_inserted : (q k : K) (v : X) (es : List (K × X)) → R q k ≡ Less → AllByRecursion (λ y. R q y ≡ Less) (keys_of es) → AllByRecursion (λ y. R q y ≡ Less) (keys_of (insert_entry R es k v))
   all_inserted q k v [] less all = (less, tt)
   all_inserted q k v (e ∷ es) less all = by (R k e.0) (all_inserted q k v es less all.1)
@@ -318,6 +316,7 @@ sorted_removed {K} {X} R test (e ∷ es) sorted = by (test e.0) (sorted_removed 
         one : (b : Bool) → AllByRecursion (λ y. R q y ≡ Less) (keys_of (remove_entry test fs)) → AllByRecursion (λ y. R q y ≡ Less) (keys_of (cond b fs (f ∷ remove_entry test fs)))
         one true rest = all.1
         one false rest = (all.0, rest)
+
     by : (b : Bool) → IsStrictlySortedBy R (keys_of (remove_entry test es)) → AllByRecursion (λ y. R e.0 y ≡ Less) (keys_of (remove_entry test es)) → IsStrictlySortedBy R (keys_of (cond b es (e ∷ remove_entry test es)))
     by true rest all = sorted.1
     by false rest all = (all, rest)

@@ -26,6 +26,7 @@ live-put p s stripes sorted = by (is_first p s) refl
   where
     found : unwrap_or (option_map weight (lookup (is_at (place_cmp p)) stripes)) 0 ≡ weight (stripe_in stripes p)
     found = weight_found p (lookup (is_at (place_cmp p)) stripes)
+
     by : (b : Bool) → is_first p s ≡ b → live_in (cond b (remove_entry (is_at (place_cmp p)) stripes) (insert_entry place_cmp stripes p s)) + weight (stripe_in stripes p) ≡ live_in stripes + weight s
     by true at = omega (arith, sum_by-remove_entry weight (is_at (place_cmp p)) stripes, found, weight_first p s at)
     by false at = omega (arith, sum_by-insert_entry weight place_total stripes p s sorted, found)

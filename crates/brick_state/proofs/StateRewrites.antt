@@ -32,9 +32,9 @@ all_at P p s (e ∷ done) rest all = all_at P p s done rest all.1
 past_from_sorted : (p : Place) (s : StripeOf Entry) (done rest : Stripes) → IsStrictlySortedBy place_cmp (keys_of (done ++ (p, s) ∷ rest)) → IsPast p done
 past_from_sorted p s [] rest sorted = tt
 past_from_sorted p s (e ∷ done) rest sorted = (
-    all_at (λ (q : Place). place_cmp e.0 q ≡ Less) p s done rest (sorted_head place_cmp e.0 (keys_of (done ++ (p, s) ∷ rest)) sorted),
-    past_from_sorted p s done rest (sorted_tail place_cmp e.0 (keys_of (done ++ (p, s) ∷ rest)) sorted),
-  )
+  all_at (λ (q : Place). place_cmp e.0 q ≡ Less) p s done rest (sorted_head place_cmp e.0 (keys_of (done ++ (p, s) ∷ rest)) sorted),
+  past_from_sorted p s done rest (sorted_tail place_cmp e.0 (keys_of (done ++ (p, s) ∷ rest)) sorted),
+)
 
 live_push : (done : Stripes) (e : Place × StripeOf Entry) → live_in (done ++ e ∷ []) ≡ live_in done + weight e.1
 live_push done e =
@@ -118,7 +118,7 @@ pub records_bring_back : (limits : Limits) (st : StateOf Entry) → IsKeptState 
 unfolding Leads applied
 records_bring_back limits st kept =
     let none = subst (λ (k : ℕ). Leads limits (groups_records 0 st.groups) (parts st.boot (replicate k no_group) []) (parts st.boot st.groups [])) kept.all_groups
-        (groups_lead limits st.boot 0 st.groups [] refl (omega (arith, kept.all_groups)) kept.groups) in
+    (groups_lead limits st.boot 0 st.groups [] refl (omega (arith, kept.all_groups)) kept.groups) in
     let stripes = stripes_lead limits st.boot st.groups st.stripes [] kept.sorted kept.stripes (omega (arith, kept.within)) in
     let both = leads_append limits (groups_records 0 st.groups) (stripes_records st.stripes) (parts st.boot (replicate 64 no_group) []) (parts st.boot st.groups []) st none stripes in
     leads_folded limits (live_records st) empty st (parts st.boot (replicate 64 no_group) [], refl, both)

@@ -57,11 +57,13 @@ change_is limits (Some u) e s slot below above = by (eqb u.slot e.slot) refl
         ap (λ (found : Option Entry). same_added found e.stamp s) below
         ∙ ap (λ (b : Bool). cond b (Some (with_added (entry e.stamp u.slot) s)) None) above
         ∙ ap (λ (k : ℕ). Some (with_added (entry e.stamp k) s)) at
+
     own : cond (is_slot limits e.slot) (cond (false || not (is_above (newest_entry s) e.stamp)) None (Some (with_added e s))) None ≡ Some (with_added e s)
     own =
         ap (λ (b : Bool). cond b (cond (false || not (is_above (newest_entry s) e.stamp)) None (Some (with_added e s))) None) slot
         ∙ ap (λ (found : Option Entry). cond (false || not (is_above found e.stamp)) None (Some (with_added e s))) below
         ∙ ap (λ (b : Bool). cond (false || not b) None (Some (with_added e s))) above
+
     by : (b : Bool) → eqb u.slot e.slot ≡ b → log_changed limits false (cond b Same (Slot false e.slot)) e.stamp s ≡ Some (with_added e s)
     by true at = same (eqb-true _ _ at)
     by false at = own
@@ -86,10 +88,10 @@ versions_lead : (limits : Limits) (n : ℕ) (groups : List Group) (p : Place) (d
 unfolding version_records Leads
 versions_lead limits n groups p done group past under s [] below rises room = refl
 versions_lead limits n groups p done group past under s (e ∷ entries) below rises room = (
-    parts n groups (with_last p (grown under e s) done),
-    changed_last limits n groups p s (grown under e s) done under e group past (omega arith) (change_is limits under e s rises.1.0 below rises.0),
-    versions_lead limits n groups p done group past (Some e) (grown under e s) entries (newest_grown under e s) rises.1.1 (omega (arith, weight_grown under e s)),
-  )
+  parts n groups (with_last p (grown under e s) done),
+  changed_last limits n groups p s (grown under e s) done under e group past (omega arith) (change_is limits under e s rises.1.0 below rises.0),
+  versions_lead limits n groups p done group past (Some e) (grown under e s) entries (newest_grown under e s) rises.1.1 (omega (arith, weight_grown under e s)),
+)
 
 -- a stripe that has an order stamp alone
 abbrev with_stamp : Place → Stamp → StripeOf Entry
@@ -106,11 +108,14 @@ order_lead limits n groups p t done group past room = by (stamp_same t first_sta
   where
     there : stripe_at (parts n groups done) p ≡ first_stripe p
     there = ap (λ (stripes : Stripes). stripe_at (parts n groups stripes) p) (sym (nothing_last p done)) ∙ stripe_last p (first_stripe p) done past
+
     placed_at : put p (with_stamp p t) done ≡ with_last p (with_stamp p t) done
     placed_at = ap (put p (with_stamp p t)) (sym (nothing_last p done)) ∙ put_last p (first_stripe p) (with_stamp p t) done past
+
     no_more : (b : Bool) (x y : Option (StateOf Entry)) → cond (b && false) x y ≡ y
     no_more true x y = refl
     no_more false x y = refl
+
     one : stamp_same t first_stamp ≡ false → applied limits (order_record p t) (parts n groups done) ≡ Some (parts n groups (with_last p (with_stamp p t) done))
     one other =
         let st = parts n groups done in
@@ -120,6 +125,7 @@ order_lead limits n groups p t done group past room = by (stamp_same t first_sta
         ∙ no_more (adds_order t (stripe_at st p)) None (Some (ordered p t st))
         ∙ ap (λ (s : StripeOf Entry). Some (parts n groups (put p (with_order t s) done))) there
         ∙ ap (λ (stripes : Stripes). Some (parts n groups stripes)) placed_at
+
     by : (b : Bool) → stamp_same t first_stamp ≡ b → Leads limits (cond b [] (order_record p t ∷ [])) (parts n groups done) (parts n groups (with_last p (with_stamp p t) done))
     by true at = ap (parts n groups) (sym (nothing_last p done) ∙ ap (λ (x : Stamp). with_last p (with_stamp p x) done) (sym (stamp_same_true t first_stamp at)))
     by false at = leads_one limits (order_record p t) (parts n groups done) (parts n groups (with_last p (with_stamp p t) done)) (one at)

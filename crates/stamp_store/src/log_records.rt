@@ -80,7 +80,8 @@ mod tests {
     #[test]
     fn a_version_in_a_slot(rt: HostRuntime) -> Result<(), Fail> {
         let body = [
-            0, 0, 0, 2, 0, 0, 0, 1, 0, 0, 0, 3, 0, 0, 0, 1, 0, 0, 0, 0, 0, 0, 0, 9, 0, 4, 0, 0, 0, 5, 1, 0, 0, 1, 0,
+            0, 0, 0, 2, 0, 0, 0, 1, 0, 0, 0, 3, 0, 0, 0, 1, 0, 0, 0, 0, 0, 0, 0, 9, 0, 4, 0, 0, 0,
+            5, 1, 0, 0, 1, 0,
         ];
         let logged = Logged {
             group: GroupId(2),
