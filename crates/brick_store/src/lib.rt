@@ -6,6 +6,8 @@
 
 pub mod faults;
 pub mod formats;
+pub mod stores;
 
 pub use faults::StoreFault;
 pub use formats::format;
+pub use stores::{BrickStore, open_store};
