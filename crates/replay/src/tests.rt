@@ -61,7 +61,8 @@ const REFUSED: Example = Example {
     output: "refused nostripe\nrefused nostripe\nrefused length\nrefused down\nidle\nidle\n0 begin 1 0 writeall 0 0 41\nrefused spent\ncount lines 9 begun 1 answered 0 aborted 0 crashes 0\n",
 };
 
-/// A write that was aborted does not surface: reads that find some of it stay open.
+/// A write that was aborted does not surface: reads that find some of it stay open, and send nothing that the last four lines could
+/// deliver.
 const ABORTED: Example = Example {
     lines: &[
         ("writeall 0 0 0 41", &[]),
@@ -74,7 +75,7 @@ const ABORTED: Example = Example {
         ("readall 2 0 0", &[]),
         ("deliver", &[20, 22, 23, 24, 25, 27, 28, 29]),
     ],
-    output: "0 begin 1 0 writeall 0 0 41\n1 begin 2 1 writeall 0 0 42\n2 end 1 aborted later 1 1.9.1.1\n3 begin 3 2 readall 0 0\n4 begin 4 2 readall 0 0\ncount lines 26 begun 4 answered 0 aborted 1 crashes 0\n",
+    output: "0 begin 1 0 writeall 0 0 41\n1 begin 2 1 writeall 0 0 42\n2 end 1 aborted later 1 1.9.1.1\n3 begin 3 2 readall 0 0\n4 begin 4 2 readall 0 0\nidle\nidle\nidle\nidle\ncount lines 26 begun 4 answered 0 aborted 1 crashes 0\n",
 };
 
 impl Example {
