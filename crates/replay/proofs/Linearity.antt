@@ -31,7 +31,7 @@ laws layout sound lines = laws_of (record { layout = layout; lines = lines }) so
 -- by its laws the world that lines leave is strict
 strict_world : (layout : Layout) (lines : List Line) → Laws (copying layout) (after_lines (copying layout) (first_world layout) lines)
     → IsStrictWorld layout (after_lines (copying layout) (first_world layout) lines)
-strict_world layout lines kept = record { well_formed = kept.well_formed; strict = kept.strict; aborts_show = kept.aborts }
+strict_world layout lines kept = record { well_formed = kept.well_formed; strict = kept.strict; aborts_show = kept.aborts; laws = kept }
 
 -- however far a run comes, what its lines left is strict
 pub stays_strict : (input : Input) → StaysStrict input

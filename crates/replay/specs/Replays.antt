@@ -10,7 +10,7 @@ use Rattle.lines.specs.Grammar.{line_of}
 use Rattle.protocol.specs.Settings.{Setting, Layout, Group, group_of}
 use Rattle.protocol.specs.Worlds.{World, first_world}
 use Rattle.protocol.specs.Happenings.{happenings_of}
-use Rattle.protocol.specs.Laws.{AbortsShow}
+use Rattle.protocol.specs.Laws.{AbortsShow, Laws}
 use Rattle.node.specs.Copies.{copying}
 use Rattle.layout.specs.Texts.{layout_of}
 use Rattle.world.specs.Runs.{after_line, after_lines}
@@ -55,11 +55,13 @@ lines_text setting w [] = []
 lines_text setting w (line ∷ lines) = text_of setting w line ++ lines_text setting (after_line setting w line) lines
 
 -- What lines left is strict: the marks are well formed, the happenings of each stripe are strict for its marks, and every abort shows its evidence.
+-- Beside these all laws of the disk hold of it.
 pub record IsStrictWorld (layout : Layout) (world : World) : Type 0 where
   pub well_formed : IsWellFormed world.marks
   pub strict : (g s : ℕ) (group : Group) → group_of layout g ≡ Some group
       → IsStrict group.m layout.block (stripe_marks g s world.marks) (happenings_of world g s)
   pub aborts_show : AbortsShow world
+  pub laws : Laws (copying layout) world
 
 -- What was printed is strict. The input has a layout and a schedule, every line of the schedule was run, and the text is theirs and then the
 -- happenings of each stripe in the world that they leave, which is strict.
