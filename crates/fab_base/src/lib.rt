@@ -11,6 +11,7 @@ pub mod block_bytes;
 pub mod faults;
 pub mod identities;
 pub mod member_lists;
+pub mod notes;
 pub mod stamps;
 
 pub use answers::{Answer, Cause, Refusal};
@@ -19,4 +20,5 @@ pub use block_bytes::Bytes;
 pub use faults::NoMem;
 pub use identities::{BrickId, CallId, GroupId, StripeNo, ViewNo};
 pub use member_lists::{Members, View};
+pub use notes::Note;
 pub use stamps::{Ballot, Stamp};

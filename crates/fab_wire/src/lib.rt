@@ -19,6 +19,7 @@ mod reply_writes;
 mod request_reads;
 mod request_writes;
 pub mod requests;
+pub mod turns;
 
 pub use calls::Call;
 pub use clients::{ClientAnswer, ClientAsk, ClientOp};
@@ -27,6 +28,7 @@ pub use faults::WireFault;
 pub use messages::{Message, Packet};
 pub use replies::{Choice, Lineage, Reply};
 pub use requests::{Look, Request, Version, Want};
+pub use turns::{Messages, Next, Turn};
 
 #[cfg(test)]
 mod tests;

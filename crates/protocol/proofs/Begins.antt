@@ -1,5 +1,5 @@
 -- A brick begins an operation, with a stamp that no part of any stripe has.
-use Rattle.std.proofs.Common.{◌≡◌, ℕ, ◌+◌, ◌<◌, ◌≤◌, ◌⊎◌, inl, inr, true, false, List, [], ◌∷◌, length, Option, Some, None, refl, sym, ap, ◌∙◌, subst, ⊎_elim, arith}
+use Rattle.std.proofs.Common.{◌≡◌, ℕ, ◌+◌, ◌≤◌, ◌⊎◌, inl, inr, true, false, List, [], ◌∷◌, length, Option, Some, None, refl, sym, ap, ◌∙◌, subst, ⊎_elim, arith}
 use Rattle.std.specs.Prelude.{slice_get}
 use Rattle.std.proofs.lemmas.Bool.{false≢true}
 use Rattle.std.proofs.lemmas.List.{length-append}
@@ -17,17 +17,17 @@ use Rattle.reg_model.specs.Marks.{life_of, position_of}
 use Rattle.reg_model.specs.Walk.{last_of}
 use Rattle.protocol.specs.Settings.{Setting, Code, Group, group_of}
 use Rattle.protocol.specs.Replicas.{top_of}
-use Rattle.protocol.specs.Coordinators.{Coordinator, Phase, Looks, Orders, Stores, request_of}
+use Rattle.protocol.specs.Coordinators.{Coordinator, Phase, Looks, Orders, Descends, Stores, request_of}
 use Rattle.protocol.specs.Nodes.{Node, put, is_stripe_op, first_phase, new_coordinator, opened, began_in, phase_packets}
 use Rattle.protocol.specs.Worlds.{World, Operation, world_began}
 use Rattle.protocol.specs.Laws.{part_of, IsGuarded}
 use Rattle.protocol.proofs.Books.{Books, IsOperation}
-use Rattle.protocol.proofs.Said.{Stamping, Said, IsSaid, IsStamped, IsKnown, IsStampOf, IsCalled, FitsPhase, FloorsAtLeast, RequestSays, PacketSays, OperationSays, CallSays, IsInOrder}
+use Rattle.protocol.proofs.Said.{Begun, Stamping, Said, IsSaid, IsBegun, IsStamped, IsKnown, IsStampOf, IsCalled, FitsPhase, FloorsAtLeast, RequestSays, PacketSays, OperationSays, CallSays, IsInOrder}
 use Rattle.protocol.proofs.Tables.{put_each, put_same, get_grown, get_one, sent_to_member}
 use Rattle.protocol.proofs.Lives.{last_grows}
 use Rattle.protocol.proofs.Growth.{Grows, continues_same}
-use Rattle.protocol.proofs.Steps.{keeps_same, never_falls_by, held_by, sent_by, said_after}
-use Rattle.protocol.proofs.Stampings.{ComesFrom, stays_known, later_unknown, with_stamp, stamp_now, stamps_other, phases_other, stamp_last, stamps_grow, stamps_say}
+use Rattle.protocol.proofs.Steps.{keeps_same, parts_by, sent_by, said_after}
+use Rattle.protocol.proofs.Stampings.{ComesFrom, stays_known, later_unknown, with_stamp, stamp_now, stamps_other, stamp_last, stamps_grow, stamps_say}
 
 -- what a phase asks
 request_looks : (code : Code) (m : ℕ) (c : Coordinator) (seat : ℕ) → c.phase ≡ Looks → request_of code m c seat ≡ Request.Read Want.All
@@ -59,9 +59,13 @@ module _ (setting : Setting) (w : World) (stamps : Stamping) (me : BrickId) (ask
   abbrev node : Node
   node = opened (w.nodes me.0) c
 
+  -- the phase that is begun
+  abbrev first : Begun
+  first = record { stamp = c.stamp; phase = c.phase }
+
   -- the stamps after
   abbrev later : Stamping
-  later = with_stamp stamps me.0 c.call.seq c.call.phase c.stamp
+  later = with_stamp stamps me.0 c.call.seq c.call.phase first
 
   abbrev next : World
   next = world_began w me ask (began_in setting group me (w.nodes me.0) c)
@@ -76,6 +80,7 @@ module _ (setting : Setting) (w : World) (stamps : Stamping) (me : BrickId) (ask
         ask = ask;
         version = None;
         made = false;
+        base = None;
         answered = false;
         floor = λ i. top_of ((w.nodes i).replicas ask.group.0 ask.stripe.0);
       }
@@ -91,9 +96,9 @@ module _ (setting : Setting) (w : World) (stamps : Stamping) (me : BrickId) (ask
   from = inr unknown
 
   -- the new call has no stamp before
-  no_stamp : (p : ℕ) (z : Option Stamp) → stamps me.0 c.call.seq p ≡ z → z ≡ None
+  no_stamp : (p : ℕ) (z : Option Begun) → stamps me.0 c.call.seq p ≡ z → z ≡ None
   no_stamp p None is = refl
-  no_stamp p (Some t) is = absurd (let begun = said.stamps_say.begun me.0 c.call.seq p t is in omega (arith, begun.1))
+  no_stamp p (Some b) is = absurd (let begun = said.stamps_say.begun me.0 c.call.seq p b.stamp (b.phase, is) in omega (arith, begun.1))
 
   none : (p : ℕ) → c.call.phase ≤ p → stamps me.0 c.call.seq p ≡ None
   none p most = no_stamp p (stamps me.0 c.call.seq p) refl
@@ -123,12 +128,11 @@ module _ (setting : Setting) (w : World) (stamps : Stamping) (me : BrickId) (ask
 
   grows : Grows w next stamps later
   grows = record {
-    tops = never_falls_by w next me.0 node refl (keeps_same (w.nodes me.0) node refl);
-    held = held_by w next me.0 node refl (keeps_same (w.nodes me.0) node refl);
+    parts = parts_by w next me.0 node refl (keeps_same (w.nodes me.0) node refl);
     sent = sent_by w next (phase_packets setting group me c) refl;
     operations = λ n o is. (o, goes_on n o is, continues_same o);
     contents = λ g s t made. refl;
-    grow = stamps_grow stamps me.0 c.call.seq c.call.phase c.stamp none from;
+    grow = stamps_grow stamps me.0 c.call.seq c.call.phase first none from;
     numbered = numbered;
     marks = (let longer : length next.marks ≡ length w.marks + 1 = length-append w.marks (Begin (length w.marks) (w.begun + 1) me ask ∷ []) in omega arith);
   }
@@ -145,7 +149,7 @@ module _ (setting : Setting) (w : World) (stamps : Stamping) (me : BrickId) (ask
   operation_says : OperationSays setting next later (w.begun + 1) new
   operation_says = record {
     begin = grows.marks;
-    floors = λ i. grows.tops ask.group.0 ask.stripe.0 i;
+    floors = λ i. grows.parts.tops ask.group.0 ask.stripe.0 i;
     floors_known = λ i. stays_known stamps later grows.grow (top_of (part_of w ask.group.0 ask.stripe.0 i)) (said.tops ask.group.0 ask.stripe.0 i);
     fresh = λ i p stamped. ⊎_elim
         (λ (own_was : (q : ℕ) × IsStamped stamps me.0 c.call.seq q (top_of (part_of w ask.group.0 ask.stripe.0 i))).
@@ -153,19 +157,15 @@ module _ (setting : Setting) (w : World) (stamps : Stamping) (me : BrickId) (ask
         (λ (never : IsKnown stamps (top_of (part_of w ask.group.0 ask.stripe.0 i)) → ⊥). never (said.tops ask.group.0 ask.stripe.0 i))
         (grows.grow.newer me.0 c.call.seq p (top_of (part_of w ask.group.0 ask.stripe.0 i)) stamped);
     made = λ made. absurd (false≢true made);
-    content = λ v made version. absurd (false≢true made);
+    maker = λ v made version. absurd (false≢true made);
+    content = λ v made version group group_is. absurd (false≢true made);
+    stands = λ v has how. cc;
     version = λ v has. cc;
     answered = λ answered bytes op. absurd (false≢true answered);
   }
 
-  stamped_now : IsStamped later me.0 c.call.seq c.call.phase c.stamp
-  stamped_now = stamp_now stamps me.0 c.call.seq c.call.phase c.stamp
-
-  said_not_new : (q : ℕ) → q < c.call.phase → IsStamped later me.0 c.call.seq q c.stamp → ⊥
-  said_not_new q less was =
-      let before : IsStamped stamps me.0 c.call.seq q c.stamp
-      = sym (phases_other stamps me.0 c.call.seq c.call.phase c.stamp q (λ same. omega arith)) ∙ was in
-      unknown (inr (me.0, c.call.seq, q, before))
+  begun_now : IsBegun later me.0 c.call.seq c.call.phase c.phase c.stamp
+  begun_now = stamp_now stamps me.0 c.call.seq c.call.phase first
 
   -- the first request
   request_says : (j seat : ℕ) → RequestSays setting next later me.0 j c.call (request_of setting.code group.m c seat)
@@ -175,7 +175,7 @@ module _ (setting : Setting) (w : World) (stamps : Stamping) (me : BrickId) (ask
       (refl, (new, called)))
       (λ (writes : (bytes : List ℕ) × (ask.op ≡ WriteStripe bytes)).
       subst (λ (r : Request). RequestSays setting next later me.0 j c.call r) (sym (request_orders setting.code group.m c seat (ap first_phase writes.1)))
-      (stamped_now, (λ q less was. said_not_new q less was), (new, called)))
+      (subst (λ (phase : Phase). IsBegun later me.0 c.call.seq c.call.phase phase c.stamp) (ap first_phase writes.1) begun_now, (new, called)))
       (op_cases ask.op stripe_op)
 
   fits : FitsPhase (first_phase ask.op) ask.op
@@ -184,11 +184,18 @@ module _ (setting : Setting) (w : World) (stamps : Stamping) (me : BrickId) (ask
       (λ (writes : (bytes : List ℕ) × (ask.op ≡ WriteStripe bytes)). subst (λ (p : Phase). FitsPhase p ask.op) (sym (ap first_phase writes.1)) writes)
       (op_cases ask.op stripe_op)
 
+  -- a first phase neither stores nor descends
   not_stores : (op : Op) → first_phase op ≡ Stores → ⊥
   not_stores (ReadBlock j) is = cc
   not_stores (WriteBlock j bytes) is = cc
   not_stores ReadStripe is = cc
   not_stores (WriteStripe bytes) is = cc
+
+  not_descends : (op : Op) (bound : Stamp) → first_phase op ≡ Descends bound → ⊥
+  not_descends (ReadBlock j) bound is = cc
+  not_descends (WriteBlock j bytes) bound is = cc
+  not_descends ReadStripe bound is = cc
+  not_descends (WriteStripe bytes) bound is = cc
 
   calls : (k : ℕ) (d : Coordinator) → node.calls k ≡ Some d
       → (((w.nodes me.0).calls k ≡ Some d) × ((p : ℕ) → later me.0 k p ≡ stamps me.0 k p)) ⊎ CallSays setting next later me.0 k d
@@ -199,14 +206,18 @@ module _ (setting : Setting) (w : World) (stamps : Stamping) (me : BrickId) (ask
       (λ at. let same : c ≡ d = cc in
       inr (subst (λ (z : Coordinator). CallSays setting next later me.0 c.call.seq z) same
       (record {
-        stamp = stamped_now;
-        last = stamp_last stamps me.0 c.call.seq c.call.phase c.stamp none from;
-        ordered = λ stores. absurd (not_stores ask.op stores);
+        begun = begun_now;
+        last = stamp_last stamps me.0 c.call.seq c.call.phase first none from;
         fits = fits;
+        unbased = λ orders. refl;
+        above = λ bound descends. absurd (not_descends ask.op bound descends);
+        below = λ bound descends. absurd (not_descends ask.op bound descends);
+        covered = λ bound descends. absurd (not_descends ask.op bound descends);
+        stores = λ stores. absurd (not_stores ask.op stores);
         counted = tt;
         once = tt;
       })))
-      (λ j other at. inl (at, stamps_other stamps me.0 c.call.seq c.call.phase c.stamp me.0 j (λ brick same. other same))) k
+      (λ j other at. inl (at, stamps_other stamps me.0 c.call.seq c.call.phase first me.0 j (λ brick same. other same))) k
 
   -- a version that was there is guarded when the operation begins
   floors_at_least : (a : ℕ) (earlier : Operation) (u : Stamp) → IsOperation w a earlier → earlier.ask.group.0 ≡ ask.group.0
@@ -246,7 +257,7 @@ module _ (setting : Setting) (w : World) (stamps : Stamping) (me : BrickId) (ask
   said_began = (
     later,
     said_after setting w next stamps later books said grows (record {
-      stamps_say = stamps_say stamps me.0 c.call.seq c.call.phase c.stamp none from w next said.stamps_say
+      stamps_say = stamps_say stamps me.0 c.call.seq c.call.phase first none from w next said.stamps_say
           (put_each (λ j x. (w.nodes j).known ≤ x.known) w.nodes me.0 node (omega arith) (λ j other. omega arith))
           (put_each (λ j x. (w.nodes j).seq ≤ x.seq) w.nodes me.0 node (omega arith) (λ j other. omega arith))
           (subst (λ (x : Node). IsStampOf x.known me.0 c.stamp) (sym (put_same w.nodes me.0 node)) own) (omega arith)
@@ -269,7 +280,7 @@ module _ (setting : Setting) (w : World) (stamps : Stamping) (me : BrickId) (ask
           put_each (λ j x. x.calls k ≡ Some d
           → (((w.nodes j).calls k ≡ Some d) × ((p : ℕ) → later j k p ≡ stamps j k p)) ⊎ CallSays setting next later j k d)
           w.nodes me.0 node (calls k d)
-          (λ j other is. inl (is, stamps_other stamps me.0 c.call.seq c.call.phase c.stamp j k (λ brick same. other brick))) i;
+          (λ j other is. inl (is, stamps_other stamps me.0 c.call.seq c.call.phase first j k (λ brick same. other brick))) i;
       ends = λ k q a answer at. ⊎_elim
           (λ (there : slice_get w.marks k ≡ Some (End q a answer)). inl there)
           (λ (added : (j : ℕ) × (slice_get (Begin (length w.marks) (w.begun + 1) me ask ∷ []) j ≡ Some (End q a answer))).

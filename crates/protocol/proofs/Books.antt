@@ -1,11 +1,11 @@
 -- What a world's books say: operations, calls, numbers and marks agree, at every moment of every run.
-use Rattle.std.proofs.Common.{◌≡◌, ℕ, ◌<◌, ◌≤◌, true, false, List, Some, None}
+use Rattle.std.proofs.Common.{◌≡◌, ℕ, ◌+◌, ◌<◌, ◌≤◌, true, false, List, Some, None}
 use Rattle.std.specs.Prelude.{slice_get}
 use Rattle.reg_model.specs.declared.marks.Mark.{Mark}
 use Rattle.reg_model.specs.Marks.{Life, life_of, IsOpen, IsWellFormed, position_of}
 use Rattle.reg_model.specs.Strict.{IsAnswered}
 use Rattle.protocol.specs.Settings.{Setting, Group, group_of}
-use Rattle.protocol.specs.Coordinators.{Coordinator, Counted, Phase, Orders, Stores, most_rounds}
+use Rattle.protocol.specs.Coordinators.{Coordinator, Counted, Phase, Looks, Orders, Recovers, Descends, Stores, most_rounds}
 use Rattle.protocol.specs.Nodes.{is_stripe_op, has_length}
 use Rattle.protocol.specs.Worlds.{World, Operation}
 
@@ -21,10 +21,25 @@ IsOperation w n o = w.operations n ≡ Some o
 abbrev pub IsCall : World → ℕ → ℕ → Coordinator → Type 0
 IsCall w i k c = (w.nodes i).calls k ≡ Some c
 
--- a version of the coordinator's own stamp was made from its store phase on, and none before
+-- the operation has made nothing, and read nothing
+abbrev pub IsUnmade : Operation → Type 0
+IsUnmade o = (o.version ≡ None) × (o.made ≡ false) × (o.base ≡ None)
+
+-- a version of the coordinator's own stamp was made on its base from its store phase on, and none before
 abbrev pub MadeInPhase : Coordinator → Operation → Phase → Type 0
-MadeInPhase c o Stores = (o.version ≡ Some c.stamp) × (o.made ≡ true)
-MadeInPhase c o phase = (o.version ≡ None) × (o.made ≡ false)
+MadeInPhase c o Looks = IsUnmade o
+MadeInPhase c o Orders = IsUnmade o
+MadeInPhase c o Recovers = IsUnmade o
+MadeInPhase c o (Descends bound) = IsUnmade o
+MadeInPhase c o Stores = (o.version ≡ Some c.stamp) × (o.made ≡ true) × (o.base ≡ c.base)
+
+-- the number of a phase, by the rounds of ordering that were begun
+abbrev pub InRound : Coordinator → Phase → Type 0
+InRound c Looks = (c.call.phase ≡ 1) × (c.round ≡ 1)
+InRound c Orders = c.call.phase ≡ c.round
+InRound c Recovers = c.call.phase ≡ c.round + 1
+InRound c (Descends bound) = Unit {0}
+InRound c Stores = Unit {0}
 
 -- operation n, and its marks
 pub record OperationBooks (setting : Setting) (w : World) (n : ℕ) (o : Operation) : Type 0 where
@@ -64,7 +79,7 @@ pub record CallBooks (setting : Setting) (w : World) (i k : ℕ) (c : Coordinato
   pub call_view : c.call.view.0 ≡ 1
   pub call_stripe : c.call.stripe ≡ c.ask.stripe
   pub rounds : (1 ≤ c.round) × (c.round ≤ most_rounds)
-  pub in_round : c.phase ≡ Orders → c.call.phase ≡ c.round
+  pub in_round : InRound c c.phase
   pub made : MadeInPhase c operation c.phase
   pub unended : (life : Life) → life_of w.marks (w.numbers i k) ≡ Some life → IsOpen (Some life)
   pub unanswered : operation.answered ≡ false

@@ -13,7 +13,7 @@ use Rattle.protocol.specs.Replicas.{top_of}
 use Rattle.protocol.specs.Coordinators.{Coordinator}
 use Rattle.protocol.specs.Nodes.{Node, put, is_stripe_op, has_length, first_phase, new_coordinator, opened, began_in}
 use Rattle.protocol.specs.Worlds.{World, Operation, world_began}
-use Rattle.protocol.proofs.Books.{Books, OperationBooks, CallBooks, IsOperation, IsCall, MadeInPhase}
+use Rattle.protocol.proofs.Books.{Books, OperationBooks, CallBooks, IsOperation, IsCall, IsUnmade, MadeInPhase, InRound}
 use Rattle.protocol.proofs.BooksKept.{operation_kept, call_kept, cases_call}
 use Rattle.protocol.proofs.Lives.{Stays, Stays-push, Stays-before, life_of-begin}
 use Rattle.protocol.proofs.MarkLists.{Places-push, well_formed_begin, numbers_below}
@@ -21,11 +21,18 @@ use Rattle.protocol.proofs.Puts.{put_other}
 use Rattle.protocol.proofs.Tables.{put_each, put_same}
 
 -- a new operation has made nothing
-fresh_made : (c : Coordinator) (o : Operation) (op : Op) → o.version ≡ None → o.made ≡ false → MadeInPhase c o (first_phase op)
-fresh_made c o (ReadBlock j) version made = (version, made)
-fresh_made c o (WriteBlock j bytes) version made = (version, made)
-fresh_made c o ReadStripe version made = (version, made)
-fresh_made c o (WriteStripe bytes) version made = (version, made)
+fresh_made : (c : Coordinator) (o : Operation) (op : Op) → IsUnmade o → MadeInPhase c o (first_phase op)
+fresh_made c o (ReadBlock j) none = none
+fresh_made c o (WriteBlock j bytes) none = none
+fresh_made c o ReadStripe none = none
+fresh_made c o (WriteStripe bytes) none = none
+
+-- and is in its first phase
+fresh_round : (c : Coordinator) (op : Op) → c.call.phase ≡ 1 → c.round ≡ 1 → InRound c (first_phase op)
+fresh_round c (ReadBlock j) phase round = (phase, round)
+fresh_round c (WriteBlock j bytes) phase round = phase ∙ sym round
+fresh_round c ReadStripe phase round = (phase, round)
+fresh_round c (WriteStripe bytes) phase round = phase ∙ sym round
 
 none_lives : (life : Option Life) → ((l : Life) → life ≡ Some l → ⊥) → life ≡ None
 none_lives None never = refl
@@ -58,6 +65,7 @@ module _ (setting : Setting) (w : World) (brick : BrickId) (now : ℕ) (ask : As
     ask = ask;
     version = None;
     made = false;
+    base = None;
     answered = false;
     floor = λ j. top_of ((w.nodes j).replicas ask.group.0 ask.stripe.0);
   }
@@ -150,8 +158,8 @@ module _ (setting : Setting) (w : World) (brick : BrickId) (now : ℕ) (ask : As
     call_view = refl;
     call_stripe = refl;
     rounds = (omega arith, omega arith);
-    in_round = λ orders. refl;
-    made = fresh_made c o ask.op refl refl;
+    in_round = fresh_round c ask.op refl refl;
+    made = fresh_made c o ask.op (refl, refl, refl);
     unended = λ life is.
         (let began : Life = record { begin = length w.marks; brick = brick.0; ask = ask; ending = Unended (length w.marks + 1) } in
         let same : began ≡ life = same_Some began life (sym life_began ∙ ap (λ (m : ℕ). life_of later.marks m) (sym number_is) ∙ is) in

@@ -1,6 +1,6 @@
 -- Every event keeps the books.
 use Rattle.std.proofs.Common.{◌≡◌, ℕ, ◌+◌, ◌-◌, ◌<◌, ◌≤◌, ◌⊎◌, inl, inr, Bool, true, false, not, ◌&&◌, cond, is_some, Option, Some, None, refl, sym, ap, ◌∙◌, subst, arith, List, [], ◌∷◌, ◌++◌}
-use Rattle.std.specs.Prelude.{nat_lt}
+use Rattle.std.specs.Prelude.{nat_lt, max}
 use Rattle.std.proofs.lemmas.Option.{same_Some}
 use Rattle.std.proofs.lemmas.Bool.{cond_both, and_parts, not-true, not-false, ltb-true, both_ways}
 use Rattle.fab_base.specs.declared.identities.BrickId.{BrickId}
@@ -15,16 +15,16 @@ use Rattle.fab_wire.specs.declared.requests.Request.{Request}
 use Rattle.fab_wire.specs.declared.replies.Reply.{Reply}
 use Rattle.protocol.specs.Settings.{Setting, Group, group_of, seat_in}
 use Rattle.protocol.specs.Replicas.{handle}
-use Rattle.protocol.specs.Coordinators.{Phase, Looks, Orders, Stores, Stalls, Coordinator, Next, Ignores, Waits, Reorders, Makes, Ends, Counted, most_rounds, with_reply, once_full, counted_at, counts_at, on_reply}
+use Rattle.protocol.specs.Coordinators.{Phase, Looks, Orders, Recovers, Descends, Stores, Coordinator, Next, Ignores, Waits, Sends, Makes, Ends, Counted, most_rounds, with_reply, once_full, counted_at, counts_at, on_reply}
 use Rattle.protocol.specs.Nodes.{Node, NodeStep, Nothing, put, no_step, is_stripe_op, has_block, has_length, refusal_in, refusal_of, began, invoked, with_replica, replica_at, reply_packets, requested_at, requested_in, requested, has_later_time, next_time, new_stamp, fresh_stamp, known_after, with_call, with_known, carried_out, phase_packets, collect_packets, replied_to, replied_at, replied, received}
 use Rattle.protocol.specs.Worlds.{World, Operation, Event, Invokes, Delivers, Sets, is_answer, version_after, first_world, is_brick, may_begin, world_began, world_stepped, with_made, with_answer, with_content, replies_with, delivered, packet_of, happens, run}
-use Rattle.protocol.proofs.Books.{Replies, Books, CallBooks, IsCall, MadeInPhase}
+use Rattle.protocol.proofs.Books.{Replies, Books, CallBooks, IsCall, IsUnmade, MadeInPhase, InRound}
 use Rattle.protocol.proofs.BooksKept.{KeepsNumbers}
 use Rattle.protocol.proofs.BooksQuiet.{books_quiet}
 use Rattle.protocol.proofs.BooksTurns.{IsBookedStamp, books_turned}
 use Rattle.protocol.proofs.BooksEnds.{books_ended}
 use Rattle.protocol.proofs.BooksBegins.{books_began}
-use Rattle.protocol.proofs.Outcomes.{SameOperation, EndFits, NextFits, waits_orders, once_full_fits}
+use Rattle.protocol.proofs.Outcomes.{SameOperation, IsRound, ReordersFits, RecoversFits, SendsFits, sends_unmade, EndFits, NextFits, once_full_fits}
 use Rattle.protocol.proofs.Puts.{put_other}
 use Rattle.protocol.proofs.Tables.{put_each, put_same}
 
@@ -79,28 +79,77 @@ unfolding requested
 books_requested setting w replies me from call request books =
     books_requested_in setting w replies me from call request (group_of setting.layout call.group.0) books
 
--- what an operation made is of its stamp, whatever else its coordinator holds
-made_same : (c d : Coordinator) (o : Operation) (p q : Phase) → d.stamp ≡ c.stamp → q ≡ p → MadeInPhase c o p → MadeInPhase d o q
-made_same c d o Looks q stamp phase made = subst (λ (x : Phase). MadeInPhase d o x) (sym phase) made
-made_same c d o Orders q stamp phase made = subst (λ (x : Phase). MadeInPhase d o x) (sym phase) made
-made_same c d o Stores q stamp phase made =
-    subst (λ (x : Phase). MadeInPhase d o x) (sym phase) (made.0 ∙ ap (λ (t : Stamp). Some t) (sym stamp), made.1)
-made_same c d o Stalls q stamp phase made = subst (λ (x : Phase). MadeInPhase d o x) (sym phase) made
+-- what an operation made is of its stamp and on its base, whatever else its coordinator holds
+made_same : (c d : Coordinator) (o : Operation) (p q : Phase) → d.stamp ≡ c.stamp → d.base ≡ c.base → q ≡ p → MadeInPhase c o p → MadeInPhase d o q
+made_same c d o p q stamp base phase made = subst (λ (x : Phase). MadeInPhase d o x) (sym phase) (by p made)
+  where
+    by : (p : Phase) → MadeInPhase c o p → MadeInPhase d o p
+    by Looks made = made
+    by Orders made = made
+    by Recovers made = made
+    by (Descends bound) made = made
+    by Stores made = (made.0 ∙ ap (λ (t : Stamp). Some t) (sym stamp), made.1, made.2 ∙ sym base)
 
-made_waits : (c d : Coordinator) (o : Operation) (p : Phase) → d.stamp ≡ c.stamp → MadeInPhase c o p
-    → (d.phase ≡ p) ⊎ ((p ≡ Looks) × (d.phase ≡ Stalls)) → MadeInPhase d o d.phase
-made_waits c d o p stamp made (inl same) = made_same c d o p d.phase stamp same made
-made_waits c d o p stamp made (inr (looks, stalls)) =
-    subst (λ (x : Phase). MadeInPhase d o x) (sym stalls) (subst (λ (x : Phase). MadeInPhase c o x) looks made)
+-- before its store phase an operation has made nothing
+made_nothing : (c : Coordinator) (o : Operation) (p : Phase) → (p ≡ Stores → ⊥) → MadeInPhase c o p → IsUnmade o
+made_nothing c o Looks before made = made
+made_nothing c o Orders before made = made
+made_nothing c o Recovers before made = made
+made_nothing c o (Descends bound) before made = made
+made_nothing c o Stores before made = absurd (before refl)
+
+nothing_made : (d : Coordinator) (o : Operation) (p : Phase) → (p ≡ Stores → ⊥) → IsUnmade o → MadeInPhase d o p
+nothing_made d o Looks before none = none
+nothing_made d o Orders before none = none
+nothing_made d o Recovers before none = none
+nothing_made d o (Descends bound) before none = none
+nothing_made d o Stores before none = absurd (before refl)
+
+-- a phase that stays has its number
+round_same : (c d : Coordinator) (p q : Phase) → d.call.phase ≡ c.call.phase → d.round ≡ c.round → q ≡ p → InRound c p → InRound d q
+round_same c d p q call round phase within = subst (λ (x : Phase). InRound d x) (sym phase) (by p within)
+  where
+    by : (p : Phase) → InRound c p → InRound d p
+    by Looks (first, one) = (call ∙ first, round ∙ one)
+    by Orders within = call ∙ within ∙ sym round
+    by Recovers within = call ∙ within ∙ ap (λ (x : ℕ). x + 1) (sym round)
+    by (Descends bound) within = tt
+    by Stores within = tt
+
+-- the next round of ordering has the next number
+round_again : (c d : Coordinator) (p : Phase) → IsRound p → d.call.phase ≡ c.call.phase + 1 → d.round ≡ c.round + 1 → InRound c p → InRound d p
+round_again c d Looks is call round within = absurd is
+round_again c d Orders is call round within = omega arith
+round_again c d Recovers is call round within = omega arith
+round_again c d (Descends bound) is call round within = tt
+round_again c d Stores is call round within = tt
+
+round_next : (fresh : Option Stamp) (c d : Coordinator) → SendsFits fresh c d → InRound c c.phase → InRound d d.phase
+round_next fresh c d fits within = by fits.how
+  where
+    call : d.call.phase ≡ c.call.phase + 1
+    call = ap (λ (x : Call). x.phase) fits.call
+
+    recovers : (r : RecoversFits c d) → ((c.phase ≡ Looks) × (d.phase ≡ Recovers)) ⊎ ((bound : Stamp) × (d.phase ≡ Descends bound)) → InRound d d.phase
+    recovers r (inl (was, now)) =
+        let first : (c.call.phase ≡ 1) × (c.round ≡ 1) = subst (λ (x : Phase). InRound c x) was within in
+        subst (λ (x : Phase). InRound d x) (sym now)
+        (call ∙ ap (λ (x : ℕ). x + 1) first.0 ∙ ap (λ (x : ℕ). x + 1) (sym (r.round ∙ first.1)))
+    recovers r (inr (bound, now)) = subst (λ (x : Phase). InRound d x) (sym now) tt
+
+    by : ReordersFits fresh c d ⊎ RecoversFits c d → InRound d d.phase
+    by (inl again) = subst (λ (x : Phase). InRound d x) (sym again.phase) (round_again c d c.phase again.was call again.round within)
+    by (inr goes) = recovers goes goes.phase
 
 -- an operation that is answered has a version
 ends_version : (c : Coordinator) (o : Operation) (p : Phase) (answer : Answer) (seen : Option Stamp) → MadeInPhase c o p → EndFits p answer seen
     → is_answer answer ≡ true → (v : Stamp) × (version_after o.version seen ≡ Some v)
 ends_version c o Looks answer seen made fits is = (fits.0, ap (λ (x : Option Stamp). version_after o.version x) fits.1)
 ends_version c o Orders answer seen made fits is = absurd (both_ways (is_answer answer) fits is)
+ends_version c o Recovers answer seen made fits is = absurd (both_ways (is_answer answer) fits is)
+ends_version c o (Descends bound) answer seen made fits is = absurd (both_ways (is_answer answer) fits is)
 ends_version c o Stores answer None made fits is = (c.stamp, made.0)
 ends_version c o Stores answer (Some v) made fits is = (v, refl)
-ends_version c o Stalls answer seen made fits is = absurd fits
 
 -- a fresh stamp is above all that its brick knows
 pub fresh_is : (me : BrickId) (now boot known : ℕ) (t : Stamp) → fresh_stamp me now boot known ≡ Some t
@@ -130,7 +179,16 @@ module _ (setting : Setting) (group : Group) (w : World) (replies : Replies) (me
 
   -- the coordinator with the replies that then count
   abbrev then' : Coordinator
-  then' = record { ask = c.ask; stamp = c.stamp; round = c.round; call = c.call; phase = c.phase; counted = counted }
+  then' = record {
+    ask = c.ask;
+    stamp = c.stamp;
+    round = c.round;
+    base = c.base;
+    content = c.content;
+    call = c.call;
+    phase = c.phase;
+    counted = counted;
+  }
 
   abbrev fresh : Option Stamp
   fresh = fresh_stamp me now node.boot known
@@ -163,10 +221,10 @@ module _ (setting : Setting) (group : Group) (w : World) (replies : Replies) (me
   own_known time busy d = ap (λ (x : Node). x.known) (sym (put_same w.nodes i (with_call node time busy k d)))
 
   -- the stamp that an operation has stays its own
-  stamp_stays : (d : Option Coordinator) (t : Stamp) → t ≡ c.stamp
-      → IsBookedStamp (put w.nodes i (with_call node known node.busy k d) i).known mine.operation t
-  stamp_stays d t same = subst (λ (x : Stamp). IsBookedStamp (put w.nodes i (with_call node known node.busy k d) i).known mine.operation x) (sym same)
-      (subst (λ (x : ℕ). IsBookedStamp x mine.operation c.stamp) (own_known known node.busy d) (record {
+  stamp_stays : (time : ℕ) (d : Option Coordinator) (t : Stamp) → t ≡ c.stamp → node.known ≤ time
+      → IsBookedStamp (put w.nodes i (with_call node time node.busy k d) i).known mine.operation t
+  stamp_stays time d t same later = subst (λ (x : Stamp). IsBookedStamp (put w.nodes i (with_call node time node.busy k d) i).known mine.operation x) (sym same)
+      (subst (λ (x : ℕ). IsBookedStamp x mine.operation c.stamp) (own_known time node.busy d) (record {
         brick = mine.stamp_brick;
         view = mine.stamp_view;
         boot = mine.stamp_boot;
@@ -174,19 +232,28 @@ module _ (setting : Setting) (group : Group) (w : World) (replies : Replies) (me
       }))
 
   -- a fresh stamp is the operation's, and no time falls
-  stamp_fresh : (d : Option Coordinator) (t : Stamp) → fresh ≡ Some t
-      → (node.known ≤ t.time) × IsBookedStamp (put w.nodes i (with_call node t.time node.busy k d) i).known mine.operation t
-  stamp_fresh d t is =
+  stamp_fresh : (time : ℕ) (d : Option Coordinator) (t : Stamp) → fresh ≡ Some t → t.time ≤ time
+      → IsBookedStamp (put w.nodes i (with_call node time node.busy k d) i).known mine.operation t
+  stamp_fresh time d t is later =
       let facts = fresh_is me now node.boot known t is in
-      let time : t.time ≡ next_time now known = ap (λ (x : Stamp). x.time) facts.0 in (
-        omega (arith, facts.1, time),
-        subst (λ (x : ℕ). IsBookedStamp x mine.operation t) (own_known t.time node.busy d) (record {
-          brick = ap (λ (x : Stamp). x.brick) facts.0 ∙ brick_of me mine.operation.brick (sym mine.brick);
-          view = ap (λ (x : Stamp). x.view.0) facts.0;
-          boot = ap (λ (x : Stamp). x.boot) facts.0 ∙ books.boots i;
-          time = (omega (arith, facts.2, time), omega arith);
-        }),
-      )
+      let at : t.time ≡ next_time now known = ap (λ (x : Stamp). x.time) facts.0 in
+      subst (λ (x : ℕ). IsBookedStamp x mine.operation t) (own_known time node.busy d) (record {
+        brick = ap (λ (x : Stamp). x.brick) facts.0 ∙ brick_of me mine.operation.brick (sym mine.brick);
+        view = ap (λ (x : Stamp). x.view.0) facts.0;
+        boot = ap (λ (x : Stamp). x.boot) facts.0 ∙ books.boots i;
+        time = (omega (arith, facts.2, at), omega arith);
+      })
+
+  -- the stamp and the rounds of the next phase
+  stamp_sends : (d : Coordinator) → ReordersFits fresh then' d ⊎ RecoversFits then' d
+      → IsBookedStamp (put w.nodes i (with_call node (max known d.stamp.time) node.busy k (Some d)) i).known mine.operation d.stamp
+  stamp_sends d (inl again) = stamp_fresh (max known d.stamp.time) (Some d) d.stamp again.stamp (omega arith)
+  stamp_sends d (inr goes) = stamp_stays (max known d.stamp.time) (Some d) d.stamp goes.stamp (omega arith)
+
+  rounds_sends : (d : Coordinator) → ReordersFits fresh then' d ⊎ RecoversFits then' d → (1 ≤ d.round) × (d.round ≤ most_rounds)
+  rounds_sends d (inl again) =
+      let next : d.round ≡ c.round + 1 = again.round in let left : c.round < most_rounds = again.left in (omega arith, omega arith)
+  rounds_sends d (inr goes) = subst (λ (x : ℕ). (1 ≤ x) × (x ≤ most_rounds)) (sym goes.round) mine.rounds
 
   -- what a brick does with what its coordinator decided
   books_carried_out : (next : Next) → NextFits fresh then' next → Books setting (stepped w replies me (carried_out setting group me node known c next))
@@ -198,35 +265,34 @@ module _ (setting : Setting) (group : Group) (w : World) (replies : Replies) (me
         was = is_call;
         operation_was = mine.operation_is;
         same = same_of d fits.same;
-        stamp = stamp_stays (Some d) d.stamp fits.stamp;
+        stamp = stamp_stays known (Some d) d.stamp fits.stamp grows;
         rounds = subst (λ (x : ℕ). (1 ≤ x) × (x ≤ most_rounds)) (sym fits.round) mine.rounds;
-        in_round = λ orders. ap (λ (x : Call). x.phase) fits.call ∙ mine.in_round (waits_orders then' d fits orders) ∙ sym fits.round;
+        in_round = round_same c d c.phase d.phase (ap (λ (x : Call). x.phase) fits.call) fits.round fits.phase mine.in_round;
         same_ask = record { brick = refl; seq = refl; begin = refl; ask = refl; answered = refl };
-        made = made_waits c d mine.operation c.phase fits.stamp mine.made fits.phase;
+        made = made_same c d mine.operation c.phase d.phase fits.stamp fits.base fits.phase mine.made;
         keeps = keeps_call known node.busy (Some d) grows;
         call_is = call_put known node.busy (Some d);
         other_calls = other_put known node.busy (Some d);
         operation_is = mine.operation_is;
         other_operations = λ m other. refl;
       })
-  books_carried_out (Reorders d) fits =
-      let fresh = stamp_fresh (Some d) d.stamp fits.stamp in
-      let made : (mine.operation.version ≡ None) × (mine.operation.made ≡ false)
-      = subst (λ (x : Phase). MadeInPhase c mine.operation x) fits.was mine.made in
-      books_turned setting w i k c d mine.operation mine.operation (put w.nodes i (with_call node d.stamp.time node.busy k (Some d)))
+  books_carried_out (Sends d) fits =
+      let time : ℕ = max known d.stamp.time in
+      books_turned setting w i k c d mine.operation mine.operation (put w.nodes i (with_call node time node.busy k (Some d)))
       (w.packets ++ phase_packets setting group me d) w.operations w.contents replies books
       (record {
         was = is_call;
         operation_was = mine.operation_is;
         same = same_of d fits.same;
-        stamp = fresh.1;
-        rounds = (let next : d.round ≡ c.round + 1 = fits.round in let left : c.round < most_rounds = fits.left in (omega arith, omega arith));
-        in_round = λ orders. ap (λ (x : Call). x.phase) fits.call ∙ ap (λ (x : ℕ). x + 1) (mine.in_round fits.was) ∙ sym fits.round;
+        stamp = stamp_sends d fits.how;
+        rounds = rounds_sends d fits.how;
+        in_round = round_next fresh then' d fits (round_same c then' c.phase c.phase refl refl refl mine.in_round);
         same_ask = record { brick = refl; seq = refl; begin = refl; ask = refl; answered = refl };
-        made = subst (λ (x : Phase). MadeInPhase d mine.operation x) (sym fits.phase) made;
-        keeps = keeps_call d.stamp.time node.busy (Some d) fresh.0;
-        call_is = call_put d.stamp.time node.busy (Some d);
-        other_calls = other_put d.stamp.time node.busy (Some d);
+        made = nothing_made d mine.operation d.phase (sends_unmade fresh then' d fits)
+            (made_nothing c mine.operation c.phase fits.unmade mine.made);
+        keeps = keeps_call time node.busy (Some d) (omega arith);
+        call_is = call_put time node.busy (Some d);
+        other_calls = other_put time node.busy (Some d);
         operation_is = mine.operation_is;
         other_operations = λ m other. refl;
       })
@@ -238,28 +304,29 @@ module _ (setting : Setting) (group : Group) (w : World) (replies : Replies) (me
         ask = mine.operation.ask;
         version = Some d.stamp;
         made = true;
+        base = d.base;
         answered = mine.operation.answered;
         floor = mine.operation.floor;
       } in
       let n : ℕ = w.numbers i k in
       books_turned setting w i k c d mine.operation o (put w.nodes i (with_call node known node.busy k (Some d)))
-      (w.packets ++ phase_packets setting group me d) (put w.operations n (with_made d.stamp (w.operations n)))
-      (with_content w.contents d.stamp (w.operations n)) replies books
+      (w.packets ++ phase_packets setting group me d) (put w.operations n (with_made d.stamp d.base (w.operations n)))
+      (with_content w.contents d.stamp ((with_call node known node.busy k (Some d)).calls k)) replies books
       (record {
         was = is_call;
         operation_was = mine.operation_is;
         same = same_of d fits.same;
-        stamp = stamp_stays (Some d) d.stamp fits.stamp;
+        stamp = stamp_stays known (Some d) d.stamp fits.stamp grows;
         rounds = subst (λ (x : ℕ). (1 ≤ x) × (x ≤ most_rounds)) (sym fits.round) mine.rounds;
-        in_round = λ orders. absurd (let never : Stores ≡ Orders = sym fits.phase ∙ orders in cc);
+        in_round = subst (λ (x : Phase). InRound d x) (sym fits.phase) tt;
         same_ask = record { brick = refl; seq = refl; begin = refl; ask = refl; answered = refl };
-        made = subst (λ (x : Phase). MadeInPhase d o x) (sym fits.phase) (refl, refl);
+        made = subst (λ (x : Phase). MadeInPhase d o x) (sym fits.phase) (refl, refl, refl);
         keeps = keeps_call known node.busy (Some d) grows;
         call_is = call_put known node.busy (Some d);
         other_calls = other_put known node.busy (Some d);
-        operation_is = put_same w.operations n (with_made d.stamp (w.operations n))
-            ∙ ap (λ (x : Option Operation). with_made d.stamp x) mine.operation_is;
-        other_operations = λ m other. put_other w.operations n (with_made d.stamp (w.operations n)) m other;
+        operation_is = put_same w.operations n (with_made d.stamp d.base (w.operations n))
+            ∙ ap (λ (x : Option Operation). with_made d.stamp d.base x) mine.operation_is;
+        other_operations = λ m other. put_other w.operations n (with_made d.stamp d.base (w.operations n)) m other;
       })
   books_carried_out (Ends answer seen stored) fits =
       let o : Operation = record {
@@ -269,6 +336,7 @@ module _ (setting : Setting) (group : Group) (w : World) (replies : Replies) (me
         ask = mine.operation.ask;
         version = version_after mine.operation.version seen;
         made = mine.operation.made;
+        base = mine.operation.base;
         answered = is_answer answer;
         floor = mine.operation.floor;
       } in

@@ -6,10 +6,10 @@ use Rattle.fab_base.specs.declared.stamps.Stamp.{Stamp}
 use Rattle.fab_wire.specs.declared.messages.Packet.{Packet}
 use Rattle.reg_model.specs.Marks.{life_of}
 use Rattle.protocol.specs.Settings.{Setting}
-use Rattle.protocol.specs.Coordinators.{Coordinator, Orders, Counted, most_rounds}
+use Rattle.protocol.specs.Coordinators.{Coordinator, Counted, most_rounds}
 use Rattle.protocol.specs.Nodes.{Node}
 use Rattle.protocol.specs.Worlds.{World, Operation}
-use Rattle.protocol.proofs.Books.{Books, OperationBooks, CallBooks, IsOperation, IsCall, MadeInPhase}
+use Rattle.protocol.proofs.Books.{Books, OperationBooks, CallBooks, IsOperation, IsCall, MadeInPhase, InRound}
 use Rattle.protocol.proofs.BooksKept.{KeepsNumbers, operation_kept, call_kept, calls_apart, cases_call}
 use Rattle.protocol.proofs.Outcomes.{SameOperation}
 use Rattle.protocol.proofs.Lives.{Stays-refl}
@@ -36,7 +36,7 @@ pub record Turned (w : World) (i k : ℕ) (c d : Coordinator) (before o : Operat
   pub same : SameOperation c d
   pub stamp : IsBookedStamp (nodes i).known before d.stamp
   pub rounds : (1 ≤ d.round) × (d.round ≤ most_rounds)
-  pub in_round : d.phase ≡ Orders → d.call.phase ≡ d.round
+  pub in_round : InRound d d.phase
   pub same_ask : SameAsk before o
   pub made : MadeInPhase d o d.phase
   pub keeps : (j : ℕ) → KeepsNumbers (w.nodes j) (nodes j)

@@ -1,17 +1,18 @@
 -- The replies that count at a coordinator: how many seats they are, and what they tell together.
 use Rattle.std.proofs.Common.{◌≡◌, ℕ, zero, suc, ◌+◌, ◌<◌, ◌≤◌, nat_lt, ◌⊎◌, inl, inr, Bool, true, false, not, cond, ◌||◌, List, [], ◌∷◌, ◌++◌, length, map, Option, Some, None, refl, sym, ap, ◌∙◌, subst, ⊎_elim, arith}
-use Rattle.std.specs.Prelude.{slice_get, nat_eq}
+use Rattle.std.specs.Prelude.{slice_get, nat_eq, filter}
 use Rattle.std.specs.List.{IsDistinct, AllByRecursion}
 use Rattle.std.proofs.lemmas.Bool.{cond_both, cases_eq, eqb-true, eqb-false, eq-eqb, ne_eqb, false≢true, or_cases, or_parts, or_from, and_parts, not-true}
+use Rattle.std.proofs.lemmas.Option.{same_Some}
 use Rattle.fab_base.specs.declared.stamps.Stamp.{Stamp}
 use Rattle.fab_base.specs.Stamps.{stamp_below, stamp_same}
-use Rattle.fab_base.proofs.StampOrder.{stamp_same_true}
+use Rattle.fab_base.proofs.StampOrder.{stamp_below_irrefl, stamp_below_asym, stamp_not_below_trans, stamp_same_true}
 use Rattle.fab_wire.specs.declared.requests.Version.{Version}
 use Rattle.fab_wire.specs.declared.replies.Reply.{Reply}
 use Rattle.quorum.specs.Quorums.{count, with_seat}
 use Rattle.quorum.proofs.Counts.{count_same, count_empty, count_monotone, count_with_seat}
 use Rattle.protocol.specs.Settings.{Group, Code, Piece, ArePiecesOf, quorum_of}
-use Rattle.protocol.specs.Coordinators.{Counted, Refuser, has_seat, fast_version, newest_stamp, tells, all_tell, told_by_all, found_bytes, pieces_of, refuser_of, greater_refuser, greatest_refuser}
+use Rattle.protocol.specs.Coordinators.{Counted, Refuser, has_seat, fast_version, told_stamp, greater_stamp, greatest_found, tells, all_tell, told_by_all, found_bytes, pieces_of, refuser_of, greater_refuser, greatest_refuser}
 use Rattle.protocol.specs.Laws.{AtQuorum}
 use Rattle.protocol.proofs.Said.{EachCounted, AreOnce}
 
@@ -72,12 +73,10 @@ count_seats n (x ∷ counted) within once =
     let rest : count n (λ k. has_seat k counted) ≡ length counted = count_seats n counted within.1 once.1 in
     omega arith
 
--- what each of a quorum of replies shows of its seat holds at a quorum
-pub at_quorum : (group : Group) (counted : List Counted) (test : ℕ → Bool)
-    → EachCounted (λ x. (x.seat < length group.members) × (test x.seat ≡ true)) counted → AreOnce counted → quorum_of group ≤ length counted
-    → AtQuorum group test
-at_quorum group counted test each once many =
-    let n : ℕ = length group.members in
+-- what each reply shows of its seat holds at as many seats
+pub at_seats : (n : ℕ) (counted : List Counted) (test : ℕ → Bool) → EachCounted (λ x. (x.seat < n) × (test x.seat ≡ true)) counted → AreOnce counted
+    → length counted ≤ count n test
+at_seats n counted test each once =
     let P : Counted → Type 0 = λ x. (x.seat < n) × (test x.seat ≡ true) in
     let seats : count n (λ k. has_seat k counted) ≡ length counted
     = count_seats n counted (each_then P (λ x. x.seat < n) counted (λ x h. h.0) each) once in
@@ -86,6 +85,89 @@ at_quorum group counted test each once many =
     let found : (x : Counted) × P x × (x.seat ≡ k) = seat_reply P counted k each has in
     subst (λ (j : ℕ). test j ≡ true) found.2 found.1.1) in
     omega arith
+
+-- what each of a quorum of replies shows of its seat holds at a quorum
+pub at_quorum : (group : Group) (counted : List Counted) (test : ℕ → Bool)
+    → EachCounted (λ x. (x.seat < length group.members) × (test x.seat ≡ true)) counted → AreOnce counted → quorum_of group ≤ length counted
+    → AtQuorum group test
+at_quorum group counted test each once many =
+    let seats : length counted ≤ count (length group.members) test = at_seats (length group.members) counted test each once in
+    omega (arith, seats, many)
+
+-- each of those that pass a test
+pub each_filter : (P : Counted → Type 0) (test : Counted → Bool) (counted : List Counted) → EachCounted P counted
+    → EachCounted (λ x. P x × (test x ≡ true)) (filter test counted)
+each_filter P test [] each = tt
+each_filter P test (x ∷ counted) each =
+    cond_both (test x) (x ∷ filter test counted) (filter test counted) (λ (l : List Counted). EachCounted (λ y. P y × (test y ≡ true)) l)
+    (λ is. ((each.0, is), each_filter P test counted each.1))
+    (λ isnt. each_filter P test counted each.1)
+
+-- a seat with no reply has none among those that pass a test
+none_filter : (seat : ℕ) (test : Counted → Bool) (counted : List Counted) → has_seat seat counted ≡ false → has_seat seat (filter test counted) ≡ false
+none_filter seat test [] isnt = isnt
+none_filter seat test (x ∷ counted) isnt =
+    let parts = or_parts (nat_eq x.seat seat) (has_seat seat counted) isnt in
+    cond_both (test x) (x ∷ filter test counted) (filter test counted) (λ (l : List Counted). has_seat seat l ≡ false)
+    (λ is. or_from (nat_eq x.seat seat) (has_seat seat (filter test counted)) parts.0 (none_filter seat test counted parts.1))
+    (λ no. none_filter seat test counted parts.1)
+
+-- no seat counts twice among those that pass a test
+pub once_filter : (test : Counted → Bool) (counted : List Counted) → AreOnce counted → AreOnce (filter test counted)
+once_filter test [] once = tt
+once_filter test (x ∷ counted) once =
+    cond_both (test x) (x ∷ filter test counted) (filter test counted) (λ (l : List Counted). AreOnce l)
+    (λ is. (none_filter x.seat test counted once.0, once_filter test counted once.1))
+    (λ isnt. once_filter test counted once.1)
+
+-- what is told is at most v
+abbrev pub TellsAtMost : Stamp → Option Stamp → Type 0
+TellsAtMost v None = Unit {0}
+TellsAtMost v (Some u) = stamp_below v u ≡ false
+
+-- what is at or above the greatest version found is at or above what each reply tells
+greatest_each : (counted : List Counted) (v : Stamp) → ((u : Stamp) → greatest_found counted ≡ Some u → stamp_below v u ≡ false)
+    → EachCounted (λ x. TellsAtMost v (told_stamp x.reply)) counted
+greatest_each [] v most = tt
+greatest_each (x ∷ counted) v most = (here (told_stamp x.reply) (greatest_found counted) most, greatest_each counted v (λ u is. there (told_stamp x.reply) u (λ z e. most z (ap (greater_stamp (told_stamp x.reply)) is ∙ e))))
+  where
+    here : (a b : Option Stamp) → ((u : Stamp) → greater_stamp a b ≡ Some u → stamp_below v u ≡ false) → TellsAtMost v a
+    here None b h = tt
+    here (Some a) None h = h a refl
+    here (Some a) (Some b) h =
+        cond_both (stamp_below a b) (Some b) (Some a) (λ (z : Option Stamp). ((u : Stamp) → z ≡ Some u → stamp_below v u ≡ false) → stamp_below v a ≡ false)
+        (λ less g. stamp_not_below_trans a b v (stamp_below_asym a b less) (g b refl))
+        (λ above g. g a refl)
+        h
+
+    there : (a : Option Stamp) (b : Stamp) → ((u : Stamp) → greater_stamp a (Some b) ≡ Some u → stamp_below v u ≡ false) → stamp_below v b ≡ false
+    there None b h = h b refl
+    there (Some a) b h =
+        cond_both (stamp_below a b) (Some b) (Some a) (λ (z : Option Stamp). ((u : Stamp) → z ≡ Some u → stamp_below v u ≡ false) → stamp_below v b ≡ false)
+        (λ less g. g b refl)
+        (λ above g. stamp_not_below_trans b a v above (g a refl))
+        h
+
+-- each reply tells at most the greatest version found
+pub found_most : (counted : List Counted) (v : Stamp) → greatest_found counted ≡ Some v → EachCounted (λ x. TellsAtMost v (told_stamp x.reply)) counted
+found_most counted v is =
+    greatest_each counted v (λ u e. let same : v ≡ u = same_Some v u (sym is ∙ e) in subst (λ (z : Stamp). stamp_below v z ≡ false) same (stamp_below_irrefl v))
+
+-- one of two stamps is the greater
+greater_stamp_one : (a b : Option Stamp) (v : Stamp) → greater_stamp a b ≡ Some v → (a ≡ Some v) ⊎ (b ≡ Some v)
+greater_stamp_one None b v is = inr is
+greater_stamp_one (Some a) None v is = inl is
+greater_stamp_one (Some a) (Some b) v is =
+    cond_both (stamp_below a b) (Some b) (Some a) (λ (z : Option Stamp). z ≡ Some v → (Some a ≡ Some v) ⊎ (Some b ≡ Some v)) (λ less e. inr e) (λ above e. inl e) is
+
+-- one of the replies tells the greatest version found
+pub found_one : (P : Counted → Type 0) (counted : List Counted) (v : Stamp) → EachCounted P counted → greatest_found counted ≡ Some v
+    → (x : Counted) × P x × (told_stamp x.reply ≡ Some v)
+found_one P [] v each is = cc
+found_one P (x ∷ counted) v each is = ⊎_elim
+    (λ (here : told_stamp x.reply ≡ Some v). (x, each.0, here))
+    (λ (there : greatest_found counted ≡ Some v). found_one P counted v each.1 there)
+    (greater_stamp_one (told_stamp x.reply) (greatest_found counted) v is)
 
 -- a reply that tells version v
 pub record TellsVersion (v : Stamp) (reply : Reply) : Type 0 where
@@ -128,7 +210,7 @@ told_each (Some u) v counted is =
 pub fast_each : (counted : List Counted) (v : Stamp) → fast_version counted ≡ Some v → EachCounted (λ x. TellsVersion v x.reply) counted
 unfolding fast_version
 fast_each [] v is = tt
-fast_each (x ∷ counted) v is = told_each (newest_stamp x.reply) v (x ∷ counted) is
+fast_each (x ∷ counted) v is = told_each (told_stamp x.reply) v (x ∷ counted) is
 
 -- of two refusers one is the greater
 greater_one : (a b : Refuser) → (greater_refuser (Some a) (Some b) ≡ Some a) ⊎ (greater_refuser (Some a) (Some b) ≡ Some b)

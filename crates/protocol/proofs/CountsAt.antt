@@ -36,7 +36,7 @@ call_same_true a b is =
 -- a reply that counts at a seat
 pub record CountsAt (block : ℕ) (group : Group) (c : Coordinator) (from : ℕ) (call : Call) (reply : Reply) (seat : ℕ) : Type 0 where
   pub call_is : call ≡ c.call
-  pub answers : answers_phase block c.phase reply ≡ true
+  pub answers : answers_phase block c.stamp c.phase reply ≡ true
   pub seat_is : seat_in group.members from ≡ Some seat
   pub first : has_seat seat c.counted ≡ false
 
@@ -54,11 +54,11 @@ pub counts_facts : (block : ℕ) (group : Group) (c : Coordinator) (from : ℕ) 
     → counts_at block group c from call reply ≡ Some seat → CountsAt block group c from call reply seat
 unfolding counts_at
 counts_facts block group c from call reply seat is =
-    cond_both (call_same call c.call && (answers_phase block c.phase reply && nat_lt c.call.phase (2 ^ 32 - 1))) (new_seat c.counted (seat_in group.members from)) None
+    cond_both (call_same call c.call && (answers_phase block c.stamp c.phase reply && nat_lt c.call.phase (2 ^ 32 - 1))) (new_seat c.counted (seat_in group.members from)) None
     (λ (z : Option ℕ). z ≡ Some seat → CountsAt block group c from call reply seat)
     (λ test e.
-    let p = and_parts (call_same call c.call) (answers_phase block c.phase reply && nat_lt c.call.phase (2 ^ 32 - 1)) test in
-    let q = and_parts (answers_phase block c.phase reply) (nat_lt c.call.phase (2 ^ 32 - 1)) p.1 in
+    let p = and_parts (call_same call c.call) (answers_phase block c.stamp c.phase reply && nat_lt c.call.phase (2 ^ 32 - 1)) test in
+    let q = and_parts (answers_phase block c.stamp c.phase reply) (nat_lt c.call.phase (2 ^ 32 - 1)) p.1 in
     let n = new_seat_is c.counted (seat_in group.members from) seat e in
     record { call_is = call_same_true call c.call p.0; answers = q.0; seat_is = n.0; first = n.1 })
     (λ test e. cc)

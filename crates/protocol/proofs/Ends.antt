@@ -1,6 +1,7 @@
 -- A coordinator ends its operation.
 use Rattle.std.proofs.Common.{◌≡◌, ℕ, ◌+◌, ◌-◌, ◌≤◌, ◌⊎◌, inl, inr, true, false, List, [], ◌∷◌, ◌++◌, length, Option, Some, None, refl, sym, ap, ◌∙◌, subst, ⊎_elim, arith}
 use Rattle.std.specs.Prelude.{slice_get}
+use Rattle.std.proofs.lemmas.Option.{same_Some}
 use Rattle.std.proofs.lemmas.List.{length-append}
 use Rattle.fab_base.specs.declared.identities.BrickId.{BrickId}
 use Rattle.fab_base.specs.declared.stamps.Stamp.{Stamp}
@@ -16,19 +17,19 @@ use Rattle.protocol.specs.Coordinators.{Coordinator}
 use Rattle.protocol.specs.Nodes.{Node, Answers, put, with_call, collect_packets}
 use Rattle.protocol.specs.Worlds.{World, Operation, world_stepped, with_answer, version_after, is_answer}
 use Rattle.protocol.proofs.Books.{Books, CallBooks, IsCall}
-use Rattle.protocol.proofs.Said.{Stamping, Said, PacketSays, HasVersion, OperationSays, CallSays, EndShows}
+use Rattle.protocol.proofs.Said.{Stamping, Said, Stands, WritesWhole, ReadsBack, PacketSays, HasVersion, OperationSays, CallSays, EndShows}
 use Rattle.protocol.proofs.Tables.{put_each, put_same, get_grown, get_one, sent_to_member}
 use Rattle.protocol.proofs.Lives.{last_grows}
 use Rattle.protocol.proofs.Stampings.{stamps_same}
 use Rattle.protocol.proofs.Steps.{stamps_stay_by}
-use Rattle.protocol.proofs.Growth.{Grows, Continues, stays_operation, stays_has_version}
+use Rattle.protocol.proofs.Growth.{Grows, Continues, stays_standing, stays_operation, stays_has_version}
 use Rattle.protocol.proofs.Operated.{operated, OperatedKeeps, operated_grows, said_operated}
 use Rattle.protocol.proofs.Stores.{open_until}
 
 -- what must be known of an operation that ends by this answer, having seen this version
 abbrev pub WillShow : World → Operation → Option Stamp → Answer → Type 0
 WillShow w o seen (Data bytes) =
-    (v : Stamp) × (version_after o.version seen ≡ Some v) × (o.made ≡ false) × (bytes ≡ w.contents o.ask.group.0 o.ask.stripe.0 v)
+    (v : Stamp) × (version_after o.version seen ≡ Some v) × (bytes ≡ w.contents o.ask.group.0 o.ask.stripe.0 v)
 WillShow w o seen Done = Unit {0}
 WillShow w o seen (Aborted cause) = Unit {0}
 
@@ -54,6 +55,7 @@ module _ (setting : Setting) (w : World) (stamps : Stamping) (me : BrickId) (c :
         ask = o.ask;
         version = version_after o.version seen;
         made = o.made;
+        base = o.base;
         answered = is_answer answer;
         floor = o.floor;
       }
@@ -85,10 +87,12 @@ module _ (setting : Setting) (w : World) (stamps : Stamping) (me : BrickId) (c :
 
   module _ (keeps_version : (v : Stamp) → o.version ≡ Some v → version_after o.version seen ≡ Some v)
       (has_version : (v : Stamp) → version_after o.version seen ≡ Some v → HasVersion setting w o v)
+      (stands : (v : Stamp) → version_after o.version seen ≡ Some v → (o.made ≡ false) ⊎ (is_answer answer ≡ true)
+      → Stands setting w o.ask.group.0 o.ask.stripe.0 v)
       (answered_made : is_answer answer ≡ true → (bytes : List ℕ) → o.ask.op ≡ WriteStripe bytes → o.made ≡ true)
       (shows : WillShow w o seen answer) where
     on : Continues o ended
-    on = record { brick = refl; seq = refl; begin = refl; ask = refl; floor = refl; version = keeps_version; made = λ v has. refl }
+    on = record { brick = refl; seq = refl; begin = refl; ask = refl; floor = refl; version = keeps_version; made = λ v has. refl; base = λ v has. refl }
 
     keeps : OperatedKeeps w me node marks n o ended w.contents
     keeps = record {
@@ -115,6 +119,25 @@ module _ (setting : Setting) (w : World) (stamps : Stamping) (me : BrickId) (c :
         let old : HasVersion setting next o v = stays_has_version setting w next stamps stamps books grows o v (has_version v has) in
         record { made = old.made; reader = old.reader; guarded = old.guarded; floors = old.floors }
 
+    -- the version of an operation that made one
+    was_version : (v : Stamp) → o.made ≡ true → version_after o.version seen ≡ Some v → o.version ≡ Some v
+    was_version v made has =
+        let had = (said.operations n o its.operation_is).made made in
+        had.2 ∙ ap (λ (t : Stamp). Some t) (same_Some had.0 v (sym (keeps_version had.0 had.2) ∙ has))
+
+    -- how it was made
+    ended_maker : (v : Stamp) → WritesWhole next o v ⊎ ReadsBack setting next o v → WritesWhole next ended v ⊎ ReadsBack setting next ended v
+    ended_maker v (inl whole) = inl whole
+    ended_maker v (inr back) = inr (record {
+      base = back.base;
+      base_is = back.base_is;
+      op = back.op;
+      below = back.below;
+      made = back.made;
+      content = back.content;
+      blocked = back.blocked;
+    })
+
     operation_says : OperationSays setting next stamps n ended
     operation_says =
         let old : OperationSays setting next stamps n o
@@ -125,10 +148,9 @@ module _ (setting : Setting) (w : World) (stamps : Stamping) (me : BrickId) (c :
           floors_known = old.floors_known;
           fresh = old.fresh;
           made = λ made. let had = old.made made in (had.0, had.1, keeps_version had.0 had.2, had.3);
-          content = λ v made has.
-              let had = old.made made in
-              let same : had.0 ≡ v = (let e : Some had.0 ≡ Some v = sym (keeps_version had.0 had.2) ∙ has in cc) in
-              old.content v made (had.2 ∙ ap (λ (t : Stamp). Some t) same);
+          maker = λ v made has. ended_maker v (old.maker v made (was_version v made has));
+          content = λ v made has. old.content v made (was_version v made has);
+          stands = λ v has how. stays_standing setting w next stamps stamps books grows o.ask.group.0 o.ask.stripe.0 v (stands v has how);
           version = ended_has;
           answered = answered_made;
         }
@@ -155,8 +177,7 @@ module _ (setting : Setting) (w : World) (stamps : Stamping) (me : BrickId) (c :
           is = put_same w.operations n (Some ended);
           version = told.0;
           version_is = told.1;
-          unmade = told.2;
-          bytes_are = told.3;
+          bytes_are = told.2;
         }
     end_shows Done same = tt
     end_shows (Aborted cause) same = tt

@@ -1,19 +1,17 @@
 -- The entries of a stripe's operations: which operation each is of, and which operations have one.
-use Rattle.std.proofs.Common.{◌≡◌, ◌≢◌, ℕ, zero, suc, ◌<◌, ◌≤◌, ◌⊎◌, inl, inr, ⊎_elim, Bool, true, not, ◌&&◌, cond, eqb, List, [], ◌∷◌, ◌++◌, length, get_or, map, Option, Some, None, refl, sym, ap, ◌∙◌, subst, arith}
-use Rattle.std.specs.List.{All, AllPairs, Contains, IsDistinct, filter, list_any}
-use Rattle.std.proofs.lemmas.Bool.{cond_both, cases_eq, ne_eqb, or_left, or_right}
+use Rattle.std.proofs.Common.{◌≡◌, ◌≢◌, ℕ, zero, suc, ◌<◌, ◌≤◌, ◌⊎◌, inl, inr, ⊎_elim, Bool, true, not, cond, eqb, List, [], ◌∷◌, ◌++◌, length, get_or, map, Option, Some, None, refl, sym, ap, ◌∙◌, subst, arith}
+use Rattle.std.specs.List.{All, AllPairs, Contains, IsDistinct, list_any}
+use Rattle.std.proofs.lemmas.Bool.{cond_both, cases_eq, ne_eqb}
 use Rattle.std.proofs.lemmas.Option.{slice_get-get_or}
 use Rattle.std.proofs.lemmas.List.{get_or-map, length-map, append-nil}
 use Rattle.std.proofs.lemmas.List.Elements.{All-cons, All-nil, All-append, All-weaker, Contains-append_left, Contains-append_right}
 use Rattle.std.proofs.lemmas.List.Quantifiers.{all_pairs_push}
-use Rattle.std.proofs.lemmas.List.Kept.{AllPairs-filter}
 use Rattle.std.proofs.lemmas.Map.Keys.{IsDistinct-from_apart, any_passes_from_place}
 use Rattle.fab_base.specs.declared.stamps.Stamp.{Stamp}
-use Rattle.fab_base.specs.Stamps.{stamp_same, first_stamp}
-use Rattle.fab_base.proofs.StampOrder.{stamp_same_refl}
+use Rattle.fab_base.specs.Stamps.{first_stamp}
 use Rattle.reg_model.specs.declared.entries.Entry.{Entry}
 use Rattle.protocol.specs.Worlds.{Operation}
-use Rattle.protocol.specs.Happenings.{is_of, entry_with, entry_at, entries_to, was_answered, is_effective}
+use Rattle.protocol.specs.Happenings.{is_of, entry_with, entry_at, entries_to}
 
 -- the entry is operation o's
 pub record IsEntryOf (operations : ℕ → Option Operation) (g s : ℕ) (e : Entry) : Type 0 where
@@ -93,12 +91,20 @@ entries_rise operations g s (suc n) =
     (All-weaker (λ (e : Entry). e.operation ≤ n) (λ (e : Entry). e.operation < suc n) (λ e le. omega arith) (entries_to operations g s n) (entries_below operations g s n))
     (at_one g s (suc n) (operations (suc n)))
 
--- no two kept entries are of one operation
-pub entries_distinct : (operations : ℕ → Option Operation) (g s n : ℕ) (test : Entry → Bool)
-    → IsDistinct eqb (map (λ e. e.operation) (filter test (entries_to operations g s n)))
-entries_distinct operations g s n test =
-    let entries : List Entry = filter test (entries_to operations g s n) in
-    let rise : AllPairs NumbersBelow entries = AllPairs-filter NumbersBelow test (entries_to operations g s n) (entries_rise operations g s n) in
+-- two entries of different operations
+abbrev pub AreApart : Entry → Entry → Type 0
+AreApart a b = a.operation ≢ b.operation
+
+-- no two entries are of one operation
+pub entries_apart : (operations : ℕ → Option Operation) (g s n : ℕ) → AllPairs AreApart (entries_to operations g s n)
+entries_apart operations g s n i j d lt le =
+    let rise : (get_or (entries_to operations g s n) i d).operation < (get_or (entries_to operations g s n) j d).operation
+    = entries_rise operations g s n i j d lt le in
+    λ same. omega arith
+
+-- such entries have distinct numbers
+pub numbers_distinct : (entries : List Entry) → AllPairs AreApart entries → IsDistinct eqb (map (λ e. e.operation) entries)
+numbers_distinct entries apart =
     let long : length (map (λ (e : Entry). e.operation) entries) ≡ length entries = length-map entries (λ (e : Entry). e.operation) in
     IsDistinct-from_apart eqb (map (λ (e : Entry). e.operation) entries)
     (λ i j d lt le.
@@ -107,8 +113,8 @@ entries_distinct operations g s n test =
     get_or-map (λ (e : Entry). e.operation) entries i e d (omega arith) in
     let other : get_or (map (λ (e : Entry). e.operation) entries) j d ≡ (get_or entries j e).operation =
     get_or-map (λ (e : Entry). e.operation) entries j e d (omega arith) in
-    let apart : (get_or entries i e).operation < (get_or entries j e).operation = rise i j e lt (omega arith) in
-    ne_eqb (get_or (map (λ (e : Entry). e.operation) entries) i d) (get_or (map (λ (e : Entry). e.operation) entries) j d) (λ same. omega arith))
+    ne_eqb (get_or (map (λ (e : Entry). e.operation) entries) i d) (get_or (map (λ (e : Entry). e.operation) entries) j d)
+    (λ same. apart i j e lt (omega arith) (sym one ∙ same ∙ other)))
 
 at_has : (g s n : ℕ) (o : Operation) (t : Stamp) → is_of g s o ≡ true → o.version ≡ Some t → Contains (entry_at g s n (Some o)) (entry_of n o t)
 at_has g s n o t of version =
@@ -131,16 +137,6 @@ entries_have operations g s (suc n) k o t low high is of version = ⊎_elim
     (entries_have operations g s n k o t low (omega arith) is of version))
     (cases_eq k (suc n))
 
--- what stands in a list and passes the test is kept
-pub Contains-filter : {A : Type 0} (test : A → Bool) (xs : List A) (x : A) → Contains xs x → test x ≡ true → Contains (filter test xs) x
-Contains-filter test [] x (k, lt, is) pass = absurd (omega arith)
-Contains-filter test (y ∷ xs) x (zero, lt, is) pass =
-    subst (λ (t : Bool). Contains (cond t (y ∷ filter test xs) (filter test xs)) x) (sym (ap test is ∙ pass)) (0, omega arith, is)
-Contains-filter test (y ∷ xs) x (suc k, lt, is) pass =
-    let rest : Contains (filter test xs) x = Contains-filter test xs x (k, omega arith, is) pass in
-    cond_both (test y) (y ∷ filter test xs) (filter test xs) (λ l. Contains l x)
-    (λ kept. (suc rest.0, (let within : rest.0 < length (filter test xs) = rest.1 in omega arith), rest.2)) (λ left. rest)
-
 -- the number of an entry that stands in a list stands among the numbers
 pub Contains-number : (entries : List Entry) (e : Entry) → Contains entries e → Contains (map (λ x. x.operation) entries) e.operation
 Contains-number entries e (k, lt, is) =
@@ -151,21 +147,3 @@ Contains-number entries e (k, lt, is) =
 pub any_passes : {A : Type 0} (test : A → Bool) (xs : List A) (x : A) → Contains xs x → test x ≡ true → list_any test xs ≡ true
 any_passes test xs x (k, lt, is) pass =
     any_passes_from_place test xs k x (slice_get-get_or xs k x lt ∙ ap (λ y. Some y) is) pass
-
--- a reader's entry is effective
-pub reader_effective : (operations : ℕ → Option Operation) (entries : List Entry) (e : Entry) → e.reader ≡ true → is_effective operations entries e ≡ true
-reader_effective operations entries e reads = or_left e.reader _ reads
-
--- the entry of an answered operation is effective
-pub answered_effective : (operations : ℕ → Option Operation) (entries : List Entry) (e : Entry) (o : Operation) → operations e.operation ≡ Some o
-    → o.answered ≡ true → is_effective operations entries e ≡ true
-answered_effective operations entries e o is answered =
-    or_right e.reader _ (or_left (was_answered (operations e.operation)) _ (ap was_answered is ∙ answered))
-
--- the entry of a version that was read is effective
-pub read_effective : (operations : ℕ → Option Operation) (entries : List Entry) (e r : Entry) → Contains entries r → r.reader ≡ true → r.stamp ≡ e.stamp
-    → is_effective operations entries e ≡ true
-read_effective operations entries e r has reads same =
-    or_right e.reader _ (or_right (was_answered (operations e.operation)) _
-    (any_passes (λ (x : Entry). x.reader && stamp_same x.stamp e.stamp) entries r has
-    (ap (λ (b : Bool). b && stamp_same r.stamp e.stamp) reads ∙ subst (λ (t : Stamp). stamp_same r.stamp t ≡ true) same (stamp_same_refl r.stamp))))

@@ -4,6 +4,7 @@ use Rattle.protocol.specs.Worlds.{World, first_world, run}
 use Rattle.protocol.specs.Laws.{Laws, EveryRunKeepsTheLaws, NoEventLowers}
 use Rattle.protocol.proofs.Books.{Books}
 use Rattle.protocol.proofs.BooksEvents.{books}
+use Rattle.protocol.proofs.Chains.{neighbours_follow}
 use Rattle.protocol.proofs.Falls.{no_event_lowers}
 use Rattle.protocol.proofs.QuorumFacts.{QuorumFacts, quorum_facts}
 use Rattle.protocol.proofs.Tallies.{Tallied}
@@ -17,6 +18,8 @@ laws setting w booked facts history = record {
   one_content = facts.one_content;
   guarded = facts.guarded;
   stored = facts.stored;
+  bases = facts.bases;
+  neighbours = λ g s. neighbours_follow setting w g s booked facts;
   real_time = facts.real_time;
   counted = history.counted;
   aborts = history.aborts;

@@ -1,30 +1,34 @@
 -- No event lowers what a brick has promised or stored, or drops a version that it holds.
-use Rattle.std.proofs.Common.{◌≡◌, ℕ, true, Option, Some, None, refl}
-use Rattle.std.proofs.lemmas.Bool.{cond_both}
+use Rattle.std.proofs.Common.{◌≡◌, ℕ, ◌<◌, Bool, true, false, not, ◌&&◌, List, [], ◌∷◌, length, Option, Some, None, refl, arith}
+use Rattle.std.proofs.lemmas.Bool.{cond_both, and_parts, not-true}
 use Rattle.fab_base.specs.declared.identities.BrickId.{BrickId}
 use Rattle.fab_base.specs.declared.asks.Ask.{Ask}
 use Rattle.fab_base.specs.declared.stamps.Stamp.{Stamp}
-use Rattle.fab_base.proofs.StampOrder.{stamp_below_irrefl}
+use Rattle.fab_base.specs.Stamps.{stamp_below}
 use Rattle.fab_wire.specs.declared.calls.Call.{Call}
 use Rattle.fab_wire.specs.declared.messages.Message.{Message}
 use Rattle.fab_wire.specs.declared.messages.Packet.{Packet}
 use Rattle.fab_wire.specs.declared.requests.Request.{Request}
 use Rattle.fab_wire.specs.declared.replies.Reply.{Reply}
+use Rattle.quorum.specs.Quorums.{count, IsWithinLimits}
+use Rattle.quorum.proofs.Counts.{count_monotone}
 use Rattle.protocol.specs.Settings.{Setting, Group, group_of, seat_in}
 use Rattle.protocol.specs.Replicas.{top_of, is_held, handle}
-use Rattle.protocol.specs.Coordinators.{Coordinator, Next, Ignores, Waits, Reorders, Makes, Ends, on_reply}
+use Rattle.protocol.specs.Coordinators.{Coordinator, Next, Ignores, Waits, Sends, Makes, Ends, on_reply}
 use Rattle.protocol.specs.Nodes.{Node, NodeStep, fresh_stamp, Told, Nothing, Made, Answers, put, began, invoked, replica_at, requested_at, requested_in, requested, known_after, carried_out, replied_to, replied_at, replied, received}
 use Rattle.protocol.specs.Worlds.{World, Event, Invokes, Delivers, Sets, replies_with, is_brick, may_begin, world_began, world_stepped, delivered, packet_of, happens, first_world, run}
-use Rattle.protocol.specs.Laws.{NeverFalls, NoEventLowers, IsGuarded, part_of}
+use Rattle.protocol.specs.Laws.{NoEventLowers, NeverSurfaces, AtQuorum, IsGuarded, IsBlocked, part_of, brick_at}
 use Rattle.protocol.proofs.Reactions.{handle_after}
 use Rattle.protocol.proofs.Requests.{parts_keep}
-use Rattle.protocol.proofs.Steps.{KeepsParts, keeps_same, never_falls_by, held_by}
+use Rattle.protocol.proofs.Logs.{below_above}
+use Rattle.protocol.proofs.Blocking.{PartsStay, parts_then, passes_by, passes, blocked_by, blocked_stays, blocked_never_stands, count_split}
+use Rattle.protocol.proofs.Steps.{KeepsParts, keeps_same, parts_by, parts_same}
 use Rattle.protocol.proofs.Growth.{guarded_stays}
 
 -- the bricks after a step
 stepped_nodes : (w : World) (me : BrickId) (step : NodeStep) (told : Told) → (world_stepped w me step told).nodes ≡ put w.nodes me.0 step.node
 stepped_nodes w me step Nothing = refl
-stepped_nodes w me step (Made seq t) = refl
+stepped_nodes w me step (Made seq t base) = refl
 stepped_nodes w me step (Answers seq answer seen) = refl
 
 -- a coordinator's decision changes no part of a stripe
@@ -32,7 +36,7 @@ decision_keeps : (setting : Setting) (group : Group) (me : BrickId) (node : Node
     → KeepsParts node (carried_out setting group me node known c decision).node
 decision_keeps setting group me node known c Ignores = keeps_same node (carried_out setting group me node known c Ignores).node refl
 decision_keeps setting group me node known c (Waits d) = keeps_same node (carried_out setting group me node known c (Waits d)).node refl
-decision_keeps setting group me node known c (Reorders d) = keeps_same node (carried_out setting group me node known c (Reorders d)).node refl
+decision_keeps setting group me node known c (Sends d) = keeps_same node (carried_out setting group me node known c (Sends d)).node refl
 decision_keeps setting group me node known c (Makes d) = keeps_same node (carried_out setting group me node known c (Makes d)).node refl
 decision_keeps setting group me node known c (Ends answer seen stored) =
     keeps_same node (carried_out setting group me node known c (Ends answer seen stored)).node refl
@@ -73,28 +77,15 @@ message_keeps setting me from to now node (Message.Request call request) = reque
 message_keeps setting me from to now node (Message.Reply call reply) = reply_keeps setting me now from node call reply
 message_keeps setting me from to now node message = keeps_same node node refl
 
--- from one world to the next no part falls, and what is held stays held
-pub record PartsStay (w next : World) : Type 0 where
-  pub tops : NeverFalls w next
-  pub held : (g s i : ℕ) (t : Stamp) → is_held t (part_of w g s i).log ≡ true → is_held t (part_of next g s i).log ≡ true
-
--- a world where nothing happens
-unchanged : (w : World) → PartsStay w w
-unchanged w = record { tops = λ g s i. stamp_below_irrefl (top_of (part_of w g s i)); held = λ g s i t held. held }
-
--- where one brick keeps its parts
-stay_by : (w next : World) (me : ℕ) (node : Node) → next.nodes ≡ put w.nodes me node → KeepsParts (w.nodes me) node → PartsStay w next
-stay_by w next me node nodes keeps = record { tops = never_falls_by w next me node nodes keeps; held = held_by w next me node nodes keeps }
-
 delivery_stays : (setting : Setting) (w : World) (z : Option Packet) → PartsStay w (delivered setting w z)
-delivery_stays setting w None = unchanged w
+delivery_stays setting w None = parts_same w w refl
 delivery_stays setting w (Some packet) =
     let step : NodeStep = received setting packet.to (w.clocks packet.to.0) (w.nodes packet.to.0) packet in
     let counted : World = record w { replies = replies_with setting w packet } in
     cond_both (is_brick setting.layout packet.to) (world_stepped counted packet.to step step.told) w (λ (next : World). PartsStay w next)
-    (λ is. stay_by w (world_stepped counted packet.to step step.told) packet.to.0 step.node (stepped_nodes counted packet.to step step.told)
+    (λ is. parts_by w (world_stepped counted packet.to step step.told) packet.to.0 step.node (stepped_nodes counted packet.to step step.told)
     (message_keeps setting packet.to packet.from packet.to (w.clocks packet.to.0) (w.nodes packet.to.0) packet.message))
-    (λ isnt. unchanged w)
+    (λ isnt. parts_same w w refl)
 
 invoked_keeps : (setting : Setting) (me : BrickId) (now : ℕ) (node : Node) (ask : Ask) → KeepsParts node (invoked setting me now node ask).node
 unfolding invoked
@@ -110,19 +101,47 @@ unfolding happens
 parts_stay setting w (Invokes brick ask) =
     let step : NodeStep = invoked setting brick (w.clocks brick.0) (w.nodes brick.0) ask in
     cond_both (may_begin setting w brick ask) (world_began w brick ask step) w (λ (next : World). PartsStay w next)
-    (λ may. stay_by w (world_began w brick ask step) brick.0 step.node refl (invoked_keeps setting brick (w.clocks brick.0) (w.nodes brick.0) ask))
-    (λ isnt. unchanged w)
+    (λ may. parts_by w (world_began w brick ask step) brick.0 step.node refl (invoked_keeps setting brick (w.clocks brick.0) (w.nodes brick.0) ask))
+    (λ isnt. parts_same w w refl)
 parts_stay setting w (Delivers number) = delivery_stays setting w (packet_of w.packets number)
 parts_stay setting w (Sets brick time) =
     cond_both (is_brick setting.layout brick) (record w { clocks = put w.clocks brick.0 time }) w (λ (next : World). PartsStay w next)
-    (λ is. record { tops = λ g s i. stamp_below_irrefl (top_of (part_of w g s i)); held = λ g s i t held. held })
-    (λ isnt. unchanged w)
+    (λ is. parts_same w (record w { clocks = put w.clocks brick.0 time }) refl)
+    (λ isnt. parts_same w w refl)
 
 -- no event of any run lowers a top
 pub no_event_lowers : NoEventLowers
 no_event_lowers setting events event sound = (parts_stay setting (run setting events (first_world setting.layout)) event).tops
 
+-- and through any schedule
+pub parts_stay_on : (setting : Setting) (more : List Event) (w : World) → PartsStay w (run setting more w)
+parts_stay_on setting [] w = parts_same w w refl
+parts_stay_on setting (event ∷ more) w =
+    parts_then w (happens setting w event) (run setting more (happens setting w event)) (parts_stay setting w event)
+    (parts_stay_on setting more (happens setting w event))
+
 -- what is guarded stays guarded through any event
 pub stays_guarded_through : (setting : Setting) (w : World) (event : Event) (g s : ℕ) (group : Group) (t : Stamp) → IsGuarded w g s group t
     → IsGuarded (happens setting w event) g s group t
 stays_guarded_through setting w event g s group t guarded = guarded_stays w (happens setting w event) (parts_stay setting w event).tops g s group t guarded
+
+-- where a quorum is at or above t, and fewer than m of it hold a version below that, the version is blocked
+surfacing_blocked : (w : World) (g s : ℕ) (group : Group) (t v : Stamp) (seats : ℕ → Bool) → IsWithinLimits group.m (length group.members) → AtQuorum group seats
+    → ((seat : ℕ) → seats seat ≡ true → stamp_below (top_of (part_of w g s (brick_at group seat))) t ≡ false) → stamp_below v t ≡ true
+    → count (length group.members) (λ seat. seats seat && is_held v (part_of w g s (brick_at group seat)).log) < group.m → IsBlocked w g s group v
+surfacing_blocked w g s group t v seats limits quorum above lower few =
+    let held : ℕ → Bool = λ seat. is_held v (part_of w g s (brick_at group seat)).log in
+    let split = count_split (length group.members) seats held in
+    let more = count_monotone (length group.members) (λ k. seats k && not (held k)) (passes_by w g s group v)
+    (λ k below is.
+    let parts = and_parts (seats k) (not (held k)) is in
+    passes w g s group v k (below_above v t (top_of (part_of w g s (brick_at group k))) lower (above k parts.0)) (not-true (held k) parts.1)) in
+    blocked_by w g s group v limits (omega (arith, split, more, quorum, few))
+
+-- no quorum ever holds a version that so few of a quorum held
+pub never_surfaces : NeverSurfaces
+never_surfaces setting events more g s group t v seats sound group_is quorum above lower few later =
+    let w : World = run setting events (first_world setting.layout) in
+    let blocked : IsBlocked w g s group v = surfacing_blocked w g s group t v seats (sound.limits g group group_is) quorum above lower few in
+    blocked_never_stands (run setting more w) g s group v
+    (blocked_stays w (run setting more w) (parts_stay_on setting more w) g s group v blocked) later

@@ -1,28 +1,31 @@
 -- What was said stays said: nothing falls, messages and versions stay, and a version's content does not change.
-use Rattle.std.proofs.Common.{◌≡◌, ℕ, ◌≤◌, inl, inr, true, false, not, List, length, Some, refl, sym, ap, ◌∙◌, subst, ⊎_elim, arith}
-use Rattle.std.proofs.lemmas.Bool.{not-true, not_from_false}
+use Rattle.std.proofs.Common.{◌≡◌, ℕ, ◌≤◌, ◌⊎◌, inl, inr, true, false, not, List, length, Option, Some, refl, sym, ap, ◌∙◌, subst, ⊎_elim, arith}
+use Rattle.std.proofs.lemmas.Bool.{not-true, not_from_false, false≢true}
 use Rattle.fab_base.specs.declared.identities.BrickId.{BrickId}
 use Rattle.fab_base.specs.declared.stamps.Stamp.{Stamp}
 use Rattle.fab_base.specs.declared.asks.Op.TheVariants.{WriteStripe}
 use Rattle.fab_base.specs.declared.answers.Answer.{Answer}
 use Rattle.fab_base.specs.declared.answers.Answer.TheVariants.{Data, Done, Aborted}
 use Rattle.fab_base.specs.Stamps.{stamp_below}
-use Rattle.fab_base.proofs.StampOrder.{stamp_not_below_trans}
+use Rattle.fab_base.proofs.StampOrder.{stamp_below_trans, stamp_not_below_trans}
 use Rattle.fab_wire.specs.declared.calls.Call.{Call}
 use Rattle.fab_wire.specs.declared.messages.Message.{Message}
 use Rattle.fab_wire.specs.declared.messages.Packet.{Packet}
 use Rattle.fab_wire.specs.declared.requests.Request.{Request}
+use Rattle.fab_wire.specs.declared.requests.Look.TheVariants as Look
+use Rattle.fab_wire.specs.declared.requests.Want.TheVariants as Want
 use Rattle.fab_wire.specs.declared.requests.Version.{Version}
 use Rattle.fab_wire.specs.declared.replies.Reply.{Reply}
 use Rattle.quorum.proofs.Counts.{count_monotone}
 use Rattle.protocol.specs.Settings.{Setting, Group}
 use Rattle.protocol.specs.Replicas.{top_of, is_held, stamp_max}
-use Rattle.protocol.specs.Coordinators.{Coordinator, Counted}
+use Rattle.protocol.specs.Coordinators.{Phase, Orders, Recovers, Descends, Stores, Coordinator, Counted}
 use Rattle.protocol.specs.Worlds.{World, Operation}
 use Rattle.protocol.specs.Laws.{WasSent, AskedAt, NeverFalls, part_of, brick_at, IsGuarded}
 use Rattle.protocol.proofs.Books.{Books, OperationBooks, IsOperation}
-use Rattle.protocol.proofs.Said.{Stamping, IsStamped, IsNewIn, WasOrdered, IsMadeOrFirst, IsKnown, IsCalled, IsBlockOf, VersionSays, WriteSays, RequestSays, OrderedSays, FoundSays, ReplySays, MessageSays, PacketSays, HasVersion, OperationSays, CountedSays, CallSays, DataShown, EndShows}
-use Rattle.protocol.proofs.Stampings.{StampsGrow, stays_stamped, stays_known}
+use Rattle.protocol.proofs.Blocking.{PartsStay, blocked_stays, stands_stays}
+use Rattle.protocol.proofs.Said.{Stamping, IsBegun, IsStamped, IsRecovery, Stands, AreBlocked, IsContent, IsMadeOrFirst, IsKnown, IsCalled, IsBlockOf, VersionSays, WriteSays, RequestSays, OrderedSays, OrderedReadSays, FoundSays, ReplySays, MessageSays, PacketSays, HasVersion, WritesWhole, ReadsBack, OperationSays, CountedSays, CallSays, DataShown, EndShows}
+use Rattle.protocol.proofs.Stampings.{StampsGrow, stays_begun, stays_stamped, stays_known}
 use Rattle.protocol.proofs.Counting.{each_then}
 
 -- an operation goes on: it keeps what it is, and a version that it has
@@ -34,15 +37,15 @@ pub record Continues (o p : Operation) : Type 0 where
   pub floor : p.floor ≡ o.floor
   pub version : (v : Stamp) → o.version ≡ Some v → p.version ≡ Some v
   pub made : (v : Stamp) → o.version ≡ Some v → p.made ≡ o.made
+  pub base : (v : Stamp) → o.version ≡ Some v → p.base ≡ o.base
 
 -- an unchanged operation goes on
 pub continues_same : (o : Operation) → Continues o o
-continues_same o = record { brick = refl; seq = refl; begin = refl; ask = refl; floor = refl; version = λ v is. is; made = λ v is. refl }
+continues_same o = record { brick = refl; seq = refl; begin = refl; ask = refl; floor = refl; version = λ v is. is; made = λ v is. refl; base = λ v is. refl }
 
 -- from one world to the next nothing that was said is lost
 pub record Grows (w next : World) (stamps later : Stamping) : Type 0 where
-  pub tops : NeverFalls w next
-  pub held : (g s i : ℕ) (t : Stamp) → is_held t (part_of w g s i).log ≡ true → is_held t (part_of next g s i).log ≡ true
+  pub parts : PartsStay w next
   pub sent : (packet : Packet) → WasSent w packet → WasSent next packet
   pub operations : (n : ℕ) (o : Operation) → IsOperation w n o → (p : Operation) × IsOperation next n p × Continues o p
   pub contents : (g s : ℕ) (t : Stamp) → IsMadeOrFirst w g s t → next.contents g s t ≡ w.contents g s t
@@ -113,21 +116,29 @@ module _ (setting : Setting) (w next : World) (stamps later : Stamping) (books :
   pub stays_stamp : (i k p : ℕ) (t : Stamp) → IsStamped stamps i k p t → IsStamped later i k p t
   stays_stamp i k p t is = stays_stamped stamps later grows.grow i k p t is
 
-  -- a stamp that is new in its phase stays so
-  pub stays_new : (i k p : ℕ) (t : Stamp) → IsStamped stamps i k p t → IsNewIn stamps i k p t → IsNewIn later i k p t
-  stays_new i k p t is new q less was = new q less (sym (grows.grow.stamped i k p q t is (omega arith)) ∙ was)
+  -- a phase stays begun
+  pub stays_phase : (i k p : ℕ) (phase : Phase) (t : Stamp) → IsBegun stamps i k p phase t → IsBegun later i k p phase t
+  stays_phase i k p phase t is = stays_begun stamps later grows.grow i k p phase t is
 
-  -- a stamp that was ordered stays so
-  pub stays_was : (i k p : ℕ) (t : Stamp) → WasOrdered stamps i k p t → WasOrdered later i k p t
-  stays_was i k p t was = (was.0, was.1, stays_stamp i k was.0 t was.2)
+  pub stays_recovery : (i k p : ℕ) (bound t : Stamp) → IsRecovery stamps i k p bound t → IsRecovery later i k p bound t
+  stays_recovery i k p bound t (inl own) = inl (own.0, stays_phase i k p Recovers t own.1)
+  stays_recovery i k p bound t (inr lower) = inr (lower.0, stays_phase i k p (Descends bound) t lower.1)
 
   -- what is at or above t stays so
   pub stays_above : (g s i : ℕ) (t : Stamp) → stamp_below (top_of (part_of w g s i)) t ≡ false → stamp_below (top_of (part_of next g s i)) t ≡ false
-  stays_above g s i t above = above_stays w next grows.tops g s i t above
+  stays_above g s i t above = above_stays w next grows.parts.tops g s i t above
 
   -- what is guarded stays guarded
   pub stays_guarded : (g s : ℕ) (group : Group) (t : Stamp) → IsGuarded w g s group t → IsGuarded next g s group t
-  stays_guarded g s group t guarded = guarded_stays w next grows.tops g s group t guarded
+  stays_guarded g s group t guarded = guarded_stays w next grows.parts.tops g s group t guarded
+
+  -- what is blocked stays blocked
+  pub stay_blocked : (g s : ℕ) (Q : Stamp → Type 0) → AreBlocked setting w g s Q → AreBlocked setting next g s Q
+  stay_blocked g s Q blocked group is d has = blocked_stays w next grows.parts g s group d (blocked group is d has)
+
+  -- what stands goes on standing
+  pub stays_standing : (g s : ℕ) (v : Stamp) → Stands setting w g s v → Stands setting next g s v
+  stays_standing g s v stands group is = stands_stays w next grows.parts g s group v (stands group is)
 
   -- a block stays the block of its version
   pub stays_block : (g s i : ℕ) (t : Stamp) (block : List ℕ) → IsMadeOrFirst w g s t → IsBlockOf setting w g s i t block → IsBlockOf setting next g s i t block
@@ -153,8 +164,7 @@ module _ (setting : Setting) (w next : World) (stamps later : Stamping) (books :
       record {
         operation = goes.0;
         called = goes.1;
-        stamp = stays_stamp from call.seq call.phase t says.stamp;
-        ordered = stays_was from call.seq call.phase t says.ordered;
+        begun = stays_phase from call.seq call.phase Stores t says.begun;
         made = goes.2.made t says.version ∙ says.made;
         version = goes.2.version t says.version;
         member = says.member;
@@ -165,8 +175,11 @@ module _ (setting : Setting) (w next : World) (stamps later : Stamping) (books :
   pub stays_request : (i j : ℕ) (call : Call) (request : Request) → RequestSays setting w stamps i j call request → RequestSays setting next later i j call request
   stays_request i j call (Request.Read want) says = let goes = stays_called i call says.1.0 says.1.1 in (says.0, (goes.0, goes.1))
   stays_request i j call (Request.Order t) says =
+      let goes = stays_called i call says.1.0 says.1.1 in (stays_phase i call.seq call.phase Orders t says.0, (goes.0, goes.1))
+  stays_request i j call (Request.OrderRead t (Look.Below bound) want) says =
       let goes = stays_called i call says.2.0 says.2.1 in
-      (stays_stamp i call.seq call.phase t says.0, stays_new i call.seq call.phase t says.0 says.1, (goes.0, goes.1))
+      (says.0, stays_recovery i call.seq call.phase bound t says.1, (goes.0, goes.1))
+  stays_request i j call (Request.OrderRead t (Look.At u) want) says = says
   stays_request i j call (Request.Write t block) says = stays_write i j call t block says
   stays_request i j call request says = tt
 
@@ -177,7 +190,7 @@ module _ (setting : Setting) (w next : World) (stamps later : Stamping) (books :
         operation = goes.0;
         called = goes.1;
         stamp = says.stamp;
-        stamp_is = stays_stamp i call.seq call.phase says.stamp says.stamp_is;
+        stamp_is = stays_phase i call.seq call.phase Orders says.stamp says.stamp_is;
         promised = stays_above call.group.0 call.stripe.0 j says.stamp says.promised;
         floor = subst (λ (f : ℕ → Stamp). stamp_below says.stamp (f j) ≡ false) (sym goes.2.floor) says.floor;
       }
@@ -190,23 +203,57 @@ module _ (setting : Setting) (w next : World) (stamps later : Stamping) (books :
         called = goes.1;
         top = stays_above call.group.0 call.stripe.0 j (stamp_max order version.stamp) says.top;
         floor = subst (λ (f : ℕ → Stamp). stamp_below (stamp_max order version.stamp) (f j) ≡ false) (sym goes.2.floor) says.floor;
+        held = grows.parts.held call.group.0 call.stripe.0 j version.stamp says.held;
         says = stays_version call.group.0 call.stripe.0 j version says.says;
+      }
+
+  -- the bound of a recovery is at most its stamp
+  bound_within : (i k p : ℕ) (bound t d : Stamp) → IsRecovery stamps i k p bound t → stamp_below d bound ≡ true → stamp_below d t ≡ true
+  bound_within i k p bound t d (inl own) less = subst (λ (z : Stamp). stamp_below d z ≡ true) own.0 less
+  bound_within i k p bound t d (inr lower) less = stamp_below_trans d bound t less lower.0
+
+  -- what was found below a bound stays the newest there, since nothing comes to be held below the stamp that was promised
+  pub stays_ordered_read : (j i : ℕ) (call : Call) (found : Option Version) → OrderedReadSays setting w stamps j i call found
+      → OrderedReadSays setting next later j i call found
+  stays_ordered_read j i call found says =
+      let goes = stays_called i call says.operation says.called in
+      record {
+        operation = goes.0;
+        called = goes.1;
+        stamp = says.stamp;
+        bound = says.bound;
+        recovers = stays_recovery i call.seq call.phase says.bound says.stamp says.recovers;
+        promised = stays_above call.group.0 call.stripe.0 j says.stamp says.promised;
+        floor = subst (λ (f : ℕ → Stamp). stamp_below says.stamp (f j) ≡ false) (sym goes.2.floor) says.floor;
+        newest = λ d held less. ⊎_elim
+            (λ (was : is_held d (part_of w call.group.0 call.stripe.0 j).log ≡ true). says.newest d was less)
+            (λ (new : stamp_below d (top_of (part_of w call.group.0 call.stripe.0 j)) ≡ false).
+            let above : stamp_below d says.stamp ≡ false = stamp_not_below_trans says.stamp (top_of (part_of w call.group.0 call.stripe.0 j)) d says.promised new in
+            absurd (false≢true (sym above ∙ bound_within i call.seq call.phase says.bound says.stamp d says.recovers less)))
+            (grows.parts.newer call.group.0 call.stripe.0 j d held);
+        says = λ version is. stays_version call.group.0 call.stripe.0 j version (says.says version is);
       }
 
   -- what was asked stays asked
   pub stays_asked : (call : Call) (from to : BrickId) (t : Stamp) → AskedAt w call from to t → AskedAt next call from to t
-  stays_asked call from to t (inl sent) = inl (grows.sent (record { from = from; to = to; message = Message.Request call (Request.Order t) }) sent)
-  stays_asked call from to t (inr sent) =
-      inr (sent.0, grows.sent (record { from = from; to = to; message = Message.Request call (Request.Write t sent.0) }) sent.1)
+  stays_asked call from to t (inl (inl sent)) =
+      inl (inl (grows.sent (record { from = from; to = to; message = Message.Request call (Request.Order t) }) sent))
+  stays_asked call from to t (inl (inr sent)) =
+      inl (inr (grows.sent (record { from = from; to = to; message = Message.Request call (Request.OrderRead t (Look.Below t) Want.All) }) sent))
+  stays_asked call from to t (inr (inl sent)) =
+      inr (inl (sent.0, grows.sent (record { from = from; to = to; message = Message.Request call (Request.OrderRead t (Look.Below sent.0) Want.All) }) sent.1))
+  stays_asked call from to t (inr (inr sent)) =
+      inr (inr (sent.0, grows.sent (record { from = from; to = to; message = Message.Request call (Request.Write t sent.0) }) sent.1))
 
   pub stays_reply : (from to : BrickId) (call : Call) (reply : Reply) → ReplySays setting w stamps from to call reply → ReplySays setting next later from to call reply
   stays_reply from to call (Reply.Found order (Some version)) says = stays_found from.0 to.0 call order version says
   stays_reply from to call Reply.Ordered says = stays_ordered from.0 to.0 call says
+  stays_reply from to call (Reply.OrderedRead found) says = stays_ordered_read from.0 to.0 call found says
   stays_reply from to call Reply.Stored says = (
     says.0,
     says.1,
     grows.sent (record { from = to; to = from; message = Message.Request call (Request.Write says.0 says.1) }) says.2,
-    grows.held call.group.0 call.stripe.0 from.0 says.0 says.3,
+    grows.parts.held call.group.0 call.stripe.0 from.0 says.0 says.3,
   )
   stays_reply from to call (Reply.Later x) says = (says.0, stays_asked call to from says.0 says.1, says.2)
   stays_reply from to call reply says = tt
@@ -228,6 +275,26 @@ module _ (setting : Setting) (w next : World) (stamps later : Stamping) (books :
     floors = has.floors;
   }
 
+  -- the content of a version that an operation made stays
+  stays_content : (n : ℕ) (o : Operation) (v : Stamp) → IsOperation w n o → o.made ≡ true → o.version ≡ Some v
+      → next.contents o.ask.group.0 o.ask.stripe.0 v ≡ w.contents o.ask.group.0 o.ask.stripe.0 v
+  stays_content n o v is made version = grows.contents o.ask.group.0 o.ask.stripe.0 v (inr (n, o, is, refl, refl, made, version))
+
+  -- and so does how it was made
+  stays_maker : (n : ℕ) (o : Operation) (v : Stamp) → IsOperation w n o → o.made ≡ true → o.version ≡ Some v → WritesWhole w o v ⊎ ReadsBack setting w o v
+      → WritesWhole next o v ⊎ ReadsBack setting next o v
+  stays_maker n o v is made version (inl whole) =
+      inl (whole.0, whole.1 ∙ ap (λ (bytes : List ℕ). WriteStripe bytes) (sym (stays_content n o v is made version)))
+  stays_maker n o v is made version (inr back) = inr (record {
+    base = back.base;
+    base_is = back.base_is;
+    op = back.op;
+    below = back.below;
+    made = stays_made o.ask.group.0 o.ask.stripe.0 back.base back.made;
+    content = stays_content n o v is made version ∙ back.content ∙ sym (grows.contents o.ask.group.0 o.ask.stripe.0 back.base back.made);
+    blocked = stay_blocked o.ask.group.0 o.ask.stripe.0 (λ d. (stamp_below back.base d ≡ true) × (stamp_below d v ≡ true)) back.blocked;
+  })
+
   -- what an operation says stays said
   pub stays_operation : (n : ℕ) (o : Operation) → IsOperation w n o → OperationSays setting w stamps n o → OperationSays setting next later n o
   stays_operation n o is says = record {
@@ -240,10 +307,11 @@ module _ (setting : Setting) (w next : World) (stamps later : Stamping) (books :
         (grows.grow.newer o.brick.0 o.seq p (o.floor i) stamped);
     made = λ made.
         let had = says.made made in (had.0, had.1, had.2, stays_stamp o.brick.0 o.seq had.1 had.0 had.3);
-    content = λ v made version.
-        says.content v made version
-        ∙ ap (λ (bytes : List ℕ). WriteStripe bytes)
-        (sym (grows.contents o.ask.group.0 o.ask.stripe.0 v (inr (n, o, is, refl, refl, made, version))));
+    maker = λ v made version. stays_maker n o v is made version (says.maker v made version);
+    content = λ v made version group group_is.
+        subst (λ (content : List ℕ). IsContent group.m setting.layout.block content) (sym (stays_content n o v is made version))
+        (says.content v made version group group_is);
+    stands = λ v version how. stays_standing o.ask.group.0 o.ask.stripe.0 v (says.stands v version how);
     version = λ v has. stays_has_version o v (says.version v has);
     answered = says.answered;
   }
@@ -258,10 +326,19 @@ module _ (setting : Setting) (w next : World) (stamps later : Stamping) (books :
   -- what a coordinator says stays said, where its call has no new stamp
   pub stays_call : (i k : ℕ) (c : Coordinator) → ((p : ℕ) → later i k p ≡ stamps i k p) → CallSays setting w stamps i k c → CallSays setting next later i k c
   stays_call i k c same says = record {
-    stamp = stays_stamp i k c.call.phase c.stamp says.stamp;
+    begun = stays_phase i k c.call.phase c.phase c.stamp says.begun;
     last = λ p less. same p ∙ says.last p less;
-    ordered = λ stores. stays_was i k c.call.phase c.stamp (says.ordered stores);
     fits = says.fits;
+    unbased = says.unbased;
+    above = says.above;
+    below = says.below;
+    covered = λ bound is.
+        stay_blocked c.ask.group.0 c.ask.stripe.0 (λ d. (stamp_below d bound ≡ false) × (stamp_below d c.stamp ≡ true)) (says.covered bound is);
+    stores = λ is.
+        let stored = says.stores is in (
+          stays_made c.ask.group.0 c.ask.stripe.0 c.stamp stored.0,
+          stored.1 ∙ sym (grows.contents c.ask.group.0 c.ask.stripe.0 c.stamp stored.0),
+        );
     counted = each_then (CountedSays setting w i c) (CountedSays setting next i c) c.counted (λ x h. stays_counted i c x h) says.counted;
     once = says.once;
   }
@@ -277,7 +354,6 @@ module _ (setting : Setting) (w next : World) (stamps later : Stamping) (books :
         is = goes.1;
         version = shown.version;
         version_is = goes.2.version shown.version shown.version_is;
-        unmade = goes.2.made shown.version shown.version_is ∙ shown.unmade;
         bytes_are = shown.bytes_are
             ∙ sym (grows.contents shown.operation.ask.group.0 shown.operation.ask.stripe.0 shown.version made)
             ∙ ap (λ a. next.contents a.group.0 a.stripe.0 shown.version) (sym goes.2.ask);

@@ -19,7 +19,7 @@ use Rattle.protocol.proofs.Said.{Stamping, Said, StampsSay, IsMadeOrFirst, Packe
 use Rattle.protocol.proofs.Tables.{put_each, get_grown}
 use Rattle.protocol.proofs.Stampings.{StampsGrow}
 use Rattle.protocol.proofs.Growth.{Grows, Continues, continues_same}
-use Rattle.protocol.proofs.Steps.{keeps_same, never_falls_by, held_by, sent_by, said_after}
+use Rattle.protocol.proofs.Steps.{keeps_same, parts_by, sent_by, said_after}
 
 -- the world after an operation changed
 abbrev pub operated : World → BrickId → Node → List Packet → List Mark → ℕ → Operation → (ℕ → ℕ → Stamp → List ℕ) → World
@@ -69,8 +69,7 @@ module _ (setting : Setting) (w : World) (stamps later : Stamping) (me : BrickId
 
   pub operated_grows : StampsGrow stamps later → Grows w next stamps later
   operated_grows grow = record {
-    tops = never_falls_by w next me.0 node refl (keeps_same (w.nodes me.0) node keeps.replicas);
-    held = held_by w next me.0 node refl (keeps_same (w.nodes me.0) node keeps.replicas);
+    parts = parts_by w next me.0 node refl (keeps_same (w.nodes me.0) node keeps.replicas);
     sent = sent_by w next more refl;
     operations = goes_on;
     contents = keeps.kept;

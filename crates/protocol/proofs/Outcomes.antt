@@ -1,8 +1,10 @@
 -- What a coordinator decides once a reply counts, by its phase.
-use Rattle.std.proofs.Common.{◌≡◌, ℕ, ◌+◌, ◌<◌, ◌≤◌, ◌⊎◌, inl, inr, true, false, List, [], length, Option, Some, None, is_some, refl, sym, ◌∙◌}
+use Rattle.std.proofs.Common.{◌≡◌, ℕ, ◌+◌, ◌<◌, ◌≤◌, ◌⊎◌, inl, inr, true, false, List, [], length, Option, Some, None, is_some, refl, sym, ◌∙◌, arith}
 use Rattle.std.specs.Prelude.{nat_lt}
 use Rattle.std.proofs.lemmas.Bool.{cond_both, ltb-true, ltb-false}
 use Rattle.fab_base.specs.declared.asks.Ask.{Ask}
+use Rattle.fab_base.specs.declared.asks.Op.{Op}
+use Rattle.fab_base.specs.declared.asks.Op.TheVariants.{ReadBlock, WriteBlock, ReadStripe, WriteStripe}
 use Rattle.fab_base.specs.declared.identities.BrickId.{BrickId}
 use Rattle.fab_base.specs.declared.stamps.Stamp.{Stamp}
 use Rattle.fab_base.specs.declared.answers.Answer.{Answer}
@@ -10,7 +12,7 @@ use Rattle.fab_base.specs.declared.answers.Answer.TheVariants.{Data, Done, Abort
 use Rattle.fab_base.specs.declared.answers.Cause.TheVariants as Cause
 use Rattle.fab_wire.specs.declared.calls.Call.{Call}
 use Rattle.protocol.specs.Settings.{Group, Code, quorum_of}
-use Rattle.protocol.specs.Coordinators.{Phase, Looks, Orders, Stores, Stalls, Counted, Coordinator, Refuser, Next, Ignores, Waits, Reorders, Makes, Ends, next_phase, reordering, most_rounds, aborted_by, ordered_again, once_ordered, unless_refused, answered_fast, greatest_refuser, fast_version, decided, once_full}
+use Rattle.protocol.specs.Coordinators.{Phase, Looks, Orders, Recovers, Descends, Stores, Counted, Coordinator, Refuser, Next, Ignores, Waits, Sends, Makes, Ends, next_phase, in_phase, restoring, reordering, forgetting, most_rounds, aborted_by, ordered_again, once_ordered, unless_refused, answered_fast, read_back, answer_of, pieces_at, greatest_refuser, greatest_found, fast_version, decided, once_full}
 use Rattle.protocol.specs.Worlds.{is_answer}
 
 -- the coordinator of the same operation, under the same call
@@ -22,61 +24,109 @@ pub record SameOperation (c d : Coordinator) : Type 0 where
   pub view : d.call.view ≡ c.call.view
   pub stripe : d.call.stripe ≡ c.call.stripe
 
--- it waits in its phase, or a read stalls
+-- it waits in its phase, with the replies that count, or once it forgot them, of which none told a later stamp
 pub record WaitsFits (c d : Coordinator) : Type 0 where
   pub same : SameOperation c d
   pub stamp : d.stamp ≡ c.stamp
   pub round : d.round ≡ c.round
+  pub base : d.base ≡ c.base
   pub call : d.call ≡ c.call
-  pub phase : (d.phase ≡ c.phase) ⊎ ((c.phase ≡ Looks) × (d.phase ≡ Stalls))
-  pub counted : d.counted ≡ c.counted
+  pub phase : d.phase ≡ c.phase
+  pub counted : (d.counted ≡ c.counted) ⊎ ((d.counted ≡ []) × (greatest_refuser c.counted ≡ None))
 
--- what waits in a round of ordering was in it
-pub waits_orders : (c d : Coordinator) → WaitsFits c d → d.phase ≡ Orders → c.phase ≡ Orders
-waits_orders c d fits orders = by fits.phase
-  where
-    by : (d.phase ≡ c.phase) ⊎ ((c.phase ≡ Looks) × (d.phase ≡ Stalls)) → c.phase ≡ Orders
-    by (inl same) = sym same ∙ orders
-    by (inr stalls) = absurd (let never : Stalls ≡ Orders = sym stalls.1 ∙ orders in cc)
+-- a phase that is a round of ordering
+abbrev pub IsRound : Phase → Type 0
+IsRound Looks = ⊥
+IsRound Orders = Unit {0}
+IsRound Recovers = Unit {0}
+IsRound (Descends bound) = ⊥
+IsRound Stores = ⊥
+
+-- the phase number of an operation's first round of ordering: a recovery has looked before it
+abbrev pub first_round : Phase → ℕ
+first_round Looks = 1
+first_round Orders = 1
+first_round Recovers = 2
+first_round (Descends bound) = 1
+first_round Stores = 1
+
+pub first_round_above : (p : Phase) → 1 ≤ first_round p
+first_round_above Looks = omega arith
+first_round_above Orders = omega arith
+first_round_above Recovers = omega arith
+first_round_above (Descends bound) = omega arith
+first_round_above Stores = omega arith
 
 -- an order that was refused is in its next round, with the fresh stamp
 pub record ReordersFits (fresh : Option Stamp) (c d : Coordinator) : Type 0 where
-  pub same : SameOperation c d
-  pub was : c.phase ≡ Orders
-  pub phase : d.phase ≡ Orders
+  pub was : IsRound c.phase
+  pub phase : d.phase ≡ c.phase
   pub stamp : fresh ≡ Some d.stamp
   pub left : c.round < most_rounds
   pub round : d.round ≡ c.round + 1
-  pub call : d.call ≡ next_phase c.call
-  pub counted : d.counted ≡ []
   pub refused : is_some (greatest_refuser c.counted) ≡ true
 
--- an order that nobody refused is in its store phase
+-- the operation, under its stamp, begins to recover, or looks further down
+pub record RecoversFits (c d : Coordinator) : Type 0 where
+  pub stamp : d.stamp ≡ c.stamp
+  pub round : d.round ≡ c.round
+  pub phase : ((c.phase ≡ Looks) × (d.phase ≡ Recovers)) ⊎ ((bound : Stamp) × (d.phase ≡ Descends bound))
+
+-- it is in its next phase, and has made nothing
+pub record SendsFits (fresh : Option Stamp) (c d : Coordinator) : Type 0 where
+  pub same : SameOperation c d
+  pub base : d.base ≡ c.base
+  pub call : d.call ≡ next_phase c.call
+  pub counted : d.counted ≡ []
+  pub unmade : (c.phase ≡ Stores) → ⊥
+  pub how : ReordersFits fresh c d ⊎ RecoversFits c d
+
+-- it is in its store phase
 pub record MakesFits (c d : Coordinator) : Type 0 where
   pub same : SameOperation c d
-  pub was : c.phase ≡ Orders
   pub phase : d.phase ≡ Stores
   pub stamp : d.stamp ≡ c.stamp
   pub round : d.round ≡ c.round
   pub call : d.call ≡ next_phase c.call
   pub counted : d.counted ≡ []
 
--- how each phase ends: a read tells a version, an order ends only by an abort, and a read that stalls never ends
+-- the next phase of an operation that has made nothing is not its store phase
+pub sends_unmade : (fresh : Option Stamp) (c d : Coordinator) → SendsFits fresh c d → d.phase ≡ Stores → ⊥
+sends_unmade fresh c d fits is = by fits.how
+  where
+    recovers : ((c.phase ≡ Looks) × (d.phase ≡ Recovers)) ⊎ ((bound : Stamp) × (d.phase ≡ Descends bound)) → ⊥
+    recovers (inl (was, now)) = let never : Recovers ≡ Stores = sym now ∙ is in cc
+    recovers (inr (bound, now)) = let never : Descends bound ≡ Stores = sym now ∙ is in cc
+
+    by : ReordersFits fresh c d ⊎ RecoversFits c d → ⊥
+    by (inl again) = fits.unmade (sym again.phase ∙ is)
+    by (inr goes) = recovers goes.phase
+
+-- how each phase ends: a read that looks tells a version, and before the store phase all else ends only by an abort
 abbrev pub EndFits : Phase → Answer → Option Stamp → Type 0
 EndFits Looks answer seen = (v : Stamp) × (seen ≡ Some v)
 EndFits Orders answer seen = is_answer answer ≡ false
+EndFits Recovers answer seen = is_answer answer ≡ false
+EndFits (Descends bound) answer seen = is_answer answer ≡ false
 EndFits Stores answer seen = Unit {0}
-EndFits Stalls answer seen = ⊥
 
 -- no other round of ordering follows: there is no fresh stamp, or no round is left
 abbrev pub NoRoundFits : Option Stamp → Coordinator → Type 0
 NoRoundFits fresh c = (fresh ≡ None) ⊎ (most_rounds ≤ c.round)
 
--- the abort tells of the member that told the greatest later stamp: in the store phase, or where no other round of ordering follows
+-- a phase is aborted only where no other round of ordering follows
+abbrev pub LastFits : Option Stamp → Coordinator → Phase → Type 0
+LastFits fresh c Looks = ⊥
+LastFits fresh c Orders = NoRoundFits fresh c
+LastFits fresh c Recovers = NoRoundFits fresh c
+LastFits fresh c (Descends bound) = Unit {0}
+LastFits fresh c Stores = Unit {0}
+
+-- the abort tells of the member that told the greatest later stamp
 pub record AbortFits (fresh : Option Stamp) (c : Coordinator) (brick : BrickId) (x : Stamp) : Type 0 where
   pub seat : ℕ
   pub refused : greatest_refuser c.counted ≡ Some (record { seat = seat; brick = brick; stamp = x })
-  pub last : (c.phase ≡ Stores) ⊎ ((c.phase ≡ Orders) × NoRoundFits fresh c)
+  pub last : LastFits fresh c c.phase
 
 abbrev pub AnswerFits : Option Stamp → Coordinator → Answer → Type 0
 AnswerFits fresh c (Data bytes) = Unit {0}
@@ -88,85 +138,161 @@ AnswerFits fresh c (Aborted cause) = Unit {0}
 abbrev pub NextFits : Option Stamp → Coordinator → Next → Type 0
 NextFits fresh c Ignores = ⊥
 NextFits fresh c (Waits d) = WaitsFits c d
-NextFits fresh c (Reorders d) = ReordersFits fresh c d
+NextFits fresh c (Sends d) = SendsFits fresh c d
 NextFits fresh c (Makes d) = MakesFits c d
 NextFits fresh c (Ends answer seen stored) = EndFits c.phase answer seen × AnswerFits fresh c answer
 
 -- a coordinator of these parts
-abbrev at : Ask → Stamp → ℕ → Call → Phase → List Counted → Coordinator
-at ask stamp round call phase counted = record { ask = ask; stamp = stamp; round = round; call = call; phase = phase; counted = counted }
+abbrev at : Ask → Stamp → ℕ → Option Stamp → List ℕ → Call → Phase → List Counted → Coordinator
+at ask stamp round base content call phase counted =
+    record { ask = ask; stamp = stamp; round = round; base = base; content = content; call = call; phase = phase; counted = counted }
 
-module _ (ask : Ask) (stamp : Stamp) (round : ℕ) (call : Call) (counted : List Counted) where
+module _ (ask : Ask) (stamp : Stamp) (round : ℕ) (base : Option Stamp) (content : List ℕ) (call : Call) (counted : List Counted) where
   -- the coordinator in a phase
-  abbrev in_phase : Phase → Coordinator
-  in_phase phase = at ask stamp round call phase counted
+  abbrev within : Phase → Coordinator
+  within phase = at ask stamp round base content call phase counted
 
-  waits_fits : (phase : Phase) → WaitsFits (in_phase phase) (in_phase phase)
+  waits_fits : (phase : Phase) → WaitsFits (within phase) (within phase)
   waits_fits phase = record {
     same = record { ask = refl; boot = refl; seq = refl; group = refl; view = refl; stripe = refl };
     stamp = refl;
     round = refl;
+    base = refl;
     call = refl;
-    phase = inl refl;
-    counted = refl;
+    phase = refl;
+    counted = inl refl;
   }
 
-  answered_fast_fits : (code : Code) (m : ℕ) (fresh v : Option Stamp) → NextFits fresh (in_phase Looks) (answered_fast code m (in_phase Looks) v)
-  answered_fast_fits code m fresh None = record {
+  forgets_fits : (phase : Phase) → greatest_refuser counted ≡ None → WaitsFits (within phase) (forgetting (within phase))
+  forgets_fits phase none = record {
     same = record { ask = refl; boot = refl; seq = refl; group = refl; view = refl; stripe = refl };
     stamp = refl;
     round = refl;
+    base = refl;
     call = refl;
-    phase = inr (refl, refl);
-    counted = refl;
+    phase = refl;
+    counted = inr (refl, none);
   }
-  answered_fast_fits code m fresh (Some v) = ((v, refl), tt)
 
-  again_fits : (fresh : Option Stamp) (r : Refuser) → greatest_refuser counted ≡ Some r → NextFits fresh (in_phase Orders) (ordered_again fresh (in_phase Orders) r)
-  again_fits None r refused = (refl, record { seat = r.seat; refused = refused; last = inr (refl, inl refl) })
-  again_fits (Some t) r refused =
-      cond_both (nat_lt round most_rounds) (Reorders (reordering (in_phase Orders) t)) (aborted_by r)
-      (λ (next : Next). NextFits (Some t) (in_phase Orders) next)
-      (λ few. record {
-        same = record { ask = refl; boot = refl; seq = refl; group = refl; view = refl; stripe = refl };
-        was = refl;
-        phase = refl;
-        stamp = refl;
-        left = ltb-true round most_rounds few;
-        round = refl;
-        call = refl;
-        counted = refl;
-        refused = rw refused refl;
-      })
-      (λ all. (refl, record { seat = r.seat; refused = refused; last = inr (refl, inr (ltb-false round most_rounds all)) }))
-
-  ordered_fits : (fresh : Option Stamp) (r : Option Refuser) → greatest_refuser counted ≡ r → NextFits fresh (in_phase Orders) (once_ordered fresh (in_phase Orders) r)
-  ordered_fits fresh None refused = record {
+  makes_fits : (phase : Phase) → MakesFits (within phase) (in_phase (within phase) Stores)
+  makes_fits phase = record {
     same = record { ask = refl; boot = refl; seq = refl; group = refl; view = refl; stripe = refl };
-    was = refl;
     phase = refl;
     stamp = refl;
     round = refl;
     call = refl;
     counted = refl;
   }
-  ordered_fits fresh (Some r) refused = again_fits fresh r refused
+
+  restores_fits : (phase : Phase) (v : Stamp) (bytes : List ℕ) → MakesFits (within phase) (restoring (within phase) v bytes)
+  restores_fits phase v bytes = record {
+    same = record { ask = refl; boot = refl; seq = refl; group = refl; view = refl; stripe = refl };
+    phase = refl;
+    stamp = refl;
+    round = refl;
+    call = refl;
+    counted = refl;
+  }
+
+  descends_fits : (fresh : Option Stamp) (phase : Phase) (v : Stamp) → (phase ≡ Stores → ⊥)
+      → SendsFits fresh (within phase) (in_phase (within phase) (Descends v))
+  descends_fits fresh phase v unmade = record {
+    same = record { ask = refl; boot = refl; seq = refl; group = refl; view = refl; stripe = refl };
+    base = refl;
+    call = refl;
+    counted = refl;
+    unmade = unmade;
+    how = inr (record { stamp = refl; round = refl; phase = inr (v, refl) });
+  }
+
+  answered_fast_fits : (code : Code) (m : ℕ) (fresh v : Option Stamp) → NextFits fresh (within Looks) (answered_fast code m (within Looks) v)
+  answered_fast_fits code m fresh None = record {
+    same = record { ask = refl; boot = refl; seq = refl; group = refl; view = refl; stripe = refl };
+    base = refl;
+    call = refl;
+    counted = refl;
+    unmade = λ is. cc;
+    how = inr (record { stamp = refl; round = refl; phase = inl (refl, refl) });
+  }
+  answered_fast_fits code m fresh (Some v) = ((v, refl), tt)
+
+  read_back_fits : (code : Code) (m : ℕ) (fresh : Option Stamp) (phase : Phase) (v : Option Stamp) → (phase ≡ Stores → ⊥)
+      → greatest_refuser counted ≡ None → NextFits fresh (within phase) (read_back code m (within phase) v)
+  read_back_fits code m fresh phase None unmade none = forgets_fits phase none
+  read_back_fits code m fresh phase (Some v) unmade none =
+      cond_both (nat_lt (length (pieces_at v counted)) m) (Sends (in_phase (within phase) (Descends v)))
+      (Makes (restoring (within phase) v (code.decode m (pieces_at v counted))))
+      (λ (next : Next). NextFits fresh (within phase) next)
+      (λ few. descends_fits fresh phase v unmade)
+      (λ enough. restores_fits phase v (code.decode m (pieces_at v counted)))
+
+  -- an abort in a phase that is no round of ordering, or in the last one
+  aborts_fits : (fresh : Option Stamp) (phase : Phase) (r : Refuser) → ((answer : Answer) → is_answer answer ≡ false → EndFits phase answer None)
+      → greatest_refuser counted ≡ Some r → LastFits fresh (within phase) phase → NextFits fresh (within phase) (aborted_by r)
+  aborts_fits fresh phase r ends refused last =
+      (ends (Aborted (Cause.Later r.brick r.stamp)) refl, record { seat = r.seat; refused = refused; last = last })
+
+  again_fits : (fresh : Option Stamp) (phase : Phase) (r : Refuser) → IsRound phase → ((f : Option Stamp) → NoRoundFits f (within phase) → LastFits f (within phase) phase)
+      → ((answer : Answer) → is_answer answer ≡ false → EndFits phase answer None) → (phase ≡ Stores → ⊥)
+      → greatest_refuser counted ≡ Some r → NextFits fresh (within phase) (ordered_again fresh (within phase) r)
+  again_fits None phase r is last ends unmade refused = aborts_fits None phase r ends refused (last None (inl refl))
+  again_fits (Some t) phase r is last ends unmade refused =
+      cond_both (nat_lt round most_rounds) (Sends (reordering (within phase) t)) (aborted_by r)
+      (λ (next : Next). NextFits (Some t) (within phase) next)
+      (λ few. record {
+        same = record { ask = refl; boot = refl; seq = refl; group = refl; view = refl; stripe = refl };
+        base = refl;
+        call = refl;
+        counted = refl;
+        unmade = unmade;
+        how = inl (record {
+          was = is;
+          phase = refl;
+          stamp = refl;
+          left = ltb-true round most_rounds few;
+          round = refl;
+          refused = rw refused refl;
+        });
+      })
+      (λ all. aborts_fits (Some t) phase r ends refused (last (Some t) (inr (ltb-false round most_rounds all))))
+
+  ordered_fits : (fresh : Option Stamp) (r : Option Refuser) → greatest_refuser counted ≡ r
+      → NextFits fresh (within Orders) (once_ordered fresh (within Orders) r (Makes (in_phase (within Orders) Stores)))
+  ordered_fits fresh None refused = makes_fits Orders
+  ordered_fits fresh (Some r) refused = again_fits fresh Orders r tt (λ f none. none) (λ answer is. is) (λ is. cc) refused
+
+  recovered_fits : (code : Code) (m : ℕ) (fresh : Option Stamp) (r : Option Refuser) → greatest_refuser counted ≡ r
+      → NextFits fresh (within Recovers) (once_ordered fresh (within Recovers) r (read_back code m (within Recovers) (greatest_found counted)))
+  recovered_fits code m fresh None refused = read_back_fits code m fresh Recovers (greatest_found counted) (λ is. cc) refused
+  recovered_fits code m fresh (Some r) refused = again_fits fresh Recovers r tt (λ f none. none) (λ answer is. is) (λ is. cc) refused
+
+  descended_fits : (code : Code) (m : ℕ) (fresh : Option Stamp) (bound : Stamp) (r : Option Refuser) → greatest_refuser counted ≡ r
+      → NextFits fresh (within (Descends bound)) (unless_refused r (read_back code m (within (Descends bound)) (greatest_found counted)))
+  descended_fits code m fresh bound None refused = read_back_fits code m fresh (Descends bound) (greatest_found counted) (λ is. cc) refused
+  descended_fits code m fresh bound (Some r) refused = aborts_fits fresh (Descends bound) r (λ answer is. is) refused tt
+
+  answer_fits : (fresh : Option Stamp) (op : Op) → AnswerFits fresh (within Stores) (answer_of op content)
+  answer_fits fresh (ReadBlock j) = tt
+  answer_fits fresh (WriteBlock j bytes) = tt
+  answer_fits fresh ReadStripe = tt
+  answer_fits fresh (WriteStripe bytes) = tt
 
   stored_fits : (fresh stored : Option Stamp) (r : Option Refuser) → greatest_refuser counted ≡ r
-      → NextFits fresh (in_phase Stores) (unless_refused r (Ends Done None stored))
-  stored_fits fresh stored None refused = (tt, tt)
-  stored_fits fresh stored (Some r) refused = (tt, record { seat = r.seat; refused = refused; last = inl refl })
+      → NextFits fresh (within Stores) (unless_refused r (Ends (answer_of ask.op content) None stored))
+  stored_fits fresh stored None refused = (tt, answer_fits fresh ask.op)
+  stored_fits fresh stored (Some r) refused = aborts_fits fresh Stores r (λ answer is. tt) refused tt
 
-  decided_fits : (code : Code) (m : ℕ) (fresh : Option Stamp) (phase : Phase) → NextFits fresh (in_phase phase) (decided code m fresh (in_phase phase))
+  decided_fits : (code : Code) (m : ℕ) (fresh : Option Stamp) (phase : Phase) → NextFits fresh (within phase) (decided code m fresh (within phase))
   unfolding decided
   decided_fits code m fresh Looks = answered_fast_fits code m fresh (fast_version counted)
   decided_fits code m fresh Orders = ordered_fits fresh (greatest_refuser counted) refl
+  decided_fits code m fresh Recovers = recovered_fits code m fresh (greatest_refuser counted) refl
+  decided_fits code m fresh (Descends bound) = descended_fits code m fresh bound (greatest_refuser counted) refl
   decided_fits code m fresh Stores = stored_fits fresh (Some stamp) (greatest_refuser counted) refl
-  decided_fits code m fresh Stalls = waits_fits Stalls
 
 -- what a coordinator decides, with a quorum of replies or without, fits it
 pub once_full_fits : (code : Code) (group : Group) (fresh : Option Stamp) (c : Coordinator) → NextFits fresh c (once_full code group fresh c)
 once_full_fits code group fresh c =
     cond_both (nat_lt (length c.counted) (quorum_of group)) _ _ (λ (next : Next). NextFits fresh c next)
-    (λ few. waits_fits c.ask c.stamp c.round c.call c.counted c.phase)
-    (λ enough. decided_fits c.ask c.stamp c.round c.call c.counted code group.m fresh c.phase)
+    (λ few. waits_fits c.ask c.stamp c.round c.base c.content c.call c.counted c.phase)
+    (λ enough. decided_fits c.ask c.stamp c.round c.base c.content c.call c.counted code group.m fresh c.phase)

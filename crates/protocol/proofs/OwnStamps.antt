@@ -1,19 +1,23 @@
 -- Each call has stamps of its own.
-use Rattle.std.proofs.Common.{◌≡◌, ℕ, inl, inr, true, false, List, Some, sym, ap, ◌∙◌, subst}
+use Rattle.std.proofs.Common.{◌≡◌, ℕ, ◌⊎◌, inl, inr, true, false, List, Some, sym, ap, ◌∙◌, subst, ⊎_elim}
+use Rattle.std.proofs.lemmas.Bool.{false≢true}
 use Rattle.std.proofs.lemmas.Option.{same_Some}
 use Rattle.fab_base.specs.declared.identities.BrickId.{BrickId}
 use Rattle.fab_base.specs.declared.stamps.Stamp.{Stamp}
-use Rattle.fab_base.specs.Stamps.{first_stamp}
+use Rattle.fab_base.specs.Stamps.{stamp_below, first_stamp}
+use Rattle.fab_base.proofs.StampOrder.{stamp_below_irrefl}
 use Rattle.fab_wire.specs.declared.calls.Call.{Call}
 use Rattle.fab_wire.specs.declared.messages.Message.TheVariants as Message
-use Rattle.fab_wire.specs.declared.requests.Request.TheVariants as Request
+use Rattle.fab_wire.specs.declared.requests.Look.TheVariants as Look
+use Rattle.fab_wire.specs.declared.requests.Want.TheVariants as Want
+use Rattle.fab_wire.specs.declared.requests.Request.{Request}
 use Rattle.protocol.specs.Settings.{Setting}
-use Rattle.protocol.specs.Coordinators.{Coordinator, Stores}
+use Rattle.protocol.specs.Coordinators.{Coordinator, Phase, Orders, Recovers, Descends, Stores}
 use Rattle.protocol.specs.Worlds.{World, Operation}
-use Rattle.protocol.specs.Laws.{WasSent, WriteSent}
+use Rattle.protocol.specs.Laws.{WasSent, WriteSent, OrderSent, AskedAt}
 use Rattle.protocol.proofs.Books.{Books, OperationBooks, IsOperation, IsCall}
-use Rattle.protocol.proofs.Said.{Stamping, Said, IsMadeOrFirst, IsStamped, IsNewIn, WasOrdered, RequestSays, WriteSays}
-use Rattle.protocol.proofs.Stampings.{not_first}
+use Rattle.protocol.proofs.Said.{Stamping, Said, IsMadeOrFirst, IsBegun, IsStamped, RequestSays, WriteSays}
+use Rattle.protocol.proofs.Stampings.{not_first, begun_once}
 
 module _ (setting : Setting) (w : World) (stamps : Stamping) (books : Books setting w) (said : Said setting w stamps) where
   -- two phases with one stamp are of the same call
@@ -56,29 +60,114 @@ module _ (setting : Setting) (w : World) (stamps : Stamping) (books : Books sett
       let bad : true ≡ false = sym made.5 ∙ ap (λ (z : Operation). z.made) same ∙ unmade in
       cc
 
-  -- a stamp that was ordered before is not new
-  ordered_not_new : (i k p : ℕ) (t u : Stamp) → IsStamped stamps i k p t → IsStamped stamps i k p u → WasOrdered stamps i k p t → IsNewIn stamps i k p u → ⊥
-  ordered_not_new i k p t u first second was new =
-      new was.0 was.1 (subst (λ (z : Stamp). IsStamped stamps i k was.0 z) (same_Some t u (sym first ∙ second)) was.2)
+  -- what a request that was sent says
+  sent_says : (call : Call) (from to : BrickId) (request : Request) → WasSent w (record { from = from; to = to; message = Message.Request call request })
+      → RequestSays setting w stamps from.0 to.0 call request
+  sent_says call from to request sent = said.packets sent.0 (record { from = from; to = to; message = Message.Request call request }) sent.1
 
-  -- what an order that was sent says
-  order_says : (call : Call) (from to : BrickId) (t : Stamp) → WasSent w (record { from = from; to = to; message = Message.Request call (Request.Order t) })
-      → RequestSays setting w stamps from.0 to.0 call (Request.Order t)
-  order_says call from to t sent = said.packets sent.0 (record { from = from; to = to; message = Message.Request call (Request.Order t) }) sent.1
+  -- the phase of an order that was sent
+  order_begun : (call : Call) (from to : BrickId) (t : Stamp) → OrderSent w call from to t
+      → IsBegun stamps from.0 call.seq call.phase Orders t ⊎ IsBegun stamps from.0 call.seq call.phase Recovers t
+  order_begun call from to t (inl sent) = inl (sent_says call from to (Request.Order t) sent).0
+  order_begun call from to t (inr sent) = ⊎_elim
+      (λ (own : (t ≡ t) × IsBegun stamps from.0 call.seq call.phase Recovers t). inr own.1)
+      (λ (lower : (stamp_below t t ≡ true) × IsBegun stamps from.0 call.seq call.phase (Descends t) t).
+      absurd (false≢true (sym (stamp_below_irrefl t) ∙ lower.0)))
+      (sent_says call from to (Request.OrderRead t (Look.Below t) Want.All) sent).1
 
-  -- no call carries both a write and an order
+  write_begun : (call : Call) (from to : BrickId) (t : Stamp) (block : List ℕ) → WriteSent w call from to t block
+      → IsBegun stamps from.0 call.seq call.phase Stores t
+  write_begun call from to t block sent =
+      let says : WriteSays setting w stamps from.0 to.0 call t block = sent_says call from to (Request.Write t block) sent in says.begun
+
+  -- a call that carries an order carries neither a write nor an order that looks below a lower bound
+  no_order : (call : Call) (from other : BrickId) (phase : Phase) (t u : Stamp) → IsBegun stamps from.0 call.seq call.phase phase t
+      → OrderSent w call from other u → (phase ≡ Orders) ⊎ (phase ≡ Recovers)
+  no_order call from other phase t u begun sent = ⊎_elim
+      (λ (orders : IsBegun stamps from.0 call.seq call.phase Orders u).
+      inl (begun_once stamps from.0 call.seq call.phase phase Orders t u begun orders).0)
+      (λ (recovers : IsBegun stamps from.0 call.seq call.phase Recovers u).
+      inr (begun_once stamps from.0 call.seq call.phase phase Recovers t u begun recovers).0)
+      (order_begun call from other u sent)
+
   pub order_or_write : (call : Call) (from to other : BrickId) (t u : Stamp) (block : List ℕ) → WriteSent w call from to t block
-      → WasSent w (record { from = from; to = other; message = Message.Request call (Request.Order u) }) → ⊥
-  order_or_write call from to other t u block write order =
-      let writes : WriteSays setting w stamps from.0 to.0 call t block
-      = said.packets write.0 (record { from = from; to = to; message = Message.Request call (Request.Write t block) }) write.1 in
-      let orders : RequestSays setting w stamps from.0 other.0 call (Request.Order u) = order_says call from other u order in
-      ordered_not_new from.0 call.seq call.phase t u writes.stamp orders.0 writes.ordered orders.1
+      → OrderSent w call from other u → ⊥
+  order_or_write call from to other t u block write order = ⊎_elim
+      (λ (orders : Stores ≡ Orders). let never : ⊥ = cc in never)
+      (λ (recovers : Stores ≡ Recovers). let never : ⊥ = cc in never)
+      (no_order call from other Stores t u (write_begun call from to t block write) order)
 
-  -- the call of a store phase carries no order
-  pub stores_no_order : (from other : BrickId) (c : Coordinator) (u : Stamp) → IsCall w from.0 c.call.seq c → c.phase ≡ Stores
-      → WasSent w (record { from = from; to = other; message = Message.Request c.call (Request.Order u) }) → ⊥
-  stores_no_order from other c u is stores order =
-      let says = said.calls from.0 c.call.seq c is in
-      let orders : RequestSays setting w stamps from.0 other.0 c.call (Request.Order u) = order_says c.call from other u order in
-      ordered_not_new from.0 c.call.seq c.call.phase c.stamp u says.stamp orders.0 (says.ordered stores) orders.1
+  -- the phase of an order that looks below a lower bound
+  descent_begun : (call : Call) (from to : BrickId) (t bound : Stamp) → stamp_below bound t ≡ true
+      → WasSent w (record { from = from; to = to; message = Message.Request call (Request.OrderRead t (Look.Below bound) Want.All) })
+      → IsBegun stamps from.0 call.seq call.phase (Descends bound) t
+  descent_begun call from to t bound less sent = ⊎_elim
+      (λ (own : (bound ≡ t) × IsBegun stamps from.0 call.seq call.phase Recovers t).
+      absurd (false≢true (sym (stamp_below_irrefl t) ∙ subst (λ (z : Stamp). stamp_below z t ≡ true) own.0 less)))
+      (λ (lower : (stamp_below bound t ≡ true) × IsBegun stamps from.0 call.seq call.phase (Descends bound) t). lower.1)
+      (sent_says call from to (Request.OrderRead t (Look.Below bound) Want.All) sent).1
+
+  pub order_or_descent : (call : Call) (from to other : BrickId) (t u bound : Stamp) → stamp_below bound t ≡ true
+      → WasSent w (record { from = from; to = to; message = Message.Request call (Request.OrderRead t (Look.Below bound) Want.All) })
+      → OrderSent w call from other u → ⊥
+  order_or_descent call from to other t u bound less sent order = ⊎_elim
+      (λ (orders : Descends bound ≡ Orders). let never : ⊥ = cc in never)
+      (λ (recovers : Descends bound ≡ Recovers). let never : ⊥ = cc in never)
+      (no_order call from other (Descends bound) t u (descent_begun call from to t bound less sent) order)
+
+  -- what a call in its store phase asked is a write
+  pub stores_asked : (from to : BrickId) (c : Coordinator) (t : Stamp) → IsCall w from.0 c.call.seq c → c.phase ≡ Stores → AskedAt w c.call from to t
+      → (block : List ℕ) × WriteSent w c.call from to t block
+  stores_asked from to c t is stores asked = asked_as asked
+    where
+      begun : IsBegun stamps from.0 c.call.seq c.call.phase Stores c.stamp
+      begun = subst (λ (p : Phase). IsBegun stamps from.0 c.call.seq c.call.phase p c.stamp) stores (said.calls from.0 c.call.seq c is).begun
+
+      asked_as : AskedAt w c.call from to t → (block : List ℕ) × WriteSent w c.call from to t block
+      asked_as (inl order) = ⊎_elim
+          (λ (orders : Stores ≡ Orders). absurd (let never : ⊥ = cc in never))
+          (λ (recovers : Stores ≡ Recovers). absurd (let never : ⊥ = cc in never))
+          (no_order c.call from to Stores c.stamp t begun order)
+      asked_as (inr (inl sent)) = ⊎_elim
+          (λ (own : (sent.0 ≡ t) × IsBegun stamps from.0 c.call.seq c.call.phase Recovers t).
+          let bad : Stores ≡ Recovers = (begun_once stamps from.0 c.call.seq c.call.phase Stores Recovers c.stamp t begun own.1).0 in
+          absurd (let never : ⊥ = cc in never))
+          (λ (lower : (stamp_below sent.0 t ≡ true) × IsBegun stamps from.0 c.call.seq c.call.phase (Descends sent.0) t).
+          let bad : Stores ≡ Descends sent.0 = (begun_once stamps from.0 c.call.seq c.call.phase Stores (Descends sent.0) c.stamp t begun lower.1).0 in
+          absurd (let never : ⊥ = cc in never))
+          (sent_says c.call from to (Request.OrderRead t (Look.Below sent.0) Want.All) sent.1).1
+      asked_as (inr (inr write)) = write
+
+  -- what a call that descends asked looks below its bound
+  pub descends_asked : (from to : BrickId) (c : Coordinator) (bound t : Stamp) → IsCall w from.0 c.call.seq c → c.phase ≡ Descends bound
+      → AskedAt w c.call from to t
+      → (stamp_below bound t ≡ true)
+      × WasSent w (record { from = from; to = to; message = Message.Request c.call (Request.OrderRead t (Look.Below bound) Want.All) })
+  descends_asked from to c bound t is descends asked = asked_as asked
+    where
+      begun : IsBegun stamps from.0 c.call.seq c.call.phase (Descends bound) c.stamp
+      begun = subst (λ (p : Phase). IsBegun stamps from.0 c.call.seq c.call.phase p c.stamp) descends (said.calls from.0 c.call.seq c is).begun
+
+      asked_as : AskedAt w c.call from to t
+          → (stamp_below bound t ≡ true)
+          × WasSent w (record { from = from; to = to; message = Message.Request c.call (Request.OrderRead t (Look.Below bound) Want.All) })
+      asked_as (inl order) = ⊎_elim
+          (λ (orders : Descends bound ≡ Orders). absurd (let never : ⊥ = cc in never))
+          (λ (recovers : Descends bound ≡ Recovers). absurd (let never : ⊥ = cc in never))
+          (no_order c.call from to (Descends bound) c.stamp t begun order)
+      asked_as (inr (inl sent)) = ⊎_elim
+          (λ (own : (sent.0 ≡ t) × IsBegun stamps from.0 c.call.seq c.call.phase Recovers t).
+          let bad : Descends bound ≡ Recovers = (begun_once stamps from.0 c.call.seq c.call.phase (Descends bound) Recovers c.stamp t begun own.1).0 in
+          absurd (let never : ⊥ = cc in never))
+          (λ (lower : (stamp_below sent.0 t ≡ true) × IsBegun stamps from.0 c.call.seq c.call.phase (Descends sent.0) t).
+          let phases : Descends bound ≡ Descends sent.0
+          = (begun_once stamps from.0 c.call.seq c.call.phase (Descends bound) (Descends sent.0) c.stamp t begun lower.1).0 in
+          let same : bound ≡ sent.0 = cc in
+          subst (λ (b : Stamp). (stamp_below b t ≡ true)
+          × WasSent w (record { from = from; to = to; message = Message.Request c.call (Request.OrderRead t (Look.Below b) Want.All) }))
+          (sym same) (lower.0, sent.1))
+          (sent_says c.call from to (Request.OrderRead t (Look.Below sent.0) Want.All) sent.1).1
+      asked_as (inr (inr write)) =
+          let bad : Descends bound ≡ Stores
+          = (begun_once stamps from.0 c.call.seq c.call.phase (Descends bound) Stores c.stamp t begun (write_begun c.call from to t write.0 write.1)).0 in
+          absurd (let never : ⊥ = cc in never)

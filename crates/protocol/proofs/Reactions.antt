@@ -1,18 +1,21 @@
 -- What a member's part of a stripe keeps through a request: its stamps never fall, and its log only grows.
-use Rattle.std.proofs.Common.{◌≡◌, ℕ, suc, ◌⊎◌, inl, inr, Bool, true, false, cond, List, [], ◌∷◌, ◌++◌, Option, Some, None, refl, sym, ap, ◌∙◌, subst, ⊎_elim}
+use Rattle.std.proofs.Common.{◌≡◌, ℕ, ◌⊎◌, inl, inr, Bool, true, false, cond, List, [], ◌∷◌, ◌++◌, Option, Some, None, refl, sym, ap, ◌∙◌, subst, ⊎_elim}
 use Rattle.std.specs.Prelude.{slice_get}
 use Rattle.std.proofs.lemmas.Bool.{cond_both, cond-false, false≢true, or_left, or_right, or_cases}
 use Rattle.fab_base.specs.declared.stamps.Stamp.{Stamp}
 use Rattle.fab_base.specs.Stamps.{stamp_below, stamp_same}
 use Rattle.fab_base.proofs.StampOrder.{stamp_below_irrefl, stamp_below_asym, stamp_not_below_trans, stamp_neither_below, stamp_same_refl}
 use Rattle.fab_wire.specs.declared.requests.Version.{Version}
+use Rattle.fab_wire.specs.declared.requests.Look.{Look}
+use Rattle.fab_wire.specs.declared.requests.Look.TheVariants.{Below}
 use Rattle.fab_wire.specs.declared.requests.Want.{Want}
 use Rattle.fab_wire.specs.declared.requests.Want.TheVariants.{Seat, All}
 use Rattle.fab_wire.specs.declared.requests.Request.{Request}
 use Rattle.fab_wire.specs.declared.requests.Request.TheVariants.{Read, Order, OrderRead, Write, Modify, Collect, OldRead, Prepare, Accept}
 use Rattle.fab_wire.specs.declared.replies.Reply.{Reply}
-use Rattle.fab_wire.specs.declared.replies.Reply.TheVariants.{Found, Ordered, Stored, Later}
-use Rattle.protocol.specs.Replicas.{Replica, Reaction, newest_of, is_held, stamp_max, top_of, is_wanted, told_version, ordered, written, handle}
+use Rattle.fab_wire.specs.declared.replies.Reply.TheVariants.{Found, Ordered, OrderedRead, Stored, Later}
+use Rattle.protocol.specs.Replicas.{Replica, Reaction, newest_of, is_held, stamp_max, top_of, is_wanted, told_version, ordered, written, below, looked_up, order_read, handle}
+use Rattle.protocol.proofs.Logs.{LogAscends, IsWithin, newest_greatest, ascends_more, held_more}
 use Rattle.protocol.proofs.Tables.{get_grown, get_one}
 
 -- neither of two stamps is above the greater
@@ -48,12 +51,6 @@ newest_cases log = cases_of (newest_of log)
     cases_of : (o : Option Version) → ((version : Version) × (o ≡ Some version)) ⊎ (o ≡ None)
     cases_of None = inr refl
     cases_of (Some version) = inl (version, refl)
-
--- the newest version stands in the log
-pub newest_stands : (log : List Version) (version : Version) → newest_of log ≡ Some version → (k : ℕ) × (slice_get log k ≡ Some version)
-newest_stands [] version is = cc
-newest_stands (x ∷ []) version is = (0, is)
-newest_stands (x ∷ (y ∷ log)) version is = let rest = newest_stands (y ∷ log) version is in (suc rest.0, rest.1)
 
 -- the order stamp is at most the top, and so is the newest version
 top_order : (replica : Replica) → stamp_below (top_of replica) replica.order ≡ false
@@ -98,10 +95,14 @@ top_written replica t block at =
     top_is (with_version replica t block) (record { stamp = t; block = block }) (newest_grown replica.log (record { stamp = t; block = block }))
     ∙ max_of_higher replica.order t (stamp_not_below_trans replica.order (top_of replica) t (top_order replica) at)
 
+-- a promise of a stamp is asked for
+abbrev pub IsOrder : Request → Stamp → Type 0
+IsOrder request t = (request ≡ Order t) ⊎ ((look : Look) × (want : Want) × (request ≡ OrderRead t look want))
+
 -- a request made the member promise a stamp
 pub record HasPromised (replica : Replica) (request : Request) (next : Replica) : Type 0 where
   pub stamp : Stamp
-  pub request_is : request ≡ Order stamp
+  pub request_is : IsOrder request stamp
   pub above : stamp_below stamp (top_of replica) ≡ false
   pub next_is : next ≡ with_order replica stamp
 
@@ -123,7 +124,16 @@ ordered_after replica t =
     (record { replica = record { order = t; log = replica.log }; reply = Some Ordered })
     (λ (z : Reaction). IsAfter replica (Order t) z.replica)
     (λ below. inl refl)
-    (λ at. inr (inl (record { stamp = t; request_is = refl; above = at; next_is = refl })))
+    (λ at. inr (inl (record { stamp = t; request_is = inl refl; above = at; next_is = refl })))
+
+order_read_after : (replica : Replica) (t : Stamp) (look : Look) (want : Want) (wanted : Bool)
+    → IsAfter replica (OrderRead t look want) (order_read replica t look wanted).replica
+order_read_after replica t look want wanted =
+    cond_both (stamp_below t (top_of replica)) (record { replica = replica; reply = Some (Later (top_of replica)) })
+    (record { replica = record { order = t; log = replica.log }; reply = Some (OrderedRead (told_version wanted (looked_up look replica.log))) })
+    (λ (z : Reaction). IsAfter replica (OrderRead t look want) z.replica)
+    (λ below. inl refl)
+    (λ at. inr (inl (record { stamp = t; request_is = inr (look, want, refl); above = at; next_is = refl })))
 
 written_after : (replica : Replica) (t : Stamp) (block : List ℕ) → IsAfter replica (Write t block) (written replica t block).replica
 written_after replica t block =
@@ -143,7 +153,7 @@ unfolding handle
 handle_after seat replica (Read want) = inl refl
 handle_after seat replica (Order t) = ordered_after replica t
 handle_after seat replica (Write t block) = written_after replica t block
-handle_after seat replica (OrderRead t look want) = inl refl
+handle_after seat replica (OrderRead t look want) = order_read_after replica t look want (is_wanted want seat)
 handle_after seat replica (Modify t base j delta) = inl refl
 handle_after seat replica (Collect t) = inl refl
 handle_after seat replica (OldRead bound) = inl refl
@@ -152,7 +162,13 @@ handle_after seat replica (Accept ballot members) = inl refl
 
 -- a stamp is asked for
 abbrev pub IsAsked : Request → Stamp → Type 0
-IsAsked request t = (request ≡ Order t) ⊎ ((block : List ℕ) × (request ≡ Write t block))
+IsAsked request t = IsOrder request t ⊎ ((block : List ℕ) × (request ≡ Write t block))
+
+-- A member that promised t found this version. Where it was asked for all blocks below a bound, it is the last one there.
+abbrev pub FoundBelow : Replica → Request → Replica → Option Version → Stamp → Type 0
+FoundBelow replica request next found t =
+    (look : Look) × (want : Want) × (request ≡ OrderRead t look want) × (stamp_below t (top_of replica) ≡ false) × (next ≡ with_order replica t)
+    × ((bound : Stamp) → look ≡ Below bound → want ≡ All → found ≡ newest_of (below bound replica.log))
 
 -- what a member's reply tells of its part before and after the request
 abbrev pub ReactionSays : Replica → Request → Replica → Reply → Type 0
@@ -160,6 +176,7 @@ ReactionSays replica request next (Found order (Some version)) =
     (want : Want) × (request ≡ Read want) × (want ≡ All → newest_of replica.log ≡ Some version) × (order ≡ replica.order) × (next ≡ replica)
 ReactionSays replica request next Ordered =
     (t : Stamp) × (request ≡ Order t) × (stamp_below t (top_of replica) ≡ false) × (top_of next ≡ t)
+ReactionSays replica request next (OrderedRead found) = (t : Stamp) × FoundBelow replica request next found t
 ReactionSays replica request next Stored = (t : Stamp) × (block : List ℕ) × (request ≡ Write t block) × (is_held t next.log ≡ true)
 ReactionSays replica request next (Later x) = (t : Stamp) × IsAsked request t × (stamp_below t x ≡ true)
 ReactionSays replica request next reply = Unit {0}
@@ -187,8 +204,37 @@ ordered_says replica t =
     cond_both (stamp_below t (top_of replica)) (record { replica = replica; reply = Some (Later (top_of replica)) })
     (record { replica = record { order = t; log = replica.log }; reply = Some Ordered })
     (λ (z : Reaction). SaysIf replica (Order t) z.replica z.reply)
-    (λ below. (t, inl refl, below))
+    (λ below. (t, inl (inl refl), below))
     (λ at. (t, refl, at, top_promised replica t at))
+
+-- what is told where all is wanted is all that is there
+told_true : (o : Option Version) → told_version true o ≡ o
+told_true None = refl
+told_true (Some version) = refl
+
+order_read_says : (replica : Replica) (t : Stamp) (look : Look) (want : Want) (seat : ℕ)
+    → SaysIf replica (OrderRead t look want) (order_read replica t look (is_wanted want seat)).replica (order_read replica t look (is_wanted want seat)).reply
+order_read_says replica t look want seat =
+    cond_both (stamp_below t (top_of replica)) (record { replica = replica; reply = Some (Later (top_of replica)) })
+    (record {
+      replica = record { order = t; log = replica.log };
+      reply = Some (OrderedRead (told_version (is_wanted want seat) (looked_up look replica.log)));
+    })
+    (λ (z : Reaction). SaysIf replica (OrderRead t look want) z.replica z.reply)
+    (λ under. (t, inl (inr (look, want, refl)), under))
+    (λ at. (
+      t,
+      (
+        look,
+        want,
+        refl,
+        at,
+        refl,
+        (λ bound look_is want_is.
+            ap (λ (x : Want). told_version (is_wanted x seat) (looked_up look replica.log)) want_is ∙ told_true (looked_up look replica.log)
+            ∙ ap (λ (l : Look). looked_up l replica.log) look_is),
+      ),
+    ))
 
 written_says : (replica : Replica) (t : Stamp) (block : List ℕ) → SaysIf replica (Write t block) (written replica t block).replica (written replica t block).reply
 written_says replica t block =
@@ -221,7 +267,7 @@ unfolding handle
 handle_says seat replica (Read want) = told_all replica want seat (newest_of replica.log) refl
 handle_says seat replica (Order t) = ordered_says replica t
 handle_says seat replica (Write t block) = written_says replica t block
-handle_says seat replica (OrderRead t look want) = tt
+handle_says seat replica (OrderRead t look want) = order_read_says replica t look want seat
 handle_says seat replica (Modify t base j delta) = tt
 handle_says seat replica (Collect t) = tt
 handle_says seat replica (OldRead bound) = tt
@@ -245,6 +291,35 @@ after_held replica request next t (inl same) held = subst (λ (z : Replica). is_
 after_held replica request next t (inr (inl p)) held = subst (λ (z : Replica). is_held t z.log ≡ true) (sym p.next_is) held
 after_held replica request next t (inr (inr p)) held =
     subst (λ (z : Replica). is_held t z.log ≡ true) (sym p.next_is) (held_kept t replica.log (record { stamp = p.stamp; block = p.block } ∷ []) held)
+
+-- what is held is at most the top
+held_top : (replica : Replica) (d : Stamp) → LogAscends replica.log → is_held d replica.log ≡ true → stamp_below (top_of replica) d ≡ false
+held_top replica d ascends held = within (newest_of replica.log) refl
+  where
+    within : (z : Option Version) → newest_of replica.log ≡ z → stamp_below (top_of replica) d ≡ false
+    within None is = absurd (subst (λ (z : Option Version). IsWithin z d) is (newest_greatest d replica.log ascends held))
+    within (Some version) is =
+        stamp_not_below_trans d version.stamp (top_of replica)
+        (subst (λ (z : Option Version). IsWithin z d) is (newest_greatest d replica.log ascends held)) (top_newest replica version is)
+
+-- after a request a log goes on ascending
+pub after_ascends : (replica : Replica) (request : Request) (next : Replica) → IsAfter replica request next → LogAscends replica.log → LogAscends next.log
+after_ascends replica request next (inl same) ascends = subst (λ (z : Replica). LogAscends z.log) (sym same) ascends
+after_ascends replica request next (inr (inl p)) ascends = subst (λ (z : Replica). LogAscends z.log) (sym p.next_is) ascends
+after_ascends replica request next (inr (inr p)) ascends =
+    subst (λ (z : Replica). LogAscends z.log) (sym p.next_is)
+    (ascends_more replica.log (record { stamp = p.stamp; block = p.block }) ascends
+    (λ d held. stamp_not_below_trans d (top_of replica) p.stamp (held_top replica d ascends held) p.above))
+
+-- what is held after a request was held, or is at or above the top
+pub after_newer : (replica : Replica) (request : Request) (next : Replica) (t : Stamp) → IsAfter replica request next → is_held t next.log ≡ true
+    → (is_held t replica.log ≡ true) ⊎ (stamp_below t (top_of replica) ≡ false)
+after_newer replica request next t (inl same) held = inl (subst (λ (z : Replica). is_held t z.log ≡ true) same held)
+after_newer replica request next t (inr (inl p)) held = inl (subst (λ (z : Replica). is_held t z.log ≡ true) p.next_is held)
+after_newer replica request next t (inr (inr p)) held = ⊎_elim
+    (λ (old : is_held t replica.log ≡ true). inl old)
+    (λ (new : p.stamp ≡ t). inr (subst (λ (z : Stamp). stamp_below z (top_of replica) ≡ false) new p.above))
+    (held_more t replica.log (record { stamp = p.stamp; block = p.block }) (subst (λ (z : Replica). is_held t z.log ≡ true) p.next_is held))
 
 -- the top is as before, or the stamp that was asked for
 pub after_asked : (replica : Replica) (request : Request) (next : Replica) → IsAfter replica request next

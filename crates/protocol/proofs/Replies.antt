@@ -1,31 +1,38 @@
 -- A coordinator takes a reply: what it then decides keeps the invariant.
-use Rattle.std.proofs.Common.{◌≡◌, ℕ, ◌<◌, ◌≤◌, nat_lt, ◌⊎◌, inl, inr, true, false, [], length, Option, Some, None, refl, sym, ap, ◌∙◌, subst, ⊎_elim}
-use Rattle.std.proofs.lemmas.Bool.{cond_both, false≢true, ltb-false}
+use Rattle.std.proofs.Common.{◌≡◌, ℕ, ◌+◌, ◌<◌, ◌≤◌, max, nat_lt, ◌⊎◌, inl, inr, true, false, List, [], length, Option, Some, None, refl, sym, ap, ◌∙◌, subst, ⊎_elim, arith}
+use Rattle.std.proofs.lemmas.Bool.{cond_both, cases_Bool, false≢true, ltb-true, ltb-false}
+use Rattle.std.proofs.lemmas.Option.{same_Some}
 use Rattle.fab_base.specs.declared.identities.BrickId.{BrickId}
 use Rattle.fab_base.specs.declared.stamps.Stamp.{Stamp}
-use Rattle.fab_base.specs.declared.asks.Op.TheVariants.{ReadStripe, WriteStripe}
-use Rattle.fab_base.specs.declared.answers.Answer.TheVariants.{Data, Done, Aborted}
+use Rattle.fab_base.specs.declared.asks.Ask.{Ask}
+use Rattle.fab_base.specs.declared.asks.Op.{Op}
+use Rattle.fab_base.specs.declared.asks.Op.TheVariants.{ReadBlock, WriteBlock, ReadStripe, WriteStripe}
+use Rattle.fab_base.specs.Stamps.{stamp_below}
+use Rattle.fab_base.proofs.StampOrder.{stamp_neither_below}
+use Rattle.fab_base.specs.declared.answers.Answer.TheVariants.{Data, Aborted}
 use Rattle.fab_base.specs.declared.answers.Cause.TheVariants as Cause
 use Rattle.fab_wire.specs.declared.calls.Call.{Call}
 use Rattle.fab_wire.specs.declared.messages.Message.TheVariants as Message
 use Rattle.fab_wire.specs.declared.replies.Reply.{Reply}
 use Rattle.protocol.specs.Settings.{Setting, Code, Group, group_of, quorum_of, IsSound, seat_in}
-use Rattle.protocol.specs.Coordinators.{Coordinator, Refuser, Phase, Looks, Orders, Stores, Stalls, Next, Waits, Reorders, Ends, answers_phase, has_seat, counts_at, fast_version, pieces_of, greatest_refuser, stalled, reordering, most_rounds, aborted_by, unless_refused, ordered_again, once_ordered, answered_fast, decided, with_reply, once_full, counted_at, on_reply}
+use Rattle.protocol.specs.Replicas.{is_held}
+use Rattle.protocol.specs.Coordinators.{Coordinator, Refuser, Phase, Looks, Orders, Recovers, Descends, Stores, Next, Waits, Sends, Makes, Ends, answers_phase, has_seat, counts_at, fast_version, pieces_of, pieces_at, greatest_found, greatest_refuser, stored_by, in_phase, restoring, reordering, most_rounds, aborted_by, unless_refused, ordered_again, once_ordered, answered_fast, read_back, answer_of, decided, with_reply, once_full, counted_at, on_reply}
 use Rattle.protocol.specs.Nodes.{Node, with_known, with_call, carried_out}
 use Rattle.protocol.specs.Worlds.{World, Operation, world_stepped}
-use Rattle.protocol.specs.Laws.{WasSent, IsGuarded}
-use Rattle.protocol.proofs.Books.{Books, CallBooks, MadeInPhase, IsCall}
-use Rattle.protocol.proofs.Said.{Stamping, Said, IsSaid, IsStampOf, EachCounted, AreOnce, FitsPhase, FloorsAtMost, HasVersion, CountedSays, CallSays}
+use Rattle.protocol.specs.Laws.{WasSent, part_of, brick_at, AtQuorum, IsGuarded, IsBlocked}
+use Rattle.protocol.proofs.Books.{Books, CallBooks, IsUnmade, MadeInPhase, IsCall}
+use Rattle.protocol.proofs.Said.{Stamping, Said, IsSaid, AreBlocked, IsContent, IsMadeOrFirst, IsStampOf, EachCounted, AreOnce, FitsPhase, FloorsAtMost, HasVersion, CountedSays, CallSays}
 use Rattle.protocol.proofs.Tables.{put_each}
 use Rattle.protocol.proofs.CountsAt.{CountsAt, counts_facts}
 use Rattle.protocol.proofs.Counting.{each_then, each_more, once_more}
-use Rattle.protocol.proofs.Stampings.{stamps_same}
+use Rattle.protocol.proofs.Stampings.{ComesFrom, stamps_same, later_unknown}
 use Rattle.protocol.proofs.Growth.{Grows, stays_call}
 use Rattle.protocol.proofs.Steps.{keeps_same, quiet, quiet_grows, said_quiet, stamps_stay_by}
-use Rattle.protocol.proofs.Decisions.{ordered_guards, ordered_floors, fast_guards, fast_floors, fast_made, fast_decodes}
+use Rattle.protocol.proofs.Decisions.{PromisesAt, ReadsAt, LooksBelow, all_ordered, all_read, promises_guard, promises_floors, stored_stands, fast_guards, fast_floors, fast_stands, fast_made, fast_decodes, content_formed}
+use Rattle.protocol.proofs.Recoveries.{something_found, version_lower, version_above, version_made, between_blocked, too_few_blocked, read_decodes}
 use Rattle.protocol.proofs.Stores.{said_made}
-use Rattle.protocol.proofs.Reorders.{said_reordered}
-use Rattle.protocol.proofs.Ends.{said_ended}
+use Rattle.protocol.proofs.Sends.{IsCovered, AsksPromises, said_sent}
+use Rattle.protocol.proofs.Ends.{WillShow, said_ended}
 
 -- a brick that only learns a time keeps the invariant
 pub said_known : (setting : Setting) (w : World) (stamps : Stamping) (me : BrickId) (known : ℕ) → Books setting w → Said setting w stamps
@@ -48,24 +55,24 @@ unfolding decided
 decided_looks code m fresh c is = rw is
 
 decided_orders : (code : Code) (m : ℕ) (fresh : Option Stamp) (c : Coordinator) → c.phase ≡ Orders
-    → decided code m fresh c ≡ once_ordered fresh c (greatest_refuser c.counted)
+    → decided code m fresh c ≡ once_ordered fresh c (greatest_refuser c.counted) (Makes (in_phase c Stores))
 unfolding decided
 decided_orders code m fresh c is = rw is
 
+decided_recovers : (code : Code) (m : ℕ) (fresh : Option Stamp) (c : Coordinator) → c.phase ≡ Recovers
+    → decided code m fresh c ≡ once_ordered fresh c (greatest_refuser c.counted) (read_back code m c (greatest_found c.counted))
+unfolding decided
+decided_recovers code m fresh c is = rw is
+
+decided_descends : (code : Code) (m : ℕ) (fresh : Option Stamp) (bound : Stamp) (c : Coordinator) → c.phase ≡ Descends bound
+    → decided code m fresh c ≡ unless_refused (greatest_refuser c.counted) (read_back code m c (greatest_found c.counted))
+unfolding decided
+decided_descends code m fresh bound c is = rw is
+
 decided_stores : (code : Code) (m : ℕ) (fresh : Option Stamp) (c : Coordinator) → c.phase ≡ Stores
-    → decided code m fresh c ≡ unless_refused (greatest_refuser c.counted) (Ends Done None (Some c.stamp))
+    → decided code m fresh c ≡ unless_refused (greatest_refuser c.counted) (Ends (answer_of c.ask.op c.content) None (Some c.stamp))
 unfolding decided
 decided_stores code m fresh c is = rw is
-
-decided_stalls : (code : Code) (m : ℕ) (fresh : Option Stamp) (c : Coordinator) → c.phase ≡ Stalls → decided code m fresh c ≡ Waits c
-unfolding decided
-decided_stalls code m fresh c is = rw is
-
-phase_cases : (p : Phase) → (p ≡ Looks) ⊎ ((p ≡ Orders) ⊎ ((p ≡ Stores) ⊎ (p ≡ Stalls)))
-phase_cases Looks = inl refl
-phase_cases Orders = inr (inl refl)
-phase_cases Stores = inr (inr (inl refl))
-phase_cases Stalls = inr (inr (inr refl))
 
 module _ (setting : Setting) (sound : IsSound setting) (w : World) (stamps : Stamping) (me : BrickId) (c : Coordinator) (group : Group) (known : ℕ)
     (books : Books setting w) (said : Said setting w stamps) (is : IsCall w me.0 c.call.seq c)
@@ -117,6 +124,10 @@ module _ (setting : Setting) (sound : IsSound setting) (w : World) (stamps : Sta
     said_ended setting w stamps me c group known books said is more_known (Aborted (Cause.Later r.brick r.stamp)) None None
         (λ v has. has)
         (λ v has. (said.operations (w.numbers me.0 c.call.seq) o its.operation_is).version v has)
+        (λ v has how. (said.operations (w.numbers me.0 c.call.seq) o its.operation_is).stands v has (⊎_elim
+        (λ (unmade : o.made ≡ false). inl unmade)
+        (λ (bad : false ≡ true). absurd (false≢true bad))
+        how))
         (λ bad bytes op. absurd (false≢true bad))
         tt,
   )
@@ -126,7 +137,7 @@ module _ (setting : Setting) (sound : IsSound setting) (w : World) (stamps : Sta
   its_group = ap (λ a. group_of setting.layout a.group.0) (sym its.ask) ∙ group_is
 
   module _ (from : BrickId) (reply : Reply) (seat : ℕ) (sent : WasSent w (record { from = from; to = me; message = Message.Reply c.call reply }))
-      (answers : answers_phase setting.layout.block c.phase reply ≡ true) (seat_is : seat_in group.members from.0 ≡ Some seat)
+      (answers : answers_phase setting.layout.block c.stamp c.phase reply ≡ true) (seat_is : seat_in group.members from.0 ≡ Some seat)
       (first : has_seat seat c.counted ≡ false) where
     -- the coordinator with the reply
     abbrev d : Coordinator
@@ -135,7 +146,7 @@ module _ (setting : Setting) (sound : IsSound setting) (w : World) (stamps : Sta
     new_says : CountedSays setting w me.0 c (record { seat = seat; brick = from; reply = reply })
     new_says = record {
       sent = sent;
-      answers = λ orders. subst (λ (p : Phase). answers_phase setting.layout.block p reply ≡ true) orders answers;
+      answers = answers;
       seat = λ other other_is.
           let same : group ≡ other = (let e : Some group ≡ Some other = sym group_is ∙ other_is in cc) in
           subst (λ (z : Group). seat_in z.members from.0 ≡ Some seat) same seat_is;
@@ -150,32 +161,29 @@ module _ (setting : Setting) (sound : IsSound setting) (w : World) (stamps : Sta
     -- the coordinator goes on with the reply
     more_says : CallSays setting w stamps me.0 c.call.seq d
     more_says = record {
-      stamp = says.stamp;
+      begun = says.begun;
       last = says.last;
-      ordered = says.ordered;
       fits = says.fits;
+      unbased = says.unbased;
+      above = says.above;
+      below = says.below;
+      covered = says.covered;
+      stores = says.stores;
       counted = each_then (CountedSays setting w me.0 c) (CountedSays setting w me.0 d) d.counted
           (λ x h. record { sent = h.sent; answers = h.answers; seat = h.seat }) each;
       once = once;
     }
 
-    module _ (many : quorum_of group ≤ length d.counted) where
-      stalled_says : c.phase ≡ Looks → CallSays setting w stamps me.0 c.call.seq (stalled d)
-      stalled_says looks = record {
-        stamp = says.stamp;
-        last = says.last;
-        ordered = λ stores. cc;
-        fits = subst (λ (p : Phase). FitsPhase p c.ask.op) looks says.fits;
-        counted = each_then (CountedSays setting w me.0 c) (CountedSays setting w me.0 (stalled d)) d.counted
-            (λ x h. record { sent = h.sent; answers = λ bad. cc; seat = h.seat }) each;
-        once = once;
-      }
+    -- the operation's group, by the stripe that is asked for
+    of_ask : (P : Ask → Type 0) → P o.ask → P c.ask
+    of_ask P h = subst P (sym its.ask) h
 
+    module _ (many : quorum_of group ≤ length d.counted) where
       -- a read that sees one version is answered it
       said_answers : c.phase ≡ Looks → (v : Stamp) → fast_version d.counted ≡ Some v
           → IsSaid setting (after (Ends (Data (setting.code.decode group.m (pieces_of d.counted))) (Some v) None))
       said_answers looks v fast =
-          let unmade : (o.version ≡ None) × (o.made ≡ false) = subst (λ (p : Phase). MadeInPhase c o p) looks its.made in
+          let unmade : IsUnmade o = subst (λ (p : Phase). MadeInPhase c o p) looks its.made in
           let reads : o.ask.op ≡ ReadStripe
           = ap (λ a. a.op) (sym its.ask) ∙ subst (λ (p : Phase). FitsPhase p c.ask.op) looks says.fits in
           let has : HasVersion setting w o v = record {
@@ -194,60 +202,198 @@ module _ (setting : Setting) (sound : IsSound setting) (w : World) (stamps : Sta
             said_ended setting w stamps me c group known books said is more_known (Data (setting.code.decode group.m (pieces_of d.counted))) (Some v) None
                 (λ u old. let e : Some u ≡ None = sym old ∙ unmade.0 in cc)
                 (λ u now. let same : v ≡ u = cc in subst (λ (t : Stamp). HasVersion setting w o t) same has)
+                (λ u now how other other_is.
+                let same : v ≡ u = cc in
+                let group_same : group ≡ other = same_Some group other (sym its_group ∙ other_is) in
+                subst (λ (z : Group). AtQuorum z (λ seat. is_held u (part_of w o.ask.group.0 o.ask.stripe.0 (brick_at z seat)).log)) group_same
+                (subst (λ (t : Stamp). AtQuorum group (λ seat. is_held t (part_of w o.ask.group.0 o.ask.stripe.0 (brick_at group seat)).log)) same
+                (fast_stands setting sound w stamps me c group books said is group_is d.counted each once many v fast)))
                 (λ answered bytes op. let e : ReadStripe ≡ WriteStripe bytes = sym reads ∙ op in cc)
-                (v, refl, unmade.1, fast_decodes setting sound w stamps me c group books said is group_is d.counted each once many v fast),
+                (v, refl, fast_decodes setting sound w stamps me c group books said is group_is d.counted each once many v fast),
           )
 
+      -- the coordinator begins its next phase with its own stamp
+      own_of : IsStampOf (max known c.stamp.time) me.0 c.stamp
+      own_of =
+          let at : IsStampOf (w.nodes me.0).known me.0 c.stamp = said.stamps_say.are me.0 c.call.seq c.call.phase c.stamp (c.phase, says.begun) in
+          record { view = at.view; boot = at.boot; brick = at.brick; positive = at.positive; bounded = omega (arith, at.bounded, more_known) }
+
+      own_from : ComesFrom stamps me.0 c.call.seq c.stamp
+      own_from = inl (c.call.phase, (c.phase, says.begun))
+
+      -- a read that saw no version told by all recovers
       looks_on : c.phase ≡ Looks → (z : Option Stamp) → fast_version d.counted ≡ z → IsSaid setting (after (answered_fast setting.code group.m d z))
-      looks_on looks None fast = said_waits (stalled d) (stalled_says looks)
+      looks_on looks None fast =
+          said_sent setting w stamps me c group known books said is more_known c.stamp c.round Recovers own_of own_from
+          (subst (λ (p : Phase). FitsPhase p c.ask.op) looks says.fits) (λ bad. cc) tt
       looks_on looks (Some v) fast = said_answers looks v fast
 
-      again : c.phase ≡ Orders → (r : Refuser) (z : Option Stamp) → fresh ≡ z → IsSaid setting (after (ordered_again z d r))
-      again orders r None none = said_aborts r
-      again orders r (Some t) new =
+      -- an order that was refused is tried again, or aborts
+      again : (phase : Phase) → c.phase ≡ phase → FitsPhase phase c.ask.op → AsksPromises setting w c.ask.group.0 c.ask.stripe.0 c.stamp phase
+          → ((t : Stamp) → AsksPromises setting w c.ask.group.0 c.ask.stripe.0 t phase) → (r : Refuser) (z : Option Stamp) → fresh ≡ z
+          → IsSaid setting (after (ordered_again z d r))
+      again phase same fits here asks r None none = said_aborts r
+      again phase same fits here asks r (Some t) new =
           let own = fresh_is t new in
-          cond_both (nat_lt c.round most_rounds) (Reorders (reordering d t)) (aborted_by r) (λ (z : Next). IsSaid setting (after z))
-          (λ few. said_reordered setting w stamps me c group books said is orders t own.0 own.1)
+          cond_both (nat_lt c.round most_rounds) (Sends (reordering d t)) (aborted_by r) (λ (z : Next). IsSaid setting (after z))
+          (λ few.
+          said_sent setting w stamps me c group known books said is more_known t (c.round + 1) c.phase
+          (record { view = own.0.view; boot = own.0.boot; brick = own.0.brick; positive = own.0.positive; bounded = omega arith })
+          (inr (later_unknown w stamps said.stamps_say t.time me.0 t own.0 own.1))
+          says.fits says.unbased (subst (λ (p : Phase). AsksPromises setting w c.ask.group.0 c.ask.stripe.0 t p) (sym same) (asks t)))
           (λ all. said_aborts r)
 
-      orders_on : c.phase ≡ Orders → (z : Option Refuser) → greatest_refuser d.counted ≡ z → IsSaid setting (after (once_ordered fresh d z))
+      orders_on : c.phase ≡ Orders → (z : Option Refuser) → greatest_refuser d.counted ≡ z
+          → IsSaid setting (after (once_ordered fresh d z (Makes (in_phase d Stores))))
       orders_on orders None none =
-          let guarded : IsGuarded w o.ask.group.0 o.ask.stripe.0 group c.stamp
-          = ordered_guards setting sound w stamps me c group books said is group_is d.counted each once many orders none in
-          let floors : FloorsAtMost o group c.stamp
-          = ordered_floors setting sound w stamps me c group books said is group_is d.counted each once many orders none in
-          said_made setting sound w stamps me c group known books said is group_is more_known orders guarded floors
-      orders_on orders (Some r) refused = again orders r fresh refl
+          let all = all_ordered setting sound w stamps me c group books said is group_is d.counted each once many orders none in
+          let unmade : IsUnmade o = subst (λ (p : Phase). MadeInPhase c o p) orders its.made in
+          let writes : (bytes : List ℕ) × (c.ask.op ≡ WriteStripe bytes) = subst (λ (p : Phase). FitsPhase p c.ask.op) orders says.fits in
+          said_made setting sound w stamps me c group known books said is group_is more_known c.base c.content (unmade.0, unmade.1)
+          (of_ask (λ a. IsGuarded w a.group.0 a.stripe.0 group c.stamp)
+          (promises_guard setting sound w stamps me c group books said is group_is d.counted each once many all))
+          (promises_floors setting sound w stamps me c group books said is group_is d.counted each once many all)
+          (inl (says.unbased orders, writes))
+      orders_on orders (Some r) refused =
+          again Orders orders (subst (λ (p : Phase). FitsPhase p c.ask.op) orders says.fits) tt (λ t. tt) r fresh refl
+
+      -- a recovery that no reply refused reads back what it found
+      module _ (bound : Stamp) (looks : LooksBelow c bound) (none : greatest_refuser d.counted ≡ None) (reads : c.ask.op ≡ ReadStripe)
+          (unmade : IsUnmade o) where
+        all : EachCounted (ReadsAt setting sound w stamps me c group books said is group_is d.counted each once many bound) d.counted
+        all = all_read setting sound w stamps me c group books said is group_is d.counted each once many bound looks none
+
+        promised : EachCounted (PromisesAt setting sound w stamps me c group books said is group_is d.counted each once many) d.counted
+        promised =
+            each_then (ReadsAt setting sound w stamps me c group books said is group_is d.counted each once many bound)
+            (PromisesAt setting sound w stamps me c group books said is group_is d.counted each once many) d.counted (λ x h. h.promises) all
+
+        module _ (v : Stamp) (greatest : greatest_found d.counted ≡ Some v) where
+          lower : stamp_below v c.stamp ≡ true
+          lower = version_lower setting sound w stamps me c group books said is group_is d.counted each once many bound looks all v greatest
+
+          blocked : AreBlocked setting w o.ask.group.0 o.ask.stripe.0 (λ e. (stamp_below v e ≡ true) × (stamp_below e c.stamp ≡ true))
+          blocked other other_is e h =
+              let same : group ≡ other = same_Some group other (sym its_group ∙ other_is) in
+              subst (λ (z : Group). IsBlocked w o.ask.group.0 o.ask.stripe.0 z e) same
+              (between_blocked setting sound w stamps me c group books said is group_is d.counted each once many bound looks all v greatest e h.0 h.1)
+
+          -- with too few blocks nothing from v up to the stamp is held by a quorum
+          covered : length (pieces_at v d.counted) < group.m → AreBlocked setting w o.ask.group.0 o.ask.stripe.0 (IsCovered v c.stamp)
+          covered few other other_is e h = ⊎_elim
+              (λ (above : stamp_below v e ≡ true). blocked other other_is e (above, h.1))
+              (λ (not_above : stamp_below v e ≡ false).
+              let same : v ≡ e = stamp_neither_below v e not_above h.0 in
+              let group_same : group ≡ other = same_Some group other (sym its_group ∙ other_is) in
+              subst (λ (z : Group). IsBlocked w o.ask.group.0 o.ask.stripe.0 z e) group_same
+              (subst (λ (t : Stamp). IsBlocked w o.ask.group.0 o.ask.stripe.0 group t) same
+              (too_few_blocked setting sound w stamps me c group books said is group_is d.counted each once many bound looks all v greatest few)))
+              (cases_Bool (stamp_below v e))
+
+          descends_on : length (pieces_at v d.counted) < group.m → IsSaid setting (after (Sends (in_phase d (Descends v))))
+          descends_on few =
+              said_sent setting w stamps me c group known books said is more_known c.stamp c.round (Descends v) own_of own_from
+              reads (λ bad. absurd (let never : ⊥ = cc in never)) (
+                version_above setting sound w stamps me c group books said is group_is d.counted each once many bound looks all v greatest few,
+                lower,
+                of_ask (λ a. AreBlocked setting w a.group.0 a.stripe.0 (IsCovered v c.stamp)) (covered few),
+              )
+
+          restores_on : group.m ≤ length (pieces_at v d.counted)
+              → IsSaid setting (after (Makes (restoring d v (setting.code.decode group.m (pieces_at v d.counted)))))
+          restores_on enough =
+              let content : setting.code.decode group.m (pieces_at v d.counted) ≡ w.contents o.ask.group.0 o.ask.stripe.0 v
+              = read_decodes setting sound w stamps me c group books said is group_is d.counted each once many bound looks all v greatest enough in
+              let made : IsMadeOrFirst w o.ask.group.0 o.ask.stripe.0 v
+              = version_made setting sound w stamps me c group books said is group_is d.counted each once many bound looks all v greatest in
+              said_made setting sound w stamps me c group known books said is group_is more_known (Some v)
+              (setting.code.decode group.m (pieces_at v d.counted)) (unmade.0, unmade.1)
+              (of_ask (λ a. IsGuarded w a.group.0 a.stripe.0 group c.stamp)
+              (promises_guard setting sound w stamps me c group books said is group_is d.counted each once many promised))
+              (promises_floors setting sound w stamps me c group books said is group_is d.counted each once many promised)
+              (inr (record {
+                version = v;
+                base_is = refl;
+                op = reads;
+                below = lower;
+                made = of_ask (λ a. IsMadeOrFirst w a.group.0 a.stripe.0 v) made;
+                content_is = of_ask (λ a. setting.code.decode group.m (pieces_at v d.counted) ≡ w.contents a.group.0 a.stripe.0 v) content;
+                formed = subst (λ (l : List ℕ). IsContent group.m setting.layout.block l) (sym content)
+                    (content_formed setting sound w stamps me c group books said is group_is d.counted each once many v made);
+                blocked = of_ask (λ a. AreBlocked setting w a.group.0 a.stripe.0 (λ e. (stamp_below v e ≡ true) × (stamp_below e c.stamp ≡ true))) blocked;
+              }))
+
+        reads_on : (z : Option Stamp) → greatest_found d.counted ≡ z → IsSaid setting (after (read_back setting.code group.m d z))
+        reads_on None nothing = absurd (something_found setting sound w stamps me c group books said is group_is d.counted each once many bound looks all nothing)
+        reads_on (Some v) greatest =
+            cond_both (nat_lt (length (pieces_at v d.counted)) group.m) (Sends (in_phase d (Descends v)))
+            (Makes (restoring d v (setting.code.decode group.m (pieces_at v d.counted)))) (λ (z : Next). IsSaid setting (after z))
+            (λ few. descends_on v greatest (ltb-true (length (pieces_at v d.counted)) group.m few))
+            (λ enough. restores_on v greatest (ltb-false (length (pieces_at v d.counted)) group.m enough))
+
+      recovers_on : c.phase ≡ Recovers → (z : Option Refuser) → greatest_refuser d.counted ≡ z
+          → IsSaid setting (after (once_ordered fresh d z (read_back setting.code group.m d (greatest_found d.counted))))
+      recovers_on recovers None none =
+          reads_on c.stamp (inl (recovers, refl)) none (subst (λ (p : Phase). FitsPhase p c.ask.op) recovers says.fits)
+          (subst (λ (p : Phase). MadeInPhase c o p) recovers its.made) (greatest_found d.counted) refl
+      recovers_on recovers (Some r) refused =
+          again Recovers recovers (subst (λ (p : Phase). FitsPhase p c.ask.op) recovers says.fits) tt (λ t. tt) r fresh refl
+
+      lowers_on : (bound : Stamp) → c.phase ≡ Descends bound → (z : Option Refuser) → greatest_refuser d.counted ≡ z
+          → IsSaid setting (after (unless_refused z (read_back setting.code group.m d (greatest_found d.counted))))
+      lowers_on bound descends None none =
+          reads_on bound (inr descends) none (subst (λ (p : Phase). FitsPhase p c.ask.op) descends says.fits)
+          (subst (λ (p : Phase). MadeInPhase c o p) descends its.made) (greatest_found d.counted) refl
+      lowers_on bound descends (Some r) refused = said_aborts r
+
+      -- what an operation that stored its version is answered is the version's content
+      stored_shows : (op : Op) (v : Stamp) → o.version ≡ Some v → stored_by op c.content ≡ w.contents o.ask.group.0 o.ask.stripe.0 v
+          → WillShow w o None (answer_of op c.content)
+      stored_shows (ReadBlock j) v has content = (v, has, content)
+      stored_shows (WriteBlock j bytes) v has content = tt
+      stored_shows ReadStripe v has content = (v, has, content)
+      stored_shows (WriteStripe bytes) v has content = tt
 
       stores_on : c.phase ≡ Stores → (z : Option Refuser) → greatest_refuser d.counted ≡ z
-          → IsSaid setting (after (unless_refused z (Ends Done None (Some c.stamp))))
+          → IsSaid setting (after (unless_refused z (Ends (answer_of c.ask.op c.content) None (Some c.stamp))))
       stores_on stores None none =
-          let made : (o.version ≡ Some c.stamp) × (o.made ≡ true) = subst (λ (p : Phase). MadeInPhase c o p) stores its.made in (
+          let made = subst (λ (p : Phase). MadeInPhase c o p) stores its.made in
+          let stands : AtQuorum group (λ seat. is_held c.stamp (part_of w o.ask.group.0 o.ask.stripe.0 (brick_at group seat)).log)
+          = stored_stands setting sound w stamps me c group books said is group_is d.counted each once many stores none in (
             stamps,
-            said_ended setting w stamps me c group known books said is more_known Done None (Some c.stamp)
+            said_ended setting w stamps me c group known books said is more_known (answer_of c.ask.op c.content) None (Some c.stamp)
                 (λ v has. has)
                 (λ v has. (said.operations (w.numbers me.0 c.call.seq) o its.operation_is).version v has)
+                (λ v has how other other_is.
+                let same : c.stamp ≡ v = same_Some c.stamp v (sym made.0 ∙ has) in
+                let group_same : group ≡ other = same_Some group other (sym its_group ∙ other_is) in
+                subst (λ (z : Group). AtQuorum z (λ seat. is_held v (part_of w o.ask.group.0 o.ask.stripe.0 (brick_at z seat)).log)) group_same
+                (subst (λ (t : Stamp). AtQuorum group (λ seat. is_held t (part_of w o.ask.group.0 o.ask.stripe.0 (brick_at group seat)).log)) same stands))
                 (λ answered bytes op. made.1)
-                tt,
+                (stored_shows c.ask.op c.stamp made.0
+                ((says.stores stores).1 ∙ ap (λ (a : Ask). w.contents a.group.0 a.stripe.0 c.stamp) its.ask)),
           )
       stores_on stores (Some r) refused = said_aborts r
 
       -- what a quorum of replies decides keeps the invariant
       decides : IsSaid setting (after (decided setting.code group.m fresh d))
-      decides =
-          ⊎_elim (λ (looks : c.phase ≡ Looks).
-          subst (λ (z : Next). IsSaid setting (after z)) (sym (decided_looks setting.code group.m fresh d looks)) (looks_on looks (fast_version d.counted) refl))
-          (λ (writes : (c.phase ≡ Orders) ⊎ ((c.phase ≡ Stores) ⊎ (c.phase ≡ Stalls))). ⊎_elim
-          (λ (orders : c.phase ≡ Orders).
-          subst (λ (z : Next). IsSaid setting (after z)) (sym (decided_orders setting.code group.m fresh d orders)) (orders_on orders (greatest_refuser d.counted) refl))
-          (λ (others : (c.phase ≡ Stores) ⊎ (c.phase ≡ Stalls)). ⊎_elim
-          (λ (stores : c.phase ≡ Stores).
-          subst (λ (z : Next). IsSaid setting (after z)) (sym (decided_stores setting.code group.m fresh d stores)) (stores_on stores (greatest_refuser d.counted) refl))
-          (λ (stalls : c.phase ≡ Stalls).
-          subst (λ (z : Next). IsSaid setting (after z)) (sym (decided_stalls setting.code group.m fresh d stalls)) (said_waits d more_says))
-          others)
-          writes)
-          (phase_cases c.phase)
+      decides = by_phase c.phase refl
+        where
+          by_phase : (p : Phase) → c.phase ≡ p → IsSaid setting (after (decided setting.code group.m fresh d))
+          by_phase Looks at =
+              subst (λ (z : Next). IsSaid setting (after z)) (sym (decided_looks setting.code group.m fresh d at)) (looks_on at (fast_version d.counted) refl)
+          by_phase Orders at =
+              subst (λ (z : Next). IsSaid setting (after z)) (sym (decided_orders setting.code group.m fresh d at))
+              (orders_on at (greatest_refuser d.counted) refl)
+          by_phase Recovers at =
+              subst (λ (z : Next). IsSaid setting (after z)) (sym (decided_recovers setting.code group.m fresh d at))
+              (recovers_on at (greatest_refuser d.counted) refl)
+          by_phase (Descends bound) at =
+              subst (λ (z : Next). IsSaid setting (after z)) (sym (decided_descends setting.code group.m fresh bound d at))
+              (lowers_on bound at (greatest_refuser d.counted) refl)
+          by_phase Stores at =
+              subst (λ (z : Next). IsSaid setting (after z)) (sym (decided_stores setting.code group.m fresh d at))
+              (stores_on at (greatest_refuser d.counted) refl)
 
     -- a reply that counts keeps the invariant
     counts : IsSaid setting (after (once_full setting.code group fresh d))

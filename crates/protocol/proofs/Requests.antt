@@ -8,20 +8,26 @@ use Rattle.fab_base.proofs.StampOrder.{stamp_below_irrefl, stamp_not_below_trans
 use Rattle.fab_wire.specs.declared.calls.Call.{Call}
 use Rattle.fab_wire.specs.declared.messages.Message.TheVariants as Message
 use Rattle.fab_wire.specs.declared.messages.Packet.{Packet}
+use Rattle.fab_wire.specs.declared.requests.Look.{Look}
+use Rattle.fab_wire.specs.declared.requests.Look.TheVariants.{Below, At}
+use Rattle.fab_wire.specs.declared.requests.Want.{Want}
+use Rattle.fab_wire.specs.declared.requests.Want.TheVariants.{All}
 use Rattle.fab_wire.specs.declared.requests.Request.{Request}
 use Rattle.fab_wire.specs.declared.requests.Version.{Version}
 use Rattle.fab_wire.specs.declared.replies.Reply.{Reply}
 use Rattle.protocol.specs.Settings.{Setting}
-use Rattle.protocol.specs.Replicas.{Replica, newest_of, top_of, is_held, stamp_max}
+use Rattle.protocol.specs.Replicas.{Replica, newest_of, top_of, is_held, stamp_max, below}
+use Rattle.protocol.specs.Coordinators.{Orders, Recovers, Descends, Stores}
 use Rattle.protocol.specs.Nodes.{Node, put, with_replica, reply_packets}
 use Rattle.protocol.specs.Worlds.{World, Operation}
 use Rattle.protocol.specs.Laws.{WasSent, AskedAt, part_of}
 use Rattle.protocol.proofs.Books.{Books}
-use Rattle.protocol.proofs.Said.{Stamping, Said, IsKnown, IsCalled, VersionSays, WriteSays, RequestSays, OrderedSays, FoundSays, ReplySays, PacketSays}
+use Rattle.protocol.proofs.Said.{Stamping, Said, IsRecovery, IsKnown, IsCalled, VersionSays, WriteSays, RequestSays, OrderedSays, OrderedReadSays, FoundSays, ReplySays, PacketSays}
 use Rattle.protocol.proofs.Tables.{put_each, put_same, get_one}
-use Rattle.protocol.proofs.Reactions.{IsAfter, IsAsked, ReactionSays, SaysIf, after_top, after_held, after_asked, after_log, top_is, newest_stands}
+use Rattle.protocol.proofs.Logs.{LogAscends, IsWithin, newest_stands, newest_held, newest_below, newest_stands_below}
+use Rattle.protocol.proofs.Reactions.{IsAfter, IsAsked, ReactionSays, SaysIf, with_order, top_promised, after_top, after_held, after_newer, after_ascends, after_asked, after_log, top_is}
 use Rattle.protocol.proofs.Stampings.{stamps_same}
-use Rattle.protocol.proofs.Growth.{Grows, stays_version, stays_called, stays_found}
+use Rattle.protocol.proofs.Growth.{Grows, Continues, stays_version, stays_called, stays_found}
 use Rattle.protocol.proofs.Steps.{KeepsParts, quiet, quiet_grows, said_quiet, stamps_stay_by}
 
 -- what holds of the changed part, and of each part as it was
@@ -40,6 +46,11 @@ parts_keep node call request part after = record {
       (after_top (node.replicas call.group.0 call.stripe.0) request part after) (λ g s. stamp_below_irrefl (top_of (node.replicas g s)));
   held = λ g s t. parts_each (λ h r x. is_held t (node.replicas h r).log ≡ true → is_held t x.log ≡ true) node call part
       (λ held. after_held (node.replicas call.group.0 call.stripe.0) request part t after held) (λ h r held. held) g s;
+  newer = λ g s t.
+      parts_each (λ h r x. is_held t x.log ≡ true → (is_held t (node.replicas h r).log ≡ true) ⊎ (stamp_below t (top_of (node.replicas h r)) ≡ false))
+      node call part (λ held. after_newer (node.replicas call.group.0 call.stripe.0) request part t after held) (λ h r held. inl held) g s;
+  ascends = parts_each (λ g s x. LogAscends (node.replicas g s).log → LogAscends x.log) node call part
+      (after_ascends (node.replicas call.group.0 call.stripe.0) request part after) (λ g s ascends. ascends);
 }
 
 -- the changed part
@@ -57,15 +68,34 @@ module _ (setting : Setting) (w : World) (stamps : Stamping) (me from : BrickId)
   asks : RequestSays setting w stamps from.0 me.0 call request
   asks = said.packets sent.0 (record { from = from; to = me; message = Message.Request call request }) sent.1
 
+  -- what is asked below a bound
+  read_asks : (t : Stamp) (look : Look) (want : Want) → RequestSays setting w stamps from.0 me.0 call (Request.OrderRead t look want)
+      → (bound : Stamp) × (look ≡ Below bound) × (want ≡ All) × IsRecovery stamps from.0 call.seq call.phase bound t
+      × ((o : Operation) × IsCalled w from.0 call o)
+  read_asks t (Below bound) want says = (bound, refl, says.0, says.1, says.2)
+  read_asks t (At u) want says = absurd says
+
+  -- the request, where it is known which
+  asks_as : (r : Request) → request ≡ r → RequestSays setting w stamps from.0 me.0 call r
+  asks_as r is = subst (λ (z : Request). RequestSays setting w stamps from.0 me.0 call z) is asks
+
+  sent_as : (r : Request) → request ≡ r → WasSent w (record { from = from; to = me; message = Message.Request call r })
+  sent_as r is = subst (λ (z : Request). WasSent w (record { from = from; to = me; message = Message.Request call z })) is sent
+
   -- a stamp that is asked for is known
+  recovery_known : (bound t : Stamp) → IsRecovery stamps from.0 call.seq call.phase bound t → IsKnown stamps t
+  recovery_known bound t (inl own) = inr (from.0, call.seq, call.phase, (Recovers, own.1))
+  recovery_known bound t (inr lower) = inr (from.0, call.seq, call.phase, (Descends bound, lower.1))
+
   asked_known : (t : Stamp) → IsAsked request t → IsKnown stamps t
-  asked_known t (inl is) =
-      let says : RequestSays setting w stamps from.0 me.0 call (Request.Order t) = subst (λ (r : Request). RequestSays setting w stamps from.0 me.0 call r) is asks in
-      inr (from.0, call.seq, call.phase, says.0)
+  asked_known t (inl (inl is)) =
+      let says : RequestSays setting w stamps from.0 me.0 call (Request.Order t) = asks_as (Request.Order t) is in
+      inr (from.0, call.seq, call.phase, (Orders, says.0))
+  asked_known t (inl (inr is)) =
+      let asked = read_asks t is.0 is.1 (asks_as (Request.OrderRead t is.0 is.1) is.2) in recovery_known asked.0 t asked.3
   asked_known t (inr is) =
-      let says : WriteSays setting w stamps from.0 me.0 call t is.0
-      = subst (λ (r : Request). RequestSays setting w stamps from.0 me.0 call r) is.1 asks in
-      inr (from.0, call.seq, call.phase, says.stamp)
+      let says : WriteSays setting w stamps from.0 me.0 call t is.0 = asks_as (Request.Write t is.0) is.1 in
+      inr (from.0, call.seq, call.phase, (Stores, says.begun))
 
   module _ (part : Replica) (reply : Option Reply) (after : IsAfter before request part) (tells : SaysIf before request part reply) where
     -- the world after it
@@ -139,14 +169,22 @@ module _ (setting : Setting) (w : World) (stamps : Stamping) (me from : BrickId)
           called = says.1.1;
           top = subst (λ (t : Stamp). stamp_below (top_of before) t ≡ false) top (stamp_below_irrefl (top_of before));
           floor = subst (λ (t : Stamp). stamp_below t (says.1.0.floor me.0) ≡ false) top (floor_below says.1.0 says.1.1);
+          held = newest_held before.log version newest;
           says = said.logs call.group.0 call.stripe.0 me.0 stands.0 version stands.1;
         }
+
+    -- a promise is at or above the operation's floor at this member
+    promise_above : (t : Stamp) (o : Operation) → IsCalled w from.0 call o → (p : Operation) → Continues o p → stamp_below t (top_of before) ≡ false
+        → stamp_below t (p.floor me.0) ≡ false
+    promise_above t o called p on above =
+        subst (λ (f : ℕ → Stamp). stamp_below t (f me.0) ≡ false) (sym on.floor)
+        (stamp_not_below_trans (o.floor me.0) (top_of before) t (floor_below o called) above)
 
     ordered_says : ReactionSays before request part Reply.Ordered → OrderedSays next stamps me.0 from.0 call
     ordered_says told =
         let says : RequestSays setting w stamps from.0 me.0 call (Request.Order told.0)
         = subst (λ (r : Request). RequestSays setting w stamps from.0 me.0 call r) told.1 asks in
-        let goes = stays_called setting w next stamps stamps books grows from.0 call says.2.0 says.2.1 in
+        let goes = stays_called setting w next stamps stamps books grows from.0 call says.1.0 says.1.1 in
         let top : top_of (part_of next call.group.0 call.stripe.0 me.0) ≡ told.0 = ap (λ (r : Replica). top_of r) now ∙ told.3 in
         record {
           operation = goes.0;
@@ -154,25 +192,60 @@ module _ (setting : Setting) (w : World) (stamps : Stamping) (me from : BrickId)
           stamp = told.0;
           stamp_is = says.0;
           promised = subst (λ (t : Stamp). stamp_below t told.0 ≡ false) (sym top) (stamp_below_irrefl told.0);
-          floor = subst (λ (f : ℕ → Stamp). stamp_below told.0 (f me.0) ≡ false) (sym goes.2.floor)
-              (stamp_not_below_trans (says.2.0.floor me.0) (top_of before) told.0 (floor_below says.2.0 says.2.1) told.2);
+          floor = promise_above told.0 says.1.0 says.1.1 goes.0 goes.2 told.2;
+        }
+
+    -- what was found when a recovery's stamp was promised
+    read_says : (found : Option Version) → ReactionSays before request part (Reply.OrderedRead found)
+        → OrderedReadSays setting next stamps me.0 from.0 call found
+    read_says found told =
+        let asked = read_asks told.0 told.1.0 told.1.1 (asks_as (Request.OrderRead told.0 told.1.0 told.1.1) told.1.2) in
+        let goes = stays_called setting w next stamps stamps books grows from.0 call asked.4.0 asked.4.1 in
+        let found_is : found ≡ newest_of (below asked.0 before.log) = told.1.5 asked.0 asked.1 asked.2 in
+        let promise : part_of next call.group.0 call.stripe.0 me.0 ≡ with_order before told.0 = now ∙ told.1.4 in
+        let top : top_of (part_of next call.group.0 call.stripe.0 me.0) ≡ told.0
+        = ap (λ (r : Replica). top_of r) promise ∙ top_promised before told.0 told.1.3 in
+        record {
+          operation = goes.0;
+          called = goes.1;
+          stamp = told.0;
+          bound = asked.0;
+          recovers = asked.3;
+          promised = subst (λ (t : Stamp). stamp_below t told.0 ≡ false) (sym top) (stamp_below_irrefl told.0);
+          floor = promise_above told.0 asked.4.0 asked.4.1 goes.0 goes.2 told.1.3;
+          newest = λ d held less.
+              subst (λ (z : Option Version). IsWithin z d) (sym found_is)
+              (newest_below asked.0 d before.log (said.ascends call.group.0 call.stripe.0 me.0)
+              (subst (λ (r : Replica). is_held d r.log ≡ true) promise held) less);
+          says = λ version is.
+              let at = newest_stands_below asked.0 before.log version (sym found_is ∙ is) in
+              stays_version setting w next stamps stamps books grows call.group.0 call.stripe.0 me.0 version
+              (said.logs call.group.0 call.stripe.0 me.0 at.0 version at.1);
         }
 
     later_asked : (t : Stamp) → IsAsked request t → AskedAt next call from me t
-    later_asked t (inl is) =
-        inl (grows.sent (record { from = from; to = me; message = Message.Request call (Request.Order t) })
-        (subst (λ (r : Request). WasSent w (record { from = from; to = me; message = Message.Request call r })) is sent))
+    later_asked t (inl (inl is)) =
+        inl (inl (grows.sent (record { from = from; to = me; message = Message.Request call (Request.Order t) }) (sent_as (Request.Order t) is)))
+    later_asked t (inl (inr is)) =
+        let asked = read_asks t is.0 is.1 (asks_as (Request.OrderRead t is.0 is.1) is.2) in
+        let whole : request ≡ Request.OrderRead t (Below asked.0) All
+        = is.2 ∙ ap (λ (look : Look). Request.OrderRead t look is.1) asked.1 ∙ ap (λ (want : Want). Request.OrderRead t (Below asked.0) want) asked.2 in
+        inr (inl (
+          asked.0,
+          grows.sent (record { from = from; to = me; message = Message.Request call (Request.OrderRead t (Below asked.0) All) })
+              (sent_as (Request.OrderRead t (Below asked.0) All) whole),
+        ))
     later_asked t (inr is) =
-        inr (
+        inr (inr (
           is.0,
-          grows.sent (record { from = from; to = me; message = Message.Request call (Request.Write t is.0) })
-              (subst (λ (r : Request). WasSent w (record { from = from; to = me; message = Message.Request call r })) is.1 sent),
-        )
+          grows.sent (record { from = from; to = me; message = Message.Request call (Request.Write t is.0) }) (sent_as (Request.Write t is.0) is.1),
+        ))
 
     reply_says : (r : Reply) → ReactionSays before request part r → ReplySays setting next stamps me from call r
     reply_says (Reply.Found order (Some version)) told =
         stays_found setting w next stamps stamps books grows me.0 from.0 call order version (found_says order version told)
     reply_says Reply.Ordered told = ordered_says told
+    reply_says (Reply.OrderedRead found) told = read_says found told
     reply_says Reply.Stored told = (
       told.0,
       told.1,

@@ -1,6 +1,6 @@
 -- What the messages, the logs, the operations and the marks of a world say: the invariant behind the laws. The stamp of each phase of each
 -- brick's calls is remembered beside the world.
-use Rattle.std.proofs.Common.{◌≡◌, ℕ, ◌<◌, ◌≤◌, ◌⊎◌, true, false, not, List, [], ◌∷◌, length, Option, Some, None}
+use Rattle.std.proofs.Common.{◌≡◌, ℕ, ◌*◌, ◌<◌, ◌≤◌, ◌⊎◌, true, false, not, List, [], ◌∷◌, length, Option, Some, None}
 use Rattle.std.specs.Prelude.{slice_get}
 use Rattle.fab_base.specs.declared.identities.BrickId.{BrickId}
 use Rattle.fab_base.specs.declared.stamps.Stamp.{Stamp}
@@ -14,33 +14,54 @@ use Rattle.fab_wire.specs.declared.messages.Message.{Message}
 use Rattle.fab_wire.specs.declared.messages.Packet.{Packet}
 use Rattle.fab_wire.specs.declared.requests.Request.{Request}
 use Rattle.fab_wire.specs.declared.requests.Version.{Version}
+use Rattle.fab_wire.specs.declared.requests.Look.TheVariants as Look
 use Rattle.fab_wire.specs.declared.requests.Want.TheVariants as Want
 use Rattle.fab_wire.specs.declared.replies.Reply.{Reply}
 use Rattle.reg_model.specs.declared.marks.Mark.TheVariants.{End}
 use Rattle.reg_model.specs.Marks.{life_of}
 use Rattle.reg_model.specs.Walk.{last_of}
-use Rattle.protocol.specs.Settings.{Setting, Group, group_of, seat_in}
+use Rattle.protocol.specs.Settings.{Setting, Group, group_of, seat_in, are_bytes}
 use Rattle.protocol.specs.Replicas.{top_of, is_held, stamp_max}
-use Rattle.protocol.specs.Coordinators.{Phase, Looks, Orders, Stores, Stalls, Counted, Coordinator, answers_phase, has_seat}
+use Rattle.protocol.specs.Coordinators.{Phase, Looks, Orders, Recovers, Descends, Stores, Counted, Coordinator, answers_phase, has_seat, stored_content}
 use Rattle.protocol.specs.Worlds.{World, Operation, zero_content}
-use Rattle.protocol.specs.Laws.{WasSent, WriteSent, AskedAt, part_of, brick_at, AtQuorum, IsGuarded}
+use Rattle.protocol.specs.Laws.{WasSent, WriteSent, AskedAt, part_of, brick_at, AtQuorum, IsGuarded, IsBlocked}
 use Rattle.protocol.proofs.Books.{IsOperation, IsCall}
+use Rattle.protocol.proofs.Logs.{LogAscends, IsWithin}
 
--- the stamp of each phase that was begun, by brick, call number and phase: a store phase has that of its round of ordering
+-- a phase that was begun: its stamp, and what it does
+pub record Begun : Type 0 where
+  pub stamp : Stamp
+  pub phase : Phase
+
+-- each phase that was begun, by brick, call number and phase number
 abbrev pub Stamping : Type 0
-Stamping = ℕ → ℕ → ℕ → Option Stamp
+Stamping = ℕ → ℕ → ℕ → Option Begun
+
+-- phase p of brick i's call k does this, with stamp t
+abbrev pub IsBegun : Stamping → ℕ → ℕ → ℕ → Phase → Stamp → Type 0
+IsBegun stamps i k p phase t = stamps i k p ≡ Some (record { stamp = t; phase = phase })
 
 -- t is the stamp of phase p of brick i's call k
 abbrev pub IsStamped : Stamping → ℕ → ℕ → ℕ → Stamp → Type 0
-IsStamped stamps i k p t = stamps i k p ≡ Some t
+IsStamped stamps i k p t = (phase : Phase) × IsBegun stamps i k p phase t
 
--- no phase of the call before p has stamp t
-abbrev pub IsNewIn : Stamping → ℕ → ℕ → ℕ → Stamp → Type 0
-IsNewIn stamps i k p t = (q : ℕ) → q < p → IsStamped stamps i k q t → ⊥
+-- phase p of the call is a recovery's: it looks below its own stamp t, or below a bound which is below t
+abbrev pub IsRecovery : Stamping → ℕ → ℕ → ℕ → Stamp → Stamp → Type 0
+IsRecovery stamps i k p bound t =
+    ((bound ≡ t) × IsBegun stamps i k p Recovers t) ⊎ ((stamp_below bound t ≡ true) × IsBegun stamps i k p (Descends bound) t)
 
--- a phase of the call before p has stamp t
-abbrev pub WasOrdered : Stamping → ℕ → ℕ → ℕ → Stamp → Type 0
-WasOrdered stamps i k p t = (q : ℕ) × (q < p) × IsStamped stamps i k q t
+-- a quorum of the stripe's seats holds the version
+abbrev pub Stands : Setting → World → ℕ → ℕ → Stamp → Type 0
+Stands setting w g s v =
+    (group : Group) → group_of setting.layout g ≡ Some group → AtQuorum group (λ seat. is_held v (part_of w g s (brick_at group seat)).log)
+
+-- no quorum holds a stamp of these, or ever will
+abbrev pub AreBlocked : Setting → World → ℕ → ℕ → (Stamp → Type 0) → Type 0
+AreBlocked setting w g s Q = (group : Group) → group_of setting.layout g ≡ Some group → (d : Stamp) → Q d → IsBlocked w g s group d
+
+-- a stripe's content: the bytes of m blocks
+abbrev pub IsContent : ℕ → ℕ → List ℕ → Type 0
+IsContent m block content = (length content ≡ m * block) × (are_bytes content ≡ true)
 
 -- the version is the first one, or an operation of this stripe made it
 abbrev pub IsMadeOrFirst : World → ℕ → ℕ → Stamp → Type 0
@@ -97,8 +118,7 @@ pub record VersionSays (setting : Setting) (w : World) (g s i : ℕ) (version : 
 pub record WriteSays (setting : Setting) (w : World) (stamps : Stamping) (from to : ℕ) (call : Call) (t : Stamp) (block : List ℕ) : Type 0 where
   pub operation : Operation
   pub called : IsCalled w from call operation
-  pub stamp : IsStamped stamps from call.seq call.phase t
-  pub ordered : WasOrdered stamps from call.seq call.phase t
+  pub begun : IsBegun stamps from call.seq call.phase Stores t
   pub made : operation.made ≡ true
   pub version : operation.version ≡ Some t
   pub member : (group : Group) → group_of setting.layout call.group.0 ≡ Some group → (seat : ℕ) × (seat_in group.members to ≡ Some seat)
@@ -109,7 +129,10 @@ pub record WriteSays (setting : Setting) (w : World) (stamps : Stamping) (from t
 abbrev pub RequestSays : Setting → World → Stamping → ℕ → ℕ → Call → Request → Type 0
 RequestSays setting w stamps i j call (Request.Read want) = (want ≡ Want.All) × ((o : Operation) × IsCalled w i call o)
 RequestSays setting w stamps i j call (Request.Order t) =
-    IsStamped stamps i call.seq call.phase t × IsNewIn stamps i call.seq call.phase t × ((o : Operation) × IsCalled w i call o)
+    IsBegun stamps i call.seq call.phase Orders t × ((o : Operation) × IsCalled w i call o)
+RequestSays setting w stamps i j call (Request.OrderRead t (Look.Below bound) want) =
+    (want ≡ Want.All) × IsRecovery stamps i call.seq call.phase bound t × ((o : Operation) × IsCalled w i call o)
+RequestSays setting w stamps i j call (Request.OrderRead t (Look.At u) want) = ⊥
 RequestSays setting w stamps i j call (Request.Write t block) = WriteSays setting w stamps i j call t block
 RequestSays setting w stamps i j call request = Unit {0}
 
@@ -118,9 +141,21 @@ pub record OrderedSays (w : World) (stamps : Stamping) (j i : ℕ) (call : Call)
   pub operation : Operation
   pub called : IsCalled w i call operation
   pub stamp : Stamp
-  pub stamp_is : IsStamped stamps i call.seq call.phase stamp
+  pub stamp_is : IsBegun stamps i call.seq call.phase Orders stamp
   pub promised : stamp_below (top_of (part_of w call.group.0 call.stripe.0 j)) stamp ≡ false
   pub floor : stamp_below stamp (operation.floor j) ≡ false
+
+-- what brick j found below a bound, when it promised the stamp of a recovery: each version that it holds below the bound is at most that
+pub record OrderedReadSays (setting : Setting) (w : World) (stamps : Stamping) (j i : ℕ) (call : Call) (found : Option Version) : Type 0 where
+  pub operation : Operation
+  pub called : IsCalled w i call operation
+  pub stamp : Stamp
+  pub bound : Stamp
+  pub recovers : IsRecovery stamps i call.seq call.phase bound stamp
+  pub promised : stamp_below (top_of (part_of w call.group.0 call.stripe.0 j)) stamp ≡ false
+  pub floor : stamp_below stamp (operation.floor j) ≡ false
+  pub newest : (d : Stamp) → is_held d (part_of w call.group.0 call.stripe.0 j).log ≡ true → stamp_below d bound ≡ true → IsWithin found d
+  pub says : (version : Version) → found ≡ Some version → VersionSays setting w call.group.0 call.stripe.0 j version
 
 -- what brick j found
 pub record FoundSays (setting : Setting) (w : World) (j i : ℕ) (call : Call) (order : Stamp) (version : Version) : Type 0 where
@@ -128,12 +163,14 @@ pub record FoundSays (setting : Setting) (w : World) (j i : ℕ) (call : Call) (
   pub called : IsCalled w i call operation
   pub top : stamp_below (top_of (part_of w call.group.0 call.stripe.0 j)) (stamp_max order version.stamp) ≡ false
   pub floor : stamp_below (stamp_max order version.stamp) (operation.floor j) ≡ false
+  pub held : is_held version.stamp (part_of w call.group.0 call.stripe.0 j).log ≡ true
   pub says : VersionSays setting w call.group.0 call.stripe.0 j version
 
 -- what a reply of brick `from` to brick `to` says
 abbrev pub ReplySays : Setting → World → Stamping → BrickId → BrickId → Call → Reply → Type 0
 ReplySays setting w stamps from to call (Reply.Found order (Some version)) = FoundSays setting w from.0 to.0 call order version
 ReplySays setting w stamps from to call Reply.Ordered = OrderedSays w stamps from.0 to.0 call
+ReplySays setting w stamps from to call (Reply.OrderedRead found) = OrderedReadSays setting w stamps from.0 to.0 call found
 ReplySays setting w stamps from to call Reply.Stored =
     (t : Stamp) × (block : List ℕ) × WriteSent w call to from t block
     × (is_held t (part_of w call.group.0 call.stripe.0 from.0).log ≡ true)
@@ -155,6 +192,20 @@ pub record HasVersion (setting : Setting) (w : World) (o : Operation) (v : Stamp
   pub guarded : (group : Group) → group_of setting.layout o.ask.group.0 ≡ Some group → IsGuarded w o.ask.group.0 o.ask.stripe.0 group v
   pub floors : (group : Group) → group_of setting.layout o.ask.group.0 ≡ Some group → FloorsAtMost o group v
 
+-- the operation made version v by reading its base back
+pub record ReadsBack (setting : Setting) (w : World) (o : Operation) (v : Stamp) : Type 0 where
+  pub base : Stamp
+  pub base_is : o.base ≡ Some base
+  pub op : o.ask.op ≡ ReadStripe
+  pub below : stamp_below base v ≡ true
+  pub made : IsMadeOrFirst w o.ask.group.0 o.ask.stripe.0 base
+  pub content : w.contents o.ask.group.0 o.ask.stripe.0 v ≡ w.contents o.ask.group.0 o.ask.stripe.0 base
+  pub blocked : AreBlocked setting w o.ask.group.0 o.ask.stripe.0 (λ d. (stamp_below base d ≡ true) × (stamp_below d v ≡ true))
+
+-- the operation made version v by writing it whole
+abbrev pub WritesWhole : World → Operation → Stamp → Type 0
+WritesWhole w o v = (o.base ≡ None) × (o.ask.op ≡ WriteStripe (w.contents o.ask.group.0 o.ask.stripe.0 v))
+
 -- operation n
 pub record OperationSays (setting : Setting) (w : World) (stamps : Stamping) (n : ℕ) (o : Operation) : Type 0 where
   pub begin : o.begin ≤ length w.marks
@@ -162,7 +213,10 @@ pub record OperationSays (setting : Setting) (w : World) (stamps : Stamping) (n 
   pub floors_known : (i : ℕ) → IsKnown stamps (o.floor i)
   pub fresh : (i p : ℕ) → IsStamped stamps o.brick.0 o.seq p (o.floor i) → ⊥
   pub made : o.made ≡ true → (v : Stamp) × (p : ℕ) × (o.version ≡ Some v) × IsStamped stamps o.brick.0 o.seq p v
-  pub content : (v : Stamp) → o.made ≡ true → o.version ≡ Some v → o.ask.op ≡ WriteStripe (w.contents o.ask.group.0 o.ask.stripe.0 v)
+  pub maker : (v : Stamp) → o.made ≡ true → o.version ≡ Some v → WritesWhole w o v ⊎ ReadsBack setting w o v
+  pub content : (v : Stamp) → o.made ≡ true → o.version ≡ Some v → (group : Group) → group_of setting.layout o.ask.group.0 ≡ Some group
+      → IsContent group.m setting.layout.block (w.contents o.ask.group.0 o.ask.stripe.0 v)
+  pub stands : (v : Stamp) → o.version ≡ Some v → (o.made ≡ false) ⊎ (o.answered ≡ true) → Stands setting w o.ask.group.0 o.ask.stripe.0 v
   pub version : (v : Stamp) → o.version ≡ Some v → HasVersion setting w o v
   pub answered : o.answered ≡ true → (bytes : List ℕ) → o.ask.op ≡ WriteStripe bytes → o.made ≡ true
 
@@ -170,13 +224,14 @@ pub record OperationSays (setting : Setting) (w : World) (stamps : Stamping) (n 
 abbrev pub FitsPhase : Phase → Op → Type 0
 FitsPhase Looks op = op ≡ ReadStripe
 FitsPhase Orders op = (bytes : List ℕ) × (op ≡ WriteStripe bytes)
-FitsPhase Stores op = (bytes : List ℕ) × (op ≡ WriteStripe bytes)
-FitsPhase Stalls op = op ≡ ReadStripe
+FitsPhase Recovers op = op ≡ ReadStripe
+FitsPhase (Descends bound) op = op ≡ ReadStripe
+FitsPhase Stores op = Unit {0}
 
 -- a reply that counts at a coordinator of brick i
 pub record CountedSays (setting : Setting) (w : World) (i : ℕ) (c : Coordinator) (x : Counted) : Type 0 where
   pub sent : WasSent w (record { from = x.brick; to = record { 0 = i }; message = Message.Reply c.call x.reply })
-  pub answers : c.phase ≡ Orders → answers_phase setting.layout.block Orders x.reply ≡ true
+  pub answers : answers_phase setting.layout.block c.stamp c.phase x.reply ≡ true
   pub seat : (group : Group) → group_of setting.layout c.ask.group.0 ≡ Some group → seat_in group.members x.brick.0 ≡ Some x.seat
 
 -- each reply that counts
@@ -189,12 +244,19 @@ abbrev pub AreOnce : List Counted → Type 0
 AreOnce [] = Unit {0}
 AreOnce (x ∷ counted) = (has_seat x.seat counted ≡ false) × AreOnce counted
 
--- the open operation of brick i's call k: its present phase is the last that has a stamp, and a store phase has that of its round of ordering
+-- the open operation of brick i's call k. Its present phase is the last that was begun; where it looks below a bound, which is above the first
+-- stamp, no quorum will ever hold a version from there up to its stamp; and where it stores, it stores the content of its version.
 pub record CallSays (setting : Setting) (w : World) (stamps : Stamping) (i k : ℕ) (c : Coordinator) : Type 0 where
-  pub stamp : IsStamped stamps i k c.call.phase c.stamp
+  pub begun : IsBegun stamps i k c.call.phase c.phase c.stamp
   pub last : (p : ℕ) → c.call.phase < p → stamps i k p ≡ None
-  pub ordered : c.phase ≡ Stores → WasOrdered stamps i k c.call.phase c.stamp
   pub fits : FitsPhase c.phase c.ask.op
+  pub unbased : c.phase ≡ Orders → c.base ≡ None
+  pub above : (bound : Stamp) → c.phase ≡ Descends bound → stamp_below first_stamp bound ≡ true
+  pub below : (bound : Stamp) → c.phase ≡ Descends bound → stamp_below bound c.stamp ≡ true
+  pub covered : (bound : Stamp) → c.phase ≡ Descends bound
+      → AreBlocked setting w c.ask.group.0 c.ask.stripe.0 (λ d. (stamp_below d bound ≡ false) × (stamp_below d c.stamp ≡ true))
+  pub stores : c.phase ≡ Stores
+      → IsMadeOrFirst w c.ask.group.0 c.ask.stripe.0 c.stamp × (stored_content c ≡ w.contents c.ask.group.0 c.ask.stripe.0 c.stamp)
   pub counted : EachCounted (CountedSays setting w i c) c.counted
   pub once : AreOnce c.counted
 
@@ -204,7 +266,6 @@ pub record DataShown (w : World) (n : ℕ) (bytes : List ℕ) : Type 0 where
   pub is : IsOperation w n operation
   pub version : Stamp
   pub version_is : operation.version ≡ Some version
-  pub unmade : operation.made ≡ false
   pub bytes_are : bytes ≡ w.contents operation.ask.group.0 operation.ask.stripe.0 version
 
 -- the end of operation n by this answer
@@ -225,6 +286,8 @@ IsInOrder setting w =
 pub record Said (setting : Setting) (w : World) (stamps : Stamping) : Type 0 where
   pub stamps_say : StampsSay w stamps
   pub tops : (g s i : ℕ) → IsKnown stamps (top_of (part_of w g s i))
+  pub ascends : (g s i : ℕ) → LogAscends (part_of w g s i).log
+  pub first_held : (g s i : ℕ) → is_held first_stamp (part_of w g s i).log ≡ true
   pub logs : (g s i k : ℕ) (version : Version) → slice_get (part_of w g s i).log k ≡ Some version → VersionSays setting w g s i version
   pub packets : (k : ℕ) (packet : Packet) → slice_get w.packets k ≡ Some packet → PacketSays setting w stamps packet
   pub operations : (n : ℕ) (o : Operation) → IsOperation w n o → OperationSays setting w stamps n o

@@ -1,11 +1,11 @@
 -- What is said is so in every world that a run reaches.
-use Rattle.std.proofs.Common.{◌≡◌, ℕ, ◌<◌, ◌≤◌, zero, suc, inl, true, List, [], ◌∷◌, replicate, Option, Some, None, refl, sym, ap, ◌∙◌, subst, arith}
-use Rattle.std.proofs.lemmas.Bool.{cond_both, cond-false}
+use Rattle.std.proofs.Common.{◌≡◌, ℕ, ◌<◌, ◌≤◌, zero, suc, inl, true, false, List, [], ◌∷◌, replicate, Option, Some, None, refl, sym, ap, ◌∙◌, subst, arith}
+use Rattle.std.proofs.lemmas.Bool.{cond_both, cond-false, false≢true, or_left}
 use Rattle.fab_base.specs.declared.identities.BrickId.{BrickId}
 use Rattle.fab_base.specs.declared.stamps.Stamp.{Stamp}
 use Rattle.fab_base.specs.declared.asks.Ask.{Ask}
-use Rattle.fab_base.specs.Stamps.{stamp_below, first_stamp}
-use Rattle.fab_base.proofs.StampOrder.{stamp_below_irrefl}
+use Rattle.fab_base.specs.Stamps.{stamp_below, stamp_same, first_stamp}
+use Rattle.fab_base.proofs.StampOrder.{stamp_below_irrefl, stamp_same_refl}
 use Rattle.fab_wire.specs.declared.calls.Call.{Call}
 use Rattle.fab_wire.specs.declared.messages.Message.{Message}
 use Rattle.fab_wire.specs.declared.messages.Packet.{Packet}
@@ -160,6 +160,8 @@ said_first setting sound = (
   record {
     stamps_say = record { are = λ i k p t is. cc; begun = λ i k p t is. cc; apart = λ i k l p q t is its. cc };
     tops = λ g s i. inl (first_top setting.layout.block);
+    ascends = λ g s i. ((λ d held. absurd (false≢true held)), tt);
+    first_held = λ g s i. or_left (stamp_same first_stamp first_stamp) false (stamp_same_refl first_stamp);
     logs = λ g s i k version is.
         let same : record { stamp = first_stamp; block = replicate setting.layout.block 0 } ≡ version
         = get_one (record { stamp = first_stamp; block = replicate setting.layout.block 0 }) version k is in

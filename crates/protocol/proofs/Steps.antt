@@ -14,8 +14,10 @@ use Rattle.protocol.specs.Replicas.{Replica, top_of, is_held}
 use Rattle.protocol.specs.Coordinators.{Coordinator, Counted}
 use Rattle.protocol.specs.Nodes.{Node, Nothing, put}
 use Rattle.protocol.specs.Worlds.{World, Operation, world_stepped}
-use Rattle.protocol.specs.Laws.{WasSent, NeverFalls, part_of}
+use Rattle.protocol.specs.Laws.{WasSent, part_of}
 use Rattle.protocol.proofs.Books.{Books, IsOperation, IsCall}
+use Rattle.protocol.proofs.Logs.{LogAscends}
+use Rattle.protocol.proofs.Blocking.{PartsStay}
 use Rattle.protocol.proofs.Said.{Stamping, Said, StampsSay, IsKnown, VersionSays, PacketSays, OperationSays, CallSays, EndShows, IsInOrder}
 use Rattle.protocol.proofs.Tables.{put_each, get_kept, get_grown}
 use Rattle.protocol.proofs.Stampings.{StampsGrow, stamps_same, stays_known, stamps_stay}
@@ -41,6 +43,8 @@ pub said_after : (setting : Setting) (w next : World) (stamps later : Stamping) 
     → Grows w next stamps later → Owes setting w next stamps later → Said setting next later
 said_after setting w next stamps later books said grows owes = record {
   stamps_say = owes.stamps_say;
+  ascends = λ g s i. grows.parts.ascends g s i (said.ascends g s i);
+  first_held = λ g s i. grows.parts.held g s i first_stamp (said.first_held g s i);
   tops = λ g s i. ⊎_elim
       (λ (same : top_of (part_of next g s i) ≡ top_of (part_of w g s i)).
       subst (λ (t : Stamp). IsKnown later t) (sym same) (stays_known stamps later grows.grow (top_of (part_of w g s i)) (said.tops g s i)))
@@ -73,10 +77,13 @@ said_after setting w next stamps later books said grows owes = record {
   first = λ g s. grows.contents g s first_stamp (inl refl) ∙ said.first g s;
 }
 
--- one brick's parts of stripes do not fall, and hold what they held
+-- one brick's parts of stripes do not fall, hold what they held, take nothing new below their stamps, and go on ascending
 pub record KeepsParts (node next : Node) : Type 0 where
   pub tops : (g s : ℕ) → stamp_below (top_of (next.replicas g s)) (top_of (node.replicas g s)) ≡ false
   pub held : (g s : ℕ) (t : Stamp) → is_held t (node.replicas g s).log ≡ true → is_held t (next.replicas g s).log ≡ true
+  pub newer : (g s : ℕ) (t : Stamp) → is_held t (next.replicas g s).log ≡ true
+      → (is_held t (node.replicas g s).log ≡ true) ⊎ (stamp_below t (top_of (node.replicas g s)) ≡ false)
+  pub ascends : (g s : ℕ) → LogAscends (node.replicas g s).log → LogAscends (next.replicas g s).log
 
 -- a brick that keeps its parts as they are
 pub keeps_same : (node next : Node) → next.replicas ≡ node.replicas → KeepsParts node next
@@ -84,21 +91,42 @@ keeps_same node next same = record {
   tops = λ g s.
       subst (λ (r : ℕ → ℕ → Replica). stamp_below (top_of (r g s)) (top_of (node.replicas g s)) ≡ false) (sym same) (stamp_below_irrefl (top_of (node.replicas g s)));
   held = λ g s t held. subst (λ (r : ℕ → ℕ → Replica). is_held t (r g s).log ≡ true) (sym same) held;
+  newer = λ g s t held. inl (subst (λ (r : ℕ → ℕ → Replica). is_held t (r g s).log ≡ true) same held);
+  ascends = λ g s ascends. subst (λ (r : ℕ → ℕ → Replica). LogAscends (r g s).log) (sym same) ascends;
 }
 
--- no part falls where one brick keeps its own
-pub never_falls_by : (w next : World) (me : ℕ) (node : Node) → next.nodes ≡ put w.nodes me node → KeepsParts (w.nodes me) node → NeverFalls w next
-never_falls_by w next me node nodes keeps g s i =
-    subst (λ (f : ℕ → Node). stamp_below (top_of ((f i).replicas g s)) (top_of ((w.nodes i).replicas g s)) ≡ false) (sym nodes)
-    (put_each (λ j x. stamp_below (top_of (x.replicas g s)) (top_of ((w.nodes j).replicas g s)) ≡ false) w.nodes me node
-    (keeps.tops g s) (λ j other. stamp_below_irrefl (top_of ((w.nodes j).replicas g s))) i)
+-- parts stay where one brick keeps its own
+pub parts_by : (w next : World) (me : ℕ) (node : Node) → next.nodes ≡ put w.nodes me node → KeepsParts (w.nodes me) node → PartsStay w next
+parts_by w next me node nodes keeps = record {
+  tops = λ g s i.
+      subst (λ (f : ℕ → Node). stamp_below (top_of ((f i).replicas g s)) (top_of ((w.nodes i).replicas g s)) ≡ false) (sym nodes)
+      (put_each (λ j x. stamp_below (top_of (x.replicas g s)) (top_of ((w.nodes j).replicas g s)) ≡ false) w.nodes me node
+      (keeps.tops g s) (λ j other. stamp_below_irrefl (top_of ((w.nodes j).replicas g s))) i);
+  held = λ g s i t.
+      subst (λ (f : ℕ → Node). is_held t ((w.nodes i).replicas g s).log ≡ true → is_held t ((f i).replicas g s).log ≡ true) (sym nodes)
+      (put_each (λ j x. is_held t ((w.nodes j).replicas g s).log ≡ true → is_held t (x.replicas g s).log ≡ true) w.nodes me node
+      (keeps.held g s t) (λ j other held. held) i);
+  newer = λ g s i t.
+      subst (λ (f : ℕ → Node). is_held t ((f i).replicas g s).log ≡ true
+      → (is_held t ((w.nodes i).replicas g s).log ≡ true) ⊎ (stamp_below t (top_of ((w.nodes i).replicas g s)) ≡ false)) (sym nodes)
+      (put_each (λ j x. is_held t (x.replicas g s).log ≡ true
+      → (is_held t ((w.nodes j).replicas g s).log ≡ true) ⊎ (stamp_below t (top_of ((w.nodes j).replicas g s)) ≡ false)) w.nodes me node
+      (keeps.newer g s t) (λ j other held. inl held) i);
+  ascends = λ g s i.
+      subst (λ (f : ℕ → Node). LogAscends ((w.nodes i).replicas g s).log → LogAscends ((f i).replicas g s).log) (sym nodes)
+      (put_each (λ j x. LogAscends ((w.nodes j).replicas g s).log → LogAscends (x.replicas g s).log) w.nodes me node
+      (keeps.ascends g s) (λ j other ascends. ascends) i);
+}
 
-pub held_by : (w next : World) (me : ℕ) (node : Node) → next.nodes ≡ put w.nodes me node → KeepsParts (w.nodes me) node
-    → (g s i : ℕ) (t : Stamp) → is_held t (part_of w g s i).log ≡ true → is_held t (part_of next g s i).log ≡ true
-held_by w next me node nodes keeps g s i t =
-    subst (λ (f : ℕ → Node). is_held t ((w.nodes i).replicas g s).log ≡ true → is_held t ((f i).replicas g s).log ≡ true) (sym nodes)
-    (put_each (λ j x. is_held t ((w.nodes j).replicas g s).log ≡ true → is_held t (x.replicas g s).log ≡ true) w.nodes me node
-    (keeps.held g s t) (λ j other held. held) i)
+-- a world whose bricks are the same
+pub parts_same : (w next : World) → next.nodes ≡ w.nodes → PartsStay w next
+parts_same w next nodes =
+    subst (λ (f : ℕ → Node). PartsStay w (record next { nodes = f })) (sym nodes) (record {
+      tops = λ g s i. stamp_below_irrefl (top_of (part_of w g s i));
+      held = λ g s i t held. held;
+      newer = λ g s i t held. inl held;
+      ascends = λ g s i ascends. ascends;
+    })
 
 -- what was sent stays sent where packets are added
 pub sent_by : (w next : World) (more : List Packet) → next.packets ≡ w.packets ++ more → (packet : Packet) → WasSent w packet → WasSent next packet
@@ -124,8 +152,7 @@ quiet w me node more = world_stepped w me (record { node = node; packets = more;
 pub quiet_grows : (w : World) (stamps later : Stamping) (me : BrickId) (node : Node) (more : List Packet) → StampsGrow stamps later
     → KeepsParts (w.nodes me.0) node → Grows w (quiet w me node more) stamps later
 quiet_grows w stamps later me node more grow keeps = record {
-  tops = never_falls_by w (quiet w me node more) me.0 node refl keeps;
-  held = held_by w (quiet w me node more) me.0 node refl keeps;
+  parts = parts_by w (quiet w me node more) me.0 node refl keeps;
   sent = sent_by w (quiet w me node more) more refl;
   operations = λ n o is. (o, is, continues_same o);
   contents = λ g s t made. refl;
@@ -185,8 +212,7 @@ said_beside setting w stamps clocks replies books said =
     let next : World = record w { clocks = clocks; replies = replies } in
     said_after setting w next stamps stamps books said
     (record {
-      tops = λ g s i. stamp_below_irrefl (top_of (part_of w g s i));
-      held = λ g s i t held. held;
+      parts = parts_same w next refl;
       sent = λ packet sent. sent;
       operations = λ n o is. (o, is, continues_same o);
       contents = λ g s t made. refl;

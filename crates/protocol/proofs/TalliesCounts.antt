@@ -1,36 +1,37 @@
 -- A reply counts in an open operation: the history of replies in the world that follows.
-use Rattle.std.proofs.Common.{◌≡◌, ◌≢◌, ℕ, ◌+◌, ◌-◌, ◌<◌, ◌≤◌, ◌⊎◌, inl, inr, ⊎_elim, true, false, List, [], ◌∷◌, ◌++◌, length, Option, Some, None, is_some, refl, sym, ap, ◌∙◌, subst, arith}
-use Rattle.std.specs.Prelude.{slice_get}
+use Rattle.std.proofs.Common.{◌≡◌, ◌≢◌, ℕ, ◌+◌, ◌-◌, ◌<◌, ◌≤◌, ◌⊎◌, inl, inr, ⊎_elim, true, false, List, [], ◌∷◌, ◌++◌, length, Option, Some, None, is_some, refl, sym, ap, ◌∙◌, subst, append_assoc, arith}
+use Rattle.std.specs.Prelude.{slice_get, if◌then◌else◌, nat_lt, max}
 use Rattle.std.proofs.lemmas.Bool.{cond_both, cases_eq}
+use Rattle.std.proofs.lemmas.List.{append-nil}
 use Rattle.std.proofs.lemmas.Option.{same_Some}
 use Rattle.fab_base.specs.declared.identities.BrickId.{BrickId}
 use Rattle.fab_base.specs.declared.stamps.Stamp.{Stamp}
+use Rattle.fab_base.specs.Stamps.{stamp_below}
 use Rattle.fab_base.specs.declared.answers.Answer.{Answer}
 use Rattle.fab_base.specs.declared.answers.Answer.TheVariants.{Aborted}
 use Rattle.fab_base.specs.declared.answers.Cause.TheVariants as Cause
 use Rattle.fab_wire.specs.declared.calls.Call.{Call}
 use Rattle.fab_wire.specs.declared.messages.Message.TheVariants as Message
 use Rattle.fab_wire.specs.declared.messages.Packet.{Packet}
-use Rattle.fab_wire.specs.declared.requests.Request.TheVariants as Request
 use Rattle.fab_wire.specs.declared.replies.Reply.{Reply}
 use Rattle.reg_model.specs.declared.marks.Mark.TheVariants.{End}
 use Rattle.reg_model.specs.Marks.{Life, life_of, IsOpen}
 use Rattle.protocol.specs.Settings.{Setting, Group}
-use Rattle.protocol.specs.Coordinators.{Coordinator, Counted, Refuser, Orders, Stores, Next, Ignores, Waits, Reorders, Makes, Ends, greatest_refuser, with_reply}
+use Rattle.protocol.specs.Coordinators.{Phase, Looks, Orders, Recovers, Descends, Stores, Coordinator, Counted, Refuser, Next, Ignores, Waits, Sends, Makes, Ends, refuser_of, greater_refuser, greatest_refuser, with_reply}
 use Rattle.protocol.specs.Nodes.{Node, put, has_later_time, new_stamp, fresh_stamp, with_call, phase_packets, collect_packets, carried_out}
 use Rattle.protocol.specs.Worlds.{World, Operation, with_made, with_answer, with_counted, world_stepped}
-use Rattle.protocol.specs.Laws.{WasSent, AskedAt, IsLastRound}
-use Rattle.protocol.proofs.Books.{Replies, Books, OperationBooks, CallBooks, IsOperation, IsCall}
+use Rattle.protocol.specs.Laws.{WasSent, WriteSent, OrderSent, AskedAt, IsLastRound}
+use Rattle.protocol.proofs.Books.{Replies, Books, OperationBooks, CallBooks, IsOperation, IsCall, InRound}
 use Rattle.protocol.proofs.BooksKept.{calls_apart}
-use Rattle.protocol.proofs.BooksEvents.{fresh_is, brick_of}
-use Rattle.protocol.proofs.Outcomes.{NoRoundFits, AbortFits, AnswerFits, NextFits, waits_orders}
+use Rattle.protocol.proofs.BooksEvents.{brick_of}
+use Rattle.protocol.proofs.Outcomes.{IsRound, first_round, ReordersFits, RecoversFits, SendsFits, NoRoundFits, LastFits, AbortFits, AnswerFits, NextFits}
 use Rattle.protocol.proofs.Said.{EachCounted}
 use Rattle.protocol.proofs.Counting.{each_more, refuser_counted}
 use Rattle.protocol.proofs.Puts.{put_other}
 use Rattle.protocol.proofs.Tables.{put_each, put_same, get_grown, get_one}
 use Rattle.protocol.proofs.Steps.{sent_by, known_by}
-use Rattle.protocol.proofs.Tallies.{CallTallied, CountedSent, AbortShown, Tallied, MessagesShow, Furthers}
-use Rattle.protocol.proofs.TalliesKept.{call_tallied_on, counted_on, asked_on, tallied_on}
+use Rattle.protocol.proofs.Tallies.{IsTally, CallTallied, CountedSent, AbortShown, Tallied, MessagesShow, Furthers}
+use Rattle.protocol.proofs.TalliesKept.{call_tallied_on, counted_on, descent_on, write_on, asked_on, tallied_on}
 
 -- where there is no fresh stamp no later time is left
 none_left : (me : BrickId) (now boot known : ℕ) → fresh_stamp me now boot known ≡ None → has_later_time known ≡ false
@@ -40,6 +41,38 @@ none_left me now boot known is =
     (λ some e. absurd (let never : Some (new_stamp me now boot known) ≡ None = e in cc))
     (λ none e. none)
     is
+
+-- of two choices neither is one
+none_parts : (a b : Option Refuser) → greater_refuser a b ≡ None → (a ≡ None) × (b ≡ None)
+none_parts None b is = (refl, is)
+none_parts (Some a) None is = absurd (let never : Some a ≡ None = is in cc)
+none_parts (Some a) (Some b) is =
+    cond_both (stamp_below a.stamp b.stamp) (Some b)
+    (if stamp_below b.stamp a.stamp then Some a else (if nat_lt b.seat a.seat then Some b else Some a))
+    (λ (z : Option Refuser). z ≡ None → (Some a ≡ None) × (Some b ≡ None))
+    (λ under e. absurd (let never : Some b ≡ None = e in cc))
+    (λ over. cond_both (stamp_below b.stamp a.stamp) (Some a) (if nat_lt b.seat a.seat then Some b else Some a)
+    (λ (z : Option Refuser). z ≡ None → (Some a ≡ None) × (Some b ≡ None))
+    (λ under e. absurd (let never : Some a ≡ None = e in cc))
+    (λ same. cond_both (nat_lt b.seat a.seat) (Some b) (Some a) (λ (z : Option Refuser). z ≡ None → (Some a ≡ None) × (Some b ≡ None))
+    (λ low e. absurd (let never : Some b ≡ None = e in cc))
+    (λ high e. absurd (let never : Some a ≡ None = e in cc))))
+    is
+
+-- replies of which none told a later stamp do not change which one told the greatest
+refuser_after : (forgotten counted : List Counted) → greatest_refuser forgotten ≡ None → greatest_refuser (forgotten ++ counted) ≡ greatest_refuser counted
+refuser_after [] counted none = refl
+refuser_after (x ∷ forgotten) counted none =
+    let parts = none_parts (refuser_of x) (greatest_refuser forgotten) none in
+    ap (λ (r : Option Refuser). greater_refuser r (greatest_refuser (forgotten ++ counted))) parts.0 ∙ refuser_after forgotten counted parts.1
+
+-- a phase's number, by the rounds before it
+round_of : (c : Coordinator) (p : Phase) → IsRound p → InRound c p → (c.call.phase + 1 ≡ c.round + first_round p) × (1 ≤ first_round p)
+round_of c Looks is within = absurd is
+round_of c Orders is within = (ap (λ (x : ℕ). x + 1) within, omega arith)
+round_of c Recovers is within = (omega (arith, within), omega arith)
+round_of c (Descends bound) is within = absurd is
+round_of c Stores is within = absurd is
 
 -- brick me took a reply to the open operation at coordinator c, which counts at this seat
 module _ (setting : Setting) (group : Group) (w : World) (me : BrickId) (now known : ℕ) (c : Coordinator) (from : BrickId) (reply : Reply) (seat : ℕ)
@@ -94,12 +127,6 @@ module _ (setting : Setting) (group : Group) (w : World) (me : BrickId) (now kno
   own_replies p =
       ap (λ (f : ℕ → List Counted). f p) (put_same w.replies n (put (w.replies n) c.call.phase (w.replies n c.call.phase ++ (one ∷ []))))
 
-  -- in the present phase it is one more
-  replies_now : replies n c.call.phase ≡ c.counted ++ (one ∷ [])
-  replies_now =
-      own_replies c.call.phase ∙ put_same (w.replies n) c.call.phase (w.replies n c.call.phase ++ (one ∷ []))
-      ∙ ap (λ (l : List Counted). l ++ (one ∷ [])) its.now
-
   -- in another phase they stay
   replies_else : (p : ℕ) → p ≢ c.call.phase → replies n p ≡ w.replies n p
   replies_else p other = own_replies p ∙ put_other (w.replies n) c.call.phase (w.replies n c.call.phase ++ (one ∷ [])) p other
@@ -107,10 +134,65 @@ module _ (setting : Setting) (group : Group) (w : World) (me : BrickId) (now kno
   replies_later : (p : ℕ) → c.call.phase < p → replies n p ≡ []
   replies_later p above = replies_else p (λ same. omega arith) ∙ its.later p above
 
+  -- in the present phase it is one more
+  replies_now : IsTally (replies n c.call.phase) (c.counted ++ (one ∷ []))
+  replies_now = (
+    its.now.0,
+    own_replies c.call.phase ∙ put_same (w.replies n) c.call.phase (w.replies n c.call.phase ++ (one ∷ []))
+        ∙ ap (λ (l : List Counted). l ++ (one ∷ [])) its.now.1 ∙ append_assoc its.now.0 c.counted (one ∷ []),
+    its.now.2,
+  )
+
+  -- which of them told the greatest later stamp is as of those that the coordinator has
+  refuser_now : greatest_refuser (replies n c.call.phase) ≡ greatest_refuser (c.counted ++ (one ∷ []))
+  refuser_now =
+      ap (λ (l : List Counted). greatest_refuser l) replies_now.1 ∙ refuser_after replies_now.0 (c.counted ++ (one ∷ [])) replies_now.2
+
+  -- the replies once the coordinator waits on
+  tally_waits : (counted : List Counted) → (counted ≡ c.counted ++ (one ∷ [])) ⊎ ((counted ≡ []) × (greatest_refuser (c.counted ++ (one ∷ [])) ≡ None))
+      → IsTally (replies n c.call.phase) counted
+  tally_waits counted (inl same) = subst (λ (l : List Counted). IsTally (replies n c.call.phase) l) (sym same) replies_now
+  tally_waits counted (inr (none, unrefused)) = (
+    replies n c.call.phase,
+    sym (ap (λ (l : List Counted). replies n c.call.phase ++ l) none ∙ append-nil (replies n c.call.phase)),
+    refuser_now ∙ unrefused,
+  )
+
+  -- the replies once it is in another phase
+  tally_begins : (p : ℕ) (counted : List Counted) → counted ≡ [] → c.call.phase < p → IsTally (replies n p) counted
+  tally_begins p counted none above = ([], replies_later p above ∙ sym none, refl)
+
   -- a round of ordering before the present one had counted a later stamp
-  refused_before : c.phase ≡ Orders → (p : ℕ) → 1 ≤ p → p < c.call.phase → is_some (greatest_refuser (replies n p)) ≡ true
-  refused_before orders p low high =
-      ap (λ (l : List Counted). is_some (greatest_refuser l)) (replies_else p (λ same. omega arith)) ∙ its.refused orders p low high
+  refused_before : IsRound c.phase → (p : ℕ) → first_round c.phase ≤ p → p < c.call.phase → is_some (greatest_refuser (replies n p)) ≡ true
+  refused_before round p low high =
+      ap (λ (l : List Counted). is_some (greatest_refuser l)) (replies_else p (λ same. omega arith)) ∙ its.refused round p low high
+
+  -- a round that was refused is the last of those before the next
+  refused_again : IsRound c.phase → is_some (greatest_refuser (c.counted ++ (one ∷ []))) ≡ true
+      → (p : ℕ) → first_round c.phase ≤ p → p < c.call.phase + 1 → is_some (greatest_refuser (replies n p)) ≡ true
+  refused_again round refused p low high = ⊎_elim
+      (λ (last : p ≡ c.call.phase).
+      ap (λ (q : ℕ). is_some (greatest_refuser (replies n q))) last ∙ ap (λ (r : Option Refuser). is_some r) refuser_now ∙ refused)
+      (λ (before : p ≢ c.call.phase). refused_before round p low (omega arith))
+      (cases_eq p c.call.phase)
+
+  -- what is sent next was refused before, in each round of ordering
+  refused_sends : (d : Coordinator) → SendsFits fresh (with_reply c seat from reply) d → d.call.phase ≡ c.call.phase + 1
+      → IsRound d.phase → (p : ℕ) → first_round d.phase ≤ p → p < d.call.phase → is_some (greatest_refuser (replies n p)) ≡ true
+  refused_sends d fits phase round p low high = by fits.how
+    where
+      recovers : ((c.phase ≡ Looks) × (d.phase ≡ Recovers)) ⊎ ((bound : Stamp) × (d.phase ≡ Descends bound)) → is_some (greatest_refuser (replies n p)) ≡ true
+      recovers (inl (was, is)) =
+          let first : (c.call.phase ≡ 1) × (c.round ≡ 1) = subst (λ (x : Phase). InRound c x) was mine.in_round in
+          let two : first_round d.phase ≡ 2 = ap (λ (x : Phase). first_round x) is in
+          absurd (omega (arith, first.0))
+      recovers (inr (bound, is)) = absurd (subst (λ (x : Phase). IsRound x) is round)
+
+      by : ReordersFits fresh (with_reply c seat from reply) d ⊎ RecoversFits (with_reply c seat from reply) d → is_some (greatest_refuser (replies n p)) ≡ true
+      by (inl again) =
+          let same : first_round d.phase ≡ first_round c.phase = ap (λ (x : Phase). first_round x) again.phase in
+          refused_again again.was again.refused p (omega arith) (omega arith)
+      by (inr goes) = recovers goes.phase
 
   -- the reply was sent to the operation
   own_sent : CountedSent w n c.call.phase one
@@ -198,11 +280,11 @@ module _ (setting : Setting) (group : Group) (w : World) (me : BrickId) (now kno
   same_operations : (m : ℕ) (e : Operation) → IsOperation w m e → (p : Operation) × IsOperation w m p × (p.brick ≡ e.brick) × (p.seq ≡ e.seq)
   same_operations m e at = (e, at, refl, refl)
 
-  made_operations : (t : Stamp) (m : ℕ) (e : Operation) → IsOperation w m e
-      → (p : Operation) × (put w.operations n (with_made t (w.operations n)) m ≡ Some p) × (p.brick ≡ e.brick) × (p.seq ≡ e.seq)
-  made_operations t m e =
+  made_operations : (t : Stamp) (base : Option Stamp) (m : ℕ) (e : Operation) → IsOperation w m e
+      → (p : Operation) × (put w.operations n (with_made t base (w.operations n)) m ≡ Some p) × (p.brick ≡ e.brick) × (p.seq ≡ e.seq)
+  made_operations t base m e =
       put_each (λ a y. IsOperation w a e → (p : Operation) × (y ≡ Some p) × (p.brick ≡ e.brick) × (p.seq ≡ e.seq)) w.operations n
-      (with_made t (w.operations n)) (λ at. (_, ap (λ (z : Option Operation). with_made t z) at, refl, refl)) (λ a other at. (e, at, refl, refl)) m
+      (with_made t base (w.operations n)) (λ at. (_, ap (λ (z : Option Operation). with_made t base z) at, refl, refl)) (λ a other at. (e, at, refl, refl)) m
 
   answered_operations : (answer : Answer) (seen : Option Stamp) (m : ℕ) (e : Operation) → IsOperation w m e
       → (p : Operation) × (put w.operations n (with_answer answer seen (w.operations n)) m ≡ Some p) × (p.brick ≡ e.brick) × (p.seq ≡ e.seq)
@@ -238,34 +320,47 @@ module _ (setting : Setting) (group : Group) (w : World) (me : BrickId) (now kno
           told = subst (λ (b : BrickId). WasSent (after (Ends answer seen stored)) (record { from = brick; to = b; message = Message.Reply c.call (Reply.Later x) })) by
               (on.sent (record { from = brick; to = me; message = Message.Reply c.call (Reply.Later x) }) told);
           above = low.2;
-          greatest = ap (λ (l : List Counted). greatest_refuser l) replies_now ∙ fits.refused;
-          last = λ order. last_by goes.0 by low.0 low.1 fits.last order;
+          greatest = refuser_now ∙ fits.refused;
+          last = λ order. last_by goes.0 by low.0 low.1 c.phase refl fits.last order;
         },
       )
     where
       known_now : (put w.nodes i (with_call node known (node.busy - 1) k None) i).known ≡ known
       known_now = ap (λ (y : Node). y.known) (put_same w.nodes i (with_call node known (node.busy - 1) k None))
 
-      last_round : (e : Operation) → me ≡ e.brick → c.phase ≡ Orders → NoRoundFits fresh (with_reply c seat from reply)
+      last_round : (e : Operation) → me ≡ e.brick → IsRound c.phase → NoRoundFits fresh (with_reply c seat from reply)
           → IsLastRound (after (Ends answer seen stored)) n e c.call.phase
-      last_round e by orders (inl none) =
+      last_round e by round (inl none) =
           inr (subst (λ (b : BrickId). has_later_time ((after (Ends answer seen stored)).nodes b.0).known ≡ false) by
           (ap (λ (y : ℕ). has_later_time y) known_now ∙ none_left me now node.boot known none))
-      last_round e by orders (inr most) =
-          let round : c.call.phase ≡ c.round = mine.in_round orders in
-          inl (omega arith, λ p few less. refused_before orders p (omega arith) less)
+      last_round e by round (inr most) =
+          let facts = round_of c c.phase round mine.in_round in
+          inl (omega (arith, facts.0, facts.1), λ p few less. refused_before round p (omega (arith, facts.0)) less)
 
-      last_by : (e : Operation) → me ≡ e.brick → (t : Stamp) → AskedAt w c.call me brick t
-          → (c.phase ≡ Stores) ⊎ ((c.phase ≡ Orders) × NoRoundFits fresh (with_reply c seat from reply))
-          → WasSent (after (Ends answer seen stored)) (record { from = e.brick; to = brick; message = Message.Request c.call (Request.Order t) })
+      -- an order in a phase that only writes, or only looks further down
+      stored_order : (e : Operation) → me ≡ e.brick → (t : Stamp) → AskedAt w c.call me brick t → c.phase ≡ Stores
+          → OrderSent (after (Ends answer seen stored)) c.call e.brick brick t → ⊥
+      stored_order e by t asked stores order =
+          let write : (block : List ℕ) × WriteSent w c.call me brick t block = shows.stores_asked i k c brick t is stores asked in
+          later.order_or_write c.call me brick brick t t write.0 (write_on w (after (Ends answer seen stored)) on c.call me brick t write.0 write.1)
+          (subst (λ (b : BrickId). OrderSent (after (Ends answer seen stored)) c.call b brick t) (sym by) order)
+
+      descended_order : (e : Operation) → me ≡ e.brick → (t bound : Stamp) → AskedAt w c.call me brick t → c.phase ≡ Descends bound
+          → OrderSent (after (Ends answer seen stored)) c.call e.brick brick t → ⊥
+      descended_order e by t bound asked descends order =
+          let sent = shows.descends_asked i k c brick bound t is descends asked in
+          later.order_or_descent c.call me brick brick t t bound sent.0
+          (descent_on w (after (Ends answer seen stored)) on c.call me brick t bound sent.1)
+          (subst (λ (b : BrickId). OrderSent (after (Ends answer seen stored)) c.call b brick t) (sym by) order)
+
+      last_by : (e : Operation) → me ≡ e.brick → (t : Stamp) → AskedAt w c.call me brick t → (p : Phase) → c.phase ≡ p
+          → LastFits fresh (with_reply c seat from reply) p → OrderSent (after (Ends answer seen stored)) c.call e.brick brick t
           → IsLastRound (after (Ends answer seen stored)) n e c.call.phase
-      last_by e by t (inl ordered) (inl stores) order = absurd (shows.stores_no_order i k c brick t is stores ordered)
-      last_by e by t (inl ordered) (inr orders) order = last_round e by orders.0 orders.1
-      last_by e by t (inr write) last order =
-          absurd (later.order_or_write c.call me brick brick t t write.0
-          (on.sent (record { from = me; to = brick; message = Message.Request c.call (Request.Write t write.0) }) write.1)
-          (subst (λ (b : BrickId). WasSent (after (Ends answer seen stored)) (record { from = b; to = brick; message = Message.Request c.call (Request.Order t) }))
-          (sym by) order))
+      last_by e by t asked Looks at fits order = absurd fits
+      last_by e by t asked Orders at fits order = last_round e by (subst (λ (x : Phase). IsRound x) (sym at) tt) fits
+      last_by e by t asked Recovers at fits order = last_round e by (subst (λ (x : Phase). IsRound x) (sym at) tt) fits
+      last_by e by t asked (Descends bound) at fits order = absurd (descended_order e by t bound asked at order)
+      last_by e by t asked Stores at fits order = absurd (stored_order e by t asked at order)
 
   -- the history of replies after what the coordinator decides
   pub tallied_counted : (next : Next) → NextFits fresh (with_reply c seat from reply) next → MessagesShow (after next) → Tallied (after next)
@@ -273,39 +368,34 @@ module _ (setting : Setting) (group : Group) (w : World) (me : BrickId) (now kno
   tallied_counted (Waits d) fits later =
       let on : Furthers w (after (Waits d)) = furthers (after (Waits d)) known node.busy (Some d) [] refl grows refl refl same_operations in
       let phase : d.call.phase ≡ c.call.phase = ap (λ (x : Call). x.phase) fits.call in
+      let first : first_round d.phase ≡ first_round c.phase = ap (λ (x : Phase). first_round x) fits.phase in
       tallied_on setting w (after (Waits d)) books tallied later on
       (calls_by known node.busy d (record {
-        now = ap (λ (p : ℕ). replies n p) phase ∙ replies_now ∙ sym fits.counted;
+        now = subst (λ (p : ℕ). IsTally (replies n p) d.counted) (sym phase) (tally_waits d.counted fits.counted);
         later = λ p above. replies_later p (omega arith);
-        refused = λ orders p low high. refused_before (waits_orders (with_reply c seat from reply) d fits orders) p low (omega arith);
+        refused = λ round p low high. refused_before (subst (λ (x : Phase). IsRound x) fits.phase round) p (omega arith) (omega arith);
       }))
       unbegun (counted_next (after (Waits d)) on) (λ a p m brick x at. inl at)
-  tallied_counted (Reorders d) fits later =
-      let time : d.stamp.time ≡ _ = ap (λ (t : Stamp). t.time) (fresh_is me now node.boot known d.stamp fits.stamp).0 in
-      let on : Furthers w (after (Reorders d)) = furthers (after (Reorders d)) d.stamp.time node.busy (Some d) (phase_packets setting group me d) refl
-      (omega (arith, time, (fresh_is me now node.boot known d.stamp fits.stamp).1)) refl refl same_operations in
+  tallied_counted (Sends d) fits later =
+      let on : Furthers w (after (Sends d)) = furthers (after (Sends d)) (max known d.stamp.time) node.busy (Some d) (phase_packets setting group me d) refl
+      (omega arith) refl refl same_operations in
       let phase : d.call.phase ≡ c.call.phase + 1 = ap (λ (x : Call). x.phase) fits.call in
-      tallied_on setting w (after (Reorders d)) books tallied later on
-      (calls_by d.stamp.time node.busy d (record {
-        now = replies_later d.call.phase (omega arith) ∙ sym fits.counted;
+      tallied_on setting w (after (Sends d)) books tallied later on
+      (calls_by (max known d.stamp.time) node.busy d (record {
+        now = tally_begins d.call.phase d.counted fits.counted (omega arith);
         later = λ p above. replies_later p (omega arith);
-        refused = λ orders p low high. ⊎_elim
-            (λ (last : p ≡ c.call.phase).
-            ap (λ (q : ℕ). is_some (greatest_refuser (replies n q))) last
-            ∙ ap (λ (l : List Counted). is_some (greatest_refuser l)) replies_now ∙ fits.refused)
-            (λ (before : p ≢ c.call.phase). refused_before fits.was p low (omega arith))
-            (cases_eq p c.call.phase);
+        refused = refused_sends d fits phase;
       }))
-      unbegun (counted_next (after (Reorders d)) on) (λ a p m brick x at. inl at)
+      unbegun (counted_next (after (Sends d)) on) (λ a p m brick x at. inl at)
   tallied_counted (Makes d) fits later =
       let on : Furthers w (after (Makes d)) = furthers (after (Makes d)) known node.busy (Some d) (phase_packets setting group me d) refl grows refl refl
-      (made_operations d.stamp) in
+      (made_operations d.stamp d.base) in
       let phase : d.call.phase ≡ c.call.phase + 1 = ap (λ (x : Call). x.phase) fits.call in
       tallied_on setting w (after (Makes d)) books tallied later on
       (calls_by known node.busy d (record {
-        now = replies_later d.call.phase (omega arith) ∙ sym fits.counted;
+        now = tally_begins d.call.phase d.counted fits.counted (omega arith);
         later = λ p above. replies_later p (omega arith);
-        refused = λ orders p low high. absurd (let never : Stores ≡ Orders = sym fits.phase ∙ orders in cc);
+        refused = λ round p low high. absurd (subst (λ (x : Phase). IsRound x) fits.phase round);
       }))
       unbegun (counted_next (after (Makes d)) on) (λ a p m brick x at. inl at)
   tallied_counted (Ends answer seen stored) fits later =

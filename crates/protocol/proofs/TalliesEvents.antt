@@ -1,17 +1,20 @@
 -- Every event keeps the history of replies.
-use Rattle.std.proofs.Common.{◌≡◌, ℕ, ◌+◌, ◌≤◌, inl, ⊎_elim, true, Option, Some, None, List, [], ◌∷◌, ◌++◌, length, refl, sym, ◌∙◌, subst, arith}
+use Rattle.std.proofs.Common.{◌≡◌, ℕ, ◌+◌, ◌≤◌, ◌⊎◌, inl, inr, ⊎_elim, true, Option, Some, None, List, [], ◌∷◌, ◌++◌, length, refl, sym, ◌∙◌, subst, arith}
 use Rattle.std.specs.Prelude.{slice_get}
 use Rattle.std.proofs.lemmas.Bool.{cond_both}
 use Rattle.std.proofs.lemmas.Option.{same_Some}
 use Rattle.fab_base.specs.declared.identities.BrickId.{BrickId}
 use Rattle.fab_base.specs.declared.asks.Ask.{Ask}
 use Rattle.fab_base.specs.declared.stamps.Stamp.{Stamp}
+use Rattle.fab_base.specs.Stamps.{stamp_below}
 use Rattle.fab_base.specs.declared.answers.Answer.TheVariants.{Aborted}
 use Rattle.fab_base.specs.declared.answers.Cause.TheVariants as Cause
 use Rattle.fab_wire.specs.declared.calls.Call.{Call}
 use Rattle.fab_wire.specs.declared.messages.Message.{Message}
 use Rattle.fab_wire.specs.declared.messages.Packet.{Packet}
+use Rattle.fab_wire.specs.declared.requests.Look.TheVariants as Look
 use Rattle.fab_wire.specs.declared.requests.Request.{Request}
+use Rattle.fab_wire.specs.declared.requests.Want.TheVariants as Want
 use Rattle.fab_wire.specs.declared.replies.Reply.{Reply}
 use Rattle.reg_model.specs.declared.marks.Mark.TheVariants.{Begin, End}
 use Rattle.protocol.specs.Settings.{Setting, Group, group_of, IsSound, seat_in}
@@ -25,10 +28,10 @@ use Rattle.protocol.proofs.BooksKept.{KeepsNumbers, cases_call}
 use Rattle.protocol.proofs.BooksQuiet.{quiet_world}
 use Rattle.protocol.proofs.BooksBegins.{call_is, other_calls, number_is, other_numbers, other_operations, knows}
 use Rattle.protocol.proofs.BooksEvents.{keeps_put, stepped, known_grows, BeginFits, begin_fits}
-use Rattle.protocol.proofs.Outcomes.{once_full_fits}
-use Rattle.protocol.proofs.Said.{Stamping, Said, IsSaid, CountedSays}
+use Rattle.protocol.proofs.Outcomes.{first_round_above, once_full_fits}
+use Rattle.protocol.proofs.Said.{Stamping, Said, IsSaid, IsRecovery, CountedSays}
 use Rattle.protocol.proofs.SaidAlways.{packet_was_sent, said_first, said_run}
-use Rattle.protocol.proofs.OwnStamps.{order_or_write, stores_no_order}
+use Rattle.protocol.proofs.OwnStamps.{order_or_write, order_or_descent, stores_asked, descends_asked}
 use Rattle.protocol.proofs.Counting.{each_then}
 use Rattle.protocol.proofs.CountsAt.{CountsAt, counts_facts}
 use Rattle.protocol.proofs.Tables.{put_each, get_kept, get_grown, get_one}
@@ -169,9 +172,9 @@ tallied_began setting w brick now ask fits books tallied shows =
     let n : ℕ = w.begun + 1 in
     let c : Coordinator = new_coordinator brick now (w.nodes brick.0) ask in
     let new : CallTallied w.replies n c = record {
-      now = tallied.unbegun n 1 (omega arith);
+      now = ([], tallied.unbegun n 1 (omega arith), refl);
       later = λ p above. tallied.unbegun n p (omega arith);
-      refused = λ orders p low high. absurd (omega arith);
+      refused = λ round p low high. absurd (omega (arith, first_round_above c.phase));
     } in
     tallied_on setting w next books tallied shows
     (record {
@@ -253,18 +256,30 @@ tallied_run setting (event ∷ events) w books shows tallied =
     tallied_run setting events (happens setting w event) (λ more. books (event ∷ more)) (λ more. shows (event ∷ more))
     (tallied_happens setting w event (books []) tallied (shows []) (shows (event ∷ [])))
 
+-- what looks below a bound has it at its stamp, or below
+bound_of : (stamps : Stamping) (i k p : ℕ) (bound t : Stamp) → IsRecovery stamps i k p bound t → (bound ≡ t) ⊎ (stamp_below bound t ≡ true)
+bound_of stamps i k p bound t (inl own) = inl own.0
+bound_of stamps i k p bound t (inr below) = inr below.0
+
 -- what is said of a world is what its messages should show
 messages_show : (setting : Setting) (w : World) (stamps : Stamping) → Books setting w → Said setting w stamps → MessagesShow w
 messages_show setting w stamps books said = record {
   later = λ call from to x sent. said.packets sent.0 (record { from = from; to = to; message = Message.Reply call (Reply.Later x) }) sent.1;
   order_or_write = order_or_write setting w stamps books said;
-  stores_no_order = λ i k c to u is stores sent.
-      (let seq : c.call.seq ≡ k = (books.calls i k c is).call_seq in
-      stores_no_order setting w stamps books said (record { 0 = i }) to c u (subst (λ (l : ℕ). IsCall w i l c) (sym seq) is) stores sent);
+  bounds = λ call from to t bound sent.
+      bound_of stamps from.0 call.seq call.phase bound t
+      (said.packets sent.0 (record { from = from; to = to; message = Message.Request call (Request.OrderRead t (Look.Below bound) Want.All) }) sent.1).1;
+  order_or_descent = λ call from to other t u bound below sent order. order_or_descent setting w stamps books said call from to other t u bound below sent order;
+  stores_asked = λ i k c to t is stores asked. stores_asked setting w stamps books said (record { 0 = i }) to c t (at_call i k c is) stores asked;
+  descends_asked = λ i k c to bound t is descends asked.
+      descends_asked setting w stamps books said (record { 0 = i }) to c bound t (at_call i k c is) descends asked;
   counted = λ i k c is.
       each_then (CountedSays setting w i c) (λ x. WasSent w (record { from = x.brick; to = record { 0 = i }; message = Message.Reply c.call x.reply }))
       c.counted (λ x says. says.sent) (said.calls i k c is).counted;
 }
+  where
+    at_call : (i k : ℕ) (c : Coordinator) → IsCall w i k c → IsCall w i c.call.seq c
+    at_call i k c is = (let seq : c.call.seq ≡ k = (books.calls i k c is).call_seq in subst (λ (l : ℕ). IsCall w i l c) (sym seq) is)
 
 -- the history of replies holds in every world that a run reaches, where the books do
 pub tallied : (setting : Setting) (events : List Event) → IsSound setting

@@ -1,14 +1,17 @@
 -- What the history of replies has shown stays shown.
-use Rattle.std.proofs.Common.{◌≡◌, ℕ, ◌<◌, ◌≤◌, ◌⊎◌, inl, inr, ⊎_elim, false, List, [], Some, is_some, sym, ap, ◌∙◌, subst, arith}
+use Rattle.std.proofs.Common.{◌≡◌, ℕ, ◌<◌, ◌≤◌, ◌⊎◌, inl, inr, ⊎_elim, true, false, List, [], Some, is_some, sym, ap, ◌∙◌, subst, arith}
 use Rattle.std.specs.Prelude.{slice_get, nat_lt}
 use Rattle.std.proofs.lemmas.Bool.{ltb-false, le-ltb}
 use Rattle.fab_base.specs.declared.identities.BrickId.{BrickId}
 use Rattle.fab_base.specs.declared.stamps.Stamp.{Stamp}
+use Rattle.fab_base.specs.Stamps.{stamp_below}
 use Rattle.fab_base.specs.declared.answers.Answer.TheVariants.{Aborted}
 use Rattle.fab_base.specs.declared.answers.Cause.TheVariants as Cause
 use Rattle.fab_wire.specs.declared.calls.Call.{Call}
 use Rattle.fab_wire.specs.declared.messages.Message.TheVariants as Message
+use Rattle.fab_wire.specs.declared.requests.Look.TheVariants as Look
 use Rattle.fab_wire.specs.declared.requests.Request.TheVariants as Request
+use Rattle.fab_wire.specs.declared.requests.Want.TheVariants as Want
 use Rattle.fab_wire.specs.declared.replies.Reply.TheVariants as Reply
 use Rattle.reg_model.specs.declared.marks.Mark.TheVariants.{End}
 use Rattle.reg_model.specs.Marks.{life_of, IsOpen}
@@ -16,19 +19,19 @@ use Rattle.protocol.specs.Settings.{Setting}
 use Rattle.protocol.specs.Coordinators.{Coordinator, Counted, greatest_refuser}
 use Rattle.protocol.specs.Nodes.{has_later_time}
 use Rattle.protocol.specs.Worlds.{World, Operation}
-use Rattle.protocol.specs.Laws.{WasSent, AskedAt, IsLastRound, Evidence}
+use Rattle.protocol.specs.Laws.{WasSent, WriteSent, OrderSent, AskedAt, IsLastRound, Evidence}
 use Rattle.protocol.proofs.Books.{Replies, Books, IsCall}
 use Rattle.protocol.proofs.Lives.{ended_not_open}
-use Rattle.protocol.proofs.Tallies.{CallTallied, CountedSent, AbortShown, Tallied, MessagesShow, Furthers}
+use Rattle.protocol.proofs.Tallies.{CallTallied, CountedSent, AbortShown, DescentSent, Tallied, MessagesShow, Furthers}
 
 -- an operation whose replies stay
 pub call_tallied_on : (replies later : Replies) (n m : ℕ) (c : Coordinator) → m ≡ n → ((p : ℕ) → later n p ≡ replies n p)
     → CallTallied replies n c → CallTallied later m c
 call_tallied_on replies later n m c number same tallied =
     subst (λ (x : ℕ). CallTallied later x c) (sym number) (record {
-      now = same c.call.phase ∙ tallied.now;
+      now = (tallied.now.0, same c.call.phase ∙ tallied.now.1, tallied.now.2);
       later = λ p above. same p ∙ tallied.later p above;
-      refused = λ orders p low high. ap (λ (l : List Counted). is_some (greatest_refuser l)) (same p) ∙ tallied.refused orders p low high;
+      refused = λ round p low high. ap (λ (l : List Counted). is_some (greatest_refuser l)) (same p) ∙ tallied.refused round p low high;
     })
 
 -- what is not below a limit stays so as it grows
@@ -52,10 +55,22 @@ module _ (w next : World) (on : Furthers w next) where
         ),
       )
 
+  pub order_on : (call : Call) (from to : BrickId) (t : Stamp) → OrderSent w call from to t → OrderSent next call from to t
+  order_on call from to t (inl order) = inl (on.sent (record { from = from; to = to; message = Message.Request call (Request.Order t) }) order)
+  order_on call from to t (inr read) =
+      inr (on.sent (record { from = from; to = to; message = Message.Request call (Request.OrderRead t (Look.Below t) Want.All) }) read)
+
+  pub descent_on : (call : Call) (from to : BrickId) (t bound : Stamp) → DescentSent w call from to t bound → DescentSent next call from to t bound
+  descent_on call from to t bound sent =
+      on.sent (record { from = from; to = to; message = Message.Request call (Request.OrderRead t (Look.Below bound) Want.All) }) sent
+
+  pub write_on : (call : Call) (from to : BrickId) (t : Stamp) (block : List ℕ) → WriteSent w call from to t block → WriteSent next call from to t block
+  write_on call from to t block sent = on.sent (record { from = from; to = to; message = Message.Request call (Request.Write t block) }) sent
+
   pub asked_on : (call : Call) (from to : BrickId) (t : Stamp) → AskedAt w call from to t → AskedAt next call from to t
-  asked_on call from to t (inl order) = inl (on.sent (record { from = from; to = to; message = Message.Request call (Request.Order t) }) order)
-  asked_on call from to t (inr write) =
-      inr (write.0, on.sent (record { from = from; to = to; message = Message.Request call (Request.Write t write.0) }) write.1)
+  asked_on call from to t (inl order) = inl (order_on call from to t order)
+  asked_on call from to t (inr (inl descent)) = inr (inl (descent.0, descent_on call from to t descent.0 descent.1))
+  asked_on call from to t (inr (inr write)) = inr (inr (write.0, write_on call from to t write.0 write.1))
 
   last_round_on : (n : ℕ) (o p : Operation) (phase : ℕ) → p.brick ≡ o.brick → ((q : ℕ) → next.replies n q ≡ w.replies n q)
       → IsLastRound w n o phase → IsLastRound next n p phase
@@ -86,13 +101,24 @@ module _ (w next : World) (on : Furthers w next) where
         last = λ sent. last_by sent was.asked;
       }
     where
-      last_by : WasSent next (record { from = p.brick; to = brick; message = Message.Request was.call (Request.Order was.stamp) })
-          → AskedAt w was.call o.brick brick was.stamp → IsLastRound next n p was.call.phase
-      last_by sent (inl order) = last_round_on n o p was.call.phase brick_is same (was.last order)
-      last_by sent (inr write) =
-          absurd (shows.order_or_write was.call o.brick brick brick was.stamp was.stamp write.0
-          (on.sent (record { from = o.brick; to = brick; message = Message.Request was.call (Request.Write was.stamp write.0) }) write.1)
-          (subst (λ (b : BrickId). WasSent next (record { from = b; to = brick; message = Message.Request was.call (Request.Order was.stamp) })) brick_is sent))
+      by_order : OrderSent w was.call o.brick brick was.stamp → IsLastRound next n p was.call.phase
+      by_order order = last_round_on n o p was.call.phase brick_is same (was.last order)
+
+      by_descent : OrderSent next was.call p.brick brick was.stamp → (bound : Stamp) → DescentSent w was.call o.brick brick was.stamp bound
+          → (bound ≡ was.stamp) ⊎ (stamp_below bound was.stamp ≡ true) → IsLastRound next n p was.call.phase
+      by_descent sent bound descent (inl own) =
+          by_order (inr (subst (λ (b : Stamp). DescentSent w was.call o.brick brick was.stamp b) own descent))
+      by_descent sent bound descent (inr below) =
+          absurd (shows.order_or_descent was.call o.brick brick brick was.stamp was.stamp bound below (descent_on was.call o.brick brick was.stamp bound descent)
+          (subst (λ (b : BrickId). OrderSent next was.call b brick was.stamp) brick_is sent))
+
+      last_by : OrderSent next was.call p.brick brick was.stamp → AskedAt w was.call o.brick brick was.stamp → IsLastRound next n p was.call.phase
+      last_by sent (inl order) = by_order order
+      last_by sent (inr (inl (bound, descent))) =
+          by_descent sent bound descent (shows.bounds was.call o.brick brick was.stamp bound (descent_on was.call o.brick brick was.stamp bound descent))
+      last_by sent (inr (inr (block, write))) =
+          absurd (shows.order_or_write was.call o.brick brick brick was.stamp was.stamp block (write_on was.call o.brick brick was.stamp block write)
+          (subst (λ (b : BrickId). OrderSent next was.call b brick was.stamp) brick_is sent))
 
 -- the history of the next world: what is new in it is shown
 pub tallied_on : (setting : Setting) (w next : World) → Books setting w → Tallied w → MessagesShow next → Furthers w next

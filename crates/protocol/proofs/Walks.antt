@@ -1,35 +1,39 @@
 -- The walk along a stripe's effective versions, and why its happenings are strict.
-use Rattle.std.proofs.Common.{◌≡◌, ◌≢◌, ℕ, ◌<◌, ◌≤◌, ◌⊎◌, inl, inr, ⊎_elim, Bool, true, false, not, ◌&&◌, nat_eq, List, length, get_or, map, Option, Some, None, refl, sym, ap, ◌∙◌, subst, arith}
-use Rattle.std.specs.List.{All, Contains, filter}
-use Rattle.std.proofs.lemmas.Bool.{cases_Bool, cases_eq, cases_lt, both_ways, not-true, or_parts, and_parts, and_from, and_cases, eqb-true, eq-eqb, ltb-false}
+use Rattle.std.proofs.Common.{◌≡◌, ◌≢◌, ℕ, ◌<◌, ◌≤◌, ◌⊎◌, inl, inr, ⊎_elim, Bool, true, false, not, ◌&&◌, ◌||◌, nat_eq, List, length, get_or, map, Option, Some, None, refl, sym, ap, ◌∙◌, subst, arith}
+use Rattle.std.specs.List.{All, AllPairs, Contains}
+use Rattle.std.proofs.lemmas.Bool.{cases_Bool, cases_eq, cases_lt, both_ways, or_parts, or_left, or_right, or_from, and_cases, ltb-false}
 use Rattle.std.proofs.lemmas.Option.{none-some, same_Some}
-use Rattle.std.proofs.lemmas.List.Elements.{All-filter, All-weaker, All-contains_itself}
-use Rattle.std.proofs.lemmas.List.Sorted.{All-permutation, Contains-permutation, sorted_far}
+use Rattle.std.proofs.lemmas.List.Elements.{All-weaker, All-contains, All-contains_itself}
+use Rattle.std.proofs.lemmas.List.Sorted.{sorted_far}
 use Rattle.fab_base.specs.declared.stamps.Stamp.{Stamp}
 use Rattle.fab_base.specs.declared.asks.Op.{Op}
-use Rattle.fab_base.specs.declared.asks.Op.TheVariants.{ReadStripe, WriteStripe}
+use Rattle.fab_base.specs.declared.asks.Op.TheVariants.{ReadStripe}
 use Rattle.fab_base.specs.declared.answers.Answer.{Answer}
 use Rattle.fab_base.specs.declared.answers.Answer.TheVariants.{Data, Done, Aborted}
 use Rattle.fab_base.specs.Stamps.{stamp_below, stamp_same, first_stamp}
-use Rattle.fab_base.proofs.StampOrder.{stamp_same_refl}
+use Rattle.fab_base.proofs.StampOrder.{stamp_below_first, stamp_neither_below, stamp_same_refl}
 use Rattle.reg_model.specs.declared.marks.Mark.{Mark}
 use Rattle.reg_model.specs.declared.entries.Entry.{Entry}
 use Rattle.reg_model.specs.Marks.{Ending, Answered, Interrupted, Unended, Life, life_of, IsUnended, end_of, is_of_stripe, concerns, stripe_marks}
-use Rattle.reg_model.specs.Strict.{IsAnswered, WasAnswered, IsRead, data_of, IsStrict}
-use Rattle.reg_model.specs.Registers.{read_of}
-use Rattle.reg_model.specs.Walk.{turn_below, entry_below, begin_of, last_of, Makes, OnlyReads, HasTurn, IsMade, WalkFacts}
+use Rattle.reg_model.specs.Strict.{IsAnswered, WasAnswered, IsRead, data_of, after_life, IsStrict}
+use Rattle.reg_model.specs.Registers.{after_op, read_of}
+use Rattle.reg_model.specs.Chains.{EachNext, IsMadeOn, IsEffective, AreEffective, versions_of}
+use Rattle.reg_model.specs.Walk.{turn_below, entry_below, begin_of, last_of, OnlyReads, HasTurn, IsMade, IsOfVersion, Follows, WalkFacts}
+use Rattle.reg_model.proofs.Chains.{each_next_from_made}
 use Rattle.reg_model.proofs.EntryOrder.{entry_order}
 use Rattle.reg_model.proofs.Walk.{walk_is_strict}
 use Rattle.protocol.specs.Settings.{Setting, Group, group_of}
 use Rattle.protocol.specs.Worlds.{World, Operation}
-use Rattle.protocol.specs.Happenings.{is_of, entries_to, is_effective, ascending, walk_of, happenings_of}
+use Rattle.protocol.specs.Happenings.{is_of, entries_to, was_answered, writes, is_told, base_of, ascending, Effect, effect_of, walk_of, happenings_of}
 use Rattle.protocol.proofs.Books.{Books, OperationBooks, IsOperation}
-use Rattle.protocol.proofs.Entries.{IsEntryOf, entry_of, entries_of, entries_distinct, entries_have, Contains-filter, Contains-number, answered_effective, read_effective}
+use Rattle.protocol.proofs.Chains.{above_first, base_in, base_is, entries_ours, has_entry, stripe_of, maker_facts, one_maker, IsAnsweredVersion, base_facts, maker_swept, versions_effective, MadeVersion, maker_entry, maker_reads, complete, are_effective, version_made}
+use Rattle.protocol.proofs.Effects.{IsSwept, answered_swept, told_all, told_pairs, told_told, told_versions}
+use Rattle.protocol.proofs.Entries.{AreApart, IsEntryOf, entry_of, entries_apart, numbers_distinct, Contains-number}
 use Rattle.protocol.proofs.Lives.{EndingStays, EndingStays-answered_before, LifeStays}
-use Rattle.protocol.proofs.QuorumFacts.{QuorumFacts, MakerFacts, ReaderFacts}
+use Rattle.protocol.proofs.QuorumFacts.{QuorumFacts, MakerFacts, BaseSays}
 use Rattle.protocol.proofs.RisingMarks.{RisesFrom, RisesFrom-increasing, RisesFrom-filter, NumbersRise, NumbersRise-increasing, NumbersRise-filter, life_within, begins_before_open, begins_in_order}
-use Rattle.protocol.proofs.Said.{IsMadeOrFirst}
-use Rattle.protocol.proofs.Sorting.{ascending_permutation, ascending_order, IsSortedBy-from_order, distinct_ascending}
+use Rattle.protocol.proofs.Said.{WritesWhole}
+use Rattle.protocol.proofs.Sorting.{InOrder, ascending_order, ascending_apart, IsSortedBy-from_order}
 use Rattle.protocol.proofs.StripeLives.{life_filtered, none_filtered, others_filtered, numbers_from_one}
 
 -- what an answered read of the stripe was answered is its content
@@ -71,18 +75,27 @@ reader_after false k n h = absurd (let never : true ≡ false = h in cc)
 reader_after true k n h = ltb-false k n h
 
 module _ (setting : Setting) (w : World) (g s : ℕ) (books : Books setting w) (facts : QuorumFacts setting w) where
-  -- the stripe's marks, all entries, those that are effective, and the walk
+  -- the stripe's marks, its entries in order, what the sweep finds of them, and the walk
   abbrev marks : List Mark
   marks = stripe_marks g s w.marks
 
   abbrev entries : List Entry
-  entries = entries_to w.operations g s w.begun
+  entries = ascending (entries_to w.operations g s w.begun)
 
-  abbrev kept : List Entry
-  kept = filter (is_effective w.operations entries) entries
+  abbrev effect : Effect
+  effect = effect_of w.operations (ascending (entries_to w.operations g s w.begun))
 
   abbrev walk : List Entry
-  walk = ascending kept
+  walk = (effect_of w.operations (ascending (entries_to w.operations g s w.begun))).told
+
+  abbrev content : Stamp → List ℕ
+  content = w.contents g s
+
+  abbrev versions : List Stamp
+  versions = versions_of (effect_of w.operations (ascending (entries_to w.operations g s w.begun))).versions
+
+  abbrev base : Stamp → Option Stamp
+  base t = base_in w.operations (ascending (entries_to w.operations g s w.begun)) t
 
   abbrev IsOurs : Entry → Type 0
   IsOurs e = IsEntryOf w.operations g s e
@@ -134,52 +147,55 @@ module _ (setting : Setting) (w : World) (g s : ℕ) (books : Books setting w) (
           absurd (none-some l (sym (others_filtered g s w.marks w.marks 0 n mine.life all_numbers mine.life_is foreign) ∙ is)))
           (cases_Bool (is_of g s begun.0))
 
-  -- an operation of the stripe is of its group and number
-  stripe_of : (o : Operation) → is_of g s o ≡ true → (o.ask.group.0 ≡ g) × (o.ask.stripe.0 ≡ s)
-  stripe_of o of =
-      let parts = and_parts (nat_eq o.ask.group.0 g) (nat_eq o.ask.stripe.0 s) of in
-      (eqb-true o.ask.group.0 g parts.0, eqb-true o.ask.stripe.0 s parts.1)
-
   -- each entry of the walk is one of the stripe's
   walk_ours : All IsOurs walk
-  walk_ours = All-permutation IsOurs kept walk (ascending_permutation kept)
-      (All-filter (is_effective w.operations entries) IsOurs entries (entries_of w.operations g s w.begun))
+  walk_ours = told_all w.operations IsOurs entries (entries_ours setting w g s books facts)
 
   -- each entry of the walk stands among all entries
   walk_entries : All (Contains entries) walk
-  walk_entries = All-permutation (Contains entries) kept walk (ascending_permutation kept)
-      (All-filter (is_effective w.operations entries) (Contains entries) entries (All-contains_itself entries))
+  walk_entries = told_all w.operations (Contains entries) entries (All-contains_itself entries)
 
-  -- what is effective stands in the walk
-  walk_contains : (e : Entry) → Contains entries e → is_effective w.operations entries e ≡ true → Contains walk e
-  walk_contains e has effective =
-      Contains-permutation kept walk e (ascending_permutation kept) (Contains-filter (is_effective w.operations entries) entries e has effective)
+  -- the walk is in order
+  walk_order : InOrder walk
+  walk_order =
+      told_pairs w.operations (λ a b. entry_below b a ≡ false) entries (ascending_order (entries_to w.operations g s w.begun))
 
-  -- an operation of the stripe that made or read a version has its entry
-  has_entry : (n : ℕ) (o : Operation) (t : Stamp) → IsOperation w n o → is_of g s o ≡ true → o.version ≡ Some t → Contains entries (entry_of n o t)
-  has_entry n o t is of version =
-      let mine : OperationBooks setting w n o = books.operations n o is in
-      entries_have w.operations g s w.begun n o t mine.from_one mine.begun is of version
+  -- and no two of its entries are of one operation
+  walk_apart : AllPairs AreApart walk
+  walk_apart =
+      told_pairs w.operations AreApart entries
+      (ascending_apart (entries_to w.operations g s w.begun) (entries_apart w.operations g s w.begun))
+
+  -- what a read of the stripe was answered is its version's content
+  reads_right : (n : ℕ) (o : Operation) (t : Stamp) (l : StripeLife n o) → IsOperation w n o → is_of g s o ≡ true → o.version ≡ Some t
+      → IsRead (Some (w.contents g s t)) (data_of l.life.ending)
+  reads_right n o t l is of version =
+      let at : (o.ask.group.0 ≡ g) × (o.ask.stripe.0 ≡ s) = stripe_of setting w g s books facts o of in
+      let same : w.contents o.ask.group.0 o.ask.stripe.0 t ≡ w.contents g s t
+      = ap (λ (x : ℕ). w.contents x o.ask.stripe.0 t) at.0 ∙ ap (λ (y : ℕ). w.contents g y t) at.1 in
+      reads_data (w.contents g s t) l.life.ending
+      (λ p bytes ending.
+      facts.answered_data n o t l.full p bytes is version l.full_is (answer_before l.full.ending l.life.ending p (Data bytes) l.stays.ending ending) ∙ same)
+
+  -- what an operation's life asks
+  life_op : (n : ℕ) (o : Operation) (l : StripeLife n o) → l.life.ask.op ≡ o.ask.op
+  life_op n o l = ap (λ a. a.op) (l.stays.ask ∙ l.ask)
 
   -- an operation makes or reads its version's content
+  made_turn : (n : ℕ) (o : Operation) (t : Stamp) (l : StripeLife n o) → IsOperation w n o → is_of g s o ≡ true → o.version ≡ Some t
+      → WritesWhole w o t ⊎ BaseSays setting w o t → HasTurn setting.layout.block (w.contents g s t) false (Some l.life)
+  made_turn n o t l is of version (inl whole) =
+      subst (λ (x : Op). IsRead (read_of setting.layout.block x (w.contents g s t)) (data_of l.life.ending)) (sym (life_op n o l ∙ whole.1)) tt
+  made_turn n o t l is of version (inr says) =
+      subst (λ (x : Op). IsRead (read_of setting.layout.block x (w.contents g s t)) (data_of l.life.ending)) (sym (life_op n o l ∙ says.op))
+      (reads_right n o t l is of version)
+
   turn_of : (n : ℕ) (o : Operation) (t : Stamp) (l : StripeLife n o) (made : Bool) → IsOperation w n o → is_of g s o ≡ true → o.version ≡ Some t → o.made ≡ made
       → HasTurn setting.layout.block (w.contents g s t) (not made) (Some l.life)
-  turn_of n o t l true is of version made =
-      let maker : MakerFacts w o t = facts.maker n o t is made version in
-      let at : (o.ask.group.0 ≡ g) × (o.ask.stripe.0 ≡ s) = stripe_of o of in
-      let same : w.contents o.ask.group.0 o.ask.stripe.0 t ≡ w.contents g s t = ap (λ (x : ℕ). w.contents x o.ask.stripe.0 t) at.0 ∙ ap (λ (y : ℕ). w.contents g y t) at.1 in
-      let op : l.life.ask.op ≡ WriteStripe (w.contents o.ask.group.0 o.ask.stripe.0 t) = ap (λ a. a.op) (l.stays.ask ∙ l.ask) ∙ maker.op in
-      subst (λ (x : Op). Makes (w.contents g s t) x) (sym op) same
+  turn_of n o t l true is of version made = made_turn n o t l is of version (facts.maker n o t is made version).how
   turn_of n o t l false is of version made =
-      let reader : ReaderFacts w n o t = facts.reader n o t is made version in
-      let at : (o.ask.group.0 ≡ g) × (o.ask.stripe.0 ≡ s) = stripe_of o of in
-      let same : w.contents o.ask.group.0 o.ask.stripe.0 t ≡ w.contents g s t = ap (λ (x : ℕ). w.contents x o.ask.stripe.0 t) at.0 ∙ ap (λ (y : ℕ). w.contents g y t) at.1 in
-      let op : l.life.ask.op ≡ ReadStripe = ap (λ a. a.op) (l.stays.ask ∙ l.ask) ∙ reader.op in
-      subst (λ (x : Op). OnlyReads x × IsRead (read_of setting.layout.block x (w.contents g s t)) (data_of l.life.ending)) (sym op) (
-        tt,
-        reads_data (w.contents g s t) l.life.ending
-            (λ p bytes ending. reader.answered l.full p bytes l.full_is (answer_before l.full.ending l.life.ending p (Data bytes) l.stays.ending ending) ∙ same),
-      )
+      subst (λ (x : Op). OnlyReads x × IsRead (read_of setting.layout.block x (w.contents g s t)) (data_of l.life.ending))
+      (sym (life_op n o l ∙ (facts.reader n o t is made version).op)) (tt, reads_right n o t l is of version)
 
   walk_turns : All (λ (e : Entry). HasTurn setting.layout.block (w.contents g s e.stamp) e.reader (life_of marks e.operation)) walk
   walk_turns = All-weaker IsOurs (λ (e : Entry). HasTurn setting.layout.block (w.contents g s e.stamp) e.reader (life_of marks e.operation))
@@ -190,29 +206,113 @@ module _ (setting : Setting) (w : World) (g s : ℕ) (books : Books setting w) (
       (turn_of e.operation ours.operation e.stamp l ours.operation.made ours.is ours.of ours.version refl)))
       walk walk_ours
 
-  -- an entry that reads was made by no operation
-  reader_made : (e : Entry) (ours : IsOurs e) → e.reader ≡ true → ours.operation.made ≡ false
-  reader_made e ours reads = not-true ours.operation.made (sym ours.reader ∙ reads)
-
-  -- what an entry reads is the first version, or its maker stands in the walk
-  read_made : (e : Entry) (ours : IsOurs e) → Contains entries e → e.reader ≡ true → IsMadeOrFirst w ours.operation.ask.group.0 ours.operation.ask.stripe.0 e.stamp
-      → (e.stamp ≡ first_stamp) ⊎ IsMade walk e.stamp
-  read_made e ours has reads (inl first) = inl first
-  read_made e ours has reads (inr (n, o, is, group, stripe, made, version)) =
-      let at : (ours.operation.ask.group.0 ≡ g) × (ours.operation.ask.stripe.0 ≡ s) = stripe_of ours.operation ours.of in
-      let of : is_of g s o ≡ true = and_from _ _ (eq-eqb o.ask.group.0 g (group ∙ at.0)) (eq-eqb o.ask.stripe.0 s (stripe ∙ at.1)) in
-      let maker : Entry = entry_of n o e.stamp in
-      let stands : Contains walk maker = walk_contains maker (has_entry n o e.stamp is of version)
-      (read_effective w.operations entries maker e has reads refl) in
-      inr (stands.0, maker, stands.1, stands.2, (ap not made, refl))
-
-  walk_read : All (λ (e : Entry). e.reader ≡ true → (e.stamp ≡ first_stamp) ⊎ IsMade walk e.stamp) walk
-  walk_read k d lt reads =
+  -- an entry of the walk is of an effective version, or reads the first one
+  walk_versions : All (IsOfVersion versions) walk
+  walk_versions k d lt =
       let e : Entry = get_or walk k d in
       let ours : IsOurs e = walk_ours k d lt in
-      let reader : ReaderFacts w e.operation ours.operation e.stamp =
-      facts.reader e.operation ours.operation e.stamp ours.is (reader_made e ours reads) ours.version in
-      read_made e ours (walk_entries k d lt) reads reader.made
+      let effective = All-contains (λ (t : Stamp). IsEffective (IsAnsweredVersion setting w g s books facts) base t) effect.versions e.stamp
+      (versions_effective setting w g s books facts) (told_versions w.operations entries k d lt) in
+      ⊎_elim
+      (λ (above : stamp_below first_stamp e.stamp ≡ true). inl ((are_effective setting w g s books facts).complete e.stamp effective above))
+      (λ (not_above : stamp_below first_stamp e.stamp ≡ false). inr (
+        sym (stamp_neither_below first_stamp e.stamp not_above (stamp_below_first e.stamp)),
+        ⊎_elim (λ (reads : e.reader ≡ true). reads)
+            (λ (maker : e.reader ≡ false).
+            absurd (both_ways (stamp_below first_stamp e.stamp) not_above (maker_facts setting w g s books facts e ours maker).later))
+            (cases_Bool e.reader),
+      ))
+      (cases_Bool (stamp_below first_stamp e.stamp))
+
+  -- how an effective version came from the one before it, by its maker that the sweep found
+  follows_by : (u v : Stamp) → IsMadeOn base u v → (r : Entry) → Contains entries r → r.reader ≡ false → r.stamp ≡ v
+      → IsSwept w.operations effect r → Follows setting.layout.block marks (w.contents g s) walk u v
+  follows_by u v on r has maker stamp swept = subst (λ (t : Stamp). Follows setting.layout.block marks (w.contents g s) walk u t) stamp (by facts_of.how)
+    where
+      mine : IsOurs r
+      mine = All-contains IsOurs entries r (entries_ours setting w g s books facts) has
+
+      facts_of : MakerFacts setting w mine.operation r.stamp
+      facts_of = maker_facts setting w g s books facts r mine maker
+
+      its : StripeLife r.operation mine.operation
+      its = stripe_life r.operation mine.operation mine.is mine.of
+
+      at : (mine.operation.ask.group.0 ≡ g) × (mine.operation.ask.stripe.0 ≡ s)
+      at = stripe_of setting w g s books facts mine.operation mine.of
+
+      content_of : (t : Stamp) → w.contents mine.operation.ask.group.0 mine.operation.ask.stripe.0 t ≡ w.contents g s t
+      content_of t = ap (λ (x : ℕ). w.contents x mine.operation.ask.stripe.0 t) at.0 ∙ ap (λ (y : ℕ). w.contents g y t) at.1
+
+      -- the maker stands in the walk, and changes the content so
+      made_from : is_told (Some mine.operation) ≡ true → w.contents g s r.stamp ≡ after_op setting.layout.block its.life.ask.op (w.contents g s u)
+          → Follows setting.layout.block marks (w.contents g s) walk u r.stamp
+      made_from told changes =
+          let stands : Contains walk r = swept.told (ap (λ (o : Option Operation). is_told o) mine.is ∙ told) in
+          inl (
+            stands.0,
+            r,
+            stands.1,
+            stands.2,
+            (
+              (maker, refl),
+              subst (λ (x : Option Life). w.contents g s r.stamp ≡ after_life setting.layout.block (w.contents g s u) x) (sym its.life_is) changes,
+            ),
+          )
+
+      -- what was read back is the version before
+      base_is_u : (says : BaseSays setting w mine.operation r.stamp) → says.base ≡ u
+      base_is_u says =
+          let is : base r.stamp ≡ Some says.base
+          = base_is setting w g s books facts r has maker ∙ ap (λ (o : Option Operation). base_of o) mine.is ∙ says.base_is in
+          ⊎_elim
+          (λ (none : base v ≡ None). absurd (let never : None ≡ Some says.base = sym none ∙ ap (λ (t : Stamp). base t) (sym stamp) ∙ is in cc))
+          (λ (some : base v ≡ Some u). same_Some says.base u (sym is ∙ ap (λ (t : Stamp). base t) stamp ∙ some))
+          on
+
+      -- no other operation made the version
+      unmade : mine.operation.answered ≡ false → mine.operation.ask.op ≡ ReadStripe → IsMade walk r.stamp → ⊥
+      unmade unanswered op (k, e, lt, is, made) =
+          let e_has : Contains entries e = All-contains (Contains entries) walk e walk_entries (k, lt, is) in
+          let one : e.operation ≡ r.operation = one_maker setting w g s books facts e r e_has has made.0 maker made.1 in
+          let told : is_told (w.operations e.operation) ≡ true
+          = All-contains (λ (x : Entry). is_told (w.operations x.operation) ≡ true) walk e (told_told w.operations entries) (k, lt, is) in
+          let same : is_told (Some mine.operation) ≡ true
+          = sym (ap (λ (o : Option Operation). is_told o) (ap w.operations one ∙ mine.is)) ∙ told in
+          let reads : writes mine.operation.ask.op ≡ false = ap (λ (x : Op). writes x) op in
+          both_ways (mine.operation.answered || writes mine.operation.ask.op) (or_from _ _ unanswered reads) same
+
+      by : WritesWhole w mine.operation r.stamp ⊎ BaseSays setting w mine.operation r.stamp → Follows setting.layout.block marks (w.contents g s) walk u r.stamp
+      by (inl whole) =
+          made_from (or_right mine.operation.answered _ (ap (λ (x : Op). writes x) whole.1))
+          (sym (ap (λ (x : Op). after_op setting.layout.block x (w.contents g s u)) (life_op r.operation mine.operation its ∙ whole.1) ∙ content_of r.stamp))
+      by (inr says) =
+          let same : w.contents g s r.stamp ≡ w.contents g s u
+          = sym (content_of r.stamp) ∙ says.content ∙ content_of says.base ∙ ap (λ (t : Stamp). w.contents g s t) (base_is_u says) in
+          ⊎_elim
+          (λ (answered : mine.operation.answered ≡ true).
+          made_from (or_left mine.operation.answered _ answered)
+          (same ∙ sym (ap (λ (x : Op). after_op setting.layout.block x (w.contents g s u)) (life_op r.operation mine.operation its ∙ says.op))))
+          (λ (unanswered : mine.operation.answered ≡ false). inr (unmade unanswered says.op, same))
+          (cases_Bool mine.operation.answered)
+
+  -- each effective version came so from the one before it
+  follows : (u v : Stamp) → IsEffective (IsAnsweredVersion setting w g s books facts) base v → IsMadeOn base u v → stamp_below first_stamp v ≡ true
+      → Follows setting.layout.block marks (w.contents g s) walk u v
+  follows u v effective on above =
+      let has : Contains effect.versions v = complete setting w g s books facts v effective above in
+      let made : MadeVersion setting w g s books facts v = version_made setting w g s books facts v has above in
+      let swept = maker_swept setting w g s books facts v has (entry_of made.number made.operation v) (maker_entry setting w g s books facts v made)
+      (maker_reads setting w g s books facts v made) refl in
+      follows_by u v on swept.0 swept.1 swept.2 swept.3 swept.4
+
+  each_follows : EachNext (Follows setting.layout.block marks (w.contents g s) walk) versions
+  each_follows k d inside =
+      let are : AreEffective (IsAnsweredVersion setting w g s books facts) base versions = are_effective setting w g s books facts in
+      each_next_from_made (IsAnsweredVersion setting w g s books facts) base (base_facts setting w g s books facts)
+      (λ (u v : Stamp). stamp_below first_stamp v ≡ true → Follows setting.layout.block marks (w.contents g s) walk u v) versions are
+      (λ u v effective on above. follows u v effective on above) k d inside
+      (above_first _ _ (are.ascend k d inside))
 
   walk_answered : (n : ℕ) → WasAnswered (life_of marks n) → Contains (map (λ (e : Entry). e.operation) walk) n
   walk_answered n answered = stands (life_of marks n) refl answered
@@ -227,7 +327,9 @@ module _ (setting : Setting) (w : World) (g s : ℕ) (books : Books setting w) (
           (subst (λ (x : Life). IsAnswered x.ending) same ended)) in
           let version = (books.operations n o.0 o.1).answered_version was in
           let e : Entry = entry_of n o.0 version.0 in
-          Contains-number walk e (walk_contains e (has_entry n o.0 version.0 o.1 o.2 version.1) (answered_effective w.operations entries e o.0 o.1 was))
+          let swept : IsSwept w.operations effect e = answered_swept w.operations entries e (has_entry setting w g s books facts n o.0 version.0 o.1 o.2 version.1)
+          (ap (λ (x : Option Operation). was_answered x) o.1 ∙ was) in
+          Contains-number walk e (swept.told (ap (λ (x : Option Operation). is_told x) o.1 ∙ or_left o.0.answered _ was))
 
   -- an operation that ended did not end before one that stands no later in the walk began
   in_time_ended : (a b : Entry) (first : IsOurs a) (second : IsOurs b) (one : StripeLife a.operation first.operation) (other : StripeLife b.operation second.operation)
@@ -283,21 +385,26 @@ module _ (setting : Setting) (w : World) (g s : ℕ) (books : Books setting w) (
       let second : IsOurs b = walk_ours j d lt in
       let one : StripeLife a.operation first.operation = stripe_life a.operation first.operation first.is first.of in
       let other : StripeLife b.operation second.operation = stripe_life b.operation second.operation second.is second.of in
-      let order : entry_below b a ≡ false = sorted_far entry_below entry_order walk (IsSortedBy-from_order walk (ascending_order kept)) i j d le lt in
+      let order : entry_below b a ≡ false = sorted_far entry_below entry_order walk (IsSortedBy-from_order walk walk_order) i j d le lt in
       subst (λ (x : Option Life). begin_of x ≤ last_of (life_of marks b.operation)) (sym one.life_is)
       (subst (λ (x : Option Life). one.life.begin ≤ last_of x) (sym other.life_is)
       (in_time a b first second one other order other.life.ending refl))
 
   -- what is known of the walk
   walk_facts : (group : Group) → group_of setting.layout g ≡ Some group
-      → WalkFacts group.m setting.layout.block marks (w.contents g s) (walk_of w g s)
+      → WalkFacts group.m setting.layout.block marks (w.contents g s) versions (walk_of w g s)
   unfolding walk_of
   walk_facts group is = record {
-    ascending = IsSortedBy-from_order walk (ascending_order kept);
-    once = distinct_ascending kept (entries_distinct w.operations g s w.begun (is_effective w.operations entries));
+    ascending = IsSortedBy-from_order walk walk_order;
+    once = numbers_distinct walk walk_apart;
+    versions_ascend = (are_effective setting w g s books facts).ascend;
+    of_versions = walk_versions;
+    one_maker = λ stamp a b a_has b_has a_makes b_makes.
+        one_maker setting w g s books facts a b (All-contains (Contains entries) walk a walk_entries a_has)
+        (All-contains (Contains entries) walk b walk_entries b_has) a_makes.0 b_makes.0 (a_makes.1 ∙ sym b_makes.1);
     turns = walk_turns;
-    read_is_made = walk_read;
     first_is_zero = facts.first g s group is;
+    each_follows = each_follows;
     answered_stand = walk_answered;
     real_time = walk_real_time;
   }
@@ -306,4 +413,4 @@ module _ (setting : Setting) (w : World) (g s : ℕ) (books : Books setting w) (
   pub happenings_strict : (group : Group) → group_of setting.layout g ≡ Some group
       → IsStrict group.m setting.layout.block marks (happenings_of w g s)
   unfolding happenings_of
-  happenings_strict group is = walk_is_strict group.m setting.layout.block marks (w.contents g s) (walk_of w g s) (walk_facts group is)
+  happenings_strict group is = walk_is_strict group.m setting.layout.block marks (w.contents g s) versions (walk_of w g s) (walk_facts group is)

@@ -1,5 +1,6 @@
--- What a coordinator does with the replies to a phase (Frølund 2004, write-stripe and the fast path of read-stripe).
-use Rattle.std.specs.Prelude.{ℕ, ◌+◌, ◌-◌, ◌^◌, Bool, true, false, not, nat_eq, nat_lt, ◌&&◌, ◌||◌, if◌then◌else◌, List, [], ◌∷◌, ◌++◌, length, Option, Some, None}
+-- What a coordinator does with the replies to a phase (Frølund 2004, write-stripe, read-stripe and recover).
+use Rattle.std.specs.Prelude.{ℕ, ◌+◌, ◌-◌, ◌^◌, Bool, true, false, not, nat_eq, nat_lt, ◌&&◌, ◌||◌, if◌then◌else◌, List, [], ◌∷◌, ◌++◌, length, Option, Some, None, filter}
+use Rattle.std.specs.Option.{option_map}
 use Rattle.fab_base.specs.declared.identities.BrickId.{BrickId}
 use Rattle.fab_base.specs.declared.stamps.Stamp.{Stamp}
 use Rattle.fab_base.specs.declared.asks.Ask.{Ask}
@@ -10,23 +11,27 @@ use Rattle.fab_base.specs.declared.answers.Answer.TheVariants.{Data, Done, Abort
 use Rattle.fab_base.specs.declared.answers.Cause.TheVariants as Cause
 use Rattle.fab_base.specs.Stamps.{stamp_below, stamp_same}
 use Rattle.fab_wire.specs.declared.calls.Call.{Call}
+use Rattle.fab_wire.specs.declared.requests.Look.TheVariants.{Below}
+use Rattle.fab_wire.specs.declared.requests.Version.{Version}
 use Rattle.fab_wire.specs.declared.requests.Want.TheVariants.{All}
 use Rattle.fab_wire.specs.declared.requests.Request.{Request}
-use Rattle.fab_wire.specs.declared.requests.Request.TheVariants.{Read, Order, Write}
+use Rattle.fab_wire.specs.declared.requests.Request.TheVariants.{Read, Order, OrderRead, Write}
 use Rattle.fab_wire.specs.declared.replies.Reply.{Reply}
-use Rattle.fab_wire.specs.declared.replies.Reply.TheVariants.{Found, Ordered, Stored, Later}
+use Rattle.fab_wire.specs.declared.replies.Reply.TheVariants.{Found, Ordered, OrderedRead, Stored, Later}
 pub use Rattle.protocol.specs.declared.phases.Phase.{Phase}
-pub use Rattle.protocol.specs.declared.phases.Phase.TheVariants.{Looks, Orders, Stores, Stalls}
+pub use Rattle.protocol.specs.declared.phases.Phase.TheVariants.{Looks, Orders, Recovers, Descends, Stores}
 pub use Rattle.protocol.specs.declared.phases.Counted.{Counted}
 pub use Rattle.protocol.specs.declared.phases.Refuser.{Refuser}
 use Rattle.protocol.specs.Settings.{Group, Code, Piece, quorum_of, seat_in}
 
--- an open operation at its coordinator: what is asked, its stamp, how many rounds of ordering it has begun, the call of its present phase, and
--- the replies that count in it
+-- An open operation at its coordinator: what is asked, its stamp, how many rounds of ordering it has begun, the version that it read back and
+-- its content, where it is a recovery that found one, the call of its present phase, and the replies that count in it.
 pub record Coordinator : Type 0 where
   pub ask : Ask
   pub stamp : Stamp
   pub round : ℕ
+  pub base : Option Stamp
+  pub content : List ℕ
   pub call : Call
   pub phase : Phase
   pub counted : List Counted
@@ -37,15 +42,24 @@ call_same a b =
     nat_eq a.boot b.boot && (nat_eq a.seq b.seq && (nat_eq a.phase b.phase
     && (nat_eq a.group.0 b.group.0 && (nat_eq a.view.0 b.view.0 && nat_eq a.stripe.0 b.stripe.0))))
 
--- A reply of this kind answers the phase's request; a block that was found has the length of a block.
-abbrev pub answers_phase : ℕ → Phase → Reply → Bool
-answers_phase block Looks (Found order None) = true
-answers_phase block Looks (Found order (Some version)) = nat_eq (length version.block) block
-answers_phase block Orders Ordered = true
-answers_phase block Orders (Later t) = true
-answers_phase block Stores Stored = true
-answers_phase block Stores (Later t) = true
-answers_phase block phase reply = false
+-- a version that was found has the length of a block, and is below the phase's bound
+abbrev pub may_be_found : ℕ → Stamp → Option Version → Bool
+may_be_found block bound None = true
+may_be_found block bound (Some version) = nat_eq (length version.block) block && stamp_below version.stamp bound
+
+-- A reply of this kind answers the request of a phase of an operation of this stamp.
+abbrev pub answers_phase : ℕ → Stamp → Phase → Reply → Bool
+answers_phase block t Looks (Found order None) = true
+answers_phase block t Looks (Found order (Some version)) = nat_eq (length version.block) block
+answers_phase block t Orders Ordered = true
+answers_phase block t Orders (Later x) = true
+answers_phase block t Recovers (OrderedRead found) = may_be_found block t found
+answers_phase block t Recovers (Later x) = true
+answers_phase block t (Descends bound) (OrderedRead found) = may_be_found block bound found
+answers_phase block t (Descends bound) (Later x) = true
+answers_phase block t Stores Stored = true
+answers_phase block t Stores (Later x) = true
+answers_phase block t phase reply = false
 
 -- a seat has a reply that counts
 abbrev pub has_seat : ℕ → List Counted → Bool
@@ -61,14 +75,19 @@ new_seat counted (Some seat) = if has_seat seat counted then None else Some seat
 -- In the last phase that a call can number nothing counts.
 unfoldable pub counts_at : ℕ → Group → Coordinator → ℕ → Call → Reply → Option ℕ
 counts_at block group c from call reply =
-    if call_same call c.call && (answers_phase block c.phase reply && nat_lt c.call.phase (2 ^ 32 - 1))
+    if call_same call c.call && (answers_phase block c.stamp c.phase reply && nat_lt c.call.phase (2 ^ 32 - 1))
     then new_seat c.counted (seat_in group.members from)
     else None
 
--- the stamp that a reply tells as its member's newest
-abbrev pub newest_stamp : Reply → Option Stamp
-newest_stamp (Found order (Some version)) = Some version.stamp
-newest_stamp reply = None
+-- the version that a reply tells
+abbrev pub told_in : Reply → Option Version
+told_in (Found order version) = version
+told_in (OrderedRead version) = version
+told_in reply = None
+
+-- the stamp of the version that a reply tells
+abbrev pub told_stamp : Reply → Option Stamp
+told_stamp reply = option_map (λ version. version.stamp) (told_in reply)
 
 -- a reply tells version v as its member's newest, and no order above it
 abbrev pub tells : Stamp → Reply → Bool
@@ -87,17 +106,43 @@ told_by_all (Some v) counted = if all_tell v counted then Some v else None
 -- the version that a read may answer at once: the one that all replies tell
 unfoldable pub fast_version : List Counted → Option Stamp
 fast_version [] = None
-fast_version (c ∷ counted) = told_by_all (newest_stamp c.reply) (c ∷ counted)
+fast_version (c ∷ counted) = told_by_all (told_stamp c.reply) (c ∷ counted)
 
--- the bytes that a reply tells
+-- the bytes of the version that a reply tells
+abbrev pub bytes_of : Option Version → List ℕ
+bytes_of None = []
+bytes_of (Some version) = version.block
+
 abbrev pub found_bytes : Reply → List ℕ
-found_bytes (Found order (Some version)) = version.block
-found_bytes reply = []
+found_bytes reply = bytes_of (told_in reply)
 
 -- the blocks that the replies tell, by seat
 abbrev pub pieces_of : List Counted → List Piece
 pieces_of [] = []
 pieces_of (c ∷ counted) = record { seat = c.seat; bytes = found_bytes c.reply } ∷ pieces_of counted
+
+-- the greater of two stamps, where there are some
+abbrev pub greater_stamp : Option Stamp → Option Stamp → Option Stamp
+greater_stamp None b = b
+greater_stamp (Some a) None = Some a
+greater_stamp (Some a) (Some b) = if stamp_below a b then Some b else Some a
+
+-- the greatest version that the replies tell, if they tell one
+abbrev pub greatest_found : List Counted → Option Stamp
+greatest_found [] = None
+greatest_found (c ∷ counted) = greater_stamp (told_stamp c.reply) (greatest_found counted)
+
+-- the reply tells this version
+abbrev pub finds : Stamp → Counted → Bool
+finds v c = is_stamp (told_stamp c.reply)
+  where
+    is_stamp : Option Stamp → Bool
+    is_stamp None = false
+    is_stamp (Some u) = stamp_same u v
+
+-- the blocks of a version that the replies tell, by seat
+abbrev pub pieces_at : Stamp → List Counted → List Piece
+pieces_at v counted = pieces_of (filter (finds v) counted)
 
 -- the member that told a later stamp, if this one did
 abbrev pub refuser_of : Counted → Option Refuser
@@ -122,12 +167,15 @@ abbrev pub greatest_refuser : List Counted → Option Refuser
 greatest_refuser [] = None
 greatest_refuser (c ∷ counted) = greater_refuser (refuser_of c) (greatest_refuser counted)
 
--- what a stripe write writes
-abbrev pub written_content : Op → List ℕ
-written_content (WriteStripe bytes) = bytes
-written_content (ReadBlock j) = []
-written_content (WriteBlock j bytes) = []
-written_content ReadStripe = []
+-- what an operation stores: what it was given to write, or what it read back
+abbrev pub stored_by : Op → List ℕ → List ℕ
+stored_by (WriteStripe bytes) content = bytes
+stored_by (ReadBlock j) content = content
+stored_by (WriteBlock j bytes) content = content
+stored_by ReadStripe content = content
+
+abbrev pub stored_content : Coordinator → List ℕ
+stored_content c = stored_by c.ask.op c.content
 
 -- what the phase asks of the member at a seat
 unfoldable pub request_of : Code → ℕ → Coordinator → ℕ → Request
@@ -136,15 +184,16 @@ request_of code m c seat = request_in c.phase
     request_in : Phase → Request
     request_in Looks = Read All
     request_in Orders = Order c.stamp
-    request_in Stores = Write c.stamp (code.encode m (written_content c.ask.op) seat)
-    request_in Stalls = Read All
+    request_in Recovers = OrderRead c.stamp (Below c.stamp) All
+    request_in (Descends bound) = OrderRead c.stamp (Below bound) All
+    request_in Stores = Write c.stamp (code.encode m (stored_content c) seat)
 
--- What a coordinator does with a reply: it leaves it out, waits for more, begins another round of ordering, makes its version by beginning
--- to store it, or ends. An end tells the version that a fast read saw, and the one that a write stored, which may now be collected.
+-- What a coordinator does with a reply: it leaves it out, waits for more, begins its next phase, makes its version by beginning to store it, or
+-- ends. An end tells the version that a fast read saw, and the one that was stored, which may now be collected.
 pub data Next : Type 0 where
   Ignores : Next
   Waits : (c : Coordinator) → Next
-  Reorders : (c : Coordinator) → Next
+  Sends : (c : Coordinator) → Next
   Makes : (c : Coordinator) → Next
   Ends : (answer : Answer) → (seen : Option Stamp) → (stored : Option Stamp) → Next
 
@@ -152,21 +201,35 @@ pub data Next : Type 0 where
 abbrev pub next_phase : Call → Call
 next_phase call = record call { phase = call.phase + 1 }
 
--- the coordinator in its store phase
-abbrev pub storing : Coordinator → Coordinator
-storing c = record { ask = c.ask; stamp = c.stamp; round = c.round; call = next_phase c.call; phase = Stores; counted = [] }
+-- the coordinator in its next phase
+abbrev pub in_phase : Coordinator → Phase → Coordinator
+in_phase c phase =
+    record {
+      ask = c.ask;
+      stamp = c.stamp;
+      round = c.round;
+      base = c.base;
+      content = c.content;
+      call = next_phase c.call;
+      phase = phase;
+      counted = [];
+    }
+
+-- the coordinator in its store phase, where it read this version back
+abbrev pub restoring : Coordinator → Stamp → List ℕ → Coordinator
+restoring c v content = record (in_phase c Stores) { base = Some v; content = content }
 
 -- the coordinator in its next round of ordering, with a new stamp
 abbrev pub reordering : Coordinator → Stamp → Coordinator
-reordering c t = record { ask = c.ask; stamp = t; round = c.round + 1; call = next_phase c.call; phase = Orders; counted = [] }
+reordering c t = record (in_phase c c.phase) { stamp = t; round = c.round + 1 }
+
+-- the coordinator, once it forgot the replies that counted
+abbrev pub forgetting : Coordinator → Coordinator
+forgetting c = record c { counted = [] }
 
 -- how many rounds of ordering an operation may begin
 abbrev pub most_rounds : ℕ
 most_rounds = 4
-
--- the coordinator of a read that is not fast
-abbrev pub stalled : Coordinator → Coordinator
-stalled c = record { ask = c.ask; stamp = c.stamp; round = c.round; call = c.call; phase = Stalls; counted = c.counted }
 
 -- the operation is aborted, since this member told a later stamp
 abbrev pub aborted_by : Refuser → Next
@@ -180,17 +243,32 @@ unless_refused (Some r) next = aborted_by r
 -- an order that was refused is tried again with a new stamp, while there is one, and a round is left
 abbrev pub ordered_again : Option Stamp → Coordinator → Refuser → Next
 ordered_again None c r = aborted_by r
-ordered_again (Some t) c r = if nat_lt c.round most_rounds then Reorders (reordering c t) else aborted_by r
+ordered_again (Some t) c r = if nat_lt c.round most_rounds then Sends (reordering c t) else aborted_by r
 
--- an order that no counted reply refuses goes on to store
-abbrev pub once_ordered : Option Stamp → Coordinator → Option Refuser → Next
-once_ordered fresh c None = Makes (storing c)
-once_ordered fresh c (Some r) = ordered_again fresh c r
+-- an order that no counted reply refuses goes on so
+abbrev pub once_ordered : Option Stamp → Coordinator → Option Refuser → Next → Next
+once_ordered fresh c None next = next
+once_ordered fresh c (Some r) next = ordered_again fresh c r
 
--- a read is answered where its version is told by all
+-- a read is answered where its version is told by all, and else recovers
 abbrev pub answered_fast : Code → ℕ → Coordinator → Option Stamp → Next
-answered_fast code m c None = Waits (stalled c)
+answered_fast code m c None = Sends (in_phase c Recovers)
 answered_fast code m c (Some v) = Ends (Data (code.decode m (pieces_of c.counted))) (Some v) None
+
+-- A recovery reads back the greatest version found, where there are enough blocks of it, and else looks below it. Where nothing was found, it
+-- forgets the replies, and waits for more.
+abbrev pub read_back : Code → ℕ → Coordinator → Option Stamp → Next
+read_back code m c None = Waits (forgetting c)
+read_back code m c (Some v) =
+    if nat_lt (length (pieces_at v c.counted)) m then Sends (in_phase c (Descends v))
+    else Makes (restoring c v (code.decode m (pieces_at v c.counted)))
+
+-- what an operation that stored its version is answered
+abbrev pub answer_of : Op → List ℕ → Answer
+answer_of (WriteStripe bytes) content = Done
+answer_of (ReadBlock j) content = Data content
+answer_of (WriteBlock j bytes) content = Done
+answer_of ReadStripe content = Data content
 
 -- what a quorum of replies decides, where a new round would have this fresh stamp
 unfoldable pub decided : Code → ℕ → Option Stamp → Coordinator → Next
@@ -198,14 +276,14 @@ decided code m fresh c = decided_in c.phase
   where
     decided_in : Phase → Next
     decided_in Looks = answered_fast code m c (fast_version c.counted)
-    decided_in Orders = once_ordered fresh c (greatest_refuser c.counted)
-    decided_in Stores = unless_refused (greatest_refuser c.counted) (Ends Done None (Some c.stamp))
-    decided_in Stalls = Waits c
+    decided_in Orders = once_ordered fresh c (greatest_refuser c.counted) (Makes (in_phase c Stores))
+    decided_in Recovers = once_ordered fresh c (greatest_refuser c.counted) (read_back code m c (greatest_found c.counted))
+    decided_in (Descends bound) = unless_refused (greatest_refuser c.counted) (read_back code m c (greatest_found c.counted))
+    decided_in Stores = unless_refused (greatest_refuser c.counted) (Ends (answer_of c.ask.op c.content) None (Some c.stamp))
 
 -- the coordinator with one more reply
 abbrev pub with_reply : Coordinator → ℕ → BrickId → Reply → Coordinator
-with_reply c seat brick reply =
-    record { ask = c.ask; stamp = c.stamp; round = c.round; call = c.call; phase = c.phase; counted = c.counted ++ (record { seat = seat; brick = brick; reply = reply } ∷ []) }
+with_reply c seat brick reply = record c { counted = c.counted ++ (record { seat = seat; brick = brick; reply = reply } ∷ []) }
 
 -- with a quorum of replies the phase is decided
 abbrev pub once_full : Code → Group → Option Stamp → Coordinator → Next

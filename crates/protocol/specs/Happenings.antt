@@ -1,7 +1,10 @@
--- Which happenings are told of a stripe. A version is effective where an answered operation made it, or a read answered it. Effective versions
--- are walked by rising stamp: the maker, then the reads that answered it, by number, each at the greatest begin so far.
-use Rattle.std.specs.Prelude.{ℕ, zero, suc, Bool, false, not, nat_eq, ◌&&◌, ◌||◌, if◌then◌else◌, List, [], ◌∷◌, ◌++◌, Option, Some, None, filter}
+-- Which happenings are told of a stripe. A version is effective where an answered operation made it, or a read answered it at once, or where it
+-- is the base of an effective version. Effective versions are walked by rising stamp: the maker, where it is a write, or a read that was answered;
+-- then the reads that answered it at once, by number; each at the greatest begin so far.
+use Rattle.std.specs.Prelude.{ℕ, zero, suc, Bool, true, false, not, nat_eq, ◌&&◌, ◌||◌, if◌then◌else◌, List, [], ◌∷◌, ◌++◌, Option, Some, None, option_to_list}
 use Rattle.std.specs.List.{list_any}
+use Rattle.fab_base.specs.declared.asks.Op.{Op}
+use Rattle.fab_base.specs.declared.asks.Op.TheVariants.{ReadBlock, WriteBlock, ReadStripe, WriteStripe}
 use Rattle.fab_base.specs.declared.stamps.Stamp.{Stamp}
 use Rattle.fab_base.specs.Stamps.{stamp_same}
 use Rattle.reg_model.specs.declared.marks.Happening.{Happening}
@@ -33,10 +36,26 @@ abbrev pub was_answered : Option Operation → Bool
 was_answered None = false
 was_answered (Some o) = o.answered
 
--- an entry of an effective version
-abbrev pub is_effective : (ℕ → Option Operation) → List Entry → Entry → Bool
-is_effective operations entries e =
-    e.reader || (was_answered (operations e.operation) || list_any (λ r. r.reader && stamp_same r.stamp e.stamp) entries)
+-- an operation that writes
+abbrev pub writes : Op → Bool
+writes (ReadBlock j) = false
+writes (WriteBlock j bytes) = true
+writes ReadStripe = false
+writes (WriteStripe bytes) = true
+
+-- an entry's operation, where it was answered or effective, is told: a write, or an answered read
+abbrev pub is_told : Option Operation → Bool
+is_told None = false
+is_told (Some o) = o.answered || writes o.ask.op
+
+-- the version that an operation's was made on
+abbrev pub base_of : Option Operation → Option Stamp
+base_of None = None
+base_of (Some o) = o.base
+
+-- one of these is this version
+abbrev pub is_among : Stamp → List Stamp → Bool
+is_among t stamps = list_any (λ u. stamp_same u t) stamps
 
 -- an entry in its place among entries that ascend
 abbrev pub inserted : Entry → List Entry → List Entry
@@ -47,9 +66,40 @@ abbrev pub ascending : List Entry → List Entry
 ascending [] = []
 ascending (e ∷ entries) = inserted e (ascending entries)
 
+-- of entries that ascend: those that are told, the versions of those that are effective, and the versions that these make effective
+pub record Effect : Type 0 where
+  pub told : List Entry
+  pub versions : List Stamp
+  pub needed : List Stamp
+
+-- the versions that an effective entry makes effective: the one that it reads, or the one that it was made on
+abbrev pub needs : Option Operation → Entry → List Stamp
+needs operation e = if e.reader then e.stamp ∷ [] else option_to_list (base_of operation)
+
+-- An entry before others that ascend. It is effective where its operation was answered, or where its version is read, or is the base of an effective
+-- version, which is above it.
+abbrev pub with_entry : Option Operation → Entry → Effect → Effect
+with_entry operation e above =
+    if was_answered operation || is_among e.stamp above.needed
+    then record {
+      told = (if is_told operation then e ∷ above.told else above.told);
+      versions = e.stamp ∷ above.versions;
+      needed = needs operation e ++ above.needed;
+    }
+    else above
+
+-- the effect of entries that ascend, from the greatest down
+abbrev pub effect_of : (ℕ → Option Operation) → List Entry → Effect
+effect_of operations [] = record { told = []; versions = []; needed = [] }
+effect_of operations (e ∷ entries) = with_entry (operations e.operation) e (effect_of operations entries)
+
+-- what is effective of a stripe
+abbrev pub effect_in : World → ℕ → ℕ → Effect
+effect_in w g s = effect_of w.operations (ascending (entries_to w.operations g s w.begun))
+
 -- the walk along a stripe's effective versions
 unfoldable pub walk_of : World → ℕ → ℕ → List Entry
-walk_of w g s = let entries = entries_to w.operations g s w.begun in ascending (filter (is_effective w.operations entries) entries)
+walk_of w g s = (effect_in w g s).told
 
 -- the happenings of a stripe
 unfoldable pub happenings_of : World → ℕ → ℕ → List Happening

@@ -1,7 +1,8 @@
 -- The laws of the disk, as they hold in every world that a run reaches. Quorums are counted by seat.
-use Rattle.std.specs.Prelude.{◌≡◌, ℕ, ◌+◌, ◌<◌, ◌≤◌, Bool, true, false, not, List, length, ◌⊎◌, Some, is_some, slice_get, slice_index_or}
+use Rattle.std.specs.Prelude.{◌≡◌, ℕ, ◌+◌, ◌<◌, ◌≤◌, Bool, true, false, not, ◌&&◌, List, length, ◌⊎◌, Some, is_some, slice_get, slice_index_or}
 use Rattle.fab_base.specs.declared.identities.BrickId.{BrickId}
 use Rattle.fab_base.specs.declared.stamps.Stamp.{Stamp}
+use Rattle.fab_base.specs.declared.asks.Op.TheVariants.{WriteStripe}
 use Rattle.fab_base.specs.declared.answers.Answer.TheVariants.{Aborted}
 use Rattle.fab_base.specs.declared.answers.Cause.TheVariants as Cause
 use Rattle.fab_base.specs.Stamps.{stamp_below}
@@ -10,7 +11,9 @@ use Rattle.fab_wire.specs.declared.messages.Message.{Message}
 use Rattle.fab_wire.specs.declared.messages.Packet.{Packet}
 use Rattle.fab_wire.specs.declared.requests.Version.{Version}
 use Rattle.fab_wire.specs.declared.requests.Request.TheVariants as Request
-use Rattle.fab_wire.specs.declared.replies.Reply.TheVariants as Reply
+use Rattle.fab_wire.specs.declared.requests.Look.TheVariants as Look
+use Rattle.fab_wire.specs.declared.requests.Want.TheVariants as Want
+use Rattle.fab_wire.specs.declared.replies.Reply.{Reply}
 use Rattle.quorum.specs.Quorums.{count}
 use Rattle.reg_model.specs.declared.marks.Mark.TheVariants.{End}
 use Rattle.reg_model.specs.Marks.{life_of, stripe_marks, IsWellFormed}
@@ -18,10 +21,10 @@ use Rattle.reg_model.specs.Strict.{IsStrict}
 use Rattle.reg_model.specs.Walk.{last_of}
 use Rattle.protocol.specs.Settings.{Setting, Group, group_of, quorum_of, IsSound, seat_in}
 use Rattle.protocol.specs.Replicas.{Replica, top_of, is_held}
-use Rattle.protocol.specs.Coordinators.{Counted, most_rounds, greatest_refuser}
+use Rattle.protocol.specs.Coordinators.{Counted, most_rounds, greatest_refuser, told_in}
 use Rattle.protocol.specs.Nodes.{has_later_time}
 use Rattle.protocol.specs.Worlds.{World, Event, Operation, first_world, happens, run}
-use Rattle.protocol.specs.Happenings.{is_of, happenings_of}
+use Rattle.protocol.specs.Happenings.{is_of, effect_in, happenings_of}
 
 -- the packet was sent
 abbrev pub WasSent : World → Packet → Type 0
@@ -47,14 +50,48 @@ IsGuarded w g s group t = AtQuorum group (λ seat. not (stamp_below (top_of (par
 abbrev pub WriteSent : World → Call → BrickId → BrickId → Stamp → List ℕ → Type 0
 WriteSent w call from to t block = WasSent w (record { from = from; to = to; message = Message.Request call (Request.Write t block) })
 
--- One stamp has one content: each block of version t that was sent or is kept is its seat's block of the content of t.
+-- One stamp has one content: each block of version t that was sent, or was found, or is kept is its seat's block of the content of t.
 pub record OneContent (setting : Setting) (w : World) : Type 0 where
   pub sent : (call : Call) (from to : BrickId) (t : Stamp) (block : List ℕ) (group : Group)
       → group_of setting.layout call.group.0 ≡ Some group → WriteSent w call from to t block
       → (seat : ℕ) × (seat < length group.members) × (brick_at group seat ≡ to.0)
       × (block ≡ setting.code.encode group.m (w.contents call.group.0 call.stripe.0 t) seat)
+  pub found : (call : Call) (from to : BrickId) (seat : ℕ) (reply : Reply) (version : Version) (group : Group)
+      → group_of setting.layout call.group.0 ≡ Some group → seat_in group.members from.0 ≡ Some seat
+      → WasSent w (record { from = from; to = to; message = Message.Reply call reply }) → told_in reply ≡ Some version
+      → version.block ≡ setting.code.encode group.m (w.contents call.group.0 call.stripe.0 version.stamp) seat
   pub kept : (g s i seat k : ℕ) (version : Version) (group : Group) → group_of setting.layout g ≡ Some group → seat_in group.members i ≡ Some seat
       → slice_get (part_of w g s i).log k ≡ Some version → version.block ≡ setting.code.encode group.m (w.contents g s version.stamp) seat
+
+-- At so many seats that with a quorum they are more than all, the stripe's stamps are above version d, and d is not held: no quorum holds d, or
+-- ever will.
+abbrev pub IsBlocked : World → ℕ → ℕ → Group → Stamp → Type 0
+IsBlocked w g s group d =
+    length group.members < quorum_of group
+    + count (length group.members) (λ seat. stamp_below d (top_of (part_of w g s (brick_at group seat)))
+    && not (is_held d (part_of w g s (brick_at group seat)).log))
+
+-- An operation that made a version on a base, a version that was read back: the base is below it, and is its content; and no quorum holds
+-- a version between the two, or ever will.
+abbrev pub BasesAreNewest : Setting → World → Type 0
+BasesAreNewest setting w =
+    (n : ℕ) (o : Operation) (t b : Stamp) (group : Group) → w.operations n ≡ Some o → group_of setting.layout o.ask.group.0 ≡ Some group
+    → o.made ≡ true → o.version ≡ Some t → o.base ≡ Some b
+    → (stamp_below b t ≡ true)
+    × (w.contents o.ask.group.0 o.ask.stripe.0 t ≡ w.contents o.ask.group.0 o.ask.stripe.0 b)
+    × ((d : Stamp) → stamp_below b d ≡ true → stamp_below d t ≡ true → IsBlocked w o.ask.group.0 o.ask.stripe.0 group d)
+
+-- an operation of the stripe made this version: it is a stripe write, which has no base, or its base is u
+abbrev pub IsMadeOn : World → ℕ → ℕ → Stamp → Stamp → Type 0
+IsMadeOn w g s u t =
+    (n : ℕ) × (o : Operation) × (w.operations n ≡ Some o) × (is_of g s o ≡ true) × (o.made ≡ true) × (o.version ≡ Some t)
+    × (((bytes : List ℕ) × (o.ask.op ≡ WriteStripe bytes)) ⊎ (o.base ≡ Some u))
+
+-- of two neighbours among the effective versions, the upper was written whole, or was made on the lower
+abbrev pub NeighboursFollow : World → ℕ → ℕ → Type 0
+NeighboursFollow w g s =
+    (k : ℕ) (u t : Stamp) → slice_get (effect_in w g s).versions k ≡ Some u → slice_get (effect_in w g s).versions (k + 1) ≡ Some t
+    → (u ≡ t) ⊎ IsMadeOn w g s u t
 
 -- Before a write of version t was sent, a quorum had promised t, or stored something later, and has so ever since.
 abbrev pub WritesAreGuarded : Setting → World → Type 0
@@ -82,11 +119,18 @@ FollowsRealTime w g s =
     → last_of (life_of w.marks a) < later.begin
     → (stamp_below u v ≡ true) ⊎ ((u ≡ v) × (later.made ≡ false))
 
--- an order or a write of stamp t was sent
+-- an order of stamp t was sent, a write's or a recovery's
+abbrev pub OrderSent : World → Call → BrickId → BrickId → Stamp → Type 0
+OrderSent w call from to t =
+    WasSent w (record { from = from; to = to; message = Message.Request call (Request.Order t) })
+    ⊎ WasSent w (record { from = from; to = to; message = Message.Request call (Request.OrderRead t (Look.Below t) Want.All) })
+
+-- an order or a write of stamp t was sent, or an order that looks below another version
 abbrev pub AskedAt : World → Call → BrickId → BrickId → Stamp → Type 0
 AskedAt w call from to t =
-    WasSent w (record { from = from; to = to; message = Message.Request call (Request.Order t) })
-    ⊎ ((block : List ℕ) × WriteSent w call from to t block)
+    OrderSent w call from to t
+    ⊎ (((bound : Stamp) × WasSent w (record { from = from; to = to; message = Message.Request call (Request.OrderRead t (Look.Below bound) Want.All) }))
+    ⊎ ((block : List ℕ) × WriteSent w call from to t block))
 
 -- A phase of operation n is its last round of ordering: each of the three phases before it had counted a later stamp, or the brick that
 -- coordinates it knows no later time.
@@ -107,7 +151,7 @@ pub record Evidence (w : World) (n : ℕ) (o : Operation) (brick : BrickId) (x :
   pub told : WasSent w (record { from = brick; to = o.brick; message = Message.Reply call (Reply.Later x) })
   pub above : stamp_below stamp x ≡ true
   pub greatest : greatest_refuser (w.replies n call.phase) ≡ Some (record { seat = seat; brick = brick; stamp = x })
-  pub last : WasSent w (record { from = o.brick; to = brick; message = Message.Request call (Request.Order stamp) }) → IsLastRound w n o call.phase
+  pub last : OrderSent w call o.brick brick stamp → IsLastRound w n o call.phase
 
 -- each reply that counted in a phase of an operation was sent to it, as a reply to that phase
 abbrev pub CountedWereSent : World → Type 0
@@ -128,6 +172,8 @@ pub record Laws (setting : Setting) (w : World) : Type 0 where
   pub one_content : OneContent setting w
   pub guarded : WritesAreGuarded setting w
   pub stored : StoredIsHeld w
+  pub bases : BasesAreNewest setting w
+  pub neighbours : (g s : ℕ) → NeighboursFollow w g s
   pub real_time : (g s : ℕ) → FollowsRealTime w g s
   pub counted : CountedWereSent w
   pub aborts : AbortsShow w
@@ -135,6 +181,18 @@ pub record Laws (setting : Setting) (w : World) : Type 0 where
   pub stripe_well_formed : (g s : ℕ) → IsWellFormed (stripe_marks g s w.marks)
   pub strict : (g s : ℕ) (group : Group) → group_of setting.layout g ≡ Some group
       → IsStrict group.m setting.layout.block (stripe_marks g s w.marks) (happenings_of w g s)
+
+-- Where a quorum's stamps are at or above t, and fewer than m of it hold version v below t, no quorum will ever hold v.
+abbrev pub NeverSurfaces : Type 0
+NeverSurfaces =
+    (setting : Setting) (events more : List Event) (g s : ℕ) (group : Group) (t v : Stamp) (seats : ℕ → Bool) → IsSound setting
+    → group_of setting.layout g ≡ Some group
+    → (let w = run setting events (first_world setting.layout) in
+    AtQuorum group seats
+    → ((seat : ℕ) → seats seat ≡ true → stamp_below (top_of (part_of w g s (brick_at group seat))) t ≡ false)
+    → stamp_below v t ≡ true
+    → count (length group.members) (λ seat. seats seat && is_held v (part_of w g s (brick_at group seat)).log) < group.m
+    → AtQuorum group (λ seat. is_held v (part_of (run setting more w) g s (brick_at group seat)).log) → ⊥)
 
 -- the laws hold in every world that a run reaches, for every layout within the limits and every code that gives back what it encodes
 abbrev pub EveryRunKeepsTheLaws : Type 0

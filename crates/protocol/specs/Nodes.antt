@@ -1,5 +1,5 @@
 -- One brick: the members' parts of stripes that it keeps, and the operations that it coordinates.
-use Rattle.std.specs.Prelude.{ℕ, ◌+◌, ◌-◌, ◌*◌, ◌^◌, Bool, true, false, not, nat_eq, nat_lt, ◌||◌, if◌then◌else◌, List, [], ◌∷◌, length, Option, Some, None, max}
+use Rattle.std.specs.Prelude.{ℕ, ◌+◌, ◌-◌, ◌*◌, ◌^◌, Bool, true, false, not, nat_eq, nat_lt, ◌&&◌, ◌||◌, if◌then◌else◌, List, [], ◌∷◌, length, Option, Some, None, max}
 use Rattle.fab_base.specs.declared.identities.BrickId.{BrickId}
 use Rattle.fab_base.specs.declared.stamps.Stamp.{Stamp}
 use Rattle.fab_base.specs.declared.asks.Ask.{Ask}
@@ -13,9 +13,9 @@ use Rattle.fab_wire.specs.declared.requests.Request.{Request}
 use Rattle.fab_wire.specs.declared.replies.Reply.{Reply}
 pub use Rattle.protocol.specs.declared.tellings.Told.{Told}
 pub use Rattle.protocol.specs.declared.tellings.Told.TheVariants.{Nothing, Made, Answers}
-use Rattle.protocol.specs.Settings.{Setting, Layout, Group, group_of, seat_in}
+use Rattle.protocol.specs.Settings.{Setting, Layout, Group, group_of, seat_in, are_bytes}
 use Rattle.protocol.specs.Replicas.{Replica, Reaction, first_replica, handle}
-use Rattle.protocol.specs.Coordinators.{Phase, Looks, Orders, Coordinator, Next, Ignores, Waits, Reorders, Makes, Ends, request_of, on_reply}
+use Rattle.protocol.specs.Coordinators.{Phase, Looks, Orders, Coordinator, Next, Ignores, Waits, Sends, Makes, Ends, request_of, on_reply}
 
 -- a function with one value changed
 abbrev pub put : {A : Type 0} → (ℕ → A) → ℕ → A → ℕ → A
@@ -73,12 +73,12 @@ has_block m (WriteBlock j bytes) = nat_lt j m
 has_block m ReadStripe = true
 has_block m (WriteStripe bytes) = true
 
--- the bytes to write are one block, or m blocks
+-- what is to be written is the bytes of one block, or of m blocks
 abbrev pub has_length : ℕ → ℕ → Op → Bool
 has_length m block (ReadBlock j) = true
-has_length m block (WriteBlock j bytes) = nat_eq (length bytes) block
+has_length m block (WriteBlock j bytes) = are_bytes bytes && nat_eq (length bytes) block
 has_length m block ReadStripe = true
-has_length m block (WriteStripe bytes) = nat_eq (length bytes) (m * block)
+has_length m block (WriteStripe bytes) = are_bytes bytes && nat_eq (length bytes) (m * block)
 
 -- a time is left above the greatest that is known
 abbrev pub has_later_time : ℕ → Bool
@@ -132,6 +132,8 @@ new_coordinator me now node ask =
       ask = ask;
       stamp = new_stamp me now node.boot node.known;
       round = 1;
+      base = None;
+      content = [];
       call = record { boot = node.boot; seq = node.seq + 1; phase = 1; group = ask.group; view = record { 0 = 1 }; stripe = ask.stripe };
       phase = first_phase ask.op;
       counted = [];
@@ -217,10 +219,10 @@ abbrev pub carried_out : Setting → Group → BrickId → Node → ℕ → Coor
 carried_out setting group me node known c Ignores = no_step (with_known node known)
 carried_out setting group me node known c (Waits d) =
     record { node = with_call node known node.busy c.call.seq (Some d); packets = []; told = Nothing }
-carried_out setting group me node known c (Reorders d) =
-    record { node = with_call node d.stamp.time node.busy c.call.seq (Some d); packets = phase_packets setting group me d; told = Nothing }
+carried_out setting group me node known c (Sends d) =
+    record { node = with_call node (max known d.stamp.time) node.busy c.call.seq (Some d); packets = phase_packets setting group me d; told = Nothing }
 carried_out setting group me node known c (Makes d) =
-    record { node = with_call node known node.busy c.call.seq (Some d); packets = phase_packets setting group me d; told = Made c.call.seq d.stamp }
+    record { node = with_call node known node.busy c.call.seq (Some d); packets = phase_packets setting group me d; told = Made c.call.seq d.stamp d.base }
 carried_out setting group me node known c (Ends answer seen stored) =
     record {
       node = with_call node known (node.busy - 1) c.call.seq None;

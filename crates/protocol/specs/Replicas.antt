@@ -1,14 +1,16 @@
 -- A member's part of a stripe, and what it does with each request (Frølund 2004, the storage replica).
-use Rattle.std.specs.Prelude.{ℕ, Bool, true, false, nat_eq, ◌||◌, if◌then◌else◌, List, [], ◌∷◌, ◌++◌, Option, Some, None, replicate}
+use Rattle.std.specs.Prelude.{ℕ, Bool, true, false, nat_eq, ◌||◌, if◌then◌else◌, List, [], ◌∷◌, ◌++◌, Option, Some, None, replicate, filter}
 use Rattle.fab_base.specs.declared.stamps.Stamp.{Stamp}
 use Rattle.fab_base.specs.Stamps.{stamp_below, stamp_same, first_stamp}
 use Rattle.fab_wire.specs.declared.requests.Version.{Version}
+use Rattle.fab_wire.specs.declared.requests.Look.{Look}
+use Rattle.fab_wire.specs.declared.requests.Look.TheVariants.{Below, At}
 use Rattle.fab_wire.specs.declared.requests.Want.{Want}
 use Rattle.fab_wire.specs.declared.requests.Want.TheVariants.{Seat, All}
 use Rattle.fab_wire.specs.declared.requests.Request.{Request}
 use Rattle.fab_wire.specs.declared.requests.Request.TheVariants.{Read, Order, OrderRead, Write, Modify, Collect, OldRead, Prepare, Accept}
 use Rattle.fab_wire.specs.declared.replies.Reply.{Reply}
-use Rattle.fab_wire.specs.declared.replies.Reply.TheVariants.{Found, Ordered, Stored, Later}
+use Rattle.fab_wire.specs.declared.replies.Reply.TheVariants.{Found, Ordered, OrderedRead, Stored, Later}
 
 -- the stamp that the member has promised to take nothing below, and its log of versions, oldest first
 pub record Replica : Type 0 where
@@ -72,13 +74,29 @@ written replica t block =
     else if stamp_below t (top_of replica) then record { replica = replica; reply = Some (Later (top_of replica)) }
     else record { replica = record { order = replica.order; log = replica.log ++ (record { stamp = t; block = block } ∷ []) }; reply = Some Stored }
 
+-- the versions of a log that are below a bound
+abbrev pub below : Stamp → List Version → List Version
+below bound log = filter (λ version. stamp_below version.stamp bound) log
+
+-- the version that is looked for in a log: the newest one below a bound, or the one of a stamp
+abbrev pub looked_up : Look → List Version → Option Version
+looked_up (Below bound) log = newest_of (below bound log)
+looked_up (At t) log = newest_of (filter (λ version. stamp_same version.stamp t) log)
+
+-- promise to take nothing below t, unless something later was promised or stored, and tell a version
+abbrev pub order_read : Replica → Stamp → Look → Bool → Reaction
+order_read replica t look wanted =
+    if stamp_below t (top_of replica)
+    then record { replica = replica; reply = Some (Later (top_of replica)) }
+    else record { replica = record { order = t; log = replica.log }; reply = Some (OrderedRead (told_version wanted (looked_up look replica.log))) }
+
 -- What the member at a seat does with a request. Versions are not collected yet, and no coordinator sends the requests that are ignored here.
 unfoldable pub handle : ℕ → Replica → Request → Reaction
 handle seat replica (Read want) =
     record { replica = replica; reply = Some (Found replica.order (told_version (is_wanted want seat) (newest_of replica.log))) }
 handle seat replica (Order t) = ordered replica t
 handle seat replica (Write t block) = written replica t block
-handle seat replica (OrderRead t look want) = record { replica = replica; reply = None }
+handle seat replica (OrderRead t look want) = order_read replica t look (is_wanted want seat)
 handle seat replica (Modify t base j delta) = record { replica = replica; reply = None }
 handle seat replica (Collect t) = record { replica = replica; reply = None }
 handle seat replica (OldRead bound) = record { replica = replica; reply = None }

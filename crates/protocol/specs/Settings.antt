@@ -1,7 +1,7 @@
 -- What does not change while a disk runs: its bricks and groups, and the code that keeps a stripe.
-use Rattle.std.specs.Prelude.{◌≡◌, ℕ, ◌+◌, ◌*◌, ◌<◌, ◌≤◌, nat_eq, if◌then◌else◌, List, [], ◌∷◌, length, Option, Some, None, map, slice_get, replicate}
+use Rattle.std.specs.Prelude.{◌≡◌, ℕ, ◌+◌, ◌*◌, ◌<◌, ◌≤◌, nat_eq, nat_lt, Bool, true, if◌then◌else◌, List, [], ◌∷◌, length, Option, Some, None, map, slice_get, replicate}
 use Rattle.std.specs.Option.{option_map}
-use Rattle.std.specs.List.{IsDistinct}
+use Rattle.std.specs.List.{IsDistinct, list_all}
 use Rattle.fab_base.specs.declared.identities.BrickId.{BrickId}
 use Rattle.reg_model.specs.Registers.{zero_registers}
 use Rattle.quorum.specs.Quorums.{q_of, IsWithinLimits}
@@ -34,10 +34,14 @@ pub record ArePiecesOf (code : Code) (m n : ℕ) (content : List ℕ) (pieces : 
   pub seats : (k : ℕ) (piece : Piece) → slice_get pieces k ≡ Some piece → piece.seat < n
   pub blocks : (k : ℕ) (piece : Piece) → slice_get pieces k ≡ Some piece → piece.bytes ≡ code.encode m content piece.seat
 
+-- the numbers are bytes
+abbrev pub are_bytes : List ℕ → Bool
+are_bytes bytes = list_all (λ byte. nat_lt byte 256) bytes
+
 -- any m pieces of a content of m blocks give it back
 abbrev pub AnyBlocksDecode : Code → ℕ → ℕ → ℕ → Type 0
 AnyBlocksDecode code block m n =
-    (content : List ℕ) (pieces : List Piece) → length content ≡ m * block → ArePiecesOf code m n content pieces → m ≤ length pieces
+    (content : List ℕ) (pieces : List Piece) → length content ≡ m * block → are_bytes content ≡ true → ArePiecesOf code m n content pieces → m ≤ length pieces
     → code.decode m pieces ≡ content
 
 -- a disk: its layout, and its code

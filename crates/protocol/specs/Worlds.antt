@@ -16,7 +16,7 @@ use Rattle.reg_model.specs.declared.marks.Mark.TheVariants.{Begin, End}
 use Rattle.reg_model.specs.Registers.{zero_registers}
 use Rattle.protocol.specs.Settings.{Setting, Layout, Group, group_of}
 use Rattle.protocol.specs.Replicas.{top_of}
-use Rattle.protocol.specs.Coordinators.{Counted, Coordinator, written_content, counts_at}
+use Rattle.protocol.specs.Coordinators.{Counted, Coordinator, stored_content, counts_at}
 use Rattle.protocol.specs.Nodes.{Node, NodeStep, Told, Nothing, Made, Answers, put, first_node, is_stripe_op, refusal_of, invoked, received}
 
 -- what happens next: a brick is asked for an operation, the message of a number, counted from 1 in the order of sending, is delivered, or a
@@ -27,7 +27,7 @@ pub data Event : Type 0 where
   Sets : (brick : BrickId) → (time : ℕ) → Event
 
 -- What is known of an operation, by number: its coordinator and call number, where it begins, what it asks, the version that it made or
--- read, whether it made it, whether it was answered; and, for the proof alone, how far each brick's part of the stripe had come when it began.
+-- read, whether it made it, and on which base, whether it was answered; and, for the proof alone, how far each brick's part of the stripe had come when it began.
 pub record Operation : Type 0 where
   pub brick : BrickId
   pub seq : ℕ
@@ -35,6 +35,7 @@ pub record Operation : Type 0 where
   pub ask : Ask
   pub version : Option Stamp
   pub made : Bool
+  pub base : Option Stamp
   pub answered : Bool
   pub floor : ℕ → Stamp
 
@@ -97,6 +98,7 @@ world_began w brick ask step =
         ask = ask;
         version = None;
         made = false;
+        base = None;
         answered = false;
         floor = λ i. top_of ((w.nodes i).replicas ask.group.0 ask.stripe.0);
       }));
@@ -111,11 +113,10 @@ is_answer (Data bytes) = true
 is_answer Done = true
 is_answer (Aborted cause) = false
 
--- the operation has made a version
-abbrev pub with_made : Stamp → Option Operation → Option Operation
-with_made t None = None
-with_made t (Some o) =
-    Some (record { brick = o.brick; seq = o.seq; begin = o.begin; ask = o.ask; version = Some t; made = true; answered = o.answered; floor = o.floor })
+-- the operation has made a version, on this base
+abbrev pub with_made : Stamp → Option Stamp → Option Operation → Option Operation
+with_made t base None = None
+with_made t base (Some o) = Some (record o { version = Some t; made = true; base = base })
 
 -- the version that an operation made, else the one that it saw
 abbrev pub version_after : Option Stamp → Option Stamp → Option Stamp
@@ -125,24 +126,14 @@ version_after made (Some v) = Some v
 -- the operation is answered
 abbrev pub with_answer : Answer → Option Stamp → Option Operation → Option Operation
 with_answer answer seen None = None
-with_answer answer seen (Some o) =
-    Some (record {
-      brick = o.brick;
-      seq = o.seq;
-      begin = o.begin;
-      ask = o.ask;
-      version = version_after o.version seen;
-      made = o.made;
-      answered = is_answer answer;
-      floor = o.floor;
-    })
+with_answer answer seen (Some o) = Some (record o { version = version_after o.version seen; answered = is_answer answer })
 
--- the contents with that of a new version
-abbrev pub with_content : (ℕ → ℕ → Stamp → List ℕ) → Stamp → Option Operation → ℕ → ℕ → Stamp → List ℕ
+-- the contents with that of a new version, which this coordinator stores
+abbrev pub with_content : (ℕ → ℕ → Stamp → List ℕ) → Stamp → Option Coordinator → ℕ → ℕ → Stamp → List ℕ
 with_content contents t None = contents
-with_content contents t (Some o) =
-    put contents o.ask.group.0 (put (contents o.ask.group.0) o.ask.stripe.0
-    (λ u. if stamp_same u t then written_content o.ask.op else contents o.ask.group.0 o.ask.stripe.0 u))
+with_content contents t (Some c) =
+    put contents c.ask.group.0 (put (contents c.ask.group.0) c.ask.stripe.0
+    (λ u. if stamp_same u t then stored_content c else contents c.ask.group.0 c.ask.stripe.0 u))
 
 -- the world after a brick's step on a message
 abbrev pub world_stepped : World → BrickId → NodeStep → Told → World
@@ -158,16 +149,16 @@ world_stepped w brick step Nothing =
       contents = w.contents;
       replies = w.replies;
     }
-world_stepped w brick step (Made seq t) =
+world_stepped w brick step (Made seq t base) =
     record {
       nodes = put w.nodes brick.0 step.node;
       clocks = w.clocks;
       packets = w.packets ++ step.packets;
       marks = w.marks;
       begun = w.begun;
-      operations = put w.operations (w.numbers brick.0 seq) (with_made t (w.operations (w.numbers brick.0 seq)));
+      operations = put w.operations (w.numbers brick.0 seq) (with_made t base (w.operations (w.numbers brick.0 seq)));
       numbers = w.numbers;
-      contents = with_content w.contents t (w.operations (w.numbers brick.0 seq));
+      contents = with_content w.contents t (step.node.calls seq);
       replies = w.replies;
     }
 world_stepped w brick step (Answers seq answer seen) =

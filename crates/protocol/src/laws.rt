@@ -1,6 +1,6 @@
 //! The laws of the disk. Each call does nothing: its contract is the law.
 
-ghost use Rattle.protocol.specs.Laws.{EveryRunKeepsTheLaws, NoEventLowers};
+ghost use Rattle.protocol.specs.Laws.{EveryRunKeepsTheLaws, NeverSurfaces, NoEventLowers};
 
 /// Every run of the disk keeps its laws, whatever is asked of it, whatever its clocks read, and whichever of its messages are
 /// delivered, lost, repeated or overtaken.
@@ -12,10 +12,13 @@ ghost use Rattle.protocol.specs.Laws.{EveryRunKeepsTheLaws, NoEventLowers};
 ///   its happenings, each between the begin and the end of its operation, make its blocks plain registers, and every operation
 ///   that was answered is among them.
 /// - Versions follow real time (Frølund et al., "A Decentralized Algorithm for Erasure-Coded Virtual Disks", DSN 2004).
-/// - One stamp has one content: every block that was sent to be written under a stamp, and every
-///   block that a member keeps under it, is its seat's block of that content.
+/// - One stamp has one content: every block that was sent to be written under a stamp, that was found under it, or that a member
+///   keeps under it, is its seat's block of that content.
 /// - Before a version was sent to be written, a quorum had promised to take nothing below its stamp.
 /// - A member says that it stored a version only where it was asked to, and holds it.
+/// - A recovery makes its version on a base: the base is below it, and is its content; and no quorum holds a version between the
+///   two, or ever will (Frølund et al., DSN 2004).
+/// - Of two neighbours among the versions that take effect, the upper was written whole, or was made on the lower.
 /// - Each reply that counted in a phase of an operation was sent to its coordinator, as a reply to that phase.
 /// - An operation is aborted only where a member had told its coordinator of a later stamp than the one that it was asked at, and
 ///   no reply that counted in that phase told a greater one. A round of ordering, of which an operation has four at most, aborts
@@ -29,4 +32,11 @@ pub fn every_run_keeps_the_laws()
 /// version's stamp never falls (Frølund et al., DSN 2004).
 pub fn no_event_lowers()
     ensures { NoEventLowers }
+{}
+
+/// A version that is lost never surfaces: where a quorum has promised a stamp, or stored something as late, and fewer than m of
+/// it hold a version below that stamp, no quorum holds that version at any later time (Frølund et al., DSN 2004; Aguilera and
+/// Frølund 2003).
+pub fn no_lost_version_surfaces()
+    ensures { NeverSurfaces }
 {}

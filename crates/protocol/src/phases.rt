@@ -3,17 +3,20 @@
 use fab_base::{BrickId, Stamp};
 use fab_wire::Reply;
 
-/// The phase that an operation is in (Frølund 2004: a read looks; a write orders, and then stores).
+/// The phase that an operation is in (Frølund 2004: a read looks, and recovers where it finds no version that all tell; a write orders, and
+/// then stores).
 #[derive(Clone, Copy, Debug, PartialEq, Eq)]
 pub enum Phase {
     /// A read has asked each member for its newest version.
     Looks,
-    /// A write has asked each member to promise its stamp.
+    /// A stripe write has asked each member to promise its stamp.
     Orders,
-    /// A write has sent each member its block.
+    /// A recovery has asked each member to promise its stamp, and for its newest version below that.
+    Recovers,
+    /// A recovery that found too few blocks of a version has asked each member for its newest version below this one.
+    Descends(Stamp),
+    /// An operation that made a version has sent each member its block.
     Stores,
-    /// A read that cannot answer at once: it stays open, and counts no more replies.
-    Stalls,
 }
 
 /// A reply that counts in the present phase.

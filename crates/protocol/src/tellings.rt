@@ -13,6 +13,8 @@ pub enum Told {
         seq: u64,
         /// The version's stamp.
         stamp: Stamp,
+        /// The version that it was made on; a stripe write makes one on none.
+        base: Option<Stamp>,
     },
     /// The operation is answered.
     Answers {

@@ -1,3 +1,4 @@
+pub mod Chains
 pub mod Fits
 pub mod Lives
 pub mod Marks

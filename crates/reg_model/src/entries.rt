@@ -10,7 +10,7 @@ use fab_base::Stamp;
 pub struct Entry {
     /// The version's stamp.
     pub stamp: Stamp,
-    /// Whether the operation read the version; else it made it.
+    /// Whether the operation read the version; else it made it, by a write or by a read that wrote back what it recovered.
     pub reader: bool,
     /// The operation's number.
     pub operation: u64,

@@ -6,7 +6,8 @@
 //! crashed, has happened by then or never happens.
 //!
 //! `specs/Walk` says which facts on a stripe's versions make happenings strict, where operations happen in the order of the
-//! versions that they made or read: [`Entry`] is a step of such a walk.
+//! versions that they made or read: [`Entry`] is a step of such a walk. `specs/Chains` says which versions may have been made on
+//! which: what a recovery or a write of one block makes has a base, and of two neighbours the upper was made on the lower.
 #![tactic(auto)]
 
 pub mod checker;

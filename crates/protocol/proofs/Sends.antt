@@ -1,0 +1,149 @@
+-- A coordinator begins its next phase, which makes no version yet: a recovery, a look below a lower bound, or another round of ordering.
+use Rattle.std.proofs.Common.{◌≡◌, ℕ, ◌+◌, ◌≤◌, max, ◌⊎◌, inl, inr, true, false, List, [], Some, None, refl, sym, ap, ◌∙◌, subst, arith}
+use Rattle.std.specs.Prelude.{slice_get}
+use Rattle.fab_base.specs.declared.identities.BrickId.{BrickId}
+use Rattle.fab_base.specs.declared.stamps.Stamp.{Stamp}
+use Rattle.fab_base.specs.Stamps.{stamp_below, first_stamp}
+use Rattle.fab_wire.specs.declared.messages.Packet.{Packet}
+use Rattle.protocol.specs.Settings.{Setting, Group}
+use Rattle.protocol.specs.Coordinators.{Coordinator, Phase, Looks, Orders, Recovers, Descends, Stores, next_phase, request_of}
+use Rattle.protocol.specs.Nodes.{Node, with_call, phase_packets}
+use Rattle.protocol.specs.Worlds.{World, Operation}
+use Rattle.protocol.proofs.Books.{Books, CallBooks, IsCall}
+use Rattle.protocol.proofs.Said.{Begun, Stamping, Said, IsSaid, IsBegun, AreBlocked, IsStampOf, IsCalled, FitsPhase, RequestSays, PacketSays, CallSays}
+use Rattle.protocol.proofs.Tables.{put_each, put_same, sent_to_member}
+use Rattle.protocol.proofs.Stampings.{ComesFrom, StampsGrow, with_stamp, stamp_now, stamps_other, stamp_last, stamps_grow, stamps_say}
+use Rattle.protocol.proofs.Growth.{Grows, stay_blocked}
+use Rattle.protocol.proofs.Steps.{keeps_same, seqs_by, known_by, quiet, quiet_grows, said_quiet}
+
+-- the versions from a bound up to t
+abbrev pub IsCovered : Stamp → Stamp → Stamp → Type 0
+IsCovered bound t d = (stamp_below d bound ≡ false) × (stamp_below d t ≡ true)
+
+-- a phase that asks for promises of t; where it looks below a bound above the first stamp, no quorum holds anything from there up to t
+abbrev pub AsksPromises : Setting → World → ℕ → ℕ → Stamp → Phase → Type 0
+AsksPromises setting w g s t Looks = ⊥
+AsksPromises setting w g s t Orders = Unit {0}
+AsksPromises setting w g s t Recovers = Unit {0}
+AsksPromises setting w g s t (Descends bound) =
+    (stamp_below first_stamp bound ≡ true) × (stamp_below bound t ≡ true) × AreBlocked setting w g s (IsCovered bound t)
+AsksPromises setting w g s t Stores = ⊥
+
+module _ (setting : Setting) (w : World) (stamps : Stamping) (me : BrickId) (c : Coordinator) (group : Group) (known : ℕ) (books : Books setting w)
+    (said : Said setting w stamps) (is : IsCall w me.0 c.call.seq c) (more_known : (w.nodes me.0).known ≤ known) (t : Stamp) (round : ℕ) (phase : Phase)
+    (of : IsStampOf (max known t.time) me.0 t) (from : ComesFrom stamps me.0 c.call.seq t) (fits : FitsPhase phase c.ask.op)
+    (unbased : phase ≡ Orders → c.base ≡ None) (asks : AsksPromises setting w c.ask.group.0 c.ask.stripe.0 t phase) where
+  abbrev its : CallBooks setting w me.0 c.call.seq c
+  its = books.calls me.0 c.call.seq c is
+
+  abbrev o : Operation
+  o = (books.calls me.0 c.call.seq c is).operation
+
+  says : CallSays setting w stamps me.0 c.call.seq c
+  says = said.calls me.0 c.call.seq c is
+
+  -- the coordinator in its next phase
+  abbrev d_in : Phase → Coordinator
+  d_in p =
+      record { ask = c.ask; stamp = t; round = round; base = c.base; content = c.content; call = next_phase c.call; phase = p; counted = [] }
+
+  abbrev d : Coordinator
+  d = d_in phase
+
+  abbrev node : Node
+  node = with_call (w.nodes me.0) (max known t.time) (w.nodes me.0).busy c.call.seq (Some d)
+
+  abbrev more : List Packet
+  more = phase_packets setting group me d
+
+  abbrev next : World
+  next = quiet w me node more
+
+  abbrev begun : Begun
+  begun = record { stamp = t; phase = phase }
+
+  -- the stamps after
+  abbrev later : Stamping
+  later = with_stamp stamps me.0 c.call.seq (c.call.phase + 1) begun
+
+  none : (r : ℕ) → c.call.phase + 1 ≤ r → stamps me.0 c.call.seq r ≡ None
+  none r most = says.last r (omega arith)
+
+  grow : StampsGrow stamps later
+  grow = stamps_grow stamps me.0 c.call.seq (c.call.phase + 1) begun none from
+
+  grows : Grows w next stamps later
+  grows = quiet_grows w stamps later me node more grow (keeps_same (w.nodes me.0) node refl)
+
+  begun_now : IsBegun later me.0 c.call.seq (c.call.phase + 1) phase t
+  begun_now = stamp_now stamps me.0 c.call.seq (c.call.phase + 1) begun
+
+  called : IsCalled next me.0 d.call o
+  called = record {
+    is = its.operation_is;
+    brick = its.brick;
+    seq = its.seq;
+    group = ap (λ a. a.group.0) (sym its.ask) ∙ ap (λ g. g.0) (sym its.call_group);
+    stripe = ap (λ a. a.stripe.0) (sym its.ask) ∙ ap (λ s. s.0) (sym its.call_stripe);
+  }
+
+  request_says : (p : Phase) → AsksPromises setting w c.ask.group.0 c.ask.stripe.0 t p → IsBegun later me.0 c.call.seq (c.call.phase + 1) p t → (j seat : ℕ)
+      → RequestSays setting next later me.0 j (next_phase c.call) (request_of setting.code group.m (d_in p) seat)
+  unfolding request_of
+  request_says Looks bad at j seat = absurd bad
+  request_says Orders ok at j seat = (at, (o, called))
+  request_says Recovers ok at j seat = (refl, inl (refl, at), (o, called))
+  request_says (Descends bound) ok at j seat = (refl, inr (ok.1, at), (o, called))
+  request_says Stores bad at j seat = absurd bad
+
+  packets : (k : ℕ) (packet : Packet) → slice_get more k ≡ Some packet → PacketSays setting next later packet
+  packets k packet at =
+      let sent = sent_to_member me d.call (request_of setting.code group.m d) 0 group.members k packet at in
+      subst (λ (z : Packet). PacketSays setting next later z) (sym sent.2) (request_says phase asks begun_now sent.0.0 (0 + k))
+
+  asks_as : (p : Phase) → phase ≡ p → AsksPromises setting w c.ask.group.0 c.ask.stripe.0 t p
+  asks_as p same = subst (λ (z : Phase). AsksPromises setting w c.ask.group.0 c.ask.stripe.0 t z) same asks
+
+  d_says : CallSays setting next later me.0 c.call.seq d
+  d_says = record {
+    begun = begun_now;
+    last = stamp_last stamps me.0 c.call.seq (c.call.phase + 1) begun none from;
+    fits = fits;
+    unbased = unbased;
+    above = λ bound descends. (asks_as (Descends bound) descends).0;
+    below = λ bound descends. (asks_as (Descends bound) descends).1;
+    covered = λ bound descends.
+        stay_blocked setting w next stamps later books grows c.ask.group.0 c.ask.stripe.0 (IsCovered bound t) (asks_as (Descends bound) descends).2;
+    stores = λ stores. absurd (asks_as Stores stores);
+    counted = tt;
+    once = tt;
+  }
+
+  calls : (k : ℕ) (e : Coordinator) → node.calls k ≡ Some e
+      → (((w.nodes me.0).calls k ≡ Some e) × ((p : ℕ) → later me.0 k p ≡ stamps me.0 k p)) ⊎ CallSays setting next later me.0 k e
+  calls k e =
+      put_each (λ j x. x ≡ Some e
+      → (((w.nodes me.0).calls j ≡ Some e) × ((p : ℕ) → later me.0 j p ≡ stamps me.0 j p)) ⊎ CallSays setting next later me.0 j e)
+      (w.nodes me.0).calls c.call.seq (Some d)
+      (λ at. let same : d ≡ e = cc in inr (subst (λ (z : Coordinator). CallSays setting next later me.0 c.call.seq z) same d_says))
+      (λ j other at. inl (at, stamps_other stamps me.0 c.call.seq (c.call.phase + 1) begun me.0 j (λ brick same. other same))) k
+
+  -- the invariant holds when such a phase began
+  pub said_sent : IsSaid setting next
+  said_sent =
+      let was = said.stamps_say.begun me.0 c.call.seq c.call.phase c.stamp (c.phase, says.begun) in
+      let more_known_now : (w.nodes me.0).known ≤ node.known = omega arith in (
+        later,
+        said_quiet setting w stamps later me node more books said grow (record {
+          keeps = keeps_same (w.nodes me.0) node refl;
+          stamps_say = stamps_say stamps me.0 c.call.seq (c.call.phase + 1) begun none from w next said.stamps_say
+              (known_by w next me.0 node refl more_known_now) (λ j. omega (arith, seqs_by w next me.0 node refl refl j))
+              (subst (λ (x : Node). IsStampOf x.known me.0 t) (sym (put_same w.nodes me.0 node)) of)
+              was.0 (omega (arith, was.1, seqs_by w next me.0 node refl refl me.0));
+          stamps_other = λ i k other. stamps_other stamps me.0 c.call.seq (c.call.phase + 1) begun i k (λ brick same. other brick);
+          tops = λ g s. inl refl;
+          logs = λ g s k version at. inl at;
+          calls = calls;
+          packets = packets;
+        }),
+      )
