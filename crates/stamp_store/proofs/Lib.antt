@@ -1,4 +1,5 @@
 pub mod Fields
+pub mod LogRecords
 pub mod Loops
 pub mod Records
 pub mod Uses

@@ -5,8 +5,10 @@ ghost use Rattle.std.specs.Int.{w16, w32, w64};
 ghost use Rattle.stamp_store.specs.Reading.{Gives, byte_at, number_at, flag_at, stamp_at, ballot_at};
 ghost use Rattle.stamp_store.specs.Reading.{members_at, accepted_at, boot_at, view_at, ballots_at, order_at};
 ghost use Rattle.stamp_store.specs.Reading.{kept_at, read_of, times_at, brick_at};
+ghost use Rattle.stamp_store.specs.LogSpelling.{change_at, logged_at, logged_of};
 
 use crate::kept_records::Kept;
+use crate::log_records::{LogChange, Logged};
 use fab_base::{Ballot, BrickId, GroupId, Members, Stamp, StripeNo, View, ViewNo};
 
 fn u8_at(bytes: &[u8]) -> Option<(u8, &[u8])>
@@ -232,4 +234,49 @@ pub fn whole(kind: u8, bytes: &[u8]) -> Option<Kept>
 {
     let (kept, rest) = kept_of(kind, bytes)?;
     if rest.is_empty() { Some(kept) } else { None }
+}
+
+#[tactic(auto, unfolding(crate::specs::LogSpelling::change_at))]
+fn change_of(kind: u8, bytes: &[u8]) -> Option<(LogChange, &[u8])>
+    ensures { Gives (λ x. (x.0, x.1.now)) result (change_at kind bytes.now) }
+{
+    match kind {
+        6 => Some((LogChange::Same, bytes)),
+        7 => Some((LogChange::Collect, bytes)),
+        8 => {
+            let (bottom, rest) = flag_of(bytes)?;
+            let (slot, rest) = u32_at(rest)?;
+            Some((LogChange::Slot { bottom, slot }, rest))
+        }
+        _ => None,
+    }
+}
+
+// The record of a log's change that the bytes begin with, and the bytes after it.
+#[tactic(auto, unfolding(crate::specs::LogSpelling::logged_at))]
+fn logged_record(kind: u8, bytes: &[u8]) -> Option<(Logged, &[u8])>
+    ensures { Gives (λ x. (x.0, x.1.now)) result (logged_at kind bytes.now) }
+{
+    let (group, rest) = u32_at(bytes)?;
+    let (view, rest) = u32_at(rest)?;
+    let (stripe, rest) = u32_at(rest)?;
+    let (stamp, rest) = stamp_of(rest)?;
+    let (change, rest) = change_of(kind, rest)?;
+    let logged = Logged {
+        group: GroupId(group),
+        view: ViewNo(view),
+        stripe: StripeNo(stripe),
+        stamp,
+        change,
+    };
+    Some((logged, rest))
+}
+
+/// The record of a log's change, of a kind, that is all of the bytes.
+#[tactic(auto, unfolding(crate::specs::LogSpelling::logged_of))]
+pub fn whole_logged(kind: u8, bytes: &[u8]) -> Option<Logged>
+    ensures { Gives (λ logged. logged) result (logged_of kind bytes.now) }
+{
+    let (logged, rest) = logged_record(kind, bytes)?;
+    if rest.is_empty() { Some(logged) } else { None }
 }

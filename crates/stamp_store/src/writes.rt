@@ -5,9 +5,11 @@ ghost use Rattle.std.specs.Int.{w16, w32, w64};
 ghost use Rattle.stamp_store.specs.Spelling.{number_bytes, stamp_bytes, ballot_bytes, members_bytes};
 ghost use Rattle.stamp_store.specs.Spelling.{accepted_bytes, view_body, ballots_body, order_body, body_of};
 ghost use Rattle.stamp_store.specs.Spelling.{HasMembers, AcceptedHasMembers, StampFits, BallotFits};
+ghost use Rattle.stamp_store.specs.LogSpelling.{change_bytes, logged_body, ChangeFits, LoggedFits};
 ghost use Rattle.stamp_store.specs.Spelling.{MembersFit, AcceptedFits, ViewFits, BallotsFit, OrderFits, Fits};
 
 use crate::kept_records::Kept;
+use crate::log_records::{LogChange, Logged};
 use fab_base::{Ballot, GroupId, Members, NoMem, Stamp, StripeNo, View, ViewNo};
 
 #[tactic(auto, unfolding(crate::specs::Spelling::number_bytes))]
@@ -165,4 +167,28 @@ pub fn put_body(out: &mut Vec<u8>, kept: &Kept) -> Result<(), NoMem>
             stamp,
         } => put_order(out, *group, *view, *stripe, *stamp),
     }
+}
+
+fn put_change(out: &mut Vec<u8>, change: LogChange) -> Result<(), NoMem>
+    ensures bytes { OnOk result (out.new.items ≡ out.old.items ++ change_bytes change) }
+    ensures fits { OnOk result (ChangeFits change) }
+{
+    if let LogChange::Slot { bottom, slot } = change {
+        out.push(u8::from(bottom))?;
+        put_u32(out, slot)?;
+    }
+    Ok(())
+}
+
+/// Adds the bytes of a record of a log's change.
+#[tactic(auto, unfolding(crate::specs::LogSpelling::logged_body))]
+pub fn put_logged(out: &mut Vec<u8>, logged: &Logged) -> Result<(), NoMem>
+    ensures bytes { OnOk result (out.new.items ≡ out.old.items ++ logged_body logged.now) }
+    ensures fits { OnOk result (LoggedFits logged.now) }
+{
+    put_u32(out, logged.group.0)?;
+    put_u32(out, logged.view.0)?;
+    put_u32(out, logged.stripe.0)?;
+    put_stamp(out, logged.stamp)?;
+    put_change(out, logged.change)
 }

@@ -1,10 +1,10 @@
 -- Look-ups in a list of versions, and that it goes on rising.
-use Rattle.std.proofs.Common.{◌≡◌, ◌≢◌, ℕ, ◌-◌, Bool, true, false, not, cond, Option, Some, None, List, [], ◌∷◌, ◌++◌, length, get_or, map, reverse, refl, ap, sym, subst, ◌∙◌, ⊎_elim, arith}
+use Rattle.std.proofs.Common.{◌≡◌, ◌≢◌, ℕ, ◌-◌, ◌<◌, Bool, true, false, not, cond, Option, Some, None, List, [], ◌∷◌, ◌++◌, length, get_or, map, take, reverse, refl, ap, sym, subst, ◌∙◌, ⊎_elim, arith}
 use Rattle.std.specs.Bool.{IsTrue}
 use Rattle.std.specs.List.{find, filter, slice_get}
 use Rattle.std.specs.Option.{option_map, is_some, ForSome}
 use Rattle.std.proofs.lemmas.Bool.{cases_eq, cond-true}
-use Rattle.std.proofs.lemmas.List.{append-nil, get_or_push, length_push, length-map, reverse-append, reverse-reverse}
+use Rattle.std.proofs.lemmas.List.{append-nil, get_or_push, length_push, length-map, length-take, get_or-take, take-map, reverse-append, reverse-reverse}
 use Rattle.std.proofs.lemmas.List.Elements.{filter-append}
 use Rattle.std.proofs.lemmas.List.Kept.{AllPairs-filter}
 use Rattle.std.proofs.lemmas.List.Quantifiers.{all_pairs_push}
@@ -90,3 +90,11 @@ collected_has s log has = sym (cond-true (is_some (find (has_stamp s) log)) (fil
 pub is_some-option_map : {X Y : Type 0} (f : X → Y) (o : Option X) → is_some (option_map f o) ≡ is_some o
 is_some-option_map f None = refl
 is_some-option_map f (Some x) = refl
+
+-- the front of a rising log rises
+pub IsRising-take : (n : ℕ) (log : List Version) → IsRising log → IsRising (take n log)
+IsRising-take n log rising i j d lt below =
+    let within : j < n = omega (arith, length-take n log) in
+    let inside : j < length log = omega (arith, length-take n log) in
+    let earlier : i < n = omega arith in
+    rw (get_or-take n log i d earlier, get_or-take n log j d within) (rising i j d lt inside)

@@ -1,6 +1,6 @@
 //! The log of a stripe's versions.
 
-ghost use Rattle.std.specs.Prelude.{◌≡◌, ◌==◌, [], ◌∷◌, ◌++◌, length, find, filter, not};
+ghost use Rattle.std.specs.Prelude.{◌≡◌, ◌==◌, ◌-◌, [], ◌∷◌, ◌++◌, length, take, find, filter, not};
 ghost use Rattle.std.specs.Prelude.{option_map, option_copied, IsTrue, IsSome, IfOk, OnOk, OnErr};
 ghost use Rattle.std.specs.Option.{ForSome};
 ghost use Rattle.fab_base.specs.Stamps.{stamp_below};
@@ -111,6 +111,13 @@ impl VersionLog {
         }
     }
 
+    /// Takes the newest version away, where there is one. It takes no memory.
+    pub fn drop_newest(&mut self)
+        ensures { self.new ≡ take (length self.old - 1) self.old }
+    {
+        let _ = self.entries.pop();
+    }
+
     // The block of a version to be added.
     fn shared(&self, block: Option<Bytes>) -> Result<Rc<Bytes>, NoMem>
         requires content { self.now ≡ [] → IsSome block }
@@ -162,6 +169,8 @@ mod tests {
         log.collect(stamp(3));
         assert_eq!(rt; log.len(), 1);
         assert!(rt; log.at(stamp(1)).is_none());
+        log.add(stamp(4), None)?;
+        log.drop_newest();
         let (newest, block) = log.newest().ok_or("newest")?;
         assert_eq!(rt; newest, stamp(3));
         assert_eq!(rt; block.as_slice(), [7].as_slice());

@@ -1,0 +1,25 @@
+-- So many groups of which nothing is kept, and no stripes.
+use Rattle.std.proofs.Common.{◌≡◌, ℕ, List, [], refl, ap, ◌∙◌, arith}
+use Rattle.std.specs.Prelude.{replicate}
+use Rattle.brick_state.specs.declared.groups.Group.{Group}
+use Rattle.brick_state.specs.declared.stripes.Entry.{Entry}
+use Rattle.brick_state.specs.States.{no_group, Place, StripeOf, StateOf}
+use Rattle.brick_state.specs.Maps.{listed}
+use Rattle.brick_state.proofs.indexes.Index.new.Goals as goal
+
+none_listed : listed [] ≡ []
+unfolding listed
+none_listed = refl
+
+made : List Group → List (Place × StripeOf Entry) → StateOf Entry
+made groups stripes = record { boot = 0; groups = groups; stripes = stripes }
+
+same_parts : (g h : List Group) (s t : List (Place × StripeOf Entry)) → g ≡ h → s ≡ t → made g s ≡ made h t
+same_parts g h s t p q = ap (λ (x : List Group). made x s) p ∙ ap (made h) q
+
+pub returns : goal.returns
+unfolding made
+returns c =
+    let count : c.loop.counter ≡ 64 = omega arith in
+    let groups = c.loop.invariant ∙ ap (λ (n : ℕ). replicate n no_group) count in
+    same_parts c.loop.groups.items (replicate 64 no_group) (listed c.new.result.entries) [] groups (ap listed c.new.ensures.empty ∙ none_listed)

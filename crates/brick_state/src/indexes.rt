@@ -1,0 +1,326 @@
+//! The index: what a brick keeps, in memory.
+
+ghost use Rattle.std.specs.Prelude.{◌≡◌, length};
+
+use crate::groups::Group;
+use crate::records::Record;
+use crate::stripe_maps;
+use crate::stripes::{Place, Stripe};
+use fab_base::{Ballot, Members, NoMem, Stamp, View};
+use stamp_store::{Kept, Logged};
+use std::alloc::Global;
+use std::collections::BTreeMap;
+
+/// What a brick keeps, with the slots of its blocks.
+#[derive(Drop)]
+pub struct Index {
+    alloc: Global,
+    records: u32,
+    slots: u32,
+    boot: u32,
+    groups: Vec<Group>,
+    stripes: BTreeMap<Place, Stripe>,
+    ghost all_groups: { length groups.items ≡ 64 },
+}
+
+impl Index {
+    ghost use Rattle.std.specs.Prelude.{◌≡◌, ◌-◌, ◌^◌, min, true, false, Ok, Some, None, ◌&&◌, nat_lt, nat_le, ◌<◌, if◌then◌else◌, IfNone, IfSome, IfOk, OnOk, OnErr, IsOk};
+    ghost use Rattle.brick_state.specs.States.{empty, live, group_at, first_stripe, stripe_of, viewed, balloted, ordered, stripe_at};
+    ghost use Rattle.brick_state.specs.Folds.{applied, place, is_full, adds_order, placed, log_changed};
+    ghost use Rattle.brick_state.specs.Maps.{HasRoom};
+    ghost use Rattle.brick_state.specs.Indexes.{state_of, limits_of, Answers, IsReady};
+
+    /// The index of a brick that keeps nothing yet, with so many live records at most, and so many slots.
+    pub fn new(alloc: Global, records: u32, slots: u32) -> Result<Index, NoMem>
+        ensures { IfOk result (λ index. state_of index ≡ empty) }
+    {
+        let mut groups = Vec::new(alloc);
+        for _ in 0..64u8 {
+            groups.push(Group {
+                known: None,
+                ballots: None,
+            })?;
+        }
+        Ok(Index {
+            alloc,
+            records,
+            slots,
+            boot: 0,
+            groups,
+            stripes: BTreeMap::new(alloc),
+        })
+    }
+
+    /// How many live records there are: order stamps other than the first, and versions added. At most
+    /// 2^32 - 1 are told.
+    pub fn live(&self) -> u32
+        ensures { result ≡ min (live (state_of self.now)) (2 ^ 32 - 1) }
+    {
+        let total = stripe_maps::weigh(&self.stripes);
+        total.min(4294967295) as u32
+    }
+
+    /// How often the store was opened.
+    pub fn boot(&self) -> u32
+        ensures { result ≡ (state_of self.now).boot }
+    {
+        self.boot
+    }
+
+    /// What is kept of a group.
+    pub fn group(&self, group: u32) -> &Group
+        requires { group < 64 }
+        ensures { result.now ≡ group_at (state_of self.now) group }
+    {
+        &self.groups[group as usize]
+    }
+
+    /// What is kept of a stripe. None where nothing happened there.
+    pub fn stripe(&self, place: Place) -> Option<&Stripe>
+        ensures none { IfNone result (stripe_at (state_of self.now) place ≡ first_stripe place) }
+        ensures some { IfSome result (λ stripe. stripe_at (state_of self.now) place ≡ stripe_of stripe.now) }
+    {
+        stripe_maps::find(&self.stripes, place)
+    }
+
+    /// Makes room for a change of a stripe.
+    pub fn reserve(&mut self, place: Place) -> Result<(), NoMem>
+        ensures same { state_of self.new ≡ state_of self.old }
+        ensures limits { limits_of self.new ≡ limits_of self.old }
+        ensures room { OnOk result (HasRoom self.new.stripes place) }
+    {
+        stripe_maps::make_room(self.alloc, &mut self.stripes, place)
+    }
+
+    /// Makes a change. False where the record can't be: then nothing is changed. It takes no memory where
+    /// [`Index::reserve`] made room at the record's place.
+    #[tactic(auto, unfolding(crate::specs::Folds::applied))]
+    pub fn apply(&mut self, record: &Record) -> Result<bool, NoMem>
+        ensures answer { IfOk result (Answers (state_of self.new) (applied (limits_of self.old) record.now (state_of self.old))) }
+        ensures refused { result ≡ Ok false → state_of self.new ≡ state_of self.old }
+        ensures err { OnErr result (state_of self.new ≡ state_of self.old) }
+        ensures limits { limits_of self.new ≡ limits_of self.old }
+        ensures enough { IsReady self.old record.now → IsOk result }
+    {
+        match record {
+            Record::Kept(Kept::Boot(count)) => {
+                self.boot = *count;
+                Ok(true)
+            }
+            Record::Kept(
+                Kept::View {
+                    group,
+                    view,
+                    synced,
+                },
+            ) => Ok(self.set_view(group.0, view, *synced)),
+            Record::Kept(
+                Kept::Ballots {
+                    group,
+                    promised,
+                    accepted,
+                    ..
+                },
+            ) => Ok(self.set_ballots(group.0, *promised, accepted)),
+            Record::Kept(
+                Kept::Order {
+                    group,
+                    view,
+                    stripe,
+                    stamp,
+                },
+            ) => self.set_order((group.0, view.0, stripe.0), *stamp),
+            Record::Logged(logged) => self.change_log(logged),
+        }
+    }
+
+    fn is_full(&self) -> bool
+        ensures { result ≡ is_full (limits_of self.now) (state_of self.now) }
+    {
+        self.live() >= self.records
+    }
+
+    fn set_view(&mut self, group: u32, view: &View, synced: bool) -> bool
+        ensures answer { Answers (state_of self.new) (if nat_lt group 64 && nat_le 2 view.now.number.0 then Some (viewed group view.now synced (state_of self.old)) else None) result }
+        ensures refused { result ≡ false → state_of self.new ≡ state_of self.old }
+        ensures limits { limits_of self.new ≡ limits_of self.old }
+    {
+        if group >= 64 || view.number.0 < 2 {
+            return false;
+        }
+        let first = if synced {
+            view.number.0
+        } else {
+            view.number.0 - 1
+        };
+        let entry = &mut self.groups[group as usize];
+        entry.learn(view, synced);
+        stripe_maps::drop_views(&mut self.stripes, group, first);
+        true
+    }
+
+    fn set_ballots(
+        &mut self,
+        group: u32,
+        promised: Ballot,
+        accepted: &Option<(Ballot, Members)>,
+    ) -> bool
+        ensures answer { Answers (state_of self.new) (if nat_lt group 64 then Some (balloted group promised accepted.now (state_of self.old)) else None) result }
+        ensures refused { result ≡ false → state_of self.new ≡ state_of self.old }
+        ensures limits { limits_of self.new ≡ limits_of self.old }
+    {
+        if group >= 64 {
+            return false;
+        }
+        let entry = &mut self.groups[group as usize];
+        entry.promise(promised, accepted);
+        true
+    }
+
+    fn set_order(&mut self, place: Place, stamp: Stamp) -> Result<bool, NoMem>
+        ensures answer { IfOk result (Answers (state_of self.new) (if nat_lt place.0 64 then (if adds_order stamp (stripe_at (state_of self.old) place) && is_full (limits_of self.old) (state_of self.old) then None else Some (ordered place stamp (state_of self.old))) else None)) }
+        ensures refused { result ≡ Ok false → state_of self.new ≡ state_of self.old }
+        ensures err { OnErr result (state_of self.new ≡ state_of self.old) }
+        ensures limits { limits_of self.new ≡ limits_of self.old }
+        ensures enough { HasRoom self.old.stripes place → IsOk result }
+    {
+        if place.0 >= 64 {
+            return Ok(false);
+        }
+        stripe_maps::make_room(self.alloc, &mut self.stripes, place)?;
+        let adds = self.order(place).is_same(Stamp::FIRST) && !stamp.is_same(Stamp::FIRST);
+        if adds && self.is_full() {
+            return Ok(false);
+        }
+        stripe_maps::set_order(&mut self.stripes, place, stamp);
+        Ok(true)
+    }
+
+    /// The order stamp of a stripe.
+    pub fn order(&self, place: Place) -> Stamp
+        ensures { result ≡ (stripe_at (state_of self.now) place).order }
+    {
+        match stripe_maps::find(&self.stripes, place) {
+            Some(stripe) => stripe.order,
+            None => Stamp::FIRST,
+        }
+    }
+
+    fn change_log(&mut self, logged: &Logged) -> Result<bool, NoMem>
+        ensures answer { IfOk result (Answers (state_of self.new) (if nat_lt logged.now.group.0 64 then placed (place logged.now.group logged.now.view logged.now.stripe) (state_of self.old) (log_changed (limits_of self.old) (is_full (limits_of self.old) (state_of self.old)) logged.now.change logged.now.stamp (stripe_at (state_of self.old) (place logged.now.group logged.now.view logged.now.stripe))) else None)) }
+        ensures refused { result ≡ Ok false → state_of self.new ≡ state_of self.old }
+        ensures err { OnErr result (state_of self.new ≡ state_of self.old) }
+        ensures limits { limits_of self.new ≡ limits_of self.old }
+        ensures enough { HasRoom self.old.stripes (place logged.now.group logged.now.view logged.now.stripe) → IsOk result }
+    {
+        if logged.group.0 >= 64 {
+            return Ok(false);
+        }
+        let place = (logged.group.0, logged.view.0, logged.stripe.0);
+        stripe_maps::make_room(self.alloc, &mut self.stripes, place)?;
+        let full = self.is_full();
+        Ok(stripe_maps::change_log(
+            &mut self.stripes,
+            place,
+            logged.stamp,
+            logged.change,
+            self.slots,
+            full,
+        ))
+    }
+}
+
+#[cfg(test)]
+mod tests {
+    use super::*;
+    use crate::stripes::Entry;
+    use fab_base::{BrickId, GroupId, StripeNo, ViewNo};
+    use stamp_store::LogChange;
+    use std::test::Fail;
+
+    fn stamp(time: u64) -> Stamp {
+        Stamp {
+            view: ViewNo(1),
+            time,
+            brick: BrickId(0),
+            boot: 1,
+        }
+    }
+
+    fn logged(time: u64, change: LogChange) -> Record {
+        Record::Logged(Logged {
+            group: GroupId(0),
+            view: ViewNo(1),
+            stripe: StripeNo(0),
+            stamp: stamp(time),
+            change,
+        })
+    }
+
+    fn slot(slot: u32) -> LogChange {
+        LogChange::Slot {
+            bottom: false,
+            slot,
+        }
+    }
+
+    // Of three records that fit, a fourth is refused until one is dropped. A version without a block of its own keeps its slot
+    // when the version below it is dropped.
+    #[test]
+    fn a_full_index(rt: HostRuntime) -> Result<(), Fail> {
+        let mut index = Index::new(rt.alloc(), 3, 3)?;
+        let place = (0, 1, 0);
+        let order = Record::Kept(Kept::Order {
+            group: GroupId(0),
+            view: ViewNo(1),
+            stripe: StripeNo(0),
+            stamp: stamp(5),
+        });
+        assert!(rt; index.apply(&logged(5, slot(2)))?);
+        assert!(rt; index.apply(&logged(6, LogChange::Same))?);
+        assert!(rt; !index.apply(&logged(6, LogChange::Same))?);
+        assert!(rt; !index.apply(&logged(7, slot(3)))?);
+        assert!(rt; index.apply(&order)?);
+        assert_eq!(rt; index.live(), 3);
+        assert!(rt; !index.apply(&logged(7, slot(1)))?);
+        assert!(rt; !index.apply(&logged(4, LogChange::Collect))?);
+        assert!(rt; index.apply(&logged(6, LogChange::Collect))?);
+        assert_eq!(rt; index.live(), 2);
+        let stripe = index.stripe(place).ok_or("a stripe")?;
+        assert_eq!(rt; stripe.order, stamp(5));
+        assert!(rt; !stripe.from_start);
+        let newest = stripe.newest().ok_or("a version")?;
+        assert_eq!(rt;
+            newest,
+            Entry {
+                stamp: stamp(6),
+                slot: 2
+            }
+        );
+        Ok(())
+    }
+
+    // A view of number 3 drops what was kept in view 1.
+    #[test]
+    fn a_view_drops_old_logs(rt: HostRuntime) -> Result<(), Fail> {
+        let mut index = Index::new(rt.alloc(), 9, 9)?;
+        assert!(rt; index.apply(&logged(5, slot(0)))?);
+        let members = Members::new(&[BrickId(1)]).ok_or("members")?;
+        let view = View {
+            number: ViewNo(3),
+            prior: members.copy(),
+            members,
+        };
+        let record = Record::Kept(Kept::View {
+            group: GroupId(0),
+            view,
+            synced: false,
+        });
+        assert!(rt; index.apply(&record)?);
+        assert!(rt; index.stripe((0, 1, 0)).is_none());
+        assert!(rt; index.group(0).known.is_some());
+        assert!(rt; index.apply(&Record::Kept(Kept::Boot(4)))?);
+        assert_eq!(rt; index.boot(), 4);
+        Ok(())
+    }
+}

@@ -1,0 +1,17 @@
+//! What a brick keeps, as plain data: how often its store was opened, the views and ballots of each group, and the order stamp
+//! and the log of each stripe (Frølund et al., "A Decentralized Algorithm for Erasure-Coded Virtual Disks", DSN 2004); the
+//! records that change it, one at a time; and the records that bring it back from nothing.
+//!
+//! Of a version's block it keeps the slot that the block lies in. It knows no disk.
+#![tactic(auto)]
+
+pub mod groups;
+pub mod indexes;
+pub mod records;
+mod stripe_maps;
+pub mod stripes;
+
+pub use groups::Group;
+pub use indexes::Index;
+pub use records::Record;
+pub use stripes::{Entry, Place, Stripe, ZERO_SLOT};

@@ -1,0 +1,45 @@
+-- What a clause sees of a brick's store, and of the answers of its calls.
+use Rattle.std.specs.Prelude.{◌≡◌, ◌≢◌, ℕ, ◌<◌, Bool, true, false, Result, Ok, Err}
+use Rattle.version_log.specs.Versions.{Version}
+use Rattle.frame_store.specs.declared.faults.FrameFault.{FrameFault}
+use Rattle.frame_store.specs.declared.faults.FrameFault.TheVariants as frames
+use Rattle.frame_store.specs.declared.shapes.Shape.{Shape}
+use Rattle.brick_state.specs.States.{StateOf, live}
+use Rattle.brick_store.specs.declared.faults.StoreFault.{StoreFault}
+use Rattle.brick_store.specs.declared.faults.StoreFault.TheVariants.{Disk, Full, Halted, NotAStore, Worn, NoMemory}
+
+-- a store over a disk: what it was made for, what it keeps, and whether a call of it answered Disk
+pub record Brick (D : Type 0) : Type 0 where
+  pub disk : D
+  pub shape : Shape
+  pub state : StateOf Version
+  pub halted : Bool
+
+-- the store keeps this now
+pub record Keeps {D : Type 0} (st : StateOf Version) (old new : Brick D) : Type 0 where
+  pub shape : new.shape ≡ old.shape
+  pub state : new.state ≡ st
+
+-- a store is halted once a call of it answered Disk
+abbrev pub halted_after : Bool → Result (Unit {0}) StoreFault → Bool
+halted_after halted (Err Disk) = true
+halted_after halted (Err other) = halted
+halted_after halted (Ok value) = halted
+
+-- The answers of a change: Halted exactly where the store was halted, Full exactly where it was not, the change adds a record
+-- and there are as many as there may be, and then with their number; never what an opening answers.
+pub record IsAnswer (records live_before : ℕ) (adds : Bool) (halted halted_now : Bool) (result : Result (Unit {0}) StoreFault) : Type 0 where
+  pub refused : halted ≡ true → result ≡ Err Halted
+  pub only_then : result ≡ Err Halted → halted ≡ true
+  pub full : halted ≡ false → adds ≡ true → live_before ≡ records → result ≡ Err (Full live_before)
+  pub only_full : (n : ℕ) → result ≡ Err (Full n) → (halted ≡ false) × (adds ≡ true) × (live_before ≡ records) × (n ≡ live_before)
+  pub a_store : result ≢ Err NotAStore
+  pub not_worn : result ≢ Err Worn
+  pub halts : halted_now ≡ halted_after halted result
+
+-- a fault of the list of frames is one of the store
+abbrev pub fault_of : FrameFault → StoreFault
+fault_of frames.Disk = Disk
+fault_of frames.Halted = Halted
+fault_of frames.NotAStore = NotAStore
+fault_of frames.NoMemory = NoMemory

@@ -1,0 +1,13 @@
+//! The durable state of a brick: per group its views and ballots, and per group, view and stripe an order stamp and a log of
+//! versions (Frølund et al., "A Decentralized Algorithm for Erasure-Coded Virtual Disks", DSN 2004).
+//!
+//! Each change is one crash-atomic change: at each moment a crash leaves the state before it or the one after it.
+#![tactic(auto)]
+
+pub mod faults;
+pub mod formats;
+pub mod stores;
+
+pub use faults::StoreFault;
+pub use formats::format;
+pub use stores::{BrickStore, open_store};
