@@ -1,13 +1,13 @@
 -- Interpolation: Lagrange's formula gives the one polynomial of degree below m through m points.
 use Rattle.std.proofs.Common.{◌≡◌, ◌≢◌, ℕ, zero, suc, ◌+◌, ◌<◌, ◌≤◌, List, get_or, replicate, refl, sym, ap, ◌∙◌, arith, add-one, inl, inr}
 use Rattle.std.specs.Prelude.{bit_xor}
-use lib.Bits.{xor_zero_r}
+use lib.Bits.{xor_zero_r, xor_lt}
 use Rattle.std.proofs.lemmas.Bool.{cases_eq}
 use Rattle.std.proofs.lemmas.List.{length-replicate}
 use Rattle.std.proofs.lemmas.List.Elements.{All-replicate}
 use Rattle.gf_field.specs.Field.{field_mul}
 use Rattle.gf_field.specs.Polynomials.{value, weight_of, AreDistinct, HasDegreeBelow}
-use Rattle.gf_field.proofs.FieldLaws.{field_mul-comm, field_mul-one_left, field_mul-zero_left, field_mul-zero_right}
+use Rattle.gf_field.proofs.FieldLaws.{field_mul-lt, field_mul-comm, field_mul-one_left, field_mul-zero_left, field_mul-zero_right}
 use Rattle.gf_field.proofs.PolynomialLaws.{sum_of, value-sum_of, length-sum_of, bytes-sum_of, scaled, value-scaled, length-scaled, bytes-scaled}
 use Rattle.gf_field.proofs.Lagrange.{lagrange, value-lagrange, lagrange_IsOneAt, weight_at_own, weight_at_other, numbers_AreDistinct}
 use Rattle.gf_field.proofs.Roots.{same_polynomial}
@@ -176,3 +176,26 @@ pub weighted_sum_more : (m i : ℕ) (point column : ℕ → ℕ) (x : ℕ)
     → weighted_sum m (i + 1) point column x ≡ bit_xor (weighted_sum m i point column x) (field_mul (weight_of m point i x) (column i))
 unfolding weighted_sum
 weighted_sum_more m i point column x = ap (λ n. weighted_sum m n point column x) (add-one i)
+
+-- it is a byte
+pub weighted_sum-lt : (m n : ℕ) (point column : ℕ → ℕ) (x : ℕ) → weighted_sum m n point column x < 256
+unfolding weighted_sum
+weighted_sum-lt m zero point column x = omega arith
+weighted_sum-lt m (suc i) point column x =
+    xor_lt 8 (weighted_sum m i point column x) (field_mul (weight_of m point i x) (column i)) (weighted_sum-lt m i point column x) (field_mul-lt (weight_of m point i x) (column i))
+
+-- of the same values it is the same
+pub weighted_sum_same : (m n : ℕ) (point a b : ℕ → ℕ) (x : ℕ) → ((i : ℕ) → i < n → a i ≡ b i) → weighted_sum m n point a x ≡ weighted_sum m n point b x
+unfolding weighted_sum
+weighted_sum_same m zero point a b x same = refl
+weighted_sum_same m (suc i) point a b x same =
+    ap (λ y. bit_xor y (field_mul (weight_of m point i x) (a i))) (weighted_sum_same m i point a b x (λ k h. same k (omega arith)))
+    ∙ ap (λ y. bit_xor (weighted_sum m i point b x) (field_mul (weight_of m point i x) y)) (same i (omega arith))
+
+-- of zeros it is 0, whatever the weights
+pub weighted_sum_zeros : (m n : ℕ) (point column : ℕ → ℕ) (x : ℕ) → ((i : ℕ) → column i ≡ 0) → weighted_sum m n point column x ≡ 0
+unfolding weighted_sum
+weighted_sum_zeros m zero point column x zeros = refl
+weighted_sum_zeros m (suc i) point column x zeros =
+    (λ k. bit_xor (weighted_sum_zeros m i point column x zeros k) (field_mul (weight_of m point i x) (zeros i k)))
+    ∙ field_mul-zero_right (weight_of m point i x)

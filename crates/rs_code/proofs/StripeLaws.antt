@@ -1,17 +1,18 @@
 -- Laws of stripes: what a block of a codeword is, that any m blocks give the stripe, and what a change of a block does.
-use Rattle.std.proofs.Common.{◌≡◌, ◌≢◌, ℕ, zero, suc, ◌+◌, ◌*◌, ◌/◌, ◌%◌, ◌<◌, ◌≤◌, List, length, get_or, drop, map, sym, ap, subst, ◌∙◌, arith, length-take, length-drop}
+use Rattle.std.proofs.Common.{◌≡◌, ◌≢◌, ℕ, zero, suc, ◌+◌, ◌*◌, ◌/◌, ◌%◌, ◌<◌, ◌≤◌, List, length, get_or, drop, map, replicate, inl, inr, sym, ap, subst, ◌∙◌, arith, length-take, length-drop}
 use Rattle.std.specs.Prelude.{bit_xor}
 use Rattle.std.specs.List.{range_with_len}
 use Rattle.std.proofs.Math.Nat.{div-lt_iff_lt-mul, mul-le-mul_right}
 use Rattle.std.proofs.lemmas.Nat.{mod-mul-add, div-mul-add, div-add-mod', mul-add-lt}
-use Rattle.std.proofs.lemmas.List.{ext_get_or, get_or-take, get_or-drop}
+use Rattle.std.proofs.lemmas.Bool.{cases_lt}
+use Rattle.std.proofs.lemmas.List.{ext_get_or, get_or-take, get_or-drop, get_or-replicate, get_or_past, length-replicate}
 use Rattle.std.proofs.lemmas.List.FromFn.{get_or-map-range_with_len, length-map-range_with_len}
 use Rattle.gf_field.specs.Field.{field_mul}
 use Rattle.gf_field.specs.Polynomials.{value, weight_of}
 use Rattle.gf_field.proofs.Lagrange.{numbers_AreDistinct}
 use Rattle.rs_code.specs.Codewords.{PassesThrough, IsCodedByte, weighted_sum, AreSeats}
-use Rattle.rs_code.specs.Stripes.{block_of, byte_of, IsCodedBlock, coded_block, HasBlocks, IsDecoded, ChangesBlock}
-use Rattle.rs_code.proofs.CodewordLaws.{through, value-through, through-PassesThrough, PassesThrough-unique, value-IsCodedByte, weighted_sum-IsCodedByte, IsCodedByte-unique, IsCodedByte-changed, seats_AreDistinct}
+use Rattle.rs_code.specs.Stripes.{block_of, byte_of, IsCodedBlock, coded_block, HasBlocks, IsDecoded, data_block, ChangesBlock}
+use Rattle.rs_code.proofs.CodewordLaws.{through, value-through, through-PassesThrough, PassesThrough-unique, value-IsCodedByte, weighted_sum-IsCodedByte, IsCodedByte-unique, IsCodedByte-changed, seats_AreDistinct, weighted_sum-lt, weighted_sum_zeros}
 
 -- each number of the list is a byte, and so is what stands for a place past its end
 abbrev pub HoldsBytes : List ℕ → Type 0
@@ -63,12 +64,12 @@ IsCodedBlock-unique m size stripe k a b few ha hb =
     (λ t h. IsCodedByte-unique m (byte_of size stripe t) k (get_or a t 0) (get_or b t 0) few (ha.bytes t (omega (arith, ha.long))) (hb.bytes t (omega (arith, ha.long))))
 
 -- byte t of the block by the formula
-get_or-coded_block : (m size : ℕ) (stripe : List ℕ) (k t : ℕ) → t < size → get_or (coded_block m size stripe k) t 0 ≡ weighted_sum m m (λ i. i) (byte_of size stripe t) k
+pub get_or-coded_block : (m size : ℕ) (stripe : List ℕ) (k t : ℕ) → t < size → get_or (coded_block m size stripe k) t 0 ≡ weighted_sum m m (λ i. i) (byte_of size stripe t) k
 unfolding coded_block
 get_or-coded_block m size stripe k t h = get_or-map-range_with_len (λ t. weighted_sum m m (λ i. i) (byte_of size stripe t) k) 0 size t t 0 h (omega arith)
 
 -- and its length
-length-coded_block : (m size : ℕ) (stripe : List ℕ) (k : ℕ) → length (coded_block m size stripe k) ≡ size
+pub length-coded_block : (m size : ℕ) (stripe : List ℕ) (k : ℕ) → length (coded_block m size stripe k) ≡ size
 unfolding coded_block
 length-coded_block m size stripe k = length-map-range_with_len (λ t. weighted_sum m m (λ i. i) (byte_of size stripe t) k) 0 size
 
@@ -76,6 +77,25 @@ length-coded_block m size stripe k = length-map-range_with_len (λ t. weighted_s
 pub coded_block-IsCodedBlock : (m size : ℕ) (stripe : List ℕ) (k : ℕ) → m ≤ 256 → HoldsBytes stripe → IsCodedBlock m size stripe k (coded_block m size stripe k)
 coded_block-IsCodedBlock m size stripe k few small =
     IsCodedBlock-from_sums m size stripe k (coded_block m size stripe k) few small (length-coded_block m size stripe k) (λ t h. get_or-coded_block m size stripe k t h)
+
+-- its numbers are bytes
+pub coded_block-HoldsBytes : (m size : ℕ) (stripe : List ℕ) (k : ℕ) → HoldsBytes (coded_block m size stripe k)
+coded_block-HoldsBytes m size stripe k t =
+    elim (cases_lt t size) as (λ _. get_or (coded_block m size stripe k) t 0 < 256) [
+      | inl within ↦
+          subst (λ y. y < 256) (sym (get_or-coded_block m size stripe k t within)) (weighted_sum-lt m m (λ i. i) (byte_of size stripe t) k)
+      | inr past ↦
+          subst (λ y. y < 256) (sym (get_or_past (coded_block m size stripe k) t 0 (omega (arith, past, length-coded_block m size stripe k)))) (omega arith)
+    ]
+
+-- of a stripe of zeros each block is zeros
+pub coded_block_zeros : (m size : ℕ) (stripe : List ℕ) (k : ℕ) → ((n : ℕ) → get_or stripe n 0 ≡ 0) → coded_block m size stripe k ≡ replicate size 0
+coded_block_zeros m size stripe k zeros =
+    ext_get_or 0 (coded_block m size stripe k) (replicate size 0) (length-coded_block m size stripe k ∙ sym (length-replicate size 0))
+    (λ t h.
+    let within : t < size = omega (arith, length-coded_block m size stripe k) in
+    get_or-coded_block m size stripe k t within
+    ∙ weighted_sum_zeros m m (λ i. i) (byte_of size stripe t) k (λ j. zeros (j * size + t)) ∙ sym (get_or-replicate size t 0 0 within))
 
 -- a list with Lagrange's formula at each place is that block
 pub coded_block-from_sums : (m size : ℕ) (stripe : List ℕ) (k : ℕ) (block : List ℕ) → length block ≡ size
@@ -196,6 +216,30 @@ IsDecoded-from_seat m n size seats blocks j i few few_seats are_seats small long
     let seat = λ (i : ℕ). get_or seats i 0 in
     let passes = through-PassesThrough m seat (byte_of size blocks t) (seats_AreDistinct m n seats few_seats are_seats) (λ i hi. small (i * size + t)) in
     get_or-block_of size blocks i t h ∙ sym (passes.values i hi) ∙ ap (value (through m seat (byte_of size blocks t))) own ∙ value-through m seat (byte_of size blocks t) j)
+
+-- all blocks decode to one stripe, so a data block is decoded in one way
+pub IsDecoded-unique : (m size : ℕ) (seats blocks : List ℕ) (j : ℕ) (a b : List ℕ) → IsDecoded m size seats blocks j a → IsDecoded m size seats blocks j b → a ≡ b
+IsDecoded-unique m size seats blocks j a b ha hb =
+    ha.decoded ∙ ap (λ stripe. block_of size stripe j) (hb.only ha.stripe ha.has_blocks) ∙ sym hb.decoded
+
+-- byte t of data block j by the formula
+pub get_or-data_block : (m size : ℕ) (seats blocks : List ℕ) (j t : ℕ) → t < size
+    → get_or (data_block m size seats blocks j) t 0 ≡ weighted_sum m m (λ i. get_or seats i 0) (byte_of size blocks t) j
+unfolding data_block
+get_or-data_block m size seats blocks j t h =
+    get_or-map-range_with_len (λ t. weighted_sum m m (λ i. get_or seats i 0) (byte_of size blocks t) j) 0 size t t 0 h (omega arith)
+
+-- and its length
+pub length-data_block : (m size : ℕ) (seats blocks : List ℕ) (j : ℕ) → length (data_block m size seats blocks j) ≡ size
+unfolding data_block
+length-data_block m size seats blocks j = length-map-range_with_len (λ t. weighted_sum m m (λ i. get_or seats i 0) (byte_of size blocks t) j) 0 size
+
+-- the block by Lagrange's formula over the seats is data block j
+pub data_block-IsDecoded : (m n size : ℕ) (seats blocks : List ℕ) (j : ℕ) → m ≤ 256 → n ≤ 256 → AreSeats m n seats → HoldsBytes blocks
+    → length blocks ≡ m * size → j < m → IsDecoded m size seats blocks j (data_block m size seats blocks j)
+data_block-IsDecoded m n size seats blocks j few few_seats are_seats small long within =
+    IsDecoded-from_sums m n size seats blocks j (data_block m size seats blocks j) few few_seats are_seats small long within (length-data_block m size seats blocks j)
+    (λ t h. get_or-data_block m size seats blocks j t h)
 
 -- ---- a change of one data block
 

@@ -33,6 +33,10 @@ pub record IsDecoded (m size : ℕ) (seats blocks : List ℕ) (j : ℕ) (block :
   pub only : (other : List ℕ) → HasBlocks m size seats blocks other → other ≡ stripe
   pub decoded : block ≡ block_of size stripe j
 
+-- that data block, by Lagrange's formula over the seats
+unfoldable pub data_block : ℕ → ℕ → List ℕ → List ℕ → ℕ → List ℕ
+data_block m size seats blocks j = map (λ t. weighted_sum m m (λ i. slice_index seats i) (byte_of size blocks t) j) (range_with_len 0 size)
+
 -- new is the stripe old with delta added to data block j
 pub record ChangesBlock (m size j : ℕ) (delta old new : List ℕ) : Type 0 where
   pub changed : (t : ℕ) → t < size → byte_of size new t j ≡ bit_xor (byte_of size old t j) (slice_index delta t)

@@ -1,9 +1,17 @@
 -- The disk's code, as the machine is told it: block k of a stripe's content, and the content that blocks at m seats give back.
-use Rattle.std.specs.Prelude.{ℕ, List, [], map, take, slice_index, slice_index_or}
-use Rattle.std.specs.List.{concat, range_with_len}
+use Rattle.std.specs.Prelude.{◌≡◌, ℕ, ◌≤◌, List, [], length, map, take, slice_index, slice_index_or}
+use Rattle.std.specs.List.{concat, range_with_len, AllByRecursion}
 use Rattle.rs_code.specs.Codewords.{weighted_sum}
 use Rattle.rs_code.specs.Stripes.{coded_block}
-use Rattle.protocol.specs.Settings.{Piece, Code, Layout, Setting}
+use Rattle.protocol.specs.Settings.{Piece, Code, Layout, Setting, IsSound}
+use Rattle.layout.specs.Limits.{IsLayout}
+
+-- The first m of the pieces are at these seats, and their blocks, each of this many bytes, are these, one after the other.
+pub record AreFirst (m size : ℕ) (pieces : List Piece) (seats blocks : List ℕ) : Type 0 where
+  pub enough : m ≤ length pieces
+  pub seats_are : map (λ piece. piece.seat) (take m pieces) ≡ seats
+  pub blocks_are : concat (map (λ piece. piece.bytes) (take m pieces)) ≡ blocks
+  pub long : AllByRecursion (λ piece. length piece.bytes ≡ size) (take m pieces)
 
 -- the seat of piece i, and byte t of its block
 abbrev pub seat_of : List Piece → ℕ → ℕ
@@ -27,3 +35,7 @@ block_code size = record { encode = λ m content seat. coded_block m size conten
 -- a disk of this layout with this code
 abbrev pub coding : Layout → Setting
 coding layout = record { layout = layout; code = block_code layout.block }
+
+-- the disk is sound, whatever its layout
+abbrev pub EveryCodingIsSound : Type 0
+EveryCodingIsSound = (layout : Layout) → IsLayout layout → IsSound (coding layout)

@@ -1,0 +1,49 @@
+//! The two calls of the code: the block of a seat, and the content that m blocks give back.
+
+ghost use Rattle.std.specs.Prelude.{◌≡◌, ◌*◌, ◌<◌, ◌≤◌, List, length, IfOk};
+ghost use Rattle.protocol.specs.Settings.{Piece};
+ghost use Rattle.rs_code.specs.Codewords.{AreSeats};
+ghost use Rattle.stripe_code.specs.Codes.{block_code, AreFirst};
+
+use fab_base::{Bytes, NoMem};
+use rs_code::{Code, MAX_BLOCKS};
+use std::alloc::Global;
+
+/// The block that the member at this seat keeps of a stripe's content, `m` data blocks of `size` bytes one after the other.
+/// A seat below `m` keeps its data block as it is.
+///
+/// `NoMemory` comes where the block has no room.
+pub fn encode(alloc: Global, m: u8, size: u16, content: &[u8], seat: u8) -> Result<Bytes, NoMem>
+    requires some_data { 1 ≤ m }
+    requires few_data { m ≤ 16 }
+    requires seat { seat < 32 }
+    requires long { length content.now ≡ m * size }
+    ensures { IfOk result (λ block. block ≡ (block_code size).encode m content.now seat) }
+{
+    let code = Code { m, n: MAX_BLOCKS };
+    let mut block = vec![in alloc; 0; size as usize]?;
+    code.encode_into(content, seat, &mut block);
+    Ok(Bytes::from_vec(block))
+}
+
+/// The stripe's content, `m` data blocks of `size` bytes one after the other, that `m` blocks of its codeword give back. The
+/// blocks stand one after the other, each at its seat of `seats`.
+///
+/// `NoMemory` comes where the content has no room.
+pub fn decode(alloc: Global, m: u8, size: u16, seats: &[u8], blocks: &[u8]) -> Result<Bytes, NoMem>
+    requires some_data { 1 ≤ m }
+    requires few_data { m ≤ 16 }
+    requires seats { AreSeats m 32 seats.now }
+    requires long { length blocks.now ≡ m * size }
+    ensures { IfOk result (λ content. (pieces : List Piece) → AreFirst m size pieces seats.now blocks.now
+        → content ≡ (block_code size).decode m pieces) }
+{
+    let code = Code { m, n: MAX_BLOCKS };
+    let mut content = Vec::new(alloc);
+    let mut block = vec![in alloc; 0; size as usize]?;
+    for j in 0..m {
+        code.decode_into(seats, blocks, j, &mut block);
+        content.extend_from_slice(&block)?;
+    }
+    Ok(Bytes::from_vec(content))
+}
