@@ -1,21 +1,18 @@
 -- What a run printed of an input, from what was read of its layout and printed of its schedule.
-use Rattle.std.proofs.Common.{◌≡◌, ℕ, ◌≤◌, true, false, List, [], ◌∷◌, ◌++◌, length, map, codes, Option, Some, None, Result, Ok, Err, refl, sym, ap, ◌∙◌, subst}
+use Rattle.std.proofs.Common.{◌≡◌, ℕ, ◌≤◌, List, [], ◌∷◌, length, codes, Option, Some, None, Result, Ok, Err, refl, ap, ◌∙◌, subst}
 use Rattle.std.specs.Io.KnownBytes.{IsAtEnd, prepend_known}
 use Rattle.std.proofs.KnownBytes.{prepend_known-nil}
-use Rattle.lines.specs.Lines.{parts, raw_lines, content}
+use Rattle.lines.specs.Lines.{parts}
 use Rattle.lines.specs.Reading.{ReadsSchedule}
 use Rattle.layout.specs.declared.faults.LayoutFault.{LayoutFault}
-use Rattle.layout.specs.declared.faults.LayoutFault.TheVariants.{Limit}
-use Rattle.layout.specs.declared.faults.Key.TheVariants.{GroupM}
-use Rattle.layout.specs.Names.{fault_text}
 use Rattle.layout.specs.Texts.{layout_of}
 use Rattle.protocol.specs.Settings.{Layout}
 use Rattle.protocol.specs.Worlds.{first_world}
-use Rattle.world.specs.Runs.{Run, world_of}
+use Rattle.world.specs.Runs.{Run}
 use Rattle.replay.specs.declared.endings.Verdict.{Verdict}
 use Rattle.replay.specs.declared.endings.Halt.{Halt}
 use Rattle.replay.specs.Inputs.{Input, Parted, TooLong, Endless, most_layout_bytes, input_of, IsInput}
-use Rattle.replay.specs.Outputs.{Output, output_of, output_with, output_from, bad_layout, is_served}
+use Rattle.replay.specs.Outputs.{Output, output_of, output_with, output_from, bad_layout}
 use Rattle.replay.specs.Turns.{Prints, AreLinesOf, PrintsRest, PrintsHeaded, PrintsInput}
 use Rattle.replay.proofs.LayoutTexts.{within}
 use Rattle.replay.proofs.LeftLines.{some_lines}
@@ -35,15 +32,6 @@ pub output_of-endless : output_of Endless ≡ bad_layout (codes "end")
 unfolding output_of
 output_of-endless = refl
 
--- a layout that is not served, and one that is
-pub output_with-coded : (layout : Layout) (schedule : List (List ℕ)) → is_served layout ≡ false
-    → output_with (Ok layout) schedule ≡ bad_layout (fault_text (Limit GroupM))
-output_with-coded layout schedule coded = rw coded refl
-
-pub output_with-copies : (layout : Layout) (schedule : List (List ℕ)) → is_served layout ≡ true
-    → output_with (Ok layout) schedule ≡ output_from layout (first_world layout) 0 schedule
-output_with-copies layout schedule copies = rw copies refl
-
 -- the run was stopped before the layout was read
 pub PrintsHeaded-stopped : (head : List ℕ) (left old : Option (List ℕ)) (halt : Halt) → PrintsHeaded head left old old (Err halt)
 PrintsHeaded-stopped head left old halt =
@@ -59,15 +47,15 @@ PrintsHeaded-refused head left old new r output is p =
 
 -- the layout was read, and the lines behind it were run
 pub PrintsHeaded-lines : (head : List ℕ) (layout : Layout) (run : Run) (left old new : Option (List ℕ)) (r : Result Verdict Halt) → layout_of head ≡ Ok layout
-    → is_served layout ≡ true → run ≡ record { layout = layout; lines = [] } → PrintsRest run 0 left old new r
+    → run ≡ record { layout = layout; lines = [] } → PrintsRest run 0 left old new r
     → PrintsHeaded head left old new r
-PrintsHeaded-lines head layout run left old new r is copies first p =
+PrintsHeaded-lines head layout run left old new r is first p =
     let rest = subst (λ (u : Run). PrintsRest u 0 left old new r) first p in
     record {
       schedule = rest.contents;
       are_lines = rest.are_lines;
       printed = Prints-same old new r (output_of (Parted head rest.contents)) (output_from layout (first_world layout) 0 rest.contents)
-          (output_of-text head rest.contents (Ok layout) is ∙ output_with-copies layout rest.contents copies) rest.printed;
+          (output_of-text head rest.contents (Ok layout) is) rest.printed;
     }
 
 -- the output of an equal layout's text

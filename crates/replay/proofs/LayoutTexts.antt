@@ -1,16 +1,15 @@
 -- What an input is, once some lines of its layout were taken.
 use Rattle.std.proofs.Common.{◌≡◌, ℕ, ◌+◌, ◌-◌, ◌<◌, ◌≤◌, ◌==◌, Bool, true, false, List, [], ◌∷◌, ◌++◌, length, take, slice_index, Option, Some, None, IfSome, refl, sym, ap, ◌∙◌, subst, arith, lt-ltb, le-ltb, length-append, length-take, codes}
-use Rattle.std.specs.Prelude.{nat_lt, ⊤}
+use Rattle.std.specs.Prelude.{⊤}
 use Rattle.std.specs.List.{list_any, concat}
 use Rattle.std.specs.Option.{option_map}
-use Rattle.std.specs.Str.{bytes_eq}
 use Rattle.std.specs.Str.Lines.{strip_carriage_return}
 use Rattle.std.specs.Io.KnownBytes.{IsAtEnd}
 use Rattle.std.proofs.lemmas.Bool.{cond_both, or_parts}
 use Rattle.std.proofs.lemmas.List.Folds.{list_any-append}
 use Rattle.std.proofs.lemmas.Slice.Eq.{bytes_eq-Decides}
 use Rattle.lines.specs.Lines.{Parts, is_line_feed, raw_lines, content, ends_layout, parts, parts_of_lines, onto_layout}
-use Rattle.lines.specs.Reading.{Passes, BeginsLong, ReadsHead}
+use Rattle.lines.specs.Reading.{BeginsLong, ReadsHead}
 use Rattle.lines.proofs.RawLines.{concat-raw_lines}
 use Rattle.lines.proofs.HeadLines.{ReadsHead-ended}
 use Rattle.replay.specs.Inputs.{Input, Parted, TooLong, Endless, most_layout_bytes, unless_long, input_in, input_of, IsInput}

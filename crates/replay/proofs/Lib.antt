@@ -5,6 +5,6 @@ pub mod Rests
 pub mod Inputs
 pub mod StripeTexts
 pub mod LayoutTexts
-pub mod Copies
+pub mod Successions
 pub mod Linearity
 pub mod Statuses

@@ -1,10 +1,10 @@
 -- What the lines of a schedule add to an output.
-use Rattle.std.proofs.Common.{◌≡◌, ℕ, ◌+◌, ◌<◌, true, false, List, [], ◌∷◌, ◌++◌, Option, Some, None, refl, sym, ap, ◌∙◌, arith, append_assoc, append-nil}
+use Rattle.std.proofs.Common.{◌≡◌, ℕ, ◌+◌, ◌<◌, true, List, [], ◌∷◌, ◌++◌, Option, Some, None, refl, arith}
 use Rattle.std.specs.Prelude.{nat_lt}
 use Rattle.std.proofs.lemmas.Bool.Decides.{nat_tests}
 use Rattle.lines.specs.declared.forms.Line.{Line}
 use Rattle.lines.specs.Grammar.{line_of}
-use Rattle.node.specs.Copies.{copying}
+use Rattle.stripe_code.specs.Codes.{coding}
 use Rattle.protocol.specs.Settings.{Setting, Layout}
 use Rattle.protocol.specs.Worlds.{World}
 use Rattle.world.specs.Runs.{after_line, after_lines}
@@ -25,7 +25,7 @@ output_from-end layout w n = refl
 pub output_from-line : (layout : Layout) (w : World) (n : ℕ) (content : List ℕ) (rest : List (List ℕ)) (line : Line) → n < most_lines
     → line_of content ≡ Some line
     → output_from layout w n (content ∷ rest)
-    ≡ onto (text_of (copying layout) w line) (output_from layout (after_line (copying layout) w line) (n + 1) rest)
+    ≡ onto (text_of (coding layout) w line) (output_from layout (after_line (coding layout) w line) (n + 1) rest)
 unfolding output_from
 output_from-line layout w n content rest line h is = rw (within n h, is) refl
 
@@ -43,12 +43,12 @@ output_from-many layout w content rest = refl
 
 -- an output begins with the text of its first line
 pub output_from-front : (layout : Layout) (w : World) (n : ℕ) (content : List ℕ) (rest : List (List ℕ)) → n < most_lines
-    → (more : List ℕ) × ((output_from layout w n (content ∷ rest)).text ≡ line_text (copying layout) w (line_of content) ++ more)
+    → (more : List ℕ) × ((output_from layout w n (content ∷ rest)).text ≡ line_text (coding layout) w (line_of content) ++ more)
 unfolding output_from
-output_from-front layout w n content rest h = rw (within n h) (by_line (line_of content) (λ line. output_from layout (after_line (copying layout) w line) (n + 1) rest))
+output_from-front layout w n content rest h = rw (within n h) (by_line (line_of content) (λ line. output_from layout (after_line (coding layout) w line) (n + 1) rest))
   where
     by_line : (line : Option Line) (ran : Line → Output)
-        → (more : List ℕ) × ((output_line n true line (λ l. onto (text_of (copying layout) w l) (ran l))).text ≡ line_text (copying layout) w line ++ more)
+        → (more : List ℕ) × ((output_line n true line (λ l. onto (text_of (coding layout) w l) (ran l))).text ≡ line_text (coding layout) w line ++ more)
     by_line None ran = ((bad_line (n + 1)).text, refl)
     by_line (Some line) ran = ((ran line).text, refl)
 

@@ -1,5 +1,5 @@
 -- How the rest of a run goes on from the lines that were run.
-use Rattle.std.proofs.Common.{◌≡◌, ℕ, ◌+◌, ◌<◌, List, [], ◌∷◌, ◌++◌, map, Option, Some, None, IfSome, Result, Ok, Err, refl, sym, ap, ◌∙◌, subst, append_assoc}
+use Rattle.std.proofs.Common.{◌≡◌, ℕ, ◌+◌, ◌<◌, List, [], ◌∷◌, ◌++◌, map, Option, Some, None, IfSome, Result, Err, refl, sym, ap, ◌∙◌, subst, append_assoc}
 use Rattle.std.proofs.lemmas.List.{map-append}
 use Rattle.std.specs.Io.KnownBytes.{Keeps, Appends, IsAtEnd}
 use Rattle.std.proofs.KnownBytes.{Keeps-refl, Appends-nil, Appends-trans}
@@ -13,13 +13,13 @@ use Rattle.lines.proofs.Passing.{Passes-nil, Passes-trans}
 use Rattle.lines.specs.declared.forms.Line.{Line}
 use Rattle.protocol.specs.Settings.{Layout}
 use Rattle.protocol.specs.Worlds.{World}
-use Rattle.node.specs.Copies.{copying}
+use Rattle.stripe_code.specs.Codes.{coding}
 use Rattle.world.specs.Runs.{Run, world_of, after_line}
 use Rattle.world.specs.Texts.{text_of}
 use Rattle.replay.specs.declared.endings.Verdict.{Verdict}
 use Rattle.replay.specs.declared.endings.Halt.{Halt}
 use Rattle.replay.specs.Outputs.{Output, onto, output_from, finished, bad_line, too_many_lines, most_lines}
-use Rattle.replay.specs.Turns.{Prints, AreLinesOf, PrintsRest, line_text, LineRuns, TurnRuns}
+use Rattle.replay.specs.Turns.{Prints, AreLinesOf, PrintsRest, line_text, TurnRuns}
 use Rattle.replay.proofs.OutputLines.{output_from-end, output_from-line, output_from-bad, output_from-many, output_from-front, after_lines-push}
 use Rattle.replay.proofs.Printing.{Prints-after, Prints-kept, Prints-nothing, Prints-same, Prints-front}
 use Rattle.replay.proofs.LeftLines.{some_lines, no_lines, taken_lines, first_line, long_line}
@@ -66,7 +66,7 @@ PrintsRest-long run n left old new r within long p =
 
 -- the run was stopped at the text of the next line
 pub PrintsRest-front : (run : Run) (n : ℕ) (left rest old new : Option (List ℕ)) (line : List ℕ) (halt : Halt) → n < most_lines
-    → Passes left rest (line ∷ []) → AppendsFront old new (line_text (copying run.layout) (world_of run) (line_of (content line)))
+    → Passes left rest (line ∷ []) → AppendsFront old new (line_text (coding run.layout) (world_of run) (line_of (content line)))
     → PrintsRest run n left old new (Err halt)
 PrintsRest-front run n left rest old new line halt within passes p =
     let first = first_line left rest line passes in
@@ -74,7 +74,7 @@ PrintsRest-front run n left rest old new line halt within passes p =
       contents = content line ∷ first.0;
       are_lines = first.1;
       printed = Prints-front old new (output_from run.layout (world_of run) n (content line ∷ first.0)) halt
-          (line_text (copying run.layout) (world_of run) (line_of (content line)))
+          (line_text (coding run.layout) (world_of run) (line_of (content line)))
           (output_from-front run.layout (world_of run) n (content line) first.0 within) p;
     }
 
@@ -136,16 +136,16 @@ onto-onto a b output = ap (λ t. onto_verdict t) (sym (append_assoc a b output.t
 -- the output of a line, over an equal layout
 line_of_layout : (layout same : Layout) (w : World) (n : ℕ) (content : List ℕ) (rest : List (List ℕ)) (line : Line) → n < most_lines → layout ≡ same
     → line_of content ≡ Some line
-    → output_from same w n (content ∷ rest) ≡ onto (text_of (copying layout) w line) (output_from same (after_line (copying layout) w line) (n + 1) rest)
+    → output_from same w n (content ∷ rest) ≡ onto (text_of (coding layout) w line) (output_from same (after_line (coding layout) w line) (n + 1) rest)
 line_of_layout layout same w n content rest line within e is =
-    subst (λ (l : Layout). output_from same w n (content ∷ rest) ≡ onto (text_of (copying l) w line) (output_from same (after_line (copying l) w line) (n + 1) rest))
+    subst (λ (l : Layout). output_from same w n (content ∷ rest) ≡ onto (text_of (coding l) w line) (output_from same (after_line (coding l) w line) (n + 1) rest))
     (sym e) (output_from-line same w n content rest line within is)
 
 -- one more was run
 pub HasRun-line : (first run after : Run) (n : ℕ) (start left rest old mid new : Option (List ℕ)) → n < most_lines
     → HasRun first run n start left old mid → TurnRuns run after left rest mid new → HasRun first after (n + 1) start rest old new
 HasRun-line first run after n start left rest old mid new within h t =
-    let setting = copying run.layout in
+    let setting = coding run.layout in
     let w = world_of run in
     let line = t.runs.line in
     let text = text_of setting w line in

@@ -1,12 +1,9 @@
 -- The lines of happenings, one more at a time.
-use Rattle.std.proofs.Common.{◌≡◌, ℕ, ◌+◌, ◌<◌, ◌≤◌, List, [], ◌∷◌, ◌++◌, length, drop, get_or, Option, Some, None, refl, sym, ap, ◌∙◌, add-one, append_assoc, codes, option_copied}
-use Rattle.std.specs.Fmt.{decimal}
-use Rattle.std.proofs.lemmas.List.{at_drop_more, at_drop_all}
-use Rattle.reg_model.specs.declared.marks.Happening.{Happening}
-use Rattle.protocol.specs.Settings.{Layout, Group, group_of}
+use Rattle.std.proofs.Common.{◌≡◌, ℕ, ◌+◌, [], ◌++◌, refl, add-one}
+use Rattle.protocol.specs.Settings.{Layout, group_of}
 use Rattle.protocol.specs.Worlds.{World}
 use Rattle.protocol.specs.Happenings.{happenings_of}
-use Rattle.replay.specs.Outputs.{happening_text, happenings_text, happened_text, stripes_text, groups_text, stripes_of}
+use Rattle.replay.specs.Outputs.{happened_text, stripes_text, groups_text, stripes_of}
 
 -- one more stripe
 pub stripes_text-more : (w : World) (g s : ℕ) → stripes_text w g (s + 1) ≡ stripes_text w g s ++ happened_text g s (happenings_of w g s)

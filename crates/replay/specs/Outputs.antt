@@ -1,8 +1,6 @@
 -- What is printed for an input: the texts of its lines, and what closes them; or why it has no layout, or where it is no schedule.
-use Rattle.std.specs.Prelude.{ℕ, zero, suc, ◌+◌, Bool, true, false, nat_eq, nat_lt, if◌then◌else◌, List, [], ◌∷◌, ◌++◌, codes, count_by, Option, Some, None, Result, Ok, Err}
+use Rattle.std.specs.Prelude.{ℕ, zero, suc, ◌+◌, Bool, true, false, nat_lt, List, [], ◌∷◌, ◌++◌, codes, count_by, Option, Some, None, Result, Ok, Err}
 use Rattle.std.specs.Fmt.{decimal}
-use Rattle.std.specs.List.{list_all}
-use Rattle.fab_base.specs.declared.answers.Answer.{Answer}
 use Rattle.fab_base.specs.declared.answers.Answer.TheVariants.{Data, Done, Aborted}
 use Rattle.reg_model.specs.declared.marks.Mark.{Mark}
 use Rattle.reg_model.specs.declared.marks.Mark.TheVariants.{Begin, End, Crash}
@@ -12,10 +10,8 @@ use Rattle.lines.specs.Grammar.{line_of}
 use Rattle.protocol.specs.Settings.{Layout, Group, group_of}
 use Rattle.protocol.specs.Worlds.{World, first_world}
 use Rattle.protocol.specs.Happenings.{happenings_of}
-use Rattle.node.specs.Copies.{copying}
+use Rattle.stripe_code.specs.Codes.{coding}
 use Rattle.layout.specs.declared.faults.LayoutFault.{LayoutFault}
-use Rattle.layout.specs.declared.faults.LayoutFault.TheVariants.{Limit}
-use Rattle.layout.specs.declared.faults.Key.TheVariants.{GroupM}
 use Rattle.layout.specs.Names.{fault_text}
 use Rattle.layout.specs.Texts.{layout_of}
 use Rattle.world.specs.Runs.{after_line}
@@ -129,21 +125,16 @@ unfoldable pub output_from : Layout → World → ℕ → List (List ℕ) → Ou
 output_from layout w n [] = finished layout w n
 output_from layout w n (content ∷ contents) =
     output_line n (nat_lt n most_lines) (line_of content)
-    (λ line. onto (text_of (copying layout) w line) (output_from layout (after_line (copying layout) w line) (n + 1) contents))
+    (λ line. onto (text_of (coding layout) w line) (output_from layout (after_line (coding layout) w line) (n + 1) contents))
 
 -- the output of an input without a layout, and why it has none
 abbrev pub bad_layout : List ℕ → Output
 bad_layout why = record { text = codes "bad layout: " ++ (why ++ newline); verdict = BadLayout }
 
--- each stripe has one data block, of which each member keeps a copy: others are not served yet
-abbrev pub is_served : Layout → Bool
-is_served layout = list_all (λ group. nat_eq group.m 1) layout.groups
-
 -- what is printed for a layout and a schedule
 abbrev pub output_with : Result Layout LayoutFault → List (List ℕ) → Output
 output_with (Err fault) schedule = bad_layout (fault_text fault)
-output_with (Ok layout) schedule =
-    if is_served layout then output_from layout (first_world layout) 0 schedule else bad_layout (fault_text (Limit GroupM))
+output_with (Ok layout) schedule = output_from layout (first_world layout) 0 schedule
 
 -- what is printed for an input
 unfoldable pub output_of : Input → Output

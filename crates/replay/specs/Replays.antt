@@ -1,5 +1,5 @@
 -- What the program `replay` promises: how it answers its words, what it prints of an input, and that what it prints is strict.
-use Rattle.std.specs.Prelude.{◌≡◌, ℕ, ◌⊎◌, Bool, true, false, List, [], ◌∷◌, ◌++◌, length, ⊤, map, codes, Option, Some, None, Result, Ok, Err}
+use Rattle.std.specs.Prelude.{◌≡◌, ℕ, ◌⊎◌, Bool, false, List, [], ◌∷◌, ◌++◌, length, ⊤, map, codes, Option, Some, None, Result, Ok, Err}
 use Rattle.std.specs.Str.{bytes_eq}
 use Rattle.std.specs.Io.KnownBytes.{Appends, IsAtEnd}
 use Rattle.fab_io.specs.Ends.{AppendsFront}
@@ -11,17 +11,18 @@ use Rattle.protocol.specs.Settings.{Setting, Layout, Group, group_of}
 use Rattle.protocol.specs.Worlds.{World, first_world}
 use Rattle.protocol.specs.Happenings.{happenings_of}
 use Rattle.protocol.specs.Laws.{AbortsShow, Laws}
-use Rattle.node.specs.Copies.{copying}
+use Rattle.stripe_code.specs.Codes.{coding}
 use Rattle.layout.specs.Texts.{layout_of}
-use Rattle.world.specs.Runs.{after_line, after_lines}
+use Rattle.world.specs.Runs.{after_line, world_of}
 use Rattle.world.specs.Texts.{text_of, newline}
 use Rattle.replay.specs.declared.endings.Verdict.{Verdict}
 use Rattle.replay.specs.declared.endings.Verdict.TheVariants.{Whole, BadLayout, BadLine, TooManyLines}
 use Rattle.replay.specs.declared.endings.Halt.{Halt}
 use Rattle.replay.specs.declared.endings.Halt.TheVariants.{Source, Sink, Memory}
 use Rattle.replay.specs.Inputs.{Input, Parted, input_of, IsInput}
-use Rattle.replay.specs.Outputs.{output_of, closing_text, is_served}
+use Rattle.replay.specs.Outputs.{output_of, closing_text}
 use Rattle.replay.specs.Turns.{Prints}
+use Rattle.replay.specs.Histories.{Follows}
 
 -- the words are the one word `run`
 abbrev pub asks_run : List (List ℕ) → Bool
@@ -54,6 +55,10 @@ abbrev pub lines_text : Setting → World → List Line → List ℕ
 lines_text setting w [] = []
 lines_text setting w (line ∷ lines) = text_of setting w line ++ lines_text setting (after_line setting w line) lines
 
+-- the world that lines leave over the disk of a layout
+abbrev pub left_by : Layout → List Line → World
+left_by layout lines = world_of (record { layout = layout; lines = lines })
+
 -- What lines left is strict: the marks are well formed, the happenings of each stripe are strict for its marks, and every abort shows its evidence.
 -- Beside these all laws of the disk hold of it.
 pub record IsStrictWorld (layout : Layout) (world : World) : Type 0 where
@@ -61,7 +66,7 @@ pub record IsStrictWorld (layout : Layout) (world : World) : Type 0 where
   pub strict : (g s : ℕ) (group : Group) → group_of layout g ≡ Some group
       → IsStrict group.m layout.block (stripe_marks g s world.marks) (happenings_of world g s)
   pub aborts_show : AbortsShow world
-  pub laws : Laws (copying layout) world
+  pub laws : Laws (coding layout) world
 
 -- What was printed is strict. The input has a layout and a schedule, every line of the schedule was run, and the text is theirs and then the
 -- happenings of each stripe in the world that they leave, which is strict.
@@ -74,21 +79,29 @@ pub record IsLinearizable (input : Input) (text : List ℕ) : Type 0 where
   pub input_is : input ≡ Parted head schedule
   pub layout_is : layout_of head ≡ Ok layout
   pub lines_are : map line_of schedule ≡ map Some lines
-  pub world_is : world ≡ after_lines (copying layout) (first_world layout) lines
-  pub text_is : text ≡ lines_text (copying layout) (first_world layout) lines ++ closing_text layout world (length lines)
+  pub world_is : world ≡ left_by layout lines
+  pub text_is : text ≡ lines_text (coding layout) (first_world layout) lines ++ closing_text layout world (length lines)
   pub is_strict : IsStrictWorld layout world
 
--- However far a run comes, what its lines left by then is strict: the first lines of the schedule, whichever number of them, over a layout that is
--- served.
-abbrev pub StaysStrict : Input → Type 0
-StaysStrict input =
-    (head : List ℕ) (layout : Layout) (schedule rest : List (List ℕ)) (lines : List Line) → input ≡ Parted head (schedule ++ rest)
-    → layout_of head ≡ Ok layout → is_served layout ≡ true → map line_of schedule ≡ map Some lines
-    → IsStrictWorld layout (after_lines (copying layout) (first_world layout) lines)
+-- these lines are the first of an input's schedule, over its layout
+pub record BeginsWith (input : Input) (layout : Layout) (lines : List Line) : Type 0 where
+  pub head : List ℕ
+  pub schedule : List (List ℕ)
+  pub rest : List (List ℕ)
+  pub input_is : input ≡ Parted head (schedule ++ rest)
+  pub layout_is : layout_of head ≡ Ok layout
+  pub lines_are : map line_of schedule ≡ map Some lines
+
+-- However far a run comes, what its lines left by then is strict, and what further lines leave follows it: no brick has lowered what it had promised
+-- or stored, and no version that was lost has surfaced.
+pub record StaysStrict (input : Input) : Type 0 where
+  pub strict : (layout : Layout) (lines : List Line) → BeginsWith input layout lines → IsStrictWorld layout (left_by layout lines)
+  pub follows : (layout : Layout) (lines more : List Line) → BeginsWith input layout (lines ++ more)
+      → Follows layout (left_by layout lines) (left_by layout (lines ++ more))
 
 -- A run. There is an input, of which what the source tells is the bytes, and an end, of which the status tells. The sink took the whole output of
 -- the input, which ends so, or, where the run was stopped from outside, some of the output, from its front. Where all was run, the source is at its
--- end, and what was printed is strict; and however far it came, what its lines left is strict.
+-- end, and what was printed is strict; and however far it came, what its lines left is strict, and what further lines leave follows it.
 pub record Runs (source source_after sink sink_after : Option (List ℕ)) (status : ℕ) : Type 0 where
   pub input : Input
   pub ending : Result Verdict Halt

@@ -1,12 +1,12 @@
 -- What a part of a run printed, of the output that it had to print.
-use Rattle.std.specs.Prelude.{◌≡◌, ℕ, ◌+◌, ◌≤◌, Bool, true, false, List, [], ◌∷◌, length, ⊤, map, Option, Some, None, Result, Ok, Err}
+use Rattle.std.specs.Prelude.{◌≡◌, ℕ, ◌≤◌, Bool, true, false, List, [], ◌∷◌, length, ⊤, map, Option, Some, None, Result, Ok, Err}
 use Rattle.std.specs.Io.KnownBytes.{Appends, Keeps}
 use Rattle.fab_io.specs.Ends.{AppendsFront}
 use Rattle.lines.specs.declared.forms.Line.{Line}
 use Rattle.lines.specs.Grammar.{line_of}
 use Rattle.lines.specs.Lines.{raw_lines, content}
 use Rattle.lines.specs.Reading.{Passes, ReadsSchedule}
-use Rattle.node.specs.Copies.{copying}
+use Rattle.stripe_code.specs.Codes.{coding}
 use Rattle.protocol.specs.Settings.{Setting}
 use Rattle.protocol.specs.Worlds.{World}
 use Rattle.world.specs.Runs.{Run, world_of}
@@ -16,7 +16,6 @@ use Rattle.replay.specs.declared.endings.Verdict.{Verdict}
 use Rattle.replay.specs.declared.endings.Halt.{Halt}
 use Rattle.replay.specs.declared.heads.Head.{Head}
 use Rattle.replay.specs.declared.heads.Head.TheVariants.{Text}
-use Rattle.replay.specs.declared.heads.Head.TheVariants as Head
 use Rattle.replay.specs.Inputs.{Input, Parted, TooLong, Endless, most_layout_bytes, IsInput}
 use Rattle.replay.specs.Outputs.{Output, output_from, output_of}
 
@@ -46,13 +45,13 @@ pub record LineRuns (before after : Run) (content : List ℕ) (old new : Option 
   pub line : Line
   pub is_line : line_of content ≡ Some line
   pub run : after ≡ with_line before line
-  pub printed : Appends old new (text_of (copying before.layout) (world_of before) line)
+  pub printed : Appends old new (text_of (coding before.layout) (world_of before) line)
 
 -- a line was run and printed; or it is no line; or a run that was stopped printed some of its text, from the front
 abbrev pub LineMeans : Run → Run → List ℕ → Option (List ℕ) → Option (List ℕ) → Result Bool Halt → Type 0
 LineMeans before after content old new (Ok true) = LineRuns before after content old new
 LineMeans before after content old new (Ok false) = (line_of content ≡ None) × (after ≡ before) × Keeps old new
-LineMeans before after content old new (Err halt) = AppendsFront old new (line_text (copying before.layout) (world_of before) (line_of content))
+LineMeans before after content old new (Err halt) = AppendsFront old new (line_text (coding before.layout) (world_of before) (line_of content))
 
 -- the next line of the source was run and printed
 pub record TurnRuns (before after : Run) (left rest old new : Option (List ℕ)) : Type 0 where

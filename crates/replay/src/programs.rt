@@ -31,6 +31,9 @@ use std::alloc::Global;
 /// definitions: what is printed for an input is `output_of` (`specs/Outputs.antt`), and `IsLinearizable` (`specs/Replays.antt`) says
 /// that the happenings printed for each stripe are strict for its marks, `IsStrict` (`specs/Strict.antt` of `reg_model`). The schedules
 /// that are accepted are those that end with status 0.
+///
+/// However far a run comes, all laws of the disk hold of what its lines left (`Laws` of `protocol`), and what further lines leave follows
+/// it: no brick has lowered what it had promised or stored, and no version that was lost has surfaced (`Follows`, `specs/Histories.antt`).
 pub fn replay<S: Source, K: Sink>(
     alloc: Global,
     words: &[String],

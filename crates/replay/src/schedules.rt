@@ -1,19 +1,17 @@
 //! A run: the layout, then the lines of the schedule, one after another, and what closes the output.
 
-ghost use Rattle.std.specs.Prelude.{◌≡◌, ◌≢◌, false, nat_eq, true, [], IfOk, MatchOption};
-ghost use Rattle.std.specs.List.{list_all};
+ghost use Rattle.std.specs.Prelude.{◌≡◌, ◌≢◌, false};
 ghost use Rattle.std.specs.Io.KnownBytes.{IsAtEnd, prepend_known};
 ghost use Rattle.fab_io.specs.Ends.{Kept};
 ghost use Rattle.layout.specs.Names.{fault_text};
-ghost use Rattle.replay.specs.Outputs.{bad_layout, is_served};
+ghost use Rattle.replay.specs.Outputs.{bad_layout};
 ghost use Rattle.replay.specs.Turns.{Prints, PrintsRest, PrintsHeaded, PrintsInput};
 
 use crate::endings::{Halt, Verdict};
 use crate::heads::{Head, read_head};
 use crate::turns::{MOST_LINES, close, take_last_turn, take_turn};
-use fab_base::NoMem;
 use fab_io::{Sink, Source};
-use layout::{Group, Key, Layout, LayoutFault};
+use layout::{Layout, LayoutFault};
 use lines::Unread;
 use std::alloc::Global;
 use world::World;
@@ -63,24 +61,6 @@ fn is_memory(fault: &LayoutFault) -> bool
     }
 }
 
-/// Whether each stripe of these groups has one data block, of which each member keeps a copy.
-fn are_copied(groups: &[Group]) -> bool
-    ensures { result ≡ list_all (λ group. nat_eq group.m 1) groups.now }
-{
-    groups.iter().all(|group| group.m() == 1)
-}
-
-/// The disk of a layout, where it is served.
-pub(crate) fn disk_of(alloc: Global, layout: Layout) -> Result<Option<World>, NoMem>
-    ensures { IfOk result (λ disk. MatchOption disk (is_served layout ≡ false)
-        (λ world. (is_served layout ≡ true) × (world ≡ record { layout = layout; lines = [] }))) }
-{
-    if !are_copied(layout.groups()) {
-        return Ok(None);
-    }
-    Ok(Some(World::new(alloc, layout)?))
-}
-
 /// Runs what is left of a source over the disk that a layout's text says.
 fn run_layout<S: Source, K: Sink>(
     alloc: Global,
@@ -98,13 +78,10 @@ fn run_layout<S: Source, K: Sink>(
         (result ≡ Err Halt.Sink) }
 {
     match Layout::read(alloc, head) {
-        Ok(layout) => match disk_of(alloc, layout)? {
-            Some(mut world) => run_lines(alloc, &mut world, source, unread, sink),
-            None => {
-                let fault = LayoutFault::Limit { name: Key::GroupM };
-                refuse_layout(alloc, sink, &fault)
-            }
-        },
+        Ok(layout) => {
+            let mut world = World::new(alloc, layout)?;
+            run_lines(alloc, &mut world, source, unread, sink)
+        }
         Err(fault) => {
             if is_memory(&fault) {
                 return Err(Halt::Memory);

@@ -1,20 +1,20 @@
-// Worked inputs, their prefixes, ends that fail, and a message that comes three times.
+// Worked inputs, codes of every size, prefixes of an input, ends that fail, and a message that comes three times.
 use crate::replay;
-use crate::schedules::disk_of;
 use fab_base::{BrickId, GroupId, StripeNo};
 use fab_io::{MemSink, MemSource};
 use fab_wire::{Message, Reply};
 use layout::Layout;
 use std::alloc::Global;
 use std::test::Fail;
+use world::World;
 
 /// A layout, and the line behind it.
 const HEAD: &str =
     "block = 1\nbricks = 3\nrecords = 100\n[[group]]\nm = 1\nmembers = [0, 1, 2]\nstripes = 4\n---\n";
 
-/// A layout whose stripes have two data blocks.
+/// A layout whose stripes have two data blocks over four members, and the line behind it.
 const CODED: &str =
-    "block = 1\nbricks = 3\nrecords = 100\n[[group]]\nm = 2\nmembers = [0, 1, 2]\nstripes = 4\n---\n";
+    "block = 1\nbricks = 4\nrecords = 100\n[[group]]\nm = 2\nmembers = [0, 1, 2, 3]\nstripes = 4\n---\n";
 
 /// A stripe is written by brick 0, and then read by brick 1.
 const SCHEDULE: &str =
@@ -24,15 +24,17 @@ const SCHEDULE: &str =
 const OUTPUT: &str =
     "0 begin 1 0 writeall 0 0 41\n1 end 1 done\n2 begin 2 1 readall 0 0\n3 end 2 data 41\nhappened 0 0 1@0 2@2\ncount lines 14 begun 2 answered 2 aborted 0 crashes 0\n";
 
-/// Lines of a schedule, whose last words may be several numbers: each makes a line of its own with the first word.
+/// A layout and lines of a schedule, whose last words may be several numbers: each makes a line of its own with the first word.
 #[derive(Clone, Copy)]
 struct Example {
+    head: &'static str,
     lines: &'static [(&'static str, &'static [u64])],
     output: &'static str,
 }
 
 /// Two writers at one time: the first is refused, orders again, and then refuses the second.
 const TWO_WRITERS: Example = Example {
+    head: HEAD,
     lines: &[
         ("clock 0 5", &[]),
         ("clock 1 5", &[]),
@@ -47,6 +49,7 @@ const TWO_WRITERS: Example = Example {
 
 /// Refusals, the last at a brick that knows no later time.
 const REFUSED: Example = Example {
+    head: HEAD,
     lines: &[
         ("readall 0 0 4", &[]),
         ("readall 0 1 0", &[]),
@@ -61,9 +64,9 @@ const REFUSED: Example = Example {
     output: "refused nostripe\nrefused nostripe\nrefused length\nrefused down\nidle\nidle\n0 begin 1 0 writeall 0 0 41\nrefused spent\ncount lines 9 begun 1 answered 0 aborted 0 crashes 0\n",
 };
 
-/// A write that was aborted does not surface: reads that find some of it stay open, and send nothing that the last four lines could
-/// deliver.
+/// A write that was aborted stands at one member: two reads that find it recover, and are still open at the end.
 const ABORTED: Example = Example {
+    head: HEAD,
     lines: &[
         ("writeall 0 0 0 41", &[]),
         ("deliver", &[1, 2, 4, 5]),
@@ -75,13 +78,41 @@ const ABORTED: Example = Example {
         ("readall 2 0 0", &[]),
         ("deliver", &[20, 22, 23, 24, 25, 27, 28, 29]),
     ],
-    output: "0 begin 1 0 writeall 0 0 41\n1 begin 2 1 writeall 0 0 42\n2 end 1 aborted later 1 1.9.1.1\n3 begin 3 2 readall 0 0\n4 begin 4 2 readall 0 0\nidle\nidle\nidle\nidle\ncount lines 26 begun 4 answered 0 aborted 1 crashes 0\n",
+    output: "0 begin 1 0 writeall 0 0 41\n1 begin 2 1 writeall 0 0 42\n2 end 1 aborted later 1 1.9.1.1\n3 begin 3 2 readall 0 0\n4 begin 4 2 readall 0 0\ncount lines 26 begun 4 answered 0 aborted 1 crashes 0\n",
+};
+
+/// A write reached one member, too few for its two blocks: a read rolls it back, and its late second Write is refused.
+const ROLLED_BACK: Example = Example {
+    head: CODED,
+    lines: &[
+        ("writeall 0 0 0 8001", &[]),
+        ("deliver", &[1, 2, 3, 5, 6, 7, 8]),
+        ("readall 1 0 0", &[]),
+        ("deliver", &[14, 15, 16, 17, 18, 19, 21, 22, 23]),
+        ("deliver", &[24, 25, 26, 28, 29, 30, 31, 32, 33, 9]),
+        ("readall 2 0 0", &[]),
+        ("deliver", &[40, 41, 42, 43, 44, 45]),
+    ],
+    output: "0 begin 1 0 writeall 0 0 8001\n1 begin 2 1 readall 0 0\n2 end 2 data 0000\n3 begin 3 2 readall 0 0\n4 end 3 data 0000\nhappened 0 0 2@1 3@3\ncount lines 35 begun 3 answered 2 aborted 0 crashes 0\n",
+};
+
+/// A write reached two members, enough for its two blocks: a read rolls it forward.
+const ROLLED_FORWARD: Example = Example {
+    head: CODED,
+    lines: &[
+        ("writeall 0 0 0 8001", &[]),
+        ("deliver", &[1, 2, 3, 5, 6, 7, 9, 10]),
+        ("readall 1 0 0", &[]),
+        ("deliver", &[15, 16, 17, 18, 19, 20, 22, 23, 24]),
+        ("deliver", &[25, 26, 27, 29, 30, 31, 32, 33, 34]),
+    ],
+    output: "0 begin 1 0 writeall 0 0 8001\n1 begin 2 1 readall 0 0\n2 end 2 data 8001\nhappened 0 0 1@0 2@1\ncount lines 28 begun 2 answered 1 aborted 0 crashes 0\n",
 };
 
 impl Example {
-    /// The input: this head, and the lines.
-    fn input(&self, alloc: Global, head: &str) -> Result<Vec<u8>, Fail> {
-        let mut bytes = head.as_bytes().to_vec(alloc)?;
+    /// The input.
+    fn input(&self, alloc: Global) -> Result<Vec<u8>, Fail> {
+        let mut bytes = self.head.as_bytes().to_vec(alloc)?;
         for (words, numbers) in self.lines {
             if numbers.is_empty() {
                 bytes.extend_from_slice(words.as_bytes())?;
@@ -95,6 +126,73 @@ impl Example {
         Ok(bytes)
     }
 }
+
+/// A code: the data blocks of a stripe, and the members that keep it.
+#[derive(Clone, Copy)]
+struct Code {
+    m: u8,
+    n: u8,
+}
+
+impl Code {
+    /// The bytes of a stripe, in digits: 10, 11, 12 and so on.
+    fn data(&self, alloc: Global) -> Result<String, Fail> {
+        let mut text = String::new(alloc);
+        for block in 0..u64::from(self.m) {
+            let byte = format!(in alloc; "{}", 10 + block)?;
+            text.push_str(byte.as_str())?;
+        }
+        Ok(text)
+    }
+
+    /// The layout of one stripe, and the line behind it.
+    fn head(&self, alloc: Global) -> Result<String, Fail> {
+        let mut members = String::new(alloc);
+        for brick in 0..self.n {
+            let member = format!(in alloc; "{brick}, ")?;
+            members.push_str(member.as_str())?;
+        }
+        let m = self.m;
+        let n = self.n;
+        Ok(format!(in alloc;
+            "block = 1\nbricks = {n}\nrecords = 100\n[[group]]\nm = {m}\nmembers = [{members}]\nstripes = 1\n---\n"
+        )?)
+    }
+
+    /// A stripe is written, and then read by the last brick, which hears only the last members of a quorum.
+    fn schedule(&self, alloc: Global, data: &str) -> Result<String, Fail> {
+        let n = u64::from(self.n);
+        let spare = n.saturating_sub(u64::from(self.m)) / 2;
+        let mut text = format!(in alloc; "writeall 0 0 0 {data}\n")?;
+        for number in 0..4 * n {
+            let line = format!(in alloc; "deliver {}\n", number + 1)?;
+            text.push_str(line.as_str())?;
+        }
+        let line = format!(in alloc; "readall {} 0 0\n", n.saturating_sub(1))?;
+        text.push_str(line.as_str())?;
+        for number in 5 * n + spare..7 * n - spare {
+            let line = format!(in alloc; "deliver {}\n", number + 1)?;
+            text.push_str(line.as_str())?;
+        }
+        Ok(text)
+    }
+}
+
+/// Codes, from the least to the greatest.
+const CODES: [(u8, u8); 12] = [
+    (1, 1),
+    (1, 2),
+    (1, 3),
+    (2, 3),
+    (2, 4),
+    (2, 6),
+    (3, 5),
+    (4, 8),
+    (5, 9),
+    (8, 12),
+    (16, 16),
+    (16, 32),
+];
 
 /// The worked input of one write and one read.
 fn worked(alloc: Global) -> Result<Vec<u8>, Fail> {
@@ -140,11 +238,32 @@ fn a_worked_input(rt: HostRuntime) -> Result<(), Fail> {
 
 #[test]
 fn more_worked_inputs(rt: HostRuntime) -> Result<(), Fail> {
-    for worked in [TWO_WRITERS, REFUSED, ABORTED] {
-        let mut source = MemSource::new(worked.input(rt.alloc(), HEAD)?);
+    for worked in [TWO_WRITERS, REFUSED, ABORTED, ROLLED_BACK, ROLLED_FORWARD] {
+        let mut source = MemSource::new(worked.input(rt.alloc())?);
         let mut sink = MemSink::new(rt.alloc());
         assert_eq!(rt; run(rt.alloc(), &mut source, &mut sink)?, 0);
         assert_eq!(rt; sink.taken(), worked.output.as_bytes());
+    }
+    Ok(())
+}
+
+#[test]
+fn codes_of_every_size(rt: HostRuntime) -> Result<(), Fail> {
+    for (m, n) in CODES {
+        let code = Code { m, n };
+        let data = code.data(rt.alloc())?;
+        let mut input = code.head(rt.alloc())?;
+        let schedule = code.schedule(rt.alloc(), data.as_str())?;
+        input.push_str(schedule.as_str())?;
+        let answered = format!(in rt.alloc(); "\n3 end 2 data {data}\nhappened 0 0 1@0 2@2\n")?;
+        let mut source = MemSource::new(input.into_bytes());
+        let mut sink = MemSink::new(rt.alloc());
+        assert_eq!(rt; run(rt.alloc(), &mut source, &mut sink)?, 0);
+        let found = sink
+            .taken()
+            .windows(answered.len())
+            .any(|part| part == answered.as_bytes());
+        assert!(rt; found, "{m} of {n}");
     }
     Ok(())
 }
@@ -160,7 +279,6 @@ fn inputs_without_a_layout(rt: HostRuntime) -> Result<(), Fail> {
         (b"block = 1\n".as_slice(), "bad layout: end\n"),
         (b"---\n".as_slice(), "bad layout: field block\n"),
         (b"block\n---\n".as_slice(), "bad layout: toml\n"),
-        (CODED.as_bytes(), "bad layout: limit group.m\n"),
         (long.as_slice(), "bad layout: limit layout\n"),
     ];
     for (input, output) in inputs {
@@ -237,10 +355,7 @@ fn other_words(rt: HostRuntime) -> Result<(), Fail> {
 fn a_write_that_comes_three_times(rt: HostRuntime) -> Result<(), Fail> {
     let text = HEAD.as_bytes();
     let layout = Layout::read(rt.alloc(), &text[..text.len() - 4])?;
-    let Some(mut world) = disk_of(rt.alloc(), layout)? else {
-        assert!(rt; false, "the layout is not served");
-        return Ok(());
-    };
+    let mut world = World::new(rt.alloc(), layout)?;
     let lines = [
         "writeall 0 0 0 41",
         "deliver 1",

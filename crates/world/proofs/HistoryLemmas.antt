@@ -15,6 +15,7 @@ use Rattle.reg_model.specs.declared.marks.Mark.TheVariants.{Begin, End}
 use Rattle.protocol.specs.Nodes.{Node, NodeStep, put}
 use Rattle.protocol.specs.declared.tellings.Told.TheVariants.{Made, Answers}
 use Rattle.protocol.specs.Worlds.{World, Operation, world_began, world_stepped, with_made, with_answer, version_after, is_answer}
+use Rattle.protocol.specs.Happenings.{writes}
 use Rattle.world.specs.declared.histories.History.{History}
 use Rattle.world.specs.declared.histories.Known.{Known}
 use Rattle.world.specs.States.{StandFor, ChangesAt, IsKnown, IsOfCall, Tells, call_cmp, made_known, ended_known}
@@ -89,10 +90,22 @@ known_changed old new operations number change next alike changed known n k is =
         )
 
 -- an operation that made a version
-pub made_alike : (stamp : Stamp) (known : Known) (o : Operation) → IsKnown known o
-    → (p : Operation) × (with_made stamp (Some o) ≡ Some p) × IsKnown (made_known stamp known) p
-made_alike stamp known o is =
-    (_, refl, record { begin = is.begin; group = is.group; stripe = is.stripe; version = refl; made = refl; answered = is.answered })
+pub made_alike : (stamp : Stamp) (base : Option Stamp) (known : Known) (o : Operation) → IsKnown known o
+    → (p : Operation) × (with_made stamp base (Some o) ≡ Some p) × IsKnown (made_known stamp base known) p
+made_alike stamp base known o is = (
+  _,
+  refl,
+  record {
+    begin = is.begin;
+    group = is.group;
+    stripe = is.stripe;
+    version = refl;
+    made = refl;
+    base = refl;
+    writes = is.writes;
+    answered = is.answered;
+  },
+)
 
 -- an operation that ended
 pub ended_alike : (answer : Answer) (seen : Option Stamp) (known : Known) (o : Operation) → IsKnown known o
@@ -107,6 +120,8 @@ ended_alike answer seen known o is = (
     stripe = is.stripe;
     version = ap (λ v. version_after v seen) is.version;
     made = is.made;
+    base = is.base;
+    writes = is.writes;
     answered = refl;
   },
 )
@@ -160,11 +175,25 @@ known_begun kept operations begun known o count is old n k found =
     (o, value_here operations (begun + 1) (n + 1) (Some o) here, subst (λ (x : Known). IsKnown x o) new.1 is))
     (grown kept known n k found)
 
+-- what is kept of an operation that began at a position
+abbrev pub begun_known : ℕ → Ask → Known
+begun_known begin ask =
+    record {
+      begin = begin;
+      group = ask.group;
+      stripe = ask.stripe;
+      version = None;
+      made = false;
+      base = None;
+      writes = writes ask.op;
+      answered = false;
+    }
+
 -- an operation that began
 pub tells_began : (old new : History) (w : World) (brick : BrickId) (ask : Ask) (step : NodeStep) → Tells old w
     → new.sent.items ≡ old.sent.items ++ step.packets
     → new.marks.items ≡ old.marks.items ++ Begin (length old.marks.items) (length old.operations.items + 1) brick ask ∷ []
-    → new.operations.items ≡ old.operations.items ++ record { begin = length old.marks.items; group = ask.group; stripe = ask.stripe; version = None; made = false; answered = false } ∷ []
+    → new.operations.items ≡ old.operations.items ++ begun_known (length old.marks.items) ask ∷ []
     → new.numbers ≡ old.numbers
     → step.node.seq ≡ (w.nodes brick.0).seq + 1
     → get call_cmp old.numbers (brick.0, step.node.seq) ≡ Some (w.begun + 1)
@@ -176,7 +205,16 @@ tells_began old new w brick ask step tells sent marks operations numbers next nu
   begun = ap length operations ∙ length-append old.operations.items _ ∙ ap (λ n. n + 1) tells.begun;
   operations = subst (λ (kept : List Known). StandFor kept (world_began w brick ask step).operations) (sym operations)
       (known_begun old.operations.items w.operations w.begun _ _ tells.begun
-      (record { begin = ap length tells.marks; group = refl; stripe = refl; version = refl; made = refl; answered = refl }) tells.operations);
+      (record {
+        begin = ap length tells.marks;
+        group = refl;
+        stripe = refl;
+        version = refl;
+        made = refl;
+        base = refl;
+        writes = refl;
+        answered = refl;
+      }) tells.operations);
   numbers = subst (λ (map : BTreeMap (ℕ × ℕ) ℕ). (i k : ℕ) → 1 ≤ k → k ≤ (put w.nodes brick.0 step.node i).seq
       → get call_cmp map (i, k) ≡ Some (put w.numbers brick.0 (put (w.numbers brick.0) step.node.seq (w.begun + 1)) i k)) (sym numbers)
       (numbers_grow w old.numbers brick.0 (w.begun + 1) step.node next number tells.numbers);
@@ -218,9 +256,9 @@ changes_at kept number default change some within n =
 -- what is kept of an operation that ended, field by field
 pub ended_fields : (answered : Bool) (seen version : Option Stamp) (known : Known) → version ≡ option_or seen known.version
     → ended_known answered seen known
-    ≡ record { begin = known.begin; group = known.group; stripe = known.stripe; version = version; made = known.made; answered = answered }
+    ≡ record known { version = version; answered = answered }
 ended_fields answered seen version known is =
-    ap (λ (v : Option Stamp). record { begin = known.begin; group = known.group; stripe = known.stripe; version = v; made = known.made; answered = answered })
+    ap (λ (v : Option Stamp). record known { version = v; answered = answered })
     (by_seen seen ∙ sym is)
   where
     by_seen : (seen : Option Stamp) → version_after known.version seen ≡ option_or seen known.version
@@ -239,14 +277,14 @@ pub number_is : (history : History) (w : World) (b seq number : ℕ) → Tells h
 number_is history w b seq number tells low high is = is ∙ ap (λ o. unwrap_or o 0) (tells.numbers b seq low high)
 
 -- an operation made a version
-pub tells_made : (old new : History) (w : World) (b seq number : ℕ) (stamp : Stamp) (kept after : List Known) → Tells old w
+pub tells_made : (old new : History) (w : World) (b seq number : ℕ) (stamp : Stamp) (base : Option Stamp) (kept after : List Known) → Tells old w
     → number ≡ w.numbers b seq → kept ≡ old.operations.items → new.operations.items ≡ after
     → new.sent.items ≡ old.sent.items → new.marks.items ≡ old.marks.items
-    → ChangesAt kept after number (made_known stamp) → length after ≡ length kept → new.numbers ≡ old.numbers
-    → Tells new (record w { operations = put w.operations (w.numbers b seq) (with_made stamp (w.operations (w.numbers b seq))) })
-tells_made old new w b seq number stamp kept after tells is are become sent marks changed count numbers =
-    tells_changed old new w (w.numbers b seq) kept after (made_known stamp) (with_made stamp) tells are become (made_alike stamp)
-    (subst (λ n. ChangesAt kept after n (made_known stamp)) is changed) count sent numbers w.marks (marks ∙ tells.marks)
+    → ChangesAt kept after number (made_known stamp base) → length after ≡ length kept → new.numbers ≡ old.numbers
+    → Tells new (record w { operations = put w.operations (w.numbers b seq) (with_made stamp base (w.operations (w.numbers b seq))) })
+tells_made old new w b seq number stamp base kept after tells is are become sent marks changed count numbers =
+    tells_changed old new w (w.numbers b seq) kept after (made_known stamp base) (with_made stamp base) tells are become (made_alike stamp base)
+    (subst (λ n. ChangesAt kept after n (made_known stamp base)) is changed) count sent numbers w.marks (marks ∙ tells.marks)
 
 -- an operation ended
 pub tells_ended : (old new : History) (w : World) (b seq number : ℕ) (answer : Answer) (answered : Bool) (seen : Option Stamp) (kept after : List Known)
@@ -267,17 +305,17 @@ tells_ended old new w b seq number answer answered seen kept after tells is are 
 
 -- a step that made a version
 pub tells_step_made : (history : History) (w : World) (brick : BrickId) (step : NodeStep) (packets : List Packet) (seq : ℕ) (stamp : Stamp)
-    → step.told ≡ Made seq stamp → packets ≡ step.packets → step.node.seq ≡ (w.nodes brick.0).seq → IsOfCall (w.nodes brick.0) step.told
+    (base : Option Stamp) → step.told ≡ Made seq stamp base → packets ≡ step.packets → step.node.seq ≡ (w.nodes brick.0).seq → IsOfCall (w.nodes brick.0) step.told
     → (1 ≤ seq → seq ≤ (w.nodes brick.0).seq
     → Tells history (record w {
       packets = w.packets ++ packets;
-      operations = put w.operations (w.numbers brick.0 seq) (with_made stamp (w.operations (w.numbers brick.0 seq)));
+      operations = put w.operations (w.numbers brick.0 seq) (with_made stamp base (w.operations (w.numbers brick.0 seq)));
     }))
     → Tells history (world_stepped w brick step step.told)
-tells_step_made history w brick step packets seq stamp is sent next of made =
+tells_step_made history w brick step packets seq stamp base is sent next of made =
     let call : (1 ≤ seq) × (seq ≤ (w.nodes brick.0).seq) = subst (IsOfCall (w.nodes brick.0)) is of in
     subst (λ told. Tells history (world_stepped w brick step told)) (sym is)
-    (tells_other history _ (world_stepped w brick step (Made seq stamp)) (ap (λ xs. w.packets ++ xs) (sym sent)) refl refl refl refl
+    (tells_other history _ (world_stepped w brick step (Made seq stamp base)) (ap (λ xs. w.packets ++ xs) (sym sent)) refl refl refl refl
     (seqs_stay w brick step.node next) (made call.0 call.1))
 
 -- a step that ended an operation

@@ -1,15 +1,14 @@
 -- The operations that a world keeps, and the machine's: the same walks and the same happenings.
 use Rattle.std.proofs.Common.{◌≡◌, ℕ, zero, suc, ◌+◌, ◌<◌, ◌≤◌, Bool, true, false, not, ◌&&◌, ◌||◌, cond, max, nat_eq, List, [], ◌∷◌, ◌++◌, length, get_or, Option, Some, None, option_map, refl, sym, ap, ap₂, ◌∙◌, subst, arith, add-one}
-use Rattle.std.specs.Prelude.{slice_get}
-use Rattle.std.specs.List.{All, filter, list_any}
+use Rattle.std.specs.Prelude.{slice_get, option_to_list}
+use Rattle.std.specs.List.{All}
 use Rattle.std.proofs.lemmas.Bool.{cond_both, and_parts, and_from, eqb-true, eq-eqb}
 use Rattle.std.proofs.lemmas.Option.{same_Some, slice_get-get_or}
-use Rattle.std.proofs.lemmas.List.Elements.{All-cons, All-nil, All-append, All-weaker, All-filter, All-head, All-tail}
+use Rattle.std.proofs.lemmas.List.Elements.{All-cons, All-nil, All-append, All-weaker, All-head, All-tail}
 use Rattle.std.proofs.lemmas.List.Sorted.{All-permutation}
 use Rattle.fab_base.specs.declared.identities.GroupId.{GroupId}
 use Rattle.fab_base.specs.declared.identities.StripeNo.{StripeNo}
 use Rattle.fab_base.specs.declared.stamps.Stamp.{Stamp}
-use Rattle.fab_base.specs.Stamps.{stamp_same}
 use Rattle.reg_model.specs.declared.entries.Entry.{Entry}
 use Rattle.reg_model.specs.declared.marks.Happening.{Happening}
 use Rattle.reg_model.specs.declared.marks.Mark.{Mark}
@@ -17,19 +16,20 @@ use Rattle.reg_model.specs.Marks.{life_of, is_of_stripe, stripe_marks}
 use Rattle.reg_model.specs.Walk.{begin_of, positioned}
 use Rattle.protocol.specs.Settings.{Setting}
 use Rattle.protocol.specs.Worlds.{World, Operation, Event, first_world, run}
-use Rattle.protocol.specs.Happenings.{is_of, entry_with, entry_at, entries_to, was_answered, is_effective, ascending, walk_of, happenings_of}
+use Rattle.protocol.specs.Happenings.{Effect, is_of, entry_with, entry_at, entries_to, was_answered, writes, is_told, base_of, is_among, with_entry, effect_of, ascending, walk_of, happenings_of}
 use Rattle.protocol.proofs.Books.{Books, OperationBooks}
 use Rattle.protocol.proofs.BooksEvents.{books}
+use Rattle.protocol.proofs.Effects.{told_all}
 use Rattle.protocol.proofs.Entries.{IsEntryOf, entries_of}
 use Rattle.protocol.proofs.Sorting.{ascending_permutation}
 use Rattle.protocol.proofs.StripeLives.{life_filtered}
 use Rattle.world.specs.declared.histories.Known.{Known}
 use Rattle.world.specs.States.{IsKnown}
-use Rattle.world.specs.Walks.{AreKnown, BeginsAgree, operation_of, operations_of, begin_at, walk_to, placed}
+use Rattle.world.specs.Walks.{AreKnown, BeginsAgree, op_that, operation_of, operations_of, begin_at, rising_to, walk_to, placed}
 
 -- stands for an operation of which nothing is kept
 abbrev pub nothing_known : Known
-nothing_known = record { begin = 0; group = record { 0 = 0 }; stripe = record { 0 = 0 }; version = None; made = false; answered = false }
+nothing_known = record { begin = 0; group = record { 0 = 0 }; stripe = record { 0 = 0 }; version = None; made = false; base = None; writes = false; answered = false }
 
 -- the entries of one operation more
 pub entries_more : (operations : List Known) (g s i : ℕ) (d : Known) → i < length operations
@@ -95,12 +95,39 @@ entries_numbered operations g s (suc n) =
     (All-weaker (λ (e : Entry). e.operation ≡ suc n) (IsUpTo (suc n)) (λ e is. (omega arith, omega arith)) (entry_at g s (suc n) (operations (suc n)))
     (at_number g s (suc n) (operations (suc n))))
 
--- tests that agree on a list keep the same of it
-filter_same_on : (p q : Entry → Bool) (xs : List Entry) → All (λ (e : Entry). p e ≡ q e) xs → filter p xs ≡ filter q xs
-filter_same_on p q [] same = refl
-filter_same_on p q (x ∷ xs) same =
-    ap₂ (λ (b : Bool) (l : List Entry). cond b (x ∷ l) l) (All-head (λ (e : Entry). p e ≡ q e) x xs same)
-    (filter_same_on p q xs (All-tail (λ (e : Entry). p e ≡ q e) x xs same))
+-- the operation that is filled in writes where the kept one does
+writes_that : (b : Bool) → writes (op_that b) ≡ b
+writes_that true = refl
+writes_that false = refl
+
+-- where of two operations the same is known, the same is done with their entry
+with_entry_same : (o p : Option Operation) (e : Entry) (above : Effect) → was_answered o ≡ was_answered p → is_told o ≡ is_told p → base_of o ≡ base_of p
+    → with_entry o e above ≡ with_entry p e above
+with_entry_same o p e above answered told base =
+    ap (λ (b : Bool). cond (b || is_among e.stamp above.needed) (took (is_told o) (base_of o)) above) answered
+    ∙ ap (λ (t : Bool). cond (was_answered p || is_among e.stamp above.needed) (took t (base_of o)) above) told
+    ∙ ap (λ (u : Option Stamp). cond (was_answered p || is_among e.stamp above.needed) (took (is_told p) u) above) base
+  where
+    took : Bool → Option Stamp → Effect
+    took told base = record {
+      told = cond told (e ∷ above.told) above.told;
+      versions = e.stamp ∷ above.versions;
+      needed = cond e.reader (e.stamp ∷ []) (option_to_list base) ++ above.needed;
+    }
+
+-- the effects are the same, where of each entry's operation the same is known
+effect_same : (f g : ℕ → Option Operation) (entries : List Entry)
+    → All (λ (e : Entry). (was_answered (f e.operation) ≡ was_answered (g e.operation)) × (is_told (f e.operation) ≡ is_told (g e.operation))
+    × (base_of (f e.operation) ≡ base_of (g e.operation))) entries
+    → effect_of f entries ≡ effect_of g entries
+effect_same f g [] same = refl
+effect_same f g (e ∷ entries) same =
+    let AreSame : Entry → Type 0 = λ x.
+    (was_answered (f x.operation) ≡ was_answered (g x.operation)) × (is_told (f x.operation) ≡ is_told (g x.operation))
+    × (base_of (f x.operation) ≡ base_of (g x.operation)) in
+    let first : AreSame e = All-head AreSame e entries same in
+    ap (λ (above : Effect). with_entry (f e.operation) e above) (effect_same f g entries (All-tail AreSame e entries same))
+    ∙ with_entry_same (f e.operation) (g e.operation) e (effect_of g entries) first.0 first.1 first.2
 
 module _ (operations : List Known) (w : World) (are : AreKnown operations w) (d : Known) (g s : ℕ) where
   -- the entries are the same
@@ -113,17 +140,23 @@ module _ (operations : List Known) (w : World) (are : AreKnown operations w) (d 
       ∙ sym (ap (λ (o : Option Operation). entry_at g s (suc n) o) mine.is) in
       ap₂ (λ (a b : List Entry). a ++ b) (entries_same n (omega arith)) one
 
-  -- an operation was answered where the machine's was
-  answered_same : (k : ℕ) → 1 ≤ k → k ≤ length operations → was_answered (operations_of operations k) ≡ was_answered (w.operations k)
-  answered_same k low high =
+  -- the same is known of an operation as the machine knows
+  known_same : (k : ℕ) → 1 ≤ k → k ≤ length operations
+      → (was_answered (operations_of operations k) ≡ was_answered (w.operations k)) × (is_told (operations_of operations k) ≡ is_told (w.operations k))
+      × (base_of (operations_of operations k) ≡ base_of (w.operations k))
+  known_same k low high =
       let mine : Agrees operations w k = agrees operations w are d k low high in
-      ap was_answered mine.kept ∙ mine.same.answered ∙ sym (ap was_answered mine.is)
+      let writing : writes (op_that mine.known.writes) ≡ writes mine.operation.ask.op = writes_that mine.known.writes ∙ mine.same.writes in (
+        ap was_answered mine.kept ∙ mine.same.answered ∙ sym (ap was_answered mine.is),
+        ap is_told mine.kept ∙ ap₂ (λ (a b : Bool). a || b) mine.same.answered writing ∙ sym (ap is_told mine.is),
+        ap base_of mine.kept ∙ mine.same.base ∙ sym (ap base_of mine.is),
+      )
 
-  -- an entry is effective where it is in the machine
-  effective_same : (entries : List Entry) (e : Entry) → IsUpTo (length operations) e
-      → is_effective (operations_of operations) entries e ≡ is_effective w.operations entries e
-  effective_same entries e upto =
-      ap (λ (b : Bool). e.reader || (b || list_any (λ (r : Entry). r.reader && stamp_same r.stamp e.stamp) entries)) (answered_same e.operation upto.0 upto.1)
+  -- what holds of each entry of the stripe's operations holds of each as they ascend
+  rising_all : (P : Entry → Type 0) → All P (entries_to w.operations g s w.begun) → All P (rising_to w.operations g s w.begun)
+  rising_all P all =
+      let entries : List Entry = entries_to w.operations g s w.begun in
+      All-permutation P entries (ascending entries) (ascending_permutation entries) all
 
   -- the walks are the same
   walk_same : walk_to (operations_of operations) g s (length operations) ≡ walk_of w g s
@@ -133,10 +166,15 @@ module _ (operations : List Known) (w : World) (are : AreKnown operations w) (d 
       let kept : List Entry = entries_to (operations_of operations) g s n in
       let entries : List Entry = entries_to w.operations g s w.begun in
       let same : kept ≡ entries = entries_same n (omega arith) ∙ ap (λ (m : ℕ). entries_to w.operations g s m) are.begun in
-      ap (λ (l : List Entry). ascending (filter (is_effective (operations_of operations) l) l)) same
-      ∙ ap ascending (filter_same_on (is_effective (operations_of operations) entries) (is_effective w.operations entries) entries
-      (All-weaker (IsUpTo w.begun) (λ (e : Entry). is_effective (operations_of operations) entries e ≡ is_effective w.operations entries e)
-      (λ e upto. effective_same entries e (upto.0, (let begun = are.begun in omega (arith, upto.1)))) entries (entries_numbered w.operations g s w.begun)))
+      let AreSame : Entry → Type 0 = λ e.
+      (was_answered (operations_of operations e.operation) ≡ was_answered (w.operations e.operation))
+      × (is_told (operations_of operations e.operation) ≡ is_told (w.operations e.operation))
+      × (base_of (operations_of operations e.operation) ≡ base_of (w.operations e.operation)) in
+      ap (λ (l : List Entry). (effect_of (operations_of operations) (ascending l)).told) same
+      ∙ ap (λ (x : Effect). x.told) (effect_same (operations_of operations) w.operations (ascending entries)
+      (rising_all AreSame
+      (All-weaker (IsUpTo w.begun) AreSame
+      (λ e upto. known_same e.operation upto.0 (let begun = are.begun in omega (arith, upto.1))) entries (entries_numbered w.operations g s w.begun))))
 
   -- an entry's operation begins where the marks of the stripe say
   begin_same : BeginsAgree w → (e : Entry) → IsUpTo (length operations) e → IsEntryOf w.operations g s e
@@ -169,10 +207,7 @@ module _ (operations : List Known) (w : World) (are : AreKnown operations w) (d 
   -- what holds of each entry of the stripe's operations holds of each that stands in the walk
   walk_all : (P : Entry → Type 0) → All P (entries_to w.operations g s w.begun) → All P (walk_of w g s)
   unfolding walk_of
-  walk_all P all =
-      let entries : List Entry = entries_to w.operations g s w.begun in
-      let kept : List Entry = filter (is_effective w.operations entries) entries in
-      All-permutation P kept (ascending kept) (ascending_permutation kept) (All-filter (is_effective w.operations entries) P entries all)
+  walk_all P all = told_all w.operations P (rising_to w.operations g s w.begun) (rising_all P all)
 
   -- the happenings are the same
   happenings_same : BeginsAgree w → placed (operations_of operations) 0 (walk_to (operations_of operations) g s (length operations)) ≡ happenings_of w g s

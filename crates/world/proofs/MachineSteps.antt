@@ -7,7 +7,7 @@ use Rattle.fab_wire.specs.declared.messages.Packet.{Packet}
 use Rattle.fab_wire.specs.declared.requests.Request.{Request}
 use Rattle.fab_wire.specs.declared.replies.Reply.{Reply}
 use Rattle.protocol.specs.Settings.{Setting, Group, group_of, seat_in}
-use Rattle.protocol.specs.Coordinators.{Coordinator, Next, Ignores, Waits, Reorders, Makes, Ends, on_reply}
+use Rattle.protocol.specs.Coordinators.{Coordinator, Next, Ignores, Waits, Sends, Makes, Ends, on_reply}
 use Rattle.protocol.specs.Nodes.{Node, NodeStep, known_after, fresh_stamp, requested_at, requested_in, requested, carried_out, replied_to, replied_at, replied, received}
 use Rattle.world.specs.States.{IsOfCall}
 
@@ -41,7 +41,7 @@ carried_out_opens_none : (setting : Setting) (group : Group) (me : BrickId) (nod
     → 1 ≤ c.call.seq → c.call.seq ≤ node.seq → OpensNone node (carried_out setting group me node known c next)
 carried_out_opens_none setting group me node known c Ignores low high = record { seq = refl; told = tt }
 carried_out_opens_none setting group me node known c (Waits d) low high = record { seq = refl; told = tt }
-carried_out_opens_none setting group me node known c (Reorders d) low high = record { seq = refl; told = tt }
+carried_out_opens_none setting group me node known c (Sends d) low high = record { seq = refl; told = tt }
 carried_out_opens_none setting group me node known c (Makes d) low high = record { seq = refl; told = (low, high) }
 carried_out_opens_none setting group me node known c (Ends answer seen stored) low high = record { seq = refl; told = (low, high) }
 

@@ -13,7 +13,7 @@ use Rattle.reg_model.specs.contracts.entries.EntryOrd.TheImpl.{cmp-value}
 use Rattle.reg_model.specs.Walk.{turn_below, entry_below}
 use Rattle.reg_model.proofs.EntryOrder.{not_before_parts, entry_order, IsSortedBy-from_sort}
 use Rattle.protocol.specs.Happenings.{ascending}
-use Rattle.protocol.proofs.Sorting.{InOrder, ascending_permutation, ascending_order}
+use Rattle.protocol.proofs.Sorting.{InOrder, AllPairs-tail, ascending_permutation, ascending_order}
 
 -- turns of which neither is before the other are the same
 same_turn : (p q : Bool) (k n : ℕ) → turn_below p k q n ≡ false → turn_below q n p k ≡ false → (p ≡ q) × (k ≡ n)
@@ -53,10 +53,6 @@ none_before e (x ∷ xs) none =
     let sum : sum_by (before_one e) (x ∷ xs) ≡ before_one e x + sum_by (before_one e) xs = sum_by-cons (before_one e) x xs in
     omega arith
 
--- the order after the first
-order_tail : (x : Entry) (xs : List Entry) → InOrder (x ∷ xs) → InOrder xs
-order_tail x xs order i j d lt le = order (suc i) (suc j) d (omega arith) (omega arith)
-
 -- the first is before none of the rest, nor before itself
 order_head : (x : Entry) (xs : List Entry) → InOrder (x ∷ xs) → All (λ (y : Entry). entry_below y x ≡ false) (x ∷ xs)
 order_head x xs order =
@@ -94,6 +90,7 @@ one_order (x ∷ xs) [] order other alike =
     let sum : sum_by (λ (e : Entry). 1) (x ∷ xs) ≡ 1 + sum_by (λ (e : Entry). 1) xs = sum_by-cons (λ (e : Entry). 1) x xs in
     absurd (omega arith)
 one_order (x ∷ xs) (y ∷ ys) order other alike =
+    let IsNotAfter : Entry → Entry → Type 0 = λ a b. entry_below b a ≡ false in
     let first : x ≡ y = same_entry x y (first_not_after y x ys xs other (λ f. sym (alike f))) (first_not_after x y xs ys order alike) in
     let rest : Alike xs ys = λ f.
     (let same : sum_by f (x ∷ xs) ≡ sum_by f (y ∷ ys) = alike f in
@@ -101,7 +98,7 @@ one_order (x ∷ xs) (y ∷ ys) order other alike =
     let two : sum_by f (y ∷ ys) ≡ f y + sum_by f ys = sum_by-cons f y ys in
     let heads : f x ≡ f y = ap f first in
     omega arith) in
-    ap₂ (λ (e : Entry) (l : List Entry). e ∷ l) first (one_order xs ys (order_tail x xs order) (order_tail y ys other) rest)
+    ap₂ (λ (e : Entry) (l : List Entry). e ∷ l) first (one_order xs ys (AllPairs-tail IsNotAfter x xs order) (AllPairs-tail IsNotAfter y ys other) rest)
 
 -- what a sort makes of entries is their ascending order
 pub sorted_ascends : (xs ys : List Entry) → IsPermutation xs ys → IsSorted cmp-value.it ys → ys ≡ ascending xs

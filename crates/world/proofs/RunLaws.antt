@@ -1,6 +1,6 @@
 -- What holds in the world that a run of lines leaves, since a schedule of events reaches it.
 use Rattle.std.proofs.Common.{sym, subst}
-use Rattle.node.specs.Copies.{copying}
+use Rattle.stripe_code.specs.Codes.{coding}
 use Rattle.protocol.specs.Settings.{IsSound}
 use Rattle.protocol.specs.Worlds.{World}
 use Rattle.protocol.specs.Laws.{Laws}
@@ -14,17 +14,17 @@ use Rattle.world.proofs.KeptOperations.{begins_from_books}
 use Rattle.world.proofs.RunLemmas.{world_of-run, numbered_from_books}
 
 -- its books are kept
-books_of : (r : Run) → Books (copying r.layout) (world_of r)
-books_of r = subst (λ (w : World). Books (copying r.layout) w) (sym (world_of-run r)) (books (copying r.layout) (events_of r.lines))
+books_of : (r : Run) → Books (coding r.layout) (world_of r)
+books_of r = subst (λ (w : World). Books (coding r.layout) w) (sym (world_of-run r)) (books (coding r.layout) (events_of r.lines))
 
 -- each open call knows its number
 pub numbered : (r : Run) → IsNumbered (world_of r)
-numbered r = numbered_from_books (copying r.layout) (world_of r) (books_of r)
+numbered r = numbered_from_books (coding r.layout) (world_of r) (books_of r)
 
 -- each operation begins where the marks of its stripe say
 pub begins_agree : (r : Run) → BeginsAgree (world_of r)
-begins_agree r = begins_from_books (copying r.layout) (world_of r) (books_of r)
+begins_agree r = begins_from_books (coding r.layout) (world_of r) (books_of r)
 
 -- the laws of the disk hold
-pub laws_of : (r : Run) → IsSound (copying r.layout) → Laws (copying r.layout) (world_of r)
-laws_of r sound = subst (λ (w : World). Laws (copying r.layout) w) (sym (world_of-run r)) (every_run (copying r.layout) (events_of r.lines) sound)
+pub laws_of : (r : Run) → IsSound (coding r.layout) → Laws (coding r.layout) (world_of r)
+laws_of r sound = subst (λ (w : World). Laws (coding r.layout) w) (sym (world_of-run r)) (every_run (coding r.layout) (events_of r.lines) sound)

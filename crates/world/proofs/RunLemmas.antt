@@ -8,7 +8,7 @@ use Rattle.fab_wire.specs.declared.requests.Version.{Version}
 use Rattle.reg_model.specs.declared.marks.Mark.{Mark}
 use Rattle.lines.specs.declared.forms.Line.{Line}
 use Rattle.lines.specs.declared.forms.Line.TheVariants.{Nothing, Invoke, Deliver, SetClock}
-use Rattle.node.specs.Copies.{copying}
+use Rattle.stripe_code.specs.Codes.{coding}
 use Rattle.protocol.specs.Settings.{Setting, Layout, Group, group_of}
 use Rattle.protocol.specs.Nodes.{put}
 use Rattle.protocol.specs.Worlds.{World, Sets, first_world, is_brick, packet_of, happens, run}
@@ -28,12 +28,12 @@ after_lines-append setting w [] line = refl
 after_lines-append setting w (first ∷ lines) line = after_lines-append setting (after_line setting w first) lines line
 
 -- the world after a line more
-pub world_of-with_line : (r : Run) (line : Line) → world_of (with_line r line) ≡ after_line (copying r.layout) (world_of r) line
-world_of-with_line r line = after_lines-append (copying r.layout) (first_world r.layout) r.lines line
+pub world_of-with_line : (r : Run) (line : Line) → world_of (with_line r line) ≡ after_line (coding r.layout) (world_of r) line
+world_of-with_line r line = after_lines-append (coding r.layout) (first_world r.layout) r.lines line
 
 -- the state that shows the world after a line shows the world of the run with that line
 pub shows_line : (layout : Layout) (state : State) (old new : List Line) (line : Line) → new ≡ old ++ line ∷ []
-    → Shows layout state (after_line (copying layout) (world_of (record { layout = layout; lines = old })) line)
+    → Shows layout state (after_line (coding layout) (world_of (record { layout = layout; lines = old })) line)
     → Shows layout state (world_of (record { layout = layout; lines = new }))
 shows_line layout state old new line grown shows =
     subst (λ (v : World). Shows layout state v)
@@ -62,8 +62,8 @@ after_lines-run setting w (Deliver k ∷ lines) = after_lines-run setting (after
 after_lines-run setting w (SetClock b v ∷ lines) = after_lines-run setting (after_line setting w (SetClock b v)) lines
 
 -- the world that a run leaves is one that a schedule of events reaches
-pub world_of-run : (r : Run) → world_of r ≡ run (copying r.layout) (events_of r.lines) (first_world r.layout)
-world_of-run r = after_lines-run (copying r.layout) (first_world r.layout) r.lines
+pub world_of-run : (r : Run) → world_of r ≡ run (coding r.layout) (events_of r.lines) (first_world r.layout)
+world_of-run r = after_lines-run (coding r.layout) (first_world r.layout) r.lines
 
 -- what a world's books say of its open calls
 pub numbered_from_books : (setting : Setting) (w : World) → Books setting w → IsNumbered w
@@ -108,19 +108,19 @@ outcome_text-text_of setting w (SetClock b v) = by_brick (is_brick setting.layou
 
 -- what a line came to, with the marks behind those before it, is what it prints
 pub text_is : (old new : Run) (line : Line) (outcome : Outcome) (marks : List Mark) (before : ℕ) (text : List ℕ)
-    → new ≡ with_line old line → outcome ≡ outcome_of (copying old.layout) (world_of old) line → marks ≡ (world_of new).marks
+    → new ≡ with_line old line → outcome ≡ outcome_of (coding old.layout) (world_of old) line → marks ≡ (world_of new).marks
     → before ≡ length (world_of old).marks → text ≡ outcome_text outcome (take (length marks - before) (drop before marks))
-    → text ≡ text_of (copying old.layout) (world_of old) line
+    → text ≡ text_of (coding old.layout) (world_of old) line
 text_is old new line outcome marks before text grown came are count is =
     let rest : take (length marks - before) (drop before marks) ≡ drop before marks =
     take_all (length marks - before) (drop before marks) (omega (arith, length-drop before marks))
     in
-    let after : marks ≡ (after_line (copying old.layout) (world_of old) line).marks =
+    let after : marks ≡ (after_line (coding old.layout) (world_of old) line).marks =
     are ∙ ap (λ (r : Run). (world_of r).marks) grown ∙ ap (λ (w : World). w.marks) (world_of-with_line old line)
     in
-    let made : drop before marks ≡ new_marks (world_of old) (after_line (copying old.layout) (world_of old) line) =
+    let made : drop before marks ≡ new_marks (world_of old) (after_line (coding old.layout) (world_of old) line) =
     ap (λ n. drop n marks) count ∙ ap (λ (xs : List Mark). drop (length (world_of old).marks) xs) after
     in
     is ∙ ap (λ (xs : List Mark). outcome_text outcome xs) (rest ∙ made)
-    ∙ ap (λ (x : Outcome). outcome_text x (new_marks (world_of old) (after_line (copying old.layout) (world_of old) line))) came
-    ∙ outcome_text-text_of (copying old.layout) (world_of old) line
+    ∙ ap (λ (x : Outcome). outcome_text x (new_marks (world_of old) (after_line (coding old.layout) (world_of old) line))) came
+    ∙ outcome_text-text_of (coding old.layout) (world_of old) line

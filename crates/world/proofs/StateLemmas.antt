@@ -7,7 +7,7 @@ use Rattle.fab_base.specs.declared.asks.Op.{Op}
 use Rattle.fab_base.specs.declared.answers.Refusal.{Refusal}
 use Rattle.fab_base.specs.declared.identities.BrickId.{BrickId}
 use Rattle.fab_wire.specs.declared.messages.Packet.{Packet}
-use Rattle.node.specs.Copies.{copying}
+use Rattle.stripe_code.specs.Codes.{coding}
 use Rattle.node.specs.States.{state_of}
 use Rattle.protocol.specs.Settings.{Layout}
 use Rattle.protocol.specs.Nodes.{Node, NodeStep, put, is_stripe_op, refusal_of, invoked, received}
@@ -46,67 +46,67 @@ log_shown layout state w b g s brick shows at = ap (λ (x : Node). (x.replicas g
 -- an operation that began
 pub shows_begun : (layout : Layout) (state : State) (w : World) (brick : BrickId) (ask : Ask) → brick.0 < layout.bricks → is_stripe_op ask.op ≡ true
     → refusal_of layout (w.nodes brick.0) ask ≡ None
-    → ShowsBricks layout state.bricks.items (put w.nodes brick.0 (invoked (copying layout) brick (w.clocks brick.0) (w.nodes brick.0) ask).node) w.clocks
-    → Tells state.history (world_began w brick ask (invoked (copying layout) brick (w.clocks brick.0) (w.nodes brick.0) ask))
-    → Shows layout state (happens (copying layout) w (Invokes brick ask))
+    → ShowsBricks layout state.bricks.items (put w.nodes brick.0 (invoked (coding layout) brick (w.clocks brick.0) (w.nodes brick.0) ask).node) w.clocks
+    → Tells state.history (world_began w brick ask (invoked (coding layout) brick (w.clocks brick.0) (w.nodes brick.0) ask))
+    → Shows layout state (happens (coding layout) w (Invokes brick ask))
 shows_begun layout state w brick ask within stripe none bricks history =
-    subst (λ (v : World). Shows layout state v) (sym (happens_begun (copying layout) w brick ask within stripe none)) (record { bricks = bricks; history = history })
+    subst (λ (v : World). Shows layout state v) (sym (happens_begun (coding layout) w brick ask within stripe none)) (record { bricks = bricks; history = history })
 
 -- an operation that was refused
 pub shows_refused : (layout : Layout) (state : State) (w : World) (brick : BrickId) (ask : Ask) (reason : Refusal)
-    → refusal_of layout (w.nodes brick.0) ask ≡ Some reason → Shows layout state w → Shows layout state (happens (copying layout) w (Invokes brick ask))
+    → refusal_of layout (w.nodes brick.0) ask ≡ Some reason → Shows layout state w → Shows layout state (happens (coding layout) w (Invokes brick ask))
 shows_refused layout state w brick ask reason is shows =
-    subst (λ (v : World). Shows layout state v) (sym (happens_refused (copying layout) w brick ask reason is)) shows
+    subst (λ (v : World). Shows layout state v) (sym (happens_refused (coding layout) w brick ask reason is)) shows
 
 -- an operation of a brick that there is not
 pub shows_down : (layout : Layout) (state : State) (w : World) (brick : BrickId) (ask : Ask) → layout.bricks ≤ brick.0
-    → Shows layout state w → Shows layout state (happens (copying layout) w (Invokes brick ask))
+    → Shows layout state w → Shows layout state (happens (coding layout) w (Invokes brick ask))
 shows_down layout state w brick ask past shows =
-    subst (λ (v : World). Shows layout state v) (sym (happens_down (copying layout) w brick ask past)) shows
+    subst (λ (v : World). Shows layout state v) (sym (happens_down (coding layout) w brick ask past)) shows
 
 -- a number that was not sent
 pub shows_unsent : (layout : Layout) (state : State) (w : World) (number : ℕ) → packet_of w.packets number ≡ None
-    → Shows layout state w → Shows layout state (happens (copying layout) w (Delivers number))
+    → Shows layout state w → Shows layout state (happens (coding layout) w (Delivers number))
 shows_unsent layout state w number none shows =
-    subst (λ (v : World). Shows layout state v) (sym (happens_unsent (copying layout) w number none)) shows
+    subst (λ (v : World). Shows layout state v) (sym (happens_unsent (coding layout) w number none)) shows
 
 -- a message to a brick that there is not
 pub shows_astray : (layout : Layout) (state : State) (w : World) (number : ℕ) (packet : Packet) → packet_of w.packets number ≡ Some packet
-    → layout.bricks ≤ packet.to.0 → Shows layout state w → Shows layout state (happens (copying layout) w (Delivers number))
+    → layout.bricks ≤ packet.to.0 → Shows layout state w → Shows layout state (happens (coding layout) w (Delivers number))
 shows_astray layout state w number packet sent past shows =
-    subst (λ (v : World). Shows layout state v) (sym (happens_astray (copying layout) w number packet sent past)) shows
+    subst (λ (v : World). Shows layout state v) (sym (happens_astray (coding layout) w number packet sent past)) shows
 
 -- a step changes its brick alone, whatever is told
 nodes_stepped : (w : World) (brick : BrickId) (step : NodeStep) (told : Told) → (world_stepped w brick step told).nodes ≡ put w.nodes brick.0 step.node
 nodes_stepped w brick step Nothing = refl
-nodes_stepped w brick step (Made seq stamp) = refl
+nodes_stepped w brick step (Made seq stamp base) = refl
 nodes_stepped w brick step (Answers seq answer seen) = refl
 
 -- and no clock
 clocks_stepped : (w : World) (brick : BrickId) (step : NodeStep) (told : Told) → (world_stepped w brick step told).clocks ≡ w.clocks
 clocks_stepped w brick step Nothing = refl
-clocks_stepped w brick step (Made seq stamp) = refl
+clocks_stepped w brick step (Made seq stamp base) = refl
 clocks_stepped w brick step (Answers seq answer seen) = refl
 
 -- which replies count is told by no history
 pub tells_replies : (layout : Layout) (history : History) (w : World) (packet : Packet) → Tells history w
-    → Tells history (record w { replies = replies_with (copying layout) w packet })
+    → Tells history (record w { replies = replies_with (coding layout) w packet })
 tells_replies layout history w packet tells =
-    tells_other history w (record w { replies = replies_with (copying layout) w packet }) refl refl refl refl refl (λ i. refl) tells
+    tells_other history w (record w { replies = replies_with (coding layout) w packet }) refl refl refl refl refl (λ i. refl) tells
 
 -- a message that was handled
 pub shows_handled : (layout : Layout) (state : State) (w : World) (number : ℕ) (packet : Packet) → packet_of w.packets number ≡ Some packet
     → packet.to.0 < layout.bricks
     → ShowsBricks layout state.bricks.items
-    (put w.nodes packet.to.0 (received (copying layout) packet.to (w.clocks packet.to.0) (w.nodes packet.to.0) packet).node) w.clocks
-    → Tells state.history (after_message (copying layout) w packet)
-    → Shows layout state (happens (copying layout) w (Delivers number))
+    (put w.nodes packet.to.0 (received (coding layout) packet.to (w.clocks packet.to.0) (w.nodes packet.to.0) packet).node) w.clocks
+    → Tells state.history (after_message (coding layout) w packet)
+    → Shows layout state (happens (coding layout) w (Delivers number))
 shows_handled layout state w number packet sent within bricks history =
-    let step : NodeStep = received (copying layout) packet.to (w.clocks packet.to.0) (w.nodes packet.to.0) packet in
-    let v : World = record w { replies = replies_with (copying layout) w packet } in
-    subst (λ (x : World). Shows layout state x) (sym (happens_handled (copying layout) w number packet sent within))
+    let step : NodeStep = received (coding layout) packet.to (w.clocks packet.to.0) (w.nodes packet.to.0) packet in
+    let v : World = record w { replies = replies_with (coding layout) w packet } in
+    subst (λ (x : World). Shows layout state x) (sym (happens_handled (coding layout) w number packet sent within))
     (record {
-      bricks = subst (λ (f : ℕ → ℕ). ShowsBricks layout state.bricks.items (after_message (copying layout) w packet).nodes f)
+      bricks = subst (λ (f : ℕ → ℕ). ShowsBricks layout state.bricks.items (after_message (coding layout) w packet).nodes f)
           (sym (clocks_stepped v packet.to step step.told))
           (subst (λ (f : ℕ → Node). ShowsBricks layout state.bricks.items f w.clocks) (sym (nodes_stepped v packet.to step step.told)) bricks);
       history = history;
@@ -115,9 +115,9 @@ shows_handled layout state w number packet sent within bricks history =
 -- a clock that was set
 pub shows_set : (layout : Layout) (old new : State) (w : World) (brick : BrickId) (time : ℕ) → brick.0 < layout.bricks
     → ShowsBricks layout new.bricks.items w.nodes (put w.clocks brick.0 time) → new.history ≡ old.history
-    → Shows layout old w → Shows layout new (happens (copying layout) w (Sets brick time))
+    → Shows layout old w → Shows layout new (happens (coding layout) w (Sets brick time))
 shows_set layout old new w brick time within bricks same shows =
-    subst (λ (v : World). Shows layout new v) (sym (happens_set (copying layout) w brick time within))
+    subst (λ (v : World). Shows layout new v) (sym (happens_set (coding layout) w brick time within))
     (record {
       bricks = bricks;
       history = subst (λ (h : History). Tells h (record w { clocks = put w.clocks brick.0 time })) (sym same)
@@ -126,9 +126,9 @@ shows_set layout old new w brick time within bricks same shows =
 
 -- a clock that there is not
 pub shows_unset : (layout : Layout) (state : State) (w : World) (brick : BrickId) (time : ℕ) → layout.bricks ≤ brick.0
-    → Shows layout state w → Shows layout state (happens (copying layout) w (Sets brick time))
+    → Shows layout state w → Shows layout state (happens (coding layout) w (Sets brick time))
 shows_unset layout state w brick time past shows =
-    subst (λ (v : World). Shows layout state v) (sym (happens_unset (copying layout) w brick time past)) shows
+    subst (λ (v : World). Shows layout state v) (sym (happens_unset (coding layout) w brick time past)) shows
 
 -- what setting a clock comes to
 pub set_here : (layout : Layout) (brick : BrickId) → brick.0 < layout.bricks → Marks ≡ set_or_idle layout brick
@@ -141,14 +141,14 @@ set_nowhere layout brick past =
 
 -- a message to a brick that there is not comes to nothing
 pub handled_astray : (layout : Layout) (packet : Packet) (found : Option Packet) → found ≡ Some packet → layout.bricks ≤ packet.to.0
-    → Idle ≡ handled_or_idle (copying layout) found
+    → Idle ≡ handled_or_idle (coding layout) found
 handled_astray layout packet found is past =
     let e : nat_lt packet.to.0 layout.bricks ≡ false = grind (arith, nat_tests) in
-    sym (ap (handled_or_idle (copying layout)) is ∙ ap (λ b. cond b Marks Idle) e)
+    sym (ap (handled_or_idle (coding layout)) is ∙ ap (λ b. cond b Marks Idle) e)
 
 -- a message to a brick is handled
 pub handled_here : (layout : Layout) (packet : Packet) (found : Option Packet) → found ≡ Some packet → packet.to.0 < layout.bricks
-    → Marks ≡ handled_or_idle (copying layout) found
+    → Marks ≡ handled_or_idle (coding layout) found
 handled_here layout packet found is within =
     let e : nat_lt packet.to.0 layout.bricks ≡ true = grind (arith, nat_tests) in
-    sym (ap (handled_or_idle (copying layout)) is ∙ ap (λ b. cond b Marks Idle) e)
+    sym (ap (handled_or_idle (coding layout)) is ∙ ap (λ b. cond b Marks Idle) e)

@@ -10,7 +10,7 @@ use Rattle.lines.specs.declared.forms.Line.TheVariants.{Nothing, Invoke, Deliver
 use Rattle.protocol.specs.Settings.{Setting, Layout}
 use Rattle.protocol.specs.Nodes.{refusal_of}
 use Rattle.protocol.specs.Worlds.{World, Event, Invokes, Delivers, Sets, first_world, is_brick, happens}
-use Rattle.node.specs.Copies.{copying}
+use Rattle.stripe_code.specs.Codes.{coding}
 
 -- the lines that were run over the disk of this layout
 pub record Run : Type 0 where
@@ -46,7 +46,7 @@ events_of (SetClock b v ∷ lines) = Sets (brick_of b) v ∷ events_of lines
 
 -- the world that a run leaves
 abbrev pub world_of : Run → World
-world_of r = after_lines (copying r.layout) (first_world r.layout) r.lines
+world_of r = after_lines (coding r.layout) (first_world r.layout) r.lines
 
 -- why a brick does not begin an operation, where it does not: it is not up, or it refuses
 abbrev pub refusal_at : Setting → World → BrickId → Ask → Option Refusal

@@ -1,6 +1,5 @@
 -- What a world always keeps.
 use Rattle.std.specs.Prelude.{◌≡◌}
-use Rattle.node.specs.Copies.{KeepsCopies}
 use Rattle.protocol.specs.Replicas.{first_replica}
 use Rattle.world.specs.Runs.{Run, world_of}
 use Rattle.world.specs.States.{Shows}
@@ -10,8 +9,7 @@ use Rattle.world.specs.declared.worlds.World.TheInside.{Inside}
 abbrev pub run_of : Inside → Run
 run_of inside = record { layout = inside.layout; lines = inside.lines.items }
 
--- its state shows the world that its run leaves, and its layout is one that its bricks can keep
+-- its state shows the world that its run leaves
 pub record IsStanding (inside : Inside) : Type 0 where
   pub shows : Shows inside.layout inside.state (world_of (run_of inside))
-  pub copies : KeepsCopies inside.layout
   pub fresh : inside.fresh ≡ first_replica inside.layout.block

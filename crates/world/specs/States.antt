@@ -10,13 +10,14 @@ use Rattle.fab_base.specs.declared.stamps.Stamp.{Stamp}
 use Rattle.fab_wire.specs.declared.messages.Packet.{Packet}
 use Rattle.lines.specs.declared.forms.Line.{Line}
 use Rattle.lines.specs.declared.forms.Line.TheVariants.{Nothing, Invoke, Deliver, SetClock}
-use Rattle.node.specs.States.{state_of}
+use Rattle.node.specs.States.{state_of, IsNodeOf}
 use Rattle.protocol.specs.Settings.{Layout, Setting}
 use Rattle.protocol.specs.Coordinators.{Coordinator}
 use Rattle.protocol.specs.Nodes as machine
 use Rattle.protocol.specs.declared.tellings.Told.{Told}
 use Rattle.protocol.specs.declared.tellings.Told.TheVariants as told
 use Rattle.protocol.specs.Worlds.{World, Operation, is_brick, packet_of, version_after}
+use Rattle.protocol.specs.Happenings.{writes}
 use Rattle.world.specs.Runs.{brick_of, ask_of, refusal_at}
 use Rattle.world.specs.Texts.{is_deliverable}
 use Rattle.world.specs.declared.histories.History.{History}
@@ -37,30 +38,51 @@ pub record IsKnown (known : Known) (o : Operation) : Type 0 where
   pub stripe : known.stripe ≡ o.ask.stripe
   pub version : known.version ≡ o.version
   pub made : known.made ≡ o.made
+  pub base : known.base ≡ o.base
+  pub writes : known.writes ≡ writes o.ask.op
   pub answered : known.answered ≡ o.answered
 
 -- what is kept of the operations, from the first, is the machine's
 abbrev pub StandFor : List Known → (ℕ → Option Operation) → Type 0
 StandFor kept operations = (n : ℕ) (known : Known) → slice_get kept n ≡ Some known → (o : Operation) × (operations (n + 1) ≡ Some o) × IsKnown known o
 
--- what is kept of an operation that made a version
-abbrev pub made_known : Stamp → Known → Known
-made_known stamp known =
-    record { begin = known.begin; group = known.group; stripe = known.stripe; version = Some stamp; made = true; answered = known.answered }
+-- what is kept of an operation that made a version, on this base
+abbrev pub made_known : Stamp → Option Stamp → Known → Known
+made_known stamp base known =
+    record {
+      begin = known.begin;
+      group = known.group;
+      stripe = known.stripe;
+      version = Some stamp;
+      made = true;
+      base = base;
+      writes = known.writes;
+      answered = known.answered;
+    }
 
 -- what is kept of an operation that ended
 abbrev pub ended_known : Bool → Option Stamp → Known → Known
 ended_known answered seen known =
-    record { begin = known.begin; group = known.group; stripe = known.stripe; version = version_after known.version seen; made = known.made; answered = answered }
+    record {
+      begin = known.begin;
+      group = known.group;
+      stripe = known.stripe;
+      version = version_after known.version seen;
+      made = known.made;
+      base = known.base;
+      writes = known.writes;
+      answered = answered;
+    }
 
 -- what is kept of the operation of a number changed, and of no other
 abbrev pub ChangesAt : List Known → List Known → ℕ → (Known → Known) → Type 0
 ChangesAt old new number change =
     (n : ℕ) → slice_get new n ≡ (if nat_eq (n + 1) number then option_map change (slice_get old n) else slice_get old n)
 
--- The brick of a number knows its number, its state is the machine's, and its clock reads this time.
+-- The brick of a number knows its number, it is a brick of this layout, its state is the machine's, and its clock reads this time.
 pub record ShowsBrick (layout : Layout) (i : ℕ) (brick : Brick) (node : machine.Node) (time : ℕ) : Type 0 where
   pub me : brick.node.me ≡ brick_of i
+  pub of_layout : IsNodeOf layout brick.node
   pub state : state_of layout.block brick.node ≡ node
   pub clock : brick.clock ≡ time
 
@@ -68,6 +90,10 @@ pub record ShowsBrick (layout : Layout) (i : ℕ) (brick : Brick) (node : machin
 pub record ShowsBricks (layout : Layout) (bricks : List Brick) (nodes : ℕ → machine.Node) (clocks : ℕ → ℕ) : Type 0 where
   pub count : length bricks ≡ layout.bricks
   pub each : (i : ℕ) (brick : Brick) → slice_get bricks i ≡ Some brick → ShowsBrick layout i brick (nodes i) (clocks i)
+
+-- each brick is one of this layout
+abbrev pub AreNodesOf : Layout → List Brick → Type 0
+AreNodesOf layout bricks = (i : ℕ) (brick : Brick) → slice_get bricks i ≡ Some brick → IsNodeOf layout brick.node
 
 -- The history tells the machine's world: every message, every mark, each operation, and the numbers of the calls so far.
 pub record Tells (history : History) (w : World) : Type 0 where
@@ -95,7 +121,7 @@ IsNumbered w = (i k : ℕ) (c : Coordinator) → (w.nodes i).calls k ≡ Some c 
 -- what is told is of one of the brick's calls so far
 abbrev pub IsOfCall : machine.Node → Told → Type 0
 IsOfCall node told.Nothing = Unit {0}
-IsOfCall node (told.Made seq stamp) = (1 ≤ seq) × (seq ≤ node.seq)
+IsOfCall node (told.Made seq stamp base) = (1 ≤ seq) × (seq ≤ node.seq)
 IsOfCall node (told.Answers seq answer seen) = (1 ≤ seq) × (seq ≤ node.seq)
 
 -- an operation was refused, or begun

@@ -4,7 +4,7 @@ use Rattle.fab_wire.specs.declared.requests.Version.{Version}
 use Rattle.reg_model.specs.declared.marks.Mark.{Mark}
 use Rattle.lines.specs.Grammar.{line_of}
 use Rattle.lines.specs.declared.forms.Line.{Line}
-use Rattle.node.specs.Copies.{copying}
+use Rattle.stripe_code.specs.Codes.{coding}
 use Rattle.protocol.specs.Settings.{Group, group_of}
 use Rattle.world.specs.Runs.{Run, world_of}
 use Rattle.world.specs.Texts.{text_of, marks_text, refusal_text, idle_text}
@@ -28,7 +28,7 @@ pub record Ran (old new : Run) (content text : List ℕ) : Type 0 where
   pub line : Line
   pub is_line : line_of content ≡ Some line
   pub run : new ≡ with_line old line
-  pub text_is : text ≡ text_of (copying old.layout) (world_of old) line
+  pub text_is : text ≡ text_of (coding old.layout) (world_of old) line
 
 -- what a step that answers no text leaves: no line changes nothing; for want of memory nothing was run, or only the text is missing
 abbrev pub Stands : Run → Run → List ℕ → Result (List ℕ) StepFault → Type 0

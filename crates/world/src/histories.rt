@@ -3,10 +3,11 @@
 ghost use Rattle.std.specs.Prelude.{◌≡◌};
 ghost use Rattle.std.specs.Option.{option_copied};
 ghost use Rattle.protocol.specs.Worlds.{packet_of, is_answer};
+ghost use Rattle.protocol.specs.Happenings.{writes};
 ghost use Rattle.world.specs.States.{ChangesAt, made_known, ended_known};
 
 use crate::rooms::{put, put_all};
-use fab_base::{Answer, Ask, BrickId, GroupId, NoMem, Stamp, StripeNo};
+use fab_base::{Answer, Ask, BrickId, GroupId, NoMem, Op, Stamp, StripeNo};
 use fab_wire::Packet;
 use node::Outs;
 use protocol::Told;
@@ -30,6 +31,10 @@ pub struct Known {
     pub version: Option<Stamp>,
     /// Whether it made its version.
     pub made: bool,
+    /// The version that it made its own on, where that is a recovery's.
+    pub base: Option<Stamp>,
+    /// Whether it writes.
+    pub writes: bool,
     /// Whether it was answered, and not aborted.
     pub answered: bool,
 }
@@ -63,9 +68,19 @@ fn is_answer(answer: &Answer) -> bool
     }
 }
 
-/// The operation of a number made a version.
-fn note_made(operations: &mut [Known], number: u64, stamp: Stamp)
-    ensures { ChangesAt operations.old operations.new number (made_known stamp) }
+/// Whether an operation writes.
+fn writes(op: &Op) -> bool
+    ensures { result ≡ writes op.now }
+{
+    match op {
+        Op::WriteBlock(_, _) | Op::WriteStripe(_) => true,
+        Op::ReadBlock(_) | Op::ReadStripe => false,
+    }
+}
+
+/// The operation of a number made a version, on this base.
+fn note_made(operations: &mut [Known], number: u64, stamp: Stamp, base: Option<Stamp>)
+    ensures { ChangesAt operations.old operations.new number (made_known stamp base) }
 {
     if number == 0 {
         return;
@@ -77,6 +92,7 @@ fn note_made(operations: &mut [Known], number: u64, stamp: Stamp)
     let known = &mut operations[place];
     known.version = Some(stamp);
     known.made = true;
+    known.base = base;
 }
 
 /// The operation of a number ended: answered, or aborted; a read may have seen a version.
@@ -192,6 +208,7 @@ impl History {
     {
         let position = self.marks.len() as u64;
         let operation = self.operations.len() as u64 + 1;
+        let writes = writes(&ask.op);
         put_all(&mut self.sent, packets);
         put(
             &mut self.operations,
@@ -201,6 +218,8 @@ impl History {
                 stripe: ask.stripe,
                 version: None,
                 made: false,
+                base: None,
+                writes,
                 answered: false,
             },
         );
@@ -215,14 +234,14 @@ impl History {
         );
     }
 
-    /// The operation of a brick's call made a version.
-    fn made(&mut self, brick: BrickId, seq: u64, stamp: Stamp)
+    /// The operation of a brick's call made a version, on this base.
+    fn made(&mut self, brick: BrickId, seq: u64, stamp: Stamp, base: Option<Stamp>)
         ensures made { (w : World) → Tells self.old w → 1 ≤ seq → seq ≤ (w.nodes brick.0).seq
-            → (let n = w.numbers brick.0 seq in Tells self.new (record w { operations = changed w.operations n (with_made stamp (w.operations n)) })) }
+            → (let n = w.numbers brick.0 seq in Tells self.new (record w { operations = changed w.operations n (with_made stamp base (w.operations n)) })) }
         ensures marks { self.new.marks ≡ self.old.marks }
     {
         let number = self.number(brick, seq);
-        note_made(&mut self.operations, number, stamp);
+        note_made(&mut self.operations, number, stamp, base);
     }
 
     /// The operation of a brick's call ended.
@@ -261,7 +280,7 @@ impl History {
         self.send(packets);
         match told {
             Told::Nothing => {}
-            Told::Made { seq, stamp } => self.made(brick, seq, stamp),
+            Told::Made { seq, stamp, base } => self.made(brick, seq, stamp, base),
             Told::Answers { seq, answer, seen } => self.end(brick, seq, answer, seen),
         }
     }

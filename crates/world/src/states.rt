@@ -5,10 +5,10 @@ ghost use Rattle.protocol.specs.Nodes as machine;
 ghost use Rattle.protocol.specs.Nodes.{refusal_of, is_stripe_op, invoked, received};
 ghost use Rattle.protocol.specs.Nodes.{put as changed};
 ghost use Rattle.protocol.specs.Worlds.{World, first_world};
-ghost use Rattle.node.specs.Copies.{copying, KeepsCopies};
+ghost use Rattle.stripe_code.specs.Codes.{coding};
 ghost use Rattle.node.specs.States.{RefusesAs};
 ghost use Rattle.world.specs.Runs.{ask_of};
-ghost use Rattle.world.specs.States.{ShowsBricks};
+ghost use Rattle.world.specs.States.{ShowsBricks, AreNodesOf};
 
 use crate::histories::{History, packet_at};
 use fab_base::{Ask, BrickId, GroupId, NoMem, Op, Refusal, StripeNo};
@@ -65,13 +65,13 @@ fn ask_brick(
     number: BrickId,
     ask: &Ask,
 ) -> Result<Begun, NodeFault>
-    requires copies { KeepsCopies layout.now }
+    requires nodes { AreNodesOf layout.now bricks.old.items }
     requires brick { number.0 < vec_len bricks.old }
     requires stripes { is_stripe_op ask.now.op ≡ true }
     ensures refused { (w : World) → ShowsBricks layout.now bricks.old.items w.nodes w.clocks
         → RefusesAs result (refusal_of layout.now (w.nodes number.0) ask.now) }
     ensures begun { IfOk result (λ begun. (w : World) → ShowsBricks layout.now bricks.old.items w.nodes w.clocks
-        → (let step = invoked (copying layout.now) number (w.clocks number.0) (w.nodes number.0) ask.now in
+        → (let step = invoked (coding layout.now) number (w.clocks number.0) (w.nodes number.0) ask.now in
         (begun.packets.items ≡ step.packets) × (begun.seq ≡ step.node.seq)
         × ShowsBricks layout.now bricks.new.items (changed w.nodes number.0 step.node) w.clocks)) }
     ensures few { IfOk result (λ begun. vec_len begun.packets ≤ 32) }
@@ -90,10 +90,10 @@ fn hand_over(
     number: BrickId,
     packet: &Packet,
 ) -> Result<Outs, NoMem>
-    requires copies { KeepsCopies layout.now }
+    requires nodes { AreNodesOf layout.now bricks.old.items }
     requires brick { number.0 < vec_len bricks.old }
     ensures stepped { IfOk result (λ outs. (w : World) → ShowsBricks layout.now bricks.old.items w.nodes w.clocks
-        → (let step = received (copying layout.now) number (w.clocks number.0) (w.nodes number.0) packet.now in
+        → (let step = received (coding layout.now) number (w.clocks number.0) (w.nodes number.0) packet.now in
         (outs.packets.items ≡ step.packets) × (outs.told ≡ step.told)
         × ShowsBricks layout.now bricks.new.items (changed w.nodes number.0 step.node) w.clocks)) }
     ensures few { IfOk result (λ outs. vec_len outs.packets ≤ 32) }
@@ -125,9 +125,9 @@ impl State {
     ghost use Rattle.protocol.specs.Nodes.{is_stripe_op};
     ghost use Rattle.protocol.specs.Worlds.{World, first_world, happens, packet_of};
     ghost use Rattle.protocol.specs.Worlds.Event.{Invokes, Delivers, Sets};
-    ghost use Rattle.node.specs.Copies.{copying, KeepsCopies};
+    ghost use Rattle.stripe_code.specs.Codes.{coding};
     ghost use Rattle.world.specs.Runs.{brick_of, ask_of, refusal_at, after_line};
-    ghost use Rattle.world.specs.States.{Shows, IsNumbered, refused_or_begun, handled_or_idle, set_or_idle, outcome_of, IsOfStripes};
+    ghost use Rattle.world.specs.States.{AreNodesOf, Shows, IsNumbered, refused_or_begun, handled_or_idle, set_or_idle, outcome_of, IsOfStripes};
 
     /// All bricks up, their stores fresh, their clocks at 0, and nothing sent.
     pub fn new(alloc: Global, layout: &Layout) -> Result<State, NoMem>
@@ -141,13 +141,13 @@ impl State {
 
     /// Runs a line. After a refusal for want of memory the state shows what it showed.
     pub fn run(&mut self, alloc: Global, layout: &Layout, line: &Line) -> Result<Outcome, NoMem>
-        requires copies { KeepsCopies layout.now }
+        requires nodes { AreNodesOf layout.now self.old.bricks.items }
         requires bricks { vec_len self.old.bricks ≡ layout.now.bricks }
         requires stripes { IsOfStripes line.now }
         ensures shows { OnOk result ((w : World) → IsNumbered w → Shows layout.now self.old w
-            → Shows layout.now self.new (after_line (copying layout.now) w line.now)) }
+            → Shows layout.now self.new (after_line (coding layout.now) w line.now)) }
         ensures outcome { IfOk result (λ outcome. (w : World) → Shows layout.now self.old w
-            → outcome ≡ outcome_of (copying layout.now) w line.now) }
+            → outcome ≡ outcome_of (coding layout.now) w line.now) }
         ensures err { OnErr result ((w : World) → Shows layout.now self.old w → Shows layout.now self.new w) }
         ensures marks { vec_len self.old.history.marks ≤ vec_len self.new.history.marks }
     {
@@ -174,13 +174,13 @@ impl State {
         stripe: u64,
         op: &Op,
     ) -> Result<Outcome, NoMem>
-        requires copies { KeepsCopies layout.now }
+        requires nodes { AreNodesOf layout.now self.old.bricks.items }
         requires bricks { vec_len self.old.bricks ≡ layout.now.bricks }
         requires stripes { is_stripe_op op.now ≡ true }
         ensures shows { OnOk result ((w : World) → Shows layout.now self.old w
-            → Shows layout.now self.new (happens (copying layout.now) w (Invokes (brick_of brick) (ask_of group stripe op.now)))) }
+            → Shows layout.now self.new (happens (coding layout.now) w (Invokes (brick_of brick) (ask_of group stripe op.now)))) }
         ensures outcome { IfOk result (λ outcome. (w : World) → Shows layout.now self.old w
-            → outcome ≡ refused_or_begun (refusal_at (copying layout.now) w (brick_of brick) (ask_of group stripe op.now))) }
+            → outcome ≡ refused_or_begun (refusal_at (coding layout.now) w (brick_of brick) (ask_of group stripe op.now))) }
         ensures err { OnErr result ((w : World) → Shows layout.now self.old w → Shows layout.now self.new w) }
         ensures marks { vec_len self.old.history.marks ≤ vec_len self.new.history.marks }
     {
@@ -208,14 +208,14 @@ impl State {
         brick: BrickId,
         ask: Ask,
     ) -> Result<Outcome, NoMem>
-        requires copies { KeepsCopies layout.now }
+        requires nodes { AreNodesOf layout.now self.old.bricks.items }
         requires brick { brick.0 < layout.now.bricks }
         requires bricks { vec_len self.old.bricks ≡ layout.now.bricks }
         requires stripes { is_stripe_op ask.op ≡ true }
         ensures shows { OnOk result ((w : World) → Shows layout.now self.old w
-            → Shows layout.now self.new (happens (copying layout.now) w (Invokes brick ask))) }
+            → Shows layout.now self.new (happens (coding layout.now) w (Invokes brick ask))) }
         ensures outcome { IfOk result (λ outcome. (w : World) → Shows layout.now self.old w
-            → outcome ≡ refused_or_begun (refusal_at (copying layout.now) w brick ask)) }
+            → outcome ≡ refused_or_begun (refusal_at (coding layout.now) w brick ask)) }
         ensures err { OnErr result ((w : World) → Shows layout.now self.old w → Shows layout.now self.new w) }
         ensures marks { vec_len self.old.history.marks ≤ vec_len self.new.history.marks }
     {
@@ -233,12 +233,12 @@ impl State {
 
     /// Delivers the message of a number.
     fn deliver(&mut self, alloc: Global, layout: &Layout, message: u64) -> Result<Outcome, NoMem>
-        requires copies { KeepsCopies layout.now }
+        requires nodes { AreNodesOf layout.now self.old.bricks.items }
         requires bricks { vec_len self.old.bricks ≡ layout.now.bricks }
         ensures shows { OnOk result ((w : World) → IsNumbered w → Shows layout.now self.old w
-            → Shows layout.now self.new (happens (copying layout.now) w (Delivers message))) }
+            → Shows layout.now self.new (happens (coding layout.now) w (Delivers message))) }
         ensures outcome { IfOk result (λ outcome. (w : World) → Shows layout.now self.old w
-            → outcome ≡ handled_or_idle (copying layout.now) (packet_of w.packets message)) }
+            → outcome ≡ handled_or_idle (coding layout.now) (packet_of w.packets message)) }
         ensures err { OnErr result ((w : World) → Shows layout.now self.old w → Shows layout.now self.new w) }
         ensures marks { vec_len self.old.history.marks ≤ vec_len self.new.history.marks }
     {
@@ -255,11 +255,12 @@ impl State {
         self.history.step(to, outs);
         Ok(Outcome::Marks)
     }
+
     /// Sets a brick's clock.
     fn set_clock(&mut self, layout: &Layout, brick: u64, time: u64) -> Outcome
         requires { vec_len self.old.bricks ≡ layout.now.bricks }
         ensures shows { (w : World) → Shows layout.now self.old w
-            → Shows layout.now self.new (happens (copying layout.now) w (Sets (brick_of brick) time)) }
+            → Shows layout.now self.new (happens (coding layout.now) w (Sets (brick_of brick) time)) }
         ensures outcome { result ≡ set_or_idle layout.now (brick_of brick) }
         ensures history { self.new.history ≡ self.old.history }
     {

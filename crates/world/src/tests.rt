@@ -1,21 +1,27 @@
 //! Schedules and what they print, as an independent reader of the rules works them out.
 
 use crate::World;
+use fab_base::{GroupId, StripeNo};
 use layout::Layout;
 use layout::texts::THREE_COPIES;
+use reg_model::Happening;
 use std::alloc::Global;
 use std::test::Fail;
 
-/// What lines print over three bricks, each of which keeps a copy of each block of one byte.
-fn printed(alloc: Global, lines: &[&str]) -> Result<String, Fail> {
-    let layout = Layout::read(alloc, THREE_COPIES)?;
+/// Four bricks, any two of which give back a stripe of two data blocks of one byte.
+const TWO_OF_FOUR: &[u8] =
+    b"block = 1\nbricks = 4\nrecords = 100\n[[group]]\nm = 2\nmembers = [0, 1, 2, 3]\nstripes = 4\n";
+
+/// What lines print over the disk of a layout, and the world that they leave.
+fn run(alloc: Global, layout: &[u8], lines: &[&str]) -> Result<(String, World), Fail> {
+    let layout = Layout::read(alloc, layout)?;
     let mut world = World::new(alloc, layout)?;
     let mut text = String::new(alloc);
     for line in lines {
         let more = world.step(line.as_bytes())?;
         text.push_str(str::from_utf8(more.as_slice())?)?;
     }
-    Ok(text)
+    Ok((text, world))
 }
 
 #[test]
@@ -50,7 +56,8 @@ fn a_later_stamp_begins_a_round_of_ordering(rt: HostRuntime) -> Result<(), Fail>
         1 begin 2 0 writeall 0 0 41\n\
         2 end 2 done\n\
         3 end 1 aborted later 0 1.6.0.1\n";
-    assert_eq!(rt; printed(rt.alloc(), &lines)?.as_str(), text);
+    let (printed, _) = run(rt.alloc(), THREE_COPIES, &lines)?;
+    assert_eq!(rt; printed.as_str(), text);
     Ok(())
 }
 
@@ -73,6 +80,108 @@ fn lines_that_are_refused(rt: HostRuntime) -> Result<(), Fail> {
         0 begin 1 0 writeall 0 0 41\n\
         refused down\nrefused nostripe\nrefused nostripe\nrefused length\n\
         refused spent\nrefused spent\n";
-    assert_eq!(rt; printed(rt.alloc(), &lines)?.as_str(), text);
+    let (printed, _) = run(rt.alloc(), THREE_COPIES, &lines)?;
+    assert_eq!(rt; printed.as_str(), text);
+    Ok(())
+}
+
+#[test]
+fn a_write_that_is_read_back_happens(rt: HostRuntime) -> Result<(), Fail> {
+    let lines = [
+        "writeall 0 0 0 4142",
+        "deliver 1",
+        "deliver 2",
+        "deliver 3",
+        "deliver 5",
+        "deliver 6",
+        "deliver 7",
+        "deliver 8",
+        "deliver 9",
+        "readall 3 0 0",
+        "deliver 14",
+        "deliver 15",
+        "deliver 17",
+        "deliver 18",
+        "deliver 19",
+        "deliver 20",
+        "deliver 21",
+        "deliver 22",
+        "deliver 24",
+        "deliver 25",
+        "deliver 26",
+        "deliver 27",
+        "deliver 28",
+        "deliver 29",
+        "deliver 31",
+        "deliver 32",
+        "deliver 33",
+        "deliver 34",
+    ];
+    let text = "0 begin 1 0 writeall 0 0 4142\n\
+        1 begin 2 3 readall 0 0\n\
+        2 end 2 data 4142\n";
+    let (printed, world) = run(rt.alloc(), TWO_OF_FOUR, &lines)?;
+    assert_eq!(rt; printed.as_str(), text);
+    let write = Happening {
+        operation: 1,
+        position: 0,
+    };
+    let read = Happening {
+        operation: 2,
+        position: 1,
+    };
+    let happenings = world.happenings(GroupId(0), StripeNo(0))?;
+    assert_eq!(rt; happenings.as_slice(), [write, read].as_slice());
+    Ok(())
+}
+
+#[test]
+fn a_write_of_too_few_blocks_is_passed_over(rt: HostRuntime) -> Result<(), Fail> {
+    let lines = [
+        "writeall 0 0 0 4142",
+        "deliver 1",
+        "deliver 2",
+        "deliver 3",
+        "deliver 5",
+        "deliver 6",
+        "deliver 7",
+        "deliver 8",
+        "readall 3 0 0",
+        "deliver 13",
+        "deliver 14",
+        "deliver 16",
+        "deliver 17",
+        "deliver 18",
+        "deliver 19",
+        "deliver 20",
+        "deliver 21",
+        "deliver 23",
+        "deliver 24",
+        "deliver 25",
+        "deliver 26",
+        "deliver 27",
+        "deliver 28",
+        "deliver 30",
+        "deliver 31",
+        "deliver 32",
+        "deliver 33",
+        "deliver 34",
+        "deliver 35",
+        "deliver 37",
+        "deliver 38",
+        "deliver 39",
+        "deliver 40",
+    ];
+    let text = "0 begin 1 0 writeall 0 0 4142\n\
+        1 begin 2 3 readall 0 0\n\
+        2 end 2 data 0000\n";
+    let (printed, world) = run(rt.alloc(), TWO_OF_FOUR, &lines)?;
+    assert_eq!(rt; printed.as_str(), text);
+    let read = Happening {
+        operation: 2,
+        position: 1,
+    };
+    let happenings = world.happenings(GroupId(0), StripeNo(0))?;
+    assert_eq!(rt; happenings.as_slice(), [read].as_slice());
     Ok(())
 }

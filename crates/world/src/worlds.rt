@@ -75,16 +75,14 @@ impl World {
     ghost use Rattle.std.specs.Prelude.{◌≡◌, ◌≤◌, [], None, IfOk, OnOk, OnErr, IsErrOf, length};
     ghost use Rattle.std.specs.Option.{option_copied};
     ghost use Rattle.lines.specs.Grammar.{line_of};
-    ghost use Rattle.node.specs.Copies.{copying, KeepsCopies};
+    ghost use Rattle.stripe_code.specs.Codes.{coding};
     ghost use Rattle.protocol.specs.Happenings.{happenings_of};
     ghost use Rattle.world.specs.Runs.{world_of};
     ghost use Rattle.world.specs.States.{outcome_of, IsOfStripes};
     ghost use Rattle.world.specs.Steps.{Ran, Stands, with_line, log_at};
 
-    /// All bricks up, their stores fresh, their clocks at 0, and nothing sent. Each stripe of the layout has one data block, of which
-    /// each member keeps a copy.
+    /// All bricks up, their stores fresh, their clocks at 0, and nothing sent.
     pub fn new(alloc: Global, layout: Layout) -> Result<World, NoMem>
-        requires copies { KeepsCopies layout }
         ensures { IfOk result (λ world. world ≡ record { layout = layout; lines = [] }) }
     {
         let state = State::new(alloc, &layout)?;
@@ -122,7 +120,7 @@ impl World {
     fn run(&mut self, line: Line) -> Result<Outcome, NoMem>
         requires stripes { IsOfStripes line }
         ensures ok { OnOk result (self.new ≡ with_line self.old line) }
-        ensures outcome { IfOk result (λ outcome. outcome ≡ outcome_of (copying self.old.layout) (world_of self.old) line) }
+        ensures outcome { IfOk result (λ outcome. outcome ≡ outcome_of (coding self.old.layout) (world_of self.old) line) }
         ensures marks { OnOk result (length (world_of self.old).marks ≤ length (world_of self.new).marks) }
         ensures err { OnErr result (self.new ≡ self.old) }
     {

@@ -1,7 +1,7 @@
 use Rattle.std.proofs.Common.{◌≡◌, ℕ, ◌≤◌, false, List, ◌++◌, length, sym, ap, ◌∙◌, subst, arith, length-append}
 use Rattle.std.specs.Io.KnownBytes.{prepend_known}
 use Rattle.lines.specs.Lines.{ends_layout}
-use Rattle.lines.specs.Reading.{Says, ReadsHead}
+use Rattle.lines.specs.Reading.{ReadsHead}
 use Rattle.lines.proofs.HeadLines.{ReadsHead-line, ReadsSchedule-start}
 use Rattle.fab_io.proofs.Keeping.{Kept-trans, Kept-calm}
 use Rattle.replay.specs.Inputs.{most_layout_bytes}

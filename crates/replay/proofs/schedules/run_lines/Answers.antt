@@ -1,4 +1,4 @@
-use Rattle.std.proofs.Common.{◌≡◌, ℕ, Err, subst, arith}
+use Rattle.std.proofs.Common.{◌≡◌, Err, arith}
 use Rattle.fab_io.proofs.Keeping.{Kept-refl, Kept-trans, Kept-calm}
 use Rattle.replay.specs.Outputs.{most_lines}
 use Rattle.replay.specs.Turns.{PrintsRest}

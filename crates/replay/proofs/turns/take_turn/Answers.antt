@@ -1,9 +1,8 @@
-use Rattle.std.proofs.Common.{List, ℕ, Ok, Err, sym, ap, ◌∙◌, subst}
-use Rattle.std.specs.Io.KnownBytes.{prepend_known}
+use Rattle.std.proofs.Common.{List, ℕ, Err, sym, ap, ◌∙◌, subst}
 use Rattle.fab_io.specs.Ends.{AppendsFront}
 use Rattle.lines.specs.Grammar.{line_of}
 use Rattle.lines.specs.Lines.{content}
-use Rattle.node.specs.Copies.{copying}
+use Rattle.stripe_code.specs.Codes.{coding}
 use Rattle.world.specs.Runs.{world_of}
 use Rattle.replay.specs.Turns.{TurnMeans, line_text}
 use Rattle.replay.proofs.Printing.{at_err}
@@ -44,7 +43,7 @@ returns-in_err-run_line-in-Whole-clause-means g c =
     let same = c.content_of.ensures ∙ ap content c.as_slice.ensures.value in
     let w = c.args.world.now in
     let front = subst (λ (l : List ℕ). AppendsFront (g.K.Sink.told c.args.sink.now) (g.K.Sink.told c.run_line.new.sink)
-    (line_text (copying w.layout) (world_of w) (line_of l))) same c.in_err-run_line-in-Whole.ensures.content in
+    (line_text (coding w.layout) (world_of w) (line_of l))) same c.in_err-run_line-in-Whole.ensures.content in
     at_err _ (TurnMeans _ _ _ _ _ _ _) (λ halt. PrintsRest-front _ _ _ _ _ _ c.in-Whole.bytes halt c.requires says.1 front)
     c.from_residual-in_err-run_line-in-Whole.ensures.0
 

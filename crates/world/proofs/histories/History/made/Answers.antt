@@ -6,7 +6,7 @@ use Rattle.world.proofs.histories.History.made.Goals as goal
 
 pub returns-clause-made : goal.returns-clause-made
 returns-clause-made c w tells low high =
-    tells_made c.args.self.now _ w c.args.brick.0 c.args.seq c.number-number.result c.args.stamp c.deref_mut.result.now c.note_made.new.operations tells
+    tells_made c.args.self.now _ w c.args.brick.0 c.args.seq c.number-number.result c.args.stamp c.args.base c.deref_mut.result.now c.note_made.new.operations tells
     (number_is c.args.self.now w c.args.brick.0 c.args.seq c.number-number.result tells low high c.number-number.ensures)
     c.deref_mut.ensures.value
     (with_items_is c.args.self.now.operations c.note_made.new.operations (c.note_made.auto.operations ∙ c.deref_mut.ensures.len))

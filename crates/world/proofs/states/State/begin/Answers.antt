@@ -1,7 +1,7 @@
 -- The brick begins, or refuses, as the machine's does.
 use Rattle.std.proofs.Common.{◌≡◌, ◌+◌, ◌<◌, ◌^◌, Some, arith, sym, ap, ◌∙◌, subst}
 use Rattle.std.specs.Prelude.{Err}
-use Rattle.node.specs.Copies.{copying}
+use Rattle.stripe_code.specs.Codes.{coding}
 use Rattle.node.specs.States.{RefusesAs}
 use Rattle.protocol.specs.Nodes.{NodeStep, invoked, refusal_of}
 use Rattle.world.proofs.MachineBegins.{invoked_next}
@@ -20,10 +20,10 @@ returns-in_err-expect_call-clause-err c =
 
 pub returns-in-Ok-clause-shows : goal.returns-in-Ok-clause-shows
 returns-in-Ok-clause-shows c w shows =
-    let step : NodeStep = invoked (copying c.args.layout.now) c.args.brick (w.clocks c.args.brick.0) (w.nodes c.args.brick.0) c.args.ask in
+    let step : NodeStep = invoked (coding c.args.layout.now) c.args.brick (w.clocks c.args.brick.0) (w.nodes c.args.brick.0) c.args.ask in
     let none = c.in-Ok.ensures.refused w shows.bricks in
     let begun = c.in-Ok.ensures.begun w shows.bricks in
-    let next : step.node.seq ≡ (w.nodes c.args.brick.0).seq + 1 = invoked_next (copying c.args.layout.now) c.args.brick (w.clocks c.args.brick.0) (w.nodes c.args.brick.0) c.args.ask none in
+    let next : step.node.seq ≡ (w.nodes c.args.brick.0).seq + 1 = invoked_next (coding c.args.layout.now) c.args.brick (w.clocks c.args.brick.0) (w.nodes c.args.brick.0) c.args.ask none in
     let left : (w.nodes c.args.brick.0).seq + 1 < 2 ^ 64 = (let h = rw c.in-Ok.is at c.ask_brick.type_inv in let same = begun.1 in omega arith) in
     let is = next_is c.args.layout.now c.args.self.now.bricks.items c.args.brick.0 c.index.result.now c.next_seq-next.result
     (omega (arith, c.args.self.now.bricks.ok.0, c.requires.brick, c.requires.bricks)) c.index.ensures c.next_seq-next.ensures w shows.bricks left

@@ -1,6 +1,6 @@
 -- The message is the machine's, and its brick handles it as the machine's does.
 use Rattle.std.proofs.Common.{◌≡◌, None, arith, sym, ap, ◌∙◌}
-use Rattle.node.specs.Copies.{copying}
+use Rattle.stripe_code.specs.Codes.{coding}
 use Rattle.protocol.specs.Nodes.{NodeStep, received}
 use Rattle.protocol.specs.Worlds.{packet_of, replies_with}
 use Rattle.world.specs.States.{handled_or_idle}
@@ -20,7 +20,7 @@ returns-in-None-clause-shows c w numbered shows =
 pub returns-in-None-clause-outcome : goal.returns-in-None-clause-outcome
 returns-in-None-clause-outcome c w shows =
     let none : packet_of w.packets c.args.message ≡ None = (sym (ap (λ xs. packet_of xs c.args.message) (c.deref.ensures.value ∙ (c.make_room.ensures.same w shows.history).packets)) ∙ sym c.in-None.ensures) in
-    sym (ap (handled_or_idle (copying c.args.layout.now)) none)
+    sym (ap (handled_or_idle (coding c.args.layout.now)) none)
 
 pub returns-then-to-bricks-clause-shows : goal.returns-then-to-bricks-clause-shows
 returns-then-to-bricks-clause-shows c w numbered shows =
@@ -38,13 +38,13 @@ returns-in_err-outs-clause-err c =
 
 pub returns-clause-shows : goal.returns-clause-shows
 returns-clause-shows c w numbered shows =
-    let step : NodeStep = received (copying c.args.layout.now) c.in-Some.packet.now.to (w.clocks c.in-Some.packet.now.to.0) (w.nodes c.in-Some.packet.now.to.0) c.in-Some.packet.now in
+    let step : NodeStep = received (coding c.args.layout.now) c.in-Some.packet.now.to (w.clocks c.in-Some.packet.now.to.0) (w.nodes c.in-Some.packet.now.to.0) c.in-Some.packet.now in
     let did = c.in_ok-outs.ensures.stepped w shows.bricks in
-    let opens = received_opens_none (copying c.args.layout.now) c.in-Some.packet.now.to (w.clocks c.in-Some.packet.now.to.0) (w.nodes c.in-Some.packet.now.to.0) c.in-Some.packet.now
+    let opens = received_opens_none (coding c.args.layout.now) c.in-Some.packet.now.to (w.clocks c.in-Some.packet.now.to.0) (w.nodes c.in-Some.packet.now.to.0) c.in-Some.packet.now
     (λ k call open_at. numbered c.in-Some.packet.now.to.0 k call open_at)
     in
     shows_handled c.args.layout.now _ w c.args.message c.in-Some.packet.now (sym (ap (λ xs. packet_of xs c.args.message) (c.deref.ensures.value ∙ (c.make_room.ensures.same w shows.history).packets)) ∙ sym c.in-Some.ensures) (omega arith) did.2
-    (c.step.ensures.stepped (record w { replies = replies_with (copying c.args.layout.now) w c.in-Some.packet.now }) step
+    (c.step.ensures.stepped (record w { replies = replies_with (coding c.args.layout.now) w c.in-Some.packet.now }) step
     (tells_replies c.args.layout.now _ w c.in-Some.packet.now (c.make_room.ensures.same w shows.history)) did.0 did.1 opens.seq opens.told)
 
 pub returns-clause-outcome : goal.returns-clause-outcome

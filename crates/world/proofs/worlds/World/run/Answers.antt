@@ -4,15 +4,18 @@ use Rattle.lines.specs.declared.forms.Line.{Line}
 use Rattle.world.specs.Runs.{Run, world_of}
 use Rattle.world.specs.Standing.{run_of}
 use Rattle.world.specs.States.{Shows}
+use Rattle.world.proofs.NodeLemmas.{nodes_of}
 use Rattle.world.proofs.RunLaws.{numbered}
 use Rattle.world.proofs.RunLemmas.{shows_line}
 use Rattle.world.proofs.worlds.World.run.Goals as goal
+
+pub run-requires-clause-nodes : goal.run-requires-clause-nodes
+run-requires-clause-nodes c = nodes_of _ _ _ _ c.self.invariant.shows.bricks
 
 pub invariant_of-self-in_err-outcome : goal.invariant_of-self-in_err-outcome
 invariant_of-self-in_err-outcome c = record {
   shows = subst (λ (lines : List Line). Shows c.self.inside.layout c.run.new.self (world_of (record { layout = c.self.inside.layout; lines = lines })))
       (sym c.reserve.ensures.items) (c.in_err-outcome.ensures.err (world_of (run_of c.self.inside)) c.self.invariant.shows);
-  copies = c.self.invariant.copies;
   fresh = c.self.invariant.fresh;
 }
 
@@ -21,7 +24,6 @@ invariant_of-self-2 c = record {
   shows = (shows_line c.self.inside.layout c.run.new.self c.self.inside.lines.items c.put.new.things.items c.args.line
       (c.put.ensures ∙ ap (λ (lines : List Line). lines ++ c.args.line ∷ []) c.reserve.ensures.items)
       (c.in_ok-outcome.ensures.shows (world_of (run_of c.self.inside)) (numbered (run_of c.self.inside)) c.self.invariant.shows));
-  copies = c.self.invariant.copies;
   fresh = c.self.invariant.fresh;
 }
 

@@ -1,0 +1,188 @@
+-- What the machine decides on a message, by what the coordinator found of it.
+use Rattle.std.proofs.Common.{◌≡◌, ℕ, ◌-◌, Bool, true, false, not, cond, nat_lt, List, [], ◌∷◌, ◌++◌, length, take, Option, Some, None, refl, sym, ap, ◌∙◌, subst, rules, length-append}
+use Rattle.std.proofs.lemmas.List.{take_at}
+use Rattle.std.specs.Prelude.{is_some}
+use Rattle.std.proofs.lemmas.Bool.{false≢true}
+use Rattle.fab_base.specs.declared.identities.BrickId.{BrickId}
+use Rattle.fab_base.specs.declared.stamps.Stamp.{Stamp}
+use Rattle.fab_wire.specs.declared.calls.Call.{Call}
+use Rattle.fab_wire.specs.declared.messages.Message.{Message}
+use Rattle.fab_wire.specs.declared.messages.Message.TheVariants as messages
+use Rattle.fab_wire.specs.declared.replies.Reply.{Reply}
+use Rattle.fab_wire.specs.declared.turns.Next.{Next as Answer}
+use Rattle.fab_wire.specs.declared.turns.Next.TheVariants.{Wait}
+use Rattle.fab_base.specs.declared.notes.Note.{Note}
+use Rattle.protocol.specs.Settings.{quorum_of}
+use Rattle.protocol.specs.declared.phases.Counted.{Counted}
+use Rattle.protocol.specs.Coordinators.{Next, Ignores, Waits, counts_at, decided, on_reply, counted_at}
+use Rattle.stripe_code.specs.Codes.{block_code}
+use Rattle.coord_phase.specs.Operations.{Operation, StaysAsked, with_state, telling, seat_told, counts, heard, heard_at}
+use Rattle.coord_phase.specs.Decisions.{decided_on, decision, Answers, SendsPhase, IsWait, note_told}
+
+-- what is decided, by whether the message counts, and whether a quorum then counts
+abbrev pub after_hearing : Option Stamp → Operation → Bool → Next
+after_hearing fresh op full =
+    cond full (decided (block_code op.block) op.group.m fresh op.state) (Waits op.state)
+
+abbrev pub is_full : Operation → Bool
+is_full op = not (nat_lt (length op.state.counted) (quorum_of op.group))
+
+-- what is known of a message that was heard at a seat
+record Heard (fresh : Option Stamp) (before : Operation) (after : Operation) (next : Next) (counted : Bool) : Type 0 where
+  ignored : counted ≡ false → next ≡ Ignores
+  heard : counted ≡ true → next ≡ after_hearing fresh after (is_full after)
+  unchanged : counted ≡ false → after ≡ before
+  uncounted : counted ≡ true
+      → with_state after (record after.state { counted = take (length after.state.counted - 1) after.state.counted }) ≡ before
+  stays : StaysAsked before after
+  call : after.state.call ≡ before.state.call
+  note : after.note ≡ before.note
+  made : after.made ≡ before.made
+
+not_full : (b : Bool) (x y : Next) → cond b x y ≡ cond (not b) y x
+not_full true x y = refl
+not_full false x y = refl
+
+-- the replies but the last
+all_but_last : (counted : List Counted) (x : Counted) → take (length (counted ++ (x ∷ [])) - 1) (counted ++ (x ∷ [])) ≡ counted
+all_but_last counted x = rw length-append (search (rules, take_at))
+
+heard_reply : (fresh : Option Stamp) (op : Operation) (from : BrickId) (call : Call) (reply : Reply) (seat : Option ℕ)
+    → counts_at op.block op.group op.state from.0 call reply ≡ seat
+    → Heard fresh op (heard_at op from (messages.Reply call reply) seat) (on_reply op.block (block_code op.block) op.group fresh op.state from call reply) (is_some seat)
+unfolding on_reply
+heard_reply fresh op from call reply None is =
+    record {
+      ignored = λ none. ap (counted_at (block_code op.block) op.group fresh op.state from reply) is;
+      heard = λ some. absurd (false≢true some);
+      unchanged = λ none. refl;
+      uncounted = λ some. absurd (false≢true some);
+      stays = record { block = refl; group = refl; ask = refl };
+      call = refl;
+      note = refl;
+      made = refl;
+    }
+heard_reply fresh op from call reply (Some seat) is =
+    let after = heard_at op from (messages.Reply call reply) (Some seat) in
+    record {
+      ignored = λ none. absurd (false≢true (sym none));
+      heard = λ some. ap (counted_at (block_code op.block) op.group fresh op.state from reply) is
+          ∙ not_full (nat_lt (length after.state.counted) (quorum_of op.group)) (Waits after.state) (decided (block_code op.block) op.group.m fresh after.state);
+      unchanged = λ none. absurd (false≢true (sym none));
+      uncounted = λ some. ap (λ (counted : List Counted). with_state op (record op.state { counted = counted })) (all_but_last op.state.counted _);
+      stays = record { block = refl; group = refl; ask = refl };
+      call = refl;
+      note = refl;
+      made = refl;
+    }
+
+heard_message : (fresh : Option Stamp) (op : Operation) (from : BrickId) (message : Message)
+    → Heard fresh op (heard op from message) (decided_on fresh op from message) (counts op from message)
+unfolding seat_told
+heard_message fresh op from (messages.Reply call reply) = heard_reply fresh op from call reply _ refl
+heard_message fresh op from message =
+    record {
+      ignored = λ none. refl;
+      heard = λ some. absurd (false≢true some);
+      unchanged = λ none. refl;
+      uncounted = λ some. absurd (false≢true some);
+      stays = record { block = refl; group = refl; ask = refl };
+      call = refl;
+      note = refl;
+      made = refl;
+    }
+
+-- a message that does not count changes nothing, and the machine leaves it out
+pub ignored : (fresh : Option Stamp) (op : Operation) (from : BrickId) (message : Message)
+    → counts op from message ≡ false → (decided_on fresh op from message ≡ Ignores) × (heard op from message ≡ op)
+ignored fresh op from message none = let is = heard_message fresh op from message in (is.ignored none, is.unchanged none)
+
+-- with one that counts the machine waits, or decides where a quorum counts
+pub decided_with : (fresh : Option Stamp) (op : Operation) (from : BrickId) (message : Message) (full : Bool)
+    → counts op from message ≡ true → full ≡ is_full (heard op from message)
+    → decided_on fresh op from message ≡ after_hearing fresh (heard op from message) full
+decided_with fresh op from message full some is =
+    (heard_message fresh op from message).heard some ∙ ap (after_hearing fresh (heard op from message)) (sym is)
+
+-- once its reply is taken back, nothing has changed
+pub taken_back : (op : Operation) (from : BrickId) (message : Message) → counts op from message ≡ true
+    → with_state (heard op from message) (record (heard op from message).state { counted = take (length (heard op from message).state.counted - 1) (heard op from message).state.counted }) ≡ op
+taken_back op from message some = (heard_message None op from message).uncounted some
+
+-- a message changes neither what is asked nor the call
+pub heard_stays : (op : Operation) (from : BrickId) (message : Message) → StaysAsked op (heard op from message)
+heard_stays op from message = (heard_message None op from message).stays
+
+pub heard_call : (op : Operation) (from : BrickId) (message : Message) → (heard op from message).state.call ≡ op.state.call
+heard_call op from message = (heard_message None op from message).call
+
+-- what is asked stays so from one step to the next
+pub stays_both : (a b c : Operation) → StaysAsked a b → StaysAsked b c → StaysAsked a c
+stays_both a b c first second =
+    record { block = second.block ∙ first.block; group = second.group ∙ first.group; ask = second.ask ∙ first.ask }
+
+stays_telling : (mid after : Operation) (told : Option Note) → after ≡ telling mid mid.state told → StaysAsked mid after
+stays_telling mid after told is =
+    record {
+      block = ap (λ (op : Operation). op.block) is;
+      group = ap (λ (op : Operation). op.group) is;
+      ask = ap (λ (op : Operation). op.state.ask) is;
+    }
+
+heard_then : (before : Operation) (from : BrickId) (message : Message) (mid after : Operation) → mid ≡ heard before from message
+    → StaysAsked mid after → StaysAsked before after
+heard_then before from message mid after heard_is stays =
+    stays_both before mid after (subst (λ (op : Operation). StaysAsked before op) (sym heard_is) (heard_stays before from message)) stays
+
+-- after a message that does not count an operation waits, as it was
+pub answers_ignored : (fresh : Option Stamp) (before : Operation) (from : BrickId) (message : Message) (mid after : Operation) (answered : Answer)
+    → mid ≡ heard before from message → counts before from message ≡ false → answered ≡ Wait → after ≡ telling mid mid.state None
+    → Answers fresh before from message answered after
+answers_ignored fresh before from message mid after answered heard_is none waits is =
+    let machine = ignored fresh before from message none in
+    let same : mid ≡ before = heard_is ∙ machine.1 in
+    record {
+      decided = machine.0 ∙ sym (ap (λ (b : Bool). cond b (decision after answered) Ignores) none);
+      ignored = λ _. (subst IsWait (sym waits) tt, ap (λ (op : Operation). op.state) (is ∙ ap (λ (op : Operation). telling op op.state None) same));
+      sent = subst (SendsPhase after) (sym waits) tt;
+      told = ap (λ (op : Operation). op.note) is ∙ sym (ap (note_told before.state.call) machine.0);
+      stays = heard_then before from message mid after heard_is (stays_telling mid after None is);
+    }
+
+-- with a reply that counts, but no quorum, it waits
+pub answers_waiting : (fresh : Option Stamp) (before : Operation) (from : BrickId) (message : Message) (mid after : Operation) (answered : Answer) (full : Bool)
+    → mid ≡ heard before from message → counts before from message ≡ true → full ≡ is_full mid → full ≡ false → answered ≡ Wait → after ≡ telling mid mid.state None
+    → Answers fresh before from message answered after
+answers_waiting fresh before from message mid after answered full heard_is some full_is few waits is =
+    let machine : decided_on fresh before from message ≡ Waits mid.state =
+    decided_with fresh before from message full some (full_is ∙ ap is_full heard_is)
+    ∙ ap (λ (b : Bool). after_hearing fresh (heard before from message) b) few
+    ∙ ap (λ (op : Operation). Waits op.state) (sym heard_is) in
+    let holds : decision after answered ≡ Waits mid.state = ap (decision after) waits ∙ ap (λ (op : Operation). Waits op.state) is in
+    record {
+      decided = machine ∙ sym holds ∙ sym (ap (λ (b : Bool). cond b (decision after answered) Ignores) some);
+      ignored = λ none. absurd (false≢true (sym none ∙ some));
+      sent = subst (SendsPhase after) (sym waits) tt;
+      told = ap (λ (op : Operation). op.note) is ∙ sym (ap (note_told before.state.call) machine);
+      stays = heard_then before from message mid after heard_is (stays_telling mid after None is);
+    }
+
+-- with a quorum it answers what the machine decides
+pub answers_decided : (fresh : Option Stamp) (before : Operation) (from : BrickId) (message : Message) (mid after : Operation) (answered : Answer) (full : Bool)
+    → mid ≡ heard before from message → counts before from message ≡ true → full ≡ is_full mid → full ≡ true
+    → decision after answered ≡ decided (block_code mid.block) mid.group.m fresh mid.state → SendsPhase after answered
+    → after.note ≡ note_told mid.state.call (decided (block_code mid.block) mid.group.m fresh mid.state) → StaysAsked mid after
+    → Answers fresh before from message answered after
+answers_decided fresh before from message mid after answered full heard_is some full_is enough next sent told stays =
+    let machine : decided_on fresh before from message ≡ decided (block_code mid.block) mid.group.m fresh mid.state =
+    decided_with fresh before from message full some (full_is ∙ ap is_full heard_is)
+    ∙ ap (λ (b : Bool). after_hearing fresh (heard before from message) b) enough
+    ∙ ap (λ (op : Operation). decided (block_code op.block) op.group.m fresh op.state) (sym heard_is) in
+    let call : mid.state.call ≡ before.state.call = ap (λ (op : Operation). op.state.call) heard_is ∙ heard_call before from message in
+    record {
+      decided = machine ∙ sym next ∙ sym (ap (λ (b : Bool). cond b (decision after answered) Ignores) some);
+      ignored = λ none. absurd (false≢true (sym none ∙ some));
+      sent = sent;
+      told = told ∙ ap (λ (c : Call). note_told c (decided (block_code mid.block) mid.group.m fresh mid.state)) call ∙ sym (ap (note_told before.state.call) machine);
+      stays = heard_then before from message mid after heard_is stays;
+    }

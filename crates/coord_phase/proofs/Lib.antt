@@ -1,0 +1,4 @@
+pub mod Answered
+pub mod Pieces
+pub mod Replies
+pub mod Requests

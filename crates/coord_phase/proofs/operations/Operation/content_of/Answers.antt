@@ -1,0 +1,61 @@
+-- The first m blocks that are found give back the content.
+use Rattle.std.proofs.Common.{◌≡◌, ◌≤◌, length, ap, ◌∙◌, sym, subst, arith}
+use Rattle.std.proofs.lemmas.Result.{IfOk-weaker}
+use Rattle.protocol.specs.Coordinators.{pieces_at}
+use Rattle.stripe_code.specs.Codes.{decoded}
+use Rattle.coord_phase.specs.Operations.{Operation}
+use Rattle.coord_phase.proofs.Pieces.{give_back, length-decoded, seats_of, blocks_of}
+use Rattle.coord_phase.proofs.operations.Operation.content_of.Goals as goal
+
+pub decode-requires-clause-seats : goal.decode-requires-clause-seats
+decode-requires-clause-seats c =
+    let inside = c.self.inside in
+    let v = c.args.version in
+    let m_is : c.m-m.result ≡ inside.group.m = c.m-m.ensures.value ∙ c.policy.ensures.m in
+    let few : length inside.group.members ≤ 32 = omega (arith, c.policy.ensures.limits.few_seats) in
+    let needed : inside.group.m ≤ length (pieces_at v inside.counted.items) = subst (λ (op : Operation). op.group.m ≤ length (pieces_at v op.state.counted)) (sym c.self.view_is) c.requires in
+    let enough : c.m-m.result ≤ length (pieces_at v inside.counted.items) = omega (arith, needed, m_is) in
+    (give_back _ _ _ v _ _ _ c.self.invariant few enough
+    (c.deref.ensures.value ∙ c.in_ok-seats.ensures ∙ ap (λ counted. seats_of (pieces_at v counted)) c.as_slice.ensures.value)
+    (c.deref-2.ensures.value ∙ c.in_ok-blocks.ensures ∙ ap (λ counted. blocks_of (pieces_at v counted)) c.as_slice-2.ensures.value)).at_seats
+
+pub decode-requires-clause-long : goal.decode-requires-clause-long
+decode-requires-clause-long c =
+    let inside = c.self.inside in
+    let v = c.args.version in
+    let m_is : c.m-m.result ≡ inside.group.m = c.m-m.ensures.value ∙ c.policy.ensures.m in
+    let few : length inside.group.members ≤ 32 = omega (arith, c.policy.ensures.limits.few_seats) in
+    let needed : inside.group.m ≤ length (pieces_at v inside.counted.items) = subst (λ (op : Operation). op.group.m ≤ length (pieces_at v op.state.counted)) (sym c.self.view_is) c.requires in
+    let enough : c.m-m.result ≤ length (pieces_at v inside.counted.items) = omega (arith, needed, m_is) in
+    (give_back _ _ _ v _ _ _ c.self.invariant few enough
+    (c.deref.ensures.value ∙ c.in_ok-seats.ensures ∙ ap (λ counted. seats_of (pieces_at v counted)) c.as_slice.ensures.value)
+    (c.deref-2.ensures.value ∙ c.in_ok-blocks.ensures ∙ ap (λ counted. blocks_of (pieces_at v counted)) c.as_slice-2.ensures.value)).long
+
+pub slice_bounds-decode-end-2 : goal.slice_bounds-decode-end-2
+slice_bounds-decode-end-2 c = sym (decode-requires-clause-long c)
+
+pub returns-clause-value : goal.returns-clause-value
+returns-clause-value c =
+    let inside = c.self.inside in
+    let v = c.args.version in
+    let m_is : c.m-m.result ≡ inside.group.m = c.m-m.ensures.value ∙ c.policy.ensures.m in
+    let few : length inside.group.members ≤ 32 = omega (arith, c.policy.ensures.limits.few_seats) in
+    let needed : inside.group.m ≤ length (pieces_at v inside.counted.items) = subst (λ (op : Operation). op.group.m ≤ length (pieces_at v op.state.counted)) (sym c.self.view_is) c.requires in
+    let enough : c.m-m.result ≤ length (pieces_at v inside.counted.items) = omega (arith, needed, m_is) in
+    let back = give_back _ _ _ v _ _ _ c.self.invariant few enough
+    (c.deref.ensures.value ∙ c.in_ok-seats.ensures ∙ ap (λ counted. seats_of (pieces_at v counted)) c.as_slice.ensures.value)
+    (c.deref-2.ensures.value ∙ c.in_ok-blocks.ensures ∙ ap (λ counted. blocks_of (pieces_at v counted)) c.as_slice-2.ensures.value) in
+    IfOk-weaker c.decode.result _ _
+    (λ content is.
+    is _ back.first
+    ∙ ap (λ m. decoded m inside.block (pieces_at v inside.counted.items)) m_is
+    ∙ ap (λ (op : Operation). decoded op.group.m op.block (pieces_at v op.state.counted)) c.self.view_is)
+    c.decode.ensures
+
+pub returns-clause-long : goal.returns-clause-long
+returns-clause-long c =
+    let now = c.args.self.now in
+    let v = c.args.version in
+    IfOk-weaker c.decode.result (λ content. content ≡ decoded now.group.m now.block (pieces_at v now.state.counted)) _
+    (λ content is. ap length is ∙ length-decoded now.group.m now.block (pieces_at v now.state.counted))
+    (returns-clause-value c)

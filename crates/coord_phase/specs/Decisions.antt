@@ -1,0 +1,98 @@
+-- How what a coordinator answers its brick, what it holds then and what it tells stand for what the machine decides.
+use Rattle.std.specs.Prelude.{◌≡◌, false, if◌then◌else◌, Option, Some, None}
+use Rattle.fab_base.specs.declared.identities.BrickId.{BrickId}
+use Rattle.fab_base.specs.declared.identities.CallId.{CallId}
+use Rattle.fab_base.specs.declared.stamps.Stamp.{Stamp}
+use Rattle.fab_base.specs.declared.notes.Note.{Note}
+use Rattle.fab_wire.specs.declared.calls.Call.{Call}
+use Rattle.fab_wire.specs.declared.messages.Message.{Message}
+use Rattle.fab_wire.specs.declared.turns.Next.{Next}
+use Rattle.fab_wire.specs.declared.turns.Next.TheVariants.{Send, Wait, End, Recover}
+use Rattle.fab_wire.specs.declared.turns.Turn.TheVariants as Turn
+use Rattle.protocol.specs.Coordinators as machine
+use Rattle.protocol.specs.declared.phases.Phase.{Phase}
+use Rattle.protocol.specs.declared.phases.Phase.TheVariants.{Looks, Orders, Recovers, Descends, Stores}
+use Rattle.protocol.specs.Coordinators.{Coordinator, in_phase, restoring, stored_content}
+use Rattle.stripe_code.specs.Codes.{block_code}
+use Rattle.coord_phase.specs.Operations.{Operation, StaysAsked, counts}
+use Rattle.coord_phase.specs.Messages.{phase_messages}
+
+-- a phase begins: with the store of its version an operation makes it
+abbrev pub begins_in : Phase → Coordinator → machine.Next
+begins_in Looks c = machine.Sends c
+begins_in Orders c = machine.Sends c
+begins_in Recovers c = machine.Sends c
+begins_in (Descends bound) c = machine.Sends c
+begins_in Stores c = machine.Makes c
+
+-- the version that a note tells as read at once
+abbrev pub seen_in : Option Note → Option Stamp
+seen_in None = None
+seen_in (Some (Note.Made call stamp base content)) = None
+seen_in (Some (Note.Seen call stamp)) = Some stamp
+
+-- the machine's word for what an operation answers to a reply that counts, and holds then: where its stripe is to be recovered, the recovery is
+-- the call's next phase
+abbrev pub decision : Operation → Next → machine.Next
+decision after Wait = machine.Waits after.state
+decision after (Send messages) = begins_in after.state.phase after.state
+decision after (End answer) = machine.Ends answer (seen_in after.note) after.made
+decision after (Recover Turn.Order) = machine.Sends (in_phase after.state Recovers)
+decision after (Recover (Turn.Down bound)) = machine.Sends (in_phase after.state (Descends bound))
+decision after (Recover (Turn.Store base content)) = machine.Makes (restoring after.state base content)
+
+-- what is sent are the messages of the phase that the operation is in then
+abbrev pub SendsPhase : Operation → Next → Type 0
+SendsPhase after (Send messages) = messages.items ≡ phase_messages after
+SendsPhase after Wait = Unit {0}
+SendsPhase after (End answer) = Unit {0}
+SendsPhase after (Recover turn) = Unit {0}
+
+-- messages are sent
+abbrev pub IsSend : Next → Type 0
+IsSend (Send messages) = Unit {0}
+IsSend Wait = ⊥
+IsSend (End answer) = ⊥
+IsSend (Recover turn) = ⊥
+
+-- nothing is done
+abbrev pub IsWait : Next → Type 0
+IsWait Wait = Unit {0}
+IsWait (Send messages) = ⊥
+IsWait (End answer) = ⊥
+IsWait (Recover turn) = ⊥
+
+-- the name of a call
+abbrev pub call_id : Call → CallId
+call_id call = record { boot = call.boot; seq = call.seq }
+
+-- what an operation tells as it makes its version
+abbrev pub note_of : Coordinator → Note
+note_of c = Note.Made (call_id c.call) c.stamp c.base (stored_content c)
+
+-- what is told of a version that was read at once, if one was
+abbrev pub seen_note : Call → Option Stamp → Option Note
+seen_note call None = None
+seen_note call (Some v) = Some (Note.Seen (call_id call) v)
+
+-- what an operation with this call tells as this is decided
+abbrev pub note_told : Call → machine.Next → Option Note
+note_told call machine.Ignores = None
+note_told call (machine.Waits c) = None
+note_told call (machine.Sends c) = None
+note_told call (machine.Makes c) = Some (note_of c)
+note_told call (machine.Ends answer seen stored) = seen_note call seen
+
+-- the machine's decision on a message, where a new round would have this fresh stamp
+abbrev pub decided_on : Option Stamp → Operation → BrickId → Message → machine.Next
+decided_on fresh op from (Message.Reply call reply) =
+    machine.on_reply op.block (block_code op.block) op.group fresh op.state from call reply
+decided_on fresh op from message = machine.Ignores
+
+-- An operation that heard a message answers, holds and tells what the machine decides: after a message that does not count it waits, as it was.
+pub record Answers (fresh : Option Stamp) (before : Operation) (from : BrickId) (message : Message) (answered : Next) (after : Operation) : Type 0 where
+  pub decided : decided_on fresh before from message ≡ (if counts before from message then decision after answered else machine.Ignores)
+  pub ignored : counts before from message ≡ false → IsWait answered × (after.state ≡ before.state)
+  pub sent : SendsPhase after answered
+  pub told : after.note ≡ note_told before.state.call (decided_on fresh before from message)
+  pub stays : StaysAsked before after

@@ -1,0 +1,3 @@
+pub mod Decisions
+pub mod Messages
+pub mod Operations

@@ -1,0 +1,116 @@
+-- An operation in a phase, at its coordinator.
+use Rattle.std.specs.Prelude.{◌≡◌, ℕ, ◌*◌, Bool, true, false, not, nat_lt, ◌&&◌, List, [], ◌∷◌, length, Option, Some, None, is_some}
+use Rattle.std.specs.List.{list_all}
+use Rattle.fab_base.specs.declared.identities.BrickId.{BrickId}
+use Rattle.fab_base.specs.declared.identities.CallId.{CallId}
+use Rattle.fab_base.specs.declared.identities.ViewNo.{ViewNo}
+use Rattle.fab_base.specs.declared.stamps.Stamp.{Stamp}
+use Rattle.fab_base.specs.declared.asks.Ask.{Ask}
+use Rattle.fab_base.specs.declared.notes.Note.{Note}
+use Rattle.fab_wire.specs.declared.calls.Call.{Call}
+use Rattle.fab_wire.specs.declared.messages.Message.{Message}
+use Rattle.coord_phase.specs.declared.operations.Stage.{Stage}
+use Rattle.protocol.specs.Settings.{Layout, Group, group_of}
+use Rattle.protocol.specs.declared.phases.Phase.{Phase}
+use Rattle.protocol.specs.declared.phases.Phase.TheVariants.{Looks, Orders, Recovers, Descends, Stores}
+use Rattle.protocol.specs.declared.phases.Counted.{Counted}
+use Rattle.protocol.specs.Coordinators.{Coordinator, answers_phase, counts_at, has_seat, stored_content, with_reply}
+use Rattle.protocol.specs.Nodes.{has_length}
+
+-- an operation: the bytes of a block, the group with the members that are asked, how far the machine's coordinator is, and by the last reply that it
+-- heard the version that it told, and the one that it had stored, which may be collected
+pub record Operation : Type 0 where
+  pub block : ℕ
+  pub group : Group
+  pub state : Coordinator
+  pub note : Option Note
+  pub made : Option Stamp
+
+-- the operation, once its coordinator is this far
+abbrev pub with_state : Operation → Coordinator → Operation
+with_state op c = record { block = op.block; group = op.group; state = c; note = op.note; made = op.made }
+
+-- the operation, once its coordinator is this far, with what it tells
+abbrev pub telling : Operation → Coordinator → Option Note → Operation
+telling op c note = record { block = op.block; group = op.group; state = c; note = note; made = None }
+
+-- an operation stays what it is: its blocks' length, its group, and what it is asked
+pub record StaysAsked (before after : Operation) : Type 0 where
+  pub block : after.block ≡ before.block
+  pub group : after.group ≡ before.group
+  pub ask : after.state.ask ≡ before.state.ask
+
+-- a group that is now kept by these members
+abbrev pub kept_by : List BrickId → Option Group → Group
+kept_by members None = record { members = members; m = 0; stripes = 0 }
+kept_by members (Some group) = record { members = members; m = group.m; stripes = group.stripes }
+
+-- the group of this number, kept by the members of a view; a group that the layout lacks has no data block
+abbrev pub group_in_view : Layout → List BrickId → ℕ → Group
+group_in_view layout members g = kept_by members (group_of layout g)
+
+-- a call's phase of this number, in a view
+abbrev pub call_in : CallId → ℕ → Ask → ViewNo → Call
+call_in call number ask view =
+    record { boot = call.boot; seq = call.seq; phase = number; group = ask.group; view = view; stripe = ask.stripe }
+
+-- the coordinator as it begins a stage, in which no reply counts yet
+abbrev pub at_stage : Coordinator → Stage → Coordinator
+at_stage c stage =
+    record {
+      ask = c.ask;
+      stamp = stage.stamp;
+      round = stage.round;
+      base = c.base;
+      content = c.content;
+      call = stage.call;
+      phase = stage.phase;
+      counted = [];
+    }
+
+-- the phase asks for an order, and may be asked again in another round
+abbrev pub is_ordering : Phase → Bool
+is_ordering Looks = false
+is_ordering Orders = true
+is_ordering Recovers = true
+is_ordering (Descends bound) = false
+is_ordering Stores = false
+
+-- no two of the replies are of one seat
+abbrev pub are_apart : List Counted → Bool
+are_apart [] = true
+are_apart (c ∷ counted) = not (has_seat c.seat counted) && are_apart counted
+
+-- what an operation stores is m blocks, in the phases that store it, or make it ready to be stored
+abbrev pub StoresBlocks : ℕ → ℕ → List ℕ → Phase → Type 0
+StoresBlocks block m content Looks = Unit {0}
+StoresBlocks block m content Orders = length content ≡ m * block
+StoresBlocks block m content Recovers = Unit {0}
+StoresBlocks block m content (Descends bound) = Unit {0}
+StoresBlocks block m content Stores = length content ≡ m * block
+
+-- What is true of an operation in each phase: what it is given to write has its length; what it stores is m blocks; and each reply that counts is of a
+-- seat of the group, answers the phase, and is its seat's only one.
+pub record IsInPhase (block : ℕ) (group : Group) (c : Coordinator) : Type 0 where
+  pub long : has_length group.m block c.ask.op ≡ true
+  pub content : StoresBlocks block group.m (stored_content c) c.phase
+  pub seats : list_all (λ reply. nat_lt reply.seat (length group.members)) c.counted ≡ true
+  pub answers : list_all (λ reply. answers_phase block c.stamp c.phase reply.reply) c.counted ≡ true
+  pub apart : are_apart c.counted ≡ true
+
+-- the seat at which a message counts, if it does: only a reply may
+unfoldable pub seat_told : Operation → ℕ → Message → Option ℕ
+seat_told op from (Message.Reply call reply) = counts_at op.block op.group op.state from call reply
+seat_told op from message = None
+
+-- the message counts
+abbrev pub counts : Operation → BrickId → Message → Bool
+counts op from message = is_some (seat_told op from.0 message)
+
+-- the operation, once a message that may count at this seat was heard
+abbrev pub heard_at : Operation → BrickId → Message → Option ℕ → Operation
+heard_at op from (Message.Reply call reply) (Some seat) = with_state op (with_reply op.state seat from reply)
+heard_at op from message seat = op
+
+abbrev pub heard : Operation → BrickId → Message → Operation
+heard op from message = heard_at op from message (seat_told op from.0 message)

@@ -1,0 +1,152 @@
+//! Which replies count.
+
+ghost use Rattle.std.specs.Prelude.{◌≡◌, ◌≤◌, ◌<◌, length, IfSome};
+ghost use Rattle.protocol.specs.Settings.{seat_in};
+ghost use Rattle.protocol.specs.Coordinators.{call_same, may_be_found, answers_phase, has_seat};
+
+use crate::operations::Operation;
+use fab_base::{BrickId, NoMem, Stamp};
+use fab_wire::{Call, Message, Reply, Version};
+use protocol::{Counted, Phase};
+use std::alloc::Global;
+
+/// The seat of a brick among the members, the first if there are several.
+fn seat_of(members: &[BrickId], brick: BrickId) -> Option<u8>
+    requires { length members.now ≤ 32 }
+    ensures seat { result ≡ seat_in members.now brick.0 }
+    ensures within { IfSome result (λ seat. seat < length members.now) }
+{
+    for (seat, member) in members.iter().enumerate() {
+        if member.0 == brick.0 {
+            return Some(seat as u8);
+        }
+    }
+    None
+}
+
+/// Whether two calls are the same, phase and all.
+fn is_same_call(left: Call, right: Call) -> bool
+    ensures { result ≡ call_same left right }
+{
+    left == right
+}
+
+/// Whether a version that was found has the length of a block, and is below the phase's bound.
+fn may_be_found(block: u16, bound: Stamp, found: &Option<Version>) -> bool
+    ensures { result ≡ may_be_found block bound found.now }
+{
+    match found {
+        None => true,
+        Some(version) => { version.block.len() == block as usize && version.stamp.is_below(bound) }
+    }
+}
+
+/// Whether a reply answers the request of a phase of an operation of this stamp; a block that was found has this many bytes.
+fn answers(block: u16, stamp: Stamp, phase: Phase, reply: &Reply) -> bool
+    ensures { result ≡ answers_phase block stamp phase reply.now }
+{
+    match (phase, reply) {
+        (Phase::Looks, Reply::Found { newest, .. }) => match newest {
+            None => true,
+            Some(version) => version.block.len() == block as usize,
+        },
+        (Phase::Recovers, Reply::OrderedRead { found }) => may_be_found(block, stamp, found),
+        (Phase::Descends(bound), Reply::OrderedRead { found }) => {
+            may_be_found(block, bound, found)
+        }
+        (Phase::Orders, Reply::Ordered)
+        | (Phase::Stores, Reply::Stored)
+        | (
+            Phase::Orders | Phase::Recovers | Phase::Descends(_) | Phase::Stores,
+            Reply::Later { .. },
+        ) => true,
+        _ => false,
+    }
+}
+
+/// Whether a seat has a reply that counts.
+pub(crate) fn has_reply(seat: u8, counted: &[Counted]) -> bool
+    ensures { result ≡ has_seat seat counted.now }
+{
+    for reply in counted {
+        if reply.seat == seat {
+            return true;
+        }
+    }
+    false
+}
+
+impl Operation {
+    ghost use Rattle.std.specs.Prelude.{◌≡◌, ◌-◌, ◌<◌, ◌≤◌, ◌^◌, not, nat_lt, true, None, Some, IfSome, IfOk, OnOk, OnErr, length, take};
+    ghost use Rattle.protocol.specs.Settings.{quorum_of};
+    ghost use Rattle.protocol.specs.Coordinators.{counts_at, with_reply};
+    ghost use Rattle.coord_phase.specs.Operations.{with_state, counts, heard};
+
+    /// The seat at which a reply counts: it is to this very phase, answers it, and is its seat's first.
+    #[tactic(auto, unfolding(protocol::specs::Coordinators::counts_at))]
+    fn seat_to_count(&self, from: BrickId, call: Call, reply: &Reply) -> Option<u8>
+        ensures seat { result ≡ counts_at self.now.block self.now.group self.now.state from.0 call reply.now }
+        ensures few { IfSome result (λ _. self.now.state.call.phase < 2 ^ 32 - 1) }
+    {
+        let is_to_this_phase = is_same_call(call, self.stage.call)
+            && answers(self.block, self.stage.stamp, self.stage.phase, reply)
+            && self.stage.call.phase < u32::MAX;
+        if !is_to_this_phase {
+            return None;
+        }
+        let seat = seat_of(self.group.members().as_slice(), from)?;
+        if has_reply(seat, self.counted.as_slice()) {
+            return None;
+        }
+        Some(seat)
+    }
+
+    /// Whether a message counts: it is a reply to this very phase, answers it, and is its seat's first.
+    #[tactic(auto, unfolding(crate::specs::Operations::seat_told))]
+    pub fn counts(&self, from: BrickId, message: &Message) -> bool
+        ensures { result ≡ counts self.now from message.now }
+    {
+        match message {
+            Message::Reply(call, reply) => self.seat_to_count(from, *call, reply).is_some(),
+            _ => false,
+        }
+    }
+
+    /// Counts a reply, if it counts, and says whether it did. Where memory runs out nothing has changed.
+    #[tactic(auto, unfolding(crate::specs::Operations::seat_told))]
+    pub fn count(&mut self, alloc: Global, from: BrickId, message: &Message) -> Result<bool, NoMem>
+        ensures counted { IfOk result (λ counted. counted ≡ counts self.old from message.now) }
+        ensures heard { OnOk result (self.new ≡ heard self.old from message.now) }
+        ensures few { IfOk result (λ counted. counted ≡ true → self.new.state.call.phase < 2 ^ 32 - 1) }
+        ensures err { OnErr result (self.new ≡ self.old) }
+    {
+        let Message::Reply(call, reply) = message else {
+            return Ok(false);
+        };
+        let Some(seat) = self.seat_to_count(from, *call, reply) else {
+            return Ok(false);
+        };
+        self.counted.push(Counted {
+            seat,
+            brick: from,
+            reply: reply.copy(alloc)?,
+        })?;
+        Ok(true)
+    }
+
+    /// Forgets the last reply that counted.
+    pub fn uncount(&mut self)
+        ensures { self.new ≡ with_state self.old (record self.old.state { counted = take (length self.old.state.counted - 1) self.old.state.counted }) }
+    {
+        let count = self.counted.len();
+        self.counted.truncate(count.saturating_sub(1));
+    }
+
+    /// Whether a quorum of replies counts.
+    pub fn is_full(&self) -> bool
+        ensures full { result ≡ not (nat_lt (length self.now.state.counted) (quorum_of self.now.group)) }
+        ensures enough { result ≡ true → self.now.group.m ≤ length self.now.state.counted }
+    {
+        self.counted.len() >= self.group.policy().q() as usize
+    }
+}

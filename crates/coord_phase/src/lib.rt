@@ -1,0 +1,15 @@
+//! What the coordinators of all operations share: who is asked and how a stripe is coded, which replies count in a phase, the
+//! messages of a phase, and how one phase follows another (Frølund et al., "A Decentralized Algorithm for Erasure-Coded Virtual
+//! Disks", DSN 2004).
+#![tactic(auto)]
+
+mod counting;
+mod forgetting;
+mod messages;
+pub mod operations;
+mod refusals;
+mod stages;
+mod versions;
+
+pub use operations::{Operation, Stage};
+pub use stages::MOST_ROUNDS;

@@ -1,0 +1,210 @@
+//! How one phase follows another.
+
+ghost use Rattle.std.specs.Prelude.{◌≡◌, length};
+
+use crate::messages::messages;
+use crate::operations::{Operation, Stage, stored};
+use fab_base::{Answer, Bytes, CallId, Cause, NoMem, Note, Op, Stamp};
+use fab_wire::{Messages, Next, Turn};
+use protocol::{Phase, Refuser};
+use std::alloc::Global;
+
+/// How many rounds of ordering an operation may begin.
+pub const MOST_ROUNDS: u8 = 4;
+
+impl Operation {
+    ghost use Rattle.std.specs.Prelude.{◌≡◌, ◌-◌, ◌*◌, ◌<◌, ◌^◌, true, None, Some, IfOk, OnOk, OnErr, length};
+    ghost use Rattle.protocol.specs.Coordinators.{Ends, Makes, next_phase, in_phase, restoring, reordering, ordered_again, answer_of, greatest_refuser, aborted_by, unless_refused, stored_by, stored_content};
+    ghost use Rattle.protocol.specs.declared.phases.Phase.TheVariants.{Orders, Stores};
+    ghost use Rattle.coord_phase.specs.Operations.{telling, at_stage, is_ordering, StoresBlocks, StaysAsked};
+    ghost use Rattle.coord_phase.specs.Messages.{phase_messages};
+    ghost use Rattle.coord_phase.specs.Decisions.{decision, SendsPhase, note_of, seen_note};
+
+    /// The stage with the next phase of the operation's call, which asks this.
+    pub fn next_stage(&self, phase: Phase) -> Stage
+        requires { self.now.state.call.phase < 2 ^ 32 - 1 }
+        ensures { result ≡ record { stamp = self.now.state.stamp; round = self.now.state.round; call = next_phase self.now.state.call; phase = phase } }
+    {
+        let mut stage = self.stage;
+        stage.call.phase += 1;
+        stage.phase = phase;
+        stage
+    }
+
+    /// Waits for more replies, with nothing to tell.
+    pub fn wait(&mut self) -> Next
+        ensures next { result ≡ Next.Wait }
+        ensures state { self.new ≡ telling self.old self.old.state None }
+    {
+        self.note = None;
+        self.made = None;
+        Next::Wait
+    }
+
+    /// What the operation tells as it makes its version, with this copy of its content.
+    fn note_of(&self, content: Bytes) -> Note
+        requires { content ≡ stored_content self.now.state }
+        ensures { result ≡ note_of self.now.state }
+    {
+        Note::Made {
+            call: CallId {
+                boot: self.stage.call.boot,
+                seq: self.stage.call.seq,
+            },
+            stamp: self.stage.stamp,
+            base: self.base,
+            content,
+        }
+    }
+
+    /// What an operation that stored its version is answered.
+    fn answer(&self, alloc: Global) -> Result<Answer, NoMem>
+        ensures { IfOk result (λ answer. answer ≡ answer_of self.now.state.ask.op self.now.state.content) }
+    {
+        match &self.ask.op {
+            Op::WriteBlock(_, _) | Op::WriteStripe(_) => Ok(Answer::Done),
+            Op::ReadBlock(_) | Op::ReadStripe => Ok(Answer::Data(self.content.copy(alloc)?)),
+        }
+    }
+
+    /// Asks that its stripe be recovered, beginning so, with nothing to tell.
+    pub fn recover(&mut self, turn: Turn) -> Next
+        ensures next { result ≡ Next.Recover turn }
+        ensures state { self.new ≡ telling self.old self.old.state None }
+    {
+        self.note = None;
+        self.made = None;
+        Next::Recover(turn)
+    }
+
+    /// Begins a stage, and gives its messages. Where memory runs out nothing has changed.
+    pub fn begin(&mut self, alloc: Global, stage: Stage) -> Result<Messages, NoMem>
+        requires content { StoresBlocks self.old.block self.old.group.m (stored_content self.old.state) stage.phase }
+        ensures state { OnOk result (self.new ≡ telling self.old (at_stage self.old.state stage) None) }
+        ensures messages { IfOk result (λ messages. messages.items ≡ phase_messages self.new) }
+        ensures err { OnErr result (self.new ≡ self.old) }
+    {
+        let messages = messages(alloc, self.block, &self.group, stage, self.stored(), &[])?;
+        self.stage = stage;
+        self.counted = Vec::new(alloc);
+        self.note = None;
+        self.made = None;
+        Ok(messages)
+    }
+
+    /// Begins to store what the operation stores, in the call's next phase: it makes its version, and tells it. Where memory runs out
+    /// nothing has changed.
+    pub fn make(&mut self, alloc: Global) -> Result<Messages, NoMem>
+        requires phase { self.old.state.call.phase < 2 ^ 32 - 1 }
+        requires orders { self.old.state.phase ≡ Orders }
+        ensures state { OnOk result (self.new ≡ telling self.old (in_phase self.old.state Stores) (Some (note_of (in_phase self.old.state Stores)))) }
+        ensures messages { IfOk result (λ messages. messages.items ≡ phase_messages self.new) }
+        ensures err { OnErr result (self.new ≡ self.old) }
+    {
+        let content = Bytes::from_slice(alloc, self.stored())?;
+        let messages = self.begin(alloc, self.next_stage(Phase::Stores))?;
+        self.note = Some(self.note_of(content));
+        Ok(messages)
+    }
+
+    /// Begins to store a version that it read back, in the call's next phase: it makes its version of it, and tells it. Where memory
+    /// runs out nothing has changed.
+    pub fn restore(&mut self, alloc: Global, base: Stamp, content: Bytes) -> Result<Messages, NoMem>
+        requires phase { self.old.state.call.phase < 2 ^ 32 - 1 }
+        requires content { length (stored_by self.old.state.ask.op content) ≡ self.old.group.m * self.old.block }
+        ensures state { OnOk result (self.new ≡ telling self.old (restoring self.old.state base content) (Some (note_of (restoring self.old.state base content)))) }
+        ensures messages { IfOk result (λ messages. messages.items ≡ phase_messages self.new) }
+        ensures err { OnErr result (self.new ≡ self.old) }
+    {
+        let told = Bytes::from_slice(alloc, stored(&self.ask.op, &content))?;
+        let stage = self.next_stage(Phase::Stores);
+        let messages = messages(alloc, self.block, &self.group, stage, told.as_slice(), &[])?;
+        self.stage = stage;
+        self.base = Some(base);
+        self.content = content;
+        self.counted = Vec::new(alloc);
+        self.made = None;
+        self.note = Some(self.note_of(told));
+        Ok(messages)
+    }
+
+    /// Ends the operation, since this member told a later stamp.
+    pub fn abort(&mut self, refuser: Refuser) -> Next
+        ensures next { decision self.new result ≡ aborted_by refuser }
+        ensures state { self.new ≡ telling self.old self.old.state None }
+        ensures sent { SendsPhase self.new result }
+    {
+        self.note = None;
+        self.made = None;
+        Next::End(Answer::Aborted(Cause::Later {
+            brick: refuser.brick,
+            stamp: refuser.stamp,
+        }))
+    }
+
+    /// Begins another round of ordering with a new stamp, while there is one and a round is left; else this member's later stamp aborts
+    /// the operation. Where memory runs out nothing has changed.
+    pub fn order_again(
+        &mut self,
+        alloc: Global,
+        fresh: Option<Stamp>,
+        refuser: Refuser,
+    ) -> Result<Next, NoMem>
+        requires phase { self.old.state.call.phase < 2 ^ 32 - 1 }
+        requires orders { is_ordering self.old.state.phase ≡ true }
+        ensures next { IfOk result (λ next. decision self.new next ≡ ordered_again fresh self.old.state refuser) }
+        ensures sent { IfOk result (λ next. SendsPhase self.new next) }
+        ensures told { OnOk result (self.new.note ≡ None) }
+        ensures stays { OnOk result (StaysAsked self.old self.new) }
+        ensures phase { self.new.state.phase ≡ self.old.state.phase }
+        ensures err { OnErr result (self.new ≡ self.old) }
+    {
+        let Some(stamp) = fresh else {
+            return Ok(self.abort(refuser));
+        };
+        if self.stage.round >= MOST_ROUNDS {
+            return Ok(self.abort(refuser));
+        }
+        let mut stage = self.next_stage(self.stage.phase);
+        stage.stamp = stamp;
+        stage.round += 1;
+        let messages = self.begin(alloc, stage)?;
+        Ok(Next::Send(messages))
+    }
+
+    /// Ends the operation with the version that it stored, unless a member told a later stamp. Where memory runs out nothing has
+    /// changed.
+    pub fn end_store(&mut self, alloc: Global) -> Result<Next, NoMem>
+        ensures next { IfOk result (λ next. decision self.new next ≡ unless_refused (greatest_refuser self.old.state.counted) (Ends (answer_of self.old.state.ask.op self.old.state.content) None (Some self.old.state.stamp))) }
+        ensures sent { IfOk result (λ next. SendsPhase self.new next) }
+        ensures told { OnOk result (self.new.note ≡ None) }
+        ensures stays { OnOk result (StaysAsked self.old self.new) }
+        ensures phase { self.new.state.phase ≡ self.old.state.phase }
+        ensures err { OnErr result (self.new ≡ self.old) }
+    {
+        if let Some(refuser) = self.refuser() {
+            return Ok(self.abort(refuser));
+        }
+        let answer = self.answer(alloc)?;
+        self.note = None;
+        self.made = Some(self.stage.stamp);
+        Ok(Next::End(answer))
+    }
+
+    /// Ends a read with this version, which it read at once, and its content.
+    pub fn end_look(&mut self, version: Stamp, content: Bytes) -> Next
+        ensures next { decision self.new result ≡ Ends (Answer.Data content) (Some version) None }
+        ensures sent { SendsPhase self.new result }
+        ensures state { self.new ≡ telling self.old self.old.state (seen_note self.old.state.call (Some version)) }
+    {
+        self.made = None;
+        self.note = Some(Note::Seen {
+            call: CallId {
+                boot: self.stage.call.boot,
+                seq: self.stage.call.seq,
+            },
+            stamp: version,
+        });
+        Next::End(Answer::Data(content))
+    }
+}

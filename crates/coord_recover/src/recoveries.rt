@@ -1,0 +1,275 @@
+//! Recoveries.
+
+ghost use Rattle.std.specs.Prelude.{◌≡◌};
+
+use crate::greatest::greatest_found;
+use coord_phase::{Operation, Stage};
+use fab_base::{Ask, BrickId, Bytes, CallId, NoMem, Note, Stamp, View};
+use fab_wire::{Call, Message, Next, Turn};
+use layout::{Group, Layout};
+use protocol::Phase;
+use std::alloc::Global;
+use std::marker::Model;
+
+/// A stripe's recovery, under way for an operation.
+#[derive(Debug, Drop)]
+pub struct Recovery {
+    alloc: Global,
+    op: Operation,
+}
+
+impl Model for Recovery {
+    ghost use Rattle.coord_phase.specs.Operations.{Operation};
+    ghost use Rattle.coord_recover.specs.Recoveries.{IsRecovery};
+
+    ghost Value = { Operation };
+
+    ghost view = { λ recovery. recovery.op };
+
+    ghost invariant = { λ recovery. IsRecovery recovery.op };
+}
+
+impl Recovery {
+    ghost use Rattle.std.specs.Prelude.{◌≡◌, ◌-◌, ◌<◌, ◌≤◌, ◌^◌, true, [], None, IfOk, OnErr, OnOk, length, option_copied};
+    ghost use Rattle.quorum.specs.Quorums.{IsWithinLimits};
+    ghost use Rattle.stripe_code.specs.Codes.{block_code};
+    ghost use Rattle.protocol.specs.Nodes.{has_length};
+    ghost use Rattle.protocol.specs.Coordinators.{stored_by, decided, read_back, greatest_found};
+    ghost use Rattle.coord_phase.specs.Operations.{group_in_view, counts, StoresBlocks, StaysAsked};
+    ghost use Rattle.coord_phase.specs.Decisions.{Answers, SendsPhase, IsSend, decision, note_told};
+    ghost use Rattle.coord_recover.specs.Recoveries.{begun_op, turn_phase, turn_content, looks_for_version};
+
+    /// Begins the recovery of the stripe of an operation, with its stamp, in this phase of its call, the first of which is 1: with the
+    /// order, with the look for the greatest version below a bound, or with the store of a version that was read back, which it then
+    /// makes. It is asked of the members of the view, whose number and that of the group's data blocks are within the limits of a
+    /// quorum; what it stores is m blocks.
+    ///
+    /// # Errors
+    ///
+    /// `NoMemory` where no memory was left.
+    pub fn start(
+        alloc: Global,
+        layout: &Layout,
+        view: View,
+        call: CallId,
+        phase: u32,
+        ask: Ask,
+        stamp: Stamp,
+        turn: Turn,
+    ) -> Result<(Recovery, Next), NoMem>
+        requires limits { IsWithinLimits (group_in_view layout.now view.members ask.group.0).m (length view.members) }
+        requires phase { 1 ≤ phase }
+        requires length { has_length (group_in_view layout.now view.members ask.group.0).m layout.now.block ask.op ≡ true }
+        requires content { StoresBlocks layout.now.block (group_in_view layout.now view.members ask.group.0).m (stored_by ask.op (turn_content turn)) (turn_phase turn) }
+        ensures op { IfOk result (λ begun. begun.0 ≡ begun_op layout.now view call phase ask stamp turn) }
+        ensures send { IfOk result (λ begun. IsSend begun.1) }
+        ensures sent { IfOk result (λ begun. SendsPhase begun.0 begun.1) }
+    {
+        let mut stage = Stage {
+            stamp,
+            round: 1,
+            call: Call {
+                boot: call.boot,
+                seq: call.seq,
+                phase,
+                group: ask.group,
+                view: view.number,
+                stripe: ask.stripe,
+            },
+            phase: Phase::Recovers,
+        };
+        match turn {
+            Turn::Order => Recovery::begin(alloc, layout, &view, ask, stage),
+            Turn::Down(bound) => {
+                stage.phase = Phase::Descends(bound);
+                Recovery::begin(alloc, layout, &view, ask, stage)
+            }
+            Turn::Store { base, content } => {
+                // The phase before has just read the version back.
+                stage.call.phase -= 1;
+                let none = Bytes::empty(alloc);
+                let mut op = Operation::new(layout, &view, ask, stage, None, none, alloc);
+                let messages = op.restore(alloc, base, content)?;
+                Ok((Recovery { alloc, op }, Next::Send(messages)))
+            }
+        }
+    }
+
+    /// A recovery that has read nothing back, as it begins a stage in which it looks for a version.
+    fn begin(
+        alloc: Global,
+        layout: &Layout,
+        view: &View,
+        ask: Ask,
+        stage: Stage,
+    ) -> Result<(Recovery, Next), NoMem>
+        requires limits { IsWithinLimits (group_in_view layout.now view.now.members ask.group.0).m (length view.now.members) }
+        requires length { has_length (group_in_view layout.now view.now.members ask.group.0).m layout.now.block ask.op ≡ true }
+        requires looks { looks_for_version stage.phase ≡ true }
+        ensures op { IfOk result (λ begun. begun.0 ≡ record {
+          block = layout.now.block;
+          group = group_in_view layout.now view.now.members ask.group.0;
+          state = record { ask = ask; stamp = stage.stamp; round = stage.round; base = None; content = []; call = stage.call; phase = stage.phase; counted = [] };
+          note = None;
+          made = None;
+        }) }
+        ensures send { IfOk result (λ begun. IsSend begun.1) }
+        ensures sent { IfOk result (λ begun. SendsPhase begun.0 begun.1) }
+    {
+        let none = Bytes::empty(alloc);
+        let op = Operation::new(layout, view, ask, stage, None, none, alloc);
+        let messages = op.messages(alloc)?;
+        Ok((Recovery { alloc, op }, Next::Send(messages)))
+    }
+
+    /// Whether a message counts: it is a reply to this very phase of the recovery, answers it, and is its member's first.
+    pub fn counts(&self, from: BrickId, reply: &Message) -> bool
+        ensures { result ≡ counts self.now from reply.now }
+    {
+        self.op.counts(from, reply)
+    }
+
+    /// Reads back the greatest version that the replies tell, and begins to store it, where they tell m blocks of it; else looks for
+    /// the greatest version below it. Where they tell none, forgets them, and waits for more. After want of memory nothing has changed.
+    fn read_back(&mut self) -> Result<Next, NoMem>
+        requires phase { self.old.state.call.phase < 2 ^ 32 - 1 }
+        ensures next { IfOk result (λ next. decision self.new next ≡ read_back (block_code self.old.block) self.old.group.m self.old.state (greatest_found self.old.state.counted)) }
+        ensures sent { IfOk result (λ next. SendsPhase self.new next) }
+        ensures told { OnOk result (self.new.note ≡ note_told self.old.state.call (read_back (block_code self.old.block) self.old.group.m self.old.state (greatest_found self.old.state.counted))) }
+        ensures stays { OnOk result (StaysAsked self.old self.new) }
+        ensures err { OnErr result (self.new ≡ self.old) }
+    {
+        let Some(version) = greatest_found(self.op.counted()) else {
+            self.op.forget();
+            return Ok(self.op.wait());
+        };
+        if self.op.blocks_of(version) < self.op.group().m() as usize {
+            let stage = self.op.next_stage(Phase::Descends(version));
+            let messages = self.op.begin(self.alloc, stage)?;
+            return Ok(Next::Send(messages));
+        }
+        let content = self.op.content_of(self.alloc, version)?;
+        let messages = self.op.restore(self.alloc, version, content)?;
+        Ok(Next::Send(messages))
+    }
+
+    /// What a quorum of replies decides, where a new round would have the fresh stamp. After want of memory nothing has changed.
+    fn decide(&mut self, fresh: Option<Stamp>) -> Result<Next, NoMem>
+        requires phase { self.old.state.call.phase < 2 ^ 32 - 1 }
+        ensures next { IfOk result (λ next. decision self.new next ≡ decided (block_code self.old.block) self.old.group.m fresh self.old.state) }
+        ensures sent { IfOk result (λ next. SendsPhase self.new next) }
+        ensures told { OnOk result (self.new.note ≡ note_told self.old.state.call (decided (block_code self.old.block) self.old.group.m fresh self.old.state)) }
+        ensures stays { OnOk result (StaysAsked self.old self.new) }
+        ensures err { OnErr result (self.new ≡ self.old) }
+    {
+        match (self.op.stage().phase, self.op.refuser()) {
+            (Phase::Stores, _) => self.op.end_store(self.alloc),
+            (Phase::Recovers, Some(refuser)) => self.op.order_again(self.alloc, fresh, refuser),
+            (Phase::Descends(_), Some(refuser)) => Ok(self.op.abort(refuser)),
+            (Phase::Recovers, None) => self.read_back(),
+            (Phase::Descends(_), None) => self.read_back(),
+            (Phase::Looks | Phase::Orders, _) => unreachable!(),
+        }
+    }
+
+    /// What the recovery does with a message. A new round of ordering would have the fresh stamp; there is none where no later time is
+    /// left.
+    ///
+    /// # Errors
+    ///
+    /// `NoMemory` where no memory was left; then nothing has changed.
+    pub fn on_reply(
+        &mut self,
+        from: BrickId,
+        reply: &Message,
+        fresh: Option<Stamp>,
+    ) -> Result<Next, NoMem>
+        ensures answers { IfOk result (λ next. Answers fresh self.old from reply.now next self.new) }
+        ensures err { OnErr result (self.new ≡ self.old) }
+    {
+        if !self.op.count(self.alloc, from, reply)? {
+            return Ok(self.op.wait());
+        }
+        if !self.op.is_full() {
+            return Ok(self.op.wait());
+        }
+        match self.decide(fresh) {
+            Ok(next) => Ok(next),
+            Err(fault) => {
+                self.op.uncount();
+                Err(fault)
+            }
+        }
+    }
+
+    /// The phase again, to each member without a counted reply.
+    ///
+    /// # Errors
+    ///
+    /// `NoMemory` where no memory was left.
+    pub fn on_tick(&mut self) -> Result<Next, NoMem>
+        ensures send { IfOk result (λ next. IsSend next) }
+        ensures sent { IfOk result (λ next. SendsPhase self.old next) }
+        ensures same { self.new ≡ self.old }
+    {
+        let messages = self.op.messages(self.alloc)?;
+        Ok(Next::Send(messages))
+    }
+
+    /// The number of the present phase.
+    pub fn phase(&self) -> u32
+        ensures { result ≡ self.now.state.call.phase }
+    {
+        self.op.stage().call.phase
+    }
+
+    /// What the last step told of the recovery's version, if anything.
+    pub fn note(&self) -> Option<&Note>
+        ensures { option_copied result ≡ self.now.note }
+    {
+        self.op.note()
+    }
+
+    /// The version that a recovery which ended has stored, which may be collected.
+    pub fn made(&self) -> Option<Stamp>
+        ensures { result ≡ self.now.made }
+    {
+        self.op.made()
+    }
+
+    /// What was asked.
+    pub fn into_ask(self) -> Ask
+        ensures { result ≡ self.state.ask }
+    {
+        self.op.into_ask()
+    }
+
+    /// An equal value.
+    pub fn copy(&self, alloc: Global) -> Result<Recovery, NoMem>
+        ensures { IfOk result (λ made. made ≡ self.now) }
+    {
+        let op = self.op.copy(alloc)?;
+        Ok(Recovery { op, alloc })
+    }
+
+    /// The recovery's stamp.
+    pub fn stamp(&self) -> Stamp
+        ensures { result ≡ self.now.state.stamp }
+    {
+        self.op.stage().stamp
+    }
+
+    /// The call of the present phase.
+    pub fn call(&self) -> Call
+        ensures { result ≡ self.now.state.call }
+    {
+        self.op.stage().call
+    }
+
+    /// The group, with the members that are asked.
+    pub fn group(&self) -> &Group
+        ensures { result.now ≡ self.now.group }
+    {
+        self.op.group()
+    }
+}
