@@ -64,7 +64,7 @@ const REFUSED: Example = Example {
     output: "refused nostripe\nrefused nostripe\nrefused length\nrefused down\nidle\nidle\n0 begin 1 0 writeall 0 0 41\nrefused spent\ncount lines 9 begun 1 answered 0 aborted 0 crashes 0\n",
 };
 
-/// A write that was aborted stands at one member: two reads that find it recover, and are still open at the end.
+/// A write that was aborted stands at one member, and a later one is ordered at another: two reads recover, and are still open at the end.
 const ABORTED: Example = Example {
     head: HEAD,
     lines: &[
@@ -258,7 +258,7 @@ fn codes_of_every_size(rt: HostRuntime) -> Result<(), Fail> {
         let answered = format!(in rt.alloc(); "\n3 end 2 data {data}\nhappened 0 0 1@0 2@2\n")?;
         let mut source = MemSource::new(input.into_bytes());
         let mut sink = MemSink::new(rt.alloc());
-        assert_eq!(rt; run(rt.alloc(), &mut source, &mut sink)?, 0);
+        assert_eq!(rt; run(rt.alloc(), &mut source, &mut sink)?, 0, "{m} of {n}");
         let found = sink
             .taken()
             .windows(answered.len())
