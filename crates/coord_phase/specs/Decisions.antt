@@ -55,6 +55,13 @@ IsSend Wait = ⊥
 IsSend (End answer) = ⊥
 IsSend (Recover turn) = ⊥
 
+-- no recovery is asked for
+abbrev pub NeverRecovers : Next → Type 0
+NeverRecovers (Send messages) = Unit {0}
+NeverRecovers Wait = Unit {0}
+NeverRecovers (End answer) = Unit {0}
+NeverRecovers (Recover turn) = ⊥
+
 -- nothing is done
 abbrev pub IsWait : Next → Type 0
 IsWait Wait = Unit {0}

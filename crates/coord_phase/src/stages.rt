@@ -18,7 +18,7 @@ impl Operation {
     ghost use Rattle.protocol.specs.declared.phases.Phase.TheVariants.{Orders, Stores};
     ghost use Rattle.coord_phase.specs.Operations.{telling, at_stage, is_ordering, StoresBlocks, StaysAsked};
     ghost use Rattle.coord_phase.specs.Messages.{phase_messages};
-    ghost use Rattle.coord_phase.specs.Decisions.{decision, SendsPhase, note_of, seen_note};
+    ghost use Rattle.coord_phase.specs.Decisions.{decision, SendsPhase, NeverRecovers, note_of, seen_note};
 
     /// The stage with the next phase of the operation's call, which asks this.
     pub fn next_stage(&self, phase: Phase) -> Stage
@@ -133,6 +133,7 @@ impl Operation {
         ensures next { decision self.new result ≡ aborted_by refuser }
         ensures state { self.new ≡ telling self.old self.old.state None }
         ensures sent { SendsPhase self.new result }
+        ensures never { NeverRecovers result }
     {
         self.note = None;
         self.made = None;
@@ -154,6 +155,7 @@ impl Operation {
         requires orders { is_ordering self.old.state.phase ≡ true }
         ensures next { IfOk result (λ next. decision self.new next ≡ ordered_again fresh self.old.state refuser) }
         ensures sent { IfOk result (λ next. SendsPhase self.new next) }
+        ensures never { IfOk result NeverRecovers }
         ensures told { OnOk result (self.new.note ≡ None) }
         ensures stays { OnOk result (StaysAsked self.old self.new) }
         ensures phase { self.new.state.phase ≡ self.old.state.phase }
@@ -177,6 +179,7 @@ impl Operation {
     pub fn end_store(&mut self, alloc: Global) -> Result<Next, NoMem>
         ensures next { IfOk result (λ next. decision self.new next ≡ unless_refused (greatest_refuser self.old.state.counted) (Ends (answer_of self.old.state.ask.op self.old.state.content) None (Some self.old.state.stamp))) }
         ensures sent { IfOk result (λ next. SendsPhase self.new next) }
+        ensures never { IfOk result NeverRecovers }
         ensures told { OnOk result (self.new.note ≡ None) }
         ensures stays { OnOk result (StaysAsked self.old self.new) }
         ensures phase { self.new.state.phase ≡ self.old.state.phase }

@@ -46,7 +46,7 @@ answers_full : (fresh : Option Stamp) (before : Operation) (from : BrickId) (mes
     → decision after next ≡ decided (block_code (heard before from message).block) (heard before from message).group.m fresh (heard before from message).state
     → SendsPhase after next
     → after.note ≡ note_told (heard before from message).state.call
-        (decided (block_code (heard before from message).block) (heard before from message).group.m fresh (heard before from message).state)
+    (decided (block_code (heard before from message).block) (heard before from message).group.m fresh (heard before from message).state)
     → StaysAsked (heard before from message) after → Answers fresh before from message next after
 answers_full fresh before from message next after some full next_is sent told asked =
     let stays = heard_stays before from message in

@@ -7,3 +7,6 @@ mod greatest;
 pub mod recoveries;
 
 pub use recoveries::Recovery;
+
+#[cfg(test)]
+mod tests;

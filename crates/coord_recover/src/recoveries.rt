@@ -36,7 +36,7 @@ impl Recovery {
     ghost use Rattle.protocol.specs.Nodes.{has_length};
     ghost use Rattle.protocol.specs.Coordinators.{stored_by, decided, read_back, greatest_found};
     ghost use Rattle.coord_phase.specs.Operations.{group_in_view, counts, StoresBlocks, StaysAsked};
-    ghost use Rattle.coord_phase.specs.Decisions.{Answers, SendsPhase, IsSend, decision, note_told};
+    ghost use Rattle.coord_phase.specs.Decisions.{Answers, SendsPhase, NeverRecovers, IsSend, decision, note_told};
     ghost use Rattle.coord_recover.specs.Recoveries.{begun_op, turn_phase, turn_content, looks_for_version};
 
     /// Begins the recovery of the stripe of an operation, with its stamp, in this phase of its call, the first of which is 1: with the
@@ -135,6 +135,7 @@ impl Recovery {
         requires phase { self.old.state.call.phase < 2 ^ 32 - 1 }
         ensures next { IfOk result (λ next. decision self.new next ≡ read_back (block_code self.old.block) self.old.group.m self.old.state (greatest_found self.old.state.counted)) }
         ensures sent { IfOk result (λ next. SendsPhase self.new next) }
+        ensures never { IfOk result NeverRecovers }
         ensures told { OnOk result (self.new.note ≡ note_told self.old.state.call (read_back (block_code self.old.block) self.old.group.m self.old.state (greatest_found self.old.state.counted))) }
         ensures stays { OnOk result (StaysAsked self.old self.new) }
         ensures err { OnErr result (self.new ≡ self.old) }
@@ -158,6 +159,7 @@ impl Recovery {
         requires phase { self.old.state.call.phase < 2 ^ 32 - 1 }
         ensures next { IfOk result (λ next. decision self.new next ≡ decided (block_code self.old.block) self.old.group.m fresh self.old.state) }
         ensures sent { IfOk result (λ next. SendsPhase self.new next) }
+        ensures never { IfOk result NeverRecovers }
         ensures told { OnOk result (self.new.note ≡ note_told self.old.state.call (decided (block_code self.old.block) self.old.group.m fresh self.old.state)) }
         ensures stays { OnOk result (StaysAsked self.old self.new) }
         ensures err { OnErr result (self.new ≡ self.old) }
@@ -185,6 +187,7 @@ impl Recovery {
         fresh: Option<Stamp>,
     ) -> Result<Next, NoMem>
         ensures answers { IfOk result (λ next. Answers fresh self.old from reply.now next self.new) }
+        ensures never { IfOk result NeverRecovers }
         ensures err { OnErr result (self.new ≡ self.old) }
     {
         if !self.op.count(self.alloc, from, reply)? {

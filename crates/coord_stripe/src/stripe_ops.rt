@@ -99,7 +99,7 @@ impl StripeOp {
     ghost use Rattle.stripe_code.specs.Codes.{block_code};
     ghost use Rattle.coord_phase.specs.Operations.{group_in_view, counts, StaysAsked};
     ghost use Rattle.coord_phase.specs.Decisions.{Answers, SendsPhase, IsSend, decision, note_told};
-    ghost use Rattle.coord_stripe.specs.StripeOps.{first_op};
+    ghost use Rattle.coord_stripe.specs.StripeOps.{first_op, is_of_stripe};
 
     /// Begins an operation on a whole stripe, with its stamp: a read looks, and a write orders. It is asked of the members of the view,
     /// whose number and that of the group's data blocks are within the limits of a quorum; what it writes is m blocks.
@@ -212,6 +212,7 @@ impl StripeOp {
         fresh: Option<Stamp>,
     ) -> Result<Next, NoMem>
         ensures answers { IfOk result (λ next. Answers fresh self.old from reply.now next self.new) }
+        ensures kind { OnOk result (is_of_stripe self.new.state.phase ≡ true) }
         ensures err { OnErr result (self.new ≡ self.old) }
     {
         if !self.op.count(self.alloc, from, reply)? {

@@ -1,6 +1,9 @@
-pub mod Copies
-pub mod Decisions
+pub mod ByteLists
 pub mod Logs
-pub mod Requests
+pub mod Phases
+pub mod Answered
+pub mod GoingOn
 pub mod States
+pub mod Requests
 pub mod Tables
+pub mod Replied

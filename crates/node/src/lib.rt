@@ -2,13 +2,12 @@
 //! machine says, from the brick's own state and the message alone.
 #![tactic(auto)]
 
-pub mod coordinators;
+mod admissions;
 pub mod nodes;
+pub mod operations;
+mod packets;
 pub mod replicas;
 
-pub use coordinators::StripeOp;
 pub use nodes::{Begun, Node, NodeFault, Outs};
+pub use operations::Operation;
 pub use replicas::Replica;
-
-#[cfg(test)]
-mod tests;

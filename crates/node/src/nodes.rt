@@ -1,17 +1,19 @@
 //! A brick's steps.
 
-ghost use Rattle.std.specs.Prelude.{◌≡◌, ◌<◌, ◌≤◌, ℕ, true, false, [], IfOk, OnOk, OnErr, is_some, vec_len};
+ghost use Rattle.std.specs.Prelude.{◌≡◌, ◌<◌, ◌≤◌, ℕ, true, false, [], IfOk, OnOk, OnErr, is_some, vec_len, length};
 ghost use Rattle.std.specs.BTreeMap as tree;
 ghost use Rattle.std.specs.Ordering.{nat_cmp};
-ghost use Rattle.protocol.specs.Nodes.{has_block, has_length, has_later_time, first_phase, known_after, collect_packets};
-ghost use Rattle.node.specs.Nexts.{machine_next, packets_after, told_after};
+ghost use Rattle.protocol.specs.Settings.{seat_in};
+ghost use Rattle.protocol.specs.Nodes.{known_after};
 
-use crate::coordinators::{Next, StripeOp, seat_of};
+use crate::admissions::{has_block, has_later_time, has_length};
+use crate::operations::{Decision, Operation};
+use crate::packets::{collect_packets, packets_of};
 use crate::replicas::Replica;
-use fab_base::{Ask, BrickId, GroupId, NoMem, Op, Refusal, Stamp, StripeNo, ViewNo};
+use fab_base::{Ask, BrickId, CallId, GroupId, NoMem, Refusal, Stamp, StripeNo, ViewNo};
 use fab_wire::{Call, Message, Packet, Reply, Request, Version};
 use layout::{Group, Layout};
-use protocol::{Phase, Told};
+use protocol::Told;
 use std::alloc::{AllocFailed, Global};
 use std::collections::BTreeMap;
 
@@ -26,7 +28,7 @@ pub struct Node {
     seq: u64,
     known: u64,
     replicas: BTreeMap<(u32, u32), Replica>,
-    calls: BTreeMap<u64, StripeOp>,
+    calls: BTreeMap<u64, Operation>,
     ghost fresh: { (k : ℕ) → seq < k → is_some (tree.get nat_cmp calls k) ≡ false },
 }
 
@@ -79,44 +81,6 @@ impl<T: Drop> From<AllocFailed<T>> for NodeFault {
     }
 }
 
-/// Whether the data block that is asked for is one of the m data blocks.
-fn has_block(m: u8, op: &Op) -> bool
-    ensures { result ≡ has_block m op.now }
-{
-    match op {
-        Op::ReadBlock(block) | Op::WriteBlock(block, _) => *block < m,
-        Op::ReadStripe | Op::WriteStripe(_) => true,
-    }
-}
-
-/// Whether the bytes to write are one block, or m blocks.
-fn has_length(m: u8, block: u16, op: &Op) -> bool
-    ensures { result ≡ has_length m block op.now }
-{
-    match op {
-        Op::ReadBlock(_) | Op::ReadStripe => true,
-        Op::WriteBlock(_, bytes) => bytes.len() == block as usize,
-        Op::WriteStripe(bytes) => bytes.len() == m as usize * block as usize,
-    }
-}
-
-/// Whether a time is left above the greatest that is known.
-fn has_later_time(known: u64) -> bool
-    ensures { result ≡ has_later_time known }
-{
-    known < u64::MAX
-}
-
-/// The first phase of an operation: a read looks, a write orders.
-fn first_phase(op: &Op) -> Phase
-    ensures { result ≡ first_phase op.now }
-{
-    match op {
-        Op::ReadBlock(_) | Op::ReadStripe => Phase::Looks,
-        Op::WriteBlock(_, _) | Op::WriteStripe(_) => Phase::Orders,
-    }
-}
-
 /// The time that a reply makes known.
 fn known_after(known: u64, reply: &Reply) -> u64
     ensures { result ≡ known_after known reply.now }
@@ -127,29 +91,17 @@ fn known_after(known: u64, reply: &Reply) -> u64
     }
 }
 
-/// The packets that let all members collect what is below a version.
-fn collect_packets(
-    alloc: Global,
-    me: BrickId,
-    group: &Group,
-    call: Call,
-    stored: Option<Stamp>,
-) -> Result<Vec<Packet>, NoMem>
-    ensures items { IfOk result (λ packets. packets.items ≡ collect_packets group.now me call stored) }
-    ensures few { IfOk result (λ packets. vec_len packets ≤ 32) }
+/// The seat of a brick among the members, the first if there are several.
+fn seat_of(members: &[BrickId], brick: BrickId) -> Option<u8>
+    requires { length members.now ≤ 32 }
+    ensures { result ≡ seat_in members.now brick.0 }
 {
-    let mut packets = Vec::new(alloc);
-    let Some(stamp) = stored else {
-        return Ok(packets);
-    };
-    for member in group.members().as_slice() {
-        packets.push(Packet {
-            from: me,
-            to: *member,
-            message: Message::Request(call, Request::Collect { stamp }),
-        })?;
+    for (seat, member) in members.iter().enumerate() {
+        if member.0 == brick.0 {
+            return Some(seat as u8);
+        }
     }
-    Ok(packets)
+    None
 }
 
 impl Outs {
@@ -163,47 +115,6 @@ impl Outs {
             told: Told::Nothing,
         }
     }
-
-    /// What is sent and told once this is decided of a call.
-    fn after(
-        alloc: Global,
-        me: BrickId,
-        group: &Group,
-        call: Call,
-        next: &Next,
-    ) -> Result<Outs, NoMem>
-        requires { group.now.m ≡ 1 }
-        ensures packets { IfOk result (λ outs. outs.packets.items ≡ packets_after group.now me call (machine_next next.now)) }
-        ensures told { IfOk result (λ outs. outs.told ≡ told_after call (machine_next next.now)) }
-        ensures few { IfOk result (λ outs. vec_len outs.packets ≤ 32) }
-    {
-        Ok(match next {
-            Next::Ignores | Next::Waits(_) => Outs::nothing(alloc),
-            Next::Reorders(op) => Outs {
-                packets: op.packets(alloc, me, group)?,
-                told: Told::Nothing,
-            },
-            Next::Makes(op) => Outs {
-                packets: op.packets(alloc, me, group)?,
-                told: Told::Made {
-                    seq: call.seq,
-                    stamp: op.stamp(),
-                },
-            },
-            Next::Ends {
-                answer,
-                seen,
-                stored,
-            } => Outs {
-                packets: collect_packets(alloc, me, group, call, *stored)?,
-                told: Told::Answers {
-                    seq: call.seq,
-                    answer: answer.copy(alloc)?,
-                    seen: *seen,
-                },
-            },
-        })
-    }
 }
 
 impl Node {
@@ -213,15 +124,18 @@ impl Node {
     ghost use Rattle.protocol.specs.Settings as layouts;
     ghost use Rattle.protocol.specs.Settings.{group_of};
     ghost use Rattle.protocol.specs.Replicas.{first_replica, handle};
-    ghost use Rattle.protocol.specs.Nodes.{first_node, is_stripe_op, refusal_in, refusal_of, new_stamp, fresh_stamp, new_coordinator, with_call, began_in, invoked, replica_at, with_replica, requested, replied, received};
-    ghost use Rattle.node.specs.Nexts.{node_after};
-    ghost use Rattle.node.specs.Copies.{copying, KeepsCopies};
-    ghost use Rattle.node.specs.States.{state_of, RefusesAs, BeginsAs, StepsAs};
+    ghost use Rattle.protocol.specs.Nodes.{first_node, is_stripe_op, has_length, refusal_in, refusal_of, new_stamp, fresh_stamp, new_coordinator, with_call, began_in, invoked, replica_at, with_replica, requested, carried_out, replied, received};
+    ghost use Rattle.fab_wire.specs.declared.messages.Message.TheVariants as message;
+    ghost use Rattle.stripe_code.specs.Codes.{coding};
+    ghost use Rattle.node.specs.Operations.{shown_of, coordinator_of};
+    ghost use Rattle.node.specs.Decisions.{machine_next, IsDecisionOf, HasFewMessages};
+    ghost use Rattle.node.specs.States.{state_of, IsAt, IsNodeOf, RefusesAs, BeginsAs, StepsAs};
 
     /// A brick whose fresh store was just opened.
     pub fn new(alloc: Global, me: BrickId) -> Node
         ensures me { result.me ≡ me }
         ensures state { (block : ℕ) → state_of block result ≡ first_node block }
+        ensures node { (layout : layouts.Layout) → IsNodeOf layout result }
     {
         Node {
             me,
@@ -251,6 +165,7 @@ impl Node {
         ensures value { result ≡ refusal_in block (state_of block self.now) ask.now (Some group.now) }
         ensures known { result ≡ None → self.now.known + 1 < 2 ^ 64 }
         ensures seq { result ≡ None → self.now.seq + 1 < 2 ^ 64 }
+        ensures fits { result ≡ None → has_length group.now.m block ask.now.op ≡ true }
     {
         if ask.stripe.0 >= group.stripes() {
             Some(Refusal::NoStripe)
@@ -274,6 +189,7 @@ impl Node {
         ensures group { IfOk result (λ group. group_of layout.now ask.now.group.0 ≡ Some group.now) }
         ensures known { OnOk result (self.now.known + 1 < 2 ^ 64) }
         ensures seq { OnOk result (self.now.seq + 1 < 2 ^ 64) }
+        ensures fits { IfOk result (λ group. has_length group.now.m layout.now.block ask.now.op ≡ true) }
     {
         let Some(group) = layout.group(ask.group) else {
             return Err(Refusal::NoStripe);
@@ -330,43 +246,52 @@ impl Node {
         ask: &Ask,
     ) -> Result<Begun, NodeFault>
         requires stripe { is_stripe_op ask.now.op ≡ true }
-        requires copies { KeepsCopies layout.now }
+        requires node { IsNodeOf layout.now self.old }
 
         ensures refused { RefusesAs result (refusal_of layout.now (state_of layout.now.block self.old) ask.now) }
-        ensures begun { IfOk result (BeginsAs layout.now.block self.new (invoked (copying layout.now) self.old.me now (state_of layout.now.block self.old) ask.now)) }
+        ensures begun { IfOk result (BeginsAs layout.now.block self.new (invoked (coding layout.now) self.old.me now (state_of layout.now.block self.old) ask.now)) }
         ensures err { OnErr result ((block : ℕ) → state_of block self.new ≡ state_of block self.old) }
         ensures me { self.new.me ≡ self.old.me }
+        ensures node { IsNodeOf layout.now self.new }
         ensures few { IfOk result (λ begun. vec_len begun.packets ≤ 32) }
     {
         match self.admit(layout, ask) {
             Err(refusal) => Err(NodeFault::Refused(refusal)),
-            Ok(group) => Ok(self.begin(alloc, group, now, ask)?),
+            Ok(group) => Ok(self.begin(alloc, layout, group, now, ask)?),
         }
     }
 
-    /// Begins an operation that is not refused.
-    fn begin(&mut self, alloc: Global, group: &Group, now: u64, ask: &Ask) -> Result<Begun, NoMem>
+    /// Begins an operation that is not refused, on a stripe of this group.
+    fn begin(
+        &mut self,
+        alloc: Global,
+        layout: &Layout,
+        group: &Group,
+        now: u64,
+        ask: &Ask,
+    ) -> Result<Begun, NoMem>
         requires known { self.old.known + 1 < 2 ^ 64 }
         requires seq { self.old.seq + 1 < 2 ^ 64 }
-        requires copies { group.now.m ≡ 1 }
-        ensures begun { (layout : layouts.Layout) → IfOk result (BeginsAs layout.block self.new (began_in (copying layout) group.now self.old.me (state_of layout.block self.old) (new_coordinator self.old.me now (state_of layout.block self.old) ask.now))) }
+        requires stripe { is_stripe_op ask.now.op ≡ true }
+        requires group { group_of layout.now ask.now.group.0 ≡ Some group.now }
+        requires fits { has_length group.now.m layout.now.block ask.now.op ≡ true }
+        requires node { IsNodeOf layout.now self.old }
+        ensures begun { IfOk result (BeginsAs layout.now.block self.new (began_in (coding layout.now) group.now self.old.me (state_of layout.now.block self.old) (new_coordinator self.old.me now (state_of layout.now.block self.old) ask.now))) }
         ensures err { OnErr result ((block : ℕ) → state_of block self.new ≡ state_of block self.old) }
         ensures me { self.new.me ≡ self.old.me }
+        ensures node { IsNodeOf layout.now self.new }
         ensures few { IfOk result (λ begun. vec_len begun.packets ≤ 32) }
     {
         let seq = self.seq + 1;
         let stamp = self.new_stamp(now, self.known);
-        let call = Call {
+        let call = CallId {
             boot: self.boot,
             seq,
-            phase: 1,
-            group: ask.group,
-            view: ViewNo(1),
-            stripe: ask.stripe,
         };
-        let op = StripeOp::begin(ask.copy(alloc)?, stamp, call, first_phase(&ask.op), alloc);
-        let packets = op.packets(alloc, self.me, group)?;
-        self.calls.insert(seq, op)?;
+        let (operation, messages) =
+            Operation::begin(alloc, layout, group, call, ask.copy(alloc)?, stamp)?;
+        let packets = packets_of(alloc, self.me, messages)?;
+        self.calls.insert(seq, operation)?;
         self.seq = seq;
         self.known = stamp.time;
         Ok(Begun { seq, packets })
@@ -381,8 +306,9 @@ impl Node {
         call: Call,
         request: &Request,
     ) -> Result<Outs, NoMem>
-        ensures step { IfOk result (StepsAs layout.now.block self.new (requested (copying layout.now) self.old.me from (state_of layout.now.block self.old) call request.now)) }
+        ensures step { IfOk result (StepsAs layout.now.block self.new (requested (coding layout.now) self.old.me from (state_of layout.now.block self.old) call request.now)) }
         ensures few { IfOk result (λ outs. vec_len outs.packets ≤ 32) }
+        ensures calls { self.new.calls ≡ self.old.calls }
         ensures err { OnErr result ((block : ℕ) → state_of block self.new ≡ state_of block self.old) }
         ensures me { self.new.me ≡ self.old.me }
     {
@@ -418,6 +344,7 @@ impl Node {
     ) -> Result<Option<Reply>, NoMem>
         ensures reply { IfOk result (λ reply. reply ≡ (handle seat (replica_at (state_of block self.old) call) request.now).reply) }
         ensures replica { OnOk result (state_of block self.new ≡ with_replica (state_of block self.old) call (handle seat (replica_at (state_of block self.old) call) request.now).replica) }
+        ensures calls { self.new.calls ≡ self.old.calls }
         ensures err { OnErr result ((block : ℕ) → state_of block self.new ≡ state_of block self.old) }
         ensures me { self.new.me ≡ self.old.me }
     {
@@ -439,14 +366,16 @@ impl Node {
         alloc: Global,
         layout: &Layout,
         now: u64,
-        from: BrickId,
+        packet: &Packet,
         call: Call,
         reply: &Reply,
     ) -> Result<Outs, NoMem>
-        requires { KeepsCopies layout.now }
-        ensures step { IfOk result (StepsAs layout.now.block self.new (replied (copying layout.now) self.old.me now from (state_of layout.now.block self.old) call reply.now)) }
+        requires reply { packet.now.message ≡ message.Reply call reply.now }
+        requires node { IsNodeOf layout.now self.old }
+        ensures step { IfOk result (StepsAs layout.now.block self.new (replied (coding layout.now) self.old.me now packet.now.from (state_of layout.now.block self.old) call reply.now)) }
         ensures few { IfOk result (λ outs. vec_len outs.packets ≤ 32) }
         ensures err { OnErr result ((block : ℕ) → state_of block self.new ≡ state_of block self.old) }
+        ensures node { IsNodeOf layout.now self.new }
         ensures me { self.new.me ≡ self.old.me }
     {
         let known = known_after(self.known, reply);
@@ -454,46 +383,112 @@ impl Node {
             self.known = known;
             return Ok(Outs::nothing(alloc));
         };
-        let Some(group) = layout.group(open.group()) else {
+        let last = open.call();
+        let Some(group) = layout.group(last.group) else {
             return Ok(Outs::nothing(alloc));
         };
-        let last = open.call();
         let fresh = self.fresh_stamp(now, known);
-        let next = open
-            .copy(alloc)?
-            .on_reply(layout.block(), group, fresh, from, call, reply)?;
-        let outs = Outs::after(alloc, self.me, group, last, &next)?;
-        self.settle(known, call.seq, next);
-        Ok(outs)
+        let decision = open.copy(alloc)?.on_reply(
+            alloc,
+            layout,
+            group,
+            packet.from,
+            &packet.message,
+            fresh,
+        )?;
+        self.carry_out(alloc, group, known, last, decision)
     }
 
-    /// Puts in place what became of the open operation of this number; the brick now knows this time, or that of a new round's stamp.
-    fn settle(&mut self, known: u64, seq: u64, next: Next)
-        requires { is_some (tree.get nat_cmp self.old.calls seq) ≡ true }
-        ensures state { (block : ℕ) → state_of block self.new ≡ node_after (state_of block self.old) known seq (machine_next next) }
+    /// Carries out what the open operation of this call decided; the brick now knows this time, or that of a new round's stamp.
+    fn carry_out(
+        &mut self,
+        alloc: Global,
+        group: &Group,
+        known: u64,
+        call: Call,
+        decision: Decision,
+    ) -> Result<Outs, NoMem>
+        requires held { is_some (tree.get nat_cmp self.old.calls call.seq) ≡ true }
+        requires few { HasFewMessages decision }
+        ensures step { (layout : layouts.Layout) (before : Operation) → (coordinator_of before).call ≡ call → (shown_of before).group ≡ group.now → IsDecisionOf layout before decision
+            → IfOk result (StepsAs layout.block self.new (carried_out (coding layout) group.now self.old.me (state_of layout.block self.old) known (coordinator_of before) (machine_next decision))) }
+        ensures node { (layout : layouts.Layout) (before : Operation) → (coordinator_of before).call ≡ call → IsDecisionOf layout before decision
+            → IsNodeOf layout self.old → IsNodeOf layout self.new }
+        ensures few { IfOk result (λ outs. vec_len outs.packets ≤ 32) }
+        ensures err { OnErr result ((block : ℕ) → state_of block self.new ≡ state_of block self.old) }
         ensures me { self.new.me ≡ self.old.me }
     {
-        match next {
-            Next::Ignores => self.known = known,
-            Next::Waits(op) | Next::Makes(op) => self.put_back(known, seq, op),
-            Next::Reorders(op) => self.put_back(op.stamp().time, seq, op),
-            Next::Ends { .. } => {
-                self.known = known;
-                self.calls.remove(&seq);
+        match decision {
+            Decision::Waits(operation) => {
+                self.put_back(known, call.seq, operation);
+                Ok(Outs::nothing(alloc))
+            }
+            Decision::Sends(operation, messages) => {
+                let packets = packets_of(alloc, self.me, messages)?;
+                self.put_back(known.max(operation.stamp().time), call.seq, operation);
+                Ok(Outs {
+                    packets,
+                    told: Told::Nothing,
+                })
+            }
+            Decision::Makes {
+                operation,
+                messages,
+                stamp,
+                base,
+            } => {
+                let packets = packets_of(alloc, self.me, messages)?;
+                self.put_back(known, call.seq, operation);
+                Ok(Outs {
+                    packets,
+                    told: Told::Made {
+                        seq: call.seq,
+                        stamp,
+                        base,
+                    },
+                })
+            }
+            Decision::Ends {
+                answer,
+                seen,
+                stored,
+            } => {
+                let packets = collect_packets(alloc, self.me, group, call, stored)?;
+                self.close(known, call.seq);
+                Ok(Outs {
+                    packets,
+                    told: Told::Answers {
+                        seq: call.seq,
+                        answer,
+                        seen,
+                    },
+                })
             }
         }
     }
 
     /// Puts back the open operation of this number; the brick now knows this time.
-    fn put_back(&mut self, known: u64, seq: u64, op: StripeOp)
+    fn put_back(&mut self, known: u64, seq: u64, operation: Operation)
         requires { is_some (tree.get nat_cmp self.old.calls seq) ≡ true }
-        ensures state { (block : ℕ) → state_of block self.new ≡ with_call (state_of block self.old) known (state_of block self.old).busy seq (Some op) }
+        ensures state { (block : ℕ) → state_of block self.new ≡ with_call (state_of block self.old) known (state_of block self.old).busy seq (Some (coordinator_of operation)) }
+        ensures node { (layout : layouts.Layout) → IsNodeOf layout self.old → IsAt layout seq operation → IsNodeOf layout self.new }
         ensures me { self.new.me ≡ self.old.me }
     {
         self.known = known;
         if let Some(open) = self.calls.get_mut(&seq) {
-            *open = op;
+            *open = operation;
         }
+    }
+
+    /// Forgets the open operation of this number, which has ended; the brick now knows this time.
+    fn close(&mut self, known: u64, seq: u64)
+        requires { is_some (tree.get nat_cmp self.old.calls seq) ≡ true }
+        ensures state { (block : ℕ) → state_of block self.new ≡ with_call (state_of block self.old) known ((state_of block self.old).busy - 1) seq None }
+        ensures node { (layout : layouts.Layout) → IsNodeOf layout self.old → IsNodeOf layout self.new }
+        ensures me { self.new.me ≡ self.old.me }
+    {
+        self.known = known;
+        self.calls.remove(&seq);
     }
 
     /// Handles a message, at this time of the brick's clock. After a refusal for want of memory nothing has changed.
@@ -505,9 +500,10 @@ impl Node {
         now: u64,
         packet: &Packet,
     ) -> Result<Outs, NoMem>
-        requires { KeepsCopies layout.now }
-        ensures step { IfOk result (StepsAs layout.now.block self.new (received (copying layout.now) self.old.me now (state_of layout.now.block self.old) packet.now)) }
+        requires { IsNodeOf layout.now self.old }
+        ensures step { IfOk result (StepsAs layout.now.block self.new (received (coding layout.now) self.old.me now (state_of layout.now.block self.old) packet.now)) }
         ensures err { OnErr result ((block : ℕ) → state_of block self.new ≡ state_of block self.old) }
+        ensures node { IsNodeOf layout.now self.new }
         ensures few { IfOk result (λ outs. vec_len outs.packets ≤ 32) }
         ensures me { self.new.me ≡ self.old.me }
     {
@@ -516,7 +512,7 @@ impl Node {
                 self.on_request(alloc, layout, packet.from, *call, request)
             }
             Message::Reply(call, reply) => {
-                self.on_reply(alloc, layout, now, packet.from, *call, reply)
+                self.on_reply(alloc, layout, now, packet, *call, reply)
             }
             Message::Learn { .. }
             | Message::Synced { .. }

@@ -1,10 +1,11 @@
 //! A brick's part of a stripe.
 
-ghost use Rattle.std.specs.Prelude.{◌≡◌, IfOk, OnOk, OnErr, Some, option_copied};
-ghost use Rattle.protocol.specs.Replicas.{first_replica, newest_of, is_held, is_wanted, told_version, top_of, handle, ordered, written};
+ghost use Rattle.std.specs.Prelude.{◌≡◌, IfOk, OnOk, OnErr, Some, option_copied, filter};
+ghost use Rattle.fab_base.specs.Stamps.{stamp_same};
+ghost use Rattle.protocol.specs.Replicas.{first_replica, newest_of, is_held, is_wanted, told_version, top_of, handle, ordered, order_read, written, below, looked_up};
 
 use fab_base::{Bytes, NoMem, Stamp};
-use fab_wire::{Reply, Request, Version, Want};
+use fab_wire::{Look, Reply, Request, Version, Want};
 use std::alloc::Global;
 use std::marker::Model;
 
@@ -62,6 +63,42 @@ fn is_held(stamp: Stamp, log: &[Version]) -> bool
         }
     }
     false
+}
+
+/// The newest version of a log that is below a bound.
+fn newest_below(bound: Stamp, log: &[Version]) -> Option<&Version>
+    ensures { option_copied result ≡ newest_of (below bound log.now) }
+{
+    let mut newest = None;
+    for version in log {
+        if version.stamp.is_below(bound) {
+            newest = Some(version);
+        }
+    }
+    newest
+}
+
+/// The newest version of a log that has this stamp.
+fn newest_at(stamp: Stamp, log: &[Version]) -> Option<&Version>
+    ensures { option_copied result ≡ newest_of (filter (λ version. stamp_same version.stamp stamp) log.now) }
+{
+    let mut newest = None;
+    for version in log {
+        if version.stamp.is_same(stamp) {
+            newest = Some(version);
+        }
+    }
+    newest
+}
+
+/// The version that is looked for in a log.
+fn look_up(look: Look, log: &[Version]) -> Option<&Version>
+    ensures { option_copied result ≡ looked_up look log.now }
+{
+    match look {
+        Look::Below(bound) => newest_below(bound, log),
+        Look::At(stamp) => newest_at(stamp, log),
+    }
 }
 
 impl Replica {
@@ -125,6 +162,28 @@ impl Replica {
         Reply::Ordered
     }
 
+    /// Promises to take nothing below the stamp and tells the version that is looked for, unless something later was promised or
+    /// stored.
+    fn promise_and_tell(
+        &mut self,
+        alloc: Global,
+        stamp: Stamp,
+        look: Look,
+        wanted: bool,
+    ) -> Result<Reply, NoMem>
+        ensures reply { IfOk result (λ reply. Some reply ≡ (order_read self.old stamp look wanted).reply) }
+        ensures replica { OnOk result (self.new ≡ (order_read self.old stamp look wanted).replica) }
+        ensures err { OnErr result (self.new ≡ self.old) }
+    {
+        let top = self.top();
+        if stamp.is_below(top) {
+            return Ok(Reply::Later { stamp: top });
+        }
+        let found = told(alloc, wanted, look_up(look, self.log.as_slice()))?;
+        self.order = stamp;
+        Ok(Reply::OrderedRead { found })
+    }
+
     /// Stores a version, unless something later was promised or stored.
     fn store(&mut self, alloc: Global, stamp: Stamp, block: &Bytes) -> Result<Reply, NoMem>
         ensures reply { IfOk result (λ reply. Some reply ≡ (written self.old stamp block.now).reply) }
@@ -165,8 +224,13 @@ impl Replica {
             }
             Request::Order { stamp } => Ok(Some(self.promise(*stamp))),
             Request::Write { stamp, block } => Ok(Some(self.store(alloc, *stamp, block)?)),
-            Request::OrderRead { .. }
-            | Request::Modify { .. }
+            Request::OrderRead { stamp, look, want } => Ok(Some(self.promise_and_tell(
+                alloc,
+                *stamp,
+                *look,
+                is_wanted(*want, seat),
+            )?)),
+            Request::Modify { .. }
             | Request::Collect { .. }
             | Request::OldRead { .. }
             | Request::Prepare { .. }

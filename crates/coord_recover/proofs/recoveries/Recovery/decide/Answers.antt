@@ -117,4 +117,3 @@ returns-in-Descends-None-clause-told c =
     (sym (ap (λ (s : Stage). s.phase) c.stage.ensures) ∙ c.in-Descends-None.is-0) (sym c.refuser.ensures ∙ c.in-Descends-None.is-1) in
     told_is c.read_back-in-Descends-None.result c.read_back-in-Descends-None.new.self c.args.fresh c.args.self.now _
     (ap (note_told c.args.self.now.state.call) (subst (ReadsBack c.args.fresh) c.self.view_is is)) c.read_back-in-Descends-None.ensures.told
-

@@ -1,60 +1,85 @@
 -- Which of the machine's cases a reply is.
-use Rattle.std.proofs.Common.{◌≡◌, refl, sym, ◌∙◌, ap}
+use Rattle.std.proofs.Common.{◌≡◌, ℕ, Option, Some, None, refl, sym, ◌∙◌, ap, subst}
+use Rattle.std.specs.Option.{option_map}
+use Rattle.std.specs.Ordering.{nat_cmp}
+use Rattle.std.specs.BTreeMap.{get}
+use Rattle.std.proofs.lemmas.Result.{IfOk-weaker}
 use Rattle.fab_base.specs.declared.identities.GroupId.{GroupId}
-use Rattle.protocol.specs.Settings.{group_of}
-use Rattle.protocol.specs.Coordinators.{on_reply}
-use Rattle.protocol.specs.Nodes.{with_known, known_after, fresh_stamp}
-use Rattle.node.specs.Copies.{copies}
-use Rattle.node.specs.Nexts.{machine_next, packets_after, told_after, node_after}
-use Rattle.node.specs.States.{state_of}
+use Rattle.fab_base.specs.declared.stamps.Stamp.{Stamp}
+use Rattle.fab_wire.specs.declared.calls.Call.{Call}
+use Rattle.fab_wire.specs.declared.messages.Message.{Message}
+use Rattle.fab_wire.specs.declared.messages.Message.TheVariants as message
+use Rattle.protocol.specs.Settings.{Group, group_of}
+use Rattle.protocol.specs.Coordinators as machine
+use Rattle.protocol.specs.Coordinators.{Coordinator}
+use Rattle.protocol.specs.Nodes.{with_known, known_after, fresh_stamp, carried_out, replied}
+use Rattle.stripe_code.specs.Codes.{block_code, coding}
+use Rattle.coord_phase.specs.Decisions.{decided_on}
+use Rattle.node.specs.declared.nodes.Outs.{Outs}
+use Rattle.node.specs.declared.operations.Operation.{Operation}
+use Rattle.node.specs.Operations.{shown_of, coordinator_of}
+use Rattle.node.specs.Decisions.{machine_next, or_waits, IsDecisionOf}
+use Rattle.node.specs.States.{state_of, StepsAs, IsAt}
 use Rattle.node.proofs.States.{steps_as}
-use Rattle.node.proofs.Decisions.{no_call, no_group_of_call, replied_is}
+use Rattle.node.proofs.Replied.{no_call, replied_is}
 use Rattle.node.proofs.nodes.Node.on_reply.Goals as goal
 
 pub returns-in_default-clause-step : goal.returns-in_default-clause-step
 unfolding state_of
 returns-in_default-clause-step c =
     let before = state_of c.args.layout.now.block c.args.self.now in
-    steps_as _ _ _ _ _ (no_call c.args.layout.now c.args.self.now.me c.args.now c.args.from before c.args.call c.args.reply.now (sym c.in_default.ensures.value))
-    (record { packets = c.nothing.ensures.packets; told = c.nothing.ensures.told; state = ap (with_known before) c.known_after-known.ensures })
-
-pub returns-in_default-group-clause-step : goal.returns-in_default-group-clause-step
-unfolding state_of
-returns-in_default-group-clause-step c =
-    let before = state_of c.args.layout.now.block c.args.self.now in
     steps_as _ _ _ _ _
-    (no_group_of_call c.args.layout.now c.args.self.now.me c.args.now c.args.from before c.args.call c.args.reply.now c.in-Some.open.now
-    (sym c.in-Some.ensures.value) (ap (λ (g : GroupId). group_of c.args.layout.now g.0) (sym c.group.ensures) ∙ sym c.in_default-group.ensures))
-    (record { packets = c.nothing-in_default-group.ensures.packets; told = c.nothing-in_default-group.ensures.told; state = refl })
+    (no_call c.args.layout.now c.args.self.now.me c.args.now c.args.packet.now.from before c.args.call c.args.reply.now
+    (ap (option_map coordinator_of) (sym c.in_default.ensures.value)))
+    (record { packets = c.nothing.ensures.packets; told = c.nothing.ensures.told; state = ap (with_known before) c.known_after-known.ensures })
 
 pub returns-clause-step : goal.returns-clause-step
 unfolding state_of
 returns-clause-step c =
     let layout = c.args.layout.now in
     let me = c.args.self.now.me in
+    let from = c.args.packet.now.from in
+    let call = c.args.call in
+    let reply = c.args.reply.now in
     let before = state_of layout.block c.args.self.now in
-    let op = c.in-Some.open.now in
-    let group = c.in-Some-group.group.now in
-    let known = known_after before.known c.args.reply.now in
+    let op : Operation = c.in-Some.open.now in
+    let k : Coordinator = coordinator_of op in
+    let group : Group = c.in-Some-group.group.now in
+    let held : get nat_cmp c.args.self.now.calls call.seq ≡ Some op = sym c.in-Some.ensures.value in
+    let at : IsAt layout call.seq op = c.requires.node call.seq op held in
+    let its = at.is_operation.of_layout in
+    let asked : (c.call-last.result).group ≡ k.ask.group =
+    ap (λ (last : Call). last.group) c.call-last.ensures ∙ ap (λ (last : Call). last.group) its.call in
+    let found : group_of layout k.ask.group.0 ≡ Some group = ap (λ (g : GroupId). group_of layout g.0) (sym asked) ∙ sym c.in-Some-group.ensures in
+    let both : Some (shown_of op).group ≡ Some group = sym its.group ∙ found in
+    let same_group : (shown_of op).group ≡ group = cc in
+    let known = known_after before.known reply in
     let fresh = fresh_stamp me c.args.now before.boot known in
     let new : c.fresh_stamp-fresh.result ≡ fresh =
     c.fresh_stamp-fresh.ensures ∙ ap (fresh_stamp me c.args.now before.boot) c.known_after-known.ensures in
-    let next : machine_next c.in_ok-next.next ≡ on_reply layout.block copies group fresh op c.args.from c.args.call c.args.reply.now =
-    c.in_ok-next.ensures
-    ∙ ap (λ o. on_reply c.block.result copies group c.fresh_stamp-fresh.result o c.args.from c.args.call c.args.reply.now) c.in_ok-copy.ensures
-    ∙ ap (λ b. on_reply b copies group c.fresh_stamp-fresh.result op c.args.from c.args.call c.args.reply.now) c.block.ensures
-    ∙ ap (λ f. on_reply layout.block copies group f op c.args.from c.args.call c.args.reply.now) new in
-    steps_as _ _ _ _ _
-    (replied_is layout group me c.args.now c.args.from before c.args.call c.args.reply.now op
-    (sym c.in-Some.ensures.value) (ap (λ (g : GroupId). group_of layout g.0) (sym c.group.ensures) ∙ sym c.in-Some-group.ensures))
-    (record {
-      packets = c.in_ok-outs.ensures.packets
-          ∙ ap (λ call. packets_after group me call (machine_next c.in_ok-next.next)) c.call-last.ensures
-          ∙ ap (packets_after group me op.call) next;
-      told = c.in_ok-outs.ensures.told
-          ∙ ap (λ call. told_after call (machine_next c.in_ok-next.next)) c.call-last.ensures
-          ∙ ap (told_after op.call) next;
-      state = c.settle.ensures.state layout.block
-          ∙ ap (λ time. node_after before time c.args.call.seq (machine_next c.in_ok-next.next)) c.known_after-known.ensures
-          ∙ ap (node_after before known c.args.call.seq) next;
-    })
+    let decided : machine_next c.in_ok-decision.decision ≡ or_waits k (machine.on_reply layout.block (block_code layout.block) group fresh k from call reply) =
+    c.in_ok-decision.ensures.decided
+    ∙ ap (λ (o : Operation). or_waits (coordinator_of o) (decided_on c.fresh_stamp-fresh.result (shown_of o) from c.args.packet.now.message)) c.in_ok-copy.ensures
+    ∙ ap (λ (m : Message). or_waits k (decided_on c.fresh_stamp-fresh.result (shown_of op) from m)) c.requires.reply
+    ∙ ap (λ (f : Option Stamp). or_waits k (decided_on f (shown_of op) from (message.Reply call reply))) new
+    ∙ ap (λ (b : ℕ). or_waits k (machine.on_reply b (block_code b) (shown_of op).group fresh k from call reply)) its.block
+    ∙ ap (λ (g : Group). or_waits k (machine.on_reply layout.block (block_code layout.block) g fresh k from call reply)) same_group in
+    let kept : IsDecisionOf layout op c.in_ok-decision.decision =
+    subst (λ (o : Operation). IsDecisionOf layout o c.in_ok-decision.decision) c.in_ok-copy.ensures c.in_ok-decision.ensures.kept in
+    let is : replied (coding layout) me c.args.now from before call reply
+    ≡ carried_out (coding layout) group me before c.known_after-known.result k (machine_next c.in_ok-decision.decision) =
+    replied_is layout group me c.args.now from before call reply k (ap (option_map coordinator_of) held) at.seq found
+    ∙ ap (carried_out (coding layout) group me before known k) (sym decided)
+    ∙ ap (λ (t : ℕ). carried_out (coding layout) group me before t k (machine_next c.in_ok-decision.decision)) (sym c.known_after-known.ensures) in
+    IfOk-weaker c.carry_out.result
+    (StepsAs layout.block c.carry_out.new.self (carried_out (coding layout) group me before c.known_after-known.result k (machine_next c.in_ok-decision.decision))) _
+    (λ (outs : Outs). steps_as _ _ _ _ outs is)
+    (c.carry_out.ensures.step layout op (sym c.call-last.ensures) same_group kept)
+
+pub returns-clause-node : goal.returns-clause-node
+returns-clause-node c =
+    let layout = c.args.layout.now in
+    let op : Operation = c.in-Some.open.now in
+    let kept : IsDecisionOf layout op c.in_ok-decision.decision =
+    subst (λ (o : Operation). IsDecisionOf layout o c.in_ok-decision.decision) c.in_ok-copy.ensures c.in_ok-decision.ensures.kept in
+    c.carry_out.ensures.node layout op (sym c.call-last.ensures) kept c.requires.node

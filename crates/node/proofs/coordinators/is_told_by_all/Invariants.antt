@@ -1,7 +1,0 @@
--- All that the loop has passed tell the version.
-use Rattle.std.proofs.Common.{◌≡◌, drop}
-use Rattle.protocol.specs.Coordinators.{all_tell}
-use Rattle.node.proofs.coordinators.is_told_by_all.Given as goal
-
-abbrev pub invariant-loop-reply : goal.invariant-loop-reply
-invariant-loop-reply l = all_tell l.version l.counted ≡ all_tell l.version (drop l.reply-index l.counted)
