@@ -107,9 +107,10 @@ module _ (fresh : Option Stamp) (before : Operation) (from : BrickId) (message :
   waits_by after is false e =
       let same : after.state ≡ before.state = (is.ignored e).1 in
       let decided : decided_on fresh before from message ≡ machine.Ignores =
-      is.decided ∙ ap (λ (b : Bool). if b then machine.Waits after.state else machine.Ignores) e in
-      (ap (λ (c : Coordinator). machine.Waits c) same ∙ ap (or_waits before.state) (sym decided),
-      subst (λ (c : Coordinator). Stays before.state c) (sym same) (record { call = refl; kind = λ kind. kind }))
+      is.decided ∙ ap (λ (b : Bool). if b then machine.Waits after.state else machine.Ignores) e in (
+        ap (λ (c : Coordinator). machine.Waits c) same ∙ ap (or_waits before.state) (sym decided),
+        subst (λ (c : Coordinator). Stays before.state c) (sym same) (record { call = refl; kind = λ kind. kind }),
+      )
 
   pub waits_so : (after : Operation) → Answers fresh before from message Wait after
       → (machine.Waits after.state ≡ or_waits before.state (decided_on fresh before from message)) × Stays before.state after.state

@@ -288,8 +288,14 @@ impl Node {
             boot: self.boot,
             seq,
         };
-        let (operation, messages) =
-            Operation::begin(alloc, layout, group, call, ask.copy(alloc)?, stamp)?;
+        let (operation, messages) = Operation::begin(
+            alloc,
+            layout,
+            group,
+            call,
+            ask.copy(alloc)?,
+            stamp,
+        )?;
         let packets = packets_of(alloc, self.me, messages)?;
         self.calls.insert(seq, operation)?;
         self.seq = seq;
@@ -388,14 +394,9 @@ impl Node {
             return Ok(Outs::nothing(alloc));
         };
         let fresh = self.fresh_stamp(now, known);
-        let decision = open.copy(alloc)?.on_reply(
-            alloc,
-            layout,
-            group,
-            packet.from,
-            &packet.message,
-            fresh,
-        )?;
+        let decision = open
+            .copy(alloc)?
+            .on_reply(alloc, layout, group, packet.from, &packet.message, fresh)?;
         self.carry_out(alloc, group, known, last, decision)
     }
 

@@ -304,7 +304,15 @@ fn recover(
     };
     let stamp = op.stamp();
     let phase = last.phase + 1;
-    let (recovery, next) =
-        Recovery::start(alloc, layout, view, call, phase, op.into_ask(), stamp, turn)?;
+    let (recovery, next) = Recovery::start(
+        alloc,
+        layout,
+        view,
+        call,
+        phase,
+        op.into_ask(),
+        stamp,
+        turn,
+    )?;
     Ok(Operation::Recovery(recovery).begin_phase(messages_in(next)))
 }

@@ -16,6 +16,6 @@ loop-version-preserved c =
     let passed = newest_of-filter-take test c.args.log.now c.loop-version.version-index version (omega arith) c.version-item.is in
     let by_test = λ (b : Bool). if b then Some version else before in
     elim c.if-is_below.branch [
-      then-is_below w ↦ ap option_copied w.newest-is ∙ ap by_test w.if-is_below.ensures ∙ sym passed
-    | else-is_below w ↦ ap option_copied w.newest-is ∙ c.loop-version.invariant ∙ ap by_test w.if-is_below.ensures ∙ sym passed
+      | then-is_below w ↦ ap option_copied w.newest-is ∙ ap by_test w.if-is_below.ensures ∙ sym passed
+      | else-is_below w ↦ ap option_copied w.newest-is ∙ c.loop-version.invariant ∙ ap by_test w.if-is_below.ensures ∙ sym passed
     ]
