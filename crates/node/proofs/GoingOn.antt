@@ -1,16 +1,13 @@
 -- How an operation of a brick goes on.
-use Rattle.std.proofs.Common.{◌≡◌, ◌≤◌, ℕ, ◌+◌, Bool, true, List, [], ◌∷◌, map, length, vec_len, Option, Some, None, refl, sym, ◌∙◌, ap, subst, ◌⊎◌, inl, inr, arith}
-use Rattle.std.specs.Result.{IfOk}
+use Rattle.std.proofs.Common.{◌≡◌, ◌≤◌, ℕ, ◌+◌, true, List, [], ◌∷◌, length, refl, sym, ◌∙◌, ap, subst, arith}
 use Rattle.std.proofs.lemmas.List.{length-map}
 use Rattle.fab_base.specs.declared.identities.BrickId.{BrickId}
-use Rattle.fab_base.specs.declared.asks.Ask.{Ask}
 use Rattle.fab_wire.specs.declared.calls.Call.{Call}
 use Rattle.fab_wire.specs.declared.messages.Message.{Message}
 use Rattle.fab_wire.specs.declared.requests.Request.{Request}
-use Rattle.protocol.specs.Settings.{Layout, Group, group_of}
-use Rattle.protocol.specs.Coordinators.{Coordinator, next_phase, request_of}
+use Rattle.protocol.specs.Settings.{Layout, Group}
+use Rattle.protocol.specs.Coordinators.{request_of}
 use Rattle.protocol.specs.Nodes.{to_members, phase_packets}
-use Rattle.quorum.specs.Quorums.{IsWithinLimits}
 use Rattle.stripe_code.specs.Codes.{coding, block_code}
 use Rattle.coord_phase.specs.Operations.{StaysAsked}
 use Rattle.coord_phase.specs.Operations as phased
@@ -21,8 +18,8 @@ use Rattle.node.specs.declared.operations.Operation.{Operation}
 use Rattle.node.specs.declared.operations.Operation.TheVariants.{Stripe, Recovery}
 use Rattle.node.specs.declared.operations.Decision.{Decision}
 use Rattle.node.specs.declared.operations.Decision.TheVariants.{Waits, Sends, Makes, Ends}
-use Rattle.node.specs.Operations.{shown_of, coordinator_of, IsOfLayout, IsNoRecovery, IsOperationOf}
-use Rattle.node.specs.Decisions.{SendsPhase, GoesOn, BeginsPhase, MakesVersion, IsDecisionOf, HasFewMessages}
+use Rattle.node.specs.Operations.{shown_of, coordinator_of, IsOfLayout, IsNoRecovery}
+use Rattle.node.specs.Decisions.{SendsPhase, GoesOn, BeginsPhase, IsDecisionOf, HasFewMessages}
 use Rattle.node.proofs.Phases.{Stays, Begins, Follows}
 use Rattle.node.proofs.Answered.{IsCall, next_call, of_layout_after, phase_sent, begins_so}
 

@@ -1,13 +1,12 @@
 -- What a brick does with a reply.
-use Rattle.std.proofs.Common.{◌≡◌, ℕ, Bool, true, false, cond, nat_eq, Option, Some, None, refl, sym, ◌∙◌, ap, arith}
+use Rattle.std.proofs.Common.{◌≡◌, ℕ, Bool, true, false, cond, nat_eq, Some, None, refl, ◌∙◌, ap, arith}
 use Rattle.std.proofs.lemmas.Bool.Decides.{nat_tests}
 use Rattle.fab_base.specs.declared.identities.BrickId.{BrickId}
-use Rattle.fab_base.specs.declared.stamps.Stamp.{Stamp}
 use Rattle.fab_wire.specs.declared.calls.Call.{Call}
 use Rattle.fab_wire.specs.declared.replies.Reply.{Reply}
 use Rattle.protocol.specs.Settings.{Group, Layout, group_of}
 use Rattle.protocol.specs.Coordinators.{Coordinator, Next, Ignores, Waits, Sends, Makes, Ends, on_reply}
-use Rattle.protocol.specs.Nodes.{Node, put, carried_out, replied, replied_at, replied_to, known_after, fresh_stamp, no_step, with_known}
+use Rattle.protocol.specs.Nodes.{Node, carried_out, replied, replied_at, replied_to, known_after, fresh_stamp, no_step, with_known}
 use Rattle.stripe_code.specs.Codes.{block_code, coding}
 use Rattle.node.specs.Decisions.{or_waits}
 use Rattle.node.proofs.States.{same_states}

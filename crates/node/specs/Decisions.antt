@@ -1,11 +1,10 @@
 -- What an open operation does with a message, as the machine says it.
-use Rattle.std.specs.Prelude.{◌≡◌, ◌≤◌, ℕ, List, Option, Some, None, vec_len}
+use Rattle.std.specs.Prelude.{◌≡◌, ◌≤◌, List, Option, Some, None, vec_len}
 use Rattle.fab_base.specs.declared.identities.BrickId.{BrickId}
 use Rattle.fab_base.specs.declared.stamps.Stamp.{Stamp}
 use Rattle.fab_base.specs.declared.notes.Note.{Note}
-use Rattle.fab_base.specs.declared.notes.Note.TheVariants as Note
 use Rattle.fab_wire.specs.declared.messages.Message.{Message}
-use Rattle.protocol.specs.Settings.{Layout, Group}
+use Rattle.protocol.specs.Settings.{Layout}
 use Rattle.protocol.specs.Coordinators as machine
 use Rattle.protocol.specs.Coordinators.{Coordinator}
 use Rattle.protocol.specs.Nodes.{phase_packets}

@@ -1,6 +1,5 @@
 -- The open operations of a brick, as the machine sees them.
-use Rattle.std.specs.Prelude.{◌≡◌, ℕ, true, List, [], ◌∷◌, map, Option, Some, None}
-use Rattle.fab_base.specs.declared.identities.BrickId.{BrickId}
+use Rattle.std.specs.Prelude.{◌≡◌, true, [], Some, None}
 use Rattle.fab_base.specs.declared.member_lists.View.{View}
 use Rattle.protocol.specs.Settings.{Layout, Group, group_of}
 use Rattle.protocol.specs.declared.phases.Phase.{Phase}

@@ -1,5 +1,5 @@
 -- The bytes of a slice are bytes.
-use Rattle.std.proofs.Common.{Bool, ◌&&◌, nat_eq, length, sym, ap}
+use Rattle.std.proofs.Common.{◌&&◌, nat_eq, length, sym, ap}
 use Rattle.node.proofs.ByteLists.{are_bytes-fits}
 use Rattle.node.proofs.admissions.has_count.Goals as goal
 

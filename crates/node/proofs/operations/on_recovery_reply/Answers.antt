@@ -1,17 +1,13 @@
 -- What the machine decides is carried on.
-use Rattle.std.proofs.Common.{◌≡◌, ◌+◌, ◌-◌, ◌^◌, refl, sym, ◌∙◌, ap, subst, arith}
-use Rattle.std.specs.Result.{IfOk}
-use Rattle.fab_wire.specs.declared.calls.Call.{Call}
+use Rattle.std.proofs.Common.{subst}
 use Rattle.fab_wire.specs.declared.turns.Next.{Next}
-use Rattle.fab_wire.specs.declared.turns.Next.TheVariants.{Wait, Send, Recover}
+use Rattle.fab_wire.specs.declared.turns.Next.TheVariants.{Wait, Send}
 use Rattle.protocol.specs.Coordinators as machine
-use Rattle.coord_phase.specs.Decisions.{Answers, decided_on, begins_in, decision}
-use Rattle.node.specs.declared.operations.Decision.{Decision}
-use Rattle.node.specs.declared.operations.Operation.TheVariants.{Stripe, Recovery}
-use Rattle.node.specs.Decisions.{machine_next, or_waits, IsDecisionOf}
+use Rattle.coord_phase.specs.Decisions.{Answers, begins_in}
+use Rattle.node.specs.declared.operations.Operation.TheVariants.{Recovery}
 use Rattle.node.proofs.Phases.{Follows}
-use Rattle.node.proofs.Answered.{waits_so, decided_if_busy, counts_if_busy, decided_follows, recovers_so, room_if_counts}
-use Rattle.node.proofs.GoingOn.{waits_on_stripe, waits_on_recovery, begins_on_stripe, begins_on_recovery, decision_since}
+use Rattle.node.proofs.Answered.{waits_so, decided_if_busy, decided_follows}
+use Rattle.node.proofs.GoingOn.{waits_on_recovery, begins_on_recovery}
 use Rattle.node.proofs.operations.on_recovery_reply.Goals as goal
 
 pub returns-in-Wait-clause-kept : goal.returns-in-Wait-clause-kept

@@ -1,19 +1,18 @@
 -- What the machine decides is carried on.
-use Rattle.std.proofs.Common.{◌≡◌, ◌+◌, ◌-◌, ◌^◌, refl, sym, ◌∙◌, ap, subst, arith}
-use Rattle.std.specs.Result.{IfOk}
+use Rattle.std.proofs.Common.{◌≡◌, sym, ◌∙◌, ap, subst}
 use Rattle.std.proofs.lemmas.Result.{IfOk-weaker}
 use Rattle.fab_wire.specs.declared.calls.Call.{Call}
 use Rattle.fab_wire.specs.declared.turns.Next.{Next}
 use Rattle.fab_wire.specs.declared.turns.Next.TheVariants.{Wait, Send, Recover}
 use Rattle.protocol.specs.Coordinators as machine
-use Rattle.coord_phase.specs.Decisions.{Answers, decided_on, begins_in, decision}
+use Rattle.coord_phase.specs.Decisions.{Answers, begins_in}
 use Rattle.node.specs.declared.operations.Decision.{Decision}
-use Rattle.node.specs.declared.operations.Operation.TheVariants.{Stripe, Recovery}
-use Rattle.node.specs.Decisions.{machine_next, or_waits, IsDecisionOf}
+use Rattle.node.specs.declared.operations.Operation.TheVariants.{Stripe}
+use Rattle.node.specs.Decisions.{machine_next, IsDecisionOf}
 use Rattle.protocol.specs.declared.phases.Phase.TheVariants.{Recovers}
 use Rattle.node.proofs.Phases.{Follows}
 use Rattle.node.proofs.Answered.{waits_so, decided_if_busy, decided_follows, IsCall, of_layout_after, recovery_is_asked}
-use Rattle.node.proofs.GoingOn.{waits_on_stripe, waits_on_recovery, begins_on_stripe, begins_on_recovery, decision_since}
+use Rattle.node.proofs.GoingOn.{waits_on_stripe, begins_on_stripe, decision_since}
 use Rattle.node.proofs.operations.on_stripe_reply.Goals as goal
 
 pub returns-in-Wait-clause-kept : goal.returns-in-Wait-clause-kept

@@ -9,7 +9,7 @@ use Rattle.protocol.specs.Nodes.{is_stripe_op, has_length}
 use Rattle.coord_phase.specs.Operations as phased
 use Rattle.coord_phase.specs.Messages.{packets_from, phase_messages}
 use Rattle.coord_phase.specs.Decisions as decisions
-use Rattle.node.specs.declared.operations.Operation.TheVariants.{Stripe, Recovery}
+use Rattle.node.specs.declared.operations.Operation.TheVariants.{Stripe}
 use Rattle.node.proofs.Answered.{IsCall, phase_sent, group_in_first_view}
 use Rattle.node.proofs.operations.recover.Goals as goal
 

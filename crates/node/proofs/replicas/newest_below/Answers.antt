@@ -1,5 +1,5 @@
 -- The next version is the newest one, if it is below the bound.
-use Rattle.std.proofs.Common.{◌≡◌, ◌+◌, take, ◌∙◌, sym, ap, if◌then◌else◌, Bool, Some, arith}
+use Rattle.std.proofs.Common.{take, ◌∙◌, sym, ap, if◌then◌else◌, Bool, Some, arith}
 use Rattle.std.specs.Prelude.{option_copied, filter}
 use Rattle.fab_base.specs.Stamps.{stamp_below}
 use Rattle.fab_wire.specs.declared.requests.Version.{Version}

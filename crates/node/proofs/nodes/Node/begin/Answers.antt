@@ -1,5 +1,5 @@
 -- The new operation is the machine's, and its number was free.
-use Rattle.std.proofs.Common.{◌≡◌, ℕ, ◌+◌, Some, None, [], length, refl, sym, ◌∙◌, ap, subst, arith}
+use Rattle.std.proofs.Common.{◌≡◌, ℕ, ◌+◌, Some, None, [], length, refl, ◌∙◌, ap, subst, arith}
 use Rattle.std.specs.Option.{is_some, option_map}
 use Rattle.std.specs.Ordering.{nat_cmp}
 use Rattle.std.specs.BTreeMap.{get, btree_map_len}

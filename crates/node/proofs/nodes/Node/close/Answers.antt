@@ -1,5 +1,5 @@
 -- The map of open operations is the machine's function, without the operation's number.
-use Rattle.std.proofs.Common.{◌≡◌, ◌-◌, Some, None, refl, ◌∙◌, ap, arith}
+use Rattle.std.proofs.Common.{◌≡◌, ◌-◌, None, refl, ◌∙◌, ap, arith}
 use Rattle.std.specs.Option.{is_some}
 use Rattle.std.specs.BTreeMap.{btree_map_len}
 use Rattle.node.specs.declared.operations.Operation.{Operation}

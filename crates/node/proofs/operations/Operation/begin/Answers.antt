@@ -1,6 +1,5 @@
 -- The first phase is sent to all members.
-use Rattle.std.proofs.Common.{◌≡◌, ◌≤◌, length, [], refl, sym, ◌∙◌, ap, subst, arith}
-use Rattle.fab_base.specs.declared.identities.BrickId.{BrickId}
+use Rattle.std.proofs.Common.{◌≡◌, length, ◌∙◌, ap, subst, arith}
 use Rattle.fab_wire.specs.declared.turns.Next.{Next}
 use Rattle.protocol.specs.Settings.{Group}
 use Rattle.coord_phase.specs.Operations as phased
