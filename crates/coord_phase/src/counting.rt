@@ -11,7 +11,7 @@ use protocol::{Counted, Phase};
 use std::alloc::Global;
 
 /// The seat of a brick among the members, the first if there are several.
-fn seat_of(members: &[BrickId], brick: BrickId) -> Option<u8>
+pub fn seat_of(members: &[BrickId], brick: BrickId) -> Option<u8>
     requires { length members.now ≤ 32 }
     ensures seat { result ≡ seat_in members.now brick.0 }
     ensures within { IfSome result (λ seat. seat < length members.now) }

@@ -11,5 +11,6 @@ mod refusals;
 mod stages;
 mod versions;
 
+pub use counting::seat_of;
 pub use operations::{Operation, Stage};
 pub use stages::MOST_ROUNDS;

@@ -3,13 +3,13 @@
 ghost use Rattle.std.specs.Prelude.{◌≡◌, ◌<◌, ◌≤◌, ℕ, true, false, [], IfOk, OnOk, OnErr, is_some, vec_len, length};
 ghost use Rattle.std.specs.BTreeMap as tree;
 ghost use Rattle.std.specs.Ordering.{nat_cmp};
-ghost use Rattle.protocol.specs.Settings.{seat_in};
 ghost use Rattle.protocol.specs.Nodes.{known_after};
 
 use crate::admissions::{has_block, has_later_time, has_length};
 use crate::operations::{Decision, Operation};
 use crate::packets::{collect_packets, packets_of};
 use crate::replicas::Replica;
+use coord_phase::seat_of;
 use fab_base::{Ask, BrickId, CallId, GroupId, NoMem, Refusal, Stamp, StripeNo, ViewNo};
 use fab_wire::{Call, Message, Packet, Reply, Request, Version};
 use layout::{Group, Layout};
@@ -89,19 +89,6 @@ fn known_after(known: u64, reply: &Reply) -> u64
         Reply::Later { stamp } => known.max(stamp.time),
         _ => known,
     }
-}
-
-/// The seat of a brick among the members, the first if there are several.
-fn seat_of(members: &[BrickId], brick: BrickId) -> Option<u8>
-    requires { length members.now ≤ 32 }
-    ensures { result ≡ seat_in members.now brick.0 }
-{
-    for (seat, member) in members.iter().enumerate() {
-        if member.0 == brick.0 {
-            return Some(seat as u8);
-        }
-    }
-    None
 }
 
 impl Outs {

@@ -22,7 +22,7 @@ returns-in_default-seat_of-clause-step c =
     let seated = ap (λ members. seat_in members c.args.self.now.me.0) (sym (c.as_slice.ensures.value ∙ c.members.ensures)) in
     steps_as _ _ _ _ _
     (no_seat c.args.layout.now group c.args.self.now.me c.args.from before c.args.call c.args.request.now (sym c.in-Some.ensures)
-    (seated ∙ sym c.in_default-seat_of.ensures))
+    (seated ∙ sym c.in_default-seat_of.ensures.seat))
     (record { packets = c.nothing-in_default-seat_of.ensures.packets; told = c.nothing-in_default-seat_of.ensures.told; state = refl })
 
 pub returns-clause-step : goal.returns-clause-step
@@ -35,7 +35,7 @@ returns-clause-step c =
     elim c.match-reply.branch [ in-Some-reply+in_ok-push w ↦ search rules | in_default-reply w ↦ search rules ] in
     steps_as _ _ _ _ _
     (by_member c.args.layout.now group c.args.self.now.me c.args.from before c.args.call c.args.request.now c.in-Some-seat_of.seat (sym c.in-Some.ensures)
-    (seated ∙ sym c.in-Some-seat_of.ensures))
+    (seated ∙ sym c.in-Some-seat_of.ensures.seat))
     (record {
       packets = sent
           ∙ ap (reply_packets c.args.self.now.me c.args.from c.args.call) c.in_ok-reply.ensures.reply
