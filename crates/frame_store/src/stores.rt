@@ -143,6 +143,20 @@ impl<D: Disk> FrameStore<D> {
         self.frames.as_slice()
     }
 
+    /// What the store was made for.
+    pub fn shape(&self) -> Shape
+        ensures { result ≡ self.now.shape }
+    {
+        self.shape
+    }
+
+    /// Whether a call of this store answered [`FrameFault::Disk`].
+    pub fn is_halted(&self) -> bool
+        ensures { result ≡ self.now.halted }
+    {
+        self.halted
+    }
+
     /// Whether a closed gate stands after the last frame. Where none does, the list ended at the end of the file or within a
     /// frame: rewrite it before anything is appended, since what stands behind it might count as frames after a crash.
     pub fn is_closed(&self) -> bool
