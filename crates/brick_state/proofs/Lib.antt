@@ -7,3 +7,8 @@ pub mod StripeRewrites
 pub mod StateRewrites
 pub mod Preserving
 pub mod SoundStripes
+pub mod SoundChanges
+pub mod Keeping
+pub mod UsedSlots
+pub mod LiveRecords
+pub mod FreeSlots

@@ -46,7 +46,7 @@ sound_at limits p (e ∷ stripes) all = by (place_cmp p e.0) refl (sound_at limi
     by Equal at rest = subst (λ (q : Place). IsSound limits q e.1) (sym (place_exact p e.0 at)) (sound_from_kept limits e.0 e.1 all.0)
 
 -- the newest of versions over one that is below them
-abbrev newest_of : Option Entry → List Entry → Option Entry
+abbrev pub newest_of : Option Entry → List Entry → Option Entry
 newest_of under [] = under
 newest_of under (e ∷ entries) = newest_of (Some e) entries
 
@@ -61,7 +61,7 @@ newest_is : (x : Entry) (entries : List Entry) → last (x ∷ entries) ≡ newe
 newest_is x [] = refl
 newest_is x (y ∷ entries) = last_cons x y entries ∙ newest_is y entries
 
-newest_entry_is : (s : StripeOf Entry) → newest_entry s ≡ newest_of (start_of s.from_start) s.added
+pub newest_entry_is : (s : StripeOf Entry) → newest_entry s ≡ newest_of (start_of s.from_start) s.added
 newest_entry_is s = by s.from_start s.added
   where
     by : (from : Bool) (added : List Entry) → last (cond from (record { stamp = first_stamp; slot = 4294967295 } ∷ []) [] ++ added) ≡ newest_of (start_of from) added
@@ -70,7 +70,7 @@ newest_entry_is s = by s.from_start s.added
     by false (e ∷ added) = newest_is e added
 
 -- the slot of the newest version is one of the store's
-newest_slot : (limits : Limits) (under : Option Entry) (entries : List Entry) (u : Entry) → ((v : Entry) → under ≡ Some v → is_slot limits v.slot ≡ true) → Rises limits under entries → newest_of under entries ≡ Some u → is_slot limits u.slot ≡ true
+pub newest_slot : (limits : Limits) (under : Option Entry) (entries : List Entry) (u : Entry) → ((v : Entry) → under ≡ Some v → is_slot limits v.slot ≡ true) → Rises limits under entries → newest_of under entries ≡ Some u → is_slot limits u.slot ≡ true
 newest_slot limits under [] u below rises is = below u is
 newest_slot limits under (e ∷ entries) u below rises is =
     newest_slot limits (Some e) entries u (λ v same. subst (λ (x : Entry). is_slot limits x.slot ≡ true) (some_same same) rises.1.0) rises.1.1 is
@@ -78,7 +78,7 @@ newest_slot limits under (e ∷ entries) u below rises is =
     some_same : {a b : Entry} → Some a ≡ Some b → a ≡ b
     some_same h = cc
 
-start_slot : (limits : Limits) (from : Bool) (v : Entry) → start_of from ≡ Some v → is_slot limits v.slot ≡ true
+pub start_slot : (limits : Limits) (from : Bool) (v : Entry) → start_of from ≡ Some v → is_slot limits v.slot ≡ true
 start_slot limits true v same = subst (λ (x : Entry). is_slot limits x.slot ≡ true) (some_same same) refl
   where
     some_same : {a b : Entry} → Some a ≡ Some b → a ≡ b
@@ -86,7 +86,7 @@ start_slot limits true v same = subst (λ (x : Entry). is_slot limits x.slot ≡
 start_slot limits false v same = absurd cc
 
 -- a version above the newest, in a slot of the store
-added_sound : (limits : Limits) (p : Place) (s : StripeOf Entry) (e : Entry) → IsSound limits p s → IsAbove (newest_entry s) e → is_slot limits e.slot ≡ true → IsSound limits p (with_added e s)
+pub added_sound : (limits : Limits) (p : Place) (s : StripeOf Entry) (e : Entry) → IsSound limits p s → IsAbove (newest_entry s) e → is_slot limits e.slot ≡ true → IsSound limits p (with_added e s)
 added_sound limits p s e sound above slot = record {
   start = sound.start;
   no_start = λ from none. absurd (not_nothing s.added e none);
@@ -96,7 +96,7 @@ added_sound limits p s e sound above slot = record {
     not_nothing : (xs : List Entry) (x : Entry) → xs ++ x ∷ [] ≡ [] → ⊥
     not_nothing xs x h = let n : length (xs ++ x ∷ []) ≡ 0 = ap length h in omega (arith, length-append xs (x ∷ []))
 
-bottom_sound : (limits : Limits) (p : Place) (s : StripeOf Entry) (e : Entry) → is_slot limits e.slot ≡ true → IsSound limits p (with_bottom e s)
+pub bottom_sound : (limits : Limits) (p : Place) (s : StripeOf Entry) (e : Entry) → is_slot limits e.slot ≡ true → IsSound limits p (with_bottom e s)
 bottom_sound limits p s e slot = record { start = λ h. absurd cc; no_start = λ from none. absurd cc; rises = (tt, (slot, tt)) }
 
 pub order_sound : (limits : Limits) (p : Place) (t : Stamp) (s : StripeOf Entry) → IsSound limits p s → IsSound limits p (with_order t s)

@@ -113,12 +113,16 @@ groups_lead limits n g (group ∷ groups) before at room learnt =
 
 -- ---- all of it
 
--- from nothing
-pub records_bring_back : (limits : Limits) (st : StateOf Entry) → IsKeptState limits st → folded limits (live_records st) empty ≡ st
+-- from nothing, and each of them can be
+pub records_lead : (limits : Limits) (st : StateOf Entry) → IsKeptState limits st → Leads limits (live_records st) empty st
 unfolding Leads applied
-records_bring_back limits st kept =
+records_lead limits st kept =
     let none = subst (λ (k : ℕ). Leads limits (groups_records 0 st.groups) (parts st.boot (replicate k no_group) []) (parts st.boot st.groups [])) kept.all_groups
     (groups_lead limits st.boot 0 st.groups [] refl (omega (arith, kept.all_groups)) kept.groups) in
     let stripes = stripes_lead limits st.boot st.groups st.stripes [] kept.sorted kept.stripes (omega (arith, kept.within)) in
     let both = leads_append limits (groups_records 0 st.groups) (stripes_records st.stripes) (parts st.boot (replicate 64 no_group) []) (parts st.boot st.groups []) st none stripes in
-    leads_folded limits (live_records st) empty st (parts st.boot (replicate 64 no_group) [], refl, both)
+    (parts st.boot (replicate 64 no_group) [], refl, both)
+
+-- so they bring it back
+pub records_bring_back : (limits : Limits) (st : StateOf Entry) → IsKeptState limits st → folded limits (live_records st) empty ≡ st
+records_bring_back limits st kept = leads_folded limits (live_records st) empty st (records_lead limits st kept)

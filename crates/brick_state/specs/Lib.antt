@@ -5,3 +5,4 @@ pub mod Indexes
 pub mod Folds
 pub mod Rewrites
 pub mod KeptStates
+pub mod Slots

@@ -4,8 +4,8 @@ ghost use Rattle.std.specs.Prelude.{◌≡◌, length};
 
 use crate::groups::Group;
 use crate::records::Record;
-use crate::stripe_maps;
 use crate::stripes::{Place, Stripe};
+use crate::{rewrites, slots, stripe_maps};
 use fab_base::{Ballot, Members, NoMem, Stamp, View};
 use stamp_store::{Kept, Logged};
 use std::alloc::Global;
@@ -28,11 +28,14 @@ impl Index {
     ghost use Rattle.brick_state.specs.States.{empty, live, group_at, first_stripe, stripe_of, viewed, balloted, ordered, stripe_at};
     ghost use Rattle.brick_state.specs.Folds.{applied, place, is_full, adds_order, placed, log_changed};
     ghost use Rattle.brick_state.specs.Maps.{HasRoom};
+    ghost use Rattle.brick_state.specs.Slots.{slots_of, IsFree};
+    ghost use Rattle.brick_state.specs.Rewrites.{live_records};
     ghost use Rattle.brick_state.specs.Indexes.{state_of, limits_of, Answers, IsReady};
 
     /// The index of a brick that keeps nothing yet, with so many live records at most, and so many slots.
     pub fn new(alloc: Global, records: u32, slots: u32) -> Result<Index, NoMem>
-        ensures { IfOk result (λ index. state_of index ≡ empty) }
+        ensures nothing { IfOk result (λ index. state_of index ≡ empty) }
+        ensures limits { IfOk result (λ index. limits_of index ≡ record { records = records; slots = slots }) }
     {
         let mut groups = Vec::new(alloc);
         for _ in 0..64u8 {
@@ -81,6 +84,35 @@ impl Index {
         ensures some { IfSome result (λ stripe. stripe_at (state_of self.now) place ≡ stripe_of stripe.now) }
     {
         stripe_maps::find(&self.stripes, place)
+    }
+
+    /// The slots that versions name, one that versions share once for each.
+    pub fn slots(&self) -> Result<Vec<u32>, NoMem>
+        ensures { IfOk result (λ slots. slots.items ≡ slots_of (state_of self.now)) }
+    {
+        let mut made = Vec::new(self.alloc);
+        slots::put_slots(&mut made, &self.stripes)?;
+        Ok(made)
+    }
+
+    /// A slot that no version names, where there are fewer live records than slots.
+    pub fn free_slot(&self) -> Result<u32, NoMem>
+        requires { live (state_of self.now) < (limits_of self.now).slots }
+        ensures { IfOk result (λ slot. IsFree (limits_of self.now).slots (slots_of (state_of self.now)) slot) }
+    {
+        let used = self.slots()?;
+        slots::first_free(self.alloc, &used, self.slots)
+    }
+
+    /// The records that bring back what is kept from nothing.
+    pub fn records(&self) -> Result<Vec<Record>, NoMem>
+        ensures { IfOk result (λ made. made.items ≡ live_records (state_of self.now)) }
+    {
+        let mut made = Vec::new(self.alloc);
+        made.push(Record::Kept(Kept::Boot(self.boot)))?;
+        rewrites::put_groups(&mut made, &self.groups)?;
+        rewrites::put_stripes(&mut made, &self.stripes)?;
+        Ok(made)
     }
 
     /// Makes room for a change of a stripe.
@@ -134,7 +166,8 @@ impl Index {
         }
     }
 
-    fn is_full(&self) -> bool
+    /// Whether there are as many live records as there may be.
+    pub fn is_full(&self) -> bool
         ensures { result ≡ is_full (limits_of self.now) (state_of self.now) }
     {
         self.live() >= self.records

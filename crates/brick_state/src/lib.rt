@@ -8,6 +8,8 @@
 pub mod groups;
 pub mod indexes;
 pub mod records;
+mod rewrites;
+mod slots;
 mod stripe_maps;
 pub mod stripes;
 

@@ -1,5 +1,5 @@
 -- A list of no frames stands for a brick that keeps nothing.
-use Rattle.std.proofs.Common.{◌≡◌, ℕ, List, [], refl}
+use Rattle.std.proofs.Common.{◌≡◌, ℕ, true, List, [], refl}
 use Rattle.frame_store.specs.declared.shapes.Shape.{Shape}
 use Rattle.frame_store.specs.Images.{OpensAs}
 use Rattle.brick_state.specs.States.{empty}
@@ -11,5 +11,5 @@ empty_in : (shape : Shape) (image : List ℕ) → state_in shape [] image ≡ em
 unfolding records_of folded resolved
 empty_in shape image = refl
 
-pub stands_empty : (shape : Shape) (image : List ℕ) → OpensAs shape [] image → StandsFor shape empty image
+pub stands_empty : (shape : Shape) (image : List ℕ) → OpensAs shape [] true image → StandsFor shape empty image
 stands_empty shape image opens = record { frames = []; opens = opens; state = empty_in shape image }

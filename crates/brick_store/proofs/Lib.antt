@@ -1,1 +1,17 @@
 pub mod EmptyStores
+pub mod Resolving
+pub mod Reading
+pub mod Members
+pub mod Framing
+pub mod LiveSizes
+pub mod HeldBlocks
+pub mod FreshLists
+pub mod Stepping
+pub mod Changing
+pub mod Loads
+pub mod Changed
+pub mod Starting
+pub mod Seen
+pub mod Versions
+pub mod Adding
+pub mod Opened

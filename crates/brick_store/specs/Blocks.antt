@@ -1,5 +1,5 @@
 -- What a brick keeps, with the bytes of its blocks in the place of their slots.
-use Rattle.std.specs.Prelude.{◌≡◌, ℕ, ◌-◌, ◌≤◌, Bool, not, ◌&&◌, ◌==◌, if◌then◌else◌, IsTrue, IsSome, find, option_and_then, Option, Some, None, List, [], ◌∷◌, ◌++◌, map, replicate, unwrap_or, option_map}
+use Rattle.std.specs.Prelude.{◌≡◌, ℕ, ◌-◌, ◌≤◌, Bool, true, not, ◌&&◌, ◌==◌, if◌then◌else◌, IsTrue, IsSome, find, option_and_then, Option, Some, None, List, [], ◌∷◌, ◌++◌, map, replicate, unwrap_or, option_map}
 use Rattle.fab_base.specs.declared.stamps.Stamp.{Stamp}
 use Rattle.std.specs.Option.{ForSome}
 use Rattle.std.specs.Ordering.{nat_cmp}
@@ -12,7 +12,7 @@ use Rattle.brick_state.specs.declared.groups.Group.{Group}
 use Rattle.brick_state.specs.Rewrites.{learnt_number}
 use Rattle.version_log.specs.Versions.{Version, version, newest, block_of, has_stamp}
 use Rattle.brick_state.specs.declared.stripes.Entry.{Entry}
-use Rattle.brick_state.specs.States.{StripeOf, StateOf, Place, stripe_at}
+use Rattle.brick_state.specs.States.{StripeOf, StateOf, Place, stripe_at, group_at, viewed, added}
 
 -- a stripe and a state whose slots are seen as what lies in them
 abbrev pub resolved_stripe : (ℕ → List ℕ) → StripeOf Entry → StripeOf Version
@@ -33,6 +33,10 @@ abbrev pub block_added : Option (List ℕ) → List Version → List ℕ
 block_added (Some bytes) log = bytes
 block_added None log = unwrap_or (option_map block_of (newest log)) []
 
+-- the state with a version more in the log of a stripe
+abbrev pub with_version : ℕ → Place → Stamp → Option (List ℕ) → StateOf Version → StateOf Version
+with_version size p t block st = added p (version t (block_added block (log_at size st p))) st
+
 -- a version's stamp
 abbrev pub version_stamp : Version → Stamp
 version_stamp v = v.stamp
@@ -47,6 +51,17 @@ learnt_of group = learnt_number group.known
 
 abbrev pub accepted_of : Group → Option (Ballot × List BrickId)
 accepted_of group = option_and_then (λ b. b.1) group.ballots
+
+-- All stripes of a group are known to be in the view that it learnt: that is kept, and the logs of the view before it are dropped.
+abbrev pub learnt_view : Group → Option View
+learnt_view group = option_map (λ known. known.0) group.known
+
+abbrev pub synced_to : {E : Type 0} → Option View → ℕ → StateOf E → StateOf E
+synced_to None g st = st
+synced_to (Some view) g st = viewed g view true st
+
+abbrev pub all_synced : {E : Type 0} → ℕ → StateOf E → StateOf E
+all_synced g st = synced_to (learnt_view (group_at st g)) g st
 
 -- The view is one whose logs are kept: the learnt one, or the one before it until all stripes are known to be in the learnt one.
 abbrev pub first_kept : Option (View × Bool) → ℕ

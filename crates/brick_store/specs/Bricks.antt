@@ -1,10 +1,10 @@
 -- What a clause sees of a brick's store, and of the answers of its calls.
-use Rattle.std.specs.Prelude.{◌≡◌, ◌≢◌, ℕ, ◌<◌, Bool, true, false, Result, Ok, Err}
+use Rattle.std.specs.Prelude.{◌≡◌, ◌≢◌, ℕ, Bool, true, false, Result, Ok, Err}
 use Rattle.version_log.specs.Versions.{Version}
 use Rattle.frame_store.specs.declared.faults.FrameFault.{FrameFault}
 use Rattle.frame_store.specs.declared.faults.FrameFault.TheVariants as frames
 use Rattle.frame_store.specs.declared.shapes.Shape.{Shape}
-use Rattle.brick_state.specs.States.{StateOf, live}
+use Rattle.brick_state.specs.States.{StateOf}
 use Rattle.brick_store.specs.declared.faults.StoreFault.{StoreFault}
 use Rattle.brick_store.specs.declared.faults.StoreFault.TheVariants.{Disk, Full, Halted, NotAStore, Worn, NoMemory}
 

@@ -1,5 +1,5 @@
 -- What the bytes of a disk stand for as a brick's store.
-use Rattle.std.specs.Prelude.{◌≡◌, ◌⊎◌, ℕ, ◌==◌, if◌then◌else◌, Option, Some, None, option_map, List, [], ◌∷◌, replicate}
+use Rattle.std.specs.Prelude.{◌≡◌, ◌⊎◌, ℕ, Bool, true, ◌==◌, if◌then◌else◌, Option, Some, None, option_map, List, [], ◌∷◌, replicate}
 use Rattle.stamp_store.specs.declared.kept_records.Kept.{Kept}
 use Rattle.stamp_store.specs.Reading.{read_of}
 use Rattle.stamp_store.specs.LogSpelling.{logged_of}
@@ -9,8 +9,7 @@ use Rattle.frame_store.specs.declared.shapes.Shape.{Shape}
 use Rattle.frame_store.specs.Images.{OpensAs, block_in}
 use Rattle.brick_state.specs.declared.records.Record.{Record}
 use Rattle.brick_state.specs.declared.records.Record.TheVariants as forms
-use Rattle.brick_state.specs.declared.stripes.Entry.{Entry}
-use Rattle.brick_state.specs.States.{StateOf, empty, booted}
+use Rattle.brick_state.specs.States.{StateOf, empty}
 use Rattle.brick_state.specs.Folds.{Limits, folded}
 use Rattle.brick_store.specs.Blocks.{resolved}
 
@@ -32,8 +31,11 @@ records_of [] = []
 records_of (frame ∷ frames) = onto_record (record_of frame) (records_of frames)
 
 -- as many live records as slots
+abbrev pub limits_for : ℕ → Limits
+limits_for records = record { records = records; slots = records }
+
 abbrev pub limits_of : Shape → Limits
-limits_of shape = record { records = shape.records; slots = shape.records }
+limits_of shape = limits_for shape.records
 
 -- what lies in a slot: that of the zero block lies nowhere
 abbrev pub block_at : Shape → List ℕ → ℕ → List ℕ
@@ -43,10 +45,17 @@ block_at shape image slot = if slot == 4294967295 then replicate shape.block 0 e
 abbrev pub state_in : Shape → List Frame → List ℕ → StateOf Version
 state_in shape frames image = resolved (block_at shape image) (folded (limits_of shape) (records_of frames) empty)
 
--- the image opens as a store of this state
+-- An opening of the image finds this state.
+pub record IsFound (shape : Shape) (st : StateOf Version) (image : List ℕ) : Type 0 where
+  pub frames : List Frame
+  pub closed : Bool
+  pub opens : OpensAs shape frames closed image
+  pub state : state_in shape frames image ≡ st
+
+-- The image opens as a store of this state: a closed gate stands after its frames, so what lies behind never counts.
 pub record StandsFor (shape : Shape) (st : StateOf Version) (image : List ℕ) : Type 0 where
   pub frames : List Frame
-  pub opens : OpensAs shape frames image
+  pub opens : OpensAs shape frames true image
   pub state : state_in shape frames image ≡ st
 
 -- the image opens as the state before a change, or as the one after it

@@ -4,10 +4,23 @@
 //! Each change is one crash-atomic change: at each moment a crash leaves the state before it or the one after it.
 #![tactic(auto)]
 
+mod additions;
+mod caches;
+mod commits;
 pub mod faults;
 pub mod formats;
+mod fresh_lists;
+mod index_steps;
+mod loading;
+pub mod lookups;
+pub mod openings;
+mod readings;
+mod rewrites;
+mod starts;
 pub mod stores;
+mod taking_up;
 
 pub use faults::StoreFault;
 pub use formats::format;
-pub use stores::{BrickStore, open_store};
+pub use openings::open_store;
+pub use stores::BrickStore;

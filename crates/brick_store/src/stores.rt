@@ -1,22 +1,21 @@
 //! The store.
 
-ghost use Rattle.std.specs.Prelude.{◌≡◌, ◌≢◌, ◌⊎◌, ◌+◌, ◌-◌, ◌≤◌, ◌<◌, ◌^◌, ◌==◌, ℕ, List, true, false, length, Ok, Err, Some, None, IsTrue, IfOk, IfErr, OnOk, OnErr};
+ghost use Rattle.std.specs.Prelude.{◌≡◌, ◌<◌, ◌≤◌, Some, None, IsSome, true, false, length};
 ghost use Rattle.std.specs.Option.{ForSome};
-ghost use Rattle.fab_disk.specs.Disk.{Only, IsUntouched, LeavesOnly, Kept};
-ghost use Rattle.frame_store.specs.Layouts.{shape_of};
-ghost use Rattle.frame_store.specs.Images.{IsNoStore};
-ghost use Rattle.version_log.specs.Versions.{Version, version};
-ghost use Rattle.brick_state.specs.States.{StateOf, booted, live, stripe_at, ordered, added, collected, viewed, balloted, group_at};
+ghost use Rattle.brick_state.specs.States.{stripe_at, ordered, collected, viewed, balloted, group_at};
 ghost use Rattle.brick_state.specs.Folds.{place};
-ghost use Rattle.brick_store.specs.Blocks.{log_at, block_added, version_stamp, IsServed, HasStamp, IsNext, adds_stamp, accepted_of, learnt_of};
-ghost use Rattle.brick_store.specs.Images.{StandsFor, StandsForEither, LeavesState};
-ghost use Rattle.brick_store.specs.Bricks.{Keeps, IsAnswer};
+ghost use Rattle.brick_store.specs.Blocks.{log_at, version_stamp, HasStamp, IsServed, adds_stamp, IsNext, with_version, accepted_of, learnt_of, all_synced};
+ghost use Rattle.brick_store.specs.Changes.{Changes};
 
+use crate::additions::hold_new;
+use crate::commits::{commit, commit_with, ready};
 use crate::faults::StoreFault;
-use brick_state::Index;
-use fab_base::{Ballot, BrickId, Bytes, GroupId, Members, Stamp, StripeNo, View, ViewNo};
+use crate::index_steps::{accepted_of, adds_stamp, learnt_view};
+use brick_state::{Index, Record};
+use fab_base::{Ballot, Bytes, GroupId, Members, Stamp, StripeNo, View, ViewNo};
 use fab_disk::Disk;
 use frame_store::FrameStore;
+use stamp_store::{Kept, LogChange, Logged};
 use std::alloc::Global;
 use std::collections::BTreeMap;
 use std::marker::Model;
@@ -26,9 +25,11 @@ use std::marker::Model;
 /// A clause sees the disk, what the store was made for, what it keeps, and whether it is halted.
 #[derive(Drop)]
 pub struct BrickStore<D: Disk> {
-    frames: FrameStore<D>,
-    index: Index,
-    blocks: BTreeMap<u32, Bytes>,
+    pub(crate) alloc: Global,
+    pub(crate) frames: FrameStore<D>,
+    pub(crate) index: Index,
+    pub(crate) blocks: BTreeMap<u32, Bytes>,
+    pub(crate) zero: Bytes,
 }
 
 impl<D: Disk> Model for BrickStore<D> {
@@ -39,35 +40,10 @@ impl<D: Disk> Model for BrickStore<D> {
     ghost Value = { Brick D };
 
     ghost view = { λ s. record { disk = s.frames.disk; shape = s.frames.shape; state = resolved (cached s.frames.shape.block s.blocks) (state_of s.index); halted = s.frames.halted } };
-}
 
-/// Opens the store that a disk holds for a brick: its count of openings is one greater, and nothing else is changed.
-///
-/// # Errors
-/// Each hands the disk back. [`StoreFault::NotAStore`]: neither header is open. [`StoreFault::Worn`]: the store was opened
-/// 2^32 - 1 times. [`StoreFault::Disk`]: the disk failed. [`StoreFault::NoMemory`]: memory was refused.
-pub fn open_store<D: Disk>(
-    alloc: Global,
-    disk: D,
-    me: BrickId,
-    block: u16,
-    records: u32,
-) -> Result<BrickStore<D>, (StoreFault, D)>
-    requires block_range { (1 ≤ block) × (block ≤ 4096) }
-    requires records_range { (1 ≤ records) × (records ≤ 1048576) }
-    ensures shape { IfOk result (λ store. store.shape ≡ shape_of me.0 block records) }
-    ensures runs { IfOk result (λ store. store.halted ≡ false) }
-    ensures state { IfOk result (λ store. D.tells → (st : StateOf Version) → StandsFor (shape_of me.0 block records) st (D.seen disk) → store.state ≡ booted (st.boot + 1) st) }
-    ensures durable { IfOk result (λ store. D.tells → LeavesState store.shape store.state (D.may_leave store.disk)) }
-    ensures any_moment { IfOk result (λ store. D.tells → (st : StateOf Version) → LeavesState (shape_of me.0 block records) st (D.may_leave disk) → LeavesOnly D.moment D.left_since disk store.disk (StandsForEither (shape_of me.0 block records) st (booted (st.boot + 1) st))) }
-    ensures any_moment_err { IfErr result (λ e. D.tells → (st : StateOf Version) → LeavesState (shape_of me.0 block records) st (D.may_leave disk) → LeavesOnly D.moment D.left_since disk e.1 (StandsForEither (shape_of me.0 block records) st (booted (st.boot + 1) st))) }
-    ensures not_a_store { IfErr result (λ e. e.0 ≡ StoreFault.NotAStore → D.tells → IsNoStore (shape_of me.0 block records) (D.seen disk)) }
-    ensures worn { IfErr result (λ e. e.0 ≡ StoreFault.Worn → D.tells → (st : StateOf Version) → StandsFor (shape_of me.0 block records) st (D.seen disk) → st.boot ≡ 2 ^ 32 - 1) }
-    ensures unchanged { IfErr result (λ e. (e.0 ≡ StoreFault.NotAStore) ⊎ (e.0 ≡ StoreFault.Worn) → IsUntouched D.seen D.may_leave D.moment D.left_since disk e.1) }
-    ensures cause { IfOk result (λ store. Kept (D.faults disk) (D.faults store.disk) (D.sound disk) (D.sound store.disk) ⊥) }
-    ensures cause_err { IfErr result (λ e. Kept (D.faults disk) (D.faults e.1) (D.sound disk) (D.sound e.1) (e.0 ≡ StoreFault.Disk)) }
-{
-    Err((StoreFault::NoMemory, disk))
+    ghost use Rattle.brick_store.specs.Standing.{Standing};
+
+    ghost invariant = { λ s. Standing D.tells D.seen D.may_leave s.frames s.index s.blocks s.zero };
 }
 
 impl<D: Disk> BrickStore<D> {
@@ -84,19 +60,136 @@ impl<D: Disk> BrickStore<D> {
     ) -> Result<(), StoreFault>
         requires group { group.0 < 64 }
         requires view { IsServed (group_at self.old.state group.0) view.0 }
-        ensures ok { OnOk result (Keeps (ordered (place group view stripe) stamp self.old.state) self.old self.new) }
-        ensures durable { D.tells → OnOk result (LeavesState self.new.shape self.new.state (D.may_leave self.new.disk)) }
-        // At each moment of the call each image opens as the state before it or as the one after it.
-        ensures any_moment { D.tells → self.old.halted ≡ false → LeavesOnly D.moment D.left_since self.old.disk self.new.disk (StandsForEither self.old.shape self.old.state (ordered (place group view stripe) stamp self.old.state)) }
-        ensures refused { OnErr result (Keeps self.old.state self.old self.new) }
-        ensures answer { IsAnswer self.old.shape.records (live self.old.state) (adds_stamp stamp (stripe_at self.old.state (place group view stripe)).order) self.old.halted self.new.halted result }
-        ensures no_call { OnErr result (result ≢ Err StoreFault.Disk → IsUntouched D.seen D.may_leave D.moment D.left_since self.old.disk self.new.disk) }
-        ensures cause { Kept (D.faults self.old.disk) (D.faults self.new.disk) (D.sound self.old.disk) (D.sound self.new.disk) (result ≡ Err StoreFault.Disk) }
+        ensures { Changes D.tells D.seen D.may_leave D.moment D.left_since D.faults D.sound self.old self.new (ordered (place group view stripe) stamp self.old.state) (adds_stamp stamp (stripe_at self.old.state (place group view stripe)).order) result }
     {
-        if false {
-            return Err(StoreFault::Halted);
-        }
-        Err(StoreFault::NoMemory)
+        let place = (group.0, view.0, stripe.0);
+        let adds = adds_stamp(stamp, self.index.order(place));
+        let item = Record::Kept(Kept::Order {
+            group,
+            view,
+            stripe,
+            stamp,
+        });
+        ready(&self.frames, &self.index, adds)?;
+        commit(self.alloc, &mut self.frames, &mut self.index, &item)
+    }
+
+    /// Promises a ballot for the successor of the learnt view.
+    ///
+    /// # Errors
+    /// [`StoreFault::Halted`], [`StoreFault::Disk`]; [`StoreFault::NoMemory`], before the disk changed.
+    pub fn set_ballot(
+        &mut self,
+        group: GroupId,
+        view: ViewNo,
+        promised: Ballot,
+    ) -> Result<(), StoreFault>
+        requires group { group.0 < 64 }
+        requires view { view.0 ≡ learnt_of (group_at self.old.state group.0) }
+        ensures { Changes D.tells D.seen D.may_leave D.moment D.left_since D.faults D.sound self.old self.new (balloted group.0 promised (accepted_of (group_at self.old.state group.0)) self.old.state) false result }
+    {
+        let accepted = accepted_of(self.index.group(group.0));
+        let item = Record::Kept(Kept::Ballots {
+            group,
+            view,
+            promised,
+            accepted,
+        });
+        ready(&self.frames, &self.index, false)?;
+        commit(self.alloc, &mut self.frames, &mut self.index, &item)
+    }
+
+    /// Accepts a list of members as the successor of the learnt view, under a ballot that it also promises.
+    ///
+    /// # Errors
+    /// [`StoreFault::Halted`], [`StoreFault::Disk`]; [`StoreFault::NoMemory`], before the disk changed.
+    pub fn accept(
+        &mut self,
+        group: GroupId,
+        view: ViewNo,
+        ballot: Ballot,
+        members: Members,
+    ) -> Result<(), StoreFault>
+        requires group { group.0 < 64 }
+        requires view { view.0 ≡ learnt_of (group_at self.old.state group.0) }
+        requires members { 1 ≤ length members }
+        ensures { Changes D.tells D.seen D.may_leave D.moment D.left_since D.faults D.sound self.old self.new (balloted group.0 ballot (Some (ballot, members)) self.old.state) false result }
+    {
+        let item = Record::Kept(Kept::Ballots {
+            group,
+            view,
+            promised: ballot,
+            accepted: Some((ballot, members)),
+        });
+        ready(&self.frames, &self.index, false)?;
+        commit(self.alloc, &mut self.frames, &mut self.index, &item)
+    }
+
+    /// Learns a view above the learnt one: what was promised and accepted is forgotten, and the logs of the views below its
+    /// predecessor are dropped.
+    ///
+    /// # Errors
+    /// [`StoreFault::Halted`], [`StoreFault::Disk`]; [`StoreFault::NoMemory`], before the disk changed.
+    pub fn learn(&mut self, group: GroupId, view: View) -> Result<(), StoreFault>
+        requires group { group.0 < 64 }
+        requires above { learnt_of (group_at self.old.state group.0) < view.number.0 }
+        requires members { (1 ≤ length view.members) × (1 ≤ length view.prior) }
+        ensures { Changes D.tells D.seen D.may_leave D.moment D.left_since D.faults D.sound self.old self.new (viewed group.0 view false self.old.state) false result }
+    {
+        let item = Record::Kept(Kept::View {
+            group,
+            view,
+            synced: false,
+        });
+        ready(&self.frames, &self.index, false)?;
+        commit(self.alloc, &mut self.frames, &mut self.index, &item)
+    }
+
+    /// Keeps that all stripes of a group are known to be in the view that it learnt, and drops the logs of the view before it.
+    ///
+    /// # Errors
+    /// [`StoreFault::Halted`], [`StoreFault::Disk`]; [`StoreFault::NoMemory`], before the disk changed.
+    pub fn synced(&mut self, group: GroupId, view: ViewNo) -> Result<(), StoreFault>
+        requires group { group.0 < 64 }
+        requires view { view.0 ≡ learnt_of (group_at self.old.state group.0) }
+        requires learnt { IsSome (group_at self.old.state group.0).known }
+        ensures { Changes D.tells D.seen D.may_leave D.moment D.left_since D.faults D.sound self.old self.new (all_synced group.0 self.old.state) false result }
+    {
+        let _ = view;
+        let item = Record::Kept(Kept::View {
+            group,
+            view: learnt_view(self.index.group(group.0)),
+            synced: true,
+        });
+        ready(&self.frames, &self.index, false)?;
+        commit(self.alloc, &mut self.frames, &mut self.index, &item)
+    }
+
+    /// Drops the versions of a stripe below one that it has.
+    ///
+    /// # Errors
+    /// [`StoreFault::Halted`], [`StoreFault::Disk`]; [`StoreFault::NoMemory`], before the disk changed.
+    pub fn collect(
+        &mut self,
+        group: GroupId,
+        view: ViewNo,
+        stripe: StripeNo,
+        stamp: Stamp,
+    ) -> Result<(), StoreFault>
+        requires group { group.0 < 64 }
+        requires view { IsServed (group_at self.old.state group.0) view.0 }
+        requires held { HasStamp stamp (log_at self.old.shape.block self.old.state (place group view stripe)) }
+        ensures { Changes D.tells D.seen D.may_leave D.moment D.left_since D.faults D.sound self.old self.new (collected version_stamp (place group view stripe) stamp self.old.state) false result }
+    {
+        let item = Record::Logged(Logged {
+            group,
+            view,
+            stripe,
+            stamp,
+            change: LogChange::Collect,
+        });
+        ready(&self.frames, &self.index, false)?;
+        commit(self.alloc, &mut self.frames, &mut self.index, &item)
     }
 
     /// Adds a version to the log of a stripe, with this block, or with the newest version's where none is given.
@@ -115,26 +208,16 @@ impl<D: Disk> BrickStore<D> {
         requires view { IsServed (group_at self.old.state group.0) view.0 }
         requires above { IsNext stamp (log_at self.old.shape.block self.old.state (place group view stripe)) block }
         requires block { ForSome block (λ bytes. length bytes ≡ self.old.shape.block) }
-        ensures ok { OnOk result (Keeps (added (place group view stripe) (version stamp (block_added block (log_at self.old.shape.block self.old.state (place group view stripe)))) self.old.state) self.old self.new) }
-        ensures durable { D.tells → OnOk result (LeavesState self.new.shape self.new.state (D.may_leave self.new.disk)) }
-        // At each moment of the call each image opens as the state before it or as the one after it.
-        ensures any_moment { D.tells → self.old.halted ≡ false → LeavesOnly D.moment D.left_since self.old.disk self.new.disk (StandsForEither self.old.shape self.old.state (added (place group view stripe) (version stamp (block_added block (log_at self.old.shape.block self.old.state (place group view stripe)))) self.old.state)) }
-        ensures refused { OnErr result (Keeps self.old.state self.old self.new) }
-        ensures answer { IsAnswer self.old.shape.records (live self.old.state) (true) self.old.halted self.new.halted result }
-        ensures no_call { OnErr result (result ≢ Err StoreFault.Disk → IsUntouched D.seen D.may_leave D.moment D.left_since self.old.disk self.new.disk) }
-        ensures cause { Kept (D.faults self.old.disk) (D.faults self.new.disk) (D.sound self.old.disk) (D.sound self.new.disk) (result ≡ Err StoreFault.Disk) }
+        ensures { Changes D.tells D.seen D.may_leave D.moment D.left_since D.faults D.sound self.old self.new (with_version self.old.shape.block (place group view stripe) stamp block self.old.state) true result }
     {
-        if false {
-            return Err(StoreFault::Halted);
+        match block {
+            Some(bytes) => self.add_block(group, view, stripe, stamp, bytes),
+            None => self.add_same(group, view, stripe, stamp),
         }
-        Err(StoreFault::NoMemory)
     }
 
-    /// Drops the versions of a stripe below one that it has.
-    ///
-    /// # Errors
-    /// [`StoreFault::Halted`], [`StoreFault::Full`], [`StoreFault::Disk`]; [`StoreFault::NoMemory`], before the disk changed.
-    pub fn collect(
+    // Adds a version with the newest version's block.
+    fn add_same(
         &mut self,
         group: GroupId,
         view: ViewNo,
@@ -142,104 +225,53 @@ impl<D: Disk> BrickStore<D> {
         stamp: Stamp,
     ) -> Result<(), StoreFault>
         requires group { group.0 < 64 }
-        requires view { IsServed (group_at self.old.state group.0) view.0 }
-        requires held { HasStamp stamp (log_at self.old.shape.block self.old.state (place group view stripe)) }
-        ensures ok { OnOk result (Keeps (collected version_stamp (place group view stripe) stamp self.old.state) self.old self.new) }
-        ensures durable { D.tells → OnOk result (LeavesState self.new.shape self.new.state (D.may_leave self.new.disk)) }
-        // At each moment of the call each image opens as the state before it or as the one after it.
-        ensures any_moment { D.tells → self.old.halted ≡ false → LeavesOnly D.moment D.left_since self.old.disk self.new.disk (StandsForEither self.old.shape self.old.state (collected version_stamp (place group view stripe) stamp self.old.state)) }
-        ensures refused { OnErr result (Keeps self.old.state self.old self.new) }
-        ensures answer { IsAnswer self.old.shape.records (live self.old.state) (false) self.old.halted self.new.halted result }
-        ensures no_call { OnErr result (result ≢ Err StoreFault.Disk → IsUntouched D.seen D.may_leave D.moment D.left_since self.old.disk self.new.disk) }
-        ensures cause { Kept (D.faults self.old.disk) (D.faults self.new.disk) (D.sound self.old.disk) (D.sound self.new.disk) (result ≡ Err StoreFault.Disk) }
+        requires above { IsNext stamp (log_at self.old.shape.block self.old.state (place group view stripe)) None }
+        ensures { Changes D.tells D.seen D.may_leave D.moment D.left_since D.faults D.sound self.old self.new (with_version self.old.shape.block (place group view stripe) stamp None self.old.state) true result }
     {
-        if false {
-            return Err(StoreFault::Halted);
-        }
-        Err(StoreFault::NoMemory)
+        let item = Record::Logged(Logged {
+            group,
+            view,
+            stripe,
+            stamp,
+            change: LogChange::Same,
+        });
+        ready(&self.frames, &self.index, true)?;
+        commit(self.alloc, &mut self.frames, &mut self.index, &item)
     }
 
-    /// Promises a ballot for the successor of the learnt view.
-    ///
-    /// # Errors
-    /// [`StoreFault::Halted`], [`StoreFault::Full`], [`StoreFault::Disk`]; [`StoreFault::NoMemory`], before the disk changed.
-    pub fn set_ballot(
+    // Adds a version with a block of its own.
+    fn add_block(
         &mut self,
         group: GroupId,
         view: ViewNo,
-        promised: Ballot,
+        stripe: StripeNo,
+        stamp: Stamp,
+        block: Bytes,
     ) -> Result<(), StoreFault>
         requires group { group.0 < 64 }
-        requires view { view.0 ≡ learnt_of (group_at self.old.state group.0) }
-        ensures ok { OnOk result (Keeps (balloted group.0 promised (accepted_of (group_at self.old.state group.0)) self.old.state) self.old self.new) }
-        ensures durable { D.tells → OnOk result (LeavesState self.new.shape self.new.state (D.may_leave self.new.disk)) }
-        // At each moment of the call each image opens as the state before it or as the one after it.
-        ensures any_moment { D.tells → self.old.halted ≡ false → LeavesOnly D.moment D.left_since self.old.disk self.new.disk (StandsForEither self.old.shape self.old.state (balloted group.0 promised (accepted_of (group_at self.old.state group.0)) self.old.state)) }
-        ensures refused { OnErr result (Keeps self.old.state self.old self.new) }
-        ensures answer { IsAnswer self.old.shape.records (live self.old.state) (false) self.old.halted self.new.halted result }
-        ensures no_call { OnErr result (result ≢ Err StoreFault.Disk → IsUntouched D.seen D.may_leave D.moment D.left_since self.old.disk self.new.disk) }
-        ensures cause { Kept (D.faults self.old.disk) (D.faults self.new.disk) (D.sound self.old.disk) (D.sound self.new.disk) (result ≡ Err StoreFault.Disk) }
+        requires above { IsNext stamp (log_at self.old.shape.block self.old.state (place group view stripe)) (Some block) }
+        requires block { length block ≡ self.old.shape.block }
+        ensures { Changes D.tells D.seen D.may_leave D.moment D.left_since D.faults D.sound self.old self.new (with_version self.old.shape.block (place group view stripe) stamp (Some block) self.old.state) true result }
     {
-        if false {
-            return Err(StoreFault::Halted);
-        }
-        Err(StoreFault::NoMemory)
-    }
-
-    /// Accepts a list of members as the successor of the learnt view, under a ballot that it also promises.
-    ///
-    /// # Errors
-    /// [`StoreFault::Halted`], [`StoreFault::Full`], [`StoreFault::Disk`]; [`StoreFault::NoMemory`], before the disk changed.
-    pub fn accept(
-        &mut self,
-        group: GroupId,
-        view: ViewNo,
-        ballot: Ballot,
-        members: Members,
-    ) -> Result<(), StoreFault>
-        requires group { group.0 < 64 }
-        requires view { view.0 ≡ learnt_of (group_at self.old.state group.0) }
-        requires members { 1 ≤ length members }
-        ensures ok { OnOk result (Keeps (balloted group.0 ballot (Some (ballot, members)) self.old.state) self.old self.new) }
-        ensures durable { D.tells → OnOk result (LeavesState self.new.shape self.new.state (D.may_leave self.new.disk)) }
-        // At each moment of the call each image opens as the state before it or as the one after it.
-        ensures any_moment { D.tells → self.old.halted ≡ false → LeavesOnly D.moment D.left_since self.old.disk self.new.disk (StandsForEither self.old.shape self.old.state (balloted group.0 ballot (Some (ballot, members)) self.old.state)) }
-        ensures refused { OnErr result (Keeps self.old.state self.old self.new) }
-        ensures answer { IsAnswer self.old.shape.records (live self.old.state) (false) self.old.halted self.new.halted result }
-        ensures no_call { OnErr result (result ≢ Err StoreFault.Disk → IsUntouched D.seen D.may_leave D.moment D.left_since self.old.disk self.new.disk) }
-        ensures cause { Kept (D.faults self.old.disk) (D.faults self.new.disk) (D.sound self.old.disk) (D.sound self.new.disk) (result ≡ Err StoreFault.Disk) }
-    {
-        if false {
-            return Err(StoreFault::Halted);
-        }
-        Err(StoreFault::NoMemory)
-    }
-
-    /// Learns a view above the learnt one: what was promised and accepted is forgotten, and the logs of the views below its
-    /// predecessor are dropped.
-    ///
-    /// # Errors
-    /// [`StoreFault::Halted`], [`StoreFault::Full`], [`StoreFault::Disk`]; [`StoreFault::NoMemory`], before the disk changed.
-    pub fn learn(
-        &mut self,
-        group: GroupId,
-        view: View,
-    ) -> Result<(), StoreFault>
-        requires group { group.0 < 64 }
-        requires above { learnt_of (group_at self.old.state group.0) < view.number.0 }
-        requires members { (1 ≤ length view.members) × (1 ≤ length view.prior) }
-        ensures ok { OnOk result (Keeps (viewed group.0 view false self.old.state) self.old self.new) }
-        ensures durable { D.tells → OnOk result (LeavesState self.new.shape self.new.state (D.may_leave self.new.disk)) }
-        // At each moment of the call each image opens as the state before it or as the one after it.
-        ensures any_moment { D.tells → self.old.halted ≡ false → LeavesOnly D.moment D.left_since self.old.disk self.new.disk (StandsForEither self.old.shape self.old.state (viewed group.0 view false self.old.state)) }
-        ensures refused { OnErr result (Keeps self.old.state self.old self.new) }
-        ensures answer { IsAnswer self.old.shape.records (live self.old.state) (false) self.old.halted self.new.halted result }
-        ensures no_call { OnErr result (result ≢ Err StoreFault.Disk → IsUntouched D.seen D.may_leave D.moment D.left_since self.old.disk self.new.disk) }
-        ensures cause { Kept (D.faults self.old.disk) (D.faults self.new.disk) (D.sound self.old.disk) (D.sound self.new.disk) (result ≡ Err StoreFault.Disk) }
-    {
-        if false {
-            return Err(StoreFault::Halted);
-        }
-        Err(StoreFault::NoMemory)
+        ready(&self.frames, &self.index, true)?;
+        let slot = hold_new(self.alloc, &self.index, &mut self.blocks, &block)?;
+        let item = Record::Logged(Logged {
+            group,
+            view,
+            stripe,
+            stamp,
+            change: LogChange::Slot {
+                bottom: false,
+                slot,
+            },
+        });
+        commit_with(
+            self.alloc,
+            &mut self.frames,
+            &mut self.index,
+            &item,
+            slot,
+            block.as_slice(),
+        )
     }
 }

@@ -17,9 +17,9 @@ made groups stripes = record { boot = 0; groups = groups; stripes = stripes }
 same_parts : (g h : List Group) (s t : List (Place × StripeOf Entry)) → g ≡ h → s ≡ t → made g s ≡ made h t
 same_parts g h s t p q = ap (λ (x : List Group). made x s) p ∙ ap (made h) q
 
-pub returns : goal.returns
+pub returns-clause-nothing : goal.returns-clause-nothing
 unfolding made
-returns c =
+returns-clause-nothing c =
     let count : c.loop.counter ≡ 64 = omega arith in
     let groups = c.loop.invariant ∙ ap (λ (n : ℕ). replicate n no_group) count in
     same_parts c.loop.groups.items (replicate 64 no_group) (listed c.new.result.entries) [] groups (ap listed c.new.ensures.empty ∙ none_listed)

@@ -1,0 +1,28 @@
+-- What is left of the map names the slots that are left.
+use Rattle.std.proofs.Common.{◌≡◌, List, [], ◌++◌, map, sym, ap, ◌∙◌, append_assoc}
+use Rattle.std.proofs.lemmas.List.{append-nil}
+use Rattle.brick_state.specs.declared.stripes.Stripe.{Stripe}
+use Rattle.brick_state.specs.States.{Place}
+use Rattle.brick_state.specs.Maps.{listed}
+use Rattle.brick_state.specs.Slots.{slot_of, slots_in}
+use Rattle.brick_state.proofs.UsedSlots.{slots_step, slots_none}
+use Rattle.brick_state.proofs.slots.put_slots.Goals as goal
+
+pub loop-stripe-preserved : goal.loop-stripe-preserved
+loop-stripe-preserved c =
+    let p = c.in-Some.field-0-0.now in
+    let s = c.in-Some.stripe.now in
+    let rest = c.next.new.self in
+    let done = c.loop-stripe.slots.items in
+    ap (λ xs. xs ++ slots_in (listed rest)) (c.in_ok-put_entries.ensures ∙ ap (λ xs. done ++ map slot_of xs) c.deref.ensures.value)
+    ∙ append_assoc done (map slot_of s.added.items) (slots_in (listed rest))
+    ∙ ap (λ xs. done ++ xs) (sym (slots_step p s rest))
+    ∙ ap (λ (es : List (Place × Stripe)). done ++ slots_in (listed es)) (sym c.in-Some.ensures.steps)
+    ∙ c.loop-stripe.invariant
+
+pub returns : goal.returns
+returns c =
+    let done = c.loop-stripe.slots.items in
+    sym (append-nil done) ∙ ap (λ xs. done ++ xs) (sym slots_none)
+    ∙ ap (λ (es : List (Place × Stripe)). done ++ slots_in (listed es)) (sym c.in-None.ensures.steps.0)
+    ∙ c.loop-stripe.invariant

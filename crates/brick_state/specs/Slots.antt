@@ -1,0 +1,26 @@
+-- The slots that the versions of a brick name.
+use Rattle.std.specs.Prelude.{◌≢◌, ℕ, ◌<◌, Bool, true, List, [], ◌∷◌, ◌++◌, map, slice_set}
+use Rattle.std.specs.List.{AllByRecursion}
+use Rattle.brick_state.specs.declared.stripes.Entry.{Entry}
+use Rattle.brick_state.specs.States.{Place, StripeOf, StateOf}
+
+abbrev pub slot_of : Entry → ℕ
+slot_of e = e.slot
+
+-- that of each version that was added and not dropped since, stripe by stripe; one that versions share, once for each
+unfoldable pub slots_in : List (Place × StripeOf Entry) → List ℕ
+slots_in [] = []
+slots_in (e ∷ stripes) = map slot_of e.1.added ++ slots_in stripes
+
+abbrev pub slots_of : StateOf Entry → List ℕ
+slots_of st = slots_in st.stripes
+
+-- the slot is one of so many, and none of these
+pub record IsFree (slots : ℕ) (used : List ℕ) (slot : ℕ) : Type 0 where
+  pub is_slot : slot < slots
+  pub unused : AllByRecursion (λ other. other ≢ slot) used
+
+-- the flags of these slots are set
+unfoldable pub marked : List Bool → List ℕ → List Bool
+marked flags [] = flags
+marked flags (slot ∷ slots) = marked (slice_set flags slot true) slots

@@ -1,0 +1,24 @@
+-- The blocks in the slots so far are held.
+use Rattle.std.proofs.Common.{get_or, refl}
+use Rattle.fab_disk.proofs.Moments.{kept_both}
+use Rattle.frame_store.proofs.Openings.{untouched_both}
+use Rattle.brick_store.proofs.HeldBlocks.{held_more, read_moved, same_both}
+use Rattle.brick_store.proofs.caches.read_blocks.Goals as goal
+
+pub loop-slot-preserved : goal.loop-slot-preserved
+loop-slot-preserved g c =
+    let d = g.D.Disk in
+    let first = c.args.frames.now in
+    let now = c.loop-slot.frames in
+    let next = c.hold_block.new.frames in
+    let so_far = c.loop-slot.invariant in
+    let here = c.in_ok-hold_block.ensures in
+    record {
+      held = held_more c.loop-slot.blocks c.hold_block.new.blocks c.args.slots.now c.loop-slot.slot-index (get_or c.args.slots.now c.loop-slot.slot-index 0) c.loop-slot-test.true refl here.others here.held so_far.held;
+      read = read_moved d.tells now.shape first.shape now.size first.size (d.seen now.disk) (d.seen first.disk) c.loop-slot.blocks c.hold_block.new.blocks so_far.same.shape so_far.same.size so_far.untouched.content here.read so_far.read;
+      same = same_both first now next so_far.same here.same;
+      untouched = untouched_both d.seen d.may_leave d.moment d.left_since g.met.D.Disk.counts_now first.disk now.disk next.disk so_far.untouched here.untouched;
+      runs = here.still_runs refl;
+      cause = kept_both (d.faults first.disk) (d.faults now.disk) (d.faults next.disk) (d.sound first.disk) (d.sound now.disk) (d.sound next.disk) ⊥ ⊥ so_far.cause
+          (record { later = here.cause.later; rose = λ never. absurd never; stays = here.cause.stays; never = λ sound never. never });
+    }

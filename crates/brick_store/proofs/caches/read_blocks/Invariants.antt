@@ -1,0 +1,16 @@
+use Rattle.std.proofs.Common.{◌≡◌, false, take}
+use Rattle.std.specs.List.{AllByRecursion}
+use Rattle.fab_disk.specs.Disk.{IsUntouched, Kept}
+use Rattle.frame_store.specs.Stores.{IsSame}
+use Rattle.brick_store.specs.Openings.{IsHeld, AreRead}
+use Rattle.brick_store.proofs.caches.read_blocks.Given as goal
+
+abbrev pub invariant-loop-slot : goal.invariant-loop-slot
+invariant-loop-slot g l = record {
+  held : AllByRecursion (IsHeld l.blocks) (take l.slot-index l.slots);
+  read : AreRead g.D.Disk.tells l.fn.frames.shape l.fn.frames.size (g.D.Disk.seen l.fn.frames.disk) l.blocks;
+  same : IsSame l.fn.frames l.frames;
+  untouched : IsUntouched g.D.Disk.seen g.D.Disk.may_leave g.D.Disk.moment g.D.Disk.left_since l.fn.frames.disk l.frames.disk;
+  runs : l.frames.halted ≡ false;
+  cause : Kept (g.D.Disk.faults l.fn.frames.disk) (g.D.Disk.faults l.frames.disk) (g.D.Disk.sound l.fn.frames.disk) (g.D.Disk.sound l.frames.disk) ⊥;
+}

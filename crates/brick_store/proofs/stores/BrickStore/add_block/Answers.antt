@@ -1,0 +1,94 @@
+-- The record of a version with a block of its own.
+use Rattle.std.proofs.Common.{◌≡◌, ◌<◌, true, false, None, Some, Err, List, ℕ, length, refl, sym, ap, subst, ◌∙◌, arith}
+use Rattle.std.proofs.lemmas.Result.{err_from_is_err_and}
+use Rattle.stamp_store.specs.declared.log_records.LogChange.TheVariants.{Slot}
+use Rattle.brick_state.specs.declared.records.Record.TheVariants as forms
+use Rattle.brick_state.specs.States.{StateOf, stripe_at, added}
+use Rattle.brick_state.specs.Folds.{Limits, place, entry}
+use Rattle.brick_state.specs.Indexes.{state_of, limits_of}
+use Rattle.version_log.specs.Versions.{Version}
+use Rattle.brick_store.specs.declared.faults.StoreFault.TheVariants.{NoMemory}
+use Rattle.brick_store.specs.Blocks.{resolved, cached, with_version}
+use Rattle.brick_store.specs.Bricks.{Brick}
+use Rattle.brick_store.specs.Changes.{Changes}
+use Rattle.brick_store.proofs.Changed.{can_from}
+use Rattle.brick_store.proofs.Changing.{brick_of, told_refused, told_of}
+use Rattle.brick_store.proofs.Versions.{above_of, slot_applied, slots_added, with_version_seen, next_seen}
+use Rattle.brick_store.proofs.Adding.{brick_same, standing_same, changes_put, standing_put, changes_stopped, told_stopped, no_slot_fault, cached_is}
+use Rattle.brick_store.proofs.stores.BrickStore.add_block.Goals as goal
+
+pub returns-in_err-ready : goal.returns-in_err-ready
+returns-in_err-ready g c =
+    let d = g.D.Disk in
+    let x = c.self.inside in
+    let f = c.in_err-ready.field-0.0 in
+    let q = err_from_is_err_and c.from_residual.result c.from_residual.ensures.1 in
+    rw (q.1, q.2) (told_refused d.tells d.seen d.may_leave d.moment d.left_since d.faults d.sound g.met.D.Disk.only_now x.blocks x.zero x.frames x.index c.args.self.now
+    (with_version c.args.self.now.shape.block (place c.args.group c.args.view c.args.stripe) c.args.stamp (Some c.args.block)) (λ s. true) true f c.self.view_is refl c.self.invariant c.in_err-ready.ensures.refused)
+
+pub invariant_of-self : goal.invariant_of-self
+invariant_of-self g c =
+    let d = g.D.Disk in
+    let x = c.self.inside in
+    standing_same d.tells d.seen d.may_leave d.moment d.left_since d.faults d.sound x.blocks c.hold_new.new.blocks x.zero x.frames x.index c.hold_new.ensures.same c.self.invariant
+
+pub commit_with-requires-clause-can : goal.commit_with-requires-clause-can
+commit_with-requires-clause-can g c =
+    let x = c.self.inside in
+    let st = state_of x.index in
+    let p = place c.args.group c.args.view c.args.stripe in
+    let above = above_of x.frames.shape.block x.blocks (stripe_at st p) c.args.stamp (Some c.args.block) (next_seen x.blocks x.frames st p c.args.stamp (Some c.args.block) c.args.self.now c.self.view_is c.requires.above) in
+    can_from _ _ _ _ (slot_applied (limits_of x.index) c.args.group c.args.view c.args.stripe c.args.stamp c.in_ok-slot.slot st c.requires.group (c.in_ok-ready.ensures.free refl) c.in_ok-slot.ensures.slot above)
+
+pub returns-in_err-slot : goal.returns-in_err-slot
+returns-in_err-slot g c =
+    let d = g.D.Disk in
+    let x = c.self.inside in
+    let now = c.hold_new.new.blocks in
+    let f = c.in_err-slot.field-0.0 in
+    let standing = standing_same d.tells d.seen d.may_leave d.moment d.left_since d.faults d.sound x.blocks now x.zero x.frames x.index c.hold_new.ensures.same c.self.invariant in
+    let view = brick_same x.blocks now x.frames (state_of x.index) c.hold_new.ensures.same ∙ c.self.view_is in
+    let q = err_from_is_err_and c.from_residual-in_err-slot.result c.from_residual-in_err-slot.ensures.1 in
+    rw (q.1, q.2) (told_stopped d.tells d.seen d.may_leave d.moment d.left_since d.faults d.sound g.met.D.Disk.only_now now x.zero x.frames x.index c.args.self.now
+    (with_version c.args.self.now.shape.block (place c.args.group c.args.view c.args.stripe) c.args.stamp (Some c.args.block) c.args.self.now.state) f view (no_slot_fault f c.in_err-slot.ensures.memory) standing c.in_ok-ready.ensures.runs (c.in_ok-ready.ensures.free refl))
+
+pub invariant_of-self-2 : goal.invariant_of-self-2
+invariant_of-self-2 g c =
+    let d = g.D.Disk in
+    let x = c.self.inside in
+    let st = state_of x.index in
+    let p = place c.args.group c.args.view c.args.stripe in
+    let t = c.args.stamp in
+    let now = c.hold_new.new.blocks in
+    let slot = c.in_ok-slot.slot in
+    let above = above_of x.frames.shape.block x.blocks (stripe_at st p) t (Some c.args.block) (next_seen x.blocks x.frames st p t (Some c.args.block) c.args.self.now c.self.view_is c.requires.above) in
+    let standing = standing_same d.tells d.seen d.may_leave d.moment d.left_since d.faults d.sound x.blocks now x.zero x.frames x.index c.hold_new.ensures.same c.self.invariant in
+    let small : slot < 4294967295 = omega (arith, c.in_ok-slot.ensures.slot, ap (λ (l : Limits). l.slots) c.self.invariant.indexed.limits_are, c.self.invariant.limits.few_slots) in
+    standing_put d.tells d.seen d.may_leave d.moment d.left_since d.faults d.sound slot c.as_slice.result.now now x.zero x.frames c.commit_with.new.frames x.index c.commit_with.new.index
+    (forms.Logged (record { group = c.args.group; view = c.args.view; stripe = c.args.stripe; stamp = t; change = Slot false slot })) (added p (entry t slot) st) c.commit_with.result standing c.in_ok-ready.ensures.runs
+    (slot_applied (limits_of x.index) c.args.group c.args.view c.args.stripe t slot st c.requires.group (c.in_ok-ready.ensures.free refl) c.in_ok-slot.ensures.slot above)
+    (λ P here all. slots_added P p t slot st here all) small (c.in_ok-slot.ensures.held ∙ ap Some (sym c.as_slice.ensures.value))
+    (ap length c.as_slice.ensures.value ∙ c.requires.block ∙ sym (ap (λ (b : Brick g.row.D.Denot). b.shape.block) c.self.view_is)) c.in_ok-slot.ensures.unnamed
+    c.self.invariant.indexed.members c.commit_with.ensures.limits c.commit_with.ensures.step c.commit_with.ensures.made c.commit_with.ensures.not_made
+
+pub returns : goal.returns
+returns g c =
+    let d = g.D.Disk in
+    let x = c.self.inside in
+    let st = state_of x.index in
+    let p = place c.args.group c.args.view c.args.stripe in
+    let t = c.args.stamp in
+    let now = c.hold_new.new.blocks in
+    let slot = c.in_ok-slot.slot in
+    let above = above_of x.frames.shape.block x.blocks (stripe_at st p) t (Some c.args.block) (next_seen x.blocks x.frames st p t (Some c.args.block) c.args.self.now c.self.view_is c.requires.above) in
+    let standing = standing_same d.tells d.seen d.may_leave d.moment d.left_since d.faults d.sound x.blocks now x.zero x.frames x.index c.hold_new.ensures.same c.self.invariant in
+    let small : slot < 4294967295 = omega (arith, c.in_ok-slot.ensures.slot, ap (λ (l : Limits). l.slots) c.self.invariant.indexed.limits_are, c.self.invariant.limits.few_slots) in
+    let view = brick_same x.blocks now x.frames st c.hold_new.ensures.same ∙ c.self.view_is in
+    let tried = changes_put d.tells d.seen d.may_leave d.moment d.left_since d.faults d.sound slot c.as_slice.result.now now x.zero x.frames c.commit_with.new.frames x.index
+    (forms.Logged (record { group = c.args.group; view = c.args.view; stripe = c.args.stripe; stamp = t; change = Slot false slot })) (state_of c.commit_with.new.index) (added p (entry t slot) st) c.commit_with.result standing c.in_ok-ready.ensures.runs (c.in_ok-ready.ensures.free refl)
+    (slot_applied (limits_of x.index) c.args.group c.args.view c.args.stripe t slot st c.requires.group (c.in_ok-ready.ensures.free refl) c.in_ok-slot.ensures.slot above)
+    (λ P here all. slots_added P p t slot st here all) small (c.in_ok-slot.ensures.held ∙ ap Some (sym c.as_slice.ensures.value)) c.in_ok-slot.ensures.unnamed
+    c.commit_with.ensures.step c.commit_with.ensures.made c.commit_with.ensures.not_made c.commit_with.ensures.cause in
+    told_of d.tells d.seen d.may_leave d.moment d.left_since d.faults d.sound now x.frames c.commit_with.new.frames st (state_of c.commit_with.new.index) (added p (entry t slot) st) c.args.self.now
+    (with_version c.args.self.now.shape.block p t (Some c.args.block)) (λ s. true) true c.commit_with.result view
+    (with_version_seen now x.frames st p t (Some c.args.block) slot c.args.self.now view (cached_is x.frames.shape.block now slot c.args.block small c.in_ok-slot.ensures.held)) refl tried

@@ -1,0 +1,20 @@
+-- What the index says is what a clause sees.
+use Rattle.std.proofs.Common.{Option, ap, ◌∙◌}
+use Rattle.std.specs.Option.{option_map}
+use Rattle.fab_base.specs.declared.stamps.Ballot.{Ballot}
+use Rattle.brick_state.specs.declared.groups.Group.{Group}
+use Rattle.brick_state.specs.States.{group_at}
+use Rattle.brick_state.specs.Indexes.{state_of}
+use Rattle.brick_store.specs.Blocks.{cached}
+use Rattle.brick_store.specs.Bricks.{Brick}
+use Rattle.brick_store.proofs.Seen.{group_seen}
+use Rattle.brick_store.proofs.stores.BrickStore.promised.Goals as goal
+
+pub returns : goal.returns
+returns g c =
+    let x = c.self.inside in
+    let block = cached x.frames.shape.block x.blocks in
+    c.promised_of.ensures ∙ ap promised (c.group.ensures ∙ (group_seen block (state_of x.index) c.args.group.0 ∙ ap (λ (b : Brick g.row.D.Denot). group_at b.state c.args.group.0) c.self.view_is))
+  where
+    promised : Group → Option Ballot
+    promised group = option_map (λ kept. kept.0) group.ballots

@@ -1,0 +1,73 @@
+-- What an opening reads.
+use Rattle.std.specs.Prelude.{◌≡◌, ◌⊎◌, ℕ, ◌-◌, ◌<◌, ◌^◌, ◌==◌, Bool, true, Some, None, IsSome, List, ◌∷◌, length}
+use Rattle.std.specs.Ordering.{nat_cmp}
+use Rattle.std.specs.BTreeMap.{BTreeMap, get}
+use Rattle.frame_store.specs.declared.shapes.Shape.{Shape}
+use Rattle.frame_store.specs.Images.{HasSlot, OpensAs, KeepsSlots, block_in}
+use Rattle.frame_store.specs.declared.frames.Frame.{Frame}
+use Rattle.brick_state.specs.declared.records.Record.{Record}
+use Rattle.brick_state.specs.declared.stripes.Entry.{Entry}
+use Rattle.brick_state.specs.States.{StateOf, empty}
+use Rattle.brick_state.specs.Folds.{Limits, applied, folded}
+use Rattle.brick_state.specs.KeptStates.{IsKeptState}
+use Rattle.brick_store.specs.Images.{record_of, records_of, limits_of}
+use Rattle.brick_store.specs.Standing.{AllSlots, GroupHasMembers, IsCached, IsStored, Leads}
+use Rattle.std.specs.List.{AllByRecursion}
+
+-- the frame is a record that leads from one state to the other
+pub record IsTaken (limits : Limits) (frame : Frame) (old new : StateOf Entry) : Type 0 where
+  pub read : Record
+  pub is : record_of frame ≡ Some read
+  pub leads : applied limits read old ≡ Some new
+
+-- the frame, and what comes after it, changes nothing
+pub record EndsBefore (limits : Limits) (frame : Frame) (old new : StateOf Entry) : Type 0 where
+  pub same : new ≡ old
+  pub ends : (rest : List Frame) → folded limits (records_of (frame ∷ rest)) old ≡ old
+
+-- the block in the slot is held in memory; that of the zero block need not be
+abbrev pub IsHeld : BTreeMap ℕ (List ℕ) → ℕ → Type 0
+IsHeld blocks slot = ((slot == 4294967295) ≡ true) ⊎ IsSome (get nat_cmp blocks slot)
+
+-- a block that was read from a slot of a file of this size, and of this content where that is told
+pub record IsReadFrom (tells : Type 0) (shape : Shape) (size : ℕ) (content : List ℕ) (slot : ℕ) (bytes : List ℕ) : Type 0 where
+  pub has : HasSlot shape size slot
+  pub len : length bytes ≡ shape.block
+  pub told : tells → bytes ≡ block_in shape slot content
+
+abbrev pub AreRead : Type 0 → Shape → ℕ → List ℕ → BTreeMap ℕ (List ℕ) → Type 0
+AreRead tells shape size content blocks = (slot : ℕ) (bytes : List ℕ) → get nat_cmp blocks slot ≡ Some bytes → IsReadFrom tells shape size content slot bytes
+
+-- the slot is that of the zero block, or one of the file's
+abbrev pub IsInside : Shape → ℕ → ℕ → Type 0
+IsInside shape size slot = ((slot == 4294967295) ≡ true) ⊎ HasSlot shape size slot
+
+-- At a moment of an opening the image opens as frames of this state, and the slots hold what they held.
+pub record IsKeptIn (shape : Shape) (st : StateOf Entry) (content image : List ℕ) : Type 0 where
+  pub frames : List Frame
+  pub opens : OpensAs shape frames true image
+  pub state : folded (limits_of shape) (records_of frames) empty ≡ st
+  pub slots : KeepsSlots shape None content image
+
+-- the disk allowed the image before, or it has P
+abbrev pub IsAllowedOr : (List ℕ → Type 0) → (List ℕ → Type 0) → List ℕ → Type 0
+IsAllowedOr allowed P image = allowed image ⊎ P image
+
+-- What an opening read: the index is what is made of the frames, and the blocks of its versions are in memory.
+pub record IsLoaded (tells : Type 0) (shape : Shape) (frames : List Frame) (content : List ℕ) (limits : Limits) (st : StateOf Entry) (whole : Bool) (blocks : BTreeMap ℕ (List ℕ)) : Type 0 where
+  pub limits_are : limits ≡ limits_of shape
+  pub found : folded (limits_of shape) (records_of frames) empty ≡ st
+  pub leads : whole ≡ true → Leads (limits_of shape) frames empty st
+  pub kept : IsKeptState (limits_of shape) st
+  pub members : AllByRecursion GroupHasMembers st.groups
+  pub held : AllSlots (IsCached shape.block blocks) st
+  pub stored : tells → AllSlots (IsStored shape blocks content) st
+  pub boots : st.boot < 2 ^ 32 - 1
+
+-- as the one state, or as the other
+abbrev pub IsKeptInEither : Shape → StateOf Entry → StateOf Entry → List ℕ → List ℕ → Type 0
+IsKeptInEither shape before after content image = IsKeptIn shape before content image ⊎ IsKeptIn shape after content image
+
+-- what frames make of a brick that keeps nothing
+abbrev pub found_in : Shape → List Frame → StateOf Entry
+found_in shape frames = folded (limits_of shape) (records_of frames) empty

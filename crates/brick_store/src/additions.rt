@@ -1,0 +1,38 @@
+//! The block of a version that is added.
+
+ghost use Rattle.std.specs.Prelude.{◌≡◌, ◌≢◌, ◌<◌, Some, Err, IfOk, OnErr};
+ghost use Rattle.std.specs.Ordering.{nat_cmp};
+ghost use Rattle.std.specs.BTreeMap.{get};
+ghost use Rattle.brick_state.specs.States.{live};
+ghost use Rattle.brick_state.specs.Indexes.{state_of, limits_of};
+ghost use Rattle.brick_store.specs.Standing.{AllSlots};
+
+use crate::faults::StoreFault;
+use brick_state::Index;
+use fab_base::Bytes;
+use std::alloc::Global;
+use std::collections::BTreeMap;
+
+/// Holds a block in memory, under a slot that no version names. What was held there was the block of a version that is no
+/// longer kept, or that was not added in the end.
+///
+/// # Errors
+/// [`StoreFault::NoMemory`].
+pub fn hold_new(
+    alloc: Global,
+    index: &Index,
+    blocks: &mut BTreeMap<u32, Bytes>,
+    block: &Bytes,
+) -> Result<u32, StoreFault>
+    requires free { live (state_of index.now) < (limits_of index.now).slots }
+    ensures slot { IfOk result (λ slot. slot < (limits_of index.now).slots) }
+    ensures unnamed { IfOk result (λ slot. AllSlots (λ other. other ≢ slot) (state_of index.now)) }
+    ensures held { IfOk result (λ slot. get nat_cmp blocks.new slot ≡ Some block.now) }
+    ensures same { AllSlots (λ other. get nat_cmp blocks.new other ≡ get nat_cmp blocks.old other) (state_of index.now) }
+    ensures memory { OnErr result (result ≡ Err StoreFault.NoMemory) }
+{
+    let slot = index.free_slot()?;
+    let held = block.copy(alloc)?;
+    blocks.insert(slot, held)?;
+    Ok(slot)
+}

@@ -1,0 +1,103 @@
+//! Reading the blocks of versions into memory.
+
+ghost use Rattle.std.specs.Prelude.{◌≡◌, ◌≢◌, ◌==◌, ℕ, true, false, Err, IfOk, OnOk, IsOk, length};
+ghost use Rattle.std.specs.List.{AllByRecursion};
+ghost use Rattle.fab_disk.specs.Disk.{IsUntouched, Kept};
+ghost use Rattle.frame_store.specs.Images.{HasSlot, block_in};
+ghost use Rattle.frame_store.specs.Stores.{IsRead, IsSame};
+ghost use Rattle.brick_store.specs.Standing.{IsCached, IsStored};
+ghost use Rattle.brick_store.specs.Openings.{IsHeld, AreRead, IsInside};
+
+use crate::faults::StoreFault;
+use brick_state::ZERO_SLOT;
+use fab_base::Bytes;
+use fab_disk::Disk;
+use frame_store::FrameStore;
+use std::alloc::Global;
+use std::collections::BTreeMap;
+
+// Reads the block in a slot. NotAStore where the file has no such slot.
+fn read_block<D: Disk>(
+    alloc: Global,
+    frames: &mut FrameStore<D>,
+    block: u16,
+    slot: u32,
+) -> Result<Bytes, StoreFault>
+    requires block { block ≡ frames.old.shape.block }
+    requires runs { frames.old.halted ≡ false }
+    ensures has { IfOk result (λ bytes. HasSlot frames.old.shape frames.old.size slot) }
+    ensures len { IfOk result (λ bytes. length bytes ≡ frames.old.shape.block) }
+    ensures bytes { D.tells → IfOk result (λ bytes. bytes ≡ block_in frames.old.shape slot (D.seen frames.old.disk)) }
+    ensures same { IsSame frames.old frames.new }
+    ensures untouched { IsUntouched D.seen D.may_leave D.moment D.left_since frames.old.disk frames.new.disk }
+    ensures still_runs { IsOk result → frames.new.halted ≡ false }
+    ensures no_slot { result ≡ Err StoreFault.NotAStore → HasSlot frames.old.shape frames.old.size slot → ⊥ }
+    ensures not_halted { result ≢ Err StoreFault.Halted }
+    ensures not_full { (n : ℕ) → result ≢ Err (StoreFault.Full n) }
+    ensures not_worn { result ≢ Err StoreFault.Worn }
+    ensures cause { Kept (D.faults frames.old.disk) (D.faults frames.new.disk) (D.sound frames.old.disk) (D.sound frames.new.disk) (result ≡ Err StoreFault.Disk) }
+{
+    if !frames.has_slot(slot) {
+        return Err(StoreFault::NotAStore);
+    }
+    let mut bytes = vec![in alloc; 0u8; block as usize]?;
+    frames.read_slot(slot, &mut bytes)?;
+    Ok(Bytes::from_vec(bytes))
+}
+
+// Reads the block in a slot into memory, where it is not there yet.
+fn hold_block<D: Disk>(
+    alloc: Global,
+    frames: &mut FrameStore<D>,
+    blocks: &mut BTreeMap<u32, Bytes>,
+    block: u16,
+    slot: u32,
+) -> Result<(), StoreFault>
+    requires block { block ≡ frames.old.shape.block }
+    requires runs { frames.old.halted ≡ false }
+    ensures held { OnOk result (IsHeld blocks.new slot) }
+    ensures others { OnOk result ((other : ℕ) → IsHeld blocks.old other → IsHeld blocks.new other) }
+    ensures read { OnOk result (AreRead D.tells frames.old.shape frames.old.size (D.seen frames.old.disk) blocks.old → AreRead D.tells frames.old.shape frames.old.size (D.seen frames.old.disk) blocks.new) }
+    ensures same { IsSame frames.old frames.new }
+    ensures untouched { IsUntouched D.seen D.may_leave D.moment D.left_since frames.old.disk frames.new.disk }
+    ensures still_runs { IsOk result → frames.new.halted ≡ false }
+    ensures no_slot { result ≡ Err StoreFault.NotAStore → IsInside frames.old.shape frames.old.size slot → ⊥ }
+    ensures not_halted { result ≢ Err StoreFault.Halted }
+    ensures not_full { (n : ℕ) → result ≢ Err (StoreFault.Full n) }
+    ensures not_worn { result ≢ Err StoreFault.Worn }
+    ensures cause { Kept (D.faults frames.old.disk) (D.faults frames.new.disk) (D.sound frames.old.disk) (D.sound frames.new.disk) (result ≡ Err StoreFault.Disk) }
+{
+    if slot == ZERO_SLOT || blocks.contains_key(&slot) {
+        return Ok(());
+    }
+    let bytes = read_block(alloc, frames, block, slot)?;
+    blocks.insert(slot, bytes)?;
+    Ok(())
+}
+
+// Reads the blocks in these slots into memory.
+pub(crate) fn read_blocks<D: Disk>(
+    alloc: Global,
+    frames: &mut FrameStore<D>,
+    slots: &[u32],
+    block: u16,
+) -> Result<BTreeMap<u32, Bytes>, StoreFault>
+    requires block { block ≡ frames.old.shape.block }
+    requires runs { frames.old.halted ≡ false }
+    ensures held { IfOk result (λ blocks. AllByRecursion (IsHeld blocks) slots.now) }
+    ensures read { IfOk result (λ blocks. AreRead D.tells frames.old.shape frames.old.size (D.seen frames.old.disk) blocks) }
+    ensures same { IsSame frames.old frames.new }
+    ensures untouched { IsUntouched D.seen D.may_leave D.moment D.left_since frames.old.disk frames.new.disk }
+    ensures still_runs { IsOk result → frames.new.halted ≡ false }
+    ensures no_slot { result ≡ Err StoreFault.NotAStore → AllByRecursion (IsInside frames.old.shape frames.old.size) slots.now → ⊥ }
+    ensures not_halted { result ≢ Err StoreFault.Halted }
+    ensures not_full { (n : ℕ) → result ≢ Err (StoreFault.Full n) }
+    ensures not_worn { result ≢ Err StoreFault.Worn }
+    ensures cause { Kept (D.faults frames.old.disk) (D.faults frames.new.disk) (D.sound frames.old.disk) (D.sound frames.new.disk) (result ≡ Err StoreFault.Disk) }
+{
+    let mut blocks = BTreeMap::new(alloc);
+    for slot in slots {
+        hold_block(alloc, frames, &mut blocks, block, *slot)?;
+    }
+    Ok(blocks)
+}

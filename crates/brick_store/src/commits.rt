@@ -1,0 +1,189 @@
+//! One change: its record is appended to the list of frames, and then it is made in the index.
+
+ghost use Rattle.std.specs.Prelude.{◌≡◌, ◌≢◌, ◌⊎◌, ◌+◌, ◌≤◌, ◌<◌, Some, None, IsSome, Err, true, false, OnOk, OnErr, Bool, length};
+ghost use Rattle.std.specs.List.{AllByRecursion};
+ghost use Rattle.fab_disk.specs.Disk.{Kept};
+ghost use Rattle.frame_store.specs.Layouts.{IsShape};
+ghost use Rattle.frame_store.specs.Listed.{Fits};
+ghost use Rattle.brick_state.specs.States.{live};
+ghost use Rattle.brick_state.specs.Indexes.{state_of, limits_of};
+ghost use Rattle.brick_state.specs.Folds.{applied, is_full};
+ghost use Rattle.brick_state.specs.KeptStates.{IsKeptState};
+ghost use Rattle.brick_store.specs.Standing.{GroupHasMembers, IsIndexed};
+ghost use Rattle.brick_store.specs.Steps.{RecordHasMembers, Step, MayStep, changed, HasAppendRoom, IsRefused};
+
+use crate::faults::StoreFault;
+use crate::index_steps::{apply, reserve};
+use crate::rewrites::{frame_of, live_frames};
+use brick_state::{Index, Record};
+use fab_disk::Disk;
+use frame_store::FrameStore;
+use std::alloc::Global;
+
+// Puts the frames of what the index keeps in the place of the list, with room in memory for one append.
+fn rewrite<D: Disk>(
+    alloc: Global,
+    frames: &mut FrameStore<D>,
+    index: &Index,
+    body: usize,
+) -> Result<(), StoreFault>
+    requires may { MayStep D.tells D.seen D.may_leave D.moment D.left_since (state_of index.now) frames.old }
+    requires shape { IsShape frames.old.shape }
+    requires indexed { IsIndexed frames.old.shape frames.old.frames (limits_of index.now) (state_of index.now) }
+    requires small { body ≤ 145 }
+    ensures step { Step D.tells D.seen D.may_leave D.moment D.left_since None (state_of index.now) (state_of index.now) frames.old frames.new result }
+    ensures fits { OnOk result (Fits frames.new.shape frames.new.frames body) }
+    ensures room { OnOk result (HasAppendRoom D.has_room frames.new body) }
+    ensures cause { Kept (D.faults frames.old.disk) (D.faults frames.new.disk) (D.sound frames.old.disk) (D.sound frames.new.disk) (result ≡ Err StoreFault.Disk) }
+{
+    let live = live_frames(alloc, index)?;
+    frames.reserve(&live, body)?;
+    frames.rewrite(live)?;
+    Ok(())
+}
+
+// Makes room in the half for a frame with a body of this length: where it does not fit, the list is rewritten.
+fn make_room<D: Disk>(
+    alloc: Global,
+    frames: &mut FrameStore<D>,
+    index: &Index,
+    body: usize,
+) -> Result<(), StoreFault>
+    requires may { MayStep D.tells D.seen D.may_leave D.moment D.left_since (state_of index.now) frames.old }
+    requires shape { IsShape frames.old.shape }
+    requires indexed { IsIndexed frames.old.shape frames.old.frames (limits_of index.now) (state_of index.now) }
+    requires small { body ≤ 145 }
+    ensures step { Step D.tells D.seen D.may_leave D.moment D.left_since None (state_of index.now) (state_of index.now) frames.old frames.new result }
+    ensures fits { OnOk result (Fits frames.new.shape frames.new.frames body) }
+    ensures room { OnOk result ((frames.new ≡ frames.old) ⊎ HasAppendRoom D.has_room frames.new body) }
+    ensures cause { Kept (D.faults frames.old.disk) (D.faults frames.new.disk) (D.sound frames.old.disk) (D.sound frames.new.disk) (result ≡ Err StoreFault.Disk) }
+{
+    if frames.fits(body) {
+        return Ok(());
+    }
+    rewrite(alloc, frames, index, body)
+}
+
+// Appends the frame of a record that can be.
+fn append_record<D: Disk>(
+    alloc: Global,
+    frames: &mut FrameStore<D>,
+    index: &Index,
+    item: &Record,
+) -> Result<(), StoreFault>
+    requires may { MayStep D.tells D.seen D.may_leave D.moment D.left_since (state_of index.now) frames.old }
+    requires shape { IsShape frames.old.shape }
+    requires indexed { IsIndexed frames.old.shape frames.old.frames (limits_of index.now) (state_of index.now) }
+    requires members { RecordHasMembers item.now }
+    requires can { IsSome (applied (limits_of index.now) item.now (state_of index.now)) }
+    ensures step { Step D.tells D.seen D.may_leave D.moment D.left_since None (state_of index.now) (changed (limits_of index.now) item.now (state_of index.now)) frames.old frames.new result }
+    ensures cause { Kept (D.faults frames.old.disk) (D.faults frames.new.disk) (D.sound frames.old.disk) (D.sound frames.new.disk) (result ≡ Err StoreFault.Disk) }
+{
+    let frame = frame_of(alloc, item)?;
+    make_room(alloc, frames, index, frame.body.len())?;
+    frames.append(frame.kind, frame.body.as_slice())?;
+    Ok(())
+}
+
+/// Whether a change can be tried that adds a live record or not.
+///
+/// # Errors
+/// [`StoreFault::Halted`]; [`StoreFault::Full`] for one that adds a record.
+pub fn ready<D: Disk>(frames: &FrameStore<D>, index: &Index, adds: bool) -> Result<(), StoreFault>
+    requires within { live (state_of index.now) ≤ (limits_of index.now).records }
+    requires few { (limits_of index.now).records ≤ 1048576 }
+    ensures runs { OnOk result (frames.now.halted ≡ false) }
+    ensures free { OnOk result (adds ≡ true → is_full (limits_of index.now) (state_of index.now) ≡ false) }
+    ensures refused { OnErr result (IsRefused frames.now.halted adds (limits_of index.now).records (live (state_of index.now)) result) }
+{
+    if frames.is_halted() {
+        return Err(StoreFault::Halted);
+    }
+    if adds && index.is_full() {
+        return Err(StoreFault::Full { live: index.live() });
+    }
+    Ok(())
+}
+
+// Appends the frame of a record that can be, with a block in its slot.
+fn append_version<D: Disk>(
+    alloc: Global,
+    frames: &mut FrameStore<D>,
+    index: &Index,
+    item: &Record,
+    slot: u32,
+    block: &[u8],
+) -> Result<(), StoreFault>
+    requires may { MayStep D.tells D.seen D.may_leave D.moment D.left_since (state_of index.now) frames.old }
+    requires shape { IsShape frames.old.shape }
+    requires indexed { IsIndexed frames.old.shape frames.old.frames (limits_of index.now) (state_of index.now) }
+    requires members { RecordHasMembers item.now }
+    requires can { IsSome (applied (limits_of index.now) item.now (state_of index.now)) }
+    requires slot { slot < frames.old.shape.records }
+    requires block { length block.now ≡ frames.old.shape.block }
+    ensures step { Step D.tells D.seen D.may_leave D.moment D.left_since (Some (slot, block.now)) (state_of index.now) (changed (limits_of index.now) item.now (state_of index.now)) frames.old frames.new result }
+    ensures cause { Kept (D.faults frames.old.disk) (D.faults frames.new.disk) (D.sound frames.old.disk) (D.sound frames.new.disk) (result ≡ Err StoreFault.Disk) }
+{
+    let frame = frame_of(alloc, item)?;
+    make_room(alloc, frames, index, frame.body.len())?;
+    frames.append_with(slot, block, frame)?;
+    Ok(())
+}
+
+/// Makes the change of a record that can be, and that adds no block of its own.
+///
+/// # Errors
+/// [`StoreFault::Disk`]; [`StoreFault::NoMemory`], before the disk changed.
+pub fn commit<D: Disk>(
+    alloc: Global,
+    frames: &mut FrameStore<D>,
+    index: &mut Index,
+    item: &Record,
+) -> Result<(), StoreFault>
+    requires may { MayStep D.tells D.seen D.may_leave D.moment D.left_since (state_of index.old) frames.old }
+    requires shape { IsShape frames.old.shape }
+    requires indexed { IsIndexed frames.old.shape frames.old.frames (limits_of index.old) (state_of index.old) }
+    requires members { RecordHasMembers item.now }
+    requires can { IsSome (applied (limits_of index.old) item.now (state_of index.old)) }
+    ensures step { Step D.tells D.seen D.may_leave D.moment D.left_since None (state_of index.old) (changed (limits_of index.old) item.now (state_of index.old)) frames.old frames.new result }
+    ensures made { OnOk result (state_of index.new ≡ changed (limits_of index.old) item.now (state_of index.old)) }
+    ensures not_made { OnErr result (state_of index.new ≡ state_of index.old) }
+    ensures limits { limits_of index.new ≡ limits_of index.old }
+    ensures cause { Kept (D.faults frames.old.disk) (D.faults frames.new.disk) (D.sound frames.old.disk) (D.sound frames.new.disk) (result ≡ Err StoreFault.Disk) }
+{
+    reserve(index, item)?;
+    append_record(alloc, frames, index, item)?;
+    apply(index, item);
+    Ok(())
+}
+
+/// Makes the change of a record that can be, with a block in its slot.
+///
+/// # Errors
+/// [`StoreFault::Disk`]; [`StoreFault::NoMemory`], before the disk changed.
+pub fn commit_with<D: Disk>(
+    alloc: Global,
+    frames: &mut FrameStore<D>,
+    index: &mut Index,
+    item: &Record,
+    slot: u32,
+    block: &[u8],
+) -> Result<(), StoreFault>
+    requires may { MayStep D.tells D.seen D.may_leave D.moment D.left_since (state_of index.old) frames.old }
+    requires shape { IsShape frames.old.shape }
+    requires indexed { IsIndexed frames.old.shape frames.old.frames (limits_of index.old) (state_of index.old) }
+    requires members { RecordHasMembers item.now }
+    requires can { IsSome (applied (limits_of index.old) item.now (state_of index.old)) }
+    requires slot { slot < frames.old.shape.records }
+    requires block { length block.now ≡ frames.old.shape.block }
+    ensures step { Step D.tells D.seen D.may_leave D.moment D.left_since (Some (slot, block.now)) (state_of index.old) (changed (limits_of index.old) item.now (state_of index.old)) frames.old frames.new result }
+    ensures made { OnOk result (state_of index.new ≡ changed (limits_of index.old) item.now (state_of index.old)) }
+    ensures not_made { OnErr result (state_of index.new ≡ state_of index.old) }
+    ensures limits { limits_of index.new ≡ limits_of index.old }
+    ensures cause { Kept (D.faults frames.old.disk) (D.faults frames.new.disk) (D.sound frames.old.disk) (D.sound frames.new.disk) (result ≡ Err StoreFault.Disk) }
+{
+    reserve(index, item)?;
+    append_version(alloc, frames, index, item, slot, block)?;
+    apply(index, item);
+    Ok(())
+}
