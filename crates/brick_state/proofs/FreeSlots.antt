@@ -1,13 +1,13 @@
 -- A slot that no version names.
-use Rattle.std.proofs.Common.{◌≡◌, ◌≢◌, ℕ, zero, suc, ◌+◌, ◌<◌, ◌≤◌, Bool, true, false, cond, ltb, not, Option, Some, None, List, [], ◌∷◌, ◌++◌, length, map, drop, get_or, set, replicate, refl, sym, ap, subst, ◌∙◌, arith}
+use Rattle.std.proofs.Common.{◌≡◌, ◌≢◌, ℕ, zero, suc, ◌+◌, ◌<◌, ◌≤◌, Bool, true, false, cond, ltb, not, Some, None, List, [], ◌∷◌, length, map, drop, get_or, set, replicate, refl, sym, subst, ◌∙◌, arith}
 use Rattle.std.specs.List.{AllByRecursion, position, position_or_len}
 use Rattle.std.specs.Map.{values_of}
 use Rattle.std.proofs.lemmas.Bool.Decides.{nat_tests}
 use Rattle.std.proofs.lemmas.List.{length-append, length-map, length-set, length-replicate}
 use Rattle.std.proofs.lemmas.List.Sums.{sum_by-cons, fails_before_first, passes_at_first}
 use Rattle.brick_state.specs.declared.stripes.Entry.{Entry}
-use Rattle.brick_state.specs.States.{Place, StripeOf, StateOf, weight, live_in, live}
-use Rattle.brick_state.specs.Slots.{slot_of, slots_in, slots_of, IsFree, marked}
+use Rattle.brick_state.specs.States.{Place, StripeOf, weight, live_in}
+use Rattle.brick_state.specs.Slots.{slot_of, slots_in, IsFree, marked}
 
 -- no more slots are named than there are live records
 pub slots_few : (stripes : List (Place × StripeOf Entry)) → length (slots_in stripes) ≤ live_in stripes

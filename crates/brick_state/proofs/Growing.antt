@@ -1,25 +1,19 @@
 -- A stripe that grows, past all stripes that are done.
-use Rattle.std.proofs.Common.{◌≡◌, ℕ, ◌+◌, ◌<◌, ◌≤◌, Bool, true, false, not, ◌&&◌, ◌||◌, cond, ltb, leb, eqb, Option, Some, None, List, [], ◌∷◌, ◌++◌, length, map, refl, sym, ap, subst, ◌∙◌, append_assoc, arith}
+use Rattle.std.proofs.Common.{◌≡◌, ℕ, ◌+◌, ◌<◌, Bool, true, false, cond, Option, Some, None, List, [], ◌∷◌, ◌++◌, refl, sym, ap, ◌∙◌, arith}
 use Rattle.std.specs.List.{sum_by}
-use Rattle.std.specs.Map.{lookup, remove_entry, values_of}
+use Rattle.std.specs.Map.{remove_entry, values_of}
 use Rattle.std.specs.BTreeMap.{insert_entry, is_at}
 use Rattle.std.specs.Option.{unwrap_or}
-use Rattle.std.proofs.lemmas.Bool.{lt-ltb, eqb-true, leb-false, lt-leb}
-use Rattle.std.proofs.lemmas.List.{length-append, map-append, append-nil}
+use Rattle.std.proofs.lemmas.Bool.{lt-ltb, lt-leb}
+use Rattle.std.proofs.lemmas.List.{map-append}
 use Rattle.std.proofs.lemmas.List.Sums.{sum_by-append, sum_by-cons}
-use Rattle.fab_base.specs.declared.stamps.Stamp.{Stamp}
-use Rattle.fab_base.specs.Stamps.{stamp_below, stamp_same, first_stamp}
-use Rattle.stamp_store.specs.declared.log_records.LogChange.{LogChange}
 use Rattle.brick_state.specs.declared.groups.Group.{Group}
-use Rattle.brick_state.specs.declared.records.Record.{Record}
 use Rattle.brick_state.specs.declared.stripes.Entry.{Entry}
-use Rattle.brick_state.specs.States.{Place, StripeOf, StateOf, place_cmp, first_stripe, is_first, stripe_in, stripe_at, put, with_stripe, weight, live, live_in, last, newest_entry, with_added, with_bottom}
-use Rattle.brick_state.specs.Folds.{Limits, applied, log_changed, is_full, is_slot, entry, placed}
-use Rattle.brick_state.specs.Rewrites.{version_change, version_record, version_records}
-use Rattle.brick_state.specs.KeptStates.{IsAbove, Rises}
+use Rattle.brick_state.specs.States.{Place, StripeOf, StateOf, place_cmp, first_stripe, is_first, stripe_in, stripe_at, put, weight, live_in}
+use Rattle.brick_state.specs.Folds.{Limits, applied, log_changed, is_full, placed}
+use Rattle.brick_state.specs.Rewrites.{version_change, version_record}
 use Rattle.brick_state.proofs.Listings.{AllBelow, insert_last, insert_again, lookup_last, lookup_above, remove_above, remove_last}
 use Rattle.brick_state.proofs.StripeMaps.{place_total, is_first-true, weight_first}
-use Rattle.brick_state.proofs.Rewriting.{Leads}
 
 abbrev pub Stripes : Type 0
 Stripes = List (Place × StripeOf Entry)

@@ -1,7 +1,7 @@
 -- The states that records lead to are kept states.
-use Rattle.std.proofs.Common.{◌≡◌, ℕ, zero, suc, ◌+◌, ◌-◌, ◌<◌, ◌≤◌, Bool, true, false, not, ◌&&◌, cond, ltb, leb, eqb, Option, Some, None, List, [], ◌∷◌, length, set, get_or, map, refl, sym, ap, subst, ◌∙◌, arith}
+use Rattle.std.proofs.Common.{◌≡◌, ℕ, zero, suc, ◌+◌, ◌-◌, ◌<◌, ◌≤◌, Bool, true, false, not, ◌&&◌, cond, ltb, leb, Option, Some, None, List, [], ◌∷◌, length, set, get_or, refl, sym, ap, subst, ◌∙◌, arith}
 use Rattle.std.specs.Prelude.{replicate}
-use Rattle.std.specs.List.{AllByRecursion, filter, sum_by}
+use Rattle.std.specs.List.{AllByRecursion, filter}
 use Rattle.std.specs.List.Sorted.{IsStrictlySortedBy}
 use Rattle.std.specs.Map.{keys_of, values_of}
 use Rattle.std.proofs.lemmas.Bool.{and_parts, leb-true, ltb-true, leb-false}
@@ -20,7 +20,7 @@ use Rattle.brick_state.specs.declared.groups.Group.{Group}
 use Rattle.brick_state.specs.declared.records.Record.{Record}
 use Rattle.brick_state.specs.declared.records.Record.TheVariants as forms
 use Rattle.brick_state.specs.declared.stripes.Entry.{Entry}
-use Rattle.brick_state.specs.States.{Place, StripeOf, StateOf, place_cmp, is_first, stripe_at, with_stripe, with_order, weight, live, live_in, no_group, group_at, with_view, with_ballots, viewed, balloted, booted, ordered, empty, is_of_view}
+use Rattle.brick_state.specs.States.{Place, StripeOf, StateOf, place_cmp, stripe_at, with_stripe, with_order, weight, live, live_in, no_group, group_at, with_view, with_ballots, viewed, balloted, booted, ordered, empty, is_of_view}
 use Rattle.brick_state.specs.Folds.{Limits, applied, folded, log_changed, placed, place, is_full, adds_order, onward}
 use Rattle.brick_state.specs.KeptStates.{IsKeptStripe, IsLearnt, IsKeptState}
 use Rattle.brick_state.proofs.Listings.{all_filter}

@@ -12,3 +12,4 @@ pub mod Keeping
 pub mod UsedSlots
 pub mod LiveRecords
 pub mod FreeSlots
+pub mod Greatest

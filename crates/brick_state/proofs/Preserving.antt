@@ -1,15 +1,15 @@
 -- What holds of a state holds after a record.
-use Rattle.std.proofs.Common.{◌≡◌, ℕ, ◌+◌, ◌<◌, ◌≤◌, Bool, true, false, not, ◌&&◌, ◌||◌, cond, ltb, leb, eqb, Option, Some, None, List, [], ◌∷◌, ◌++◌, length, refl, sym, ap, subst, ◌∙◌, arith}
-use Rattle.std.specs.List.{AllByRecursion, filter, sum_by}
+use Rattle.std.proofs.Common.{◌≡◌, ◌+◌, Bool, true, false, cond, Option, Some, None, List, refl, sym, arith}
+use Rattle.std.specs.List.{AllByRecursion}
 use Rattle.std.specs.List.Sorted.{IsStrictlySortedBy}
-use Rattle.std.specs.Map.{lookup, keys_of, values_of, remove_entry}
+use Rattle.std.specs.Map.{lookup, keys_of, remove_entry}
 use Rattle.std.specs.BTreeMap.{insert_entry, is_at}
 use Rattle.std.specs.Option.{unwrap_or, option_map}
 use Rattle.std.proofs.lemmas.Map.Entries.{sum_by-insert_entry, sum_by-remove_entry}
-use Rattle.fab_base.specs.Stamps.{stamp_same, first_stamp}
+use Rattle.fab_base.specs.Stamps.{first_stamp}
 use Rattle.fab_base.proofs.StampOrder.{stamp_same_refl}
 use Rattle.brick_state.specs.declared.stripes.Entry.{Entry}
-use Rattle.brick_state.specs.States.{Place, StripeOf, StateOf, place_cmp, first_stripe, is_first, stripe_in, put, weight, live_in}
+use Rattle.brick_state.specs.States.{Place, StripeOf, place_cmp, first_stripe, is_first, stripe_in, put, weight, live_in}
 use Rattle.brick_state.specs.Folds.{Limits}
 use Rattle.brick_state.specs.KeptStates.{IsKeptStripe}
 use Rattle.brick_state.proofs.Listings.{sorted_inserted, sorted_removed, all_insert, all_remove}

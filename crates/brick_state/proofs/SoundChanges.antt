@@ -1,8 +1,8 @@
 -- A stripe stays sound through each change of its log that can be, and grows by one live record at most.
-use Rattle.std.proofs.Common.{◌≡◌, ℕ, suc, ◌+◌, ◌-◌, ◌<◌, ◌≤◌, Bool, true, false, not, ◌&&◌, ◌||◌, cond, ltb, leb, eqb, Option, Some, None, List, [], ◌∷◌, ◌++◌, length, refl, sym, ap, subst, ◌∙◌, arith}
-use Rattle.std.specs.List.{AllByRecursion, filter, list_any}
+use Rattle.std.proofs.Common.{◌≡◌, ℕ, ◌+◌, ◌≤◌, Bool, true, false, not, ◌&&◌, ◌||◌, cond, eqb, Option, Some, None, List, [], ◌∷◌, length, refl, sym, subst, ◌∙◌, arith}
+use Rattle.std.specs.List.{filter, list_any}
 use Rattle.std.proofs.lemmas.List.{length-append}
-use Rattle.std.proofs.lemmas.Bool.{eqb-true, and_parts, or_cases}
+use Rattle.std.proofs.lemmas.Bool.{and_parts}
 use Rattle.fab_base.specs.declared.stamps.Stamp.{Stamp}
 use Rattle.fab_base.specs.Stamps.{stamp_below, stamp_same, first_stamp}
 use Rattle.fab_base.proofs.StampOrder.{stamp_below_trans, stamp_below_irrefl, stamp_same_true}
@@ -13,7 +13,7 @@ use Rattle.brick_state.specs.States.{Place, StripeOf, newest_entry, has_version,
 use Rattle.brick_state.specs.Folds.{Limits, log_changed, same_added, is_above, is_slot, entry}
 use Rattle.brick_state.specs.Rewrites.{start_of}
 use Rattle.brick_state.specs.KeptStates.{IsAbove, Rises}
-use Rattle.brick_state.proofs.SoundStripes.{IsSound, newest_of, newest_entry_is, newest_slot, start_slot, added_sound, bottom_sound}
+use Rattle.brick_state.proofs.SoundStripes.{IsSound, newest_entry_is, newest_slot, start_slot, added_sound, bottom_sound}
 
 -- ---- versions of which some are left out
 

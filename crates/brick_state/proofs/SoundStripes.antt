@@ -1,21 +1,18 @@
 -- A stripe stays sound through each change that can be.
-use Rattle.std.proofs.Common.{◌≡◌, ℕ, suc, ◌+◌, ◌-◌, ◌<◌, ◌≤◌, Bool, true, false, not, ◌&&◌, ◌||◌, cond, ltb, leb, eqb, Option, Some, None, List, [], ◌∷◌, ◌++◌, length, refl, sym, ap, subst, ◌∙◌, arith}
+use Rattle.std.proofs.Common.{◌≡◌, suc, ◌-◌, ◌<◌, Bool, true, false, cond, eqb, Option, Some, List, [], ◌∷◌, ◌++◌, length, refl, sym, ap, subst, ◌∙◌, arith}
 use Rattle.std.specs.declared.cmp.Ordering.{Ordering}
 use Rattle.std.specs.declared.cmp.Ordering.TheVariants.{Less, Equal, Greater}
 use Rattle.std.specs.Ordering.{is_eq}
-use Rattle.std.specs.List.{AllByRecursion, filter, list_any, slice_get}
+use Rattle.std.specs.List.{AllByRecursion}
 use Rattle.std.specs.Map.{lookup}
 use Rattle.std.specs.BTreeMap.{is_at}
 use Rattle.std.specs.Option.{unwrap_or}
 use Rattle.std.proofs.lemmas.List.{length-append}
 use Rattle.fab_base.specs.declared.stamps.Stamp.{Stamp}
-use Rattle.fab_base.specs.Stamps.{stamp_below, stamp_same, first_stamp}
-use Rattle.fab_base.proofs.StampOrder.{stamp_below_trans, stamp_below_irrefl, stamp_same_true}
-use Rattle.stamp_store.specs.declared.log_records.LogChange.{LogChange}
-use Rattle.stamp_store.specs.declared.log_records.LogChange.TheVariants.{Same, Collect, Slot}
+use Rattle.fab_base.specs.Stamps.{first_stamp}
 use Rattle.brick_state.specs.declared.stripes.Entry.{Entry}
-use Rattle.brick_state.specs.States.{Place, StripeOf, place_cmp, first_stripe, is_first, stripe_in, last, newest_entry, has_version, stamp_of, with_order, with_added, with_bottom, with_collected}
-use Rattle.brick_state.specs.Folds.{Limits, log_changed, same_added, is_above, is_slot, entry}
+use Rattle.brick_state.specs.States.{Place, StripeOf, place_cmp, first_stripe, is_first, stripe_in, last, newest_entry, with_order, with_added, with_bottom}
+use Rattle.brick_state.specs.Folds.{Limits, is_slot}
 use Rattle.brick_state.specs.Rewrites.{start_of}
 use Rattle.brick_state.specs.KeptStates.{IsAbove, Rises, IsKeptStripe}
 use Rattle.brick_state.proofs.StripeMaps.{place_exact}

@@ -1,5 +1,5 @@
 -- The records that are written of a state bring it back.
-use Rattle.std.proofs.Common.{◌≡◌, ℕ, suc, ◌+◌, ◌<◌, ◌≤◌, Bool, true, false, ◌&&◌, cond, ltb, leb, Option, Some, None, List, [], ◌∷◌, ◌++◌, length, get_or, set, map, refl, sym, ap, subst, ◌∙◌, append_assoc, arith}
+use Rattle.std.proofs.Common.{◌≡◌, ℕ, suc, ◌+◌, ◌<◌, ◌≤◌, Bool, ◌&&◌, cond, leb, Option, Some, None, List, [], ◌∷◌, ◌++◌, length, set, refl, sym, ap, subst, ◌∙◌, append_assoc, arith}
 use Rattle.std.specs.Prelude.{replicate}
 use Rattle.std.specs.declared.cmp.Ordering.TheVariants.{Less}
 use Rattle.std.specs.List.{AllByRecursion, sum_by}
@@ -17,7 +17,7 @@ use Rattle.brick_state.specs.declared.groups.Group.{Group}
 use Rattle.brick_state.specs.declared.stripes.Entry.{Entry}
 use Rattle.brick_state.specs.States.{Place, StripeOf, StateOf, place_cmp, weight, live_in, no_group, group_at, with_view, with_ballots, viewed, balloted, empty}
 use Rattle.brick_state.specs.Folds.{Limits, applied, folded}
-use Rattle.brick_state.specs.Rewrites.{learnt_number, view_record, view_records, ballot_record, ballot_records, group_records, groups_records, stripe_records, stripes_records, live_records, group_id, view_no}
+use Rattle.brick_state.specs.Rewrites.{learnt_number, view_record, view_records, ballot_record, ballot_records, group_records, groups_records, stripe_records, stripes_records, live_records}
 use Rattle.brick_state.specs.KeptStates.{IsKeptStripe, IsLearnt, IsKeptState}
 use Rattle.brick_state.proofs.Rewriting.{Leads, leads_append, leads_one, leads_folded}
 use Rattle.brick_state.proofs.Growing.{Stripes, parts, IsPast}

@@ -1,25 +1,21 @@
 -- The records of a stripe bring it back.
-use Rattle.std.proofs.Common.{◌≡◌, ℕ, ◌+◌, ◌-◌, ◌<◌, ◌≤◌, Bool, true, false, not, ◌&&◌, ◌||◌, cond, ltb, leb, eqb, Option, Some, None, List, [], ◌∷◌, ◌++◌, length, get_or, map, refl, sym, ap, subst, ◌∙◌, append_assoc, arith}
-use Rattle.std.specs.List.{AllByRecursion, slice_get}
-use Rattle.std.specs.List.Sorted.{IsStrictlySortedBy}
-use Rattle.std.specs.Map.{keys_of}
-use Rattle.std.proofs.lemmas.Bool.{lt-ltb, eqb-true, lt-leb, cases_Bool}
+use Rattle.std.proofs.Common.{◌≡◌, ℕ, ◌+◌, ◌-◌, ◌<◌, ◌≤◌, Bool, true, false, not, ◌&&◌, ◌||◌, cond, eqb, Option, Some, None, List, [], ◌∷◌, ◌++◌, length, refl, sym, ap, subst, ◌∙◌, append_assoc, arith}
+use Rattle.std.proofs.lemmas.Bool.{lt-ltb, eqb-true, lt-leb}
 use Rattle.std.proofs.lemmas.List.{length-append, append-nil, get_or_push, length_push}
 use Rattle.std.proofs.lemmas.Option.{slice_get-get_or}
-use Rattle.std.proofs.lemmas.Map.Keys.{sorted_head, sorted_tail}
 use Rattle.fab_base.specs.declared.stamps.Stamp.{Stamp}
-use Rattle.fab_base.specs.Stamps.{stamp_below, stamp_same, first_stamp}
-use Rattle.fab_base.proofs.StampOrder.{stamp_same_true, stamp_same_refl}
+use Rattle.fab_base.specs.Stamps.{stamp_same, first_stamp}
+use Rattle.fab_base.proofs.StampOrder.{stamp_same_true}
 use Rattle.stamp_store.specs.declared.log_records.LogChange.TheVariants.{Same, Slot}
 use Rattle.brick_state.specs.declared.groups.Group.{Group}
 use Rattle.brick_state.specs.declared.stripes.Entry.{Entry}
-use Rattle.brick_state.specs.States.{Place, StripeOf, StateOf, place_cmp, first_stripe, is_first, stripe_at, put, ordered, weight, live_in, last, newest_entry, with_order, with_added, with_bottom}
+use Rattle.brick_state.specs.States.{Place, StripeOf, StateOf, first_stripe, stripe_at, put, ordered, weight, live_in, last, newest_entry, with_order, with_added, with_bottom}
 use Rattle.brick_state.specs.Folds.{Limits, applied, log_changed, same_added, is_above, is_full, is_slot, entry, adds_order}
-use Rattle.brick_state.specs.Rewrites.{version_change, version_records, order_record, order_records, stripe_records, stripes_records, start_of}
+use Rattle.brick_state.specs.Rewrites.{version_change, version_records, order_record, order_records, stripe_records, start_of}
 use Rattle.brick_state.specs.KeptStates.{IsAbove, Rises, IsKeptStripe}
-use Rattle.brick_state.proofs.StripeMaps.{place_total, is_first-true, is_first-first, weight_first, stripe_is}
+use Rattle.brick_state.proofs.StripeMaps.{is_first-first, stripe_is}
 use Rattle.brick_state.proofs.Rewriting.{Leads, leads_append, leads_one}
-use Rattle.brick_state.proofs.Growing.{Stripes, parts, IsPast, with_last, stripe_last, put_last, live_last, changed_last}
+use Rattle.brick_state.proofs.Growing.{Stripes, parts, IsPast, with_last, stripe_last, put_last, changed_last}
 
 last_push : {X : Type 0} (xs : List X) (x : X) → last (xs ++ x ∷ []) ≡ Some x
 last_push xs x =

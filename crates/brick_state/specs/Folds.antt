@@ -1,5 +1,5 @@
 -- What a list of records makes of a brick that keeps nothing.
-use Rattle.std.specs.Prelude.{◌≡◌, ℕ, Bool, true, not, ◌||◌, ◌&&◌, nat_lt, nat_le, ◌==◌, if◌then◌else◌, Option, Some, None, List, [], ◌∷◌, length}
+use Rattle.std.specs.Prelude.{ℕ, Bool, true, not, ◌||◌, ◌&&◌, nat_lt, nat_le, ◌==◌, if◌then◌else◌, Option, Some, None, List, [], ◌∷◌, length}
 use Rattle.fab_base.specs.declared.stamps.Stamp.{Stamp}
 use Rattle.fab_base.specs.declared.identities.GroupId.{GroupId}
 use Rattle.fab_base.specs.declared.identities.ViewNo.{ViewNo}
@@ -7,7 +7,6 @@ use Rattle.fab_base.specs.declared.identities.StripeNo.{StripeNo}
 use Rattle.fab_base.specs.Stamps.{stamp_below, stamp_same, first_stamp}
 use Rattle.stamp_store.specs.declared.kept_records.Kept.TheVariants.{Boot, Ballots, Order}
 use Rattle.stamp_store.specs.declared.kept_records.Kept.TheVariants as kinds
-use Rattle.stamp_store.specs.declared.log_records.Logged.{Logged}
 use Rattle.stamp_store.specs.declared.log_records.LogChange.{LogChange}
 use Rattle.stamp_store.specs.declared.log_records.LogChange.TheVariants.{Same, Collect, Slot}
 use Rattle.brick_state.specs.declared.records.Record.{Record}

@@ -1,12 +1,11 @@
 -- What holds of the states that records lead to.
-use Rattle.std.specs.Prelude.{◌≡◌, ℕ, ◌<◌, ◌≤◌, Bool, true, false, ◌==◌, Option, Some, None, List, [], ◌∷◌, length}
+use Rattle.std.specs.Prelude.{◌≡◌, ◌<◌, ◌≤◌, Bool, true, false, ◌==◌, Option, Some, None, List, [], ◌∷◌, length}
 use Rattle.fab_base.specs.Stamps.{stamp_below}
 use Rattle.brick_state.specs.declared.stripes.Entry.{Entry}
 use Rattle.std.specs.List.{AllByRecursion}
 use Rattle.std.specs.List.Sorted.{IsStrictlySortedBy}
 use Rattle.std.specs.Map.{keys_of}
 use Rattle.fab_base.specs.declared.member_lists.View.{View}
-use Rattle.brick_state.specs.declared.groups.Group.{Group}
 use Rattle.brick_state.specs.States.{Place, StripeOf, StateOf, place_cmp, is_first, live}
 use Rattle.brick_state.specs.Folds.{Limits, is_slot}
 use Rattle.brick_state.specs.Rewrites.{start_of}

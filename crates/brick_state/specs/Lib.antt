@@ -6,3 +6,4 @@ pub mod Folds
 pub mod Rewrites
 pub mod KeptStates
 pub mod Slots
+pub mod Times

@@ -1,5 +1,5 @@
 -- What a map of stripes says.
-use Rattle.std.specs.Prelude.{◌≡◌, ℕ, ◌<◌, Bool, true, false, not, Option, Some, None, List, map, filter, vec_len, vec_capacity}
+use Rattle.std.specs.Prelude.{◌≡◌, ◌<◌, Bool, true, false, not, Option, Some, None, List, map, filter, vec_len, vec_capacity}
 use Rattle.std.specs.BTreeMap.{BTreeMap, get}
 use Rattle.brick_state.specs.declared.stripes.Entry.{Entry}
 use Rattle.brick_state.specs.declared.stripes.Stripe.{Stripe}

@@ -13,7 +13,6 @@ use Rattle.stamp_store.specs.declared.kept_records.Kept.TheVariants.{Boot, Ballo
 use Rattle.stamp_store.specs.declared.kept_records.Kept.TheVariants as kinds
 use Rattle.stamp_store.specs.declared.log_records.LogChange.{LogChange}
 use Rattle.stamp_store.specs.declared.log_records.LogChange.TheVariants.{Same, Slot}
-use Rattle.stamp_store.specs.declared.log_records.Logged.{Logged}
 use Rattle.brick_state.specs.declared.groups.Group.{Group}
 use Rattle.brick_state.specs.declared.records.Record.{Record}
 use Rattle.brick_state.specs.declared.records.Record.TheVariants as forms

@@ -25,7 +25,8 @@ pub struct Index {
 
 impl Index {
     ghost use Rattle.std.specs.Prelude.{◌≡◌, ◌-◌, ◌^◌, min, true, false, Ok, Some, None, ◌&&◌, nat_lt, nat_le, ◌<◌, if◌then◌else◌, IfNone, IfSome, IfOk, OnOk, OnErr, IsOk};
-    ghost use Rattle.brick_state.specs.States.{empty, live, group_at, first_stripe, stripe_of, viewed, balloted, ordered, stripe_at};
+    ghost use Rattle.brick_state.specs.States.{empty, live, group_at, first_stripe, stripe_of, stamp_of, viewed, balloted, ordered, stripe_at};
+    ghost use Rattle.brick_state.specs.Times.{top_time};
     ghost use Rattle.brick_state.specs.Folds.{applied, place, is_full, adds_order, placed, log_changed};
     ghost use Rattle.brick_state.specs.Maps.{HasRoom};
     ghost use Rattle.brick_state.specs.Slots.{slots_of, IsFree};
@@ -61,6 +62,13 @@ impl Index {
     {
         let total = stripe_maps::weigh(&self.stripes);
         total.min(4294967295) as u32
+    }
+
+    /// The greatest time of the order stamps and of the versions added, 0 where there is none.
+    pub fn top_time(&self) -> u64
+        ensures { result ≡ top_time stamp_of (state_of self.now) }
+    {
+        stripe_maps::top_time(&self.stripes)
     }
 
     /// How often the store was opened.

@@ -5,6 +5,8 @@ ghost use Rattle.brick_state.specs.States.{place_cmp, weight, first_stripe, stri
 ghost use Rattle.fab_base.specs.Stamps.{stamp_below};
 ghost use Rattle.std.specs.BTreeMap.{get, values};
 ghost use Rattle.brick_state.specs.Weights.{live_of};
+ghost use Rattle.brick_state.specs.Times.{greatest, stripe_time};
+ghost use Rattle.std.specs.Map.{values_of};
 ghost use Rattle.brick_state.specs.Maps.{listed, HasRoom, AnswersAt};
 ghost use Rattle.brick_state.specs.Folds.{log_changed, same_added, is_above, slot_limits};
 
@@ -57,6 +59,23 @@ fn weigh_all(stripes: &BTreeMap<Place, Stripe>) -> usize
         total = total.saturating_add(stripe.weight());
     }
     total
+}
+
+/// The greatest time of the order stamps and of the versions added, 0 where there is none.
+pub fn top_time(stripes: &BTreeMap<Place, Stripe>) -> u64
+    ensures { result ≡ greatest (stripe_time stamp_of) (values_of (listed stripes.now.entries)) }
+{
+    top_of_all(stripes)
+}
+
+fn top_of_all(stripes: &BTreeMap<Place, Stripe>) -> u64
+    ensures { result ≡ greatest (λ s. stripe_time stamp_of (stripe_of s)) (values stripes.now) }
+{
+    let mut top = 0u64;
+    for stripe in stripes.values() {
+        top = top.max(stripe.top_time());
+    }
+    top
 }
 
 /// Makes room for a change of a stripe.

@@ -3,7 +3,8 @@
 ghost use Rattle.std.specs.Prelude.{◌≡◌, ◌-◌, ◌^◌, min};
 ghost use Rattle.std.specs.List.{list_any};
 ghost use Rattle.fab_base.specs.Stamps.{stamp_same};
-ghost use Rattle.brick_state.specs.States.{first_stripe, weight, stripe_of, newest_entry, has_version};
+ghost use Rattle.brick_state.specs.States.{first_stripe, weight, stripe_of, stamp_of, newest_entry, has_version};
+ghost use Rattle.brick_state.specs.Times.{greatest, stripe_time};
 
 use fab_base::{NoMem, Stamp};
 use std::alloc::Global;
@@ -66,6 +67,13 @@ impl Stripe {
         order.saturating_add(self.added.len())
     }
 
+    /// The greatest time of its order stamp and of the versions added.
+    pub fn top_time(&self) -> u64
+        ensures { result ≡ stripe_time stamp_of (stripe_of self.now) }
+    {
+        self.order.time.max(newest_time(&self.added))
+    }
+
     /// The version that a stripe of this place begins with, if there is one.
     pub fn first_entry(place: Place) -> Option<Entry>
         ensures { result ≡ newest_entry (first_stripe place) }
@@ -100,6 +108,16 @@ impl Stripe {
         let added = any_has(&self.added, stamp);
         (self.from_start && Stamp::FIRST.is_same(stamp)) || added
     }
+}
+
+fn newest_time(entries: &[Entry]) -> u64
+    ensures { result ≡ greatest (λ e. (stamp_of e).time) entries.now }
+{
+    let mut top = 0u64;
+    for entry in entries {
+        top = top.max(entry.stamp.time);
+    }
+    top
 }
 
 fn any_has(entries: &[Entry], stamp: Stamp) -> bool

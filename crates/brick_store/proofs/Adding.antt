@@ -1,5 +1,5 @@
 -- A version that is added with a block of its own.
-use Rattle.std.proofs.Common.{◌≡◌, ◌≢◌, ◌⊎◌, inl, inr, ℕ, ◌+◌, ◌<◌, ◌≤◌, Bool, true, false, cond, eqb, Option, Some, None, List, [], ◌∷◌, length, Result, Ok, Err, refl, sym, ap, subst, ◌∙◌, arith}
+use Rattle.std.proofs.Common.{◌≡◌, ◌≢◌, inl, inr, ℕ, ◌<◌, Bool, true, false, cond, eqb, Option, Some, List, [], ◌∷◌, length, Result, Ok, Err, refl, sym, ap, subst, ◌∙◌, arith}
 use Rattle.std.specs.Option.{unwrap_or}
 use Rattle.std.specs.List.{AllByRecursion}
 use Rattle.std.specs.declared.cmp.Ordering.{Ordering}
@@ -10,10 +10,10 @@ use Rattle.std.specs.BTreeMap.{BTreeMap, get, is_at}
 use Rattle.std.specs.Result.{OnOk, OnErr}
 use Rattle.std.proofs.lemmas.Map.Lookups.{exact_unsigned}
 use Rattle.std.proofs.lemmas.Bool.Decides.{nat_tests}
-use Rattle.fab_disk.specs.Disk.{IsUntouched, Kept}
+use Rattle.fab_disk.specs.Disk.{Kept}
 use Rattle.fab_disk.proofs.Moments.{started}
 use Rattle.frame_store.specs.declared.shapes.Shape.{Shape}
-use Rattle.frame_store.specs.Images.{OpensAs, block_in, StandsIn, IsOther, KeepsSlots}
+use Rattle.frame_store.specs.Images.{OpensAs, StandsIn, KeepsSlots}
 use Rattle.frame_store.specs.Stores.{Held}
 use Rattle.version_log.specs.Versions.{Version}
 use Rattle.brick_state.specs.declared.records.Record.{Record}
@@ -25,11 +25,11 @@ use Rattle.brick_state.specs.Indexes.{state_of}
 use Rattle.brick_state.specs.Indexes as indexes
 use Rattle.brick_state.proofs.Keeping.{applied_keeps}
 use Rattle.brick_store.specs.declared.faults.StoreFault.{StoreFault}
-use Rattle.brick_store.specs.declared.faults.StoreFault.TheVariants.{Disk, Full, Halted, NotAStore, Worn, NoMemory}
+use Rattle.brick_store.specs.declared.faults.StoreFault.TheVariants.{Disk, NoMemory}
 use Rattle.brick_store.specs.Blocks.{resolved, cached}
 use Rattle.brick_store.specs.Bricks.{Brick, IsAnswer}
 use Rattle.brick_store.specs.Images.{limits_of, StandsFor}
-use Rattle.brick_store.specs.Standing.{AllSlots, IsCached, IsStored, GroupHasMembers, IsOnDisk, Standing}
+use Rattle.brick_store.specs.Standing.{AllSlots, IsCached, IsStored, GroupHasMembers, Standing}
 use Rattle.brick_store.specs.Steps.{changed, Step}
 use Rattle.brick_store.specs.Changes.{Changes}
 use Rattle.brick_store.proofs.Changed.{changed_to, not_full}
@@ -60,15 +60,34 @@ slots_both P Q st all also = stripes_both P Q st.stripes all also
 abbrev pub SameUnder : BTreeMap ℕ (List ℕ) → BTreeMap ℕ (List ℕ) → ℕ → Type 0
 SameUnder blocks now slot = get nat_cmp now slot ≡ get nat_cmp blocks slot
 
+pub other_apart : (slot other : ℕ) → other ≢ slot → is_at (nat_cmp slot) other ≡ false
+other_apart slot other apart = away (nat_cmp slot other) refl
+  where
+    away : (r : Ordering) → nat_cmp slot other ≡ r → is_eq r ≡ false
+    away Less at = refl
+    away Greater at = refl
+    away Equal at = absurd (apart (sym (exact_unsigned slot other at)))
+
 -- as it does where one slot changed that no version names
 pub same_others : (blocks now : BTreeMap ℕ (List ℕ)) (slot : ℕ) (st : StateOf Entry) → ((other : ℕ) → is_at (nat_cmp slot) other ≡ false → get nat_cmp now other ≡ get nat_cmp blocks other) → AllSlots (λ other. other ≢ slot) st
     → AllSlots (SameUnder blocks now) st
-same_others blocks now slot st updates unnamed = slots_imply (λ other. other ≢ slot) (SameUnder blocks now) (λ other apart. updates other (away other apart (nat_cmp slot other) refl)) st unnamed
-  where
-    away : (other : ℕ) → other ≢ slot → (r : Ordering) → nat_cmp slot other ≡ r → is_eq r ≡ false
-    away other apart Less at = refl
-    away other apart Greater at = refl
-    away other apart Equal at = absurd (apart (sym (exact_unsigned slot other at)))
+same_others blocks now slot st updates unnamed = slots_imply (λ other. other ≢ slot) (SameUnder blocks now) (λ other apart. updates other (other_apart slot other apart)) st unnamed
+
+-- it is so of each version where it is so of each slot
+entries_every : (P : ℕ → Type 0) → ((slot : ℕ) → P slot) → (entries : List Entry) → AllByRecursion (λ v. P v.slot) entries
+entries_every P each [] = tt
+entries_every P each (e ∷ entries) = (each e.slot, entries_every P each entries)
+
+stripes_every : (P : ℕ → Type 0) → ((slot : ℕ) → P slot) → (stripes : List (Place × StripeOf Entry)) → AllByRecursion (λ e. AllByRecursion (λ v. P v.slot) e.1.added) stripes
+stripes_every P each [] = tt
+stripes_every P each (e ∷ stripes) = (entries_every P each e.1.added, stripes_every P each stripes)
+
+-- the slot of a version that was not added is forgotten
+pub same_settled : (blocks now : BTreeMap ℕ (List ℕ)) (slot : ℕ) (st st_now : StateOf Entry) (result : Result (Unit {0}) StoreFault) → OnOk result (now ≡ blocks) → ((other : ℕ) → other ≢ slot → SameUnder blocks now other) → OnErr result (st_now ≡ st)
+    → AllSlots (λ other. other ≢ slot) st → AllSlots (SameUnder blocks now) st_now
+same_settled blocks now slot st st_now (Ok u) added others same unnamed = stripes_every (SameUnder blocks now) (λ other. ap (λ (b : BTreeMap ℕ (List ℕ)). get nat_cmp b other) added) st_now.stripes
+same_settled blocks now slot st st_now (Err e) added others same unnamed =
+    subst (λ (s : StateOf Entry). AllSlots (SameUnder blocks now) s) (sym same) (slots_imply (λ other. other ≢ slot) (SameUnder blocks now) others st unnamed)
 
 cached_same : (size : ℕ) (blocks now : BTreeMap ℕ (List ℕ)) (slot : ℕ) → SameUnder blocks now slot → cached size now slot ≡ cached size blocks slot
 cached_same size blocks now slot same = ap (λ (o : Option (List ℕ)). cond (eqb slot 4294967295) (replicate size 0) (unwrap_or o [])) same

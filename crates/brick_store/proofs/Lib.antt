@@ -15,3 +15,4 @@ pub mod Seen
 pub mod Versions
 pub mod Adding
 pub mod Opened
+pub mod HeldLogs

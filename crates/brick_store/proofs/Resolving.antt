@@ -1,5 +1,5 @@
 -- A change of a state with slots is that change of the state with their blocks.
-use Rattle.std.proofs.Common.{◌≡◌, ℕ, ◌+◌, ◌-◌, Bool, true, false, not, ◌&&◌, ◌||◌, cond, eqb, Option, Some, None, List, [], ◌∷◌, map, refl, sym, ap, ◌∙◌}
+use Rattle.std.proofs.Common.{◌≡◌, ℕ, ◌+◌, ◌-◌, max, Bool, true, false, not, ◌&&◌, ◌||◌, cond, eqb, Option, Some, None, List, [], ◌∷◌, map, refl, sym, ap, ◌∙◌}
 use Rattle.std.specs.List.{AllByRecursion}
 use Rattle.std.specs.Map.{lookup, remove_entry, values_of}
 use Rattle.std.specs.BTreeMap.{insert_entry, is_at}
@@ -16,6 +16,8 @@ use Rattle.fab_base.specs.Stamps.{stamp_below, stamp_same, first_stamp}
 use Rattle.version_log.specs.Versions.{Version, version}
 use Rattle.brick_state.specs.declared.stripes.Entry.{Entry}
 use Rattle.brick_state.specs.States.{Place, StripeOf, StateOf, place_cmp, first_stripe, is_first, stripe_at, put, weight, live, live_in, stamp_of, with_stripe, with_order, with_added, with_collected, ordered, added, collected, viewed, balloted, booted, is_of_view}
+use Rattle.brick_state.specs.Times.{greatest, stripe_time, top_time}
+use Rattle.brick_state.proofs.Greatest.{greatest-map}
 use Rattle.brick_state.proofs.Listings.{map_values, map_values-insert_entry, map_values-remove_entry, map_values-filter}
 use Rattle.brick_store.specs.Blocks.{resolved, resolved_stripe, version_stamp}
 use Rattle.brick_store.specs.Standing.{AllSlots}
@@ -162,3 +164,20 @@ stripes_imply P Q step (e ∷ stripes) all = (entries_imply P Q step e.1.added a
 
 pub slots_imply : (P Q : ℕ → Type 0) → ((slot : ℕ) → P slot → Q slot) → (st : StateOf Entry) → AllSlots P st → AllSlots Q st
 slots_imply P Q step st all = stripes_imply P Q step st.stripes all
+
+-- ---- times
+
+stripe_time-resolved : (block : ℕ → List ℕ) (s : StripeOf Entry) → stripe_time version_stamp (resolved_stripe block s) ≡ stripe_time stamp_of s
+stripe_time-resolved block s = ap (max s.order.time) (greatest-map (λ v. (version_stamp v).time) (version_of block) s.added)
+
+times-resolved : (block : ℕ → List ℕ) (stripes : List (Place × StripeOf Entry))
+    → greatest (stripe_time version_stamp) (values_of (map_values (resolved_stripe block) stripes)) ≡ greatest (stripe_time stamp_of) (values_of stripes)
+unfolding greatest
+times-resolved block [] = refl
+times-resolved block (e ∷ stripes) =
+    ap (λ (n : ℕ). max n (greatest (stripe_time version_stamp) (values_of (map_values (resolved_stripe block) stripes)))) (stripe_time-resolved block e.1)
+    ∙ ap (max (stripe_time stamp_of e.1)) (times-resolved block stripes)
+
+pub top_time-resolved : (block : ℕ → List ℕ) (st : StateOf Entry) → top_time version_stamp (resolved block st) ≡ top_time stamp_of st
+unfolding resolved
+top_time-resolved block st = times-resolved block st.stripes

@@ -1,9 +1,8 @@
 -- A version more in a log: the record that adds it, and the slot and the block that it has.
-use Rattle.std.proofs.Common.{◌≡◌, ◌≢◌, ℕ, suc, ◌-◌, ◌<◌, ◌≤◌, ltb, leb, eqb, ◌||◌, Bool, true, false, cond, Option, Some, None, List, [], ◌∷◌, ◌++◌, length, map, refl, sym, ap, subst, ◌∙◌, arith}
+use Rattle.std.proofs.Common.{◌≡◌, ℕ, ◌-◌, ◌<◌, ltb, eqb, ◌||◌, Bool, true, false, cond, Option, Some, None, List, [], ◌∷◌, ◌++◌, length, map, refl, sym, ap, subst, ◌∙◌}
 use Rattle.std.specs.Prelude.{replicate}
 use Rattle.std.specs.Option.{IsSome, ForSome, unwrap_or, option_map}
 use Rattle.std.specs.Bool.{IsTrue}
-use Rattle.std.specs.Ordering.{nat_cmp}
 use Rattle.std.specs.BTreeMap.{BTreeMap}
 use Rattle.std.specs.List.{AllByRecursion, slice_get}
 use Rattle.std.proofs.lemmas.Bool.{lt-ltb}
@@ -19,7 +18,7 @@ use Rattle.version_log.specs.Versions.{Version, version, newest, block_of}
 use Rattle.brick_state.specs.declared.records.Record.TheVariants as forms
 use Rattle.brick_state.specs.declared.stripes.Entry.{Entry}
 use Rattle.brick_state.specs.States.{Place, StripeOf, StateOf, stripe_at, with_added, added, newest_entry, last}
-use Rattle.brick_state.specs.Folds.{Limits, applied, log_changed, same_added, place, placed, entry, is_full, is_slot, is_above}
+use Rattle.brick_state.specs.Folds.{Limits, applied, log_changed, same_added, place, placed, entry, is_full, is_above}
 use Rattle.brick_state.specs.Rewrites.{start_of}
 use Rattle.brick_state.proofs.SoundStripes.{newest_of, newest_entry_is}
 use Rattle.brick_store.specs.Blocks.{resolved, resolved_stripe, log_of, log_at, cached, block_added, with_version, IsNext}

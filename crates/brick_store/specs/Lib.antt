@@ -6,3 +6,4 @@ pub mod Openings
 pub mod Steps
 pub mod Changes
 pub mod Sizes
+pub mod Logs

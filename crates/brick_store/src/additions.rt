@@ -1,6 +1,6 @@
 //! The block of a version that is added.
 
-ghost use Rattle.std.specs.Prelude.{◌≡◌, ◌≢◌, ◌<◌, Some, Err, IfOk, OnErr};
+ghost use Rattle.std.specs.Prelude.{◌≡◌, ◌≢◌, ◌<◌, ℕ, Some, Err, IfOk, OnOk, OnErr};
 ghost use Rattle.std.specs.Ordering.{nat_cmp};
 ghost use Rattle.std.specs.BTreeMap.{get};
 ghost use Rattle.brick_state.specs.States.{live};
@@ -14,7 +14,7 @@ use std::alloc::Global;
 use std::collections::BTreeMap;
 
 /// Holds a block in memory, under a slot that no version names. What was held there was the block of a version that is no
-/// longer kept, or that was not added in the end.
+/// longer kept.
 ///
 /// # Errors
 /// [`StoreFault::NoMemory`].
@@ -35,4 +35,23 @@ pub fn hold_new(
     let held = block.copy(alloc)?;
     blocks.insert(slot, held)?;
     Ok(slot)
+}
+
+/// Forgets the block under a slot again where its version was not added.
+pub fn forget_refused(
+    blocks: &mut BTreeMap<u32, Bytes>,
+    slot: u32,
+    answer: Result<(), StoreFault>,
+) -> Result<(), StoreFault>
+    ensures answer { result ≡ answer }
+    ensures added { OnOk answer (blocks.new ≡ blocks.old) }
+    ensures others { (other : ℕ) → other ≢ slot → get nat_cmp blocks.new other ≡ get nat_cmp blocks.old other }
+{
+    match answer {
+        Ok(()) => Ok(()),
+        Err(fault) => {
+            let _ = blocks.remove(&slot);
+            Err(fault)
+        }
+    }
 }

@@ -17,10 +17,12 @@ pub mod openings;
 mod readings;
 mod rewrites;
 mod starts;
+pub mod states;
 pub mod stores;
 mod taking_up;
 
 pub use faults::StoreFault;
 pub use formats::format;
 pub use openings::open_store;
+pub use states::State;
 pub use stores::BrickStore;

@@ -1,14 +1,18 @@
 //! What a store tells of what it keeps. No look-up needs memory.
 
-ghost use Rattle.std.specs.Prelude.{◌≡◌, ◌<◌, option_map};
+ghost use Rattle.std.specs.Prelude.{◌≡◌, ◌<◌, ◌↔◌, ℕ, List, IsTrue, option_map};
+ghost use Rattle.fab_disk.specs.Disk.{KeepsRoom};
+ghost use Rattle.fab_disk.specs.Plan.{IsPlanned};
 ghost use Rattle.brick_state.specs.States.{live, group_at};
-ghost use Rattle.brick_store.specs.Blocks.{accepted_of};
+ghost use Rattle.brick_state.specs.Times.{top_time};
+ghost use Rattle.brick_store.specs.Blocks.{accepted_of, version_stamp, first_kept, learnt_of, IsServed};
+ghost use Rattle.brick_store.specs.Bricks.{Keeps};
 
 use crate::index_steps::accepted_of;
 use crate::stores::BrickStore;
 use brick_state::Group;
-use fab_base::{Ballot, BrickId, GroupId, Members, View};
-use fab_disk::Disk;
+use fab_base::{Ballot, BrickId, GroupId, Members, View, ViewNo};
+use fab_disk::{Armed, Disk, Plan};
 
 impl<D: Disk> BrickStore<D> {
     /// How many live records there are.
@@ -27,6 +31,23 @@ impl<D: Disk> BrickStore<D> {
         known_of(self.index.group(group.0))
     }
 
+    /// The number of the greatest view learnt of a group, 1 before a view was learnt.
+    pub fn learnt(&self, group: GroupId) -> ViewNo
+        requires { group.0 < 64 }
+        ensures { result.0 ≡ learnt_of (group_at self.now.state group.0) }
+    {
+        ViewNo(learnt_number(self.index.group(group.0)))
+    }
+
+    /// Whether the logs of a view of a group are kept: it is the learnt view, or the one before it until all stripes are known
+    /// to be in the learnt one.
+    pub fn serves(&self, group: GroupId, view: ViewNo) -> bool
+        requires { group.0 < 64 }
+        ensures { IsTrue result ↔ IsServed (group_at self.now.state group.0) view.0 }
+    {
+        is_served(self.index.group(group.0), view)
+    }
+
     /// The ballot promised for the successor of the learnt view.
     pub fn promised(&self, group: GroupId) -> Option<Ballot>
         requires { group.0 < 64 }
@@ -43,6 +64,13 @@ impl<D: Disk> BrickStore<D> {
         accepted_of(self.index.group(group.0))
     }
 
+    /// The greatest time of a kept stamp: of the order stamps and the versions added, in all views. 0 where there is none.
+    pub fn top_time(&self) -> u64
+        ensures { result ≡ top_time version_stamp self.now.state }
+    {
+        self.index.top_time()
+    }
+
     /// How often the store was opened.
     pub fn boot(&self) -> u32
         ensures { result ≡ self.now.state.boot }
@@ -56,6 +84,36 @@ impl<D: Disk> BrickStore<D> {
     {
         BrickId(self.frames.shape().me)
     }
+
+    /// Gives the disk back.
+    pub fn into_disk(self) -> D
+        ensures { result ≡ self.disk }
+    {
+        let BrickStore {
+            alloc: _,
+            frames,
+            index: _,
+            blocks: _,
+            zero: _,
+        } = self;
+        frames.into_disk()
+    }
+}
+
+impl<D: Armed> BrickStore<D> {
+    /// Passes a plan on to the disk: see [`Armed::arm`].
+    pub fn arm(&mut self, plan: Plan)
+        ensures same { Keeps self.old.state self.old self.new }
+        ensures halted { self.new.halted ≡ self.old.halted }
+        ensures content { D.seen self.new.disk ≡ D.seen self.old.disk }
+        ensures crash { (image : List ℕ) → D.may_leave self.new.disk image → D.may_leave self.old.disk image }
+        ensures planned { (n : ℕ) → IsPlanned plan n → D.fails_in self.new.disk n }
+        ensures faults { D.faults self.new.disk ≡ D.faults self.old.disk }
+        ensures room { KeepsRoom (D.has_room self.old.disk) (D.has_room self.new.disk) }
+        ensures sound { plan ≡ Plan.Never → D.sound self.old.disk → D.sound self.new.disk }
+    {
+        self.frames.arm(plan);
+    }
 }
 
 fn known_of(group: &Group) -> Option<(View, bool)>
@@ -65,6 +123,36 @@ fn known_of(group: &Group) -> Option<(View, bool)>
         Some((view, synced)) => Some((view.copy(), *synced)),
         None => None,
     }
+}
+
+fn learnt_number(group: &Group) -> u32
+    ensures { result ≡ learnt_of group.now }
+{
+    match &group.known {
+        Some((view, _)) => view.number.0,
+        None => 1,
+    }
+}
+
+fn first_kept(group: &Group) -> u32
+    ensures { result ≡ first_kept group.now.known }
+{
+    match &group.known {
+        Some((view, synced)) => {
+            if *synced {
+                view.number.0
+            } else {
+                view.number.0.saturating_sub(1)
+            }
+        }
+        None => 1,
+    }
+}
+
+fn is_served(group: &Group, view: ViewNo) -> bool
+    ensures { IsTrue result ↔ IsServed group.now view.0 }
+{
+    1 <= view.0 && first_kept(group) <= view.0 && view.0 <= learnt_number(group)
 }
 
 fn promised_of(group: &Group) -> Option<Ballot>

@@ -7,7 +7,7 @@ ghost use Rattle.brick_state.specs.Folds.{place};
 ghost use Rattle.brick_store.specs.Blocks.{log_at, version_stamp, HasStamp, IsServed, adds_stamp, IsNext, with_version, accepted_of, learnt_of, all_synced};
 ghost use Rattle.brick_store.specs.Changes.{Changes};
 
-use crate::additions::hold_new;
+use crate::additions::{forget_refused, hold_new};
 use crate::commits::{commit, commit_with, ready};
 use crate::faults::StoreFault;
 use crate::index_steps::{accepted_of, adds_stamp, learnt_view};
@@ -265,13 +265,14 @@ impl<D: Disk> BrickStore<D> {
                 slot,
             },
         });
-        commit_with(
+        let answer = commit_with(
             self.alloc,
             &mut self.frames,
             &mut self.index,
             &item,
             slot,
             block.as_slice(),
-        )
+        );
+        forget_refused(&mut self.blocks, slot, answer)
     }
 }

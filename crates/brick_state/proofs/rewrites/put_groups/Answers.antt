@@ -1,7 +1,6 @@
 -- The groups that are left give the records that are left.
-use Rattle.std.proofs.Common.{◌≡◌, ◌+◌, ℕ, List, [], ◌∷◌, ◌++◌, drop, sym, ap, ◌∙◌, append_assoc, arith}
+use Rattle.std.proofs.Common.{◌+◌, ◌++◌, drop, sym, ap, ◌∙◌, append_assoc, arith}
 use Rattle.std.proofs.lemmas.List.{append-nil, drop_all}
-use Rattle.brick_state.specs.declared.groups.Group.{Group}
 use Rattle.brick_state.specs.Rewrites.{group_records, groups_records}
 use Rattle.brick_state.proofs.LiveRecords.{groups_step, groups_none}
 use Rattle.brick_state.proofs.rewrites.put_groups.Goals as goal

@@ -1,5 +1,5 @@
 -- The versions that are left give the records that are left.
-use Rattle.std.proofs.Common.{◌≡◌, ◌+◌, ℕ, Some, List, [], ◌∷◌, ◌++◌, drop, get_or, sym, ap, ◌∙◌, append_assoc, arith}
+use Rattle.std.proofs.Common.{◌+◌, Some, [], ◌∷◌, ◌++◌, drop, get_or, sym, ap, ◌∙◌, append_assoc, arith}
 use Rattle.std.proofs.lemmas.List.{append-nil, drop_all}
 use Rattle.fab_base.specs.Stamps.{first_stamp}
 use Rattle.brick_state.specs.declared.stripes.Entry.{Entry}

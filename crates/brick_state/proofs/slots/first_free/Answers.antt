@@ -1,7 +1,6 @@
 -- The first slot that is not marked.
 use Rattle.std.proofs.Common.{◌∙◌, ap, sym, not, arith}
 use Rattle.std.specs.List.{position}
-use Rattle.brick_state.specs.Slots.{IsFree, marked}
 use Rattle.brick_state.proofs.FreeSlots.{free_of, some_free}
 use Rattle.brick_state.proofs.slots.first_free.Goals as goal
 

@@ -1,5 +1,5 @@
 -- The slots are marked one by one.
-use Rattle.std.proofs.Common.{◌≡◌, ap, sym, ◌∙◌, List, Bool, drop, suc, add-one, arith}
+use Rattle.std.proofs.Common.{ap, sym, ◌∙◌, List, Bool, drop, suc, add-one, arith}
 use Rattle.std.proofs.lemmas.Bool.Decides.{nat_tests}
 use Rattle.brick_state.specs.Slots.{marked}
 use Rattle.brick_state.proofs.FreeSlots.{mark_step, mark_end}

@@ -1,5 +1,5 @@
 -- What is left of the map names the slots that are left.
-use Rattle.std.proofs.Common.{◌≡◌, List, [], ◌++◌, map, sym, ap, ◌∙◌, append_assoc}
+use Rattle.std.proofs.Common.{List, ◌++◌, map, sym, ap, ◌∙◌, append_assoc}
 use Rattle.std.proofs.lemmas.List.{append-nil}
 use Rattle.brick_state.specs.declared.stripes.Stripe.{Stripe}
 use Rattle.brick_state.specs.States.{Place}

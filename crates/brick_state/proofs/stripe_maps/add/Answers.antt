@@ -1,7 +1,7 @@
 -- The stripe with the version stands in the map, which had room for it.
 use Rattle.std.proofs.Common.{◌≡◌, ◌<◌, ◌∷◌, [], ◌++◌, vec_len, vec_capacity, sym, ap, subst, ◌∙◌}
 use Rattle.brick_state.specs.declared.stripes.Stripe.{Stripe}
-use Rattle.brick_state.specs.States.{put, with_added, stripe_of}
+use Rattle.brick_state.specs.States.{put, with_added}
 use Rattle.brick_state.specs.Maps.{listed}
 use Rattle.brick_state.proofs.StripeMaps.{written_at, found_at, same_found, pushed}
 use Rattle.brick_state.proofs.stripe_maps.add.Goals as goal

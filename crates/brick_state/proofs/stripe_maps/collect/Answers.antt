@@ -1,6 +1,5 @@
 -- The stripe without the versions below the stamp stands in the map.
 use Rattle.std.proofs.Common.{◌≡◌, Bool, true, false, not, ◌&&◌, sym, ap, subst, ◌∙◌, refl}
-use Rattle.std.specs.List.{filter}
 use Rattle.fab_base.specs.Stamps.{stamp_below, first_stamp}
 use Rattle.brick_state.specs.declared.stripes.Stripe.{Stripe}
 use Rattle.brick_state.specs.States.{put, with_collected, stamp_of}

@@ -1,5 +1,5 @@
 -- The stripes that stay are those that the closure keeps, which only tests.
-use Rattle.std.proofs.Common.{◌≡◌, ap, sym, ◌∙◌, not, ◌&&◌, nat_lt, nat_eq, Bool, true, false, ℕ, List, rules, tests, refl}
+use Rattle.std.proofs.Common.{◌≡◌, ap, ◌∙◌, not, Bool, rules, tests}
 use Rattle.std.proofs.lemmas.Map.Made.{filter_same_pairs}
 use Rattle.std.specs.List.{filter}
 use Rattle.brick_state.specs.declared.stripes.Stripe.{Stripe}

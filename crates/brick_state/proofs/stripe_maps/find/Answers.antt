@@ -1,6 +1,5 @@
 -- What the map has at the place is what a clause sees there.
-use Rattle.std.proofs.Common.{◌≡◌, Option, Some, None, sym}
-use Rattle.std.specs.Option.{IfSome, IfNone, option_copied}
+use Rattle.std.proofs.Common.{sym}
 use Rattle.brick_state.proofs.StripeMaps.{found_in, not_found_in}
 use Rattle.brick_state.proofs.stripe_maps.find.Goals as goal
 

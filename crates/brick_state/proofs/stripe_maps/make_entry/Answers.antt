@@ -1,5 +1,5 @@
 -- A stripe that nothing happened to is not seen.
-use Rattle.std.proofs.Common.{◌≡◌, None, sym, ap, ◌∙◌, rules}
+use Rattle.std.proofs.Common.{sym, ap, ◌∙◌}
 use Rattle.brick_state.specs.Maps.{listed}
 use Rattle.brick_state.proofs.StripeMaps.{first_unseen, none_is}
 use Rattle.brick_state.proofs.stripe_maps.make_entry.Goals as goal

@@ -1,5 +1,5 @@
 -- The stripe in the map says what it said, with room for one version more.
-use Rattle.std.proofs.Common.{◌≡◌, sym, ap, ◌∙◌, refl, rules, arith}
+use Rattle.std.proofs.Common.{sym, ap, ◌∙◌, refl, rules, arith}
 use Rattle.brick_state.specs.declared.stripes.Stripe.{Stripe}
 use Rattle.brick_state.specs.Maps.{listed}
 use Rattle.brick_state.proofs.StripeMaps.{rewritten_same, same_versions}

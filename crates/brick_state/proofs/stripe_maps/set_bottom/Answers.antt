@@ -1,8 +1,7 @@
 -- The stripe with the version alone stands in the map, which had room for it.
 use Rattle.std.proofs.Common.{◌≡◌, ◌<◌, ◌∷◌, [], ◌++◌, vec_len, vec_capacity, false, sym, ap, subst, ◌∙◌, arith}
-use Rattle.brick_state.specs.declared.stripes.Entry.{Entry}
 use Rattle.brick_state.specs.declared.stripes.Stripe.{Stripe}
-use Rattle.brick_state.specs.States.{put, with_bottom, stripe_of}
+use Rattle.brick_state.specs.States.{put, with_bottom}
 use Rattle.brick_state.specs.Maps.{listed}
 use Rattle.brick_state.proofs.StripeMaps.{written_at, found_at, same_found, pushed}
 use Rattle.brick_state.proofs.stripe_maps.set_bottom.Goals as goal

@@ -1,5 +1,5 @@
 -- What is not seen is no live record.
-use Rattle.std.proofs.Common.{◌≡◌, ◌-◌, ◌^◌, min, sym, ap, ◌∙◌}
+use Rattle.std.proofs.Common.{◌-◌, ◌^◌, min, sym, ap, ◌∙◌}
 use Rattle.brick_state.proofs.StripeMaps.{live-listed}
 use Rattle.brick_state.proofs.stripe_maps.weigh.Goals as goal
 

@@ -1,11 +1,8 @@
 -- The slot is none of those that versions name, so what is held under these stays.
-use Rattle.std.proofs.Common.{◌≡◌, ◌≢◌, ℕ, Bool, false, eqb, sym, ap, subst, arith}
-use Rattle.std.specs.Ordering.{nat_cmp, is_eq}
-use Rattle.std.specs.BTreeMap.{is_at}
+use Rattle.std.proofs.Common.{◌≢◌}
 use Rattle.brick_state.specs.Indexes.{state_of, stripes_of}
 use Rattle.brick_state.proofs.UsedSlots.{each_slot}
-use Rattle.brick_store.specs.Standing.{AllSlots}
-use Rattle.brick_store.proofs.Adding.{SameUnder, same_others}
+use Rattle.brick_store.proofs.Adding.{same_others}
 use Rattle.brick_store.proofs.additions.hold_new.Goals as goal
 
 pub returns-clause-unnamed : goal.returns-clause-unnamed

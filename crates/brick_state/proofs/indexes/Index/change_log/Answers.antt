@@ -1,5 +1,5 @@
 -- The change of the stripe is that of the state.
-use Rattle.std.proofs.Common.{◌≡◌, nat_lt, ◌<◌, Bool, true, Option, List, sym, ap, subst, ◌∙◌, arith}
+use Rattle.std.proofs.Common.{nat_lt, Bool, Option, List, subst, arith}
 use Rattle.std.proofs.lemmas.Bool.{lt-ltb}
 use Rattle.brick_state.specs.declared.stripes.Entry.{Entry}
 use Rattle.brick_state.specs.States.{Place, stripe_in, StripeOf}

@@ -1,7 +1,6 @@
 -- Fewer slots are named than there are.
-use Rattle.std.proofs.Common.{◌<◌, List, ℕ, length, sym, ap, subst, ◌∙◌, arith}
-use Rattle.brick_state.specs.Slots.{IsFree}
-use Rattle.brick_state.specs.Indexes.{state_of, stripes_of}
+use Rattle.std.proofs.Common.{length, ap, ◌∙◌, arith}
+use Rattle.brick_state.specs.Indexes.{stripes_of}
 use Rattle.brick_state.proofs.FreeSlots.{slots_few}
 use Rattle.brick_state.proofs.indexes.Index.free_slot.Goals as goal
 

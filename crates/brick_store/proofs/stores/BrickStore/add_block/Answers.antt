@@ -1,20 +1,19 @@
 -- The record of a version with a block of its own.
-use Rattle.std.proofs.Common.{◌≡◌, ◌<◌, true, false, None, Some, Err, List, ℕ, length, refl, sym, ap, subst, ◌∙◌, arith}
+use Rattle.std.proofs.Common.{◌<◌, Result, true, false, Some, length, refl, sym, ap, subst, ◌∙◌, arith}
 use Rattle.std.proofs.lemmas.Result.{err_from_is_err_and}
 use Rattle.stamp_store.specs.declared.log_records.LogChange.TheVariants.{Slot}
 use Rattle.brick_state.specs.declared.records.Record.TheVariants as forms
-use Rattle.brick_state.specs.States.{StateOf, stripe_at, added}
+use Rattle.brick_state.specs.States.{stripe_at, added}
 use Rattle.brick_state.specs.Folds.{Limits, place, entry}
 use Rattle.brick_state.specs.Indexes.{state_of, limits_of}
-use Rattle.version_log.specs.Versions.{Version}
-use Rattle.brick_store.specs.declared.faults.StoreFault.TheVariants.{NoMemory}
-use Rattle.brick_store.specs.Blocks.{resolved, cached, with_version}
+use Rattle.brick_store.specs.declared.faults.StoreFault.{StoreFault}
+use Rattle.brick_store.specs.Blocks.{with_version}
 use Rattle.brick_store.specs.Bricks.{Brick}
 use Rattle.brick_store.specs.Changes.{Changes}
 use Rattle.brick_store.proofs.Changed.{can_from}
 use Rattle.brick_store.proofs.Changing.{brick_of, told_refused, told_of}
 use Rattle.brick_store.proofs.Versions.{above_of, slot_applied, slots_added, with_version_seen, next_seen}
-use Rattle.brick_store.proofs.Adding.{brick_same, standing_same, changes_put, standing_put, changes_stopped, told_stopped, no_slot_fault, cached_is}
+use Rattle.brick_store.proofs.Adding.{brick_same, standing_same, same_settled, changes_put, standing_put, told_stopped, no_slot_fault, cached_is}
 use Rattle.brick_store.proofs.stores.BrickStore.add_block.Goals as goal
 
 pub returns-in_err-ready : goal.returns-in_err-ready
@@ -32,8 +31,8 @@ invariant_of-self g c =
     let x = c.self.inside in
     standing_same d.tells d.seen d.may_leave d.moment d.left_since d.faults d.sound x.blocks c.hold_new.new.blocks x.zero x.frames x.index c.hold_new.ensures.same c.self.invariant
 
-pub commit_with-requires-clause-can : goal.commit_with-requires-clause-can
-commit_with-requires-clause-can g c =
+pub commit_with-answer-requires-clause-can : goal.commit_with-answer-requires-clause-can
+commit_with-answer-requires-clause-can g c =
     let x = c.self.inside in
     let st = state_of x.index in
     let p = place c.args.group c.args.view c.args.stripe in
@@ -64,12 +63,15 @@ invariant_of-self-2 g c =
     let above = above_of x.frames.shape.block x.blocks (stripe_at st p) t (Some c.args.block) (next_seen x.blocks x.frames st p t (Some c.args.block) c.args.self.now c.self.view_is c.requires.above) in
     let standing = standing_same d.tells d.seen d.may_leave d.moment d.left_since d.faults d.sound x.blocks now x.zero x.frames x.index c.hold_new.ensures.same c.self.invariant in
     let small : slot < 4294967295 = omega (arith, c.in_ok-slot.ensures.slot, ap (λ (l : Limits). l.slots) c.self.invariant.indexed.limits_are, c.self.invariant.limits.few_slots) in
-    standing_put d.tells d.seen d.may_leave d.moment d.left_since d.faults d.sound slot c.as_slice.result.now now x.zero x.frames c.commit_with.new.frames x.index c.commit_with.new.index
-    (forms.Logged (record { group = c.args.group; view = c.args.view; stripe = c.args.stripe; stamp = t; change = Slot false slot })) (added p (entry t slot) st) c.commit_with.result standing c.in_ok-ready.ensures.runs
+    let last = c.forget_refused.new.blocks in
+    let settled = same_settled now last slot st (state_of c.commit_with-answer.new.index) c.commit_with-answer.result c.forget_refused.ensures.added c.forget_refused.ensures.others c.commit_with-answer.ensures.not_made c.in_ok-slot.ensures.unnamed in
+    standing_same d.tells d.seen d.may_leave d.moment d.left_since d.faults d.sound now last x.zero c.commit_with-answer.new.frames c.commit_with-answer.new.index settled
+    (standing_put d.tells d.seen d.may_leave d.moment d.left_since d.faults d.sound slot c.as_slice.result.now now x.zero x.frames c.commit_with-answer.new.frames x.index c.commit_with-answer.new.index
+    (forms.Logged (record { group = c.args.group; view = c.args.view; stripe = c.args.stripe; stamp = t; change = Slot false slot })) (added p (entry t slot) st) c.commit_with-answer.result standing c.in_ok-ready.ensures.runs
     (slot_applied (limits_of x.index) c.args.group c.args.view c.args.stripe t slot st c.requires.group (c.in_ok-ready.ensures.free refl) c.in_ok-slot.ensures.slot above)
     (λ P here all. slots_added P p t slot st here all) small (c.in_ok-slot.ensures.held ∙ ap Some (sym c.as_slice.ensures.value))
     (ap length c.as_slice.ensures.value ∙ c.requires.block ∙ sym (ap (λ (b : Brick g.row.D.Denot). b.shape.block) c.self.view_is)) c.in_ok-slot.ensures.unnamed
-    c.self.invariant.indexed.members c.commit_with.ensures.limits c.commit_with.ensures.step c.commit_with.ensures.made c.commit_with.ensures.not_made
+    c.self.invariant.indexed.members c.commit_with-answer.ensures.limits c.commit_with-answer.ensures.step c.commit_with-answer.ensures.made c.commit_with-answer.ensures.not_made)
 
 pub returns : goal.returns
 returns g c =
@@ -84,11 +86,17 @@ returns g c =
     let standing = standing_same d.tells d.seen d.may_leave d.moment d.left_since d.faults d.sound x.blocks now x.zero x.frames x.index c.hold_new.ensures.same c.self.invariant in
     let small : slot < 4294967295 = omega (arith, c.in_ok-slot.ensures.slot, ap (λ (l : Limits). l.slots) c.self.invariant.indexed.limits_are, c.self.invariant.limits.few_slots) in
     let view = brick_same x.blocks now x.frames st c.hold_new.ensures.same ∙ c.self.view_is in
-    let tried = changes_put d.tells d.seen d.may_leave d.moment d.left_since d.faults d.sound slot c.as_slice.result.now now x.zero x.frames c.commit_with.new.frames x.index
-    (forms.Logged (record { group = c.args.group; view = c.args.view; stripe = c.args.stripe; stamp = t; change = Slot false slot })) (state_of c.commit_with.new.index) (added p (entry t slot) st) c.commit_with.result standing c.in_ok-ready.ensures.runs (c.in_ok-ready.ensures.free refl)
+    let tried = changes_put d.tells d.seen d.may_leave d.moment d.left_since d.faults d.sound slot c.as_slice.result.now now x.zero x.frames c.commit_with-answer.new.frames x.index
+    (forms.Logged (record { group = c.args.group; view = c.args.view; stripe = c.args.stripe; stamp = t; change = Slot false slot })) (state_of c.commit_with-answer.new.index) (added p (entry t slot) st) c.commit_with-answer.result standing c.in_ok-ready.ensures.runs (c.in_ok-ready.ensures.free refl)
     (slot_applied (limits_of x.index) c.args.group c.args.view c.args.stripe t slot st c.requires.group (c.in_ok-ready.ensures.free refl) c.in_ok-slot.ensures.slot above)
     (λ P here all. slots_added P p t slot st here all) small (c.in_ok-slot.ensures.held ∙ ap Some (sym c.as_slice.ensures.value)) c.in_ok-slot.ensures.unnamed
-    c.commit_with.ensures.step c.commit_with.ensures.made c.commit_with.ensures.not_made c.commit_with.ensures.cause in
-    told_of d.tells d.seen d.may_leave d.moment d.left_since d.faults d.sound now x.frames c.commit_with.new.frames st (state_of c.commit_with.new.index) (added p (entry t slot) st) c.args.self.now
-    (with_version c.args.self.now.shape.block p t (Some c.args.block)) (λ s. true) true c.commit_with.result view
-    (with_version_seen now x.frames st p t (Some c.args.block) slot c.args.self.now view (cached_is x.frames.shape.block now slot c.args.block small c.in_ok-slot.ensures.held)) refl tried
+    c.commit_with-answer.ensures.step c.commit_with-answer.ensures.made c.commit_with-answer.ensures.not_made c.commit_with-answer.ensures.cause in
+    let last = c.forget_refused.new.blocks in
+    let B = Brick g.row.D.Denot in
+    let settled = same_settled now last slot st (state_of c.commit_with-answer.new.index) c.commit_with-answer.result c.forget_refused.ensures.added c.forget_refused.ensures.others c.commit_with-answer.ensures.not_made c.in_ok-slot.ensures.unnamed in
+    let after = with_version c.args.self.now.shape.block p t (Some c.args.block) c.args.self.now.state in
+    subst (λ (r : Result (Unit {0}) StoreFault). Changes d.tells d.seen d.may_leave d.moment d.left_since d.faults d.sound c.args.self.now (brick_of last c.commit_with-answer.new.frames (state_of c.commit_with-answer.new.index)) after true r) (sym c.forget_refused.ensures.answer)
+    (subst (λ (b : B). Changes d.tells d.seen d.may_leave d.moment d.left_since d.faults d.sound c.args.self.now b after true c.commit_with-answer.result) (sym (brick_same now last c.commit_with-answer.new.frames (state_of c.commit_with-answer.new.index) settled))
+    (told_of d.tells d.seen d.may_leave d.moment d.left_since d.faults d.sound now x.frames c.commit_with-answer.new.frames st (state_of c.commit_with-answer.new.index) (added p (entry t slot) st) c.args.self.now
+    (with_version c.args.self.now.shape.block p t (Some c.args.block)) (λ s. true) true c.commit_with-answer.result view
+    (with_version_seen now x.frames st p t (Some c.args.block) slot c.args.self.now view (cached_is x.frames.shape.block now slot c.args.block small c.in_ok-slot.ensures.held)) refl tried))

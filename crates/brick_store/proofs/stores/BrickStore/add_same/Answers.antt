@@ -1,15 +1,12 @@
 -- The record of a version with the newest one's block.
-use Rattle.std.proofs.Common.{◌≡◌, true, None, Some, List, ℕ, refl, sym, ap, subst, ◌∙◌}
+use Rattle.std.proofs.Common.{true, None, refl}
 use Rattle.std.proofs.lemmas.Result.{err_from_is_err_and}
 use Rattle.stamp_store.specs.declared.log_records.LogChange.TheVariants.{Same}
-use Rattle.version_log.specs.Versions.{Version, version}
 use Rattle.brick_state.specs.declared.records.Record.TheVariants as forms
-use Rattle.brick_state.specs.declared.stripes.Entry.{Entry}
-use Rattle.brick_state.specs.States.{StripeOf, StateOf, stripe_at, added, newest_entry}
-use Rattle.brick_state.specs.Folds.{place, entry, is_above}
+use Rattle.brick_state.specs.States.{stripe_at, added}
+use Rattle.brick_state.specs.Folds.{place, entry}
 use Rattle.brick_state.specs.Indexes.{state_of, limits_of}
-use Rattle.brick_store.specs.Blocks.{resolved, cached, log_of, log_at, block_added, with_version, IsNext}
-use Rattle.brick_store.specs.Bricks.{Brick}
+use Rattle.brick_store.specs.Blocks.{with_version}
 use Rattle.brick_store.proofs.Changed.{can_from}
 use Rattle.brick_store.proofs.Changing.{told_refused, told_of, changes_plain, standing_plain}
 use Rattle.brick_store.proofs.Versions.{some_newest, above_of, same_block, same_applied, slots_same, with_version_seen, next_seen}

@@ -1,0 +1,35 @@
+-- What a look-up sees of one stripe.
+use Rattle.std.specs.Prelude.{◌≡◌, ◌⊎◌, ℕ, Bool, true, ◌==◌, if◌then◌else◌, IsSome, List, [], ◌∷◌, ◌++◌, map, unwrap_or}
+use Rattle.std.specs.Ordering.{nat_cmp}
+use Rattle.std.specs.List.{AllByRecursion}
+use Rattle.std.specs.BTreeMap.{BTreeMap, get}
+use Rattle.fab_base.specs.declared.stamps.Stamp.{Stamp}
+use Rattle.fab_base.specs.Stamps.{first_stamp}
+use Rattle.version_log.specs.Versions.{Version, version}
+use Rattle.brick_state.specs.declared.stripes.Entry.{Entry}
+
+-- the order stamp and the log of a stripe
+pub record StripeLog : Type 0 where
+  pub order : Stamp
+  pub log : List Version
+
+-- the block that memory holds for a slot
+abbrev pub held : List ℕ → BTreeMap ℕ (List ℕ) → ℕ → List ℕ
+held zero blocks slot = if slot == 4294967295 then zero else unwrap_or (get nat_cmp blocks slot) []
+
+abbrev pub held_version : List ℕ → BTreeMap ℕ (List ℕ) → Entry → Version
+held_version zero blocks e = version e.stamp (held zero blocks e.slot)
+
+-- what was added, and under it the version that a stripe begins with, while it is there
+abbrev pub start_held : List ℕ → Bool → List Version
+start_held zero from_start = if from_start then version first_stamp zero ∷ [] else []
+
+abbrev pub log_held : List ℕ → BTreeMap ℕ (List ℕ) → Bool → List Entry → List Version
+log_held zero blocks from_start added = start_held zero from_start ++ map (held_version zero blocks) added
+
+-- memory holds a block for this slot
+abbrev pub IsHeld : BTreeMap ℕ (List ℕ) → ℕ → Type 0
+IsHeld blocks slot = ((slot == 4294967295) ≡ true) ⊎ IsSome (get nat_cmp blocks slot)
+
+abbrev pub AllHeld : BTreeMap ℕ (List ℕ) → List Entry → Type 0
+AllHeld blocks added = AllByRecursion (λ e. IsHeld blocks e.slot) added
