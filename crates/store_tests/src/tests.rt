@@ -13,6 +13,7 @@ use std::process::Abort;
 use std::test::Fail;
 
 const GROUP: GroupId = GroupId(0);
+
 const STRIPE: StripeNo = StripeNo(7);
 
 // What is tried on a store.
@@ -255,12 +256,7 @@ fn left(alloc: Global, change: Change, plan: Plan, pick: u64) -> Result<Picture,
 }
 
 // A change of so many calls of the disk is stopped or fails at each of them.
-fn each_call(
-    rt: &impl Abort,
-    alloc: Global,
-    change: Change,
-    calls: u64,
-) -> Result<(), StoreFault> {
+fn each_call(rt: &impl Abort, alloc: Global, change: Change, calls: u64) -> Result<(), StoreFault> {
     let mut store = prepared(alloc, change)?;
     let before = look_at(&store);
     tried(alloc, &mut store, change)?;
@@ -322,7 +318,13 @@ fn a_fresh_store_is_empty(rt: HostRuntime) -> Result<(), Fail> {
             accepted: None,
         }
     );
-    let empty = open_store(alloc, MemDisk::new(alloc, Vec::new(alloc)), BrickId(5), 2, 100);
+    let empty = open_store(
+        alloc,
+        MemDisk::new(alloc, Vec::new(alloc)),
+        BrickId(5),
+        2,
+        100,
+    );
     assert!(rt; matches!(empty, Err((StoreFault::NotAStore, _))));
     Ok(())
 }
