@@ -7,7 +7,7 @@ use Rattle.reg_model.specs.Strict.{IsAnswered}
 use Rattle.protocol.specs.Settings.{Setting, Group, group_of}
 use Rattle.protocol.specs.Coordinators.{Coordinator, Counted, Phase, Looks, Orders, Recovers, Descends, Stores, most_rounds}
 use Rattle.protocol.specs.Nodes.{is_stripe_op, has_length}
-use Rattle.protocol.specs.Worlds.{World, Operation}
+use Rattle.protocol.specs.Worlds.{World, Operation, number_of}
 
 -- the replies that have counted, by operation and phase
 abbrev pub Replies : Type 0
@@ -45,8 +45,9 @@ InRound c Stores = Unit {0}
 pub record OperationBooks (setting : Setting) (w : World) (n : ℕ) (o : Operation) : Type 0 where
   pub from_one : 1 ≤ n
   pub begun : n ≤ w.begun
-  pub number : w.numbers o.brick.0 o.seq ≡ n
-  pub called : (1 ≤ o.seq) × (o.seq ≤ (w.nodes o.brick.0).seq)
+  pub number : w.numbers o.brick.0 o.boot o.seq ≡ n
+  pub booted : (1 ≤ o.boot) × (o.boot ≤ (w.nodes o.brick.0).boot)
+  pub called : (1 ≤ o.seq) × (o.boot ≡ (w.nodes o.brick.0).boot → o.seq ≤ (w.nodes o.brick.0).seq)
   pub is_stripe_op : is_stripe_op o.ask.op ≡ true
   pub group : Group
   pub group_is : group_of setting.layout o.ask.group.0 ≡ Some group
@@ -60,20 +61,22 @@ pub record OperationBooks (setting : Setting) (w : World) (n : ℕ) (o : Operati
   pub answered : o.answered ≡ true → IsAnswered life.ending
   pub answered_only : IsAnswered life.ending → o.answered ≡ true
   pub answered_version : o.answered ≡ true → (v : _) × (o.version ≡ Some v)
-  pub open_call : IsOpen (Some life) → (c : Coordinator) × IsCall w o.brick.0 o.seq c
+  pub open_call : IsOpen (Some life) → (o.boot ≡ (w.nodes o.brick.0).boot) × ((c : Coordinator) × IsCall w o.brick.0 o.seq c)
 
 -- call k of brick i, whose coordinator is c, and its operation
 pub record CallBooks (setting : Setting) (w : World) (i k : ℕ) (c : Coordinator) : Type 0 where
   pub operation : Operation
-  pub operation_is : IsOperation w (w.numbers i k) operation
+  pub operation_is : IsOperation w (number_of w i k) operation
+  pub up : w.up i ≡ true
   pub brick : operation.brick.0 ≡ i
+  pub boot : operation.boot ≡ (w.nodes i).boot
   pub seq : operation.seq ≡ k
   pub ask : c.ask ≡ operation.ask
   pub stamp_brick : c.stamp.brick ≡ operation.brick
   pub stamp_view : c.stamp.view.0 ≡ 1
-  pub stamp_boot : c.stamp.boot ≡ 1
+  pub stamp_boot : c.stamp.boot ≡ (w.nodes i).boot
   pub stamp_known : (1 ≤ c.stamp.time) × (c.stamp.time ≤ (w.nodes i).known)
-  pub call_boot : c.call.boot ≡ 1
+  pub call_boot : c.call.boot ≡ (w.nodes i).boot
   pub call_seq : c.call.seq ≡ k
   pub call_group : c.call.group ≡ c.ask.group
   pub call_view : c.call.view.0 ≡ 1
@@ -81,14 +84,14 @@ pub record CallBooks (setting : Setting) (w : World) (i k : ℕ) (c : Coordinato
   pub rounds : (1 ≤ c.round) × (c.round ≤ most_rounds)
   pub in_round : InRound c c.phase
   pub made : MadeInPhase c operation c.phase
-  pub unended : (life : Life) → life_of w.marks (w.numbers i k) ≡ Some life → IsOpen (Some life)
+  pub unended : (life : Life) → life_of w.marks (number_of w i k) ≡ Some life → IsOpen (Some life)
   pub unanswered : operation.answered ≡ false
 
 -- the books of a world
 pub record Books (setting : Setting) (w : World) : Type 0 where
   pub well_formed : IsWellFormed w.marks
   pub places : (k : ℕ) (mark : Mark) → slice_get w.marks k ≡ Some mark → position_of mark ≡ k
-  pub boots : (i : ℕ) → (w.nodes i).boot ≡ 1
+  pub boots : (i : ℕ) → 1 ≤ (w.nodes i).boot
   pub all_begun : (n : ℕ) → 1 ≤ n → n ≤ w.begun → (o : Operation) × IsOperation w n o
   pub operations : (n : ℕ) (o : Operation) → IsOperation w n o → OperationBooks setting w n o
   pub calls : (i k : ℕ) (c : Coordinator) → IsCall w i k c → CallBooks setting w i k c

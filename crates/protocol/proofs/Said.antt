@@ -22,7 +22,8 @@ use Rattle.reg_model.specs.Marks.{life_of}
 use Rattle.reg_model.specs.Walk.{last_of}
 use Rattle.protocol.specs.Settings.{Setting, Group, group_of, seat_in, are_bytes}
 use Rattle.protocol.specs.Replicas.{top_of, is_held, stamp_max}
-use Rattle.protocol.specs.Coordinators.{Phase, Looks, Orders, Recovers, Descends, Stores, Counted, Coordinator, answers_phase, has_seat, stored_content}
+use Rattle.protocol.specs.Coordinators.{Phase, Looks, Orders, Recovers, Descends, Stores, Counted, Coordinator, answers_phase, has_seat, stored_content, request_of}
+use Rattle.protocol.specs.Nodes.{Node}
 use Rattle.protocol.specs.Worlds.{World, Operation, zero_content}
 use Rattle.protocol.specs.Laws.{WasSent, WriteSent, AskedAt, part_of, brick_at, AtQuorum, IsGuarded, IsBlocked}
 use Rattle.protocol.proofs.Books.{IsOperation, IsCall}
@@ -33,22 +34,22 @@ pub record Begun : Type 0 where
   pub stamp : Stamp
   pub phase : Phase
 
--- each phase that was begun, by brick, call number and phase number
+-- each phase that was begun, by brick, boot, call number and phase number
 abbrev pub Stamping : Type 0
-Stamping = ℕ → ℕ → ℕ → Option Begun
+Stamping = ℕ → ℕ → ℕ → ℕ → Option Begun
 
--- phase p of brick i's call k does this, with stamp t
-abbrev pub IsBegun : Stamping → ℕ → ℕ → ℕ → Phase → Stamp → Type 0
-IsBegun stamps i k p phase t = stamps i k p ≡ Some (record { stamp = t; phase = phase })
+-- phase p of brick i's call k of boot b does this, with stamp t
+abbrev pub IsBegun : Stamping → ℕ → ℕ → ℕ → ℕ → Phase → Stamp → Type 0
+IsBegun stamps i b k p phase t = stamps i b k p ≡ Some (record { stamp = t; phase = phase })
 
--- t is the stamp of phase p of brick i's call k
-abbrev pub IsStamped : Stamping → ℕ → ℕ → ℕ → Stamp → Type 0
-IsStamped stamps i k p t = (phase : Phase) × IsBegun stamps i k p phase t
+-- t is the stamp of phase p of brick i's call k of boot b
+abbrev pub IsStamped : Stamping → ℕ → ℕ → ℕ → ℕ → Stamp → Type 0
+IsStamped stamps i b k p t = (phase : Phase) × IsBegun stamps i b k p phase t
 
 -- phase p of the call is a recovery's: it looks below its own stamp t, or below a bound which is below t
-abbrev pub IsRecovery : Stamping → ℕ → ℕ → ℕ → Stamp → Stamp → Type 0
-IsRecovery stamps i k p bound t =
-    ((bound ≡ t) × IsBegun stamps i k p Recovers t) ⊎ ((stamp_below bound t ≡ true) × IsBegun stamps i k p (Descends bound) t)
+abbrev pub IsRecovery : Stamping → ℕ → ℕ → ℕ → ℕ → Stamp → Stamp → Type 0
+IsRecovery stamps i b k p bound t =
+    ((bound ≡ t) × IsBegun stamps i b k p Recovers t) ⊎ ((stamp_below bound t ≡ true) × IsBegun stamps i b k p (Descends bound) t)
 
 -- a quorum of the stripe's seats holds the version
 abbrev pub Stands : Setting → World → ℕ → ℕ → Stamp → Type 0
@@ -71,21 +72,22 @@ IsMadeOrFirst w g s t =
 
 -- the stamp is the first one, or that of a phase which was begun
 abbrev pub IsKnown : Stamping → Stamp → Type 0
-IsKnown stamps t = (t ≡ first_stamp) ⊎ ((j l p : ℕ) × IsStamped stamps j l p t)
+IsKnown stamps t = (t ≡ first_stamp) ⊎ ((j b l p : ℕ) × IsStamped stamps j b l p t)
 
--- a stamp of brick i, when i knows this time
-pub record IsStampOf (known i : ℕ) (t : Stamp) : Type 0 where
+-- a stamp of brick i's boot b: where that is its present boot, the brick knows this time
+pub record IsStampOf (node : Node) (i b : ℕ) (t : Stamp) : Type 0 where
   pub view : t.view.0 ≡ 1
-  pub boot : t.boot ≡ 1
+  pub boot : t.boot ≡ b
+  pub booted : b ≤ node.boot
   pub brick : t.brick.0 ≡ i
   pub positive : 1 ≤ t.time
-  pub bounded : t.time ≤ known
+  pub bounded : b ≡ node.boot → t.time ≤ node.known
 
--- the stamps of a world: each is its brick's, calls that have one were begun, and no two calls of a brick share one
+-- the stamps of a world: each is its brick's and its boot's, calls that have one were begun, and no two calls of a boot share one
 pub record StampsSay (w : World) (stamps : Stamping) : Type 0 where
-  pub are : (i k p : ℕ) (t : Stamp) → IsStamped stamps i k p t → IsStampOf (w.nodes i).known i t
-  pub begun : (i k p : ℕ) (t : Stamp) → IsStamped stamps i k p t → (1 ≤ k) × (k ≤ (w.nodes i).seq)
-  pub apart : (i k l p q : ℕ) (t : Stamp) → IsStamped stamps i k p t → IsStamped stamps i l q t → k ≡ l
+  pub are : (i b k p : ℕ) (t : Stamp) → IsStamped stamps i b k p t → IsStampOf (w.nodes i) i b t
+  pub begun : (i b k p : ℕ) (t : Stamp) → IsStamped stamps i b k p t → (1 ≤ k) × (b ≡ (w.nodes i).boot → k ≤ (w.nodes i).seq)
+  pub apart : (i b k l p q : ℕ) (t : Stamp) → IsStamped stamps i b k p t → IsStamped stamps i b l q t → k ≡ l
 
 -- at a quorum of seats the operation's floor is at most t
 abbrev pub FloorsAtMost : Operation → Group → Stamp → Type 0
@@ -97,8 +99,9 @@ FloorsAtLeast o group t = AtQuorum group (λ seat. not (stamp_below (o.floor (br
 
 -- a request or reply's call is that of an operation of brick i
 pub record IsCalled (w : World) (i : ℕ) (call : Call) (o : Operation) : Type 0 where
-  pub is : IsOperation w (w.numbers i call.seq) o
+  pub is : IsOperation w (w.numbers i call.boot call.seq) o
   pub brick : o.brick.0 ≡ i
+  pub boot : o.boot ≡ call.boot
   pub seq : o.seq ≡ call.seq
   pub group : o.ask.group.0 ≡ call.group.0
   pub stripe : o.ask.stripe.0 ≡ call.stripe.0
@@ -118,7 +121,7 @@ pub record VersionSays (setting : Setting) (w : World) (g s i : ℕ) (version : 
 pub record WriteSays (setting : Setting) (w : World) (stamps : Stamping) (from to : ℕ) (call : Call) (t : Stamp) (block : List ℕ) : Type 0 where
   pub operation : Operation
   pub called : IsCalled w from call operation
-  pub begun : IsBegun stamps from call.seq call.phase Stores t
+  pub begun : IsBegun stamps from call.boot call.seq call.phase Stores t
   pub made : operation.made ≡ true
   pub version : operation.version ≡ Some t
   pub member : (group : Group) → group_of setting.layout call.group.0 ≡ Some group → (seat : ℕ) × (seat_in group.members to ≡ Some seat)
@@ -129,9 +132,9 @@ pub record WriteSays (setting : Setting) (w : World) (stamps : Stamping) (from t
 abbrev pub RequestSays : Setting → World → Stamping → ℕ → ℕ → Call → Request → Type 0
 RequestSays setting w stamps i j call (Request.Read want) = (want ≡ Want.All) × ((o : Operation) × IsCalled w i call o)
 RequestSays setting w stamps i j call (Request.Order t) =
-    IsBegun stamps i call.seq call.phase Orders t × ((o : Operation) × IsCalled w i call o)
+    IsBegun stamps i call.boot call.seq call.phase Orders t × ((o : Operation) × IsCalled w i call o)
 RequestSays setting w stamps i j call (Request.OrderRead t (Look.Below bound) want) =
-    (want ≡ Want.All) × IsRecovery stamps i call.seq call.phase bound t × ((o : Operation) × IsCalled w i call o)
+    (want ≡ Want.All) × IsRecovery stamps i call.boot call.seq call.phase bound t × ((o : Operation) × IsCalled w i call o)
 RequestSays setting w stamps i j call (Request.OrderRead t (Look.At u) want) = ⊥
 RequestSays setting w stamps i j call (Request.Write t block) = WriteSays setting w stamps i j call t block
 RequestSays setting w stamps i j call request = Unit {0}
@@ -141,7 +144,7 @@ pub record OrderedSays (w : World) (stamps : Stamping) (j i : ℕ) (call : Call)
   pub operation : Operation
   pub called : IsCalled w i call operation
   pub stamp : Stamp
-  pub stamp_is : IsBegun stamps i call.seq call.phase Orders stamp
+  pub stamp_is : IsBegun stamps i call.boot call.seq call.phase Orders stamp
   pub promised : stamp_below (top_of (part_of w call.group.0 call.stripe.0 j)) stamp ≡ false
   pub floor : stamp_below stamp (operation.floor j) ≡ false
 
@@ -151,7 +154,7 @@ pub record OrderedReadSays (setting : Setting) (w : World) (stamps : Stamping) (
   pub called : IsCalled w i call operation
   pub stamp : Stamp
   pub bound : Stamp
-  pub recovers : IsRecovery stamps i call.seq call.phase bound stamp
+  pub recovers : IsRecovery stamps i call.boot call.seq call.phase bound stamp
   pub promised : stamp_below (top_of (part_of w call.group.0 call.stripe.0 j)) stamp ≡ false
   pub floor : stamp_below stamp (operation.floor j) ≡ false
   pub newest : (d : Stamp) → is_held d (part_of w call.group.0 call.stripe.0 j).log ≡ true → stamp_below d bound ≡ true → IsWithin found d
@@ -211,8 +214,8 @@ pub record OperationSays (setting : Setting) (w : World) (stamps : Stamping) (n 
   pub begin : o.begin ≤ length w.marks
   pub floors : (i : ℕ) → stamp_below (top_of (part_of w o.ask.group.0 o.ask.stripe.0 i)) (o.floor i) ≡ false
   pub floors_known : (i : ℕ) → IsKnown stamps (o.floor i)
-  pub fresh : (i p : ℕ) → IsStamped stamps o.brick.0 o.seq p (o.floor i) → ⊥
-  pub made : o.made ≡ true → (v : Stamp) × (p : ℕ) × (o.version ≡ Some v) × IsStamped stamps o.brick.0 o.seq p v
+  pub fresh : (i p : ℕ) → IsStamped stamps o.brick.0 o.boot o.seq p (o.floor i) → ⊥
+  pub made : o.made ≡ true → (v : Stamp) × (p : ℕ) × (o.version ≡ Some v) × IsStamped stamps o.brick.0 o.boot o.seq p v
   pub maker : (v : Stamp) → o.made ≡ true → o.version ≡ Some v → WritesWhole w o v ⊎ ReadsBack setting w o v
   pub content : (v : Stamp) → o.made ≡ true → o.version ≡ Some v → (group : Group) → group_of setting.layout o.ask.group.0 ≡ Some group
       → IsContent group.m setting.layout.block (w.contents o.ask.group.0 o.ask.stripe.0 v)
@@ -244,11 +247,14 @@ abbrev pub AreOnce : List Counted → Type 0
 AreOnce [] = Unit {0}
 AreOnce (x ∷ counted) = (has_seat x.seat counted ≡ false) × AreOnce counted
 
--- the open operation of brick i's call k. Its present phase is the last that was begun; where it looks below a bound, which is above the first
+-- the open operation of brick i's call k. Its present phase is the last that was begun, and each member was sent its request; where it looks below a bound, which is above the first
 -- stamp, no quorum will ever hold a version from there up to its stamp; and where it stores, it stores the content of its version.
 pub record CallSays (setting : Setting) (w : World) (stamps : Stamping) (i k : ℕ) (c : Coordinator) : Type 0 where
-  pub begun : IsBegun stamps i k c.call.phase c.phase c.stamp
-  pub last : (p : ℕ) → c.call.phase < p → stamps i k p ≡ None
+  pub begun : IsBegun stamps i (w.nodes i).boot k c.call.phase c.phase c.stamp
+  pub last : (p : ℕ) → c.call.phase < p → stamps i (w.nodes i).boot k p ≡ None
+  pub asked : (group : Group) → group_of setting.layout c.ask.group.0 ≡ Some group → (seat : ℕ) (member : BrickId)
+      → slice_get group.members seat ≡ Some member
+      → WasSent w (record { from = record { 0 = i }; to = member; message = Message.Request c.call (request_of setting.code group.m c seat) })
   pub fits : FitsPhase c.phase c.ask.op
   pub unbased : c.phase ≡ Orders → c.base ≡ None
   pub above : (bound : Stamp) → c.phase ≡ Descends bound → stamp_below first_stamp bound ≡ true

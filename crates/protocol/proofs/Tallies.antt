@@ -12,8 +12,8 @@ use Rattle.fab_wire.specs.declared.requests.Want.TheVariants as Want
 use Rattle.fab_wire.specs.declared.replies.Reply.TheVariants as Reply
 use Rattle.reg_model.specs.Marks.{life_of, IsOpen}
 use Rattle.protocol.specs.Coordinators.{Coordinator, Counted, Descends, Stores, greatest_refuser}
-use Rattle.protocol.specs.Worlds.{World, Operation}
-use Rattle.protocol.specs.Laws.{WasSent, WriteSent, OrderSent, AskedAt, Evidence, CountedWereSent, AbortsShow}
+use Rattle.protocol.specs.Worlds.{World, Operation, number_of, known_in}
+use Rattle.protocol.specs.Laws.{WasSent, WriteSent, OrderSent, AskedAt, Evidence, IsCallOf, CountedWereSent, AbortsShow}
 use Rattle.protocol.proofs.Books.{Replies, IsOperation, IsCall}
 use Rattle.protocol.proofs.Outcomes.{IsRound, first_round}
 use Rattle.protocol.proofs.Said.{EachCounted}
@@ -33,7 +33,7 @@ pub record CallTallied (replies : Replies) (n : ℕ) (c : Coordinator) : Type 0 
 abbrev pub CountedSent : World → ℕ → ℕ → Counted → Type 0
 CountedSent w n phase x =
     (o : Operation) × IsOperation w n o
-    × ((call : Call) × (call.seq ≡ o.seq) × (call.phase ≡ phase)
+    × ((call : Call) × IsCallOf call o × (call.phase ≡ phase)
     × WasSent w (record { from = x.brick; to = o.brick; message = Message.Reply call x.reply }))
 
 -- the abort of operation n shows its evidence
@@ -42,7 +42,7 @@ AbortShown w n brick x = (o : Operation) × IsOperation w n o × Evidence w n o 
 
 -- the history of a world
 pub record Tallied (w : World) : Type 0 where
-  pub calls : (i k : ℕ) (c : Coordinator) → IsCall w i k c → CallTallied w.replies (w.numbers i k) c
+  pub calls : (i k : ℕ) (c : Coordinator) → IsCall w i k c → CallTallied w.replies (number_of w i k) c
   pub unbegun : (n p : ℕ) → w.begun < n → w.replies n p ≡ []
   pub counted : CountedWereSent w
   pub aborts : AbortsShow w
@@ -70,10 +70,11 @@ pub record MessagesShow (w : World) : Type 0 where
   pub counted : (i k : ℕ) (c : Coordinator) → IsCall w i k c
       → EachCounted (λ x. WasSent w (record { from = x.brick; to = record { 0 = i }; message = Message.Reply c.call x.reply })) c.counted
 
--- From one world to the next: what was sent stays sent, no brick forgets a time, operations stay who they are, and replies count only in
+-- From one world to the next: what was sent stays sent, no brick's time falls within a boot, operations stay who they are, and replies count only in
 -- operations that are open.
 pub record Furthers (w next : World) : Type 0 where
   pub sent : (packet : Packet) → WasSent w packet → WasSent next packet
-  pub known : (i : ℕ) → (w.nodes i).known ≤ (next.nodes i).known
-  pub operations : (n : ℕ) (o : Operation) → IsOperation w n o → (p : Operation) × IsOperation next n p × (p.brick ≡ o.brick) × (p.seq ≡ o.seq)
+  pub known : (i b : ℕ) → b ≤ (w.nodes i).boot → known_in w i b ≤ known_in next i b
+  pub operations : (n : ℕ) (o : Operation) → IsOperation w n o
+      → (p : Operation) × IsOperation next n p × (p.brick ≡ o.brick) × (p.boot ≡ o.boot) × (p.seq ≡ o.seq)
   pub replies : (n : ℕ) → ((p : ℕ) → next.replies n p ≡ w.replies n p) ⊎ IsOpen (life_of w.marks n)

@@ -23,7 +23,7 @@ use Rattle.protocol.specs.Settings.{Setting, Group, group_of, quorum_of, IsSound
 use Rattle.protocol.specs.Replicas.{Replica, top_of, is_held}
 use Rattle.protocol.specs.Coordinators.{Counted, most_rounds, greatest_refuser, told_in}
 use Rattle.protocol.specs.Nodes.{has_later_time}
-use Rattle.protocol.specs.Worlds.{World, Event, Operation, first_world, happens, run}
+use Rattle.protocol.specs.Worlds.{World, Event, Operation, first_world, known_in, happens, run}
 use Rattle.protocol.specs.Happenings.{is_of, effect_in, happenings_of}
 
 -- the packet was sent
@@ -132,13 +132,17 @@ AskedAt w call from to t =
     ⊎ (((bound : Stamp) × WasSent w (record { from = from; to = to; message = Message.Request call (Request.OrderRead t (Look.Below bound) Want.All) }))
     ⊎ ((block : List ℕ) × WriteSent w call from to t block))
 
+-- a message's call is the operation's
+abbrev pub IsCallOf : Call → Operation → Type 0
+IsCallOf call o = (call.boot ≡ o.boot) × (call.seq ≡ o.seq)
+
 -- A phase of operation n is its last round of ordering: each of the three phases before it had counted a later stamp, or the brick that
--- coordinates it knows no later time.
+-- coordinates it knew no later time.
 abbrev pub IsLastRound : World → ℕ → Operation → ℕ → Type 0
 IsLastRound w n o phase =
     ((most_rounds ≤ phase)
     × ((earlier : ℕ) → phase < earlier + most_rounds → earlier < phase → is_some (greatest_refuser (w.replies n earlier)) ≡ true))
-    ⊎ (has_later_time (w.nodes o.brick.0).known ≡ false)
+    ⊎ (has_later_time (known_in w o.brick.0 o.boot) ≡ false)
 
 -- What the abort of operation n shows: in a phase of this very operation, which asked at a lower stamp, the brick had told the coordinator of
 -- the later stamp; no reply that counted in that phase told a greater one; and if it was a round of ordering, it was the last.
@@ -146,7 +150,7 @@ pub record Evidence (w : World) (n : ℕ) (o : Operation) (brick : BrickId) (x :
   pub call : Call
   pub stamp : Stamp
   pub seat : ℕ
-  pub own : call.seq ≡ o.seq
+  pub own : IsCallOf call o
   pub asked : AskedAt w call o.brick brick stamp
   pub told : WasSent w (record { from = brick; to = o.brick; message = Message.Reply call (Reply.Later x) })
   pub above : stamp_below stamp x ≡ true
@@ -158,7 +162,7 @@ abbrev pub CountedWereSent : World → Type 0
 CountedWereSent w =
     (n phase k : ℕ) (x : Counted) → slice_get (w.replies n phase) k ≡ Some x
     → (o : Operation) × (w.operations n ≡ Some o)
-    × ((call : Call) × (call.seq ≡ o.seq) × (call.phase ≡ phase)
+    × ((call : Call) × IsCallOf call o × (call.phase ≡ phase)
     × WasSent w (record { from = x.brick; to = o.brick; message = Message.Reply call x.reply }))
 
 -- every abort shows its evidence
@@ -182,17 +186,25 @@ pub record Laws (setting : Setting) (w : World) : Type 0 where
   pub strict : (g s : ℕ) (group : Group) → group_of setting.layout g ≡ Some group
       → IsStrict group.m setting.layout.block (stripe_marks g s w.marks) (happenings_of w g s)
 
--- Where a quorum's stamps are at or above t, and fewer than m of it hold version v below t, no quorum will ever hold v.
+-- a quorum of the group holds version v of the stripe
+abbrev pub IsHeldByQuorum : World → ℕ → ℕ → Group → Stamp → Type 0
+IsHeldByQuorum w g s group v = AtQuorum group (λ seat. is_held v (part_of w g s (brick_at group seat)).log)
+
+-- Version v of the stripe is lost: at a quorum of the group's seats the stripe's stamps are at or above one that is above v, and fewer than m of
+-- these seats hold v.
+pub record IsLost (w : World) (g s : ℕ) (group : Group) (v : Stamp) : Type 0 where
+  pub seats : ℕ → Bool
+  pub stamp : Stamp
+  pub quorum : AtQuorum group seats
+  pub passed : (seat : ℕ) → seats seat ≡ true → stamp_below (top_of (part_of w g s (brick_at group seat))) stamp ≡ false
+  pub above : stamp_below v stamp ≡ true
+  pub few : count (length group.members) (λ seat. seats seat && is_held v (part_of w g s (brick_at group seat)).log) < group.m
+
+-- whatever happens after a version was lost, no quorum ever holds it
 abbrev pub NeverSurfaces : Type 0
 NeverSurfaces =
-    (setting : Setting) (events more : List Event) (g s : ℕ) (group : Group) (t v : Stamp) (seats : ℕ → Bool) → IsSound setting
-    → group_of setting.layout g ≡ Some group
-    → (let w = run setting events (first_world setting.layout) in
-    AtQuorum group seats
-    → ((seat : ℕ) → seats seat ≡ true → stamp_below (top_of (part_of w g s (brick_at group seat))) t ≡ false)
-    → stamp_below v t ≡ true
-    → count (length group.members) (λ seat. seats seat && is_held v (part_of w g s (brick_at group seat)).log) < group.m
-    → AtQuorum group (λ seat. is_held v (part_of (run setting more w) g s (brick_at group seat)).log) → ⊥)
+    (setting : Setting) (events more : List Event) (g s : ℕ) (group : Group) (v : Stamp) → IsSound setting → group_of setting.layout g ≡ Some group
+    → (let w = run setting events (first_world setting.layout) in IsLost w g s group v → IsHeldByQuorum (run setting more w) g s group v → ⊥)
 
 -- the laws hold in every world that a run reaches, for every layout within the limits and every code that gives back what it encodes
 abbrev pub EveryRunKeepsTheLaws : Type 0

@@ -1,5 +1,5 @@
 -- One brick: the members' parts of stripes that it keeps, and the operations that it coordinates.
-use Rattle.std.specs.Prelude.{ℕ, ◌+◌, ◌-◌, ◌*◌, ◌^◌, Bool, true, false, not, nat_eq, nat_lt, ◌&&◌, ◌||◌, if◌then◌else◌, List, [], ◌∷◌, length, Option, Some, None, max}
+use Rattle.std.specs.Prelude.{ℕ, zero, suc, ◌+◌, ◌-◌, ◌*◌, ◌^◌, Bool, true, false, not, nat_eq, nat_lt, ◌&&◌, ◌||◌, if◌then◌else◌, List, [], ◌∷◌, ◌++◌, length, Option, Some, None, max}
 use Rattle.fab_base.specs.declared.identities.BrickId.{BrickId}
 use Rattle.fab_base.specs.declared.stamps.Stamp.{Stamp}
 use Rattle.fab_base.specs.declared.asks.Ask.{Ask}
@@ -15,7 +15,7 @@ pub use Rattle.protocol.specs.declared.tellings.Told.{Told}
 pub use Rattle.protocol.specs.declared.tellings.Told.TheVariants.{Nothing, Made, Answers}
 use Rattle.protocol.specs.Settings.{Setting, Layout, Group, group_of, seat_in, are_bytes}
 use Rattle.protocol.specs.Replicas.{Replica, Reaction, first_replica, handle}
-use Rattle.protocol.specs.Coordinators.{Phase, Looks, Orders, Coordinator, Next, Ignores, Waits, Sends, Makes, Ends, request_of, on_reply}
+use Rattle.protocol.specs.Coordinators.{Phase, Looks, Orders, Coordinator, Counted, Next, Ignores, Waits, Sends, Makes, Ends, has_seat, request_of, on_reply}
 
 -- a function with one value changed
 abbrev pub put : {A : Type 0} → (ℕ → A) → ℕ → A → ℕ → A
@@ -192,13 +192,25 @@ abbrev pub requested_at : BrickId → BrickId → Node → Call → Request → 
 requested_at me from node call request None = no_step node
 requested_at me from node call request (Some seat) = reacted me from node call (handle seat (replica_at node call) request)
 
-abbrev pub requested_in : BrickId → BrickId → Node → Call → Request → Option Group → NodeStep
-requested_in me from node call request None = no_step node
-requested_in me from node call request (Some group) = requested_at me from node call request (seat_in group.members me.0)
+-- a call is of a stripe that the group has, in its view
+abbrev pub is_served : Group → Call → Bool
+is_served group call = nat_lt call.stripe.0 group.stripes && nat_eq call.view.0 1
+
+-- what a request stores has the length of a block
+abbrev pub fits_block : ℕ → Request → Bool
+fits_block block (Request.Write t bytes) = nat_eq (length bytes) block
+fits_block block request = true
+
+-- a request of a stripe that there is not, or that would store what is no block, is void
+abbrev pub requested_in : ℕ → BrickId → BrickId → Node → Call → Request → Option Group → NodeStep
+requested_in block me from node call request None = no_step node
+requested_in block me from node call request (Some group) =
+    if is_served group call && fits_block block request then requested_at me from node call request (seat_in group.members me.0) else no_step node
 
 -- a brick handles a request
 unfoldable pub requested : Setting → BrickId → BrickId → Node → Call → Request → NodeStep
-requested setting me from node call request = requested_in me from node call request (group_of setting.layout call.group.0)
+requested setting me from node call request =
+    requested_in setting.layout.block me from node call request (group_of setting.layout call.group.0)
 
 -- the time that a reply makes known
 abbrev pub known_after : ℕ → Reply → ℕ
@@ -254,3 +266,52 @@ received setting me now node packet = received_as packet.message
     received_as (Message.Request call request) = requested setting me packet.from node call request
     received_as (Message.Reply call reply) = replied setting me now packet.from node call reply
     received_as message = no_step node
+
+-- the node after a message whose handling was the last thing that it did: what it kept of a request stays, and its reply is never sent
+unfoldable pub absorbed : Setting → BrickId → Node → Packet → Node
+absorbed setting me node packet = absorbed_as packet.message
+  where
+    absorbed_as : Message → Node
+    absorbed_as (Message.Request call request) = (requested setting me packet.from node call request).node
+    absorbed_as message = node
+
+-- a phase's requests again, in the order of seats, the first of these members at this seat, to each that has no reply that counts
+abbrev pub resent_to : BrickId → Call → (ℕ → Request) → List Counted → ℕ → List BrickId → List Packet
+resent_to me call request counted seat [] = []
+resent_to me call request counted seat (member ∷ members) =
+    if has_seat seat counted then resent_to me call request counted (seat + 1) members
+    else record { from = me; to = member; message = Message.Request call (request seat) } ∷ resent_to me call request counted (seat + 1) members
+
+-- the present phase of an open operation again
+abbrev pub resent_in : Setting → BrickId → Coordinator → Option Group → List Packet
+resent_in setting me c None = []
+resent_in setting me c (Some group) = resent_to me c.call (request_of setting.code group.m c) c.counted 0 group.members
+
+abbrev pub resent : Setting → BrickId → Option Coordinator → List Packet
+resent setting me None = []
+resent setting me (Some c) = resent_in setting me c (group_of setting.layout c.ask.group.0)
+
+-- the same of the calls 1 to k, in order
+abbrev pub resent_up_to : Setting → BrickId → (ℕ → Option Coordinator) → ℕ → List Packet
+resent_up_to setting me calls zero = []
+resent_up_to setting me calls (suc k) = resent_up_to setting me calls k ++ resent setting me (calls (suc k))
+
+-- what a brick sends at a tick of its clock: each open operation its present phase again, in the order of beginning
+unfoldable pub ticked : Setting → BrickId → Node → List Packet
+ticked setting me node = resent_up_to setting me node.calls node.seq
+
+-- no operation is open
+abbrev pub no_calls : ℕ → Option Coordinator
+no_calls k = None
+
+-- a brick that stopped: its open operations are gone, and what it keeps of stripes stays
+unfoldable pub stopped : Node → Node
+stopped node = record { boot = node.boot; seq = node.seq; known = node.known; busy = 0; replicas = node.replicas; calls = no_calls }
+
+-- a stopped brick whose store was opened so many times since, the last time to run: it has made no call, and knows no time
+unfoldable pub restarted : ℕ → Node → Node
+restarted openings node = record { boot = node.boot + openings; seq = 0; known = 0; busy = 0; replicas = node.replicas; calls = no_calls }
+
+-- the store can be opened so many times, at least once: it counts its openings, up to 2^32 - 1
+abbrev pub may_open : ℕ → Node → Bool
+may_open openings node = nat_lt 0 openings && nat_lt (node.boot + openings) (2 ^ 32)

@@ -1,6 +1,6 @@
 -- The whole disk, and what a schedule of steps makes of it. Every message that was ever sent may be delivered, once, often or never,
 -- in any order: that is all that a network may do to it.
-use Rattle.std.specs.Prelude.{ℕ, zero, suc, ◌+◌, Bool, true, false, not, nat_lt, ◌&&◌, if◌then◌else◌, List, [], ◌∷◌, ◌++◌, length, Option, Some, None, is_some, slice_get}
+use Rattle.std.specs.Prelude.{ℕ, zero, suc, ◌+◌, Bool, true, false, not, nat_eq, nat_lt, ◌&&◌, if◌then◌else◌, List, [], ◌∷◌, ◌++◌, length, Option, Some, None, is_some, slice_get}
 use Rattle.fab_base.specs.declared.identities.BrickId.{BrickId}
 use Rattle.fab_base.specs.declared.stamps.Stamp.{Stamp}
 use Rattle.fab_base.specs.declared.asks.Ask.{Ask}
@@ -12,24 +12,31 @@ use Rattle.fab_wire.specs.declared.messages.Message.{Message}
 use Rattle.fab_wire.specs.declared.messages.Packet.{Packet}
 use Rattle.fab_wire.specs.declared.replies.Reply.{Reply}
 use Rattle.reg_model.specs.declared.marks.Mark.{Mark}
-use Rattle.reg_model.specs.declared.marks.Mark.TheVariants.{Begin, End}
+use Rattle.reg_model.specs.declared.marks.Mark.TheVariants.{Begin, End, Crash}
 use Rattle.reg_model.specs.Registers.{zero_registers}
 use Rattle.protocol.specs.Settings.{Setting, Layout, Group, group_of}
 use Rattle.protocol.specs.Replicas.{top_of}
 use Rattle.protocol.specs.Coordinators.{Counted, Coordinator, stored_content, counts_at}
-use Rattle.protocol.specs.Nodes.{Node, NodeStep, Told, Nothing, Made, Answers, put, first_node, is_stripe_op, refusal_of, invoked, received}
+use Rattle.protocol.specs.Nodes.{Node, NodeStep, Told, Nothing, Made, Answers, put, first_node, is_stripe_op, refusal_of, invoked, received, absorbed, ticked, stopped, restarted, may_open}
 
--- what happens next: a brick is asked for an operation, the message of a number, counted from 1 in the order of sending, is delivered, or a
--- brick's clock reads another time from now on
+-- What happens next: a brick is asked for an operation; the message of a number, counted from 1 in the order of sending, is delivered; a brick's
+-- clock reads another time from now on, or ticks; a brick stops; a stopped brick starts again, its store having been opened so many times since;
+-- or the message of a number is handled, and its reply is lost before it is sent. That is how a brick that stopped as it handled a message may
+-- find its store when it starts again: with the change made, though no reply was sent.
 pub data Event : Type 0 where
   Invokes : (brick : BrickId) → (ask : Ask) → Event
   Delivers : (number : ℕ) → Event
   Sets : (brick : BrickId) → (time : ℕ) → Event
+  Ticks : (brick : BrickId) → Event
+  Crashes : (brick : BrickId) → Event
+  Starts : (brick : BrickId) → (openings : ℕ) → Event
+  Absorbs : (number : ℕ) → Event
 
--- What is known of an operation, by number: its coordinator and call number, where it begins, what it asks, the version that it made or
+-- What is known of an operation, by number: its coordinator, how often the store of that had been opened, its call number, where it begins, what it asks, the version that it made or
 -- read, whether it made it, and on which base, whether it was answered; and, for the proof alone, how far each brick's part of the stripe had come when it began.
 pub record Operation : Type 0 where
   pub brick : BrickId
+  pub boot : ℕ
   pub seq : ℕ
   pub begin : ℕ
   pub ask : Ask
@@ -39,17 +46,20 @@ pub record Operation : Type 0 where
   pub answered : Bool
   pub floor : ℕ → Stamp
 
--- The whole disk: its bricks, and what their clocks read; every message that was ever sent, in order; the marks; how many operations have
--- begun, and each by its number; the number of the operation of each brick's call; and, for the proof alone, the content of each version (by
--- group, stripe and stamp), and the replies that counted in each phase of an operation (by its number and the phase's).
+-- The whole disk: its bricks, which of them are up, and what their clocks read; every message that was ever sent, in order; the marks; how many
+-- operations have begun, and each by its number; the number of the operation of each call (by brick, boot and call number); and, for the proof
+-- alone, the time that a brick knew last in each earlier boot, the content of each version (by group, stripe and stamp), and the replies that
+-- counted in each phase of an operation (by its number and the phase's).
 pub record World : Type 0 where
   pub nodes : ℕ → Node
+  pub up : ℕ → Bool
   pub clocks : ℕ → ℕ
   pub packets : List Packet
   pub marks : List Mark
   pub begun : ℕ
   pub operations : ℕ → Option Operation
-  pub numbers : ℕ → ℕ → ℕ
+  pub numbers : ℕ → ℕ → ℕ → ℕ
+  pub past : ℕ → ℕ → ℕ
   pub contents : ℕ → ℕ → Stamp → List ℕ
   pub replies : ℕ → ℕ → List Counted
 
@@ -63,12 +73,14 @@ abbrev pub first_world : Layout → World
 first_world layout =
     record {
       nodes = λ i. first_node layout.block;
+      up = λ i. true;
       clocks = λ i. 0;
       packets = [];
       marks = [];
       begun = 0;
       operations = λ n. None;
-      numbers = λ i k. 0;
+      numbers = λ i b k. 0;
+      past = λ i b. 0;
       contents = λ g s t. zero_content layout.block (group_of layout g);
       replies = λ n p. [];
     }
@@ -77,22 +89,32 @@ first_world layout =
 abbrev pub is_brick : Layout → BrickId → Bool
 is_brick layout brick = nat_lt brick.0 layout.bricks
 
+-- a brick of the layout that is up
+abbrev pub is_up : Layout → World → BrickId → Bool
+is_up layout w brick = is_brick layout brick && w.up brick.0
+
 -- the brick begins an operation that is a whole stripe's and is not refused
 abbrev pub may_begin : Setting → World → BrickId → Ask → Bool
 may_begin setting w brick ask =
-    is_brick setting.layout brick && (is_stripe_op ask.op && not (is_some (refusal_of setting.layout (w.nodes brick.0) ask)))
+    is_up setting.layout w brick && (is_stripe_op ask.op && not (is_some (refusal_of setting.layout (w.nodes brick.0) ask)))
+
+-- the numbers of calls, with that of a brick's last call
+abbrev pub with_number : (ℕ → ℕ → ℕ → ℕ) → ℕ → Node → ℕ → ℕ → ℕ → ℕ → ℕ
+with_number numbers i node n = put numbers i (put (numbers i) node.boot (put (numbers i node.boot) node.seq n))
 
 -- the world after a brick began an operation
 abbrev pub world_began : World → BrickId → Ask → NodeStep → World
 world_began w brick ask step =
     record {
       nodes = put w.nodes brick.0 step.node;
+      up = w.up;
       clocks = w.clocks;
       packets = w.packets ++ step.packets;
       marks = w.marks ++ (Begin (length w.marks) (w.begun + 1) brick ask ∷ []);
       begun = w.begun + 1;
       operations = put w.operations (w.begun + 1) (Some (record {
         brick = brick;
+        boot = step.node.boot;
         seq = step.node.seq;
         begin = length w.marks;
         ask = ask;
@@ -102,7 +124,8 @@ world_began w brick ask step =
         answered = false;
         floor = λ i. top_of ((w.nodes i).replicas ask.group.0 ask.stripe.0);
       }));
-      numbers = put w.numbers brick.0 (put (w.numbers brick.0) step.node.seq (w.begun + 1));
+      numbers = with_number w.numbers brick.0 step.node (w.begun + 1);
+      past = w.past;
       contents = w.contents;
       replies = w.replies;
     }
@@ -135,41 +158,51 @@ with_content contents t (Some c) =
     put contents c.ask.group.0 (put (contents c.ask.group.0) c.ask.stripe.0
     (λ u. if stamp_same u t then stored_content c else contents c.ask.group.0 c.ask.stripe.0 u))
 
+-- the number of the operation of a brick's call since it was started last
+abbrev pub number_of : World → ℕ → ℕ → ℕ
+number_of w i seq = w.numbers i (w.nodes i).boot seq
+
 -- the world after a brick's step on a message
 abbrev pub world_stepped : World → BrickId → NodeStep → Told → World
 world_stepped w brick step Nothing =
     record {
       nodes = put w.nodes brick.0 step.node;
+      up = w.up;
       clocks = w.clocks;
       packets = w.packets ++ step.packets;
       marks = w.marks;
       begun = w.begun;
       operations = w.operations;
       numbers = w.numbers;
+      past = w.past;
       contents = w.contents;
       replies = w.replies;
     }
 world_stepped w brick step (Made seq t base) =
     record {
       nodes = put w.nodes brick.0 step.node;
+      up = w.up;
       clocks = w.clocks;
       packets = w.packets ++ step.packets;
       marks = w.marks;
       begun = w.begun;
-      operations = put w.operations (w.numbers brick.0 seq) (with_made t base (w.operations (w.numbers brick.0 seq)));
+      operations = put w.operations (number_of w brick.0 seq) (with_made t base (w.operations (number_of w brick.0 seq)));
       numbers = w.numbers;
+      past = w.past;
       contents = with_content w.contents t (step.node.calls seq);
       replies = w.replies;
     }
 world_stepped w brick step (Answers seq answer seen) =
     record {
       nodes = put w.nodes brick.0 step.node;
+      up = w.up;
       clocks = w.clocks;
       packets = w.packets ++ step.packets;
-      marks = w.marks ++ (End (length w.marks) (w.numbers brick.0 seq) answer ∷ []);
+      marks = w.marks ++ (End (length w.marks) (number_of w brick.0 seq) answer ∷ []);
       begun = w.begun;
-      operations = put w.operations (w.numbers brick.0 seq) (with_answer answer seen (w.operations (w.numbers brick.0 seq)));
+      operations = put w.operations (number_of w brick.0 seq) (with_answer answer seen (w.operations (number_of w brick.0 seq)));
       numbers = w.numbers;
+      past = w.past;
       contents = w.contents;
       replies = w.replies;
     }
@@ -187,7 +220,7 @@ counted_after replies n from call reply (Some seat) = with_counted replies n cal
 abbrev pub replies_in : Setting → World → BrickId → BrickId → Call → Reply → Coordinator → Option Group → ℕ → ℕ → List Counted
 replies_in setting w me from call reply c None = w.replies
 replies_in setting w me from call reply c (Some group) =
-    counted_after w.replies (w.numbers me.0 call.seq) from call reply (counts_at setting.layout.block group c from.0 call reply)
+    counted_after w.replies (number_of w me.0 call.seq) from call reply (counts_at setting.layout.block group c from.0 call reply)
 
 abbrev pub replies_at : Setting → World → BrickId → BrickId → Call → Reply → Option Coordinator → ℕ → ℕ → List Counted
 replies_at setting w me from call reply None = w.replies
@@ -201,26 +234,69 @@ replies_with setting w packet = replies_of packet.message
     replies_of (Message.Reply call reply) = replies_at setting w packet.to packet.from call reply ((w.nodes packet.to.0).calls call.seq)
     replies_of message = w.replies
 
--- a packet is delivered to a brick of the layout
+-- a packet is delivered to a brick of the layout that is up
 abbrev pub delivered : Setting → World → Option Packet → World
 delivered setting w None = w
 delivered setting w (Some packet) =
-    if is_brick setting.layout packet.to
+    if is_up setting.layout w packet.to
     then (let step = received setting packet.to (w.clocks packet.to.0) (w.nodes packet.to.0) packet in
     world_stepped (record w { replies = replies_with setting w packet }) packet.to step step.told)
     else w
+
+-- a packet is handled by a brick of the layout that is up, and the reply is lost before it is sent
+abbrev pub world_absorbed : Setting → World → Option Packet → World
+world_absorbed setting w None = w
+world_absorbed setting w (Some packet) =
+    if is_up setting.layout w packet.to
+    then record w { nodes = put w.nodes packet.to.0 (absorbed setting packet.to (w.nodes packet.to.0) packet) }
+    else w
+
+-- a brick's clock ticks
+abbrev pub world_ticked : Setting → World → BrickId → World
+world_ticked setting w brick = record w { packets = w.packets ++ ticked setting brick (w.nodes brick.0) }
+
+-- the world after a brick stopped
+abbrev pub world_stopped : World → BrickId → World
+world_stopped w brick =
+    record w {
+      nodes = put w.nodes brick.0 (stopped (w.nodes brick.0));
+      up = put w.up brick.0 false;
+      marks = w.marks ++ (Crash (length w.marks) brick ∷ []);
+    }
+
+-- the world after a stopped brick was started again
+abbrev pub world_started : World → BrickId → ℕ → World
+world_started w brick openings =
+    record w {
+      nodes = put w.nodes brick.0 (restarted openings (w.nodes brick.0));
+      up = put w.up brick.0 true;
+      past = put w.past brick.0 (put (w.past brick.0) (w.nodes brick.0).boot (w.nodes brick.0).known);
+    }
+
+-- a brick of the layout that is down, and whose store can be opened so many times
+abbrev pub may_start : Layout → World → BrickId → ℕ → Bool
+may_start layout w brick openings = is_brick layout brick && (not (w.up brick.0) && may_open openings (w.nodes brick.0))
+
+-- the time that a brick knew last in a boot, or knows now
+abbrev pub known_in : World → ℕ → ℕ → ℕ
+known_in w i boot = if nat_eq boot (w.nodes i).boot then (w.nodes i).known else w.past i boot
 
 -- the packet of a number, from 1
 abbrev pub packet_of : List Packet → ℕ → Option Packet
 packet_of packets zero = None
 packet_of packets (suc k) = slice_get packets k
 
--- the world after an event; an operation that is refused, a number that was not sent, and a brick that the layout has not change nothing
+-- the world after an event; what cannot happen changes nothing: an operation that is refused, a number that was not sent, a brick that the layout
+-- has not, a stopped brick that is to stop, handle a message or tick, and one that is to start though it is up
 unfoldable pub happens : Setting → World → Event → World
 happens setting w (Invokes brick ask) =
     if may_begin setting w brick ask then world_began w brick ask (invoked setting brick (w.clocks brick.0) (w.nodes brick.0) ask) else w
 happens setting w (Delivers number) = delivered setting w (packet_of w.packets number)
 happens setting w (Sets brick time) = if is_brick setting.layout brick then record w { clocks = put w.clocks brick.0 time } else w
+happens setting w (Ticks brick) = if is_up setting.layout w brick then world_ticked setting w brick else w
+happens setting w (Crashes brick) = if is_up setting.layout w brick then world_stopped w brick else w
+happens setting w (Starts brick openings) = if may_start setting.layout w brick openings then world_started w brick openings else w
+happens setting w (Absorbs number) = world_absorbed setting w (packet_of w.packets number)
 
 -- the world after a schedule
 abbrev pub run : Setting → List Event → World → World
