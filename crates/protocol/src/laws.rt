@@ -2,8 +2,8 @@
 
 ghost use Rattle.protocol.specs.Laws.{EveryRunKeepsTheLaws, NeverSurfaces, NoEventLowers};
 
-/// Every run of the disk keeps its laws, whatever is asked of it, whatever its clocks read, and whichever of its messages are
-/// delivered, lost, repeated or overtaken.
+/// Every run of the disk keeps its laws, whatever is asked of it, whatever its clocks read, whichever of its bricks stop and
+/// start again, and whichever of its messages are delivered, lost, repeated or overtaken.
 ///
 /// This holds for every layout whose groups are within the limits of a quorum, and for every code that gives back what it
 /// encodes. The laws are these.

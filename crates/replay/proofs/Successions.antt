@@ -25,8 +25,7 @@ follows_events layout sound events more earlier later first then =
     of_run : Follows layout (run (coding layout) events (first_world layout)) (run (coding layout) more (run (coding layout) events (first_world layout)))
     of_run = record {
       never_falls = (parts_stay_on (coding layout) more (run (coding layout) events (first_world layout))).tops;
-      never_surfaces = λ g s group v here lost held.
-          never_surfaces (coding layout) events more g s group lost.stamp v lost.seats sound here lost.quorum lost.passed lost.above lost.few held;
+      never_surfaces = λ g s group v here lost held. never_surfaces (coding layout) events more g s group v sound here lost held;
     }
 
     from_run : (w : World) → w ≡ run (coding layout) events (first_world layout) → Follows layout w (run (coding layout) more w)
