@@ -98,6 +98,12 @@ call_kept setting w later i k c books up boot number operation known stays begun
       unanswered = books.unanswered;
     }
 
+-- the number of an operation of its brick's present boot is that of its call
+pub number_at : (setting : Setting) (w : World) (n : ℕ) (o : Operation) → OperationBooks setting w n o → o.boot ≡ (w.nodes o.brick.0).boot
+    → (i k : ℕ) → o.brick.0 ≡ i → o.seq ≡ k → n ≡ number_of w i k
+number_at setting w n o books present i k at seq =
+    sym books.number ∙ ap (λ (b : ℕ). w.numbers o.brick.0 b o.seq) present ∙ ap (λ (j : ℕ). number_of w j o.seq) at ∙ ap (λ (l : ℕ). number_of w i l) seq
+
 -- two calls of one operation are one call
 pub calls_apart : (setting : Setting) (w : World) (i k j l : ℕ) (c d : Coordinator) → CallBooks setting w i k c → CallBooks setting w j l d
     → number_of w j l ≡ number_of w i k → (j ≡ i) × (l ≡ k)

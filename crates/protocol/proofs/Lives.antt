@@ -86,7 +86,8 @@ EndingStays-answered (Answered p answer) later stays is = subst (λ (x : Ending)
 EndingStays-answered (Interrupted p) later stays is = absurd is
 EndingStays-answered (Unended past) later stays is = absurd is
 
-unended_not_answered : (e : Ending) → IsUnended e → IsAnswered e → ⊥
+-- no ending is both open and answered
+pub unended_not_answered : (e : Ending) → IsUnended e → IsAnswered e → ⊥
 unended_not_answered (Answered p answer) open' is = open'
 unended_not_answered (Interrupted p) open' is = open'
 unended_not_answered (Unended past) open' is = is
