@@ -1,7 +1,8 @@
 -- The books of a world where a brick changed its part of a stripe, or learnt of a time, where a clock was set or ticks, or where a stopped brick was
 -- started again.
-use Rattle.std.proofs.Common.{◌≡◌, ◌≢◌, ℕ, ◌+◌, ◌≤◌, ⊎_elim, true, false, None, Some, refl, sym, ap, ◌∙◌, subst, arith, List}
-use Rattle.std.proofs.lemmas.Bool.{cases_eq, both_ways}
+use Rattle.std.proofs.Common.{◌≡◌, ◌≢◌, ℕ, ◌+◌, ◌≤◌, ⊎_elim, Bool, true, false, None, Some, refl, sym, ap, ◌∙◌, subst, arith, List}
+use Rattle.std.specs.Prelude.{nat_eq, if◌then◌else◌}
+use Rattle.std.proofs.lemmas.Bool.{cases_eq, both_ways, ne_eqb}
 use Rattle.std.proofs.lemmas.Option.{same_Some}
 use Rattle.fab_base.specs.declared.identities.BrickId.{BrickId}
 use Rattle.fab_wire.specs.declared.messages.Packet.{Packet}
@@ -9,7 +10,7 @@ use Rattle.reg_model.specs.Marks.{Life, life_of, IsOpen}
 use Rattle.protocol.specs.Settings.{Setting}
 use Rattle.protocol.specs.Coordinators.{Coordinator, Counted}
 use Rattle.protocol.specs.Nodes.{Node, put, no_calls, restarted}
-use Rattle.protocol.specs.Worlds.{World, Operation, number_of, world_started}
+use Rattle.protocol.specs.Worlds.{World, Operation, number_of, known_in, world_started}
 use Rattle.protocol.proofs.Books.{Books, OperationBooks, CallBooks, IsOperation, IsCall}
 use Rattle.protocol.proofs.BooksKept.{KeepsNumbers, operation_stays, operation_kept, call_kept}
 use Rattle.protocol.proofs.Lives.{Stays-refl}
@@ -78,9 +79,10 @@ module _ (setting : Setting) (w : World) (brick : BrickId) (openings : ℕ) (boo
   abbrev later : World
   later = world_started w brick openings
 
-  other_node : (j : ℕ) → j ≢ i → later.nodes j ≡ w.nodes j
+  -- another brick stays as it is
+  pub unstarted : (j : ℕ) → j ≢ i → later.nodes j ≡ w.nodes j
   unfolding restarted
-  other_node j other = put_other w.nodes i node j other
+  unstarted j other = put_other w.nodes i node j other
 
   own_node : later.nodes i ≡ node
   unfolding restarted
@@ -91,8 +93,31 @@ module _ (setting : Setting) (w : World) (brick : BrickId) (openings : ℕ) (boo
   own_boot = ap (λ (x : Node). x.boot) own_node
 
   -- it has no call
-  own_calls : (k : ℕ) → (later.nodes i).calls k ≡ None
-  own_calls k = ap (λ (x : Node). x.calls k) own_node
+  pub started_calls : (k : ℕ) → (later.nodes i).calls k ≡ None
+  started_calls k = ap (λ (x : Node). x.calls k) own_node
+
+  -- no time that a brick knew in a boot falls
+  pub started_known : (j b : ℕ) → b ≤ (w.nodes j).boot → known_in w j b ≤ known_in later j b
+  started_known j b begun = ⊎_elim
+      (λ (mine : j ≡ i). own_known j mine begun)
+      (λ (other : j ≢ i).
+      let nodes : later.nodes j ≡ w.nodes j = unstarted j other in
+      let past : later.past j b ≡ w.past j b = ap (λ (f : ℕ → ℕ). f b) (put_other w.past i _ j other) in
+      let same : known_in later j b ≡ known_in w j b = ap (λ (x : Node). if nat_eq b x.boot then x.known else later.past j b) nodes
+      ∙ ap (λ (y : ℕ). if nat_eq b (w.nodes j).boot then (w.nodes j).known else y) past in
+      omega arith)
+      (cases_eq j i)
+    where
+      own_known : (j : ℕ) → j ≡ i → b ≤ (w.nodes j).boot → known_in w j b ≤ known_in later j b
+      own_known j mine begun =
+          let boot : (later.nodes j).boot ≡ (w.nodes i).boot + openings = ap (λ (x : ℕ). (later.nodes x).boot) mine ∙ own_boot in
+          let before : (w.nodes j).boot ≡ (w.nodes i).boot = ap (λ (x : ℕ). (w.nodes x).boot) mine in
+          let old : b ≢ (later.nodes j).boot = λ same. omega arith in
+          let past : later.past j b ≡ known_in w j b = ap (λ (x : ℕ). later.past x b) mine
+          ∙ ap (λ (f : ℕ → ℕ). f b) (put_same w.past i (put (w.past i) (w.nodes i).boot (w.nodes i).known)) ∙ ap (λ (x : ℕ). known_in w x b) (sym mine) in
+          let now : known_in later j b ≡ known_in w j b =
+          ap (λ (t : Bool). if t then (later.nodes j).known else later.past j b) (ne_eqb b (later.nodes j).boot old) ∙ past in
+          omega arith
 
   other_up : (j : ℕ) → j ≢ i → later.up j ≡ w.up j
   other_up j other = put_other w.up i true j other
@@ -115,7 +140,7 @@ module _ (setting : Setting) (w : World) (brick : BrickId) (openings : ℕ) (boo
 
   other_stays : (n : ℕ) (o : Operation) → OperationBooks setting w n o → o.brick.0 ≢ i → OperationBooks setting later n o
   other_stays n o mine other =
-      let same : later.nodes o.brick.0 ≡ w.nodes o.brick.0 = other_node o.brick.0 other in
+      let same : later.nodes o.brick.0 ≡ w.nodes o.brick.0 = unstarted o.brick.0 other in
       let seqs : (later.nodes o.brick.0).seq ≡ (w.nodes o.brick.0).seq = ap (λ (x : Node). x.seq) same in
       operation_kept setting w later n o mine (omega arith) refl (ap (λ (x : Node). x.boot) same) (omega arith) (Stays-refl (life_of w.marks n))
       (λ boot c call. (c, ap (λ (x : Node). x.calls o.seq) same ∙ call))
@@ -123,7 +148,7 @@ module _ (setting : Setting) (w : World) (brick : BrickId) (openings : ℕ) (boo
   -- a call of another brick
   other_call : (j k : ℕ) (c : Coordinator) → j ≢ i → IsCall later j k c → CallBooks setting later j k c
   other_call j k c other is =
-      let same : later.nodes j ≡ w.nodes j = other_node j other in
+      let same : later.nodes j ≡ w.nodes j = unstarted j other in
       let boot : (later.nodes j).boot ≡ (w.nodes j).boot = ap (λ (x : Node). x.boot) same in
       let knows : (later.nodes j).known ≡ (w.nodes j).known = ap (λ (x : Node). x.known) same in
       let old : IsCall w j k c = sym (ap (λ (x : Node). x.calls k) same) ∙ is in
@@ -138,7 +163,7 @@ module _ (setting : Setting) (w : World) (brick : BrickId) (openings : ℕ) (boo
     places = books.places;
     boots = λ j. ⊎_elim
         (λ (mine : j ≡ i). let boot : (later.nodes j).boot ≡ (w.nodes i).boot + openings = ap (λ (x : ℕ). (later.nodes x).boot) mine ∙ own_boot in omega arith)
-        (λ (other : j ≢ i). let boot : (later.nodes j).boot ≡ (w.nodes j).boot = ap (λ (x : Node). x.boot) (other_node j other) in
+        (λ (other : j ≢ i). let boot : (later.nodes j).boot ≡ (w.nodes j).boot = ap (λ (x : Node). x.boot) (unstarted j other) in
         omega (arith, books.boots j))
         (cases_eq j i);
     all_begun = books.all_begun;
@@ -148,14 +173,14 @@ module _ (setting : Setting) (w : World) (brick : BrickId) (openings : ℕ) (boo
         (cases_eq o.brick.0 i);
     calls = λ j k c is. ⊎_elim
         (λ (mine : j ≡ i).
-        let none : (later.nodes j).calls k ≡ None = ap (λ (x : ℕ). (later.nodes x).calls k) mine ∙ own_calls k in
+        let none : (later.nodes j).calls k ≡ None = ap (λ (x : ℕ). (later.nodes x).calls k) mine ∙ started_calls k in
         absurd (let never : None ≡ Some c = sym none ∙ is in cc))
         (λ (other : j ≢ i). other_call j k c other is)
         (cases_eq j i);
     fresh_calls = λ j k lt. ⊎_elim
-        (λ (mine : j ≡ i). ap (λ (x : ℕ). (later.nodes x).calls k) mine ∙ own_calls k)
+        (λ (mine : j ≡ i). ap (λ (x : ℕ). (later.nodes x).calls k) mine ∙ started_calls k)
         (λ (other : j ≢ i).
-        let same : later.nodes j ≡ w.nodes j = other_node j other in
+        let same : later.nodes j ≡ w.nodes j = unstarted j other in
         let seqs : (later.nodes j).seq ≡ (w.nodes j).seq = ap (λ (x : Node). x.seq) same in
         ap (λ (x : Node). x.calls k) same ∙ books.fresh_calls j k (omega arith))
         (cases_eq j i);
