@@ -111,10 +111,12 @@ module _ (setting : Setting) (w : World) (i k : ℕ) (c : Coordinator) (before o
             (omega (arith, own.booted.0), omega (arith, own.booted.1)));
         called = (let seqs : (nodes o.brick.0).seq ≡ (w.nodes before.brick.0).seq =
             (ended.keeps o.brick.0).seq ∙ ap (λ (j : ℕ). (w.nodes j).seq) at in
-            let seq : o.seq ≡ before.seq = ended.seq in
-            (omega (arith, own.called.0), λ present.
-            (let least : before.seq ≤ (w.nodes before.brick.0).seq = own.called.1 (sym ended.boot ∙ present ∙ (ended.keeps o.brick.0).boot
-            ∙ ap (λ (j : ℕ). (w.nodes j).boot) at) in omega arith)));
+            let seq : o.seq ≡ before.seq = ended.seq in (
+              omega (arith, own.called.0),
+              λ present.
+                  (let least : before.seq ≤ (w.nodes before.brick.0).seq = own.called.1 (sym ended.boot ∙ present ∙ (ended.keeps o.brick.0).boot
+                  ∙ ap (λ (j : ℕ). (w.nodes j).boot) at) in omega arith),
+            ));
         is_stripe_op = ap (λ (a : Ask). is_stripe_op a.op) ended.ask ∙ own.is_stripe_op;
         group = own.group;
         group_is = ap (λ (a : Ask). group_of setting.layout a.group.0) ended.ask ∙ own.group_is;

@@ -139,10 +139,12 @@ module _ (setting : Setting) (w : World) (i k : ℕ) (c d : Coordinator) (before
             let now : (nodes o.brick.0).boot ≡ (w.nodes o.brick.0).boot = (turned.keeps o.brick.0).boot in
             (omega (arith, own.booted.0), omega (arith, own.booted.1)));
         called = (let old : (w.nodes before.brick.0).seq ≡ (w.nodes o.brick.0).seq = ap (λ b. (w.nodes b.0).seq) (sym brick) in
-            let now : (nodes o.brick.0).seq ≡ (w.nodes o.brick.0).seq = (turned.keeps o.brick.0).seq in
-            (omega (arith, own.called.0), λ present.
-            (let least : before.seq ≤ (w.nodes before.brick.0).seq = own.called.1 (sym boot ∙ present ∙ (turned.keeps o.brick.0).boot
-            ∙ ap (λ b. (w.nodes b.0).boot) brick) in omega arith)));
+            let now : (nodes o.brick.0).seq ≡ (w.nodes o.brick.0).seq = (turned.keeps o.brick.0).seq in (
+              omega (arith, own.called.0),
+              λ present.
+                  (let least : before.seq ≤ (w.nodes before.brick.0).seq = own.called.1 (sym boot ∙ present ∙ (turned.keeps o.brick.0).boot
+                  ∙ ap (λ b. (w.nodes b.0).boot) brick) in omega arith),
+            ));
         is_stripe_op = ap (λ a. Rattle.protocol.specs.Nodes.is_stripe_op a.op) ask ∙ own.is_stripe_op;
         group = own.group;
         group_is = ap (λ a. Rattle.protocol.specs.Settings.group_of setting.layout a.group.0) ask ∙ own.group_is;
@@ -156,8 +158,10 @@ module _ (setting : Setting) (w : World) (i k : ℕ) (c d : Coordinator) (before
         answered = λ is. absurd (both_ways o.answered never is);
         answered_only = λ is. turned.same_ask.answered ∙ own.answered_only is;
         answered_version = λ is. absurd (both_ways o.answered never is);
-        open_call = λ is. (call_books.boot ∙ ap (λ (j : ℕ). (nodes j).boot) (sym at),
-        (d, subst (λ (j : ℕ). IsCall later j o.seq d) (sym at) (subst (λ (l : ℕ). IsCall later i l d) (sym call_books.seq) turned.call_is)));
+        open_call = λ is. (
+          call_books.boot ∙ ap (λ (j : ℕ). (nodes j).boot) (sym at),
+          (d, subst (λ (j : ℕ). IsCall later j o.seq d) (sym at) (subst (λ (l : ℕ). IsCall later i l d) (sym call_books.seq) turned.call_is)),
+        );
       }
 
   -- the turn of one open operation keeps the books
