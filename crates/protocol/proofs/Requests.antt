@@ -1,6 +1,7 @@
 -- A member handles a request: what its part of the stripe, and its reply, then say.
-use Rattle.std.proofs.Common.{◌≡◌, ℕ, ◌⊎◌, inl, inr, true, false, List, Option, Some, None, refl, sym, ap, ◌∙◌, subst, ⊎_elim, arith}
+use Rattle.std.proofs.Common.{◌≡◌, ℕ, ◌⊎◌, inl, inr, true, false, ◌&&◌, List, Option, Some, None, refl, sym, ap, ◌∙◌, subst, ⊎_elim, arith}
 use Rattle.std.specs.Prelude.{slice_get}
+use Rattle.std.proofs.lemmas.Bool.{cond_both}
 use Rattle.fab_base.specs.declared.identities.BrickId.{BrickId}
 use Rattle.fab_base.specs.declared.stamps.Stamp.{Stamp}
 use Rattle.fab_base.specs.Stamps.{stamp_below}
@@ -15,10 +16,10 @@ use Rattle.fab_wire.specs.declared.requests.Want.TheVariants.{All}
 use Rattle.fab_wire.specs.declared.requests.Request.{Request}
 use Rattle.fab_wire.specs.declared.requests.Version.{Version}
 use Rattle.fab_wire.specs.declared.replies.Reply.{Reply}
-use Rattle.protocol.specs.Settings.{Setting}
-use Rattle.protocol.specs.Replicas.{Replica, newest_of, top_of, is_held, stamp_max, below}
+use Rattle.protocol.specs.Settings.{Setting, Group, group_of, seat_in}
+use Rattle.protocol.specs.Replicas.{Replica, newest_of, top_of, is_held, stamp_max, below, handle}
 use Rattle.protocol.specs.Coordinators.{Orders, Recovers, Descends, Stores}
-use Rattle.protocol.specs.Nodes.{Node, put, with_replica, reply_packets}
+use Rattle.protocol.specs.Nodes.{Node, NodeStep, put, no_step, with_replica, replica_at, reply_packets, reacted, requested_at, is_served, fits_block, requested_in, requested}
 use Rattle.protocol.specs.Worlds.{World, Operation}
 use Rattle.protocol.specs.Laws.{WasSent, AskedAt, part_of}
 use Rattle.protocol.proofs.Books.{Books}
@@ -29,6 +30,22 @@ use Rattle.protocol.proofs.Reactions.{IsAfter, IsAsked, ReactionSays, SaysIf, wi
 use Rattle.protocol.proofs.Stampings.{ages_within, stamps_same}
 use Rattle.protocol.proofs.Growth.{Grows, Continues, stays_version, stays_called, stays_found}
 use Rattle.protocol.proofs.Steps.{KeepsParts, quiet, quiet_grows, said_quiet, stamps_stay_by}
+
+-- a brick ignores a request, or handles it at its seat
+pub request_each : (P : NodeStep → Type 0) (setting : Setting) (me from : BrickId) (node : Node) (call : Call) (request : Request) → P (no_step node)
+    → ((seat : ℕ) → P (reacted me from node call (handle seat (replica_at node call) request))) → P (requested setting me from node call request)
+unfolding requested
+request_each P setting me from node call request ignored handled = in_group (group_of setting.layout call.group.0)
+  where
+    at_seat : (z : Option ℕ) → P (requested_at me from node call request z)
+    at_seat None = ignored
+    at_seat (Some seat) = handled seat
+
+    in_group : (z : Option Group) → P (requested_in setting.layout.block me from node call request z)
+    in_group None = ignored
+    in_group (Some group) =
+        cond_both (is_served group call && fits_block setting.layout.block request) (requested_at me from node call request (seat_in group.members me.0))
+        (no_step node) P (λ is. at_seat (seat_in group.members me.0)) (λ isnt. ignored)
 
 -- what holds of the changed part, and of each part as it was
 pub parts_each : (Q : ℕ → ℕ → Replica → Type 0) (node : Node) (call : Call) (part : Replica) → Q call.group.0 call.stripe.0 part

@@ -1,18 +1,24 @@
 -- A coordinator begins its next phase, which makes no version yet: a recovery, a look below a lower bound, or another round of ordering.
-use Rattle.std.proofs.Common.{◌≡◌, ℕ, ◌+◌, ◌≤◌, max, ◌⊎◌, inl, inr, true, false, List, [], ◌++◌, Some, None, refl, sym, ap, ◌∙◌, subst, arith}
+-- And an open operation may send its present phase again.
+use Rattle.std.proofs.Common.{◌≡◌, ℕ, ◌+◌, ◌≤◌, max, ◌⊎◌, inl, inr, true, false, List, [], ◌∷◌, ◌++◌, zero, suc, Option, Some, None, refl, sym, ap, ◌∙◌, subst, ⊎_elim, arith}
 use Rattle.std.specs.Prelude.{slice_get}
+use Rattle.std.proofs.lemmas.Bool.{cond_both}
 use Rattle.std.proofs.lemmas.Option.{same_Some}
 use Rattle.fab_base.specs.declared.identities.BrickId.{BrickId}
 use Rattle.fab_base.specs.declared.stamps.Stamp.{Stamp}
 use Rattle.fab_base.specs.Stamps.{stamp_below, first_stamp}
+use Rattle.fab_wire.specs.declared.calls.Call.{Call}
+use Rattle.fab_wire.specs.declared.messages.Message.TheVariants as Message
 use Rattle.fab_wire.specs.declared.messages.Packet.{Packet}
+use Rattle.fab_wire.specs.declared.requests.Request.{Request}
 use Rattle.protocol.specs.Settings.{Setting, Group, group_of}
-use Rattle.protocol.specs.Coordinators.{Coordinator, Phase, Looks, Orders, Recovers, Descends, Stores, next_phase, request_of}
-use Rattle.protocol.specs.Nodes.{Node, with_known, with_call, phase_packets}
+use Rattle.protocol.specs.Coordinators.{Coordinator, Counted, Phase, Looks, Orders, Recovers, Descends, Stores, next_phase, has_seat, request_of}
+use Rattle.protocol.specs.Nodes.{Node, with_known, with_call, phase_packets, resent_to, resent_in, resent, resent_up_to, ticked}
 use Rattle.protocol.specs.Worlds.{World, Operation}
+use Rattle.protocol.specs.Laws.{WasSent}
 use Rattle.protocol.proofs.Books.{Books, CallBooks, IsOperation, IsCall}
 use Rattle.protocol.proofs.Said.{Begun, Stamping, Said, IsSaid, IsBegun, AreBlocked, IsStampOf, IsCalled, FitsPhase, RequestSays, PacketSays, CallSays}
-use Rattle.protocol.proofs.Tables.{put_each, put_same, sent_to_member}
+use Rattle.protocol.proofs.Tables.{put_each, put_same, get_grown, sent_to_member}
 use Rattle.protocol.proofs.Stampings.{ComesFrom, StampsGrow, Ages, ages_within, with_stamp, stamp_now, stamps_other, stamp_last, stamps_grow, stamps_say}
 use Rattle.protocol.proofs.Growth.{Grows, stay_blocked}
 use Rattle.protocol.proofs.Steps.{KeepsStamps, keeps_same, ages_by, phase_asked, quiet, quiet_grows, said_quiet}
@@ -171,3 +177,71 @@ module _ (setting : Setting) (w : World) (stamps : Stamping) (me : BrickId) (c :
           packets = packets;
         }),
       )
+
+-- a packet is one of these members' request, the first of them at this seat
+abbrev IsRequestOf : BrickId → Call → (ℕ → Request) → ℕ → List BrickId → Packet → Type 0
+IsRequestOf me call request seat members packet =
+    (place : ℕ) × (member : BrickId) × (slice_get members place ≡ Some member)
+    × (packet ≡ record { from = me; to = member; message = Message.Request call (request (seat + place)) })
+
+-- a later member's
+later_request : (me : BrickId) (call : Call) (request : ℕ → Request) (seat : ℕ) (member : BrickId) (members : List BrickId) (packet : Packet)
+    → IsRequestOf me call request (seat + 1) members packet → IsRequestOf me call request seat (member ∷ members) packet
+later_request me call request seat member members packet found =
+    let place : seat + 1 + found.0 ≡ seat + suc found.0 = omega arith in
+    (suc found.0, found.1, found.2, found.3 ∙ ap (λ (i : ℕ). record { from = me; to = found.1; message = Message.Request call (request i) }) place)
+
+-- the first member's, or a later member's
+first_request : (me : BrickId) (call : Call) (request : ℕ → Request) (seat : ℕ) (member : BrickId) (members : List BrickId) (rest : List Packet)
+    (k : ℕ) (packet : Packet) → ((j : ℕ) → slice_get rest j ≡ Some packet → IsRequestOf me call request (seat + 1) members packet)
+    → slice_get (record { from = me; to = member; message = Message.Request call (request seat) } ∷ rest) k ≡ Some packet
+    → IsRequestOf me call request seat (member ∷ members) packet
+first_request me call request seat member members rest zero packet later at =
+    let place : seat ≡ seat + 0 = omega arith in
+    let same : record { from = me; to = member; message = Message.Request call (request seat) } ≡ packet = cc in
+    (0, member, refl, sym same ∙ ap (λ (i : ℕ). record { from = me; to = member; message = Message.Request call (request i) }) place)
+first_request me call request seat member members rest (suc j) packet later at =
+    later_request me call request seat member members packet (later j at)
+
+-- a packet of a phase that is sent again is a member's request
+resent_to_member : (me : BrickId) (call : Call) (request : ℕ → Request) (counted : List Counted) (seat : ℕ) (members : List BrickId) (k : ℕ) (packet : Packet)
+    → slice_get (resent_to me call request counted seat members) k ≡ Some packet → IsRequestOf me call request seat members packet
+resent_to_member me call request counted seat [] k packet is = cc
+resent_to_member me call request counted seat (member ∷ members) k packet is =
+    let rest : List Packet = resent_to me call request counted (seat + 1) members in
+    cond_both (has_seat seat counted) rest (record { from = me; to = member; message = Message.Request call (request seat) } ∷ rest)
+    (λ (z : List Packet). slice_get z k ≡ Some packet → IsRequestOf me call request seat (member ∷ members) packet)
+    (λ has at. later_request me call request seat member members packet (resent_to_member me call request counted (seat + 1) members k packet at))
+    (λ isnt at.
+    first_request me call request seat member members rest k packet (λ j. resent_to_member me call request counted (seat + 1) members j packet) at)
+    is
+
+module _ (setting : Setting) (w : World) (stamps : Stamping) (me : BrickId) (said : Said setting w stamps) where
+  -- what an open operation sends again was sent
+  resent_was_sent : (k : ℕ) (c : Coordinator) → IsCall w me.0 k c → (z : Option Group) → group_of setting.layout c.ask.group.0 ≡ z → (j : ℕ) (packet : Packet)
+      → slice_get (resent_in setting me c z) j ≡ Some packet → WasSent w packet
+  resent_was_sent k c is None none j packet at = cc
+  resent_was_sent k c is (Some group) group_is j packet at =
+      let found = resent_to_member me c.call (request_of setting.code group.m c) c.counted 0 group.members j packet at in
+      let place : 0 + found.0 ≡ found.0 = omega arith in
+      subst (λ (z : Packet). WasSent w z) (sym found.3)
+      (subst (λ (i : ℕ). WasSent w (record { from = me; to = found.1; message = Message.Request c.call (request_of setting.code group.m c i) })) (sym place)
+      ((said.calls me.0 k c is).asked group group_is found.0 found.1 found.2))
+
+  call_resent : (k : ℕ) (z : Option Coordinator) → (w.nodes me.0).calls k ≡ z → (j : ℕ) (packet : Packet) → slice_get (resent setting me z) j ≡ Some packet
+      → WasSent w packet
+  call_resent k None none j packet at = cc
+  call_resent k (Some c) is j packet at = resent_was_sent k c is (group_of setting.layout c.ask.group.0) refl j packet at
+
+  calls_resent : (k j : ℕ) (packet : Packet) → slice_get (resent_up_to setting me (w.nodes me.0).calls k) j ≡ Some packet → WasSent w packet
+  calls_resent zero j packet at = cc
+  calls_resent (suc k) j packet at = ⊎_elim
+      (λ (old : slice_get (resent_up_to setting me (w.nodes me.0).calls k) j ≡ Some packet). calls_resent k j packet old)
+      (λ (new : (i : ℕ) × (slice_get (resent setting me ((w.nodes me.0).calls (suc k))) i ≡ Some packet)).
+      call_resent (suc k) ((w.nodes me.0).calls (suc k)) refl new.0 packet new.1)
+      (get_grown (resent_up_to setting me (w.nodes me.0).calls k) (resent setting me ((w.nodes me.0).calls (suc k))) j packet at)
+
+  -- so is all that a tick of its clock sends
+  pub ticked_was_sent : (j : ℕ) (packet : Packet) → slice_get (ticked setting me (w.nodes me.0)) j ≡ Some packet → WasSent w packet
+  unfolding ticked
+  ticked_was_sent j packet at = calls_resent (w.nodes me.0).seq j packet at
