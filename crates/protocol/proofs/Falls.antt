@@ -1,18 +1,17 @@
 -- No event lowers what a brick has promised or stored, or drops a version that it holds.
-use Rattle.std.proofs.Common.{◌≡◌, ℕ, ◌<◌, Bool, true, false, not, ◌&&◌, List, [], ◌∷◌, length, Option, Some, None, refl, arith}
+use Rattle.std.proofs.Common.{◌≡◌, ℕ, Bool, not, ◌&&◌, List, [], ◌∷◌, length, Option, Some, None, refl, arith}
 use Rattle.std.proofs.lemmas.Bool.{cond_both, and_parts, not-true}
 use Rattle.fab_base.specs.declared.identities.BrickId.{BrickId}
 use Rattle.fab_base.specs.declared.asks.Ask.{Ask}
 use Rattle.fab_base.specs.declared.stamps.Stamp.{Stamp}
-use Rattle.fab_base.specs.Stamps.{stamp_below}
 use Rattle.fab_wire.specs.declared.calls.Call.{Call}
 use Rattle.fab_wire.specs.declared.messages.Message.{Message}
 use Rattle.fab_wire.specs.declared.messages.Packet.{Packet}
 use Rattle.fab_wire.specs.declared.requests.Request.{Request}
 use Rattle.fab_wire.specs.declared.replies.Reply.{Reply}
-use Rattle.quorum.specs.Quorums.{count, IsWithinLimits}
+use Rattle.quorum.specs.Quorums.{IsWithinLimits}
 use Rattle.quorum.proofs.Counts.{count_monotone}
-use Rattle.protocol.specs.Settings.{Setting, Group, group_of, seat_in}
+use Rattle.protocol.specs.Settings.{Setting, Group, group_of}
 use Rattle.protocol.specs.Replicas.{top_of, is_held, handle}
 use Rattle.protocol.specs.Coordinators.{Coordinator, Next, Ignores, Waits, Sends, Makes, Ends, on_reply}
 use Rattle.protocol.specs.Nodes.{Node, NodeStep, fresh_stamp, Told, Nothing, Made, Answers, put, began, invoked, replica_at, requested, absorbed, stopped, restarted, known_after, carried_out, replied_to, replied_at, replied, received}
@@ -123,7 +122,6 @@ parts_stay setting w (Sets brick time) =
     cond_both (is_brick setting.layout brick) (record w { clocks = put w.clocks brick.0 time }) w (λ (next : World). PartsStay w next)
     (λ is. parts_same w (record w { clocks = put w.clocks brick.0 time }) refl)
     (λ isnt. parts_same w w refl)
-
 parts_stay setting w (Ticks brick) =
     cond_both (is_up setting.layout w brick) (world_ticked setting w brick) w (λ (next : World). PartsStay w next)
     (λ up. parts_same w (world_ticked setting w brick) refl)

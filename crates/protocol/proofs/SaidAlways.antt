@@ -16,7 +16,7 @@ use Rattle.fab_wire.specs.declared.requests.Version.{Version}
 use Rattle.fab_wire.specs.declared.replies.Reply.{Reply}
 use Rattle.reg_model.specs.declared.marks.Mark.{Mark}
 use Rattle.reg_model.specs.declared.marks.Mark.TheVariants.{End, Crash}
-use Rattle.protocol.specs.Settings.{Setting, Group, group_of, IsSound, seat_in}
+use Rattle.protocol.specs.Settings.{Setting, Group, group_of, IsSound}
 use Rattle.protocol.specs.Replicas.{Reaction, first_replica, top_of, handle}
 use Rattle.protocol.specs.Coordinators.{Coordinator, Counted}
 use Rattle.protocol.specs.Nodes.{Node, NodeStep, put, with_known, reply_packets, absorbed, ticked, stopped, restarted, new_stamp, fresh_stamp, no_step, began, invoked, requested, known_after, replied_to, replied_at, replied, received}
@@ -219,7 +219,6 @@ said_happens setting w (Sets brick time) sound books said =
     cond_both (is_brick setting.layout brick) (record w { clocks = put w.clocks brick.0 time }) w (λ (next : World). IsSaid setting next)
     (λ is. (said.0, said_beside setting w said.0 (put w.clocks brick.0 time) w.replies books said.1))
     (λ isnt. said)
-
 said_happens setting w (Ticks brick) sound books said =
     cond_both (is_up setting.layout w brick) (world_ticked setting w brick) w (λ (next : World). IsSaid setting next)
     (λ up. (said.0, ticked_said setting w said.0 brick books said.1))

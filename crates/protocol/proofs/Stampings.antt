@@ -71,8 +71,8 @@ stamps_stay w next stamps say ages = record {
       let begun = say.begun i b k p t is in (
         begun.0,
         (λ now.
-        let same : (next.nodes i).boot ≡ (w.nodes i).boot = omega (arith, (say.are i b k p t is).booted, (ages i).boot, now) in
-        omega (arith, begun.1 (now ∙ same), (ages i).seq same)),
+            let same : (next.nodes i).boot ≡ (w.nodes i).boot = omega (arith, (say.are i b k p t is).booted, (ages i).boot, now) in
+            omega (arith, begun.1 (now ∙ same), (ages i).seq same)),
       );
   apart = say.apart;
 }
