@@ -1,7 +1,8 @@
 -- A brick begins an operation, with a stamp that no part of any stripe has.
-use Rattle.std.proofs.Common.{◌≡◌, ℕ, ◌+◌, ◌≤◌, ◌⊎◌, inl, inr, true, false, List, [], ◌∷◌, length, Option, Some, None, refl, sym, ap, ◌∙◌, subst, ⊎_elim, arith}
+use Rattle.std.proofs.Common.{◌≡◌, ℕ, ◌+◌, ◌≤◌, ◌⊎◌, inl, inr, true, false, List, [], ◌∷◌, ◌++◌, length, Option, Some, None, refl, sym, ap, ◌∙◌, subst, ⊎_elim, arith}
 use Rattle.std.specs.Prelude.{slice_get}
 use Rattle.std.proofs.lemmas.Bool.{false≢true}
+use Rattle.std.proofs.lemmas.Option.{same_Some}
 use Rattle.std.proofs.lemmas.List.{length-append}
 use Rattle.fab_base.specs.declared.identities.BrickId.{BrickId}
 use Rattle.fab_base.specs.declared.stamps.Stamp.{Stamp}
@@ -26,8 +27,8 @@ use Rattle.protocol.proofs.Said.{Begun, Stamping, Said, IsSaid, IsBegun, IsStamp
 use Rattle.protocol.proofs.Tables.{put_each, put_same, get_grown, get_one, sent_to_member}
 use Rattle.protocol.proofs.Lives.{last_grows}
 use Rattle.protocol.proofs.Growth.{Grows, continues_same}
-use Rattle.protocol.proofs.Steps.{keeps_same, parts_by, sent_by, said_after}
-use Rattle.protocol.proofs.Stampings.{ComesFrom, stays_known, later_unknown, with_stamp, stamp_now, stamps_other, stamp_last, stamps_grow, stamps_say}
+use Rattle.protocol.proofs.Steps.{KeepsStamps, keeps_same, parts_by, sent_by, ages_by, calls_by, phase_asked, said_after}
+use Rattle.protocol.proofs.Stampings.{ComesFrom, ages_within, stays_known, later_unknown, with_stamp, stamp_now, stamps_other, stamp_last, stamps_grow, stamps_say}
 
 -- what a phase asks
 request_looks : (code : Code) (m : ℕ) (c : Coordinator) (seat : ℕ) → c.phase ≡ Looks → request_of code m c seat ≡ Request.Read Want.All
@@ -65,7 +66,7 @@ module _ (setting : Setting) (w : World) (stamps : Stamping) (me : BrickId) (ask
 
   -- the stamps after
   abbrev later : Stamping
-  later = with_stamp stamps me.0 c.call.seq c.call.phase first
+  later = with_stamp stamps me.0 c.call.boot c.call.seq c.call.phase first
 
   abbrev next : World
   next = world_began w me ask (began_in setting group me (w.nodes me.0) c)
@@ -75,6 +76,7 @@ module _ (setting : Setting) (w : World) (stamps : Stamping) (me : BrickId) (ask
   new =
       record {
         brick = me;
+        boot = c.call.boot;
         seq = c.call.seq;
         begin = length w.marks;
         ask = ask;
@@ -86,33 +88,43 @@ module _ (setting : Setting) (w : World) (stamps : Stamping) (me : BrickId) (ask
       }
 
   -- the new stamp is the brick's, and nobody knows it
-  own : IsStampOf node.known me.0 c.stamp
-  own = record { view = refl; boot = books.boots me.0; brick = refl; positive = omega arith; bounded = omega arith }
+  own : IsStampOf node me.0 c.call.boot c.stamp
+  own = record { view = refl; boot = refl; booted = omega arith; brick = refl; positive = omega arith; bounded = λ now. omega arith }
 
   unknown : IsKnown stamps c.stamp → ⊥
-  unknown = later_unknown w stamps said.stamps_say node.known me.0 c.stamp own (omega arith)
+  unknown = later_unknown w stamps said.stamps_say node me.0 c.stamp own (omega arith)
 
-  from : ComesFrom stamps me.0 c.call.seq c.stamp
+  from : ComesFrom stamps me.0 c.call.boot c.call.seq c.stamp
   from = inr unknown
 
   -- the new call has no stamp before
-  no_stamp : (p : ℕ) (z : Option Begun) → stamps me.0 c.call.seq p ≡ z → z ≡ None
+  no_stamp : (p : ℕ) (z : Option Begun) → stamps me.0 c.call.boot c.call.seq p ≡ z → z ≡ None
   no_stamp p None is = refl
-  no_stamp p (Some b) is = absurd (let begun = said.stamps_say.begun me.0 c.call.seq p b.stamp (b.phase, is) in omega (arith, begun.1))
+  no_stamp p (Some b) is =
+      absurd (let begun = said.stamps_say.begun me.0 c.call.boot c.call.seq p b.stamp (b.phase, is) in omega (arith, begun.1 refl))
 
-  none : (p : ℕ) → c.call.phase ≤ p → stamps me.0 c.call.seq p ≡ None
-  none p most = no_stamp p (stamps me.0 c.call.seq p) refl
+  none : (p : ℕ) → c.call.phase ≤ p → stamps me.0 c.call.boot c.call.seq p ≡ None
+  none p most = no_stamp p (stamps me.0 c.call.boot c.call.seq p) refl
 
-  numbered : (i k : ℕ) → k ≤ (w.nodes i).seq → next.numbers i k ≡ w.numbers i k
+  -- the numbers of its boot's calls, with the new one
+  abbrev row : ℕ → ℕ
+  row = put (w.numbers me.0 c.call.boot) c.call.seq (w.begun + 1)
+
+  numbered : (i b k : ℕ) → (b ≡ (w.nodes i).boot → k ≤ (w.nodes i).seq) → next.numbers i b k ≡ w.numbers i b k
   numbered =
-      put_each (λ j row. (k : ℕ) → k ≤ (w.nodes j).seq → row k ≡ w.numbers j k) w.numbers me.0 (put (w.numbers me.0) c.call.seq (w.begun + 1))
-      (put_each (λ k v. k ≤ (w.nodes me.0).seq → v ≡ w.numbers me.0 k) (w.numbers me.0) c.call.seq (w.begun + 1) (λ within. absurd (omega arith)) (λ k other within. refl))
-      (λ j other k within. refl)
+      put_each (λ j table. (b k : ℕ) → (b ≡ (w.nodes j).boot → k ≤ (w.nodes j).seq) → table b k ≡ w.numbers j b k) w.numbers me.0
+      (put (w.numbers me.0) c.call.boot row)
+      (put_each (λ b line. (k : ℕ) → (b ≡ (w.nodes me.0).boot → k ≤ (w.nodes me.0).seq) → line k ≡ w.numbers me.0 b k) (w.numbers me.0) c.call.boot row
+      (put_each (λ k v. (c.call.boot ≡ (w.nodes me.0).boot → k ≤ (w.nodes me.0).seq) → v ≡ w.numbers me.0 c.call.boot k) (w.numbers me.0 c.call.boot)
+      c.call.seq (w.begun + 1) (λ within. absurd (omega (arith, within refl))) (λ k other within. refl))
+      (λ b other k within. refl))
+      (λ j other b k within. refl)
 
-  number_now : next.numbers me.0 c.call.seq ≡ w.begun + 1
+  number_now : next.numbers me.0 c.call.boot c.call.seq ≡ w.begun + 1
   number_now =
-      ap (λ row. row c.call.seq) (put_same w.numbers me.0 (put (w.numbers me.0) c.call.seq (w.begun + 1)))
-      ∙ put_same (w.numbers me.0) c.call.seq (w.begun + 1)
+      ap (λ table. table c.call.boot c.call.seq) (put_same w.numbers me.0 (put (w.numbers me.0) c.call.boot row))
+      ∙ ap (λ line. line c.call.seq) (put_same (w.numbers me.0) c.call.boot row)
+      ∙ put_same (w.numbers me.0 c.call.boot) c.call.seq (w.begun + 1)
 
   goes_on : (n : ℕ) (o : Operation) → IsOperation w n o → IsOperation next n o
   goes_on n o =
@@ -132,7 +144,7 @@ module _ (setting : Setting) (w : World) (stamps : Stamping) (me : BrickId) (ask
     sent = sent_by w next (phase_packets setting group me c) refl;
     operations = λ n o is. (o, goes_on n o is, continues_same o);
     contents = λ g s t made. refl;
-    grow = stamps_grow stamps me.0 c.call.seq c.call.phase first none from;
+    grow = stamps_grow stamps me.0 c.call.boot c.call.seq c.call.phase first none from;
     numbered = numbered;
     marks = (let longer : length next.marks ≡ length w.marks + 1 = length-append w.marks (Begin (length w.marks) (w.begun + 1) me ask ∷ []) in omega arith);
   }
@@ -141,6 +153,7 @@ module _ (setting : Setting) (w : World) (stamps : Stamping) (me : BrickId) (ask
   called = record {
     is = subst (λ (n : ℕ). IsOperation next n new) (sym number_now) (put_same w.operations (w.begun + 1) (Some new));
     brick = refl;
+    boot = refl;
     seq = refl;
     group = refl;
     stripe = refl;
@@ -152,10 +165,10 @@ module _ (setting : Setting) (w : World) (stamps : Stamping) (me : BrickId) (ask
     floors = λ i. grows.parts.tops ask.group.0 ask.stripe.0 i;
     floors_known = λ i. stays_known stamps later grows.grow (top_of (part_of w ask.group.0 ask.stripe.0 i)) (said.tops ask.group.0 ask.stripe.0 i);
     fresh = λ i p stamped. ⊎_elim
-        (λ (own_was : (q : ℕ) × IsStamped stamps me.0 c.call.seq q (top_of (part_of w ask.group.0 ask.stripe.0 i))).
-        let begun = said.stamps_say.begun me.0 c.call.seq own_was.0 (top_of (part_of w ask.group.0 ask.stripe.0 i)) own_was.1 in omega (arith, begun.1))
+        (λ (own_was : (q : ℕ) × IsStamped stamps me.0 c.call.boot c.call.seq q (top_of (part_of w ask.group.0 ask.stripe.0 i))).
+        let begun = said.stamps_say.begun me.0 c.call.boot c.call.seq own_was.0 (top_of (part_of w ask.group.0 ask.stripe.0 i)) own_was.1 in omega (arith, begun.1 refl))
         (λ (never : IsKnown stamps (top_of (part_of w ask.group.0 ask.stripe.0 i)) → ⊥). never (said.tops ask.group.0 ask.stripe.0 i))
-        (grows.grow.newer me.0 c.call.seq p (top_of (part_of w ask.group.0 ask.stripe.0 i)) stamped);
+        (grows.grow.newer me.0 c.call.boot c.call.seq p (top_of (part_of w ask.group.0 ask.stripe.0 i)) stamped);
     made = λ made. absurd (false≢true made);
     maker = λ v made version. absurd (false≢true made);
     content = λ v made version group group_is. absurd (false≢true made);
@@ -164,8 +177,8 @@ module _ (setting : Setting) (w : World) (stamps : Stamping) (me : BrickId) (ask
     answered = λ answered bytes op. absurd (false≢true answered);
   }
 
-  begun_now : IsBegun later me.0 c.call.seq c.call.phase c.phase c.stamp
-  begun_now = stamp_now stamps me.0 c.call.seq c.call.phase first
+  begun_now : IsBegun later me.0 c.call.boot c.call.seq c.call.phase c.phase c.stamp
+  begun_now = stamp_now stamps me.0 c.call.boot c.call.seq c.call.phase first
 
   -- the first request
   request_says : (j seat : ℕ) → RequestSays setting next later me.0 j c.call (request_of setting.code group.m c seat)
@@ -175,7 +188,7 @@ module _ (setting : Setting) (w : World) (stamps : Stamping) (me : BrickId) (ask
       (refl, (new, called)))
       (λ (writes : (bytes : List ℕ) × (ask.op ≡ WriteStripe bytes)).
       subst (λ (r : Request). RequestSays setting next later me.0 j c.call r) (sym (request_orders setting.code group.m c seat (ap first_phase writes.1)))
-      (subst (λ (phase : Phase). IsBegun later me.0 c.call.seq c.call.phase phase c.stamp) (ap first_phase writes.1) begun_now, (new, called)))
+      (subst (λ (phase : Phase). IsBegun later me.0 c.call.boot c.call.seq c.call.phase phase c.stamp) (ap first_phase writes.1) begun_now, (new, called)))
       (op_cases ask.op stripe_op)
 
   fits : FitsPhase (first_phase ask.op) ask.op
@@ -197,17 +210,26 @@ module _ (setting : Setting) (w : World) (stamps : Stamping) (me : BrickId) (ask
   not_descends ReadStripe bound is = cc
   not_descends (WriteStripe bytes) bound is = cc
 
+  -- the brick's boot stays
+  boot_now : (next.nodes me.0).boot ≡ c.call.boot
+  boot_now = ap (λ (x : Node). x.boot) (put_same w.nodes me.0 node)
+
   calls : (k : ℕ) (d : Coordinator) → node.calls k ≡ Some d
-      → (((w.nodes me.0).calls k ≡ Some d) × ((p : ℕ) → later me.0 k p ≡ stamps me.0 k p)) ⊎ CallSays setting next later me.0 k d
+      → (((w.nodes me.0).calls k ≡ Some d) × KeepsStamps stamps later me.0 c.call.boot k) ⊎ CallSays setting next later me.0 k d
   calls k d =
       put_each (λ j x. x ≡ Some d
-      → (((w.nodes me.0).calls j ≡ Some d) × ((p : ℕ) → later me.0 j p ≡ stamps me.0 j p)) ⊎ CallSays setting next later me.0 j d)
+      → (((w.nodes me.0).calls j ≡ Some d) × KeepsStamps stamps later me.0 c.call.boot j) ⊎ CallSays setting next later me.0 j d)
       (w.nodes me.0).calls c.call.seq (Some c)
       (λ at. let same : c ≡ d = cc in
       inr (subst (λ (z : Coordinator). CallSays setting next later me.0 c.call.seq z) same
       (record {
-        begun = begun_now;
-        last = stamp_last stamps me.0 c.call.seq c.call.phase first none from;
+        begun = subst (λ (b : ℕ). IsBegun later me.0 b c.call.seq c.call.phase c.phase c.stamp) (sym boot_now) begun_now;
+        last = λ p less.
+            subst (λ (b : ℕ). later me.0 b c.call.seq p ≡ None) (sym boot_now)
+            (stamp_last stamps me.0 c.call.boot c.call.seq c.call.phase first none from p less);
+        asked = λ other other_is seat member at.
+            let its : group ≡ other = same_Some group other (sym group_is ∙ other_is) in
+            phase_asked setting next other me c w.packets (ap (λ (z : Group). w.packets ++ phase_packets setting z me c) its) seat member at;
         fits = fits;
         unbased = λ orders. refl;
         above = λ bound descends. absurd (not_descends ask.op bound descends);
@@ -217,7 +239,7 @@ module _ (setting : Setting) (w : World) (stamps : Stamping) (me : BrickId) (ask
         counted = tt;
         once = tt;
       })))
-      (λ j other at. inl (at, stamps_other stamps me.0 c.call.seq c.call.phase first me.0 j (λ brick same. other same))) k
+      (λ j other at. inl (at, stamps_other stamps me.0 c.call.boot c.call.seq c.call.phase first me.0 c.call.boot j (λ brick same. other same))) k
 
   -- a version that was there is guarded when the operation begins
   floors_at_least : (a : ℕ) (earlier : Operation) (u : Stamp) → IsOperation w a earlier → earlier.ask.group.0 ≡ ask.group.0
@@ -257,11 +279,10 @@ module _ (setting : Setting) (w : World) (stamps : Stamping) (me : BrickId) (ask
   said_began = (
     later,
     said_after setting w next stamps later books said grows (record {
-      stamps_say = stamps_say stamps me.0 c.call.seq c.call.phase first none from w next said.stamps_say
-          (put_each (λ j x. (w.nodes j).known ≤ x.known) w.nodes me.0 node (omega arith) (λ j other. omega arith))
-          (put_each (λ j x. (w.nodes j).seq ≤ x.seq) w.nodes me.0 node (omega arith) (λ j other. omega arith))
-          (subst (λ (x : Node). IsStampOf x.known me.0 c.stamp) (sym (put_same w.nodes me.0 node)) own) (omega arith)
-          (let here : (put w.nodes me.0 node me.0).seq ≡ c.call.seq = ap (λ (x : Node). x.seq) (put_same w.nodes me.0 node) in omega arith);
+      stamps_say = stamps_say stamps me.0 c.call.boot c.call.seq c.call.phase first none from w next said.stamps_say
+          (ages_by w next me.0 node refl (ages_within (w.nodes me.0) node refl (omega arith) (omega arith)))
+          (subst (λ (x : Node). IsStampOf x me.0 c.call.boot c.stamp) (sym (put_same w.nodes me.0 node)) own) (omega arith)
+          (λ now. let here : (put w.nodes me.0 node me.0).seq ≡ c.call.seq = ap (λ (x : Node). x.seq) (put_same w.nodes me.0 node) in omega arith);
       tops = λ g s i. inl (put_each (λ j x. top_of (x.replicas g s) ≡ top_of ((w.nodes j).replicas g s)) w.nodes me.0 node refl (λ j other. refl) i);
       logs = λ g s i k version is. inl
           (put_each (λ j x. slice_get (x.replicas g s).log k ≡ Some version → slice_get ((w.nodes j).replicas g s).log k ≡ Some version) w.nodes me.0 node
@@ -277,10 +298,8 @@ module _ (setting : Setting) (w : World) (stamps : Stamping) (me : BrickId) (ask
           (λ is. let same : new ≡ e = cc in inr (subst (λ (z : Operation). OperationSays setting next later (w.begun + 1) z) same operation_says))
           (λ i other is. inl is) a;
       calls = λ i k d.
-          put_each (λ j x. x.calls k ≡ Some d
-          → (((w.nodes j).calls k ≡ Some d) × ((p : ℕ) → later j k p ≡ stamps j k p)) ⊎ CallSays setting next later j k d)
-          w.nodes me.0 node (calls k d)
-          (λ j other is. inl (is, stamps_other stamps me.0 c.call.seq c.call.phase first j k (λ brick same. other brick))) i;
+          calls_by setting w next stamps later me.0 node refl refl k d (calls k d)
+          (λ j other. stamps_other stamps me.0 c.call.boot c.call.seq c.call.phase first j (w.nodes j).boot k (λ brick same. other brick)) i;
       ends = λ k q a answer at. ⊎_elim
           (λ (there : slice_get w.marks k ≡ Some (End q a answer)). inl there)
           (λ (added : (j : ℕ) × (slice_get (Begin (length w.marks) (w.begun + 1) me ask ∷ []) j ≡ Some (End q a answer))).

@@ -12,7 +12,7 @@ use Rattle.protocol.specs.Settings.{Setting, Group, group_of}
 use Rattle.protocol.specs.Replicas.{top_of}
 use Rattle.protocol.specs.Coordinators.{Coordinator}
 use Rattle.protocol.specs.Nodes.{Node, put, is_stripe_op, has_length, first_phase, new_coordinator, opened, began_in}
-use Rattle.protocol.specs.Worlds.{World, Operation, world_began}
+use Rattle.protocol.specs.Worlds.{World, Operation, number_of, world_began}
 use Rattle.protocol.proofs.Books.{Books, OperationBooks, CallBooks, IsOperation, IsCall, IsUnmade, MadeInPhase, InRound}
 use Rattle.protocol.proofs.BooksKept.{operation_kept, call_kept, cases_call}
 use Rattle.protocol.proofs.Lives.{Stays, Stays-push, Stays-before, life_of-begin}
@@ -40,7 +40,7 @@ none_lives (Some l) never = absurd (never l refl)
 
 module _ (setting : Setting) (w : World) (brick : BrickId) (now : ℕ) (ask : Ask) (group : Group) (books : Books setting w)
     (stripes : is_stripe_op ask.op ≡ true) (group_is : group_of setting.layout ask.group.0 ≡ Some group)
-    (stripe : ask.stripe.0 < group.stripes) (fits : has_length group.m setting.layout.block ask.op ≡ true) where
+    (stripe : ask.stripe.0 < group.stripes) (up : w.up brick.0 ≡ true) (fits : has_length group.m setting.layout.block ask.op ≡ true) where
   abbrev i : ℕ
   i = brick.0
 
@@ -60,6 +60,7 @@ module _ (setting : Setting) (w : World) (brick : BrickId) (now : ℕ) (ask : As
   abbrev o : Operation
   o = record {
     brick = brick;
+    boot = node.boot;
     seq = k;
     begin = length w.marks;
     ask = ask;
@@ -92,12 +93,28 @@ module _ (setting : Setting) (w : World) (brick : BrickId) (now : ℕ) (ask : As
   other_calls j l other = put_each (λ (x : ℕ) (y : Node). (x ≡ i → l ≡ k → ⊥) → y.calls l ≡ (w.nodes x).calls l) w.nodes i (opened node c)
       (λ apart. put_other node.calls k (Some c) l (λ same. apart refl same)) (λ x at apart. refl) j other
 
-  pub number_is : later.numbers i k ≡ n
-  number_is = ap (λ (f : ℕ → ℕ). f k) (put_same w.numbers i (put (w.numbers i) k n)) ∙ put_same (w.numbers i) k n
+  pub number_is : later.numbers i node.boot k ≡ n
+  number_is = ap (λ (f : ℕ → ℕ → ℕ). f node.boot k) (put_same w.numbers i (put (w.numbers i) node.boot (put (w.numbers i node.boot) k n)))
+      ∙ ap (λ (f : ℕ → ℕ). f k) (put_same (w.numbers i) node.boot (put (w.numbers i node.boot) k n)) ∙ put_same (w.numbers i node.boot) k n
 
-  pub other_numbers : (j l : ℕ) → (j ≡ i → l ≡ k → ⊥) → later.numbers j l ≡ w.numbers j l
-  other_numbers j l other = put_each (λ (x : ℕ) (f : ℕ → ℕ). (x ≡ i → l ≡ k → ⊥) → f l ≡ w.numbers x l) w.numbers i (put (w.numbers i) k n)
-      (λ apart. put_other (w.numbers i) k n l (λ same. apart refl same)) (λ x at apart. refl) j other
+  pub other_numbers : (j b l : ℕ) → (j ≡ i → b ≡ node.boot → l ≡ k → ⊥) → later.numbers j b l ≡ w.numbers j b l
+  other_numbers j b l other = put_each (λ (x : ℕ) (f : ℕ → ℕ → ℕ). (x ≡ i → b ≡ node.boot → l ≡ k → ⊥) → f b l ≡ w.numbers x b l) w.numbers i
+      (put (w.numbers i) node.boot (put (w.numbers i node.boot) k n))
+      (λ apart. put_each (λ (y : ℕ) (f : ℕ → ℕ). (y ≡ node.boot → l ≡ k → ⊥) → f l ≡ w.numbers i y l) (w.numbers i) node.boot
+      (put (w.numbers i node.boot) k n)
+      (λ same. put_other (w.numbers i node.boot) k n l (λ seq. same refl seq)) (λ y at same. refl) b (apart refl))
+      (λ x at apart. refl) j other
+
+  -- no brick starts
+  pub same_boots : (j : ℕ) → (later.nodes j).boot ≡ (w.nodes j).boot
+  same_boots j = put_each (λ (x : ℕ) (y : Node). y.boot ≡ (w.nodes x).boot) w.nodes i (opened node c) refl (λ x at. refl) j
+
+  -- the number of the new call, and of another
+  pub call_number : number_of later i k ≡ n
+  call_number = ap (λ (b : ℕ). later.numbers i b k) (same_boots i) ∙ number_is
+
+  pub other_number : (j l : ℕ) → (j ≡ i → l ≡ k → ⊥) → number_of later j l ≡ number_of w j l
+  other_number j l other = ap (λ (b : ℕ). later.numbers j b l) (same_boots j) ∙ other_numbers j (w.nodes j).boot l (λ at boot seq. other at seq)
 
   operation_is : later.operations n ≡ Some o
   operation_is = put_same w.operations n (Some o)
@@ -123,7 +140,8 @@ module _ (setting : Setting) (w : World) (brick : BrickId) (now : ℕ) (ask : As
     from_one = omega arith;
     begun = omega arith;
     number = number_is;
-    called = (omega arith, (let e : (later.nodes i).seq ≡ k = own_seq in omega arith));
+    booted = (books.boots i, (let e : (later.nodes i).boot ≡ node.boot = same_boots i in omega arith));
+    called = (omega arith, λ present. (let e : (later.nodes i).seq ≡ k = own_seq in omega arith));
     is_stripe_op = stripes;
     group = group;
     group_is = group_is;
@@ -137,22 +155,24 @@ module _ (setting : Setting) (w : World) (brick : BrickId) (now : ℕ) (ask : As
     answered = λ is. absurd (let never : false ≡ true = is in cc);
     answered_only = λ is. absurd is;
     answered_version = λ is. absurd (let never : false ≡ true = is in cc);
-    open_call = λ is. (c, call_is);
+    open_call = λ is. (sym (same_boots i), (c, call_is));
   }
 
   -- the new call's books
   call_books : CallBooks setting later i k c
   call_books = record {
     operation = o;
-    operation_is = subst (λ (m : ℕ). IsOperation later m o) (sym number_is) operation_is;
+    operation_is = subst (λ (m : ℕ). IsOperation later m o) (sym call_number) operation_is;
+    up = up;
     brick = refl;
+    boot = sym (same_boots i);
     seq = refl;
     ask = refl;
     stamp_brick = refl;
     stamp_view = refl;
-    stamp_boot = books.boots i;
+    stamp_boot = sym (same_boots i);
     stamp_known = (let e : (later.nodes i).known ≡ c.stamp.time = own_known in (omega arith, omega arith));
-    call_boot = books.boots i;
+    call_boot = sym (same_boots i);
     call_seq = refl;
     call_group = refl;
     call_view = refl;
@@ -162,7 +182,7 @@ module _ (setting : Setting) (w : World) (brick : BrickId) (now : ℕ) (ask : As
     made = fresh_made c o ask.op (refl, refl, refl);
     unended = λ life is.
         (let began : Life = record { begin = length w.marks; brick = brick.0; ask = ask; ending = Unended (length w.marks + 1) } in
-        let same : began ≡ life = same_Some began life (sym life_began ∙ ap (λ (m : ℕ). life_of later.marks m) (sym number_is) ∙ is) in
+        let same : began ≡ life = same_Some began life (sym life_began ∙ ap (λ (m : ℕ). life_of later.marks m) (sym call_number) ∙ is) in
         subst (λ (l : Life). IsOpen (Some l)) same tt);
     unanswered = refl;
   }
@@ -175,7 +195,7 @@ module _ (setting : Setting) (w : World) (brick : BrickId) (now : ℕ) (ask : As
         well_formed = well_formed_begin w.marks (length w.marks) n brick ask books.well_formed places
             (numbers_below w.marks w.begun (λ m life is. (books.lives m life is).1));
         places = places;
-        boots = λ j. put_each (λ (x : ℕ) (y : Node). y.boot ≡ 1) w.nodes i (opened node c) (books.boots i) (λ x at. books.boots x) j;
+        boots = λ j. (let e : (later.nodes j).boot ≡ (w.nodes j).boot = same_boots j in omega (arith, books.boots j));
         all_begun = λ m low high. ⊎_elim
             (λ (mine : m ≡ n). (o, subst (λ (x : ℕ). IsOperation later x o) (sym mine) operation_is))
             (λ (other : m ≢ n).
@@ -189,10 +209,14 @@ module _ (setting : Setting) (w : World) (brick : BrickId) (now : ℕ) (ask : As
             (λ (other : m ≢ n).
             let old : IsOperation w m x = sym (other_operations m other) ∙ is in
             let mine : OperationBooks setting w m x = books.operations m x old in
-            let apart : x.brick.0 ≡ i → x.seq ≡ k → ⊥ = λ at seq.
-            (let e : (w.nodes x.brick.0).seq ≡ node.seq = ap (λ (j : ℕ). (w.nodes j).seq) at in omega (arith, mine.called.1)) in
-            operation_kept setting w later m x mine (omega arith) (other_numbers x.brick.0 x.seq apart) (seqs x.brick.0) (other_life m other)
-            (λ e was. (e, other_calls x.brick.0 x.seq apart ∙ was)))
+            let apart : x.brick.0 ≡ i → x.boot ≡ node.boot → x.seq ≡ k → ⊥ = λ at boot seq.
+            (let e : (w.nodes x.brick.0).seq ≡ node.seq = ap (λ (j : ℕ). (w.nodes j).seq) at in
+            let least : x.seq ≤ (w.nodes x.brick.0).seq = mine.called.1 (boot ∙ ap (λ (j : ℕ). (w.nodes j).boot) (sym at)) in
+            omega arith) in
+            operation_kept setting w later m x mine (omega arith) (other_numbers x.brick.0 x.boot x.seq apart) (same_boots x.brick.0) (seqs x.brick.0)
+            (other_life m other)
+            (λ present e was.
+            (e, other_calls x.brick.0 x.seq (λ at seq. apart at (present ∙ ap (λ (j : ℕ). (w.nodes j).boot) at) seq) ∙ was)))
             (cases_eq m n);
         calls = λ j l e is. ⊎_elim
             (λ (mine : (j ≡ i) × (l ≡ k)).
@@ -204,11 +228,11 @@ module _ (setting : Setting) (w : World) (brick : BrickId) (now : ℕ) (ask : As
             (λ (other : j ≡ i → l ≡ k → ⊥).
             let old : IsCall w j l e = sym (other_calls j l other) ∙ is in
             let mine : CallBooks setting w j l e = books.calls j l e old in
-            let theirs : OperationBooks setting w (w.numbers j l) mine.operation = books.operations (w.numbers j l) mine.operation mine.operation_is in
-            let number : w.numbers j l ≢ n = λ same. omega (arith, theirs.begun, same) in
-            call_kept setting w later j l e mine (other_numbers j l other) (other_operations (w.numbers j l) number) (knows j)
-            (other_life (w.numbers j l) number)
-            (λ x at. ((books.operations (w.numbers j l) x at).life, (books.operations (w.numbers j l) x at).life_is)))
+            let theirs : OperationBooks setting w (number_of w j l) mine.operation = books.operations (number_of w j l) mine.operation mine.operation_is in
+            let number : number_of w j l ≢ n = λ same. omega (arith, theirs.begun, same) in
+            call_kept setting w later j l e mine refl (same_boots j) (other_number j l other) (other_operations (number_of w j l) number) (knows j)
+            (other_life (number_of w j l) number)
+            (λ x at. ((books.operations (number_of w j l) x at).life, (books.operations (number_of w j l) x at).life_is)))
             (cases_call i k j l);
         fresh_calls = λ j l lt.
             (let grown : (w.nodes j).seq ≤ (later.nodes j).seq = seqs j in

@@ -1,5 +1,5 @@
 -- Every event keeps the books.
-use Rattle.std.proofs.Common.{◌≡◌, ℕ, ◌+◌, ◌-◌, ◌<◌, ◌≤◌, ◌⊎◌, inl, inr, Bool, true, false, not, ◌&&◌, cond, is_some, Option, Some, None, refl, sym, ap, ◌∙◌, subst, arith, List, [], ◌∷◌, ◌++◌}
+use Rattle.std.proofs.Common.{◌≡◌, ℕ, ◌+◌, ◌-◌, ◌<◌, ◌≤◌, ◌⊎◌, inl, inr, ◌^◌, Bool, true, false, not, ◌&&◌, cond, is_some, Option, Some, None, refl, sym, ap, ◌∙◌, subst, arith, List, [], ◌∷◌, ◌++◌}
 use Rattle.std.specs.Prelude.{nat_lt, max}
 use Rattle.std.proofs.lemmas.Option.{same_Some}
 use Rattle.std.proofs.lemmas.Bool.{cond_both, and_parts, not-true, not-false, ltb-true, both_ways}
@@ -16,13 +16,13 @@ use Rattle.fab_wire.specs.declared.replies.Reply.{Reply}
 use Rattle.protocol.specs.Settings.{Setting, Group, group_of, seat_in}
 use Rattle.protocol.specs.Replicas.{handle}
 use Rattle.protocol.specs.Coordinators.{Phase, Looks, Orders, Recovers, Descends, Stores, Coordinator, Next, Ignores, Waits, Sends, Makes, Ends, Counted, most_rounds, with_reply, once_full, counted_at, counts_at, on_reply}
-use Rattle.protocol.specs.Nodes.{Node, NodeStep, Nothing, put, no_step, is_stripe_op, has_block, has_length, refusal_in, refusal_of, began, invoked, with_replica, replica_at, reply_packets, requested_at, requested_in, requested, has_later_time, next_time, new_stamp, fresh_stamp, known_after, with_call, with_known, carried_out, phase_packets, collect_packets, replied_to, replied_at, replied, received}
-use Rattle.protocol.specs.Worlds.{World, Operation, Event, Invokes, Delivers, Sets, is_answer, version_after, first_world, is_brick, may_begin, world_began, world_stepped, with_made, with_answer, with_content, replies_with, delivered, packet_of, happens, run}
+use Rattle.protocol.specs.Nodes.{Node, NodeStep, Nothing, put, no_step, is_stripe_op, has_block, has_length, refusal_in, refusal_of, began, invoked, with_replica, replica_at, reply_packets, requested_at, requested_in, requested, is_served, fits_block, absorbed, ticked, may_open, has_later_time, next_time, new_stamp, fresh_stamp, known_after, with_call, with_known, carried_out, phase_packets, collect_packets, replied_to, replied_at, replied, received}
+use Rattle.protocol.specs.Worlds.{World, Operation, Event, Invokes, Delivers, Sets, Ticks, Crashes, Starts, Absorbs, is_answer, version_after, first_world, is_brick, is_up, may_begin, number_of, may_start, world_absorbed, world_began, world_stepped, with_made, with_answer, with_content, replies_with, delivered, packet_of, happens, run}
 use Rattle.protocol.proofs.Books.{Replies, Books, CallBooks, IsCall, IsUnmade, MadeInPhase, InRound}
 use Rattle.protocol.proofs.BooksKept.{KeepsNumbers}
-use Rattle.protocol.proofs.BooksQuiet.{books_quiet}
+use Rattle.protocol.proofs.BooksQuiet.{books_quiet, books_started}
 use Rattle.protocol.proofs.BooksTurns.{IsBookedStamp, books_turned}
-use Rattle.protocol.proofs.BooksEnds.{books_ended}
+use Rattle.protocol.proofs.BooksEnds.{books_ended, books_stopped}
 use Rattle.protocol.proofs.BooksBegins.{books_began}
 use Rattle.protocol.proofs.Outcomes.{SameOperation, IsRound, ReordersFits, RecoversFits, SendsFits, sends_unmade, EndFits, NextFits, once_full_fits}
 use Rattle.protocol.proofs.Puts.{put_other}
@@ -68,10 +68,12 @@ books_requested_at setting w replies me from call request (Some seat) books =
     (record { boot = refl; seq = refl; known = omega arith }) (λ l. refl)
 
 books_requested_in : (setting : Setting) (w : World) (replies : Replies) (me from : BrickId) (call : Call) (request : Request) (group : Option Group)
-    → Books setting w → Books setting (stepped w replies me (requested_in me from (w.nodes me.0) call request group))
+    → Books setting w → Books setting (stepped w replies me (requested_in setting.layout.block me from (w.nodes me.0) call request group))
 books_requested_in setting w replies me from call request None books = books_no_step setting w replies me books
 books_requested_in setting w replies me from call request (Some group) books =
-    books_requested_at setting w replies me from call request (seat_in group.members me.0) books
+    cond_both (is_served group call && fits_block setting.layout.block request) _ _ (λ (step : NodeStep). Books setting (stepped w replies me step))
+    (λ is. books_requested_at setting w replies me from call request (seat_in group.members me.0) books)
+    (λ isnt. books_no_step setting w replies me books)
 
 books_requested : (setting : Setting) (w : World) (replies : Replies) (me from : BrickId) (call : Call) (request : Request) → Books setting w
     → Books setting (stepped w replies me (requested setting me from (w.nodes me.0) call request))
@@ -227,7 +229,7 @@ module _ (setting : Setting) (group : Group) (w : World) (replies : Replies) (me
       (subst (λ (x : ℕ). IsBookedStamp x mine.operation c.stamp) (own_known time node.busy d) (record {
         brick = mine.stamp_brick;
         view = mine.stamp_view;
-        boot = mine.stamp_boot;
+        boot = mine.stamp_boot ∙ sym mine.boot;
         time = (omega (arith, mine.stamp_known.0), omega (arith, mine.stamp_known.1));
       }))
 
@@ -240,7 +242,7 @@ module _ (setting : Setting) (group : Group) (w : World) (replies : Replies) (me
       subst (λ (x : ℕ). IsBookedStamp x mine.operation t) (own_known time node.busy d) (record {
         brick = ap (λ (x : Stamp). x.brick) facts.0 ∙ brick_of me mine.operation.brick (sym mine.brick);
         view = ap (λ (x : Stamp). x.view.0) facts.0;
-        boot = ap (λ (x : Stamp). x.boot) facts.0 ∙ books.boots i;
+        boot = ap (λ (x : Stamp). x.boot) facts.0 ∙ sym mine.boot;
         time = (omega (arith, facts.2, at), omega arith);
       })
 
@@ -268,7 +270,7 @@ module _ (setting : Setting) (group : Group) (w : World) (replies : Replies) (me
         stamp = stamp_stays known (Some d) d.stamp fits.stamp grows;
         rounds = subst (λ (x : ℕ). (1 ≤ x) × (x ≤ most_rounds)) (sym fits.round) mine.rounds;
         in_round = round_same c d c.phase d.phase (ap (λ (x : Call). x.phase) fits.call) fits.round fits.phase mine.in_round;
-        same_ask = record { brick = refl; seq = refl; begin = refl; ask = refl; answered = refl };
+        same_ask = record { brick = refl; boot = refl; seq = refl; begin = refl; ask = refl; answered = refl };
         made = made_same c d mine.operation c.phase d.phase fits.stamp fits.base fits.phase mine.made;
         keeps = keeps_call known node.busy (Some d) grows;
         call_is = call_put known node.busy (Some d);
@@ -287,7 +289,7 @@ module _ (setting : Setting) (group : Group) (w : World) (replies : Replies) (me
         stamp = stamp_sends d fits.how;
         rounds = rounds_sends d fits.how;
         in_round = round_next fresh then' d fits (round_same c then' c.phase c.phase refl refl refl mine.in_round);
-        same_ask = record { brick = refl; seq = refl; begin = refl; ask = refl; answered = refl };
+        same_ask = record { brick = refl; boot = refl; seq = refl; begin = refl; ask = refl; answered = refl };
         made = nothing_made d mine.operation d.phase (sends_unmade fresh then' d fits)
             (made_nothing c mine.operation c.phase fits.unmade mine.made);
         keeps = keeps_call time node.busy (Some d) (omega arith);
@@ -299,6 +301,7 @@ module _ (setting : Setting) (group : Group) (w : World) (replies : Replies) (me
   books_carried_out (Makes d) fits =
       let o : Operation = record {
         brick = mine.operation.brick;
+        boot = mine.operation.boot;
         seq = mine.operation.seq;
         begin = mine.operation.begin;
         ask = mine.operation.ask;
@@ -308,7 +311,7 @@ module _ (setting : Setting) (group : Group) (w : World) (replies : Replies) (me
         answered = mine.operation.answered;
         floor = mine.operation.floor;
       } in
-      let n : ℕ = w.numbers i k in
+      let n : ℕ = number_of w i k in
       books_turned setting w i k c d mine.operation o (put w.nodes i (with_call node known node.busy k (Some d)))
       (w.packets ++ phase_packets setting group me d) (put w.operations n (with_made d.stamp d.base (w.operations n)))
       (with_content w.contents d.stamp ((with_call node known node.busy k (Some d)).calls k)) replies books
@@ -319,7 +322,7 @@ module _ (setting : Setting) (group : Group) (w : World) (replies : Replies) (me
         stamp = stamp_stays known (Some d) d.stamp fits.stamp grows;
         rounds = subst (λ (x : ℕ). (1 ≤ x) × (x ≤ most_rounds)) (sym fits.round) mine.rounds;
         in_round = subst (λ (x : Phase). InRound d x) (sym fits.phase) tt;
-        same_ask = record { brick = refl; seq = refl; begin = refl; ask = refl; answered = refl };
+        same_ask = record { brick = refl; boot = refl; seq = refl; begin = refl; ask = refl; answered = refl };
         made = subst (λ (x : Phase). MadeInPhase d o x) (sym fits.phase) (refl, refl, refl);
         keeps = keeps_call known node.busy (Some d) grows;
         call_is = call_put known node.busy (Some d);
@@ -331,6 +334,7 @@ module _ (setting : Setting) (group : Group) (w : World) (replies : Replies) (me
   books_carried_out (Ends answer seen stored) fits =
       let o : Operation = record {
         brick = mine.operation.brick;
+        boot = mine.operation.boot;
         seq = mine.operation.seq;
         begin = mine.operation.begin;
         ask = mine.operation.ask;
@@ -340,13 +344,14 @@ module _ (setting : Setting) (group : Group) (w : World) (replies : Replies) (me
         answered = is_answer answer;
         floor = mine.operation.floor;
       } in
-      let n : ℕ = w.numbers i k in
+      let n : ℕ = number_of w i k in
       books_ended setting w i k c mine.operation o answer (put w.nodes i (with_call node known (node.busy - 1) k None))
       (w.packets ++ collect_packets group me c.call stored) (put w.operations n (with_answer answer seen (w.operations n))) replies books
       (record {
         was = is_call;
         operation_was = mine.operation_is;
         brick = refl;
+        boot = refl;
         seq = refl;
         begin = refl;
         ask = refl;
@@ -414,7 +419,7 @@ books_received setting w replies me now from to message books = books_no_step se
 books_delivered : (setting : Setting) (w : World) (packet : Option Packet) → Books setting w → Books setting (delivered setting w packet)
 books_delivered setting w None books = books
 books_delivered setting w (Some packet) books =
-    cond_both (is_brick setting.layout packet.to) _ _ (λ (x : World). Books setting x)
+    cond_both (is_up setting.layout w packet.to) _ _ (λ (x : World). Books setting x)
     (λ member. books_received setting w (replies_with setting w packet) packet.to (w.clocks packet.to.0) packet.from packet.to packet.message books)
     (λ stranger. books)
 
@@ -447,11 +452,17 @@ pub record BeginFits (setting : Setting) (ask : Ask) : Type 0 where
 pub begin_fits : (setting : Setting) (w : World) (brick : BrickId) (ask : Ask) → may_begin setting w brick ask ≡ true → BeginFits setting ask
 unfolding refusal_of
 begin_fits setting w brick ask may =
-    let both = and_parts (is_brick setting.layout brick) (is_stripe_op ask.op && not (is_some (refusal_of setting.layout (w.nodes brick.0) ask))) may in
+    let both = and_parts (is_up setting.layout w brick) (is_stripe_op ask.op && not (is_some (refusal_of setting.layout (w.nodes brick.0) ask))) may in
     let rest = and_parts (is_stripe_op ask.op) (not (is_some (refusal_of setting.layout (w.nodes brick.0) ask))) both.1 in
     let none : refusal_of setting.layout (w.nodes brick.0) ask ≡ None = no_value (refusal_of setting.layout (w.nodes brick.0) ask) (not-true _ rest.1) in
     let fits = not_refused setting.layout.block (w.nodes brick.0) ask (group_of setting.layout ask.group.0) none in
     record { group = fits.0; group_is = fits.1; is_stripe_op = rest.0; stripe = fits.2; length_fits = fits.3 }
+
+-- it begins at a brick that is up
+pub begin_up : (setting : Setting) (w : World) (brick : BrickId) (ask : Ask) → may_begin setting w brick ask ≡ true → w.up brick.0 ≡ true
+begin_up setting w brick ask may =
+    let both = and_parts (is_up setting.layout w brick) (is_stripe_op ask.op && not (is_some (refusal_of setting.layout (w.nodes brick.0) ask))) may in
+    (and_parts (is_brick setting.layout brick) (w.up brick.0) both.0).1
 
 -- an invocation
 books_invoked : (setting : Setting) (w : World) (brick : BrickId) (now : ℕ) (ask : Ask) → Books setting w → may_begin setting w brick ask ≡ true
@@ -460,7 +471,57 @@ unfolding invoked
 books_invoked setting w brick now ask books may =
     let fits : BeginFits setting ask = begin_fits setting w brick ask may in
     subst (λ (found : Option Group). Books setting (world_began w brick ask (began setting brick now (w.nodes brick.0) ask found))) (sym fits.group_is)
-    (books_began setting w brick now ask fits.group books fits.is_stripe_op fits.group_is fits.stripe fits.length_fits)
+    (books_began setting w brick now ask fits.group books fits.is_stripe_op fits.group_is fits.stripe
+    (begin_up setting w brick ask may) fits.length_fits)
+
+-- what a request leaves of a brick keeps its numbers and calls
+abbrev pub KeepsCalls : Node → Node → Type 0
+KeepsCalls node later = KeepsNumbers node later × ((l : ℕ) → later.calls l ≡ node.calls l)
+
+keeps_itself : (node : Node) → KeepsCalls node node
+keeps_itself node = (record { boot = refl; seq = refl; known = omega arith }, λ l. refl)
+
+requested_keeps : (setting : Setting) (me from : BrickId) (node : Node) (call : Call) (request : Request)
+    → KeepsCalls node (requested setting me from node call request).node
+unfolding requested
+requested_keeps setting me from node call request = in_group (group_of setting.layout call.group.0)
+  where
+    at_seat : (z : Option ℕ) → KeepsCalls node (requested_at me from node call request z).node
+    at_seat None = keeps_itself node
+    at_seat (Some seat) = (record { boot = refl; seq = refl; known = omega arith }, λ l. refl)
+
+    in_group : (z : Option Group) → KeepsCalls node (requested_in setting.layout.block me from node call request z).node
+    in_group None = keeps_itself node
+    in_group (Some group) =
+        cond_both (is_served group call && fits_block setting.layout.block request) _ _ (λ (step : NodeStep). KeepsCalls node step.node)
+        (λ is. at_seat (seat_in group.members me.0)) (λ isnt. keeps_itself node)
+
+-- so does a message whose handling was the last thing that it did
+pub absorbed_keeps : (setting : Setting) (me : BrickId) (node : Node) (from to : BrickId) (message : Message)
+    → KeepsCalls node (absorbed setting me node (record { from = from; to = to; message = message }))
+unfolding absorbed
+absorbed_keeps setting me node from to (Message.Request call request) = requested_keeps setting me from node call request
+absorbed_keeps setting me node from to message = keeps_itself node
+
+books_absorbed : (setting : Setting) (w : World) (packet : Option Packet) → Books setting w → Books setting (world_absorbed setting w packet)
+books_absorbed setting w None books = books
+books_absorbed setting w (Some packet) books =
+    let node : Node = absorbed setting packet.to (w.nodes packet.to.0) packet in
+    let keeps : KeepsCalls (w.nodes packet.to.0) node = absorbed_keeps setting packet.to (w.nodes packet.to.0) packet.from packet.to packet.message in
+    cond_both (is_up setting.layout w packet.to) _ _ (λ (x : World). Books setting x)
+    (λ up. books_quiet setting w (put w.nodes packet.to.0 node) w.clocks w.packets w.replies books (keeps_put w packet.to.0 node keeps.0)
+    (λ j l. put_each (λ (x : ℕ) (y : Node). y.calls l ≡ (w.nodes x).calls l) w.nodes packet.to.0 node (keeps.1 l) (λ x other. refl) j))
+    (λ down. books)
+
+-- a brick may start that is down, and its store is opened at least once
+pub start_fits : (setting : Setting) (w : World) (brick : BrickId) (openings : ℕ) → may_start setting.layout w brick openings ≡ true
+    → (w.up brick.0 ≡ false) × (1 ≤ openings)
+start_fits setting w brick openings may =
+    let both = and_parts (is_brick setting.layout brick) (not (w.up brick.0) && may_open openings (w.nodes brick.0)) may in
+    let rest = and_parts (not (w.up brick.0)) (may_open openings (w.nodes brick.0)) both.1 in
+    let few = and_parts (nat_lt 0 openings) (nat_lt ((w.nodes brick.0).boot + openings) (2 ^ 32)) rest.1 in
+    let once : 0 < openings = ltb-true 0 openings few.0 in
+    (not-true (w.up brick.0) rest.0, omega arith)
 
 -- every event keeps the books
 pub books_kept : (setting : Setting) (w : World) (event : Event) → Books setting w → Books setting (happens setting w event)
@@ -473,6 +534,18 @@ books_kept setting w (Sets brick time) books =
     (λ member. books_quiet setting w w.nodes (put w.clocks brick.0 time) w.packets w.replies books
     (λ i. record { boot = refl; seq = refl; known = omega arith }) (λ i k. refl))
     (λ stranger. books)
+books_kept setting w (Ticks brick) books =
+    cond_both (is_up setting.layout w brick) _ _ (λ (x : World). Books setting x)
+    (λ up. books_quiet setting w w.nodes w.clocks (w.packets ++ ticked setting brick (w.nodes brick.0)) w.replies books
+    (λ i. record { boot = refl; seq = refl; known = omega arith }) (λ i k. refl))
+    (λ down. books)
+books_kept setting w (Crashes brick) books =
+    cond_both (is_up setting.layout w brick) _ _ (λ (x : World). Books setting x) (λ up. books_stopped setting w brick books) (λ down. books)
+books_kept setting w (Starts brick openings) books =
+    cond_both (may_start setting.layout w brick openings) _ _ (λ (x : World). Books setting x)
+    (λ may. (let fits = start_fits setting w brick openings may in books_started setting w brick openings books fits.0 fits.1))
+    (λ cannot. books)
+books_kept setting w (Absorbs number) books = books_absorbed setting w (packet_of w.packets number) books
 
 -- at first nothing is booked
 books_first : (setting : Setting) → Books setting (first_world setting.layout)
@@ -483,7 +556,7 @@ books_first setting = record {
     ends_are_of_open = λ i p n answer is. absurd (let never : None ≡ Some _ = is in cc);
   };
   places = λ k mark is. absurd (let never : None ≡ Some mark = is in cc);
-  boots = λ i. refl;
+  boots = λ i. omega arith;
   all_begun = λ n low high. absurd (omega arith);
   operations = λ n o is. absurd (let never : None ≡ Some o = is in cc);
   calls = λ i k c is. absurd (let never : None ≡ Some c = is in cc);

@@ -43,7 +43,7 @@ pub record FoundAt (setting : Setting) (w : World) (j : ℕ) (o : Operation) (or
       → version.block ≡ setting.code.encode group.m (w.contents o.ask.group.0 o.ask.stripe.0 version.stamp) seat
 
 found_at : (setting : Setting) (w : World) (j i : ℕ) (call : Call) (o : Operation) (order : Stamp) (version : Version)
-    → IsOperation w (w.numbers i call.seq) o → FoundSays setting w j i call order version → FoundAt setting w j o order version
+    → IsOperation w (w.numbers i call.boot call.seq) o → FoundSays setting w j i call order version → FoundAt setting w j o order version
 found_at setting w j i call o order version is says =
     let same : says.operation ≡ o = (let e : Some says.operation ≡ Some o = sym says.called.is ∙ is in cc) in
     let group : o.ask.group.0 ≡ call.group.0 = ap (λ (p : Operation). p.ask.group.0) (sym same) ∙ says.called.group in
@@ -117,20 +117,20 @@ found_below : (block : ℕ) (bound : Stamp) (version : Version) → may_be_found
 found_below block bound version may = (and_parts (nat_eq (length version.block) block) (stamp_below version.stamp bound) may).1
 
 -- a recovery's stamp and bound are those of its phase
-recovery_same : (stamps : Stamping) (i k p : ℕ) (phase : Phase) (t u bound b : Stamp) → IsBegun stamps i k p phase t
-    → ((phase ≡ Recovers) × (bound ≡ t)) ⊎ (phase ≡ Descends bound) → IsRecovery stamps i k p b u → (u ≡ t) × (b ≡ bound)
-recovery_same stamps i k p phase t u bound b begun (inl looks) (inl own) =
-    let same = begun_once stamps i k p phase Recovers t u begun own.1 in (sym same.1, own.0 ∙ sym same.1 ∙ sym looks.1)
-recovery_same stamps i k p phase t u bound b begun (inl looks) (inr lower) =
-    let same = begun_once stamps i k p phase (Descends b) t u begun lower.1 in
+recovery_same : (stamps : Stamping) (i boot k p : ℕ) (phase : Phase) (t u bound b : Stamp) → IsBegun stamps i boot k p phase t
+    → ((phase ≡ Recovers) × (bound ≡ t)) ⊎ (phase ≡ Descends bound) → IsRecovery stamps i boot k p b u → (u ≡ t) × (b ≡ bound)
+recovery_same stamps i boot k p phase t u bound b begun (inl looks) (inl own) =
+    let same = begun_once stamps i boot k p phase Recovers t u begun own.1 in (sym same.1, own.0 ∙ sym same.1 ∙ sym looks.1)
+recovery_same stamps i boot k p phase t u bound b begun (inl looks) (inr lower) =
+    let same = begun_once stamps i boot k p phase (Descends b) t u begun lower.1 in
     let bad : Recovers ≡ Descends b = sym looks.0 ∙ same.0 in
     absurd (let never : ⊥ = cc in never)
-recovery_same stamps i k p phase t u bound b begun (inr looks) (inl own) =
-    let same = begun_once stamps i k p phase Recovers t u begun own.1 in
+recovery_same stamps i boot k p phase t u bound b begun (inr looks) (inl own) =
+    let same = begun_once stamps i boot k p phase Recovers t u begun own.1 in
     let bad : Recovers ≡ Descends bound = sym same.0 ∙ looks in
     absurd (let never : ⊥ = cc in never)
-recovery_same stamps i k p phase t u bound b begun (inr looks) (inr lower) =
-    let same = begun_once stamps i k p phase (Descends b) t u begun lower.1 in
+recovery_same stamps i boot k p phase t u bound b begun (inr looks) (inr lower) =
+    let same = begun_once stamps i boot k p phase (Descends b) t u begun lower.1 in
     let phases : Descends b ≡ Descends bound = sym same.0 ∙ looks in
     (sym same.1, let e : b ≡ bound = cc in e)
 
@@ -174,13 +174,18 @@ module _ (setting : Setting) (sound : IsSound setting) (w : World) (stamps : Sta
   of_stripe : (P : ℕ → ℕ → Type 0) → P c.call.group.0 c.call.stripe.0 → P its_operation.ask.group.0 its_operation.ask.stripe.0
   of_stripe P h = subst (λ (g : ℕ). P g its_operation.ask.stripe.0) (sym call_group) (subst (λ (s : ℕ). P c.call.group.0 s) (sym call_stripe) h)
 
+  -- it is the operation of the call
+  its_called : IsOperation w (w.numbers me.0 c.call.boot c.call.seq) its_operation
+  its_called = subst (λ (b : ℕ). IsOperation w (w.numbers me.0 b c.call.seq) its_operation) (sym its.call_boot) its.operation_is
+
   -- the operation of the call is this one
   called_same : (p : Operation) → IsCalled w me.0 c.call p → p ≡ its_operation
-  called_same p called = same_Some p its_operation (sym called.is ∙ its.operation_is)
+  called_same p called = same_Some p its_operation (sym called.is ∙ its_called)
 
   -- its phase was begun
-  its_begun : IsBegun stamps me.0 c.call.seq c.call.phase c.phase c.stamp
-  its_begun = (said.calls me.0 c.call.seq c is).begun
+  its_begun : IsBegun stamps me.0 c.call.boot c.call.seq c.call.phase c.phase c.stamp
+  its_begun =
+      subst (λ (b : ℕ). IsBegun stamps me.0 b c.call.seq c.call.phase c.phase c.stamp) (sym its.call_boot) (said.calls me.0 c.call.seq c is).begun
 
   -- the part of the stripe at a seat
   abbrev pub part_at : ℕ → Replica
@@ -238,7 +243,7 @@ module _ (setting : Setting) (sound : IsSound setting) (w : World) (stamps : Sta
       = subst (λ (r : Reply). ReplySays setting w stamps x.brick (record { 0 = me.0 }) c.call r) (order_answered setting.layout.block c.stamp x answers none)
       (counted_says x says) in
       promises_at x says told.operation told.stamp told.called
-      (begun_once stamps me.0 c.call.seq c.call.phase Orders c.phase told.stamp c.stamp told.stamp_is its_begun).1 told.promised told.floor
+      (begun_once stamps me.0 c.call.boot c.call.seq c.call.phase Orders c.phase told.stamp c.stamp told.stamp_is its_begun).1 told.promised told.floor
 
   -- an order that a quorum answered
   pub all_ordered : c.phase ≡ Orders → greatest_refuser counted ≡ None → EachCounted PromisesAt counted
@@ -256,7 +261,7 @@ module _ (setting : Setting) (sound : IsSound setting) (w : World) (stamps : Sta
       (counted_says x says) in
       let writes : WriteSays setting w stamps me.0 x.brick.0 c.call told.0 told.1
       = said.packets told.2.0 (record { from = record { 0 = me.0 }; to = x.brick; message = Message.Request c.call (Request.Write told.0 told.1) }) told.2.1 in
-      let same : told.0 ≡ c.stamp = (begun_once stamps me.0 c.call.seq c.call.phase Stores c.phase told.0 c.stamp writes.begun its_begun).1 in (
+      let same : told.0 ≡ c.stamp = (begun_once stamps me.0 c.call.boot c.call.seq c.call.phase Stores c.phase told.0 c.stamp writes.begun its_begun).1 in (
         (seat_fits x says).0,
         subst (λ (t : Stamp). is_held t (part_at x.seat).log ≡ true) same (at_seat (λ g s j. is_held told.0 (part_of w g s j).log ≡ true) x says told.3),
       )
@@ -285,7 +290,7 @@ module _ (setting : Setting) (sound : IsSound setting) (w : World) (stamps : Sta
       let answer = found_by setting.layout.block c.stamp bound c.phase x looks says.answers none in
       let told : OrderedReadSays setting w stamps x.brick.0 me.0 c.call answer.0
       = subst (λ (r : Reply). ReplySays setting w stamps x.brick (record { 0 = me.0 }) c.call r) answer.1 (counted_says x says) in
-      let same = recovery_same stamps me.0 c.call.seq c.call.phase c.phase c.stamp told.stamp bound told.bound its_begun looks told.recovers in
+      let same = recovery_same stamps me.0 c.call.boot c.call.seq c.call.phase c.phase c.stamp told.stamp bound told.bound its_begun looks told.recovers in
       record {
         promises = promises_at x says told.operation told.stamp told.called same.0 told.promised told.floor;
         found = answer.0;
@@ -320,7 +325,7 @@ module _ (setting : Setting) (sound : IsSound setting) (w : World) (stamps : Sta
       let told : FoundSays setting w x.brick.0 me.0 c.call tells.order tells.version
       = subst (λ (r : Reply). ReplySays setting w stamps x.brick (record { 0 = me.0 }) c.call r) tells.reply_is (counted_says x says) in
       let at : FoundAt setting w x.brick.0 its_operation tells.order tells.version
-      = found_at setting w x.brick.0 me.0 c.call its_operation tells.order tells.version its.operation_is told in
+      = found_at setting w x.brick.0 me.0 c.call its_operation tells.order tells.version its_called told in
       let most : Stamp = stamp_max tells.order tells.version.stamp in
       let above : stamp_below most v ≡ false
       = subst (λ (t : Stamp). stamp_below most t ≡ false) tells.stamp (max_right tells.order tells.version.stamp) in

@@ -15,13 +15,13 @@ use Rattle.reg_model.specs.declared.marks.Mark.TheVariants.{End}
 use Rattle.protocol.specs.Settings.{Setting, Group}
 use Rattle.protocol.specs.Coordinators.{Coordinator}
 use Rattle.protocol.specs.Nodes.{Node, Answers, put, with_call, collect_packets}
-use Rattle.protocol.specs.Worlds.{World, Operation, world_stepped, with_answer, version_after, is_answer}
+use Rattle.protocol.specs.Worlds.{World, Operation, number_of, world_stepped, with_answer, version_after, is_answer}
 use Rattle.protocol.proofs.Books.{Books, CallBooks, IsCall}
 use Rattle.protocol.proofs.Said.{Stamping, Said, Stands, WritesWhole, ReadsBack, PacketSays, HasVersion, OperationSays, CallSays, EndShows}
 use Rattle.protocol.proofs.Tables.{put_each, put_same, get_grown, get_one, sent_to_member}
 use Rattle.protocol.proofs.Lives.{last_grows}
-use Rattle.protocol.proofs.Stampings.{stamps_same}
-use Rattle.protocol.proofs.Steps.{stamps_stay_by}
+use Rattle.protocol.proofs.Stampings.{ages_within, stamps_same}
+use Rattle.protocol.proofs.Steps.{KeepsStamps, stamps_stay_by}
 use Rattle.protocol.proofs.Growth.{Grows, Continues, stays_standing, stays_operation, stays_has_version}
 use Rattle.protocol.proofs.Operated.{operated, OperatedKeeps, operated_grows, said_operated}
 use Rattle.protocol.proofs.Stores.{open_until}
@@ -43,13 +43,14 @@ module _ (setting : Setting) (w : World) (stamps : Stamping) (me : BrickId) (c :
   o = (books.calls me.0 c.call.seq c is).operation
 
   abbrev n : ℕ
-  n = w.numbers me.0 c.call.seq
+  n = number_of w me.0 c.call.seq
 
   -- the operation that ended
   abbrev ended : Operation
   ended =
       record {
         brick = o.brick;
+        boot = o.boot;
         seq = o.seq;
         begin = o.begin;
         ask = o.ask;
@@ -74,12 +75,14 @@ module _ (setting : Setting) (w : World) (stamps : Stamping) (me : BrickId) (c :
       ap (λ (x : Option Operation).
       record {
         nodes = put w.nodes me.0 node;
+        up = w.up;
         clocks = w.clocks;
         packets = w.packets ++ collect_packets group me c.call stored;
         marks = marks;
         begun = w.begun;
         operations = put w.operations n (with_answer answer seen x);
         numbers = w.numbers;
+        past = w.past;
         contents = w.contents;
         replies = w.replies;
       })
@@ -92,13 +95,12 @@ module _ (setting : Setting) (w : World) (stamps : Stamping) (me : BrickId) (c :
       (answered_made : is_answer answer ≡ true → (bytes : List ℕ) → o.ask.op ≡ WriteStripe bytes → o.made ≡ true)
       (shows : WillShow w o seen answer) where
     on : Continues o ended
-    on = record { brick = refl; seq = refl; begin = refl; ask = refl; floor = refl; version = keeps_version; made = λ v has. refl; base = λ v has. refl }
+    on = record { brick = refl; boot = refl; seq = refl; begin = refl; ask = refl; floor = refl; version = keeps_version; made = λ v has. refl; base = λ v has. refl }
 
     keeps : OperatedKeeps w me node marks n o ended w.contents
     keeps = record {
       replicas = refl;
-      seq = refl;
-      known = more_known;
+      boot = refl;
       is = its.operation_is;
       continues = on;
       kept = λ g s t made. refl;
@@ -156,10 +158,10 @@ module _ (setting : Setting) (w : World) (stamps : Stamping) (me : BrickId) (c :
         }
 
     calls : (k : ℕ) (d : Coordinator) → node.calls k ≡ Some d
-        → (((w.nodes me.0).calls k ≡ Some d) × ((p : ℕ) → stamps me.0 k p ≡ stamps me.0 k p)) ⊎ CallSays setting next stamps me.0 k d
+        → (((w.nodes me.0).calls k ≡ Some d) × KeepsStamps stamps stamps me.0 (w.nodes me.0).boot k) ⊎ CallSays setting next stamps me.0 k d
     calls k d =
         put_each (λ j x. x ≡ Some d
-        → (((w.nodes me.0).calls j ≡ Some d) × ((p : ℕ) → stamps me.0 j p ≡ stamps me.0 j p)) ⊎ CallSays setting next stamps me.0 j d)
+        → (((w.nodes me.0).calls j ≡ Some d) × KeepsStamps stamps stamps me.0 (w.nodes me.0).boot j) ⊎ CallSays setting next stamps me.0 j d)
         (w.nodes me.0).calls c.call.seq None
         (λ at. cc) (λ j other at. inl (at, λ p. refl)) k
 
@@ -199,8 +201,8 @@ module _ (setting : Setting) (w : World) (stamps : Stamping) (me : BrickId) (c :
         subst (λ (z : World). Said setting z stamps) (sym next_is)
         (said_operated setting w stamps stamps me node (collect_packets group me c.call stored) marks n o ended w.contents books said (stamps_same stamps) keeps
         (record {
-          stamps_say = stamps_stay_by setting w next stamps me.0 node said refl refl more_known;
-          stamps_other = λ i k other p. refl;
+          stamps_say = stamps_stay_by setting w next stamps me.0 node said refl (ages_within (w.nodes me.0) node refl more_known (omega arith));
+          stamps_other = λ i b k other p. refl;
           operation = operation_says;
           calls = calls;
           packets = packets stored;

@@ -1,25 +1,24 @@
 -- No event lowers what a brick has promised or stored, or drops a version that it holds.
-use Rattle.std.proofs.Common.{◌≡◌, ℕ, ◌<◌, Bool, true, false, not, ◌&&◌, List, [], ◌∷◌, length, Option, Some, None, refl, arith}
+use Rattle.std.proofs.Common.{◌≡◌, ℕ, Bool, not, ◌&&◌, List, [], ◌∷◌, length, Option, Some, None, refl, arith}
 use Rattle.std.proofs.lemmas.Bool.{cond_both, and_parts, not-true}
 use Rattle.fab_base.specs.declared.identities.BrickId.{BrickId}
 use Rattle.fab_base.specs.declared.asks.Ask.{Ask}
 use Rattle.fab_base.specs.declared.stamps.Stamp.{Stamp}
-use Rattle.fab_base.specs.Stamps.{stamp_below}
 use Rattle.fab_wire.specs.declared.calls.Call.{Call}
 use Rattle.fab_wire.specs.declared.messages.Message.{Message}
 use Rattle.fab_wire.specs.declared.messages.Packet.{Packet}
 use Rattle.fab_wire.specs.declared.requests.Request.{Request}
 use Rattle.fab_wire.specs.declared.replies.Reply.{Reply}
-use Rattle.quorum.specs.Quorums.{count, IsWithinLimits}
+use Rattle.quorum.specs.Quorums.{IsWithinLimits}
 use Rattle.quorum.proofs.Counts.{count_monotone}
-use Rattle.protocol.specs.Settings.{Setting, Group, group_of, seat_in}
+use Rattle.protocol.specs.Settings.{Setting, Group, group_of}
 use Rattle.protocol.specs.Replicas.{top_of, is_held, handle}
 use Rattle.protocol.specs.Coordinators.{Coordinator, Next, Ignores, Waits, Sends, Makes, Ends, on_reply}
-use Rattle.protocol.specs.Nodes.{Node, NodeStep, fresh_stamp, Told, Nothing, Made, Answers, put, began, invoked, replica_at, requested_at, requested_in, requested, known_after, carried_out, replied_to, replied_at, replied, received}
-use Rattle.protocol.specs.Worlds.{World, Event, Invokes, Delivers, Sets, replies_with, is_brick, may_begin, world_began, world_stepped, delivered, packet_of, happens, first_world, run}
-use Rattle.protocol.specs.Laws.{NoEventLowers, NeverSurfaces, AtQuorum, IsGuarded, IsBlocked, part_of, brick_at}
+use Rattle.protocol.specs.Nodes.{Node, NodeStep, fresh_stamp, Told, Nothing, Made, Answers, put, began, invoked, replica_at, requested, absorbed, stopped, restarted, known_after, carried_out, replied_to, replied_at, replied, received}
+use Rattle.protocol.specs.Worlds.{World, Event, Invokes, Delivers, Sets, Ticks, Crashes, Starts, Absorbs, replies_with, is_brick, is_up, may_start, world_ticked, world_stopped, world_started, world_absorbed, may_begin, world_began, world_stepped, delivered, packet_of, happens, first_world, run}
+use Rattle.protocol.specs.Laws.{NoEventLowers, NeverSurfaces, IsLost, IsGuarded, IsBlocked, part_of, brick_at}
 use Rattle.protocol.proofs.Reactions.{handle_after}
-use Rattle.protocol.proofs.Requests.{parts_keep}
+use Rattle.protocol.proofs.Requests.{request_each, parts_keep}
 use Rattle.protocol.proofs.Logs.{below_above}
 use Rattle.protocol.proofs.Blocking.{PartsStay, parts_then, passes_by, passes, blocked_by, blocked_stays, blocked_never_stands, count_split}
 use Rattle.protocol.proofs.Steps.{KeepsParts, keeps_same, parts_by, parts_same}
@@ -58,17 +57,9 @@ reply_keeps setting me now from node call reply = at_call (node.calls call.seq)
 
 request_keeps : (setting : Setting) (me from : BrickId) (node : Node) (call : Call) (request : Request)
     → KeepsParts node (requested setting me from node call request).node
-unfolding requested
-request_keeps setting me from node call request = in_group (group_of setting.layout call.group.0)
-  where
-    at_seat : (z : Option ℕ) → KeepsParts node (requested_at me from node call request z).node
-    at_seat None = keeps_same node node refl
-    at_seat (Some seat) =
-        parts_keep node call request (handle seat (replica_at node call) request).replica (handle_after seat (replica_at node call) request)
-
-    in_group : (z : Option Group) → KeepsParts node (requested_in me from node call request z).node
-    in_group None = keeps_same node node refl
-    in_group (Some group) = at_seat (seat_in group.members me.0)
+request_keeps setting me from node call request =
+    request_each (λ step. KeepsParts node step.node) setting me from node call request (keeps_same node node refl)
+    (λ seat. parts_keep node call request (handle seat (replica_at node call) request).replica (handle_after seat (replica_at node call) request))
 
 message_keeps : (setting : Setting) (me from to : BrickId) (now : ℕ) (node : Node) (message : Message)
     → KeepsParts node (received setting me now node (record { from = from; to = to; message = message })).node
@@ -77,15 +68,38 @@ message_keeps setting me from to now node (Message.Request call request) = reque
 message_keeps setting me from to now node (Message.Reply call reply) = reply_keeps setting me now from node call reply
 message_keeps setting me from to now node message = keeps_same node node refl
 
+absorbed_keeps : (setting : Setting) (me from to : BrickId) (node : Node) (message : Message)
+    → KeepsParts node (absorbed setting me node (record { from = from; to = to; message = message }))
+unfolding absorbed
+absorbed_keeps setting me from to node (Message.Request call request) = request_keeps setting me from node call request
+absorbed_keeps setting me from to node message = keeps_same node node refl
+
+stopped_keeps : (node : Node) → KeepsParts node (stopped node)
+unfolding stopped
+stopped_keeps node = keeps_same node (stopped node) refl
+
+restarted_keeps : (openings : ℕ) (node : Node) → KeepsParts node (restarted openings node)
+unfolding restarted
+restarted_keeps openings node = keeps_same node (restarted openings node) refl
+
 delivery_stays : (setting : Setting) (w : World) (z : Option Packet) → PartsStay w (delivered setting w z)
 delivery_stays setting w None = parts_same w w refl
 delivery_stays setting w (Some packet) =
     let step : NodeStep = received setting packet.to (w.clocks packet.to.0) (w.nodes packet.to.0) packet in
     let counted : World = record w { replies = replies_with setting w packet } in
-    cond_both (is_brick setting.layout packet.to) (world_stepped counted packet.to step step.told) w (λ (next : World). PartsStay w next)
+    cond_both (is_up setting.layout w packet.to) (world_stepped counted packet.to step step.told) w (λ (next : World). PartsStay w next)
     (λ is. parts_by w (world_stepped counted packet.to step step.told) packet.to.0 step.node (stepped_nodes counted packet.to step step.told)
     (message_keeps setting packet.to packet.from packet.to (w.clocks packet.to.0) (w.nodes packet.to.0) packet.message))
     (λ isnt. parts_same w w refl)
+
+absorption_stays : (setting : Setting) (w : World) (z : Option Packet) → PartsStay w (world_absorbed setting w z)
+absorption_stays setting w None = parts_same w w refl
+absorption_stays setting w (Some packet) =
+    let node : Node = absorbed setting packet.to (w.nodes packet.to.0) packet in
+    cond_both (is_up setting.layout w packet.to) (record w { nodes = put w.nodes packet.to.0 node }) w (λ (next : World). PartsStay w next)
+    (λ up. parts_by w (record w { nodes = put w.nodes packet.to.0 node }) packet.to.0 node refl
+    (absorbed_keeps setting packet.to packet.from packet.to (w.nodes packet.to.0) packet.message))
+    (λ down. parts_same w w refl)
 
 invoked_keeps : (setting : Setting) (me : BrickId) (now : ℕ) (node : Node) (ask : Ask) → KeepsParts node (invoked setting me now node ask).node
 unfolding invoked
@@ -108,6 +122,19 @@ parts_stay setting w (Sets brick time) =
     cond_both (is_brick setting.layout brick) (record w { clocks = put w.clocks brick.0 time }) w (λ (next : World). PartsStay w next)
     (λ is. parts_same w (record w { clocks = put w.clocks brick.0 time }) refl)
     (λ isnt. parts_same w w refl)
+parts_stay setting w (Ticks brick) =
+    cond_both (is_up setting.layout w brick) (world_ticked setting w brick) w (λ (next : World). PartsStay w next)
+    (λ up. parts_same w (world_ticked setting w brick) refl)
+    (λ down. parts_same w w refl)
+parts_stay setting w (Crashes brick) =
+    cond_both (is_up setting.layout w brick) (world_stopped w brick) w (λ (next : World). PartsStay w next)
+    (λ up. parts_by w (world_stopped w brick) brick.0 (stopped (w.nodes brick.0)) refl (stopped_keeps (w.nodes brick.0)))
+    (λ down. parts_same w w refl)
+parts_stay setting w (Starts brick openings) =
+    cond_both (may_start setting.layout w brick openings) (world_started w brick openings) w (λ (next : World). PartsStay w next)
+    (λ may. parts_by w (world_started w brick openings) brick.0 (restarted openings (w.nodes brick.0)) refl (restarted_keeps openings (w.nodes brick.0)))
+    (λ cannot. parts_same w w refl)
+parts_stay setting w (Absorbs number) = absorption_stays setting w (packet_of w.packets number)
 
 -- no event of any run lowers a top
 pub no_event_lowers : NoEventLowers
@@ -125,23 +152,22 @@ pub stays_guarded_through : (setting : Setting) (w : World) (event : Event) (g s
     → IsGuarded (happens setting w event) g s group t
 stays_guarded_through setting w event g s group t guarded = guarded_stays w (happens setting w event) (parts_stay setting w event).tops g s group t guarded
 
--- where a quorum is at or above t, and fewer than m of it hold a version below that, the version is blocked
-surfacing_blocked : (w : World) (g s : ℕ) (group : Group) (t v : Stamp) (seats : ℕ → Bool) → IsWithinLimits group.m (length group.members) → AtQuorum group seats
-    → ((seat : ℕ) → seats seat ≡ true → stamp_below (top_of (part_of w g s (brick_at group seat))) t ≡ false) → stamp_below v t ≡ true
-    → count (length group.members) (λ seat. seats seat && is_held v (part_of w g s (brick_at group seat)).log) < group.m → IsBlocked w g s group v
-surfacing_blocked w g s group t v seats limits quorum above lower few =
+-- a lost version is blocked: where a quorum is above it, and fewer than m of it hold it
+lost_blocked : (w : World) (g s : ℕ) (group : Group) (v : Stamp) → IsWithinLimits group.m (length group.members) → IsLost w g s group v
+    → IsBlocked w g s group v
+lost_blocked w g s group v limits lost =
     let held : ℕ → Bool = λ seat. is_held v (part_of w g s (brick_at group seat)).log in
-    let split = count_split (length group.members) seats held in
-    let more = count_monotone (length group.members) (λ k. seats k && not (held k)) (passes_by w g s group v)
+    let split = count_split (length group.members) lost.seats held in
+    let more = count_monotone (length group.members) (λ k. lost.seats k && not (held k)) (passes_by w g s group v)
     (λ k below is.
-    let parts = and_parts (seats k) (not (held k)) is in
-    passes w g s group v k (below_above v t (top_of (part_of w g s (brick_at group k))) lower (above k parts.0)) (not-true (held k) parts.1)) in
-    blocked_by w g s group v limits (omega (arith, split, more, quorum, few))
+    let parts = and_parts (lost.seats k) (not (held k)) is in
+    passes w g s group v k (below_above v lost.stamp (top_of (part_of w g s (brick_at group k))) lost.above (lost.passed k parts.0)) (not-true (held k) parts.1)) in
+    blocked_by w g s group v limits (omega (arith, split, more, lost.quorum, lost.few))
 
--- no quorum ever holds a version that so few of a quorum held
+-- no quorum ever holds a lost version
 pub never_surfaces : NeverSurfaces
-never_surfaces setting events more g s group t v seats sound group_is quorum above lower few later =
+never_surfaces setting events more g s group v sound group_is lost later =
     let w : World = run setting events (first_world setting.layout) in
-    let blocked : IsBlocked w g s group v = surfacing_blocked w g s group t v seats (sound.limits g group group_is) quorum above lower few in
+    let blocked : IsBlocked w g s group v = lost_blocked w g s group v (sound.limits g group group_is) lost in
     blocked_never_stands (run setting more w) g s group v
     (blocked_stays w (run setting more w) (parts_stay_on setting more w) g s group v blocked) later

@@ -1,5 +1,5 @@
 -- What was said stays said: nothing falls, messages and versions stay, and a version's content does not change.
-use Rattle.std.proofs.Common.{◌≡◌, ℕ, ◌≤◌, ◌⊎◌, inl, inr, true, false, not, List, length, Option, Some, refl, sym, ap, ◌∙◌, subst, ⊎_elim, arith}
+use Rattle.std.proofs.Common.{◌≡◌, ℕ, ◌≤◌, ◌⊎◌, inl, inr, true, false, not, List, length, Option, Some, None, refl, sym, ap, ◌∙◌, subst, ⊎_elim, arith}
 use Rattle.std.proofs.lemmas.Bool.{not-true, not_from_false, false≢true}
 use Rattle.fab_base.specs.declared.identities.BrickId.{BrickId}
 use Rattle.fab_base.specs.declared.stamps.Stamp.{Stamp}
@@ -19,7 +19,7 @@ use Rattle.fab_wire.specs.declared.replies.Reply.{Reply}
 use Rattle.quorum.proofs.Counts.{count_monotone}
 use Rattle.protocol.specs.Settings.{Setting, Group}
 use Rattle.protocol.specs.Replicas.{top_of, is_held, stamp_max}
-use Rattle.protocol.specs.Coordinators.{Phase, Orders, Recovers, Descends, Stores, Coordinator, Counted}
+use Rattle.protocol.specs.Coordinators.{Phase, Orders, Recovers, Descends, Stores, Coordinator, Counted, request_of}
 use Rattle.protocol.specs.Worlds.{World, Operation}
 use Rattle.protocol.specs.Laws.{WasSent, AskedAt, NeverFalls, part_of, brick_at, IsGuarded}
 use Rattle.protocol.proofs.Books.{Books, OperationBooks, IsOperation}
@@ -31,6 +31,7 @@ use Rattle.protocol.proofs.Counting.{each_then}
 -- an operation goes on: it keeps what it is, and a version that it has
 pub record Continues (o p : Operation) : Type 0 where
   pub brick : p.brick ≡ o.brick
+  pub boot : p.boot ≡ o.boot
   pub seq : p.seq ≡ o.seq
   pub begin : p.begin ≡ o.begin
   pub ask : p.ask ≡ o.ask
@@ -41,7 +42,7 @@ pub record Continues (o p : Operation) : Type 0 where
 
 -- an unchanged operation goes on
 pub continues_same : (o : Operation) → Continues o o
-continues_same o = record { brick = refl; seq = refl; begin = refl; ask = refl; floor = refl; version = λ v is. is; made = λ v is. refl; base = λ v is. refl }
+continues_same o = record { brick = refl; boot = refl; seq = refl; begin = refl; ask = refl; floor = refl; version = λ v is. is; made = λ v is. refl; base = λ v is. refl }
 
 -- from one world to the next nothing that was said is lost
 pub record Grows (w next : World) (stamps later : Stamping) : Type 0 where
@@ -50,7 +51,7 @@ pub record Grows (w next : World) (stamps later : Stamping) : Type 0 where
   pub operations : (n : ℕ) (o : Operation) → IsOperation w n o → (p : Operation) × IsOperation next n p × Continues o p
   pub contents : (g s : ℕ) (t : Stamp) → IsMadeOrFirst w g s t → next.contents g s t ≡ w.contents g s t
   pub grow : StampsGrow stamps later
-  pub numbered : (i k : ℕ) → k ≤ (w.nodes i).seq → next.numbers i k ≡ w.numbers i k
+  pub numbered : (i b k : ℕ) → (b ≡ (w.nodes i).boot → k ≤ (w.nodes i).seq) → next.numbers i b k ≡ w.numbers i b k
   pub marks : length w.marks ≤ length next.marks
 
 -- where no top falls, what is at or above t stays so
@@ -86,25 +87,27 @@ module _ (setting : Setting) (w next : World) (stamps later : Stamping) (books :
         on.version t made.6,
       )
 
-  -- the number of an operation's call is one of its brick's
-  pub called_within : (i : ℕ) (call : Call) (o : Operation) → IsCalled w i call o → call.seq ≤ (w.nodes i).seq
-  called_within i call o called =
-      let its : OperationBooks setting w (w.numbers i call.seq) o = books.operations (w.numbers i call.seq) o called.is in
-      let most : o.seq ≤ (w.nodes o.brick.0).seq = its.called.1 in
-      let at : o.seq ≤ (w.nodes i).seq = subst (λ (j : ℕ). o.seq ≤ (w.nodes j).seq) called.brick most in
-      subst (λ (k : ℕ). k ≤ (w.nodes i).seq) called.seq at
+  -- the number of an operation's call is one of its brick's, where it is of its present boot
+  pub called_within : (i : ℕ) (call : Call) (o : Operation) → IsCalled w i call o → call.boot ≡ (w.nodes i).boot → call.seq ≤ (w.nodes i).seq
+  called_within i call o called now =
+      let its : OperationBooks setting w (w.numbers i call.boot call.seq) o = books.operations (w.numbers i call.boot call.seq) o called.is in
+      let most : o.boot ≡ (w.nodes i).boot → o.seq ≤ (w.nodes i).seq
+      = subst (λ (j : ℕ). o.boot ≡ (w.nodes j).boot → o.seq ≤ (w.nodes j).seq) called.brick its.called.1 in
+      subst (λ (k : ℕ). k ≤ (w.nodes i).seq) called.seq (most (called.boot ∙ now))
 
   -- an operation's call stays its
   pub stays_called : (i : ℕ) (call : Call) (o : Operation) → IsCalled w i call o → (p : Operation) × IsCalled next i call p × Continues o p
   stays_called i call o called =
-      let goes = grows.operations (w.numbers i call.seq) o called.is in
+      let goes = grows.operations (w.numbers i call.boot call.seq) o called.is in
       let p : Operation = goes.0 in
       let on : Continues o p = goes.2 in
-      let number : next.numbers i call.seq ≡ w.numbers i call.seq = grows.numbered i call.seq (called_within i call o called) in (
+      let number : next.numbers i call.boot call.seq ≡ w.numbers i call.boot call.seq
+      = grows.numbered i call.boot call.seq (called_within i call o called) in (
         p,
         record {
           is = subst (λ (n : ℕ). IsOperation next n p) (sym number) goes.1;
           brick = ap (λ b. b.0) on.brick ∙ called.brick;
+          boot = on.boot ∙ called.boot;
           seq = on.seq ∙ called.seq;
           group = ap (λ a. a.group.0) on.ask ∙ called.group;
           stripe = ap (λ a. a.stripe.0) on.ask ∙ called.stripe;
@@ -113,16 +116,16 @@ module _ (setting : Setting) (w next : World) (stamps later : Stamping) (books :
       )
 
   -- a phase keeps its stamp
-  pub stays_stamp : (i k p : ℕ) (t : Stamp) → IsStamped stamps i k p t → IsStamped later i k p t
-  stays_stamp i k p t is = stays_stamped stamps later grows.grow i k p t is
+  pub stays_stamp : (i b k p : ℕ) (t : Stamp) → IsStamped stamps i b k p t → IsStamped later i b k p t
+  stays_stamp i b k p t is = stays_stamped stamps later grows.grow i b k p t is
 
   -- a phase stays begun
-  pub stays_phase : (i k p : ℕ) (phase : Phase) (t : Stamp) → IsBegun stamps i k p phase t → IsBegun later i k p phase t
-  stays_phase i k p phase t is = stays_begun stamps later grows.grow i k p phase t is
+  pub stays_phase : (i b k p : ℕ) (phase : Phase) (t : Stamp) → IsBegun stamps i b k p phase t → IsBegun later i b k p phase t
+  stays_phase i b k p phase t is = stays_begun stamps later grows.grow i b k p phase t is
 
-  pub stays_recovery : (i k p : ℕ) (bound t : Stamp) → IsRecovery stamps i k p bound t → IsRecovery later i k p bound t
-  stays_recovery i k p bound t (inl own) = inl (own.0, stays_phase i k p Recovers t own.1)
-  stays_recovery i k p bound t (inr lower) = inr (lower.0, stays_phase i k p (Descends bound) t lower.1)
+  pub stays_recovery : (i b k p : ℕ) (bound t : Stamp) → IsRecovery stamps i b k p bound t → IsRecovery later i b k p bound t
+  stays_recovery i b k p bound t (inl own) = inl (own.0, stays_phase i b k p Recovers t own.1)
+  stays_recovery i b k p bound t (inr lower) = inr (lower.0, stays_phase i b k p (Descends bound) t lower.1)
 
   -- what is at or above t stays so
   pub stays_above : (g s i : ℕ) (t : Stamp) → stamp_below (top_of (part_of w g s i)) t ≡ false → stamp_below (top_of (part_of next g s i)) t ≡ false
@@ -155,7 +158,7 @@ module _ (setting : Setting) (w next : World) (stamps later : Stamping) (books :
   pub write_made : (from to : ℕ) (call : Call) (t : Stamp) (block : List ℕ) → WriteSays setting w stamps from to call t block
       → IsMadeOrFirst w call.group.0 call.stripe.0 t
   write_made from to call t block says =
-      inr (w.numbers from call.seq, says.operation, says.called.is, says.called.group, says.called.stripe, says.made, says.version)
+      inr (w.numbers from call.boot call.seq, says.operation, says.called.is, says.called.group, says.called.stripe, says.made, says.version)
 
   pub stays_write : (from to : ℕ) (call : Call) (t : Stamp) (block : List ℕ) → WriteSays setting w stamps from to call t block
       → WriteSays setting next later from to call t block
@@ -164,7 +167,7 @@ module _ (setting : Setting) (w next : World) (stamps later : Stamping) (books :
       record {
         operation = goes.0;
         called = goes.1;
-        begun = stays_phase from call.seq call.phase Stores t says.begun;
+        begun = stays_phase from call.boot call.seq call.phase Stores t says.begun;
         made = goes.2.made t says.version ∙ says.made;
         version = goes.2.version t says.version;
         member = says.member;
@@ -175,10 +178,10 @@ module _ (setting : Setting) (w next : World) (stamps later : Stamping) (books :
   pub stays_request : (i j : ℕ) (call : Call) (request : Request) → RequestSays setting w stamps i j call request → RequestSays setting next later i j call request
   stays_request i j call (Request.Read want) says = let goes = stays_called i call says.1.0 says.1.1 in (says.0, (goes.0, goes.1))
   stays_request i j call (Request.Order t) says =
-      let goes = stays_called i call says.1.0 says.1.1 in (stays_phase i call.seq call.phase Orders t says.0, (goes.0, goes.1))
+      let goes = stays_called i call says.1.0 says.1.1 in (stays_phase i call.boot call.seq call.phase Orders t says.0, (goes.0, goes.1))
   stays_request i j call (Request.OrderRead t (Look.Below bound) want) says =
       let goes = stays_called i call says.2.0 says.2.1 in
-      (says.0, stays_recovery i call.seq call.phase bound t says.1, (goes.0, goes.1))
+      (says.0, stays_recovery i call.boot call.seq call.phase bound t says.1, (goes.0, goes.1))
   stays_request i j call (Request.OrderRead t (Look.At u) want) says = says
   stays_request i j call (Request.Write t block) says = stays_write i j call t block says
   stays_request i j call request says = tt
@@ -190,7 +193,7 @@ module _ (setting : Setting) (w next : World) (stamps later : Stamping) (books :
         operation = goes.0;
         called = goes.1;
         stamp = says.stamp;
-        stamp_is = stays_phase i call.seq call.phase Orders says.stamp says.stamp_is;
+        stamp_is = stays_phase i call.boot call.seq call.phase Orders says.stamp says.stamp_is;
         promised = stays_above call.group.0 call.stripe.0 j says.stamp says.promised;
         floor = subst (λ (f : ℕ → Stamp). stamp_below says.stamp (f j) ≡ false) (sym goes.2.floor) says.floor;
       }
@@ -208,9 +211,9 @@ module _ (setting : Setting) (w next : World) (stamps later : Stamping) (books :
       }
 
   -- the bound of a recovery is at most its stamp
-  bound_within : (i k p : ℕ) (bound t d : Stamp) → IsRecovery stamps i k p bound t → stamp_below d bound ≡ true → stamp_below d t ≡ true
-  bound_within i k p bound t d (inl own) less = subst (λ (z : Stamp). stamp_below d z ≡ true) own.0 less
-  bound_within i k p bound t d (inr lower) less = stamp_below_trans d bound t less lower.0
+  bound_within : (i b k p : ℕ) (bound t d : Stamp) → IsRecovery stamps i b k p bound t → stamp_below d bound ≡ true → stamp_below d t ≡ true
+  bound_within i b k p bound t d (inl own) less = subst (λ (z : Stamp). stamp_below d z ≡ true) own.0 less
+  bound_within i b k p bound t d (inr lower) less = stamp_below_trans d bound t less lower.0
 
   -- what was found below a bound stays the newest there, since nothing comes to be held below the stamp that was promised
   pub stays_ordered_read : (j i : ℕ) (call : Call) (found : Option Version) → OrderedReadSays setting w stamps j i call found
@@ -222,14 +225,14 @@ module _ (setting : Setting) (w next : World) (stamps later : Stamping) (books :
         called = goes.1;
         stamp = says.stamp;
         bound = says.bound;
-        recovers = stays_recovery i call.seq call.phase says.bound says.stamp says.recovers;
+        recovers = stays_recovery i call.boot call.seq call.phase says.bound says.stamp says.recovers;
         promised = stays_above call.group.0 call.stripe.0 j says.stamp says.promised;
         floor = subst (λ (f : ℕ → Stamp). stamp_below says.stamp (f j) ≡ false) (sym goes.2.floor) says.floor;
         newest = λ d held less. ⊎_elim
             (λ (was : is_held d (part_of w call.group.0 call.stripe.0 j).log ≡ true). says.newest d was less)
             (λ (new : stamp_below d (top_of (part_of w call.group.0 call.stripe.0 j)) ≡ false).
             let above : stamp_below d says.stamp ≡ false = stamp_not_below_trans says.stamp (top_of (part_of w call.group.0 call.stripe.0 j)) d says.promised new in
-            absurd (false≢true (sym above ∙ bound_within i call.seq call.phase says.bound says.stamp d says.recovers less)))
+            absurd (false≢true (sym above ∙ bound_within i call.boot call.seq call.phase says.bound says.stamp d says.recovers less)))
             (grows.parts.newer call.group.0 call.stripe.0 j d held);
         says = λ version is. stays_version call.group.0 call.stripe.0 j version (says.says version is);
       }
@@ -302,11 +305,11 @@ module _ (setting : Setting) (w next : World) (stamps later : Stamping) (books :
     floors = λ i. stays_above o.ask.group.0 o.ask.stripe.0 i (o.floor i) (says.floors i);
     floors_known = λ i. stays_known stamps later grows.grow (o.floor i) (says.floors_known i);
     fresh = λ i p stamped. ⊎_elim
-        (λ (own : (q : ℕ) × IsStamped stamps o.brick.0 o.seq q (o.floor i)). says.fresh i own.0 own.1)
+        (λ (own : (q : ℕ) × IsStamped stamps o.brick.0 o.boot o.seq q (o.floor i)). says.fresh i own.0 own.1)
         (λ (unknown : IsKnown stamps (o.floor i) → ⊥). unknown (says.floors_known i))
-        (grows.grow.newer o.brick.0 o.seq p (o.floor i) stamped);
+        (grows.grow.newer o.brick.0 o.boot o.seq p (o.floor i) stamped);
     made = λ made.
-        let had = says.made made in (had.0, had.1, had.2, stays_stamp o.brick.0 o.seq had.1 had.0 had.3);
+        let had = says.made made in (had.0, had.1, had.2, stays_stamp o.brick.0 o.boot o.seq had.1 had.0 had.3);
     maker = λ v made version. stays_maker n o v is made version (says.maker v made version);
     content = λ v made version group group_is.
         subst (λ (content : List ℕ). IsContent group.m setting.layout.block content) (sym (stays_content n o v is made version))
@@ -323,11 +326,16 @@ module _ (setting : Setting) (w next : World) (stamps later : Stamping) (books :
     seat = says.seat;
   }
 
-  -- what a coordinator says stays said, where its call has no new stamp
-  pub stays_call : (i k : ℕ) (c : Coordinator) → ((p : ℕ) → later i k p ≡ stamps i k p) → CallSays setting w stamps i k c → CallSays setting next later i k c
-  stays_call i k c same says = record {
-    begun = stays_phase i k c.call.phase c.phase c.stamp says.begun;
-    last = λ p less. same p ∙ says.last p less;
+  -- what a coordinator says stays said, where its brick goes on, and its call has no new stamp
+  pub stays_call : (i k : ℕ) (c : Coordinator) → (next.nodes i).boot ≡ (w.nodes i).boot
+      → ((p : ℕ) → later i (w.nodes i).boot k p ≡ stamps i (w.nodes i).boot k p) → CallSays setting w stamps i k c → CallSays setting next later i k c
+  stays_call i k c boot same says = record {
+    begun = subst (λ (b : ℕ). IsBegun later i b k c.call.phase c.phase c.stamp) (sym boot)
+        (stays_phase i (w.nodes i).boot k c.call.phase c.phase c.stamp says.begun);
+    last = λ p less. subst (λ (b : ℕ). later i b k p ≡ None) (sym boot) (same p ∙ says.last p less);
+    asked = λ group is seat member at.
+        grows.sent (record { from = record { 0 = i }; to = member; message = Message.Request c.call (request_of setting.code group.m c seat) })
+        (says.asked group is seat member at);
     fits = says.fits;
     unbased = says.unbased;
     above = says.above;

@@ -1,5 +1,5 @@
 -- Lives of operations as marks are added: what becomes of each, and where it ends.
-use Rattle.std.proofs.Common.{◌≡◌, ℕ, suc, ◌+◌, ◌≤◌, Bool, true, false, cond, List, [], ◌∷◌, ◌++◌, length, Option, Some, refl, sym, ap, subst, arith, ◌≢◌, zero, take, nat_eq, None, ◌∙◌}
+use Rattle.std.proofs.Common.{◌≡◌, ℕ, suc, ◌+◌, ◌≤◌, Bool, true, false, cond, List, [], ◌∷◌, ◌++◌, length, Option, Some, refl, sym, ap, subst, arith, ◌≢◌, zero, take, nat_eq, None, ◌∙◌, ◌⊎◌, inl, inr}
 use Rattle.std.specs.Prelude.{slice_get, nat_eq}
 use Rattle.std.proofs.lemmas.Bool.{cond_both, eqb-true, eq-eqb, ne_eqb}
 use Rattle.fab_base.specs.declared.answers.Answer.{Answer}
@@ -86,7 +86,8 @@ EndingStays-answered (Answered p answer) later stays is = subst (λ (x : Ending)
 EndingStays-answered (Interrupted p) later stays is = absurd is
 EndingStays-answered (Unended past) later stays is = absurd is
 
-unended_not_answered : (e : Ending) → IsUnended e → IsAnswered e → ⊥
+-- no ending is both open and answered
+pub unended_not_answered : (e : Ending) → IsUnended e → IsAnswered e → ⊥
 unended_not_answered (Answered p answer) open' is = open'
 unended_not_answered (Interrupted p) open' is = open'
 unended_not_answered (Unended past) open' is = is
@@ -106,7 +107,7 @@ EndingStays-open_before (Answered p answer) later stays is = subst (λ (x : Endi
 EndingStays-open_before (Interrupted p) later stays is = subst (λ (x : Ending). IsUnended x) stays is
 EndingStays-open_before (Unended past) later stays is = tt
 
--- the marks that do not touch operation n: another's Begin or End
+-- the marks that do not touch operation n: another's Begin or End (what a Crash touches, Stays-crash and life_of-crash say)
 abbrev pub LeavesAlone : ℕ → Mark → Type 0
 LeavesAlone n (Begin p k b ask) = k ≢ n
 LeavesAlone n (End p k answer) = k ≢ n
@@ -159,6 +160,55 @@ life_of-end marks p n answer life is open' =
     life_of-append marks (End p n answer ∷ []) n
     ∙ ap (λ (l : Option Life). life_onward l (End p n answer ∷ []) n) is
     ∙ ap (λ (e : Ending). Some (with_ending life e)) (end_ending life.ending p n life.brick answer open')
+
+crash_ending : (e : Ending) (p n brick : ℕ) (b : BrickId) → (IsUnended e → b.0 ≢ brick) → EndingStays e (onward e (Crash p b ∷ []) n brick)
+crash_ending (Answered q answer) p n brick b other = refl
+crash_ending (Interrupted q) p n brick b other = refl
+crash_ending (Unended past) p n brick b other =
+    subst (λ (t : Bool). IsUnended (cond t (Interrupted p) (Unended (p + 1)))) (sym (ne_eqb b.0 brick (other tt))) tt
+
+crash_life : (life : Option Life) (p n : ℕ) (b : BrickId) → ((l : Life) → life ≡ Some l → IsOpen (Some l) → b.0 ≢ l.brick)
+    → Stays life (life_onward life (Crash p b ∷ []) n)
+crash_life None p n b other = refl
+crash_life (Some life) p n b other = (
+  with_ending life (onward life.ending (Crash p b ∷ []) n life.brick),
+  refl,
+  record { begin = refl; brick = refl; ask = refl; ending = crash_ending life.ending p n life.brick b (other life refl) },
+)
+
+-- a Crash leaves an operation's life as it was, where the operation is another brick's, or is not open
+pub Stays-crash : (marks : List Mark) (p n : ℕ) (b : BrickId) → ((life : Life) → life_of marks n ≡ Some life → IsOpen (Some life) → b.0 ≢ life.brick)
+    → Stays (life_of marks n) (life_of (marks ++ (Crash p b ∷ [])) n)
+Stays-crash marks p n b other =
+    subst (λ (l : Option Life). Stays (life_of marks n) l) (sym (life_of-append marks (Crash p b ∷ []) n)) (crash_life (life_of marks n) p n b other)
+
+interrupted_ending : (e : Ending) (p n brick : ℕ) (b : BrickId) → IsUnended e → b.0 ≡ brick → onward e (Crash p b ∷ []) n brick ≡ Interrupted p
+interrupted_ending (Answered q a) p n brick b is at = absurd is
+interrupted_ending (Interrupted q) p n brick b is at = absurd is
+interrupted_ending (Unended past) p n brick b is at = ap (λ (t : Bool). cond t (Interrupted p) (Unended (p + 1))) (eq-eqb b.0 brick at)
+
+-- a Crash of the brick of an open operation interrupts it
+pub life_of-crash : (marks : List Mark) (p n : ℕ) (b : BrickId) (life : Life) → life_of marks n ≡ Some life → IsUnended life.ending → b.0 ≡ life.brick
+    → life_of (marks ++ (Crash p b ∷ [])) n ≡ Some (with_ending life (Interrupted p))
+life_of-crash marks p n b life is open' at =
+    life_of-append marks (Crash p b ∷ []) n
+    ∙ ap (λ (l : Option Life). life_onward l (Crash p b ∷ []) n) is
+    ∙ ap (λ (e : Ending). Some (with_ending life e)) (interrupted_ending life.ending p n life.brick b open' at)
+
+crash_none : (old : Option Life) (p n : ℕ) (b : BrickId) (life : Life) → life_onward old (Crash p b ∷ []) n ≡ Some life → (l : Life) × (old ≡ Some l)
+crash_none None p n b life is = absurd (let never : None ≡ Some life = is in cc)
+crash_none (Some l) p n b life is = (l, refl)
+
+-- what lives after a Crash lived before
+pub lived_before_crash : (marks : List Mark) (p n : ℕ) (b : BrickId) (life : Life) → life_of (marks ++ (Crash p b ∷ [])) n ≡ Some life
+    → (l : Life) × (life_of marks n ≡ Some l)
+lived_before_crash marks p n b life is = crash_none (life_of marks n) p n b life (sym (life_of-append marks (Crash p b ∷ []) n) ∙ is)
+
+-- an ending is open, or is not
+pub cases_open : (e : Ending) → IsUnended e ⊎ (IsUnended e → ⊥)
+cases_open (Answered p answer) = inr (λ is. is)
+cases_open (Interrupted p) = inr (λ is. is)
+cases_open (Unended past) = inl tt
 
 -- what lives after more marks lived before, where the marks left it alone
 pub Stays-before : (old later : Option Life) (life : Life) → Stays old later → later ≡ Some life → (l : Life) × (old ≡ Some l)

@@ -130,3 +130,13 @@ well_formed_begin marks p n b ask well places above = record {
       (sym (begun_numbers-append marks (Begin p n b ask ∷ []))) (increasing_push (begun_numbers marks) n well.numbers_rise above);
   ends_are_of_open = ends_push marks (Begin p n b ask) well.ends_are_of_open (λ q k a is. absurd (let never : Begin p n b ask ≡ End q k a = is in cc));
 }
+
+-- a Crash keeps marks well formed
+pub well_formed_crash : (marks : List Mark) (p : ℕ) (b : BrickId) → IsWellFormed marks → Places (marks ++ (Crash p b ∷ []))
+    → IsWellFormed (marks ++ (Crash p b ∷ []))
+well_formed_crash marks p b well places = record {
+  positions_rise = positions_rise (marks ++ (Crash p b ∷ [])) places;
+  numbers_rise = subst (λ (xs : List ℕ). IsStrictlyIncreasing xs)
+      (sym (begun_numbers-append marks (Crash p b ∷ []) ∙ append-nil (begun_numbers marks))) well.numbers_rise;
+  ends_are_of_open = ends_push marks (Crash p b) well.ends_are_of_open (λ q k a is. absurd (let never : Crash p b ≡ End q k a = is in cc));
+}

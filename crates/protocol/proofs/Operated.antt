@@ -19,19 +19,21 @@ use Rattle.protocol.proofs.Said.{Stamping, Said, StampsSay, IsMadeOrFirst, Packe
 use Rattle.protocol.proofs.Tables.{put_each, get_grown}
 use Rattle.protocol.proofs.Stampings.{StampsGrow}
 use Rattle.protocol.proofs.Growth.{Grows, Continues, continues_same}
-use Rattle.protocol.proofs.Steps.{keeps_same, parts_by, sent_by, said_after}
+use Rattle.protocol.proofs.Steps.{KeepsStamps, keeps_same, parts_by, sent_by, calls_by, said_after}
 
 -- the world after an operation changed
 abbrev pub operated : World → BrickId → Node → List Packet → List Mark → ℕ → Operation → (ℕ → ℕ → Stamp → List ℕ) → World
 operated w me node more marks n p contents =
     record {
       nodes = put w.nodes me.0 node;
+      up = w.up;
       clocks = w.clocks;
       packets = w.packets ++ more;
       marks = marks;
       begun = w.begun;
       operations = put w.operations n (Some p);
       numbers = w.numbers;
+      past = w.past;
       contents = contents;
       replies = w.replies;
     }
@@ -39,8 +41,7 @@ operated w me node more marks n p contents =
 -- what such a change keeps: operation n was o, is open, and goes on as p
 pub record OperatedKeeps (w : World) (me : BrickId) (node : Node) (marks : List Mark) (n : ℕ) (o p : Operation) (contents : ℕ → ℕ → Stamp → List ℕ) : Type 0 where
   pub replicas : node.replicas ≡ (w.nodes me.0).replicas
-  pub seq : node.seq ≡ (w.nodes me.0).seq
-  pub known : (w.nodes me.0).known ≤ node.known
+  pub boot : node.boot ≡ (w.nodes me.0).boot
   pub is : IsOperation w n o
   pub continues : Continues o p
   pub kept : (g s : ℕ) (t : Stamp) → IsMadeOrFirst w g s t → contents g s t ≡ w.contents g s t
@@ -74,7 +75,7 @@ module _ (setting : Setting) (w : World) (stamps later : Stamping) (me : BrickId
     operations = goes_on;
     contents = keeps.kept;
     grow = grow;
-    numbered = λ i k within. refl;
+    numbered = λ i b k within. refl;
     marks = keeps.longer;
   }
 
@@ -109,10 +110,10 @@ module _ (setting : Setting) (w : World) (stamps later : Stamping) (me : BrickId
 pub record OperatedOwes (setting : Setting) (w next : World) (stamps later : Stamping) (me : BrickId) (node : Node) (more : List Packet) (n : ℕ)
     (p : Operation) : Type 0 where
   pub stamps_say : StampsSay next later
-  pub stamps_other : (i k : ℕ) → i ≢ me.0 → (q : ℕ) → later i k q ≡ stamps i k q
+  pub stamps_other : (i b k : ℕ) → i ≢ me.0 → KeepsStamps stamps later i b k
   pub operation : OperationSays setting next later n p
   pub calls : (k : ℕ) (c : Coordinator) → node.calls k ≡ Some c
-      → (((w.nodes me.0).calls k ≡ Some c) × ((q : ℕ) → later me.0 k q ≡ stamps me.0 k q)) ⊎ CallSays setting next later me.0 k c
+      → (((w.nodes me.0).calls k ≡ Some c) × KeepsStamps stamps later me.0 (w.nodes me.0).boot k) ⊎ CallSays setting next later me.0 k c
   pub packets : (k : ℕ) (packet : Packet) → slice_get more k ≡ Some packet → PacketSays setting next later packet
   pub ends : (k q a : ℕ) (answer : Answer) → slice_get next.marks k ≡ Some (End q a answer)
       → (slice_get w.marks k ≡ Some (End q a answer)) ⊎ EndShows next a answer
@@ -141,9 +142,7 @@ said_operated setting w stamps later me node more marks n o p contents books sai
           (λ is. let same : p ≡ e = cc in inr (subst (λ (z : Operation). OperationSays setting after later n z) same owes.operation))
           (λ i other is. inl is) a;
       calls = λ i k c.
-          put_each (λ j x. x.calls k ≡ Some c
-          → (((w.nodes j).calls k ≡ Some c) × ((q : ℕ) → later j k q ≡ stamps j k q)) ⊎ CallSays setting after later j k c)
-          w.nodes me.0 node (owes.calls k c) (λ j other is. inl (is, owes.stamps_other j k other)) i;
+          calls_by setting w after stamps later me.0 node refl keeps.boot k c (owes.calls k c) (λ j other. owes.stamps_other j (w.nodes j).boot k other) i;
       ends = owes.ends;
       order = stays_in_order setting w stamps later me node more marks n o p contents keeps said;
     })

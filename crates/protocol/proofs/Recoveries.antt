@@ -77,9 +77,10 @@ module _ (setting : Setting) (sound : IsSound setting) (w : World) (stamps : Sta
   first_under : stamp_below first_stamp bound ≡ true
   first_under = ⊎_elim
       (λ (own : (c.phase ≡ Recovers) × (bound ≡ c.stamp)).
-      let its_stamp : IsStampOf (w.nodes me.0).known me.0 c.stamp
-      = said.stamps_say.are me.0 c.call.seq c.call.phase c.stamp (c.phase, (said.calls me.0 c.call.seq c is).begun) in
-      subst (λ (t : Stamp). stamp_below first_stamp t ≡ true) (sym own.1) (above_first c.stamp (not_first (w.nodes me.0).known me.0 c.stamp its_stamp)))
+      let its_stamp : IsStampOf (w.nodes me.0) me.0 (w.nodes me.0).boot c.stamp
+      = said.stamps_say.are me.0 (w.nodes me.0).boot c.call.seq c.call.phase c.stamp (c.phase, (said.calls me.0 c.call.seq c is).begun) in
+      subst (λ (t : Stamp). stamp_below first_stamp t ≡ true) (sym own.1)
+      (above_first c.stamp (not_first (w.nodes me.0) me.0 (w.nodes me.0).boot c.stamp its_stamp)))
       (λ (lower : c.phase ≡ Descends bound). (said.calls me.0 c.call.seq c is).above bound lower)
       looks
 

@@ -16,18 +16,18 @@ use Rattle.fab_wire.specs.declared.messages.Message.TheVariants as Message
 use Rattle.fab_wire.specs.declared.replies.Reply.{Reply}
 use Rattle.protocol.specs.Settings.{Setting, Code, Group, group_of, quorum_of, IsSound, seat_in}
 use Rattle.protocol.specs.Replicas.{is_held}
-use Rattle.protocol.specs.Coordinators.{Coordinator, Refuser, Phase, Looks, Orders, Recovers, Descends, Stores, Next, Waits, Sends, Makes, Ends, answers_phase, has_seat, counts_at, fast_version, pieces_of, pieces_at, greatest_found, greatest_refuser, stored_by, in_phase, restoring, reordering, most_rounds, aborted_by, unless_refused, ordered_again, once_ordered, answered_fast, read_back, answer_of, decided, with_reply, once_full, counted_at, on_reply}
+use Rattle.protocol.specs.Coordinators.{Coordinator, Refuser, Phase, Looks, Orders, Recovers, Descends, Stores, Next, Waits, Sends, Makes, Ends, answers_phase, has_seat, counts_at, fast_version, pieces_of, pieces_at, greatest_found, greatest_refuser, stored_by, in_phase, restoring, reordering, most_rounds, aborted_by, unless_refused, ordered_again, once_ordered, answered_fast, read_back, answer_of, decided, with_reply, once_full, counted_at, on_reply, request_of}
 use Rattle.protocol.specs.Nodes.{Node, with_known, with_call, carried_out}
-use Rattle.protocol.specs.Worlds.{World, Operation, world_stepped}
+use Rattle.protocol.specs.Worlds.{World, Operation, number_of, world_stepped}
 use Rattle.protocol.specs.Laws.{WasSent, part_of, brick_at, AtQuorum, IsGuarded, IsBlocked}
 use Rattle.protocol.proofs.Books.{Books, CallBooks, IsUnmade, MadeInPhase, IsCall}
 use Rattle.protocol.proofs.Said.{Stamping, Said, IsSaid, AreBlocked, IsContent, IsMadeOrFirst, IsStampOf, EachCounted, AreOnce, FitsPhase, FloorsAtMost, HasVersion, CountedSays, CallSays}
-use Rattle.protocol.proofs.Tables.{put_each}
+use Rattle.protocol.proofs.Tables.{put_each, put_same}
 use Rattle.protocol.proofs.CountsAt.{CountsAt, counts_facts}
 use Rattle.protocol.proofs.Counting.{each_then, each_more, once_more}
-use Rattle.protocol.proofs.Stampings.{ComesFrom, stamps_same, later_unknown}
+use Rattle.protocol.proofs.Stampings.{ComesFrom, ages_within, stamp_stays, stamps_same, later_unknown}
 use Rattle.protocol.proofs.Growth.{Grows, stays_call}
-use Rattle.protocol.proofs.Steps.{keeps_same, quiet, quiet_grows, said_quiet, stamps_stay_by}
+use Rattle.protocol.proofs.Steps.{KeepsStamps, keeps_same, quiet, quiet_grows, said_quiet, stamps_stay_by}
 use Rattle.protocol.proofs.Decisions.{PromisesAt, ReadsAt, LooksBelow, all_ordered, all_read, promises_guard, promises_floors, stored_stands, fast_guards, fast_floors, fast_stands, fast_made, fast_decodes, content_formed}
 use Rattle.protocol.proofs.Recoveries.{something_found, version_lower, version_above, version_made, between_blocked, too_few_blocked, read_decodes}
 use Rattle.protocol.proofs.Stores.{said_made}
@@ -40,8 +40,10 @@ pub said_known : (setting : Setting) (w : World) (stamps : Stamping) (me : Brick
 said_known setting w stamps me known books said more =
     said_quiet setting w stamps stamps me (with_known (w.nodes me.0) known) [] books said (stamps_same stamps) (record {
       keeps = keeps_same (w.nodes me.0) (with_known (w.nodes me.0) known) refl;
-      stamps_say = stamps_stay_by setting w (quiet w me (with_known (w.nodes me.0) known) []) stamps me.0 (with_known (w.nodes me.0) known) said refl refl more;
-      stamps_other = λ i k other p. refl;
+      boot = refl;
+      stamps_say = stamps_stay_by setting w (quiet w me (with_known (w.nodes me.0) known) []) stamps me.0 (with_known (w.nodes me.0) known) said refl
+          (ages_within (w.nodes me.0) (with_known (w.nodes me.0) known) refl more (omega arith));
+      stamps_other = λ i b k other p. refl;
       tops = λ g s. inl refl;
       logs = λ g s k version is. inl is;
       calls = λ k c is. inl (is, λ p. refl);
@@ -77,7 +79,8 @@ decided_stores code m fresh c is = rw is
 module _ (setting : Setting) (sound : IsSound setting) (w : World) (stamps : Stamping) (me : BrickId) (c : Coordinator) (group : Group) (known : ℕ)
     (books : Books setting w) (said : Said setting w stamps) (is : IsCall w me.0 c.call.seq c)
     (group_is : group_of setting.layout c.ask.group.0 ≡ Some group) (more_known : (w.nodes me.0).known ≤ known) (fresh : Option Stamp)
-    (fresh_is : (t : Stamp) → fresh ≡ Some t → IsStampOf t.time me.0 t × ((w.nodes me.0).known < t.time)) where
+    (fresh_is : (t : Stamp) → fresh ≡ Some t
+    → IsStampOf (with_known (w.nodes me.0) t.time) me.0 (w.nodes me.0).boot t × ((w.nodes me.0).known < t.time)) where
   abbrev its : CallBooks setting w me.0 c.call.seq c
   its = books.calls me.0 c.call.seq c is
 
@@ -101,17 +104,20 @@ module _ (setting : Setting) (sound : IsSound setting) (w : World) (stamps : Sta
         stamps,
         said_quiet setting w stamps stamps me node [] books said (stamps_same stamps) (record {
           keeps = keeps_same (w.nodes me.0) node refl;
-          stamps_say = stamps_stay_by setting w (quiet w me node []) stamps me.0 node said refl refl more_known;
-          stamps_other = λ i k other p. refl;
+          boot = refl;
+          stamps_say = stamps_stay_by setting w (quiet w me node []) stamps me.0 node said refl
+              (ages_within (w.nodes me.0) node refl more_known (omega arith));
+          stamps_other = λ i b k other p. refl;
           tops = λ g s. inl refl;
           logs = λ g s k version at. inl at;
           calls = λ k e.
               put_each (λ j x. x ≡ Some e
-              → (((w.nodes me.0).calls j ≡ Some e) × ((p : ℕ) → stamps me.0 j p ≡ stamps me.0 j p)) ⊎ CallSays setting (quiet w me node []) stamps me.0 j e)
+              → (((w.nodes me.0).calls j ≡ Some e) × KeepsStamps stamps stamps me.0 (w.nodes me.0).boot j) ⊎ CallSays setting (quiet w me node []) stamps me.0 j e)
               (w.nodes me.0).calls c.call.seq (Some d)
               (λ at. let same : d ≡ e = cc in
               inr (subst (λ (z : Coordinator). CallSays setting (quiet w me node []) stamps me.0 c.call.seq z) same
-              (stays_call setting w (quiet w me node []) stamps stamps books grows me.0 c.call.seq d (λ p. refl) d_says)))
+              (stays_call setting w (quiet w me node []) stamps stamps books grows me.0 c.call.seq d
+              (ap (λ (x : Node). x.boot) (put_same w.nodes me.0 node)) (λ p. refl) d_says)))
               (λ j other at. inl (at, λ p. refl)) k;
           packets = λ k packet at. cc;
         }),
@@ -123,8 +129,8 @@ module _ (setting : Setting) (sound : IsSound setting) (w : World) (stamps : Sta
     stamps,
     said_ended setting w stamps me c group known books said is more_known (Aborted (Cause.Later r.brick r.stamp)) None None
         (λ v has. has)
-        (λ v has. (said.operations (w.numbers me.0 c.call.seq) o its.operation_is).version v has)
-        (λ v has how. (said.operations (w.numbers me.0 c.call.seq) o its.operation_is).stands v has (⊎_elim
+        (λ v has. (said.operations (number_of w me.0 c.call.seq) o its.operation_is).version v has)
+        (λ v has how. (said.operations (number_of w me.0 c.call.seq) o its.operation_is).stands v has (⊎_elim
         (λ (unmade : o.made ≡ false). inl unmade)
         (λ (bad : false ≡ true). absurd (false≢true bad))
         how))
@@ -160,9 +166,11 @@ module _ (setting : Setting) (sound : IsSound setting) (w : World) (stamps : Sta
 
     -- the coordinator goes on with the reply
     more_says : CallSays setting w stamps me.0 c.call.seq d
+    unfolding request_of
     more_says = record {
       begun = says.begun;
       last = says.last;
+      asked = says.asked;
       fits = says.fits;
       unbased = says.unbased;
       above = says.above;
@@ -213,18 +221,19 @@ module _ (setting : Setting) (sound : IsSound setting) (w : World) (stamps : Sta
           )
 
       -- the coordinator begins its next phase with its own stamp
-      own_of : IsStampOf (max known c.stamp.time) me.0 c.stamp
+      own_of : IsStampOf (with_known (w.nodes me.0) (max known c.stamp.time)) me.0 (w.nodes me.0).boot c.stamp
       own_of =
-          let at : IsStampOf (w.nodes me.0).known me.0 c.stamp = said.stamps_say.are me.0 c.call.seq c.call.phase c.stamp (c.phase, says.begun) in
-          record { view = at.view; boot = at.boot; brick = at.brick; positive = at.positive; bounded = omega (arith, at.bounded, more_known) }
+          stamp_stays (w.nodes me.0) (with_known (w.nodes me.0) (max known c.stamp.time)) me.0 (w.nodes me.0).boot c.stamp
+          (ages_within (w.nodes me.0) (with_known (w.nodes me.0) (max known c.stamp.time)) refl (omega arith) (omega arith))
+          (said.stamps_say.are me.0 (w.nodes me.0).boot c.call.seq c.call.phase c.stamp (c.phase, says.begun))
 
-      own_from : ComesFrom stamps me.0 c.call.seq c.stamp
+      own_from : ComesFrom stamps me.0 (w.nodes me.0).boot c.call.seq c.stamp
       own_from = inl (c.call.phase, (c.phase, says.begun))
 
       -- a read that saw no version told by all recovers
       looks_on : c.phase ≡ Looks → (z : Option Stamp) → fast_version d.counted ≡ z → IsSaid setting (after (answered_fast setting.code group.m d z))
       looks_on looks None fast =
-          said_sent setting w stamps me c group known books said is more_known c.stamp c.round Recovers own_of own_from
+          said_sent setting w stamps me c group known books said is group_is more_known c.stamp c.round Recovers own_of own_from
           (subst (λ (p : Phase). FitsPhase p c.ask.op) looks says.fits) (λ bad. cc) tt
       looks_on looks (Some v) fast = said_answers looks v fast
 
@@ -237,9 +246,16 @@ module _ (setting : Setting) (sound : IsSound setting) (w : World) (stamps : Sta
           let own = fresh_is t new in
           cond_both (nat_lt c.round most_rounds) (Sends (reordering d t)) (aborted_by r) (λ (z : Next). IsSaid setting (after z))
           (λ few.
-          said_sent setting w stamps me c group known books said is more_known t (c.round + 1) c.phase
-          (record { view = own.0.view; boot = own.0.boot; brick = own.0.brick; positive = own.0.positive; bounded = omega arith })
-          (inr (later_unknown w stamps said.stamps_say t.time me.0 t own.0 own.1))
+          said_sent setting w stamps me c group known books said is group_is more_known t (c.round + 1) c.phase
+          (record {
+            view = own.0.view;
+            boot = own.0.boot;
+            booted = own.0.booted;
+            brick = own.0.brick;
+            positive = own.0.positive;
+            bounded = λ now. omega arith;
+          })
+          (inr (later_unknown w stamps said.stamps_say (with_known (w.nodes me.0) t.time) me.0 t own.0 own.1))
           says.fits says.unbased (subst (λ (p : Phase). AsksPromises setting w c.ask.group.0 c.ask.stripe.0 t p) (sym same) (asks t)))
           (λ all. said_aborts r)
 
@@ -292,7 +308,7 @@ module _ (setting : Setting) (sound : IsSound setting) (w : World) (stamps : Sta
 
           descends_on : length (pieces_at v d.counted) < group.m → IsSaid setting (after (Sends (in_phase d (Descends v))))
           descends_on few =
-              said_sent setting w stamps me c group known books said is more_known c.stamp c.round (Descends v) own_of own_from
+              said_sent setting w stamps me c group known books said is group_is more_known c.stamp c.round (Descends v) own_of own_from
               reads (λ bad. absurd (let never : ⊥ = cc in never)) (
                 version_above setting sound w stamps me c group books said is group_is d.counted each once many bound looks all v greatest few,
                 lower,
@@ -363,7 +379,7 @@ module _ (setting : Setting) (sound : IsSound setting) (w : World) (stamps : Sta
             stamps,
             said_ended setting w stamps me c group known books said is more_known (answer_of c.ask.op c.content) None (Some c.stamp)
                 (λ v has. has)
-                (λ v has. (said.operations (w.numbers me.0 c.call.seq) o its.operation_is).version v has)
+                (λ v has. (said.operations (number_of w me.0 c.call.seq) o its.operation_is).version v has)
                 (λ v has how other other_is.
                 let same : c.stamp ≡ v = same_Some c.stamp v (sym made.0 ∙ has) in
                 let group_same : group ≡ other = same_Some group other (sym its_group ∙ other_is) in

@@ -1,6 +1,7 @@
 -- A member handles a request: what its part of the stripe, and its reply, then say.
-use Rattle.std.proofs.Common.{◌≡◌, ℕ, ◌⊎◌, inl, inr, true, false, Option, Some, None, refl, sym, ap, ◌∙◌, subst, ⊎_elim, arith}
+use Rattle.std.proofs.Common.{◌≡◌, ℕ, ◌⊎◌, inl, inr, true, false, ◌&&◌, List, Option, Some, None, refl, sym, ap, ◌∙◌, subst, ⊎_elim, arith}
 use Rattle.std.specs.Prelude.{slice_get}
+use Rattle.std.proofs.lemmas.Bool.{cond_both}
 use Rattle.fab_base.specs.declared.identities.BrickId.{BrickId}
 use Rattle.fab_base.specs.declared.stamps.Stamp.{Stamp}
 use Rattle.fab_base.specs.Stamps.{stamp_below}
@@ -15,10 +16,10 @@ use Rattle.fab_wire.specs.declared.requests.Want.TheVariants.{All}
 use Rattle.fab_wire.specs.declared.requests.Request.{Request}
 use Rattle.fab_wire.specs.declared.requests.Version.{Version}
 use Rattle.fab_wire.specs.declared.replies.Reply.{Reply}
-use Rattle.protocol.specs.Settings.{Setting}
-use Rattle.protocol.specs.Replicas.{Replica, newest_of, top_of, is_held, stamp_max, below}
+use Rattle.protocol.specs.Settings.{Setting, Group, group_of, seat_in}
+use Rattle.protocol.specs.Replicas.{Replica, newest_of, top_of, is_held, stamp_max, below, handle}
 use Rattle.protocol.specs.Coordinators.{Orders, Recovers, Descends, Stores}
-use Rattle.protocol.specs.Nodes.{Node, put, with_replica, reply_packets}
+use Rattle.protocol.specs.Nodes.{Node, NodeStep, put, no_step, with_replica, replica_at, reply_packets, reacted, requested_at, is_served, fits_block, requested_in, requested}
 use Rattle.protocol.specs.Worlds.{World, Operation}
 use Rattle.protocol.specs.Laws.{WasSent, AskedAt, part_of}
 use Rattle.protocol.proofs.Books.{Books}
@@ -26,9 +27,25 @@ use Rattle.protocol.proofs.Said.{Stamping, Said, IsRecovery, IsKnown, IsCalled, 
 use Rattle.protocol.proofs.Tables.{put_each, put_same, get_one}
 use Rattle.protocol.proofs.Logs.{LogAscends, IsWithin, newest_stands, newest_held, newest_below, newest_stands_below}
 use Rattle.protocol.proofs.Reactions.{IsAfter, IsAsked, ReactionSays, SaysIf, with_order, top_promised, after_top, after_held, after_newer, after_ascends, after_asked, after_log, top_is}
-use Rattle.protocol.proofs.Stampings.{stamps_same}
+use Rattle.protocol.proofs.Stampings.{ages_within, stamps_same}
 use Rattle.protocol.proofs.Growth.{Grows, Continues, stays_version, stays_called, stays_found}
 use Rattle.protocol.proofs.Steps.{KeepsParts, quiet, quiet_grows, said_quiet, stamps_stay_by}
+
+-- a brick ignores a request, or handles it at its seat
+pub request_each : (P : NodeStep → Type 0) (setting : Setting) (me from : BrickId) (node : Node) (call : Call) (request : Request) → P (no_step node)
+    → ((seat : ℕ) → P (reacted me from node call (handle seat (replica_at node call) request))) → P (requested setting me from node call request)
+unfolding requested
+request_each P setting me from node call request ignored handled = in_group (group_of setting.layout call.group.0)
+  where
+    at_seat : (z : Option ℕ) → P (requested_at me from node call request z)
+    at_seat None = ignored
+    at_seat (Some seat) = handled seat
+
+    in_group : (z : Option Group) → P (requested_in setting.layout.block me from node call request z)
+    in_group None = ignored
+    in_group (Some group) =
+        cond_both (is_served group call && fits_block setting.layout.block request) (requested_at me from node call request (seat_in group.members me.0))
+        (no_step node) P (λ is. at_seat (seat_in group.members me.0)) (λ isnt. ignored)
 
 -- what holds of the changed part, and of each part as it was
 pub parts_each : (Q : ℕ → ℕ → Replica → Type 0) (node : Node) (call : Call) (part : Replica) → Q call.group.0 call.stripe.0 part
@@ -70,7 +87,7 @@ module _ (setting : Setting) (w : World) (stamps : Stamping) (me from : BrickId)
 
   -- what is asked below a bound
   read_asks : (t : Stamp) (look : Look) (want : Want) → RequestSays setting w stamps from.0 me.0 call (Request.OrderRead t look want)
-      → (bound : Stamp) × (look ≡ Below bound) × (want ≡ All) × IsRecovery stamps from.0 call.seq call.phase bound t
+      → (bound : Stamp) × (look ≡ Below bound) × (want ≡ All) × IsRecovery stamps from.0 call.boot call.seq call.phase bound t
       × ((o : Operation) × IsCalled w from.0 call o)
   read_asks t (Below bound) want says = (bound, refl, says.0, says.1, says.2)
   read_asks t (At u) want says = absurd says
@@ -83,30 +100,30 @@ module _ (setting : Setting) (w : World) (stamps : Stamping) (me from : BrickId)
   sent_as r is = subst (λ (z : Request). WasSent w (record { from = from; to = me; message = Message.Request call z })) is sent
 
   -- a stamp that is asked for is known
-  recovery_known : (bound t : Stamp) → IsRecovery stamps from.0 call.seq call.phase bound t → IsKnown stamps t
-  recovery_known bound t (inl own) = inr (from.0, call.seq, call.phase, (Recovers, own.1))
-  recovery_known bound t (inr lower) = inr (from.0, call.seq, call.phase, (Descends bound, lower.1))
+  recovery_known : (bound t : Stamp) → IsRecovery stamps from.0 call.boot call.seq call.phase bound t → IsKnown stamps t
+  recovery_known bound t (inl own) = inr (from.0, call.boot, call.seq, call.phase, (Recovers, own.1))
+  recovery_known bound t (inr lower) = inr (from.0, call.boot, call.seq, call.phase, (Descends bound, lower.1))
 
   asked_known : (t : Stamp) → IsAsked request t → IsKnown stamps t
   asked_known t (inl (inl is)) =
       let says : RequestSays setting w stamps from.0 me.0 call (Request.Order t) = asks_as (Request.Order t) is in
-      inr (from.0, call.seq, call.phase, (Orders, says.0))
+      inr (from.0, call.boot, call.seq, call.phase, (Orders, says.0))
   asked_known t (inl (inr is)) =
       let asked = read_asks t is.0 is.1 (asks_as (Request.OrderRead t is.0 is.1) is.2) in recovery_known asked.0 t asked.3
   asked_known t (inr is) =
       let says : WriteSays setting w stamps from.0 me.0 call t is.0 = asks_as (Request.Write t is.0) is.1 in
-      inr (from.0, call.seq, call.phase, (Stores, says.begun))
+      inr (from.0, call.boot, call.seq, call.phase, (Stores, says.begun))
 
-  module _ (part : Replica) (reply : Option Reply) (after : IsAfter before request part) (tells : SaysIf before request part reply) where
-    -- the world after it
+  module _ (part : Replica) (more : List Packet) (after : IsAfter before request part) where
+    -- the world after it, where these packets are sent
     abbrev next : World
-    next = quiet w me (with_replica (w.nodes me.0) call part) (reply_packets me from call reply)
+    next = quiet w me (with_replica (w.nodes me.0) call part) more
 
     keeps : KeepsParts (w.nodes me.0) (with_replica (w.nodes me.0) call part)
     keeps = parts_keep (w.nodes me.0) call request part after
 
     grows : Grows w next stamps stamps
-    grows = quiet_grows w stamps stamps me (with_replica (w.nodes me.0) call part) (reply_packets me from call reply) (stamps_same stamps) keeps
+    grows = quiet_grows w stamps stamps me (with_replica (w.nodes me.0) call part) more (stamps_same stamps) keeps
 
     tops : (g s : ℕ) → (top_of ((with_replica (w.nodes me.0) call part).replicas g s) ≡ top_of ((w.nodes me.0).replicas g s))
         ⊎ IsKnown stamps (top_of ((with_replica (w.nodes me.0) call part).replicas g s))
@@ -124,7 +141,7 @@ module _ (setting : Setting) (w : World) (stamps : Stamping) (me from : BrickId)
         let says : WriteSays setting w stamps from.0 me.0 call version.stamp version.block
         = subst (λ (r : Request). RequestSays setting w stamps from.0 me.0 call r) is asks in
         record {
-          made = inr (w.numbers from.0 call.seq, says.operation, says.called.is, says.called.group, says.called.stripe, says.made, says.version);
+          made = inr (w.numbers from.0 call.boot call.seq, says.operation, says.called.is, says.called.group, says.called.stripe, says.made, says.version);
           block = says.is_block;
         }
 
@@ -150,7 +167,7 @@ module _ (setting : Setting) (w : World) (stamps : Stamping) (me from : BrickId)
     floor_below : (o : Operation) → IsCalled w from.0 call o → stamp_below (top_of before) (o.floor me.0) ≡ false
     floor_below o called =
         let floors : stamp_below (top_of (part_of w o.ask.group.0 o.ask.stripe.0 me.0)) (o.floor me.0) ≡ false
-        = (said.operations (w.numbers from.0 call.seq) o called.is).floors me.0 in
+        = (said.operations (w.numbers from.0 call.boot call.seq) o called.is).floors me.0 in
         let in_group : stamp_below (top_of (part_of w call.group.0 o.ask.stripe.0 me.0)) (o.floor me.0) ≡ false
         = subst (λ (g : ℕ). stamp_below (top_of (part_of w g o.ask.stripe.0 me.0)) (o.floor me.0) ≡ false) called.group floors in
         subst (λ (s : ℕ). stamp_below (top_of (part_of w call.group.0 s me.0)) (o.floor me.0) ≡ false) called.stripe in_group
@@ -256,22 +273,26 @@ module _ (setting : Setting) (w : World) (stamps : Stamping) (me from : BrickId)
     reply_says (Reply.Later x) told = (told.0, later_asked told.0 told.1, told.2)
     reply_says r told = tt
 
-    packets : (o : Option Reply) → SaysIf before request part o → (k : ℕ) (packet : Packet) → slice_get (reply_packets me from call o) k ≡ Some packet
+    -- its reply says what it should
+    pub reply_packets_say : (o : Option Reply) → SaysIf before request part o → (k : ℕ) (packet : Packet) → slice_get (reply_packets me from call o) k ≡ Some packet
         → PacketSays setting next stamps packet
-    packets None says k packet is = cc
-    packets (Some r) says k packet is =
+    reply_packets_say None says k packet is = cc
+    reply_packets_say (Some r) says k packet is =
         subst (λ (p : Packet). PacketSays setting next stamps p) (get_one (record { from = me; to = from; message = Message.Reply call r }) packet k is)
         (reply_says r says)
 
-    -- a member's step on a request keeps the invariant
-    pub said_after_request : Said setting next stamps
-    said_after_request =
-        said_quiet setting w stamps stamps me (with_replica (w.nodes me.0) call part) (reply_packets me from call reply) books said (stamps_same stamps) (record {
+    -- a member's step on a request keeps the invariant, where what it sends says what it should
+    pub said_after_request : ((k : ℕ) (packet : Packet) → slice_get more k ≡ Some packet → PacketSays setting next stamps packet)
+        → Said setting next stamps
+    said_after_request packets_say =
+        said_quiet setting w stamps stamps me (with_replica (w.nodes me.0) call part) more books said (stamps_same stamps) (record {
           keeps = keeps;
-          stamps_say = stamps_stay_by setting w next stamps me.0 (with_replica (w.nodes me.0) call part) said refl refl (omega arith);
-          stamps_other = λ i k other p. refl;
+          boot = refl;
+          stamps_say = stamps_stay_by setting w next stamps me.0 (with_replica (w.nodes me.0) call part) said refl
+              (ages_within (w.nodes me.0) (with_replica (w.nodes me.0) call part) refl (omega arith) (omega arith));
+          stamps_other = λ i b k other p. refl;
           tops = tops;
           logs = logs;
           calls = λ k c is. inl (is, λ p. refl);
-          packets = packets reply tells;
+          packets = packets_say;
         })

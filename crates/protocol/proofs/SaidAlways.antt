@@ -1,5 +1,7 @@
 -- What is said is so in every world that a run reaches.
-use Rattle.std.proofs.Common.{◌≡◌, ℕ, ◌<◌, ◌≤◌, zero, suc, inl, true, false, List, [], ◌∷◌, replicate, Option, Some, None, refl, sym, ap, ◌∙◌, subst, arith}
+use Rattle.std.proofs.Common.{◌≡◌, ℕ, ◌<◌, ◌≤◌, zero, suc, ◌+◌, inl, true, false, List, [], ◌∷◌, ◌++◌, length, replicate, Option, Some, None, refl, sym, ap, ◌∙◌, subst, ⊎_elim, arith}
+use Rattle.std.specs.Prelude.{slice_get}
+use Rattle.std.proofs.lemmas.List.{append-nil, length-append}
 use Rattle.std.proofs.lemmas.Bool.{cond_both, cond-false, false≢true, or_left}
 use Rattle.fab_base.specs.declared.identities.BrickId.{BrickId}
 use Rattle.fab_base.specs.declared.stamps.Stamp.{Stamp}
@@ -12,20 +14,25 @@ use Rattle.fab_wire.specs.declared.messages.Packet.{Packet}
 use Rattle.fab_wire.specs.declared.requests.Request.{Request}
 use Rattle.fab_wire.specs.declared.requests.Version.{Version}
 use Rattle.fab_wire.specs.declared.replies.Reply.{Reply}
-use Rattle.protocol.specs.Settings.{Setting, Group, group_of, IsSound, seat_in}
-use Rattle.protocol.specs.Replicas.{first_replica, top_of, handle}
+use Rattle.reg_model.specs.declared.marks.Mark.{Mark}
+use Rattle.reg_model.specs.declared.marks.Mark.TheVariants.{End, Crash}
+use Rattle.protocol.specs.Settings.{Setting, Group, group_of, IsSound}
+use Rattle.protocol.specs.Replicas.{Reaction, first_replica, top_of, handle}
 use Rattle.protocol.specs.Coordinators.{Coordinator, Counted}
-use Rattle.protocol.specs.Nodes.{NodeStep, put, new_stamp, fresh_stamp, no_step, began, invoked, requested_at, requested_in, requested, known_after, replied_to, replied_at, replied, received}
-use Rattle.protocol.specs.Worlds.{World, Event, Invokes, Delivers, Sets, replies_with, first_world, zero_content, is_brick, may_begin, world_began, world_stepped, delivered, packet_of, happens, run}
+use Rattle.protocol.specs.Nodes.{Node, NodeStep, put, with_known, reply_packets, absorbed, ticked, stopped, restarted, new_stamp, fresh_stamp, no_step, began, invoked, requested, known_after, replied_to, replied_at, replied, received}
+use Rattle.protocol.specs.Worlds.{World, Event, Invokes, Delivers, Sets, Ticks, Crashes, Starts, Absorbs, replies_with, first_world, zero_content, is_brick, is_up, may_start, world_ticked, world_stopped, world_started, world_absorbed, may_begin, world_began, world_stepped, delivered, packet_of, happens, run}
 use Rattle.protocol.specs.Laws.{WasSent, part_of}
 use Rattle.protocol.proofs.Books.{Books, IsCall}
 use Rattle.protocol.proofs.Said.{Stamping, Said, IsSaid, IsStampOf, VersionSays}
 use Rattle.protocol.proofs.BooksQuiet.{books_quiet}
-use Rattle.protocol.proofs.BooksEvents.{known_grows, fresh_is, BeginFits, begin_fits}
-use Rattle.protocol.proofs.Tables.{get_one}
+use Rattle.protocol.proofs.BooksEvents.{known_grows, fresh_is, BeginFits, begin_fits, start_fits}
+use Rattle.protocol.proofs.Tables.{get_one, get_kept, get_grown}
+use Rattle.protocol.proofs.Lives.{last_grows}
+use Rattle.protocol.proofs.Stampings.{ages_within}
 use Rattle.protocol.proofs.Reactions.{top_is, handle_after, handle_says}
-use Rattle.protocol.proofs.Steps.{said_beside}
-use Rattle.protocol.proofs.Requests.{said_after_request}
+use Rattle.protocol.proofs.Steps.{quiet, said_beside, said_added, said_idle}
+use Rattle.protocol.proofs.Requests.{request_each, said_after_request, reply_packets_say}
+use Rattle.protocol.proofs.Sends.{ticked_was_sent}
 use Rattle.protocol.proofs.Replies.{said_known, said_after_reply}
 use Rattle.protocol.proofs.Begins.{said_began}
 
@@ -42,29 +49,36 @@ nothing_said setting w stamps me books said = said_known setting w stamps me (w.
 request_said : (setting : Setting) (w : World) (stamps : Stamping) (me from : BrickId) (call : Call) (request : Request) → Books setting w
     → Said setting w stamps → WasSent w (record { from = from; to = me; message = Message.Request call request })
     → Said setting (stepped w me (requested setting me from (w.nodes me.0) call request)) stamps
-unfolding requested
-request_said setting w stamps me from call request books said sent = in_group (group_of setting.layout call.group.0)
-  where
-    at_seat : (z : Option ℕ) → Said setting (stepped w me (requested_at me from (w.nodes me.0) call request z)) stamps
-    at_seat None = nothing_said setting w stamps me books said
-    at_seat (Some seat) =
-        said_after_request setting w stamps me from call request books said sent
-        (handle seat (part_of w call.group.0 call.stripe.0 me.0) request).replica
-        (handle seat (part_of w call.group.0 call.stripe.0 me.0) request).reply
-        (handle_after seat (part_of w call.group.0 call.stripe.0 me.0) request)
-        (handle_says seat (part_of w call.group.0 call.stripe.0 me.0) request)
+request_said setting w stamps me from call request books said sent =
+    request_each (λ step. Said setting (stepped w me step) stamps) setting me from (w.nodes me.0) call request
+    (nothing_said setting w stamps me books said)
+    (λ seat.
+    let reaction : Reaction = handle seat (part_of w call.group.0 call.stripe.0 me.0) request in
+    let after = handle_after seat (part_of w call.group.0 call.stripe.0 me.0) request in
+    said_after_request setting w stamps me from call request books said sent reaction.replica (reply_packets me from call reaction.reply) after
+    (reply_packets_say setting w stamps me from call request books said sent reaction.replica (reply_packets me from call reaction.reply) after
+    reaction.reply (handle_says seat (part_of w call.group.0 call.stripe.0 me.0) request)))
 
-    in_group : (z : Option Group) → Said setting (stepped w me (requested_in me from (w.nodes me.0) call request z)) stamps
-    in_group None = nothing_said setting w stamps me books said
-    in_group (Some group) = at_seat (seat_in group.members me.0)
+-- a request is handled, and its reply is lost
+request_kept : (setting : Setting) (w : World) (stamps : Stamping) (me from : BrickId) (call : Call) (request : Request) → Books setting w
+    → Said setting w stamps → WasSent w (record { from = from; to = me; message = Message.Request call request })
+    → Said setting (quiet w me (requested setting me from (w.nodes me.0) call request).node []) stamps
+request_kept setting w stamps me from call request books said sent =
+    request_each (λ step. Said setting (quiet w me step.node []) stamps) setting me from (w.nodes me.0) call request
+    (nothing_said setting w stamps me books said)
+    (λ seat.
+    said_after_request setting w stamps me from call request books said sent (handle seat (part_of w call.group.0 call.stripe.0 me.0) request).replica []
+    (handle_after seat (part_of w call.group.0 call.stripe.0 me.0) request) (λ k packet at. cc))
 
 -- a fresh stamp is its brick's, and above all that it knows
 fresh_says : (setting : Setting) (w : World) (me : BrickId) (now known : ℕ) (t : Stamp) → Books setting w → (w.nodes me.0).known ≤ known
-    → fresh_stamp me now (w.nodes me.0).boot known ≡ Some t → IsStampOf t.time me.0 t × ((w.nodes me.0).known < t.time)
+    → fresh_stamp me now (w.nodes me.0).boot known ≡ Some t
+    → IsStampOf (with_known (w.nodes me.0) t.time) me.0 (w.nodes me.0).boot t × ((w.nodes me.0).known < t.time)
 fresh_says setting w me now known t books more is =
     let new : Stamp = new_stamp me now (w.nodes me.0).boot known in
-    subst (λ (z : Stamp). IsStampOf z.time me.0 z × ((w.nodes me.0).known < z.time)) (sym (fresh_is me now (w.nodes me.0).boot known t is).0)
-    (record { view = refl; boot = books.boots me.0; brick = refl; positive = omega arith; bounded = omega arith }, omega arith)
+    subst (λ (z : Stamp). IsStampOf (with_known (w.nodes me.0) z.time) me.0 (w.nodes me.0).boot z × ((w.nodes me.0).known < z.time))
+    (sym (fresh_is me now (w.nodes me.0).boot known t is).0)
+    (record { view = refl; boot = refl; booted = omega arith; brick = refl; positive = omega arith; bounded = λ now. omega arith }, omega arith)
 
 -- a reply is delivered
 reply_said : (setting : Setting) (w : World) (stamps : Stamping) (me from : BrickId) (now : ℕ) (call : Call) (reply : Reply) → IsSound setting
@@ -99,25 +113,83 @@ message_said setting w stamps me from now (Message.Reply call reply) sound books
     reply_said setting w stamps me from now call reply sound books said sent
 message_said setting w stamps me from now message sound books said sent = (stamps, nothing_said setting w stamps me books said)
 
--- the books do not change with the clocks, nor with the replies that count
-books_beside : (setting : Setting) (w : World) (clocks : ℕ → ℕ) (replies : ℕ → ℕ → List Counted) → Books setting w
-    → Books setting (record w { clocks = clocks; replies = replies })
-books_beside setting w clocks replies books =
-    books_quiet setting w w.nodes clocks w.packets replies books (λ i. record { boot = refl; seq = refl; known = omega arith }) (λ i k. refl)
+-- a message is handled, and no reply is sent
+absorbed_said : (setting : Setting) (w : World) (stamps : Stamping) (me from to : BrickId) (message : Message) → Books setting w → Said setting w stamps
+    → WasSent w (record { from = from; to = me; message = message })
+    → Said setting (quiet w me (absorbed setting me (w.nodes me.0) (record { from = from; to = to; message = message })) []) stamps
+unfolding absorbed
+absorbed_said setting w stamps me from to (Message.Request call request) books said sent = request_kept setting w stamps me from call request books said sent
+absorbed_said setting w stamps me from to message books said sent = nothing_said setting w stamps me books said
+
+-- the books do not change with the replies that count
+books_beside : (setting : Setting) (w : World) (replies : ℕ → ℕ → List Counted) → Books setting w → Books setting (record w { replies = replies })
+books_beside setting w replies books =
+    books_quiet setting w w.nodes w.clocks w.packets replies books (λ i. record { boot = refl; seq = refl; known = omega arith }) (λ i k. refl)
 
 delivered_said : (setting : Setting) (w : World) (stamps : Stamping) (z : Option Packet) → IsSound setting → Books setting w → Said setting w stamps
     → ((packet : Packet) → z ≡ Some packet → WasSent w packet) → IsSaid setting (delivered setting w z)
 delivered_said setting w stamps None sound books said sent = (stamps, said)
 delivered_said setting w stamps (Some packet) sound books said sent =
     let counted : World = record w { replies = replies_with setting w packet } in
-    cond_both (is_brick setting.layout packet.to)
+    cond_both (is_up setting.layout w packet.to)
     (stepped counted packet.to (received setting packet.to (w.clocks packet.to.0) (w.nodes packet.to.0) packet)) w
     (λ (next : World). IsSaid setting next)
     (λ is. message_said setting counted stamps packet.to packet.from (w.clocks packet.to.0) packet.message sound
-    (books_beside setting w w.clocks (replies_with setting w packet) books)
+    (books_beside setting w (replies_with setting w packet) books)
     (said_beside setting w stamps w.clocks (replies_with setting w packet) books said)
     (sent packet refl))
     (λ isnt. (stamps, said))
+
+lost_said : (setting : Setting) (w : World) (stamps : Stamping) (z : Option Packet) → Books setting w → Said setting w stamps
+    → ((packet : Packet) → z ≡ Some packet → WasSent w packet) → IsSaid setting (world_absorbed setting w z)
+lost_said setting w stamps None books said sent = (stamps, said)
+lost_said setting w stamps (Some packet) books said sent =
+    let node : Node = absorbed setting packet.to (w.nodes packet.to.0) packet in
+    cond_both (is_up setting.layout w packet.to) (record w { nodes = put w.nodes packet.to.0 node }) w (λ (next : World). IsSaid setting next)
+    (λ up. (
+      stamps,
+      subst (λ (l : List Packet). Said setting (record w { nodes = put w.nodes packet.to.0 node; packets = l }) stamps) (append-nil w.packets)
+          (absorbed_said setting w stamps packet.to packet.from packet.to packet.message books said (sent packet refl)),
+    ))
+    (λ down. (stamps, said))
+
+-- a brick's clock ticks
+ticked_said : (setting : Setting) (w : World) (stamps : Stamping) (me : BrickId) → Books setting w → Said setting w stamps
+    → Said setting (world_ticked setting w me) stamps
+ticked_said setting w stamps me books said =
+    let more : List Packet = ticked setting me (w.nodes me.0) in
+    said_added setting w stamps w.clocks w.replies (w.packets ++ more) books said
+    (λ packet sent. (sent.0, get_kept w.packets more sent.0 packet sent.1))
+    (λ packet sent. ⊎_elim
+    (λ (old : slice_get w.packets sent.0 ≡ Some packet). (sent.0, old))
+    (λ (new : (j : ℕ) × (slice_get more j ≡ Some packet)). ticked_was_sent setting w stamps me said new.0 packet new.1)
+    (get_grown w.packets more sent.0 packet sent.1))
+
+-- a brick stops
+stopped_said : (setting : Setting) (w : World) (stamps : Stamping) (me : BrickId) → Books setting w → Said setting w stamps
+    → Said setting (world_stopped w me) stamps
+unfolding stopped
+stopped_said setting w stamps me books said =
+    let crash : Mark = Crash (length w.marks) me in
+    let longer : length (w.marks ++ (crash ∷ [])) ≡ length w.marks + 1 = length-append w.marks (crash ∷ []) in
+    said_idle setting w stamps me.0 (stopped (w.nodes me.0)) (put w.up me.0 false) w.past (w.marks ++ (crash ∷ [])) books said refl (λ k. refl)
+    (ages_within (w.nodes me.0) (stopped (w.nodes me.0)) refl (omega arith) (omega arith)) (omega arith)
+    (λ a. last_grows w.marks crash a (λ k mark at. let place = books.places k mark at in omega (arith, place)) refl)
+    (λ k p n answer at. ⊎_elim
+    (λ (old : slice_get w.marks k ≡ Some (End p n answer)). old)
+    (λ (new : (j : ℕ) × (slice_get (crash ∷ []) j ≡ Some (End p n answer))).
+    let bad : crash ≡ End p n answer = get_one crash (End p n answer) new.0 new.1 in absurd (let never : ⊥ = cc in never))
+    (get_grown w.marks (crash ∷ []) k (End p n answer) at))
+
+-- a stopped brick is started again: no stamp of its new boot is known
+started_said : (setting : Setting) (w : World) (stamps : Stamping) (me : BrickId) (openings : ℕ) → Books setting w → Said setting w stamps → 1 ≤ openings
+    → Said setting (world_started w me openings) stamps
+unfolding restarted
+started_said setting w stamps me openings books said some =
+    said_idle setting w stamps me.0 (restarted openings (w.nodes me.0)) (put w.up me.0 true)
+    (put w.past me.0 (put (w.past me.0) (w.nodes me.0).boot (w.nodes me.0).known)) w.marks books said refl (λ k. refl)
+    (record { boot = omega arith; known = λ same. absurd (omega arith); seq = λ same. absurd (omega arith) }) (omega arith) (λ a. omega arith)
+    (λ k p n answer at. at)
 
 -- a packet of a number was sent
 pub packet_was_sent : (w : World) (number : ℕ) (packet : Packet) → packet_of w.packets number ≡ Some packet → WasSent w packet
@@ -147,6 +219,20 @@ said_happens setting w (Sets brick time) sound books said =
     cond_both (is_brick setting.layout brick) (record w { clocks = put w.clocks brick.0 time }) w (λ (next : World). IsSaid setting next)
     (λ is. (said.0, said_beside setting w said.0 (put w.clocks brick.0 time) w.replies books said.1))
     (λ isnt. said)
+said_happens setting w (Ticks brick) sound books said =
+    cond_both (is_up setting.layout w brick) (world_ticked setting w brick) w (λ (next : World). IsSaid setting next)
+    (λ up. (said.0, ticked_said setting w said.0 brick books said.1))
+    (λ down. said)
+said_happens setting w (Crashes brick) sound books said =
+    cond_both (is_up setting.layout w brick) (world_stopped w brick) w (λ (next : World). IsSaid setting next)
+    (λ up. (said.0, stopped_said setting w said.0 brick books said.1))
+    (λ down. said)
+said_happens setting w (Starts brick openings) sound books said =
+    cond_both (may_start setting.layout w brick openings) (world_started w brick openings) w (λ (next : World). IsSaid setting next)
+    (λ may. (said.0, started_said setting w said.0 brick openings books said.1 (start_fits setting w brick openings may).1))
+    (λ cannot. said)
+said_happens setting w (Absorbs number) sound books said =
+    lost_said setting w said.0 (packet_of w.packets number) books said.1 (packet_was_sent w number)
 
 -- the first world
 first_top : (block : ℕ) → top_of (first_replica block) ≡ first_stamp
@@ -156,9 +242,9 @@ first_top block =
 
 pub said_first : (setting : Setting) → IsSound setting → IsSaid setting (first_world setting.layout)
 said_first setting sound = (
-  (λ i k p. None),
+  (λ i b k p. None),
   record {
-    stamps_say = record { are = λ i k p t is. cc; begun = λ i k p t is. cc; apart = λ i k l p q t is its. cc };
+    stamps_say = record { are = λ i b k p t is. cc; begun = λ i b k p t is. cc; apart = λ i b k l p q t is its. cc };
     tops = λ g s i. inl (first_top setting.layout.block);
     ascends = λ g s i. ((λ d held. absurd (false≢true held)), tt);
     first_held = λ g s i. or_left (stamp_same first_stamp first_stamp) false (stamp_same_refl first_stamp);

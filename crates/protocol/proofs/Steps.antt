@@ -1,27 +1,37 @@
 -- What an event owes to the invariant: only what is new.
-use Rattle.std.proofs.Common.{◌≡◌, ◌≢◌, ℕ, ◌≤◌, ◌⊎◌, inl, inr, true, false, List, ◌++◌, Some, refl, sym, ◌∙◌, subst, ⊎_elim, arith}
+use Rattle.std.proofs.Common.{◌≡◌, ◌≢◌, ℕ, ◌+◌, ◌≤◌, ◌⊎◌, inl, inr, true, false, List, ◌++◌, length, zero, suc, Bool, Some, None, [], ◌∷◌, refl, sym, ap, ◌∙◌, subst, ⊎_elim, arith}
 use Rattle.std.specs.Prelude.{slice_get}
 use Rattle.fab_base.specs.declared.identities.BrickId.{BrickId}
 use Rattle.fab_base.specs.declared.stamps.Stamp.{Stamp}
 use Rattle.fab_base.specs.declared.answers.Answer.{Answer}
 use Rattle.fab_base.specs.Stamps.{stamp_below, first_stamp}
+use Rattle.fab_wire.specs.declared.calls.Call.{Call}
+use Rattle.fab_wire.specs.declared.messages.Message.TheVariants as Message
 use Rattle.fab_wire.specs.declared.messages.Packet.{Packet}
+use Rattle.fab_wire.specs.declared.requests.Request.{Request}
 use Rattle.fab_wire.specs.declared.requests.Version.{Version}
+use Rattle.reg_model.specs.declared.marks.Mark.{Mark}
 use Rattle.reg_model.specs.declared.marks.Mark.TheVariants.{End}
+use Rattle.reg_model.specs.Marks.{life_of}
+use Rattle.reg_model.specs.Walk.{last_of}
 use Rattle.fab_base.proofs.StampOrder.{stamp_below_irrefl}
-use Rattle.protocol.specs.Settings.{Setting}
+use Rattle.protocol.specs.Settings.{Setting, Group, group_of}
 use Rattle.protocol.specs.Replicas.{Replica, top_of, is_held}
-use Rattle.protocol.specs.Coordinators.{Coordinator, Counted}
-use Rattle.protocol.specs.Nodes.{Node, Nothing, put}
+use Rattle.protocol.specs.Coordinators.{Coordinator, Counted, request_of}
+use Rattle.protocol.specs.Nodes.{Node, Nothing, put, to_members, phase_packets}
 use Rattle.protocol.specs.Worlds.{World, Operation, world_stepped}
 use Rattle.protocol.specs.Laws.{WasSent, part_of}
 use Rattle.protocol.proofs.Books.{Books, IsOperation, IsCall}
 use Rattle.protocol.proofs.Logs.{LogAscends}
 use Rattle.protocol.proofs.Blocking.{PartsStay}
-use Rattle.protocol.proofs.Said.{Stamping, Said, StampsSay, IsKnown, VersionSays, PacketSays, OperationSays, CallSays, EndShows, IsInOrder}
-use Rattle.protocol.proofs.Tables.{put_each, get_kept, get_grown}
-use Rattle.protocol.proofs.Stampings.{StampsGrow, stamps_same, stays_known, stamps_stay}
+use Rattle.protocol.proofs.Said.{Stamping, Said, StampsSay, IsKnown, VersionSays, PacketSays, OperationSays, CallSays, EndShows, IsInOrder, FloorsAtLeast}
+use Rattle.protocol.proofs.Tables.{put_each, get_kept, get_grown, get_added}
+use Rattle.protocol.proofs.Stampings.{StampsGrow, Ages, ages_within, stamps_same, stays_known, stamps_stay}
 use Rattle.protocol.proofs.Growth.{Grows, continues_same, stays_version, stays_packet, stays_operation, stays_call, stays_end}
+
+-- call k of brick i's boot b has the stamps that it had
+abbrev pub KeepsStamps : Stamping → Stamping → ℕ → ℕ → ℕ → Type 0
+KeepsStamps stamps later i b k = (p : ℕ) → later i b k p ≡ stamps i b k p
 
 -- what is new in the next world says what it should
 pub record Owes (setting : Setting) (w next : World) (stamps later : Stamping) : Type 0 where
@@ -33,7 +43,8 @@ pub record Owes (setting : Setting) (w next : World) (stamps later : Stamping) :
       → (slice_get w.packets k ≡ Some packet) ⊎ PacketSays setting next later packet
   pub operations : (n : ℕ) (o : Operation) → IsOperation next n o → IsOperation w n o ⊎ OperationSays setting next later n o
   pub calls : (i k : ℕ) (c : Coordinator) → IsCall next i k c
-      → (IsCall w i k c × ((p : ℕ) → later i k p ≡ stamps i k p)) ⊎ CallSays setting next later i k c
+      → (IsCall w i k c × ((next.nodes i).boot ≡ (w.nodes i).boot) × KeepsStamps stamps later i (w.nodes i).boot k)
+      ⊎ CallSays setting next later i k c
   pub ends : (k p n : ℕ) (answer : Answer) → slice_get next.marks k ≡ Some (End p n answer)
       → (slice_get w.marks k ≡ Some (End p n answer)) ⊎ EndShows next n answer
   pub order : IsInOrder setting next
@@ -64,8 +75,8 @@ said_after setting w next stamps later books said grows owes = record {
       (λ (new : OperationSays setting next later n o). new)
       (owes.operations n o is);
   calls = λ i k c is. ⊎_elim
-      (λ (old : IsCall w i k c × ((p : ℕ) → later i k p ≡ stamps i k p)).
-      stays_call setting w next stamps later books grows i k c old.1 (said.calls i k c old.0))
+      (λ (old : IsCall w i k c × ((next.nodes i).boot ≡ (w.nodes i).boot) × KeepsStamps stamps later i (w.nodes i).boot k).
+      stays_call setting w next stamps later books grows i k c old.1 old.2 (said.calls i k c old.0))
       (λ (new : CallSays setting next later i k c). new)
       (owes.calls i k c is);
   ends = λ k p n answer is. ⊎_elim
@@ -133,17 +144,37 @@ pub sent_by : (w next : World) (more : List Packet) → next.packets ≡ w.packe
 sent_by w next more packets packet sent =
     (sent.0, subst (λ (l : List Packet). slice_get l sent.0 ≡ Some packet) (sym packets) (get_kept w.packets more sent.0 packet sent.1))
 
--- call numbers stay where the brick's own does
-pub seqs_by : (w next : World) (me : ℕ) (node : Node) → next.nodes ≡ put w.nodes me node → node.seq ≡ (w.nodes me).seq
-    → (i : ℕ) → (next.nodes i).seq ≡ (w.nodes i).seq
-seqs_by w next me node nodes same i =
-    subst (λ (f : ℕ → Node). (f i).seq ≡ (w.nodes i).seq) (sym nodes) (put_each (λ j x. x.seq ≡ (w.nodes j).seq) w.nodes me node same (λ j other. refl) i)
+-- bricks age where the one that changes does
+pub ages_by : (w next : World) (me : ℕ) (node : Node) → next.nodes ≡ put w.nodes me node → Ages (w.nodes me) node → (i : ℕ) → Ages (w.nodes i) (next.nodes i)
+ages_by w next me node nodes ages i =
+    subst (λ (f : ℕ → Node). Ages (w.nodes i) (f i)) (sym nodes)
+    (put_each (λ j x. Ages (w.nodes j) x) w.nodes me node ages (λ j other. ages_within (w.nodes j) (w.nodes j) refl (omega arith) (omega arith)) i)
 
+-- no known time falls where the brick's own does not
 pub known_by : (w next : World) (me : ℕ) (node : Node) → next.nodes ≡ put w.nodes me node → (w.nodes me).known ≤ node.known
     → (i : ℕ) → (w.nodes i).known ≤ (next.nodes i).known
 known_by w next me node nodes more i =
     subst (λ (f : ℕ → Node). (w.nodes i).known ≤ (f i).known) (sym nodes)
     (put_each (λ j x. (w.nodes j).known ≤ x.known) w.nodes me node more (λ j other. omega arith) i)
+
+-- what is owed for call k, where one brick changes within its boot
+pub calls_by : (setting : Setting) (w next : World) (stamps later : Stamping) (me : ℕ) (node : Node) → next.nodes ≡ put w.nodes me node
+    → node.boot ≡ (w.nodes me).boot → (k : ℕ) (c : Coordinator)
+    → (node.calls k ≡ Some c
+    → (((w.nodes me).calls k ≡ Some c) × KeepsStamps stamps later me (w.nodes me).boot k) ⊎ CallSays setting next later me k c)
+    → ((j : ℕ) → j ≢ me → KeepsStamps stamps later j (w.nodes j).boot k) → (i : ℕ) → IsCall next i k c
+    → (IsCall w i k c × ((next.nodes i).boot ≡ (w.nodes i).boot) × KeepsStamps stamps later i (w.nodes i).boot k)
+    ⊎ CallSays setting next later i k c
+calls_by setting w next stamps later me node nodes boot k c own others i =
+    subst (λ (f : ℕ → Node). (f i).calls k ≡ Some c
+    → (IsCall w i k c × ((f i).boot ≡ (w.nodes i).boot) × KeepsStamps stamps later i (w.nodes i).boot k) ⊎ CallSays setting next later i k c) (sym nodes)
+    (put_each (λ j x. x.calls k ≡ Some c
+    → (IsCall w j k c × (x.boot ≡ (w.nodes j).boot) × KeepsStamps stamps later j (w.nodes j).boot k) ⊎ CallSays setting next later j k c) w.nodes me node
+    (λ is. ⊎_elim
+    (λ (old : ((w.nodes me).calls k ≡ Some c) × KeepsStamps stamps later me (w.nodes me).boot k). inl (old.0, boot, old.1))
+    (λ (new : CallSays setting next later me k c). inr new)
+    (own is))
+    (λ j other is. inl (is, refl, others j other)) i)
 
 -- the world after a brick's step that is told of no operation
 abbrev pub quiet : World → BrickId → Node → List Packet → World
@@ -157,20 +188,22 @@ quiet_grows w stamps later me node more grow keeps = record {
   operations = λ n o is. (o, is, continues_same o);
   contents = λ g s t made. refl;
   grow = grow;
-  numbered = λ i k within. refl;
+  numbered = λ i b k within. refl;
   marks = omega arith;
 }
 
 -- what a quiet step owes
 pub record QuietOwes (setting : Setting) (w : World) (stamps later : Stamping) (me : BrickId) (node : Node) (more : List Packet) : Type 0 where
   pub keeps : KeepsParts (w.nodes me.0) node
+  pub boot : node.boot ≡ (w.nodes me.0).boot
   pub stamps_say : StampsSay (quiet w me node more) later
-  pub stamps_other : (i k : ℕ) → i ≢ me.0 → (p : ℕ) → later i k p ≡ stamps i k p
+  pub stamps_other : (i b k : ℕ) → i ≢ me.0 → KeepsStamps stamps later i b k
   pub tops : (g s : ℕ) → (top_of (node.replicas g s) ≡ top_of ((w.nodes me.0).replicas g s)) ⊎ IsKnown later (top_of (node.replicas g s))
   pub logs : (g s k : ℕ) (version : Version) → slice_get (node.replicas g s).log k ≡ Some version
       → (slice_get ((w.nodes me.0).replicas g s).log k ≡ Some version) ⊎ VersionSays setting (quiet w me node more) g s me.0 version
   pub calls : (k : ℕ) (c : Coordinator) → node.calls k ≡ Some c
-      → (((w.nodes me.0).calls k ≡ Some c) × ((p : ℕ) → later me.0 k p ≡ stamps me.0 k p)) ⊎ CallSays setting (quiet w me node more) later me.0 k c
+      → (((w.nodes me.0).calls k ≡ Some c) × KeepsStamps stamps later me.0 (w.nodes me.0).boot k)
+      ⊎ CallSays setting (quiet w me node more) later me.0 k c
   pub packets : (k : ℕ) (packet : Packet) → slice_get more k ≡ Some packet → PacketSays setting (quiet w me node more) later packet
 
 pub said_quiet : (setting : Setting) (w : World) (stamps later : Stamping) (me : BrickId) (node : Node) (more : List Packet) → Books setting w
@@ -192,41 +225,114 @@ said_quiet setting w stamps later me node more books said grow owes =
           (get_grown w.packets more k packet is);
       operations = λ n o is. inl is;
       calls = λ i k c.
-          put_each (λ j x. x.calls k ≡ Some c
-          → (((w.nodes j).calls k ≡ Some c) × ((p : ℕ) → later j k p ≡ stamps j k p)) ⊎ CallSays setting (quiet w me node more) later j k c)
-          w.nodes me.0 node (owes.calls k c) (λ j other is. inl (is, owes.stamps_other j k other)) i;
+          calls_by setting w next stamps later me.0 node refl owes.boot k c (owes.calls k c) (λ j other. owes.stamps_other j (w.nodes j).boot k other) i;
       ends = λ k p n answer is. inl is;
       order = said.order;
     })
 
--- what the stamps say where they stay, and one brick keeps its call number and knows no less
+-- what the stamps say where they stay, and one brick ages
 pub stamps_stay_by : (setting : Setting) (w next : World) (stamps : Stamping) (me : ℕ) (node : Node) → Said setting w stamps → next.nodes ≡ put w.nodes me node
-    → node.seq ≡ (w.nodes me).seq → (w.nodes me).known ≤ node.known → StampsSay next stamps
-stamps_stay_by setting w next stamps me node said nodes seq known =
-    stamps_stay w next stamps said.stamps_say (known_by w next me node nodes known) (λ i. omega (arith, seqs_by w next me node nodes seq i))
+    → Ages (w.nodes me) node → StampsSay next stamps
+stamps_stay_by setting w next stamps me node said nodes ages = stamps_stay w next stamps said.stamps_say (ages_by w next me node nodes ages)
+
+-- each member is sent its request
+pub member_sent : (me : BrickId) (call : Call) (request : ℕ → Request) (seat : ℕ) (members : List BrickId) (k : ℕ) (member : BrickId)
+    → slice_get members k ≡ Some member
+    → slice_get (to_members me call request seat members) k ≡ Some (record { from = me; to = member; message = Message.Request call (request (seat + k)) })
+member_sent me call request seat [] k member at = cc
+member_sent me call request seat (other ∷ members) zero member at =
+    let same : other ≡ member = cc in
+    let place : seat ≡ seat + 0 = omega arith in
+    ap (λ (z : BrickId). Some (record { from = me; to = z; message = Message.Request call (request seat) })) same
+    ∙ ap (λ (j : ℕ). Some (record { from = me; to = member; message = Message.Request call (request j) })) place
+member_sent me call request seat (other ∷ members) (suc k) member at =
+    let place : seat + 1 + k ≡ seat + suc k = omega arith in
+    member_sent me call request (seat + 1) members k member at
+    ∙ ap (λ (j : ℕ). Some (record { from = me; to = member; message = Message.Request call (request j) })) place
+
+-- a phase that was just sent is asked of each member
+pub phase_asked : (setting : Setting) (w : World) (group : Group) (me : BrickId) (c : Coordinator) (packets : List Packet)
+    → w.packets ≡ packets ++ phase_packets setting group me c → (seat : ℕ) (member : BrickId) → slice_get group.members seat ≡ Some member
+    → WasSent w (record { from = me; to = member; message = Message.Request c.call (request_of setting.code group.m c seat) })
+phase_asked setting w group me c packets is seat member at =
+    let packet : Packet = record { from = me; to = member; message = Message.Request c.call (request_of setting.code group.m c (0 + seat)) } in
+    let sent = get_added packets (phase_packets setting group me c) seat packet
+    (member_sent me c.call (request_of setting.code group.m c) 0 group.members seat member at) in
+    let place : 0 + seat ≡ seat = omega arith in
+    subst (λ (j : ℕ). WasSent w (record { from = me; to = member; message = Message.Request c.call (request_of setting.code group.m c j) })) place
+    (sent.0, subst (λ (l : List Packet). slice_get l sent.0 ≡ Some packet) (sym is) sent.1)
+
+-- a world that sends again what was sent, and whose clocks and counted replies are other, says what was said
+pub said_added : (setting : Setting) (w : World) (stamps : Stamping) (clocks : ℕ → ℕ) (replies : ℕ → ℕ → List Counted) (packets : List Packet)
+    → Books setting w → Said setting w stamps → ((packet : Packet) → WasSent w packet → WasSent (record w { packets = packets }) packet)
+    → ((packet : Packet) → WasSent (record w { packets = packets }) packet → WasSent w packet)
+    → Said setting (record w { clocks = clocks; packets = packets; replies = replies }) stamps
+said_added setting w stamps clocks replies packets books said kept old =
+    let next : World = record w { clocks = clocks; packets = packets; replies = replies } in
+    let grows : Grows w next stamps stamps = record {
+      parts = parts_same w next refl;
+      sent = kept;
+      operations = λ n o is. (o, is, continues_same o);
+      contents = λ g s t made. refl;
+      grow = stamps_same stamps;
+      numbered = λ i b k within. refl;
+      marks = omega arith;
+    } in
+    said_after setting w next stamps stamps books said grows (record {
+      stamps_say = stamps_stay w next stamps said.stamps_say (λ i. ages_within (w.nodes i) (w.nodes i) refl (omega arith) (omega arith));
+      tops = λ g s i. inl refl;
+      logs = λ g s i k version is. inl is;
+      packets = λ k packet is.
+          let was = old packet (k, is) in
+          inr (stays_packet setting w next stamps stamps books grows packet (said.packets was.0 packet was.1));
+      operations = λ n o is. inl is;
+      calls = λ i k c is. inl (is, refl, (λ p. refl));
+      ends = λ k p n answer is. inl is;
+      order = said.order;
+    })
 
 -- other clocks, and other replies that count, change nothing of what is said
 pub said_beside : (setting : Setting) (w : World) (stamps : Stamping) (clocks : ℕ → ℕ) (replies : ℕ → ℕ → List Counted) → Books setting w
     → Said setting w stamps → Said setting (record w { clocks = clocks; replies = replies }) stamps
 said_beside setting w stamps clocks replies books said =
-    let next : World = record w { clocks = clocks; replies = replies } in
+    said_added setting w stamps clocks replies w.packets books said (λ packet sent. sent) (λ packet sent. sent)
+
+-- a brick that has no operation open any more, as it stopped or was started again, changes nothing of what is said, where no operation's last
+-- position comes forward
+pub said_idle : (setting : Setting) (w : World) (stamps : Stamping) (me : ℕ) (node : Node) (up : ℕ → Bool) (past : ℕ → ℕ → ℕ) (marks : List Mark)
+    → Books setting w → Said setting w stamps → node.replicas ≡ (w.nodes me).replicas → ((k : ℕ) → node.calls k ≡ None) → Ages (w.nodes me) node
+    → length w.marks ≤ length marks → ((a : ℕ) → last_of (life_of w.marks a) ≤ last_of (life_of marks a))
+    → ((k p n : ℕ) (answer : Answer) → slice_get marks k ≡ Some (End p n answer) → slice_get w.marks k ≡ Some (End p n answer))
+    → Said setting (record w { nodes = put w.nodes me node; up = up; past = past; marks = marks }) stamps
+said_idle setting w stamps me node up past marks books said same none ages longer lasts ends =
+    let next : World = record w { nodes = put w.nodes me node; up = up; past = past; marks = marks } in
     said_after setting w next stamps stamps books said
     (record {
-      parts = parts_same w next refl;
+      parts = parts_by w next me node refl (keeps_same (w.nodes me) node same);
       sent = λ packet sent. sent;
       operations = λ n o is. (o, is, continues_same o);
       contents = λ g s t made. refl;
       grow = stamps_same stamps;
-      numbered = λ i k within. refl;
-      marks = omega arith;
+      numbered = λ i b k within. refl;
+      marks = longer;
     })
     (record {
-      stamps_say = stamps_stay w next stamps said.stamps_say (λ i. omega arith) (λ i. omega arith);
-      tops = λ g s i. inl refl;
-      logs = λ g s i k version is. inl is;
+      stamps_say = stamps_stay_by setting w next stamps me node said refl ages;
+      tops = λ g s i. inl (put_each (λ j x. top_of (x.replicas g s) ≡ top_of ((w.nodes j).replicas g s)) w.nodes me node
+          (ap (λ r. top_of (r g s)) same) (λ j other. refl) i);
+      logs = λ g s i k version is. inl
+          (put_each (λ j x. slice_get (x.replicas g s).log k ≡ Some version → slice_get ((w.nodes j).replicas g s).log k ≡ Some version) w.nodes me node
+          (λ has. ap (λ r. slice_get (r g s).log k) (sym same) ∙ has) (λ j other has. has) i is);
       packets = λ k packet is. inl is;
       operations = λ n o is. inl is;
-      calls = λ i k c is. inl (is, λ p. refl);
-      ends = λ k p n answer is. inl is;
-      order = said.order;
+      calls = λ i k c.
+          put_each (λ j x. x.calls k ≡ Some c
+          → (IsCall w j k c × (x.boot ≡ (w.nodes j).boot) × KeepsStamps stamps stamps j (w.nodes j).boot k) ⊎ CallSays setting next stamps j k c) w.nodes me node
+          (λ is. absurd (let bad : Some c ≡ None = sym is ∙ none k in let never : ⊥ = cc in never))
+          (λ j other is. inl (is, refl, (λ p. refl))) i;
+      ends = λ k p n answer is. inl (ends k p n answer is);
+      order = λ a b earlier later u earlier_is later_is groups stripes version. ⊎_elim
+          (λ (floors : (group : Group) → group_of setting.layout later.ask.group.0 ≡ Some group → FloorsAtLeast later group u). inl floors)
+          (λ (before : later.begin ≤ last_of (life_of w.marks a)). inr (omega (arith, before, lasts a)))
+          (said.order a b earlier later u earlier_is later_is groups stripes version);
     })

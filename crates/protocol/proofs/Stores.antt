@@ -16,26 +16,26 @@ use Rattle.reg_model.specs.Walk.{last_of}
 use Rattle.protocol.specs.Settings.{Setting, Group, group_of, IsSound, seat_in, are_bytes}
 use Rattle.protocol.specs.Coordinators.{Coordinator, Stores, next_phase, stored_by, request_of}
 use Rattle.protocol.specs.Nodes.{Node, Made, put, has_length, with_call, phase_packets}
-use Rattle.protocol.specs.Worlds.{World, Operation, world_stepped, with_made, with_content}
+use Rattle.protocol.specs.Worlds.{World, Operation, number_of, world_stepped, with_made, with_content}
 use Rattle.protocol.specs.Laws.{IsGuarded}
-use Rattle.protocol.proofs.Books.{Books, OperationBooks, CallBooks, IsCall}
+use Rattle.protocol.proofs.Books.{Books, OperationBooks, CallBooks, IsOperation, IsCall}
 use Rattle.protocol.proofs.Said.{Begun, Stamping, Said, IsSaid, StampsSay, IsStampOf, IsBegun, IsStamped, AreBlocked, IsContent, IsMadeOrFirst, FloorsAtMost, WriteSays, PacketSays, HasVersion, WritesWhole, ReadsBack, OperationSays, CallSays}
 use Rattle.protocol.proofs.Tables.{put_each, put_same, seat_of_member, sent_to_member}
 use Rattle.protocol.proofs.Lives.{open_last}
-use Rattle.protocol.proofs.Stampings.{ComesFrom, StampsGrow, stays_stamped, with_stamp, stamp_now, stamps_other, stamp_last, stamps_grow, stamps_say}
-use Rattle.protocol.proofs.Steps.{seqs_by, known_by}
+use Rattle.protocol.proofs.Stampings.{ComesFrom, StampsGrow, Ages, ages_within, stamp_stays, stays_stamped, with_stamp, stamp_now, stamps_other, stamp_last, stamps_grow, stamps_say}
+use Rattle.protocol.proofs.Steps.{KeepsStamps, ages_by, phase_asked}
 use Rattle.protocol.proofs.Growth.{Grows, stays_guarded, stays_made, stay_blocked, stays_operation}
 use Rattle.protocol.proofs.Operated.{operated, OperatedKeeps, operated_grows, said_operated}
 use Rattle.protocol.proofs.OwnStamps.{not_made_yet}
 
 -- an open operation may happen up to one past the last mark
 pub open_until : (setting : Setting) (w : World) (i k : ℕ) (c : Coordinator) → Books setting w → IsCall w i k c
-    → length w.marks ≤ last_of (life_of w.marks (w.numbers i k))
+    → length w.marks ≤ last_of (life_of w.marks (number_of w i k))
 open_until setting w i k c books is =
     let its : CallBooks setting w i k c = books.calls i k c is in
-    let o_books : OperationBooks setting w (w.numbers i k) its.operation = books.operations (w.numbers i k) its.operation its.operation_is in
-    let last : last_of (life_of w.marks (w.numbers i k)) ≡ length w.marks
-    = open_last w.marks (w.numbers i k) o_books.life
+    let o_books : OperationBooks setting w (number_of w i k) its.operation = books.operations (number_of w i k) its.operation its.operation_is in
+    let last : last_of (life_of w.marks (number_of w i k)) ≡ length w.marks
+    = open_last w.marks (number_of w i k) o_books.life
     (λ j mark at. let place = books.places j mark at in omega (arith, place)) o_books.life_is (its.unended o_books.life o_books.life_is) in
     omega arith
 
@@ -67,13 +67,18 @@ module _ (setting : Setting) (sound : IsSound setting) (w : World) (stamps : Sta
 
   -- its number
   abbrev n : ℕ
-  n = w.numbers me.0 c.call.seq
+  n = number_of w me.0 c.call.seq
+
+  -- the brick's boot
+  abbrev boot : ℕ
+  boot = (w.nodes me.0).boot
 
   -- the operation that made its version
   abbrev made : Operation
   made =
       record {
         brick = o.brick;
+        boot = o.boot;
         seq = o.seq;
         begin = o.begin;
         ask = o.ask;
@@ -116,7 +121,7 @@ module _ (setting : Setting) (sound : IsSound setting) (w : World) (stamps : Sta
 
   -- the stamps after
   abbrev later : Stamping
-  later = with_stamp stamps me.0 c.call.seq (c.call.phase + 1) begun
+  later = with_stamp stamps me.0 boot c.call.seq (c.call.phase + 1) begun
 
   abbrev next : World
   next = operated w me node more w.marks n made contents
@@ -127,12 +132,14 @@ module _ (setting : Setting) (sound : IsSound setting) (w : World) (stamps : Sta
       ap (λ (x : Option Operation).
       record {
         nodes = put w.nodes me.0 node;
+        up = w.up;
         clocks = w.clocks;
         packets = w.packets ++ more;
         marks = w.marks;
         begun = w.begun;
         operations = put w.operations n (with_made c.stamp base x);
         numbers = w.numbers;
+        past = w.past;
         contents = with_content w.contents c.stamp (node.calls c.call.seq);
         replies = w.replies;
       })
@@ -140,12 +147,14 @@ module _ (setting : Setting) (sound : IsSound setting) (w : World) (stamps : Sta
       ∙ ap (λ (x : Option Coordinator).
       record {
         nodes = put w.nodes me.0 node;
+        up = w.up;
         clocks = w.clocks;
         packets = w.packets ++ more;
         marks = w.marks;
         begun = w.begun;
         operations = put w.operations n (Some made);
         numbers = w.numbers;
+        past = w.past;
         contents = with_content w.contents c.stamp x;
         replies = w.replies;
       })
@@ -154,25 +163,30 @@ module _ (setting : Setting) (sound : IsSound setting) (w : World) (stamps : Sta
   says : CallSays setting w stamps me.0 c.call.seq c
   says = said.calls me.0 c.call.seq c is
 
-  its_stamp : IsStamped stamps me.0 c.call.seq c.call.phase c.stamp
+  its_stamp : IsStamped stamps me.0 boot c.call.seq c.call.phase c.stamp
   its_stamp = (c.phase, says.begun)
 
-  own : IsStamped stamps o.brick.0 o.seq c.call.phase c.stamp
+  own : IsStamped stamps o.brick.0 o.boot o.seq c.call.phase c.stamp
   own =
-      subst (λ (i : ℕ). IsStamped stamps i o.seq c.call.phase c.stamp) (sym its.brick)
-      (subst (λ (k : ℕ). IsStamped stamps me.0 k c.call.phase c.stamp) (sym its.seq) its_stamp)
+      subst (λ (i : ℕ). IsStamped stamps i o.boot o.seq c.call.phase c.stamp) (sym its.brick)
+      (subst (λ (b : ℕ). IsStamped stamps me.0 b o.seq c.call.phase c.stamp) (sym its.boot)
+      (subst (λ (k : ℕ). IsStamped stamps me.0 boot k c.call.phase c.stamp) (sym its.seq) its_stamp))
 
-  none : (r : ℕ) → c.call.phase + 1 ≤ r → stamps me.0 c.call.seq r ≡ None
+  none : (r : ℕ) → c.call.phase + 1 ≤ r → stamps me.0 boot c.call.seq r ≡ None
   none r most = says.last r (omega arith)
 
-  from : ComesFrom stamps me.0 c.call.seq c.stamp
+  from : ComesFrom stamps me.0 boot c.call.seq c.stamp
   from = inl (c.call.phase, its_stamp)
 
   grow : StampsGrow stamps later
-  grow = stamps_grow stamps me.0 c.call.seq (c.call.phase + 1) begun none from
+  grow = stamps_grow stamps me.0 boot c.call.seq (c.call.phase + 1) begun none from
 
-  begun_now : IsBegun later me.0 c.call.seq (c.call.phase + 1) Stores c.stamp
-  begun_now = stamp_now stamps me.0 c.call.seq (c.call.phase + 1) begun
+  begun_now : IsBegun later me.0 boot c.call.seq (c.call.phase + 1) Stores c.stamp
+  begun_now = stamp_now stamps me.0 boot c.call.seq (c.call.phase + 1) begun
+
+  -- the boot stays
+  boot_now : (next.nodes me.0).boot ≡ boot
+  boot_now = ap (λ (x : Node). x.boot) (put_same w.nodes me.0 node)
 
   its_group : group_of setting.layout o.ask.group.0 ≡ Some group
   its_group = ap (λ a. group_of setting.layout a.group.0) (sym its.ask) ∙ group_is
@@ -220,11 +234,11 @@ module _ (setting : Setting) (sound : IsSound setting) (w : World) (stamps : Sta
     keeps : OperatedKeeps w me node w.marks n o made contents
     keeps = record {
       replicas = refl;
-      seq = refl;
-      known = more_known;
+      boot = refl;
       is = its.operation_is;
       continues = record {
         brick = refl;
+        boot = refl;
         seq = refl;
         begin = refl;
         ask = refl;
@@ -299,7 +313,7 @@ module _ (setting : Setting) (sound : IsSound setting) (w : World) (stamps : Sta
             floors = old.floors;
             floors_known = old.floors_known;
             fresh = old.fresh;
-            made = λ is_made. (c.stamp, c.call.phase, refl, stays_stamped stamps later grow o.brick.0 o.seq c.call.phase c.stamp own);
+            made = λ is_made. (c.stamp, c.call.phase, refl, stays_stamped stamps later grow o.brick.0 o.boot o.seq c.call.phase c.stamp own);
             maker = λ v is_made has.
                 let same : c.stamp ≡ v = cc in
                 subst (λ (t : Stamp). WritesWhole next made t ⊎ ReadsBack setting next made t) same (maker_of o.ask its.ask makes);
@@ -337,13 +351,14 @@ module _ (setting : Setting) (sound : IsSound setting) (w : World) (stamps : Sta
           record {
             operation = made;
             called = record {
-              is = put_same w.operations n (Some made);
+              is = subst (λ (b : ℕ). IsOperation next (w.numbers me.0 b c.call.seq) made) (sym its.call_boot) (put_same w.operations n (Some made));
               brick = its.brick;
+              boot = its.boot ∙ sym its.call_boot;
               seq = its.seq;
               group = ap (λ a. a.group.0) (sym its.ask) ∙ call_group;
               stripe = ap (λ a. a.stripe.0) (sym its.ask) ∙ call_stripe;
             };
-            begun = begun_now;
+            begun = subst (λ (b : ℕ). IsBegun later me.0 b c.call.seq (c.call.phase + 1) Stores c.stamp) (sym its.call_boot) begun_now;
             made = refl;
             version = refl;
             member = λ other other_is.
@@ -373,8 +388,13 @@ module _ (setting : Setting) (sound : IsSound setting) (w : World) (stamps : Sta
 
       d_says : CallSays setting next later me.0 c.call.seq d
       d_says = record {
-        begun = begun_now;
-        last = stamp_last stamps me.0 c.call.seq (c.call.phase + 1) begun none from;
+        begun = subst (λ (b : ℕ). IsBegun later me.0 b c.call.seq (c.call.phase + 1) Stores c.stamp) (sym boot_now) begun_now;
+        last = λ p less.
+            subst (λ (b : ℕ). later me.0 b c.call.seq p ≡ None) (sym boot_now)
+            (stamp_last stamps me.0 boot c.call.seq (c.call.phase + 1) begun none from p less);
+        asked = λ other other_is seat member at.
+            phase_asked setting next other me d w.packets
+            (ap (λ (z : Group). w.packets ++ phase_packets setting z me d) (same_group other other_is)) seat member at;
         fits = tt;
         unbased = λ bad. cc;
         above = λ bound bad. cc;
@@ -386,23 +406,26 @@ module _ (setting : Setting) (sound : IsSound setting) (w : World) (stamps : Sta
       }
 
       calls : (k : ℕ) (e : Coordinator) → node.calls k ≡ Some e
-          → (((w.nodes me.0).calls k ≡ Some e) × ((p : ℕ) → later me.0 k p ≡ stamps me.0 k p)) ⊎ CallSays setting next later me.0 k e
+          → (((w.nodes me.0).calls k ≡ Some e) × KeepsStamps stamps later me.0 boot k) ⊎ CallSays setting next later me.0 k e
       calls k e =
           put_each (λ j x. x ≡ Some e
-          → (((w.nodes me.0).calls j ≡ Some e) × ((p : ℕ) → later me.0 j p ≡ stamps me.0 j p)) ⊎ CallSays setting next later me.0 j e)
+          → (((w.nodes me.0).calls j ≡ Some e) × KeepsStamps stamps later me.0 boot j) ⊎ CallSays setting next later me.0 j e)
           (w.nodes me.0).calls c.call.seq (Some d)
           (λ at. let same : d ≡ e = cc in inr (subst (λ (z : Coordinator). CallSays setting next later me.0 c.call.seq z) same d_says))
-          (λ j other at. inl (at, stamps_other stamps me.0 c.call.seq (c.call.phase + 1) begun me.0 j (λ brick same. other same))) k
+          (λ j other at. inl (at, stamps_other stamps me.0 boot c.call.seq (c.call.phase + 1) begun me.0 boot j (λ brick same. other same))) k
 
       -- what the stamps then say
       say : StampsSay next later
       say =
-          let at : IsStampOf (w.nodes me.0).known me.0 c.stamp = said.stamps_say.are me.0 c.call.seq c.call.phase c.stamp its_stamp in
-          let was = said.stamps_say.begun me.0 c.call.seq c.call.phase c.stamp its_stamp in
-          stamps_say stamps me.0 c.call.seq (c.call.phase + 1) begun none from w next said.stamps_say
-          (known_by w next me.0 node refl more_known) (λ j. omega (arith, seqs_by w next me.0 node refl refl j))
-          (record { view = at.view; boot = at.boot; brick = at.brick; positive = at.positive; bounded = omega (arith, at.bounded, known_by w next me.0 node refl more_known me.0) })
-          was.0 (omega (arith, was.1, seqs_by w next me.0 node refl refl me.0))
+          let at : IsStampOf (w.nodes me.0) me.0 boot c.stamp = said.stamps_say.are me.0 boot c.call.seq c.call.phase c.stamp its_stamp in
+          let was = said.stamps_say.begun me.0 boot c.call.seq c.call.phase c.stamp its_stamp in
+          let ages : Ages (w.nodes me.0) node = ages_within (w.nodes me.0) node refl more_known (omega arith) in
+          stamps_say stamps me.0 boot c.call.seq (c.call.phase + 1) begun none from w next said.stamps_say (ages_by w next me.0 node refl ages)
+          (subst (λ (x : Node). IsStampOf x me.0 boot c.stamp) (sym (put_same w.nodes me.0 node)) (stamp_stays (w.nodes me.0) node me.0 boot c.stamp ages at))
+          was.0
+          (λ now.
+          let most : c.call.seq ≤ (w.nodes me.0).seq = was.1 refl in
+          let seq : (next.nodes me.0).seq ≡ (w.nodes me.0).seq = ap (λ (x : Node). x.seq) (put_same w.nodes me.0 node) in omega arith)
 
       -- the invariant holds when a version was made
       pub said_made : IsSaid setting
@@ -413,7 +436,7 @@ module _ (setting : Setting) (sound : IsSound setting) (w : World) (stamps : Sta
             said_operated setting w stamps later me node more w.marks n o made contents books said grow keeps
                 (record {
                   stamps_say = say;
-                  stamps_other = λ i k other. stamps_other stamps me.0 c.call.seq (c.call.phase + 1) begun i k (λ brick same. other brick);
+                  stamps_other = λ i b k other. stamps_other stamps me.0 boot c.call.seq (c.call.phase + 1) begun i b k (λ brick same. other brick);
                   operation = operation_says;
                   calls = calls;
                   packets = packets;

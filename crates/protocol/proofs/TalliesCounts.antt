@@ -1,7 +1,7 @@
 -- A reply counts in an open operation: the history of replies in the world that follows.
-use Rattle.std.proofs.Common.{◌≡◌, ◌≢◌, ℕ, ◌+◌, ◌-◌, ◌<◌, ◌≤◌, ◌⊎◌, inl, inr, ⊎_elim, true, false, List, [], ◌∷◌, ◌++◌, length, Option, Some, None, is_some, refl, sym, ap, ◌∙◌, subst, append_assoc, arith}
-use Rattle.std.specs.Prelude.{slice_get, if◌then◌else◌, nat_lt, max}
-use Rattle.std.proofs.lemmas.Bool.{cond_both, cases_eq}
+use Rattle.std.proofs.Common.{◌≡◌, ◌≢◌, ℕ, ◌+◌, ◌-◌, ◌<◌, ◌≤◌, ◌⊎◌, inl, inr, ⊎_elim, Bool, true, false, List, [], ◌∷◌, ◌++◌, length, Option, Some, None, is_some, refl, sym, ap, ◌∙◌, subst, append_assoc, arith}
+use Rattle.std.specs.Prelude.{slice_get, if◌then◌else◌, nat_lt, nat_eq, max}
+use Rattle.std.proofs.lemmas.Bool.{cond_both, cases_eq, eq-eqb}
 use Rattle.std.proofs.lemmas.List.{append-nil}
 use Rattle.std.proofs.lemmas.Option.{same_Some}
 use Rattle.fab_base.specs.declared.identities.BrickId.{BrickId}
@@ -19,19 +19,19 @@ use Rattle.reg_model.specs.Marks.{Life, life_of, IsOpen}
 use Rattle.protocol.specs.Settings.{Setting, Group}
 use Rattle.protocol.specs.Coordinators.{Phase, Looks, Orders, Recovers, Descends, Stores, Coordinator, Counted, Refuser, Next, Ignores, Waits, Sends, Makes, Ends, refuser_of, greater_refuser, greatest_refuser, with_reply}
 use Rattle.protocol.specs.Nodes.{Node, put, has_later_time, new_stamp, fresh_stamp, with_call, phase_packets, collect_packets, carried_out}
-use Rattle.protocol.specs.Worlds.{World, Operation, with_made, with_answer, with_counted, world_stepped}
+use Rattle.protocol.specs.Worlds.{World, Operation, number_of, known_in, with_made, with_answer, with_counted, world_stepped}
 use Rattle.protocol.specs.Laws.{WasSent, WriteSent, OrderSent, AskedAt, IsLastRound}
 use Rattle.protocol.proofs.Books.{Replies, Books, OperationBooks, CallBooks, IsOperation, IsCall, InRound}
-use Rattle.protocol.proofs.BooksKept.{calls_apart}
-use Rattle.protocol.proofs.BooksEvents.{brick_of}
+use Rattle.protocol.proofs.BooksKept.{KeepsNumbers, calls_apart}
+use Rattle.protocol.proofs.BooksEvents.{keeps_put, brick_of}
 use Rattle.protocol.proofs.Outcomes.{IsRound, first_round, ReordersFits, RecoversFits, SendsFits, NoRoundFits, LastFits, AbortFits, AnswerFits, NextFits}
 use Rattle.protocol.proofs.Said.{EachCounted}
 use Rattle.protocol.proofs.Counting.{each_more, refuser_counted}
 use Rattle.protocol.proofs.Puts.{put_other}
 use Rattle.protocol.proofs.Tables.{put_each, put_same, get_grown, get_one}
-use Rattle.protocol.proofs.Steps.{sent_by, known_by}
+use Rattle.protocol.proofs.Steps.{sent_by}
 use Rattle.protocol.proofs.Tallies.{IsTally, CallTallied, CountedSent, AbortShown, Tallied, MessagesShow, Furthers}
-use Rattle.protocol.proofs.TalliesKept.{call_tallied_on, counted_on, descent_on, write_on, asked_on, tallied_on}
+use Rattle.protocol.proofs.TalliesKept.{call_tallied_on, known_kept, counted_on, descent_on, write_on, asked_on, tallied_on}
 
 -- where there is no fresh stamp no later time is left
 none_left : (me : BrickId) (now boot known : ℕ) → fresh_stamp me now boot known ≡ None → has_later_time known ≡ false
@@ -85,7 +85,7 @@ module _ (setting : Setting) (group : Group) (w : World) (me : BrickId) (now kno
   k = c.call.seq
 
   abbrev n : ℕ
-  n = w.numbers me.0 c.call.seq
+  n = number_of w me.0 c.call.seq
 
   abbrev node : Node
   node = w.nodes me.0
@@ -94,7 +94,7 @@ module _ (setting : Setting) (group : Group) (w : World) (me : BrickId) (now kno
   one = record { seat = seat; brick = from; reply = reply }
 
   abbrev replies : Replies
-  replies = with_counted w.replies (w.numbers me.0 c.call.seq) c.call.phase (record { seat = seat; brick = from; reply = reply })
+  replies = with_counted w.replies (number_of w me.0 c.call.seq) c.call.phase (record { seat = seat; brick = from; reply = reply })
 
   abbrev fresh : Option Stamp
   fresh = fresh_stamp me now (w.nodes me.0).boot known
@@ -201,7 +201,7 @@ module _ (setting : Setting) (group : Group) (w : World) (me : BrickId) (now kno
     mine.operation_is,
     (
       c.call,
-      sym mine.seq,
+      (mine.call_boot ∙ sym mine.boot, sym mine.seq),
       refl,
       subst (λ (b : BrickId). WasSent w (record { from = from; to = b; message = Message.Reply c.call reply })) me_is sent,
     ),
@@ -242,56 +242,76 @@ module _ (setting : Setting) (group : Group) (w : World) (me : BrickId) (now kno
       (λ at. inl (refl, refl, at)) (λ b other at. inr (at, λ same seq. other seq)) l)
       (λ a other at. inr (at, λ same seq. other same)) j
 
-  calls_next : (time busy : ℕ) (d : Option Coordinator) → ((e : Coordinator) → d ≡ Some e → CallTallied replies n e)
-      → (j l : ℕ) (e : Coordinator) → (put w.nodes i (with_call node time busy k d) j).calls l ≡ Some e → CallTallied replies (w.numbers j l) e
-  calls_next time busy d new j l e at = ⊎_elim
-      (λ (own : (j ≡ i) × (l ≡ k) × (d ≡ Some e)).
-      subst (λ (a : ℕ). CallTallied replies (w.numbers a l) e) (sym own.0) (subst (λ (b : ℕ). CallTallied replies (w.numbers i b) e) (sym own.1) (new e own.2)))
-      (λ (other : IsCall w j l e × (j ≡ i → l ≡ k → ⊥)).
-      let apart : w.numbers j l ≢ n = λ same.
-      (let both : (j ≡ i) × (l ≡ k) = calls_apart setting w i k j l c e mine (books.calls j l e other.0) same in other.1 both.0 both.1) in
-      call_tallied_on w.replies replies (w.numbers j l) (w.numbers j l) e refl (other_replies (w.numbers j l) apart) (tallied.calls j l e other.0))
-      (call_at time busy d j l e at)
+  -- bricks keep their numbers
+  keeps : (time busy : ℕ) (d : Option Coordinator) → node.known ≤ time → (j : ℕ) → KeepsNumbers (w.nodes j) (put w.nodes i (with_call node time busy k d) j)
+  keeps time busy d later = keeps_put w i (with_call node time busy k d) (record { boot = refl; seq = refl; known = later })
 
-  calls_by : (time busy : ℕ) (d : Coordinator) → CallTallied replies n d
-      → (j l : ℕ) (e : Coordinator) → (put w.nodes i (with_call node time busy k (Some d)) j).calls l ≡ Some e → CallTallied replies (w.numbers j l) e
-  calls_by time busy d new = calls_next time busy (Some d) (λ e at. subst (λ (z : Coordinator). CallTallied replies n z) (same_Some d e at) new)
+  -- the number of a call, once this one is at d
+  abbrev number_next : ℕ → ℕ → Option Coordinator → ℕ → ℕ → ℕ
+  number_next time busy d j l = w.numbers j (put w.nodes i (with_call node time busy k d) j).boot l
+
+  -- the history of each open operation, where this one is at d, or has ended
+  calls_next : (time busy : ℕ) (d : Option Coordinator) → node.known ≤ time → ((e : Coordinator) → d ≡ Some e → CallTallied replies n e)
+      → (j l : ℕ) (e : Coordinator) → (put w.nodes i (with_call node time busy k d) j).calls l ≡ Some e
+      → CallTallied replies (number_next time busy d j l) e
+  calls_next time busy d later new j l e at =
+      subst (λ (b : ℕ). CallTallied replies (w.numbers j b l) e) (sym (keeps time busy d later j).boot)
+      (⊎_elim
+      (λ (own : (j ≡ i) × (l ≡ k) × (d ≡ Some e)).
+      subst (λ (a : ℕ). CallTallied replies (number_of w a l) e) (sym own.0) (subst (λ (b : ℕ). CallTallied replies (number_of w i b) e) (sym own.1) (new e own.2)))
+      (λ (other : IsCall w j l e × (j ≡ i → l ≡ k → ⊥)).
+      let apart : number_of w j l ≢ n = λ same.
+      (let both : (j ≡ i) × (l ≡ k) = calls_apart setting w i k j l c e mine (books.calls j l e other.0) same in other.1 both.0 both.1) in
+      call_tallied_on w.replies replies (number_of w j l) (number_of w j l) e refl (other_replies (number_of w j l) apart) (tallied.calls j l e other.0))
+      (call_at time busy d j l e at))
+
+  calls_by : (time busy : ℕ) (d : Coordinator) → node.known ≤ time → CallTallied replies n d
+      → (j l : ℕ) (e : Coordinator) → (put w.nodes i (with_call node time busy k (Some d)) j).calls l ≡ Some e
+      → CallTallied replies (number_next time busy (Some d) j l) e
+  calls_by time busy d later new =
+      calls_next time busy (Some d) later (λ e at. subst (λ (z : Coordinator). CallTallied replies n z) (same_Some d e at) new)
 
   -- the next world goes on from this one
   furthers : (next : World) (time busy : ℕ) (d : Option Coordinator) (more : List Packet) → next.nodes ≡ put w.nodes i (with_call node time busy k d)
-      → node.known ≤ time → next.packets ≡ w.packets ++ more → next.replies ≡ replies
-      → ((m : ℕ) (e : Operation) → IsOperation w m e → (p : Operation) × IsOperation next m p × (p.brick ≡ e.brick) × (p.seq ≡ e.seq)) → Furthers w next
-  furthers next time busy d more nodes later packets same operations = record {
-    sent = sent_by w next more packets;
-    known = known_by w next i (with_call node time busy k d) nodes later;
-    operations = operations;
-    replies = λ m. ⊎_elim
-        (λ (at : m ≡ n). inr (subst (λ (x : ℕ). IsOpen (life_of w.marks x)) (sym at) open_now))
-        (λ (other : m ≢ n). inl (λ p. ap (λ (f : Replies). f m p) same ∙ other_replies m other p))
-        (cases_eq m n);
-  }
+      → node.known ≤ time → next.packets ≡ w.packets ++ more → next.replies ≡ replies → ((j b : ℕ) → next.past j b ≡ w.past j b)
+      → ((m : ℕ) (e : Operation) → IsOperation w m e
+      → (p : Operation) × IsOperation next m p × (p.brick ≡ e.brick) × (p.boot ≡ e.boot) × (p.seq ≡ e.seq))
+      → Furthers w next
+  furthers next time busy d more nodes later packets same past operations =
+      let kept : (j : ℕ) → KeepsNumbers (w.nodes j) (next.nodes j) = λ j.
+      subst (λ (f : ℕ → Node). KeepsNumbers (w.nodes j) (f j)) (sym nodes) (keeps time busy d later j) in
+      record {
+        sent = sent_by w next more packets;
+        known = known_kept w next past (λ j. (kept j).boot) (λ j. (kept j).known);
+        operations = operations;
+        replies = λ m. ⊎_elim
+            (λ (at : m ≡ n). inr (subst (λ (x : ℕ). IsOpen (life_of w.marks x)) (sym at) open_now))
+            (λ (other : m ≢ n). inl (λ p. ap (λ (f : Replies). f m p) same ∙ other_replies m other p))
+            (cases_eq m n);
+      }
 
   -- the world after what the coordinator decides
   abbrev after : Next → World
   after next =
-      world_stepped (record w { replies = with_counted w.replies (w.numbers me.0 c.call.seq) c.call.phase (record { seat = seat; brick = from; reply = reply }) }) me
+      world_stepped (record w { replies = with_counted w.replies (number_of w me.0 c.call.seq) c.call.phase (record { seat = seat; brick = from; reply = reply }) }) me
       (carried_out setting group me (w.nodes me.0) known c next) (carried_out setting group me (w.nodes me.0) known c next).told
 
-  same_operations : (m : ℕ) (e : Operation) → IsOperation w m e → (p : Operation) × IsOperation w m p × (p.brick ≡ e.brick) × (p.seq ≡ e.seq)
-  same_operations m e at = (e, at, refl, refl)
+  same_operations : (m : ℕ) (e : Operation) → IsOperation w m e → (p : Operation) × IsOperation w m p × (p.brick ≡ e.brick) × (p.boot ≡ e.boot) × (p.seq ≡ e.seq)
+  same_operations m e at = (e, at, refl, refl, refl)
 
   made_operations : (t : Stamp) (base : Option Stamp) (m : ℕ) (e : Operation) → IsOperation w m e
-      → (p : Operation) × (put w.operations n (with_made t base (w.operations n)) m ≡ Some p) × (p.brick ≡ e.brick) × (p.seq ≡ e.seq)
+      → (p : Operation) × (put w.operations n (with_made t base (w.operations n)) m ≡ Some p) × (p.brick ≡ e.brick) × (p.boot ≡ e.boot) × (p.seq ≡ e.seq)
   made_operations t base m e =
-      put_each (λ a y. IsOperation w a e → (p : Operation) × (y ≡ Some p) × (p.brick ≡ e.brick) × (p.seq ≡ e.seq)) w.operations n
-      (with_made t base (w.operations n)) (λ at. (_, ap (λ (z : Option Operation). with_made t base z) at, refl, refl)) (λ a other at. (e, at, refl, refl)) m
+      put_each (λ a y. IsOperation w a e → (p : Operation) × (y ≡ Some p) × (p.brick ≡ e.brick) × (p.boot ≡ e.boot) × (p.seq ≡ e.seq)) w.operations n
+      (with_made t base (w.operations n)) (λ at. (_, ap (λ (z : Option Operation). with_made t base z) at, refl, refl, refl))
+      (λ a other at. (e, at, refl, refl, refl)) m
 
   answered_operations : (answer : Answer) (seen : Option Stamp) (m : ℕ) (e : Operation) → IsOperation w m e
-      → (p : Operation) × (put w.operations n (with_answer answer seen (w.operations n)) m ≡ Some p) × (p.brick ≡ e.brick) × (p.seq ≡ e.seq)
+      → (p : Operation) × (put w.operations n (with_answer answer seen (w.operations n)) m ≡ Some p) × (p.brick ≡ e.brick) × (p.boot ≡ e.boot) × (p.seq ≡ e.seq)
   answered_operations answer seen m e =
-      put_each (λ a y. IsOperation w a e → (p : Operation) × (y ≡ Some p) × (p.brick ≡ e.brick) × (p.seq ≡ e.seq)) w.operations n
-      (with_answer answer seen (w.operations n)) (λ at. (_, ap (λ (z : Option Operation). with_answer answer seen z) at, refl, refl))
-      (λ a other at. (e, at, refl, refl)) m
+      put_each (λ a y. IsOperation w a e → (p : Operation) × (y ≡ Some p) × (p.brick ≡ e.brick) × (p.boot ≡ e.boot) × (p.seq ≡ e.seq)) w.operations n
+      (with_answer answer seen (w.operations n)) (λ at. (_, ap (λ (z : Option Operation). with_answer answer seen z) at, refl, refl, refl))
+      (λ a other at. (e, at, refl, refl, refl)) m
 
   -- the evidence of an abort
   abort_shown : (answer : Answer) (seen stored : Option Stamp) (brick : BrickId) (x : Stamp) → AbortFits fresh (with_reply c seat from reply) brick x
@@ -307,33 +327,38 @@ module _ (setting : Setting) (group : Group) (w : World) (me : BrickId) (now kno
       (subst (λ (y : Reply). WasSent w (record { from = found.0.brick; to = me; message = Message.Reply c.call y })) found.2 found.1) in
       let low = shows.later c.call brick me x told in
       let goes = on.operations n o mine.operation_is in
-      let by : me ≡ goes.0.brick = me_is ∙ sym goes.2 in (
+      let by : me ≡ goes.0.brick = me_is ∙ sym goes.2 in
+      let boot : goes.0.boot ≡ node.boot = goes.3 ∙ mine.boot in (
         goes.0,
         goes.1,
         record {
           call = c.call;
           stamp = low.0;
           seat = fits.seat;
-          own = sym mine.seq ∙ sym goes.3;
+          own = (mine.call_boot ∙ sym boot, sym mine.seq ∙ sym goes.4);
           asked = subst (λ (b : BrickId). AskedAt (after (Ends answer seen stored)) c.call b brick low.0) by
               (asked_on w (after (Ends answer seen stored)) on c.call me brick low.0 low.1);
           told = subst (λ (b : BrickId). WasSent (after (Ends answer seen stored)) (record { from = brick; to = b; message = Message.Reply c.call (Reply.Later x) })) by
               (on.sent (record { from = brick; to = me; message = Message.Reply c.call (Reply.Later x) }) told);
           above = low.2;
           greatest = refuser_now ∙ fits.refused;
-          last = λ order. last_by goes.0 by low.0 low.1 c.phase refl fits.last order;
+          last = λ order. last_by goes.0 by boot low.0 low.1 c.phase refl fits.last order;
         },
       )
     where
-      known_now : (put w.nodes i (with_call node known (node.busy - 1) k None) i).known ≡ known
-      known_now = ap (λ (y : Node). y.known) (put_same w.nodes i (with_call node known (node.busy - 1) k None))
+      -- the time that the brick knows in its present boot
+      known_now : known_in (after (Ends answer seen stored)) i node.boot ≡ known
+      known_now =
+          ap (λ (y : Node). if nat_eq node.boot y.boot then y.known else w.past i node.boot) (put_same w.nodes i (with_call node known (node.busy - 1) k None))
+          ∙ ap (λ (t : Bool). if t then known else w.past i node.boot) (eq-eqb node.boot node.boot refl)
 
-      last_round : (e : Operation) → me ≡ e.brick → IsRound c.phase → NoRoundFits fresh (with_reply c seat from reply)
+      last_round : (e : Operation) → me ≡ e.brick → e.boot ≡ node.boot → IsRound c.phase → NoRoundFits fresh (with_reply c seat from reply)
           → IsLastRound (after (Ends answer seen stored)) n e c.call.phase
-      last_round e by round (inl none) =
-          inr (subst (λ (b : BrickId). has_later_time ((after (Ends answer seen stored)).nodes b.0).known ≡ false) by
-          (ap (λ (y : ℕ). has_later_time y) known_now ∙ none_left me now node.boot known none))
-      last_round e by round (inr most) =
+      last_round e by boot round (inl none) =
+          inr (subst (λ (b : BrickId). has_later_time (known_in (after (Ends answer seen stored)) b.0 e.boot) ≡ false) by
+          (subst (λ (b : ℕ). has_later_time (known_in (after (Ends answer seen stored)) i b) ≡ false) (sym boot)
+          (ap (λ (y : ℕ). has_later_time y) known_now ∙ none_left me now node.boot known none)))
+      last_round e by boot round (inr most) =
           let facts = round_of c c.phase round mine.in_round in
           inl (omega (arith, facts.0, facts.1), λ p few less. refused_before round p (omega (arith, facts.0)) less)
 
@@ -353,24 +378,25 @@ module _ (setting : Setting) (group : Group) (w : World) (me : BrickId) (now kno
           (descent_on w (after (Ends answer seen stored)) on c.call me brick t bound sent.1)
           (subst (λ (b : BrickId). OrderSent (after (Ends answer seen stored)) c.call b brick t) (sym by) order)
 
-      last_by : (e : Operation) → me ≡ e.brick → (t : Stamp) → AskedAt w c.call me brick t → (p : Phase) → c.phase ≡ p
+      last_by : (e : Operation) → me ≡ e.brick → e.boot ≡ node.boot → (t : Stamp) → AskedAt w c.call me brick t → (p : Phase) → c.phase ≡ p
           → LastFits fresh (with_reply c seat from reply) p → OrderSent (after (Ends answer seen stored)) c.call e.brick brick t
           → IsLastRound (after (Ends answer seen stored)) n e c.call.phase
-      last_by e by t asked Looks at fits order = absurd fits
-      last_by e by t asked Orders at fits order = last_round e by (subst (λ (x : Phase). IsRound x) (sym at) tt) fits
-      last_by e by t asked Recovers at fits order = last_round e by (subst (λ (x : Phase). IsRound x) (sym at) tt) fits
-      last_by e by t asked (Descends bound) at fits order = absurd (descended_order e by t bound asked at order)
-      last_by e by t asked Stores at fits order = absurd (stored_order e by t asked at order)
+      last_by e by boot t asked Looks at fits order = absurd fits
+      last_by e by boot t asked Orders at fits order = last_round e by boot (subst (λ (x : Phase). IsRound x) (sym at) tt) fits
+      last_by e by boot t asked Recovers at fits order = last_round e by boot (subst (λ (x : Phase). IsRound x) (sym at) tt) fits
+      last_by e by boot t asked (Descends bound) at fits order = absurd (descended_order e by t bound asked at order)
+      last_by e by boot t asked Stores at fits order = absurd (stored_order e by t asked at order)
 
   -- the history of replies after what the coordinator decides
   pub tallied_counted : (next : Next) → NextFits fresh (with_reply c seat from reply) next → MessagesShow (after next) → Tallied (after next)
   tallied_counted Ignores fits later = absurd fits
   tallied_counted (Waits d) fits later =
-      let on : Furthers w (after (Waits d)) = furthers (after (Waits d)) known node.busy (Some d) [] refl grows refl refl same_operations in
+      let on : Furthers w (after (Waits d)) = furthers (after (Waits d)) known node.busy (Some d) [] refl grows refl refl
+      (λ j b. refl) same_operations in
       let phase : d.call.phase ≡ c.call.phase = ap (λ (x : Call). x.phase) fits.call in
       let first : first_round d.phase ≡ first_round c.phase = ap (λ (x : Phase). first_round x) fits.phase in
       tallied_on setting w (after (Waits d)) books tallied later on
-      (calls_by known node.busy d (record {
+      (calls_by known node.busy d grows (record {
         now = subst (λ (p : ℕ). IsTally (replies n p) d.counted) (sym phase) (tally_waits d.counted fits.counted);
         later = λ p above. replies_later p (omega arith);
         refused = λ round p low high. refused_before (subst (λ (x : Phase). IsRound x) fits.phase round) p (omega arith) (omega arith);
@@ -378,10 +404,10 @@ module _ (setting : Setting) (group : Group) (w : World) (me : BrickId) (now kno
       unbegun (counted_next (after (Waits d)) on) (λ a p m brick x at. inl at)
   tallied_counted (Sends d) fits later =
       let on : Furthers w (after (Sends d)) = furthers (after (Sends d)) (max known d.stamp.time) node.busy (Some d) (phase_packets setting group me d) refl
-      (omega arith) refl refl same_operations in
+      (omega arith) refl refl (λ j b. refl) same_operations in
       let phase : d.call.phase ≡ c.call.phase + 1 = ap (λ (x : Call). x.phase) fits.call in
       tallied_on setting w (after (Sends d)) books tallied later on
-      (calls_by (max known d.stamp.time) node.busy d (record {
+      (calls_by (max known d.stamp.time) node.busy d (omega arith) (record {
         now = tally_begins d.call.phase d.counted fits.counted (omega arith);
         later = λ p above. replies_later p (omega arith);
         refused = refused_sends d fits phase;
@@ -389,10 +415,10 @@ module _ (setting : Setting) (group : Group) (w : World) (me : BrickId) (now kno
       unbegun (counted_next (after (Sends d)) on) (λ a p m brick x at. inl at)
   tallied_counted (Makes d) fits later =
       let on : Furthers w (after (Makes d)) = furthers (after (Makes d)) known node.busy (Some d) (phase_packets setting group me d) refl grows refl refl
-      (made_operations d.stamp d.base) in
+      (λ j b. refl) (made_operations d.stamp d.base) in
       let phase : d.call.phase ≡ c.call.phase + 1 = ap (λ (x : Call). x.phase) fits.call in
       tallied_on setting w (after (Makes d)) books tallied later on
-      (calls_by known node.busy d (record {
+      (calls_by known node.busy d grows (record {
         now = tally_begins d.call.phase d.counted fits.counted (omega arith);
         later = λ p above. replies_later p (omega arith);
         refused = λ round p low high. absurd (subst (λ (x : Phase). IsRound x) fits.phase round);
@@ -400,9 +426,9 @@ module _ (setting : Setting) (group : Group) (w : World) (me : BrickId) (now kno
       unbegun (counted_next (after (Makes d)) on) (λ a p m brick x at. inl at)
   tallied_counted (Ends answer seen stored) fits later =
       let on : Furthers w (after (Ends answer seen stored)) = furthers (after (Ends answer seen stored)) known (node.busy - 1) None
-      (collect_packets group me c.call stored) refl grows refl refl (answered_operations answer seen) in
+      (collect_packets group me c.call stored) refl grows refl refl (λ j b. refl) (answered_operations answer seen) in
       tallied_on setting w (after (Ends answer seen stored)) books tallied later on
-      (calls_next known (node.busy - 1) None (λ e at. absurd (let never : None ≡ Some e = at in cc)))
+      (calls_next known (node.busy - 1) None grows (λ e at. absurd (let never : None ≡ Some e = at in cc)))
       unbegun (counted_next (after (Ends answer seen stored)) on)
       (λ a p m brick x at. ⊎_elim
       (λ (old : slice_get w.marks a ≡ Some (End p m (Aborted (Cause.Later brick x)))). inl old)

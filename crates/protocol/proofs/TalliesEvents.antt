@@ -1,7 +1,7 @@
 -- Every event keeps the history of replies.
-use Rattle.std.proofs.Common.{◌≡◌, ℕ, ◌+◌, ◌≤◌, ◌⊎◌, inl, inr, ⊎_elim, true, Option, Some, None, List, [], ◌∷◌, ◌++◌, length, refl, sym, ◌∙◌, subst, arith}
+use Rattle.std.proofs.Common.{◌≡◌, ◌≢◌, ℕ, ◌+◌, ◌≤◌, ◌⊎◌, inl, inr, ⊎_elim, true, false, ◌&&◌, ap, Option, Some, None, List, [], ◌∷◌, ◌++◌, length, refl, sym, ◌∙◌, subst, arith}
 use Rattle.std.specs.Prelude.{slice_get}
-use Rattle.std.proofs.lemmas.Bool.{cond_both}
+use Rattle.std.proofs.lemmas.Bool.{cond_both, cases_eq}
 use Rattle.std.proofs.lemmas.Option.{same_Some}
 use Rattle.fab_base.specs.declared.identities.BrickId.{BrickId}
 use Rattle.fab_base.specs.declared.asks.Ask.{Ask}
@@ -16,18 +16,19 @@ use Rattle.fab_wire.specs.declared.requests.Look.TheVariants as Look
 use Rattle.fab_wire.specs.declared.requests.Request.{Request}
 use Rattle.fab_wire.specs.declared.requests.Want.TheVariants as Want
 use Rattle.fab_wire.specs.declared.replies.Reply.{Reply}
-use Rattle.reg_model.specs.declared.marks.Mark.TheVariants.{Begin, End}
+use Rattle.reg_model.specs.declared.marks.Mark.TheVariants.{Begin, End, Crash}
 use Rattle.protocol.specs.Settings.{Setting, Group, group_of, IsSound, seat_in}
 use Rattle.protocol.specs.Replicas.{handle}
 use Rattle.protocol.specs.Coordinators.{Coordinator, with_reply, once_full, counted_at, counts_at, on_reply}
-use Rattle.protocol.specs.Nodes.{Node, new_coordinator, Nothing, put, no_step, fresh_stamp, began_in, began, invoked, with_replica, replica_at, reply_packets, requested_at, requested_in, requested, known_after, with_known, carried_out, replied_to, replied_at, replied, received}
-use Rattle.protocol.specs.Worlds.{World, Event, Invokes, Delivers, Sets, first_world, is_brick, may_begin, world_began, counted_after, replies_in, replies_at, replies_with, delivered, packet_of, happens, run}
+use Rattle.protocol.specs.Nodes.{Node, NodeStep, is_served, fits_block, absorbed, ticked, new_coordinator, Nothing, put, no_step, fresh_stamp, began_in, began, invoked, with_replica, replica_at, reply_packets, requested_at, requested_in, requested, known_after, with_known, carried_out, replied_to, replied_at, replied, received}
+use Rattle.protocol.specs.Worlds.{World, Event, Invokes, Delivers, Sets, Ticks, Crashes, Starts, Absorbs, first_world, is_brick, is_up, may_begin, may_start, number_of, world_absorbed, world_stopped, world_started, world_began, counted_after, replies_in, replies_at, replies_with, delivered, packet_of, happens, run}
 use Rattle.protocol.specs.Laws.{WasSent}
 use Rattle.protocol.proofs.Books.{Books, IsCall}
 use Rattle.protocol.proofs.BooksKept.{KeepsNumbers, cases_call}
-use Rattle.protocol.proofs.BooksQuiet.{quiet_world}
-use Rattle.protocol.proofs.BooksBegins.{call_is, other_calls, number_is, other_numbers, other_operations, knows}
-use Rattle.protocol.proofs.BooksEvents.{keeps_put, stepped, known_grows, BeginFits, begin_fits}
+use Rattle.protocol.proofs.BooksQuiet.{quiet_world, started_calls, unstarted, started_known}
+use Rattle.protocol.proofs.BooksEnds.{stopped_keeps, stopped_calls, unstopped_calls}
+use Rattle.protocol.proofs.BooksBegins.{call_is, other_calls, same_boots, call_number, other_number, other_operations, knows}
+use Rattle.protocol.proofs.BooksEvents.{keeps_put, stepped, known_grows, BeginFits, begin_fits, begin_up, KeepsCalls, absorbed_keeps, start_fits}
 use Rattle.protocol.proofs.Outcomes.{first_round_above, once_full_fits}
 use Rattle.protocol.proofs.Said.{Stamping, Said, IsSaid, IsRecovery, CountedSays}
 use Rattle.protocol.proofs.SaidAlways.{packet_was_sent, said_first, said_run}
@@ -36,7 +37,7 @@ use Rattle.protocol.proofs.Counting.{each_then}
 use Rattle.protocol.proofs.CountsAt.{CountsAt, counts_facts}
 use Rattle.protocol.proofs.Tables.{put_each, get_kept, get_grown, get_one}
 use Rattle.protocol.proofs.Tallies.{CallTallied, Tallied, MessagesShow}
-use Rattle.protocol.proofs.TalliesKept.{call_tallied_on, tallied_on}
+use Rattle.protocol.proofs.TalliesKept.{call_tallied_on, known_kept, tallied_on}
 use Rattle.protocol.proofs.TalliesCounts.{tallied_counted}
 
 -- a step that changes no operation
@@ -49,11 +50,13 @@ tallied_quiet setting w nodes clocks packets books tallied shows keeps calls sen
     tallied_on setting w (quiet_world w nodes clocks packets w.replies) books tallied shows
     (record {
       sent = sent;
-      known = λ i. (keeps i).known;
-      operations = λ n o is. (o, is, refl, refl);
+      known = known_kept w (quiet_world w nodes clocks packets w.replies) (λ i b. refl) (λ i. (keeps i).boot) (λ i. (keeps i).known);
+      operations = λ n o is. (o, is, refl, refl, refl);
       replies = λ n. inl (λ p. refl);
     })
-    (λ i k c is. tallied.calls i k c (sym (calls i k) ∙ is)) tallied.unbegun (λ n phase k x is. inl is) (λ k p n brick x is. inl is)
+    (λ i k c is. call_tallied_on w.replies w.replies (number_of w i k) (w.numbers i (nodes i).boot k) c
+    (ap (λ (b : ℕ). w.numbers i b k) (keeps i).boot) (λ p. refl) (tallied.calls i k c (sym (calls i k) ∙ is)))
+    tallied.unbegun (λ n phase k x is. inl is) (λ k p n brick x is. inl is)
 
 tallied_nothing : (setting : Setting) (w : World) (me : BrickId) (node : Node) (packets : List Packet) → Books setting w → Tallied w
     → MessagesShow (stepped w w.replies me (record { node = node; packets = packets; told = Nothing })) → KeepsNumbers (w.nodes me.0) node
@@ -90,10 +93,13 @@ tallied_requested setting w me from call request books tallied = in_group (group
         tallied_nothing setting w me (with_replica (w.nodes me.0) call reaction.replica) (reply_packets me from call reaction.reply) books tallied shows
         (record { boot = refl; seq = refl; known = omega arith }) (λ l. refl)
 
-    in_group : (z : Option Group) → MessagesShow (stepped w w.replies me (requested_in me from (w.nodes me.0) call request z))
-        → Tallied (stepped w w.replies me (requested_in me from (w.nodes me.0) call request z))
+    in_group : (z : Option Group) → MessagesShow (stepped w w.replies me (requested_in setting.layout.block me from (w.nodes me.0) call request z))
+        → Tallied (stepped w w.replies me (requested_in setting.layout.block me from (w.nodes me.0) call request z))
     in_group None shows = tallied_no_step setting w me books tallied shows
-    in_group (Some group) shows = at_seat (seat_in group.members me.0) shows
+    in_group (Some group) shows =
+        cond_both (is_served group call && fits_block setting.layout.block request) _ _
+        (λ (step : NodeStep). MessagesShow (stepped w w.replies me step) → Tallied (stepped w w.replies me step))
+        (λ is. at_seat (seat_in group.members me.0)) (λ isnt. tallied_no_step setting w me books tallied) shows
 
 -- a reply
 tallied_replied : (setting : Setting) (w : World) (me : BrickId) (now : ℕ) (from : BrickId) (call : Call) (reply : Reply) → Books setting w → Tallied w
@@ -104,10 +110,10 @@ unfolding replied on_reply
 tallied_replied setting w me now from call reply books tallied shows sent = at_call ((w.nodes me.0).calls call.seq) refl
   where
     at_seat : (c : Coordinator) (group : Group) → IsCall w me.0 call.seq c → (z : Option ℕ) → counts_at setting.layout.block group c from.0 call reply ≡ z
-        → MessagesShow (stepped w (counted_after w.replies (w.numbers me.0 call.seq) from call reply z) me
+        → MessagesShow (stepped w (counted_after w.replies (number_of w me.0 call.seq) from call reply z) me
         (carried_out setting group me (w.nodes me.0) (known_after (w.nodes me.0).known reply) c
         (counted_at setting.code group (fresh_stamp me now (w.nodes me.0).boot (known_after (w.nodes me.0).known reply)) c from reply z)))
-        → Tallied (stepped w (counted_after w.replies (w.numbers me.0 call.seq) from call reply z) me
+        → Tallied (stepped w (counted_after w.replies (number_of w me.0 call.seq) from call reply z) me
         (carried_out setting group me (w.nodes me.0) (known_after (w.nodes me.0).known reply) c
         (counted_at setting.code group (fresh_stamp me now (w.nodes me.0).boot (known_after (w.nodes me.0).known reply)) c from reply z)))
     at_seat c group is None none later =
@@ -116,7 +122,7 @@ tallied_replied setting w me now from call reply books tallied shows sent = at_c
         let facts : CountsAt setting.layout.block group c from.0 call reply seat = counts_facts setting.layout.block group c from.0 call reply seat counts in
         let time : ℕ = known_after (w.nodes me.0).known reply in
         let fresh : Option Stamp = fresh_stamp me now (w.nodes me.0).boot time in
-        let after : Call → World = λ k. stepped w (counted_after w.replies (w.numbers me.0 k.seq) from k reply (Some seat)) me
+        let after : Call → World = λ k. stepped w (counted_after w.replies (number_of w me.0 k.seq) from k reply (Some seat)) me
         (carried_out setting group me (w.nodes me.0) time c (once_full setting.code group fresh (with_reply c seat from reply))) in
         subst (λ (k : Call). MessagesShow (after k) → Tallied (after k)) (sym facts.call_is)
         (tallied_counted setting group w me now time c from reply seat books tallied shows
@@ -156,16 +162,17 @@ tallied_delivered : (setting : Setting) (w : World) (packet : Option Packet) →
     → ((sent : Packet) → packet ≡ Some sent → WasSent w sent) → MessagesShow (delivered setting w packet) → Tallied (delivered setting w packet)
 tallied_delivered setting w None books tallied shows sent shown = tallied
 tallied_delivered setting w (Some packet) books tallied shows sent shown =
-    cond_both (is_brick setting.layout packet.to) _ _ (λ (x : World). MessagesShow x → Tallied x)
+    cond_both (is_up setting.layout w packet.to) _ _ (λ (x : World). MessagesShow x → Tallied x)
     (λ member. tallied_received setting w (w.clocks packet.to.0) packet.from packet.to packet.message books tallied shows (sent packet refl))
     (λ stranger same. tallied)
     shown
 
 -- an operation begins
-tallied_began : (setting : Setting) (w : World) (brick : BrickId) (now : ℕ) (ask : Ask) (fits : BeginFits setting ask) → Books setting w → Tallied w
+tallied_began : (setting : Setting) (w : World) (brick : BrickId) (now : ℕ) (ask : Ask) (fits : BeginFits setting ask) → w.up brick.0 ≡ true
+    → Books setting w → Tallied w
     → MessagesShow (world_began w brick ask (began_in setting fits.group brick (w.nodes brick.0) (new_coordinator brick now (w.nodes brick.0) ask)))
     → Tallied (world_began w brick ask (began_in setting fits.group brick (w.nodes brick.0) (new_coordinator brick now (w.nodes brick.0) ask)))
-tallied_began setting w brick now ask fits books tallied shows =
+tallied_began setting w brick now ask fits up books tallied shows =
     let next : World = world_began w brick ask (began_in setting fits.group brick (w.nodes brick.0) (new_coordinator brick now (w.nodes brick.0) ask)) in
     let i : ℕ = brick.0 in
     let k : ℕ = (w.nodes brick.0).seq + 1 in
@@ -179,11 +186,14 @@ tallied_began setting w brick now ask fits books tallied shows =
     tallied_on setting w next books tallied shows
     (record {
       sent = λ packet sent. (sent.0, get_kept w.packets _ sent.0 packet sent.1);
-      known = knows setting w brick now ask fits.group books fits.is_stripe_op fits.group_is fits.stripe fits.length_fits;
+      known = known_kept w next (λ j b. refl)
+          (same_boots setting w brick now ask fits.group books fits.is_stripe_op fits.group_is fits.stripe up fits.length_fits)
+          (knows setting w brick now ask fits.group books fits.is_stripe_op fits.group_is fits.stripe up fits.length_fits);
       operations = λ m o is. (
         o,
-        other_operations setting w brick now ask fits.group books fits.is_stripe_op fits.group_is fits.stripe fits.length_fits m
+        other_operations setting w brick now ask fits.group books fits.is_stripe_op fits.group_is fits.stripe up fits.length_fits m
             (λ same. omega (arith, (books.operations m o is).begun)) ∙ is,
+        refl,
         refl,
         refl,
       );
@@ -194,15 +204,15 @@ tallied_began setting w brick now ask fits books tallied shows =
     let at : (next.nodes i).calls k ≡ Some e
     = subst (λ (x : ℕ). (next.nodes x).calls k ≡ Some e) mine.0 (subst (λ (y : ℕ). (next.nodes j).calls y ≡ Some e) mine.1 is) in
     let one : c ≡ e = same_Some c e
-    (sym (call_is setting w brick now ask fits.group books fits.is_stripe_op fits.group_is fits.stripe fits.length_fits) ∙ at) in
-    let number : next.numbers i k ≡ n = number_is setting w brick now ask fits.group books fits.is_stripe_op fits.group_is fits.stripe fits.length_fits in
-    subst (λ (x : ℕ). CallTallied w.replies (next.numbers x l) e) (sym mine.0) (subst (λ (y : ℕ). CallTallied w.replies (next.numbers i y) e) (sym mine.1)
+    (sym (call_is setting w brick now ask fits.group books fits.is_stripe_op fits.group_is fits.stripe up fits.length_fits) ∙ at) in
+    let number : number_of next i k ≡ n = call_number setting w brick now ask fits.group books fits.is_stripe_op fits.group_is fits.stripe up fits.length_fits in
+    subst (λ (x : ℕ). CallTallied w.replies (number_of next x l) e) (sym mine.0) (subst (λ (y : ℕ). CallTallied w.replies (number_of next i y) e) (sym mine.1)
     (subst (λ (x : ℕ). CallTallied w.replies x e) (sym number) (subst (λ (z : Coordinator). CallTallied w.replies n z) one new))))
     (λ (other : j ≡ i → l ≡ k → ⊥).
     let old : IsCall w j l e
-    = sym (other_calls setting w brick now ask fits.group books fits.is_stripe_op fits.group_is fits.stripe fits.length_fits j l other) ∙ is in
-    call_tallied_on w.replies w.replies (w.numbers j l) (next.numbers j l) e
-    (other_numbers setting w brick now ask fits.group books fits.is_stripe_op fits.group_is fits.stripe fits.length_fits j l other)
+    = sym (other_calls setting w brick now ask fits.group books fits.is_stripe_op fits.group_is fits.stripe up fits.length_fits j l other) ∙ is in
+    call_tallied_on w.replies w.replies (number_of w j l) (number_of next j l) e
+    (other_number setting w brick now ask fits.group books fits.is_stripe_op fits.group_is fits.stripe up fits.length_fits j l other)
     (λ p. refl) (tallied.calls j l e old))
     (cases_call i k j l))
     (λ m p above. tallied.unbegun m p (omega arith))
@@ -222,7 +232,76 @@ tallied_invoked setting w brick now ask books tallied may =
     let fits : BeginFits setting ask = begin_fits setting w brick ask may in
     subst (λ (found : Option Group). MessagesShow (world_began w brick ask (began setting brick now (w.nodes brick.0) ask found))
     → Tallied (world_began w brick ask (began setting brick now (w.nodes brick.0) ask found))) (sym fits.group_is)
-    (tallied_began setting w brick now ask fits books tallied)
+    (tallied_began setting w brick now ask fits (begin_up setting w brick ask may) books tallied)
+
+-- a brick stops
+tallied_stopped : (setting : Setting) (w : World) (brick : BrickId) → Books setting w → Tallied w → MessagesShow (world_stopped w brick)
+    → Tallied (world_stopped w brick)
+tallied_stopped setting w brick books tallied shows =
+    let next : World = world_stopped w brick in
+    let keeps : (i : ℕ) → KeepsNumbers (w.nodes i) (next.nodes i) = stopped_keeps setting w brick books in
+    tallied_on setting w next books tallied shows
+    (record {
+      sent = λ packet sent. sent;
+      known = known_kept w next (λ i b. refl) (λ i. (keeps i).boot) (λ i. (keeps i).known);
+      operations = λ n o is. (o, is, refl, refl, refl);
+      replies = λ n. inl (λ p. refl);
+    })
+    (λ i k c is. ⊎_elim
+    (λ (mine : i ≡ brick.0).
+    let none : (next.nodes i).calls k ≡ None = ap (λ (x : ℕ). (next.nodes x).calls k) mine ∙ stopped_calls setting w brick books k in
+    absurd (let never : None ≡ Some c = sym none ∙ is in cc))
+    (λ (other : i ≢ brick.0).
+    let old : IsCall w i k c = sym (unstopped_calls setting w brick books i k other) ∙ is in
+    call_tallied_on w.replies w.replies (number_of w i k) (number_of next i k) c (ap (λ (b : ℕ). w.numbers i b k) (keeps i).boot) (λ p. refl)
+    (tallied.calls i k c old))
+    (cases_eq i brick.0))
+    tallied.unbegun (λ n phase k x is. inl is)
+    (λ k p n by x is. ⊎_elim
+    (λ (old : slice_get w.marks k ≡ Some (End p n (Aborted (Cause.Later by x)))). inl old)
+    (λ (new : (q : ℕ) × (slice_get (Crash (length w.marks) brick ∷ []) q ≡ Some (End p n (Aborted (Cause.Later by x))))).
+    absurd (let never : Crash (length w.marks) brick ≡ End p n (Aborted (Cause.Later by x))
+    = get_one (Crash (length w.marks) brick) (End p n (Aborted (Cause.Later by x))) new.0 new.1 in cc))
+    (get_grown w.marks (Crash (length w.marks) brick ∷ []) k (End p n (Aborted (Cause.Later by x))) is))
+
+-- a stopped brick is started again
+tallied_started : (setting : Setting) (w : World) (brick : BrickId) (openings : ℕ) → w.up brick.0 ≡ false → 1 ≤ openings → Books setting w → Tallied w
+    → MessagesShow (world_started w brick openings) → Tallied (world_started w brick openings)
+tallied_started setting w brick openings down once books tallied shows =
+    let next : World = world_started w brick openings in
+    tallied_on setting w next books tallied shows
+    (record {
+      sent = λ packet sent. sent;
+      known = started_known setting w brick openings books down once;
+      operations = λ n o is. (o, is, refl, refl, refl);
+      replies = λ n. inl (λ p. refl);
+    })
+    (λ i k c is. ⊎_elim
+    (λ (mine : i ≡ brick.0).
+    let none : (next.nodes i).calls k ≡ None = ap (λ (x : ℕ). (next.nodes x).calls k) mine ∙ started_calls setting w brick openings books down once k in
+    absurd (let never : None ≡ Some c = sym none ∙ is in cc))
+    (λ (other : i ≢ brick.0).
+    let same : next.nodes i ≡ w.nodes i = unstarted setting w brick openings books down once i other in
+    let old : IsCall w i k c = sym (ap (λ (x : Node). x.calls k) same) ∙ is in
+    call_tallied_on w.replies w.replies (number_of w i k) (number_of next i k) c (ap (λ (x : Node). w.numbers i x.boot k) same) (λ p. refl)
+    (tallied.calls i k c old))
+    (cases_eq i brick.0))
+    tallied.unbegun (λ n phase k x is. inl is) (λ k p n by x is. inl is)
+
+-- a message is handled, and the reply is lost
+tallied_absorbed : (setting : Setting) (w : World) (packet : Option Packet) → Books setting w → Tallied w
+    → MessagesShow (world_absorbed setting w packet) → Tallied (world_absorbed setting w packet)
+tallied_absorbed setting w None books tallied shown = tallied
+tallied_absorbed setting w (Some packet) books tallied shown =
+    let me : ℕ = packet.to.0 in
+    let node : Node = absorbed setting packet.to (w.nodes packet.to.0) packet in
+    let keeps : KeepsCalls (w.nodes packet.to.0) node = absorbed_keeps setting packet.to (w.nodes packet.to.0) packet.from packet.to packet.message in
+    cond_both (is_up setting.layout w packet.to) _ _ (λ (x : World). MessagesShow x → Tallied x)
+    (λ up shows. tallied_quiet setting w (put w.nodes me node) w.clocks w.packets books tallied shows (keeps_put w me node keeps.0)
+    (λ j l. put_each (λ (x : ℕ) (y : Node). y.calls l ≡ (w.nodes x).calls l) w.nodes me node (keeps.1 l) (λ x other. refl) j)
+    (λ packet sent. sent))
+    (λ down same. tallied)
+    shown
 
 -- every event keeps the history of replies
 tallied_happens : (setting : Setting) (w : World) (event : Event) → Books setting w → Tallied w → MessagesShow w
@@ -238,6 +317,21 @@ tallied_happens setting w (Sets brick time) books tallied shows later =
     (λ member more. tallied_quiet setting w w.nodes (put w.clocks brick.0 time) w.packets books tallied more
     (λ i. record { boot = refl; seq = refl; known = omega arith }) (λ i k. refl) (λ packet sent. sent))
     (λ stranger same. tallied) later
+tallied_happens setting w (Ticks brick) books tallied shows later =
+    let more : List Packet = ticked setting brick (w.nodes brick.0) in
+    cond_both (is_up setting.layout w brick) _ _ (λ (x : World). MessagesShow x → Tallied x)
+    (λ up shown. tallied_quiet setting w w.nodes w.clocks (w.packets ++ more) books tallied shown
+    (λ i. record { boot = refl; seq = refl; known = omega arith }) (λ i k. refl)
+    (λ packet sent. (sent.0, get_kept w.packets more sent.0 packet sent.1)))
+    (λ down same. tallied) later
+tallied_happens setting w (Crashes brick) books tallied shows later =
+    cond_both (is_up setting.layout w brick) _ _ (λ (x : World). MessagesShow x → Tallied x)
+    (λ up. tallied_stopped setting w brick books tallied) (λ down same. tallied) later
+tallied_happens setting w (Starts brick openings) books tallied shows later =
+    cond_both (may_start setting.layout w brick openings) _ _ (λ (x : World). MessagesShow x → Tallied x)
+    (λ may. (let fits = start_fits setting w brick openings may in tallied_started setting w brick openings fits.0 fits.1 books tallied))
+    (λ cannot same. tallied) later
+tallied_happens setting w (Absorbs number) books tallied shows later = tallied_absorbed setting w (packet_of w.packets number) books tallied later
 
 -- at first no reply has counted
 tallied_first : (setting : Setting) → Tallied (first_world setting.layout)
@@ -257,9 +351,9 @@ tallied_run setting (event ∷ events) w books shows tallied =
     (tallied_happens setting w event (books []) tallied (shows []) (shows (event ∷ [])))
 
 -- what looks below a bound has it at its stamp, or below
-bound_of : (stamps : Stamping) (i k p : ℕ) (bound t : Stamp) → IsRecovery stamps i k p bound t → (bound ≡ t) ⊎ (stamp_below bound t ≡ true)
-bound_of stamps i k p bound t (inl own) = inl own.0
-bound_of stamps i k p bound t (inr below) = inr below.0
+bound_of : (stamps : Stamping) (i b k p : ℕ) (bound t : Stamp) → IsRecovery stamps i b k p bound t → (bound ≡ t) ⊎ (stamp_below bound t ≡ true)
+bound_of stamps i b k p bound t (inl own) = inl own.0
+bound_of stamps i b k p bound t (inr below) = inr below.0
 
 -- what is said of a world is what its messages should show
 messages_show : (setting : Setting) (w : World) (stamps : Stamping) → Books setting w → Said setting w stamps → MessagesShow w
@@ -267,7 +361,7 @@ messages_show setting w stamps books said = record {
   later = λ call from to x sent. said.packets sent.0 (record { from = from; to = to; message = Message.Reply call (Reply.Later x) }) sent.1;
   order_or_write = order_or_write setting w stamps books said;
   bounds = λ call from to t bound sent.
-      bound_of stamps from.0 call.seq call.phase bound t
+      bound_of stamps from.0 call.boot call.seq call.phase bound t
       (said.packets sent.0 (record { from = from; to = to; message = Message.Request call (Request.OrderRead t (Look.Below bound) Want.All) }) sent.1).1;
   order_or_descent = λ call from to other t u bound below sent order. order_or_descent setting w stamps books said call from to other t u bound below sent order;
   stores_asked = λ i k c to t is stores asked. stores_asked setting w stamps books said (record { 0 = i }) to c t (at_call i k c is) stores asked;

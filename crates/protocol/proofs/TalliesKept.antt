@@ -1,6 +1,6 @@
 -- What the history of replies has shown stays shown.
-use Rattle.std.proofs.Common.{◌≡◌, ℕ, ◌<◌, ◌≤◌, ◌⊎◌, inl, inr, ⊎_elim, true, false, List, [], Some, is_some, sym, ap, ◌∙◌, subst, arith}
-use Rattle.std.specs.Prelude.{slice_get, nat_lt}
+use Rattle.std.proofs.Common.{◌≡◌, ℕ, ◌<◌, ◌≤◌, ◌⊎◌, inl, inr, ⊎_elim, Bool, true, false, List, [], Some, is_some, sym, ap, ◌∙◌, subst, arith}
+use Rattle.std.specs.Prelude.{slice_get, nat_lt, nat_eq, if◌then◌else◌}
 use Rattle.std.proofs.lemmas.Bool.{ltb-false, le-ltb}
 use Rattle.fab_base.specs.declared.identities.BrickId.{BrickId}
 use Rattle.fab_base.specs.declared.stamps.Stamp.{Stamp}
@@ -18,7 +18,7 @@ use Rattle.reg_model.specs.Marks.{life_of, IsOpen}
 use Rattle.protocol.specs.Settings.{Setting}
 use Rattle.protocol.specs.Coordinators.{Coordinator, Counted, greatest_refuser}
 use Rattle.protocol.specs.Nodes.{has_later_time}
-use Rattle.protocol.specs.Worlds.{World, Operation}
+use Rattle.protocol.specs.Worlds.{World, Operation, number_of, known_in}
 use Rattle.protocol.specs.Laws.{WasSent, WriteSent, OrderSent, AskedAt, IsLastRound, Evidence}
 use Rattle.protocol.proofs.Books.{Replies, Books, IsCall}
 use Rattle.protocol.proofs.Lives.{ended_not_open}
@@ -39,6 +39,17 @@ not_below : (limit known later : ℕ) → known ≤ later → nat_lt known limit
 not_below limit known later more isnt =
     let at : limit ≤ known = ltb-false known limit isnt in le-ltb later limit (omega arith)
 
+-- no brick's time falls within a boot, where bricks keep their boots and know no less
+pub known_kept : (w next : World) → ((i b : ℕ) → next.past i b ≡ w.past i b) → ((i : ℕ) → (next.nodes i).boot ≡ (w.nodes i).boot)
+    → ((i : ℕ) → (w.nodes i).known ≤ (next.nodes i).known) → (i b : ℕ) → b ≤ (w.nodes i).boot → known_in w i b ≤ known_in next i b
+known_kept w next past boots knows i b begun =
+    subst (λ (x : ℕ). known_in w i b ≤ (if nat_eq b x then (next.nodes i).known else next.past i b)) (sym (boots i))
+    (choose_most (nat_eq b (w.nodes i).boot))
+  where
+    choose_most : (t : Bool) → (if t then (w.nodes i).known else w.past i b) ≤ (if t then (next.nodes i).known else next.past i b)
+    choose_most true = knows i
+    choose_most false = let same : next.past i b ≡ w.past i b = past i b in omega arith
+
 module _ (w next : World) (on : Furthers w next) where
   pub counted_on : (n phase : ℕ) (x : Counted) → CountedSent w n phase x → CountedSent next n phase x
   counted_on n phase x was =
@@ -48,7 +59,7 @@ module _ (w next : World) (on : Furthers w next) where
         goes.1,
         (
           call,
-          was.2.1 ∙ sym goes.3,
+          (was.2.1.0 ∙ sym goes.3, was.2.1.1 ∙ sym goes.4),
           was.2.2,
           subst (λ (b : BrickId). WasSent next (record { from = x.brick; to = b; message = Message.Reply call x.reply })) (sym goes.2)
               (on.sent (record { from = x.brick; to = was.0.brick; message = Message.Reply call x.reply }) was.2.3),
@@ -72,18 +83,19 @@ module _ (w next : World) (on : Furthers w next) where
   asked_on call from to t (inr (inl descent)) = inr (inl (descent.0, descent_on call from to t descent.0 descent.1))
   asked_on call from to t (inr (inr write)) = inr (inr (write.0, write_on call from to t write.0 write.1))
 
-  last_round_on : (n : ℕ) (o p : Operation) (phase : ℕ) → p.brick ≡ o.brick → ((q : ℕ) → next.replies n q ≡ w.replies n q)
-      → IsLastRound w n o phase → IsLastRound next n p phase
-  last_round_on n o p phase brick same (inl most) =
+  last_round_on : (n : ℕ) (o p : Operation) (phase : ℕ) → p.brick ≡ o.brick → p.boot ≡ o.boot → o.boot ≤ (w.nodes o.brick.0).boot
+      → ((q : ℕ) → next.replies n q ≡ w.replies n q) → IsLastRound w n o phase → IsLastRound next n p phase
+  last_round_on n o p phase brick boot begun same (inl most) =
       inl (most.0, λ e few less. ap (λ (l : List Counted). is_some (greatest_refuser l)) (same e) ∙ most.1 e few less)
-  last_round_on n o p phase brick same (inr none) =
-      inr (subst (λ (b : BrickId). has_later_time (next.nodes b.0).known ≡ false) (sym brick)
-      (not_below _ (w.nodes o.brick.0).known (next.nodes o.brick.0).known (on.known o.brick.0) none))
+  last_round_on n o p phase brick boot begun same (inr none) =
+      inr (subst (λ (b : BrickId). has_later_time (known_in next b.0 p.boot) ≡ false) (sym brick)
+      (subst (λ (b : ℕ). has_later_time (known_in next o.brick.0 b) ≡ false) (sym boot)
+      (not_below _ (known_in w o.brick.0 o.boot) (known_in next o.brick.0 o.boot) (on.known o.brick.0 o.boot begun) none)))
 
   -- the evidence of an abort stays, where the replies of its operation do
-  evidence_on : MessagesShow next → (n : ℕ) (o p : Operation) (brick : BrickId) (x : Stamp) → p.brick ≡ o.brick → p.seq ≡ o.seq
-      → ((q : ℕ) → next.replies n q ≡ w.replies n q) → Evidence w n o brick x → Evidence next n p brick x
-  evidence_on shows n o p brick x brick_is seq same was =
+  evidence_on : MessagesShow next → (n : ℕ) (o p : Operation) (brick : BrickId) (x : Stamp) → p.brick ≡ o.brick → p.boot ≡ o.boot → p.seq ≡ o.seq
+      → o.boot ≤ (w.nodes o.brick.0).boot → ((q : ℕ) → next.replies n q ≡ w.replies n q) → Evidence w n o brick x → Evidence next n p brick x
+  evidence_on shows n o p brick x brick_is boot seq begun same was =
       let call : Call = was.call in
       let t : Stamp = was.stamp in
       let asked : AskedAt next call p.brick brick t
@@ -92,7 +104,7 @@ module _ (w next : World) (on : Furthers w next) where
         call = call;
         stamp = t;
         seat = was.seat;
-        own = was.own ∙ sym seq;
+        own = (was.own.0 ∙ sym boot, was.own.1 ∙ sym seq);
         asked = asked;
         told = subst (λ (b : BrickId). WasSent next (record { from = brick; to = b; message = Message.Reply call (Reply.Later x) })) (sym brick_is)
             (on.sent (record { from = brick; to = o.brick; message = Message.Reply call (Reply.Later x) }) was.told);
@@ -102,7 +114,7 @@ module _ (w next : World) (on : Furthers w next) where
       }
     where
       by_order : OrderSent w was.call o.brick brick was.stamp → IsLastRound next n p was.call.phase
-      by_order order = last_round_on n o p was.call.phase brick_is same (was.last order)
+      by_order order = last_round_on n o p was.call.phase brick_is boot begun same (was.last order)
 
       by_descent : OrderSent next was.call p.brick brick was.stamp → (bound : Stamp) → DescentSent w was.call o.brick brick was.stamp bound
           → (bound ≡ was.stamp) ⊎ (stamp_below bound was.stamp ≡ true) → IsLastRound next n p was.call.phase
@@ -122,7 +134,7 @@ module _ (w next : World) (on : Furthers w next) where
 
 -- the history of the next world: what is new in it is shown
 pub tallied_on : (setting : Setting) (w next : World) → Books setting w → Tallied w → MessagesShow next → Furthers w next
-    → ((i k : ℕ) (c : Coordinator) → IsCall next i k c → CallTallied next.replies (next.numbers i k) c)
+    → ((i k : ℕ) (c : Coordinator) → IsCall next i k c → CallTallied next.replies (number_of next i k) c)
     → ((n p : ℕ) → next.begun < n → next.replies n p ≡ [])
     → ((n phase k : ℕ) (x : Counted) → slice_get (next.replies n phase) k ≡ Some x
     → (slice_get (w.replies n phase) k ≡ Some x) ⊎ CountedSent next n phase x)
@@ -142,7 +154,7 @@ tallied_on setting w next books tallied shows on calls unbegun counted aborts = 
       let goes = on.operations n was.0 was.1 in
       ⊎_elim
       (λ (same : (q : ℕ) → next.replies n q ≡ w.replies n q).
-      (goes.0, goes.1, evidence_on w next on shows n was.0 goes.0 brick x goes.2 goes.3 same was.2))
+      (goes.0, goes.1, evidence_on w next on shows n was.0 goes.0 brick x goes.2 goes.3 goes.4 (books.operations n was.0 was.1).booted.1 same was.2))
       (λ (open' : IsOpen (life_of w.marks n)).
       absurd (ended_not_open w.marks k p n (Aborted (Cause.Later brick x)) books.well_formed old open'))
       (on.replies n))
