@@ -17,11 +17,12 @@ use Rattle.fab_wire.specs.declared.requests.Want.TheVariants.{All}
 use Rattle.fab_wire.specs.declared.requests.Request.{Request}
 use Rattle.fab_wire.specs.declared.requests.Request.TheVariants.{Read, Order, OrderRead, Write}
 use Rattle.fab_wire.specs.declared.replies.Reply.{Reply}
-use Rattle.fab_wire.specs.declared.replies.Reply.TheVariants.{Found, Ordered, OrderedRead, Stored, Later}
+use Rattle.fab_wire.specs.declared.replies.Reply.TheVariants.{Found, Ordered, OrderedRead, Stored, Later, Full}
 pub use Rattle.protocol.specs.declared.phases.Phase.{Phase}
 pub use Rattle.protocol.specs.declared.phases.Phase.TheVariants.{Looks, Orders, Recovers, Descends, Stores}
 pub use Rattle.protocol.specs.declared.phases.Counted.{Counted}
 pub use Rattle.protocol.specs.declared.phases.Refuser.{Refuser}
+pub use Rattle.protocol.specs.declared.phases.FullMember.{FullMember}
 use Rattle.protocol.specs.Settings.{Group, Code, Piece, quorum_of, seat_in}
 
 -- An open operation at its coordinator: what is asked, its stamp, how many rounds of ordering it has begun, the version that it read back and
@@ -53,12 +54,16 @@ answers_phase block t Looks (Found order None) = true
 answers_phase block t Looks (Found order (Some version)) = nat_eq (length version.block) block
 answers_phase block t Orders Ordered = true
 answers_phase block t Orders (Later x) = true
+answers_phase block t Orders (Full live) = true
 answers_phase block t Recovers (OrderedRead found) = may_be_found block t found
 answers_phase block t Recovers (Later x) = true
+answers_phase block t Recovers (Full live) = true
 answers_phase block t (Descends bound) (OrderedRead found) = may_be_found block bound found
 answers_phase block t (Descends bound) (Later x) = true
+answers_phase block t (Descends bound) (Full live) = true
 answers_phase block t Stores Stored = true
 answers_phase block t Stores (Later x) = true
+answers_phase block t Stores (Full live) = true
 answers_phase block t phase reply = false
 
 -- a seat has a reply that counts
@@ -167,6 +172,25 @@ abbrev pub greatest_refuser : List Counted → Option Refuser
 greatest_refuser [] = None
 greatest_refuser (c ∷ counted) = greater_refuser (refuser_of c) (greatest_refuser counted)
 
+-- the member that told that its store is full, if this one did
+abbrev pub full_member_of : Counted → Option FullMember
+full_member_of c = full_member_with c.reply
+  where
+    full_member_with : Reply → Option FullMember
+    full_member_with (Full live) = Some (record { seat = c.seat; brick = c.brick; live = live })
+    full_member_with reply = None
+
+-- of two such members the one of the lower seat
+abbrev pub lower_full : Option FullMember → Option FullMember → Option FullMember
+lower_full None b = b
+lower_full (Some a) None = Some a
+lower_full (Some a) (Some b) = if nat_lt b.seat a.seat then Some b else Some a
+
+-- the member of the lowest seat that told that its store is full, if one did
+abbrev pub lowest_full : List Counted → Option FullMember
+lowest_full [] = None
+lowest_full (c ∷ counted) = lower_full (full_member_of c) (lowest_full counted)
+
 -- what an operation stores: what it was given to write, or what it read back
 abbrev pub stored_by : Op → List ℕ → List ℕ
 stored_by (WriteStripe bytes) content = bytes
@@ -235,6 +259,15 @@ most_rounds = 4
 abbrev pub aborted_by : Refuser → Next
 aborted_by r = Ends (Aborted (Cause.Later r.brick r.stamp)) None None
 
+-- the operation is aborted, since this member's store is full
+abbrev pub aborted_full : FullMember → Next
+aborted_full f = Ends (Aborted (Cause.Full f.brick f.live)) None None
+
+-- a member whose store is full aborts the operation; else it goes on so
+abbrev pub unless_told_full : Option FullMember → Next → Next
+unless_told_full None next = next
+unless_told_full (Some f) next = aborted_full f
+
 -- a member that told a later stamp aborts the operation; else it goes on so
 abbrev pub unless_refused : Option Refuser → Next → Next
 unless_refused None next = next
@@ -272,7 +305,7 @@ answer_of ReadStripe content = Data content
 
 -- what a quorum of replies decides, where a new round would have this fresh stamp
 unfoldable pub decided : Code → ℕ → Option Stamp → Coordinator → Next
-decided code m fresh c = decided_in c.phase
+decided code m fresh c = unless_told_full (lowest_full c.counted) (decided_in c.phase)
   where
     decided_in : Phase → Next
     decided_in Looks = answered_fast code m c (fast_version c.counted)

@@ -171,6 +171,19 @@ AbortsShow w =
     (k p n : ℕ) (brick : BrickId) (x : Stamp) → slice_get w.marks k ≡ Some (End p n (Aborted (Cause.Later brick x)))
     → (o : Operation) × (w.operations n ≡ Some o) × Evidence w n o brick x
 
+-- a member says that its store is full only where it keeps as many live records as it may
+abbrev pub FullIsFull : Setting → World → Type 0
+FullIsFull setting w =
+    (call : Call) (from to : BrickId) (live : ℕ) → WasSent w (record { from = from; to = to; message = Message.Reply call (Reply.Full live) })
+    → live ≡ setting.layout.records
+
+-- every abort for a full store shows that its brick told so, in a phase of this very operation
+abbrev pub FullAbortsShow : World → Type 0
+FullAbortsShow w =
+    (k p n : ℕ) (brick : BrickId) (live : ℕ) → slice_get w.marks k ≡ Some (End p n (Aborted (Cause.Full brick live)))
+    → (o : Operation) × (w.operations n ≡ Some o)
+    × ((call : Call) × IsCallOf call o × WasSent w (record { from = brick; to = o.brick; message = Message.Reply call (Reply.Full live) }))
+
 -- The laws of a world.
 pub record Laws (setting : Setting) (w : World) : Type 0 where
   pub one_content : OneContent setting w
@@ -181,6 +194,8 @@ pub record Laws (setting : Setting) (w : World) : Type 0 where
   pub real_time : (g s : ℕ) → FollowsRealTime w g s
   pub counted : CountedWereSent w
   pub aborts : AbortsShow w
+  pub full_aborts : FullAbortsShow w
+  pub full : FullIsFull setting w
   pub well_formed : IsWellFormed w.marks
   pub stripe_well_formed : (g s : ℕ) → IsWellFormed (stripe_marks g s w.marks)
   pub strict : (g s : ℕ) (group : Group) → group_of setting.layout g ≡ Some group

@@ -21,19 +21,20 @@ use Rattle.protocol.specs.Coordinators.{Phase, Looks, Orders, Coordinator, Count
 abbrev pub put : {A : Type 0} → (ℕ → A) → ℕ → A → ℕ → A
 put f k v i = if nat_eq i k then v else f i
 
--- a brick: how often its store was opened, its last call number, the greatest time that it knows, how many operations it has open, its
--- part of each stripe (by group and stripe), and its open operations (by call number)
+-- a brick: how often its store was opened, its last call number, the greatest time that it knows, how many operations it has open, how many live
+-- records its store keeps, its part of each stripe (by group and stripe), and its open operations (by call number)
 pub record Node : Type 0 where
   pub boot : ℕ
   pub seq : ℕ
   pub known : ℕ
   pub busy : ℕ
+  pub live : ℕ
   pub replicas : ℕ → ℕ → Replica
   pub calls : ℕ → Option Coordinator
 
 -- a brick whose fresh store was just opened
 abbrev pub first_node : ℕ → Node
-first_node block = record { boot = 1; seq = 0; known = 0; busy = 0; replicas = λ g s. first_replica block; calls = λ k. None }
+first_node block = record { boot = 1; seq = 0; known = 0; busy = 0; live = 0; replicas = λ g s. first_replica block; calls = λ k. None }
 
 -- what a step leaves, the packets that it sends, in order, and what it tells of an operation
 pub record NodeStep : Type 0 where
@@ -147,6 +148,7 @@ opened node c =
       seq = c.call.seq;
       known = c.stamp.time;
       busy = node.busy + 1;
+      live = node.live;
       replicas = node.replicas;
       calls = put node.calls c.call.seq (Some c);
     }
@@ -166,17 +168,22 @@ invoked setting me now node ask = began setting me now node ask (group_of settin
 abbrev pub replica_at : Node → Call → Replica
 replica_at node call = node.replicas call.group.0 call.stripe.0
 
--- the brick with its part of a stripe changed
-abbrev pub with_replica : Node → Call → Replica → Node
-with_replica node call replica =
+-- the brick with its part of a stripe changed, and a live record more where that adds one
+abbrev pub with_replica : Node → Call → Reaction → Node
+with_replica node call reaction =
     record {
       boot = node.boot;
       seq = node.seq;
       known = node.known;
       busy = node.busy;
-      replicas = put node.replicas call.group.0 (put (node.replicas call.group.0) call.stripe.0 replica);
+      live = if reaction.adds then node.live + 1 else node.live;
+      replicas = put node.replicas call.group.0 (put (node.replicas call.group.0) call.stripe.0 reaction.replica);
       calls = node.calls;
     }
+
+-- how many live records the brick keeps, where those are as many as it may
+abbrev pub full_at : ℕ → Node → Option ℕ
+full_at records node = if nat_eq node.live records then Some node.live else None
 
 -- the reply goes back with the request's call
 abbrev pub reply_packets : BrickId → BrickId → Call → Option Reply → List Packet
@@ -185,12 +192,13 @@ reply_packets me to call (Some reply) = record { from = me; to = to; message = M
 
 abbrev pub reacted : BrickId → BrickId → Node → Call → Reaction → NodeStep
 reacted me from node call reaction =
-    record { node = with_replica node call reaction.replica; packets = reply_packets me from call reaction.reply; told = Nothing }
+    record { node = with_replica node call reaction; packets = reply_packets me from call reaction.reply; told = Nothing }
 
 -- a member handles a request; another brick ignores it
-abbrev pub requested_at : BrickId → BrickId → Node → Call → Request → Option ℕ → NodeStep
-requested_at me from node call request None = no_step node
-requested_at me from node call request (Some seat) = reacted me from node call (handle seat (replica_at node call) request)
+abbrev pub requested_at : ℕ → BrickId → BrickId → Node → Call → Request → Option ℕ → NodeStep
+requested_at records me from node call request None = no_step node
+requested_at records me from node call request (Some seat) =
+    reacted me from node call (handle (full_at records node) seat (replica_at node call) request)
 
 -- a call is of a stripe that the group has, in its view
 abbrev pub is_served : Group → Call → Bool
@@ -202,15 +210,17 @@ fits_block block (Request.Write t bytes) = nat_eq (length bytes) block
 fits_block block request = true
 
 -- a request of a stripe that there is not, or that would store what is no block, is void
-abbrev pub requested_in : ℕ → BrickId → BrickId → Node → Call → Request → Option Group → NodeStep
-requested_in block me from node call request None = no_step node
-requested_in block me from node call request (Some group) =
-    if is_served group call && fits_block block request then requested_at me from node call request (seat_in group.members me.0) else no_step node
+abbrev pub requested_in : Layout → BrickId → BrickId → Node → Call → Request → Option Group → NodeStep
+requested_in layout me from node call request None = no_step node
+requested_in layout me from node call request (Some group) =
+    if is_served group call && fits_block layout.block request
+    then requested_at layout.records me from node call request (seat_in group.members me.0)
+    else no_step node
 
 -- a brick handles a request
 unfoldable pub requested : Setting → BrickId → BrickId → Node → Call → Request → NodeStep
 requested setting me from node call request =
-    requested_in setting.layout.block me from node call request (group_of setting.layout call.group.0)
+    requested_in setting.layout me from node call request (group_of setting.layout call.group.0)
 
 -- the time that a reply makes known
 abbrev pub known_after : ℕ → Reply → ℕ
@@ -220,11 +230,20 @@ known_after known reply = known
 -- the brick knows this time, and has this operation open, or ended
 abbrev pub with_call : Node → ℕ → ℕ → ℕ → Option Coordinator → Node
 with_call node known busy seq call =
-    record { boot = node.boot; seq = node.seq; known = known; busy = busy; replicas = node.replicas; calls = put node.calls seq call }
+    record {
+      boot = node.boot;
+      seq = node.seq;
+      known = known;
+      busy = busy;
+      live = node.live;
+      replicas = node.replicas;
+      calls = put node.calls seq call;
+    }
 
 -- the brick knows this time
 abbrev pub with_known : Node → ℕ → Node
-with_known node known = record { boot = node.boot; seq = node.seq; known = known; busy = node.busy; replicas = node.replicas; calls = node.calls }
+with_known node known =
+    record { boot = node.boot; seq = node.seq; known = known; busy = node.busy; live = node.live; replicas = node.replicas; calls = node.calls }
 
 -- what a brick does with what its coordinator decided
 abbrev pub carried_out : Setting → Group → BrickId → Node → ℕ → Coordinator → Next → NodeStep
@@ -306,11 +325,13 @@ no_calls k = None
 
 -- a brick that stopped: its open operations are gone, and what it keeps of stripes stays
 unfoldable pub stopped : Node → Node
-stopped node = record { boot = node.boot; seq = node.seq; known = node.known; busy = 0; replicas = node.replicas; calls = no_calls }
+stopped node =
+    record { boot = node.boot; seq = node.seq; known = node.known; busy = 0; live = node.live; replicas = node.replicas; calls = no_calls }
 
 -- a stopped brick whose store was opened so many times since, the last time to run: it has made no call, and knows no time
 unfoldable pub restarted : ℕ → Node → Node
-restarted openings node = record { boot = node.boot + openings; seq = 0; known = 0; busy = 0; replicas = node.replicas; calls = no_calls }
+restarted openings node =
+    record { boot = node.boot + openings; seq = 0; known = 0; busy = 0; live = node.live; replicas = node.replicas; calls = no_calls }
 
 -- the store can be opened so many times, at least once: it counts its openings, up to 2^32 - 1
 abbrev pub may_open : ℕ → Node → Bool

@@ -1,5 +1,5 @@
 -- A member's part of a stripe, and what it does with each request (Frølund 2004, the storage replica).
-use Rattle.std.specs.Prelude.{ℕ, Bool, true, false, nat_eq, ◌||◌, if◌then◌else◌, List, [], ◌∷◌, ◌++◌, Option, Some, None, replicate, filter}
+use Rattle.std.specs.Prelude.{ℕ, Bool, true, false, not, nat_eq, ◌||◌, ◌&&◌, if◌then◌else◌, List, [], ◌∷◌, ◌++◌, Option, Some, None, replicate, filter}
 use Rattle.fab_base.specs.declared.stamps.Stamp.{Stamp}
 use Rattle.fab_base.specs.Stamps.{stamp_below, stamp_same, first_stamp}
 use Rattle.fab_wire.specs.declared.requests.Version.{Version}
@@ -10,7 +10,7 @@ use Rattle.fab_wire.specs.declared.requests.Want.TheVariants.{Seat, All}
 use Rattle.fab_wire.specs.declared.requests.Request.{Request}
 use Rattle.fab_wire.specs.declared.requests.Request.TheVariants.{Read, Order, OrderRead, Write, Modify, Collect, OldRead, Prepare, Accept}
 use Rattle.fab_wire.specs.declared.replies.Reply.{Reply}
-use Rattle.fab_wire.specs.declared.replies.Reply.TheVariants.{Found, Ordered, OrderedRead, Stored, Later}
+use Rattle.fab_wire.specs.declared.replies.Reply.TheVariants.{Found, Ordered, OrderedRead, Stored, Later, Full}
 
 -- the stamp that the member has promised to take nothing below, and its log of versions, oldest first
 pub record Replica : Type 0 where
@@ -55,24 +55,50 @@ told_version wanted None = None
 told_version true (Some version) = Some version
 told_version false (Some version) = Some (record { stamp = version.stamp; block = [] })
 
--- the member's part after a request, and its reply
+-- the member's part after a request, its reply, and whether it keeps one live record more: an order stamp above the first one, or a version
 pub record Reaction : Type 0 where
   pub replica : Replica
   pub reply : Option Reply
+  pub adds : Bool
 
--- promise to take nothing below t, unless something later was promised or stored
-abbrev pub ordered : Replica → Stamp → Reaction
-ordered replica t =
-    if stamp_below t (top_of replica)
-    then record { replica = replica; reply = Some (Later (top_of replica)) }
-    else record { replica = record { order = t; log = replica.log }; reply = Some Ordered }
+-- a part that stays as it is, and the reply
+abbrev pub stays : Replica → Reply → Reaction
+stays replica reply = record { replica = replica; reply = Some reply; adds = false }
+
+-- a change that would be a live record more is refused where there are as many as there may be
+abbrev pub unless_full : Option ℕ → Replica → Reaction → Reaction
+unless_full None replica reaction = reaction
+unless_full (Some live) replica reaction = if reaction.adds then stays replica (Full live) else reaction
+
+-- the member promises the stamp, and replies so
+abbrev pub promised : Replica → Stamp → Reply → Reaction
+promised replica t reply =
+    record {
+      replica = record { order = t; log = replica.log };
+      reply = Some reply;
+      adds = stamp_same replica.order first_stamp && not (stamp_same t first_stamp);
+    }
+
+-- the member stores the version
+abbrev pub stored : Replica → Stamp → List ℕ → Reaction
+stored replica t block =
+    record {
+      replica = record { order = replica.order; log = replica.log ++ (record { stamp = t; block = block } ∷ []) };
+      reply = Some Stored;
+      adds = true;
+    }
+
+-- promise to take nothing below t, unless something later was promised or stored; where so many records are live as there may be, full tells how many
+abbrev pub ordered : Option ℕ → Replica → Stamp → Reaction
+ordered full replica t =
+    if stamp_below t (top_of replica) then stays replica (Later (top_of replica)) else unless_full full replica (promised replica t Ordered)
 
 -- store a version, unless something later was promised or stored; one that is held already is stored
-abbrev pub written : Replica → Stamp → List ℕ → Reaction
-written replica t block =
-    if is_held t replica.log then record { replica = replica; reply = Some Stored }
-    else if stamp_below t (top_of replica) then record { replica = replica; reply = Some (Later (top_of replica)) }
-    else record { replica = record { order = replica.order; log = replica.log ++ (record { stamp = t; block = block } ∷ []) }; reply = Some Stored }
+abbrev pub written : Option ℕ → Replica → Stamp → List ℕ → Reaction
+written full replica t block =
+    if is_held t replica.log then stays replica Stored
+    else if stamp_below t (top_of replica) then stays replica (Later (top_of replica))
+    else unless_full full replica (stored replica t block)
 
 -- the versions of a log that are below a bound
 abbrev pub below : Stamp → List Version → List Version
@@ -84,21 +110,23 @@ looked_up (Below bound) log = newest_of (below bound log)
 looked_up (At t) log = newest_of (filter (λ version. stamp_same version.stamp t) log)
 
 -- promise to take nothing below t, unless something later was promised or stored, and tell a version
-abbrev pub order_read : Replica → Stamp → Look → Bool → Reaction
-order_read replica t look wanted =
-    if stamp_below t (top_of replica)
-    then record { replica = replica; reply = Some (Later (top_of replica)) }
-    else record { replica = record { order = t; log = replica.log }; reply = Some (OrderedRead (told_version wanted (looked_up look replica.log))) }
+abbrev pub order_read : Option ℕ → Replica → Stamp → Look → Bool → Reaction
+order_read full replica t look wanted =
+    if stamp_below t (top_of replica) then stays replica (Later (top_of replica))
+    else unless_full full replica (promised replica t (OrderedRead (told_version wanted (looked_up look replica.log))))
+
+-- a request that is ignored
+abbrev pub ignored : Replica → Reaction
+ignored replica = record { replica = replica; reply = None; adds = false }
 
 -- What the member at a seat does with a request. Versions are not collected yet, and no coordinator sends the requests that are ignored here.
-unfoldable pub handle : ℕ → Replica → Request → Reaction
-handle seat replica (Read want) =
-    record { replica = replica; reply = Some (Found replica.order (told_version (is_wanted want seat) (newest_of replica.log))) }
-handle seat replica (Order t) = ordered replica t
-handle seat replica (Write t block) = written replica t block
-handle seat replica (OrderRead t look want) = order_read replica t look (is_wanted want seat)
-handle seat replica (Modify t base j delta) = record { replica = replica; reply = None }
-handle seat replica (Collect t) = record { replica = replica; reply = None }
-handle seat replica (OldRead bound) = record { replica = replica; reply = None }
-handle seat replica (Prepare ballot) = record { replica = replica; reply = None }
-handle seat replica (Accept ballot members) = record { replica = replica; reply = None }
+unfoldable pub handle : Option ℕ → ℕ → Replica → Request → Reaction
+handle full seat replica (Read want) = stays replica (Found replica.order (told_version (is_wanted want seat) (newest_of replica.log)))
+handle full seat replica (Order t) = ordered full replica t
+handle full seat replica (Write t block) = written full replica t block
+handle full seat replica (OrderRead t look want) = order_read full replica t look (is_wanted want seat)
+handle full seat replica (Modify t base j delta) = ignored replica
+handle full seat replica (Collect t) = ignored replica
+handle full seat replica (OldRead bound) = ignored replica
+handle full seat replica (Prepare ballot) = ignored replica
+handle full seat replica (Accept ballot members) = ignored replica

@@ -12,10 +12,11 @@ pub record Group : Type 0 where
   pub m : ℕ
   pub stripes : ℕ
 
--- the bytes of a block, the number of bricks, and the groups by number
+-- the bytes of a block, the number of bricks, how many live records a brick may keep, and the groups by number
 pub record Layout : Type 0 where
   pub block : ℕ
   pub bricks : ℕ
+  pub records : ℕ
   pub groups : List Group
 
 -- a block that was found at a seat

@@ -7,5 +7,5 @@ pub mod phases;
 pub mod tellings;
 
 pub use laws::{every_run_keeps_the_laws, no_event_lowers, no_lost_version_surfaces};
-pub use phases::{Counted, Phase, Refuser};
+pub use phases::{Counted, FullMember, Phase, Refuser};
 pub use tellings::Told;

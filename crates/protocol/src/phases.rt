@@ -40,3 +40,14 @@ pub struct Refuser {
     /// The later stamp.
     pub stamp: Stamp,
 }
+
+/// A member whose store keeps as many live records as it may.
+#[derive(Clone, Copy, Debug, PartialEq, Eq)]
+pub struct FullMember {
+    /// The member's seat.
+    pub seat: u8,
+    /// The member.
+    pub brick: BrickId,
+    /// How many live records it keeps.
+    pub live: u32,
+}
