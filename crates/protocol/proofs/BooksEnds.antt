@@ -1,5 +1,5 @@
 -- The books of a world where an open operation ended, or where a brick stopped.
-use Rattle.std.proofs.Common.{◌≡◌, ◌≢◌, ℕ, ◌<◌, ◌≤◌, ◌⊎◌, ⊎_elim, true, false, Option, Some, None, refl, sym, ap, ◌∙◌, subst, arith, List, [], ◌∷◌, ◌++◌, length}
+use Rattle.std.proofs.Common.{◌≡◌, ◌≢◌, ℕ, ◌<◌, ◌≤◌, ⊎_elim, true, false, Option, Some, None, refl, sym, ap, ◌∙◌, subst, arith, List, [], ◌∷◌, ◌++◌, length}
 use Rattle.std.proofs.lemmas.Option.{same_Some}
 use Rattle.std.proofs.lemmas.Bool.{cases_eq}
 use Rattle.fab_base.specs.declared.identities.BrickId.{BrickId}
@@ -12,7 +12,7 @@ use Rattle.reg_model.specs.Marks.{Life, Answered, Interrupted, life_of, IsOpen, 
 use Rattle.reg_model.specs.Strict.{IsAnswered}
 use Rattle.protocol.specs.Settings.{Setting, group_of}
 use Rattle.protocol.specs.Coordinators.{Coordinator, Counted}
-use Rattle.protocol.specs.Nodes.{Node, put, is_stripe_op, has_length, no_calls, stopped}
+use Rattle.protocol.specs.Nodes.{Node, is_stripe_op, has_length, no_calls, stopped}
 use Rattle.protocol.specs.Worlds.{World, Operation, is_answer, number_of, world_stopped}
 use Rattle.protocol.proofs.Books.{Books, OperationBooks, CallBooks, IsOperation, IsCall}
 use Rattle.protocol.proofs.BooksKept.{KeepsNumbers, operation_stays, operation_kept, call_kept, number_at, calls_apart, cases_call}
@@ -274,6 +274,7 @@ module _ (setting : Setting) (w : World) (brick : BrickId) (books : Books settin
         open_call = λ is. absurd is;
       }
 
+  -- an operation of this brick
   own_stays : (n : ℕ) (o : Operation) → OperationBooks setting w n o → o.brick.0 ≡ i → OperationBooks setting shut n o
   own_stays n o mine at = ⊎_elim
       (λ (is : IsUnended mine.life.ending). interrupted_books n o mine at (subst (λ (l : Option Life). IsOpen l) (sym mine.life_is) is))

@@ -11,11 +11,11 @@ use Rattle.protocol.specs.Settings.{Setting}
 use Rattle.protocol.specs.Coordinators.{Coordinator, Counted}
 use Rattle.protocol.specs.Nodes.{Node, put, no_calls, restarted}
 use Rattle.protocol.specs.Worlds.{World, Operation, number_of, known_in, world_started}
-use Rattle.protocol.proofs.Books.{Books, OperationBooks, CallBooks, IsOperation, IsCall}
+use Rattle.protocol.proofs.Books.{Books, OperationBooks, CallBooks, IsCall}
 use Rattle.protocol.proofs.BooksKept.{KeepsNumbers, operation_stays, operation_kept, call_kept}
 use Rattle.protocol.proofs.Lives.{Stays-refl}
 use Rattle.protocol.proofs.Puts.{put_other}
-use Rattle.protocol.proofs.Tables.{put_each, put_same}
+use Rattle.protocol.proofs.Tables.{put_same}
 
 -- the world with other bricks, clocks, packets and counted replies
 abbrev pub quiet_world : World → (ℕ → Node) → (ℕ → ℕ) → List Packet → (ℕ → ℕ → List Counted) → World
@@ -84,6 +84,7 @@ module _ (setting : Setting) (w : World) (brick : BrickId) (openings : ℕ) (boo
   unfolding restarted
   unstarted j other = put_other w.nodes i node j other
 
+  -- this one is as it starts
   own_node : later.nodes i ≡ node
   unfolding restarted
   own_node = put_same w.nodes i node
@@ -119,6 +120,7 @@ module _ (setting : Setting) (w : World) (brick : BrickId) (openings : ℕ) (boo
           ap (λ (t : Bool). if t then (later.nodes j).known else later.past j b) (ne_eqb b (later.nodes j).boot old) ∙ past in
           omega arith
 
+  -- another brick is up, or down, as before
   other_up : (j : ℕ) → j ≢ i → later.up j ≡ w.up j
   other_up j other = put_other w.up i true j other
 
@@ -126,7 +128,7 @@ module _ (setting : Setting) (w : World) (brick : BrickId) (openings : ℕ) (boo
   none_open : (k : ℕ) (c : Coordinator) → IsCall w i k c → ⊥
   none_open k c is = both_ways (w.up i) down (books.calls i k c is).up
 
-  -- an operation of this brick, and of another
+  -- an operation of this brick is of an earlier boot
   own_stays : (n : ℕ) (o : Operation) → OperationBooks setting w n o → o.brick.0 ≡ i → OperationBooks setting later n o
   own_stays n o mine at =
       let boot : (w.nodes o.brick.0).boot ≡ (w.nodes i).boot = ap (λ (j : ℕ). (w.nodes j).boot) at in
@@ -138,6 +140,7 @@ module _ (setting : Setting) (w : World) (brick : BrickId) (openings : ℕ) (boo
       let call = (mine.open_call (subst (λ (x : Life). IsOpen (Some x)) (sym one) open')).1 in
       absurd (none_open o.seq call.0 (subst (λ (j : ℕ). IsCall w j o.seq call.0) at call.1)))
 
+  -- an operation of another brick
   other_stays : (n : ℕ) (o : Operation) → OperationBooks setting w n o → o.brick.0 ≢ i → OperationBooks setting later n o
   other_stays n o mine other =
       let same : later.nodes o.brick.0 ≡ w.nodes o.brick.0 = unstarted o.brick.0 other in

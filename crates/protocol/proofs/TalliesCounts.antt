@@ -250,6 +250,7 @@ module _ (setting : Setting) (group : Group) (w : World) (me : BrickId) (now kno
   abbrev number_next : ℕ → ℕ → Option Coordinator → ℕ → ℕ → ℕ
   number_next time busy d j l = w.numbers j (put w.nodes i (with_call node time busy k d) j).boot l
 
+  -- the history of each open operation, where this one is at d, or has ended
   calls_next : (time busy : ℕ) (d : Option Coordinator) → node.known ≤ time → ((e : Coordinator) → d ≡ Some e → CallTallied replies n e)
       → (j l : ℕ) (e : Coordinator) → (put w.nodes i (with_call node time busy k d) j).calls l ≡ Some e
       → CallTallied replies (number_next time busy d j l) e
