@@ -114,9 +114,10 @@ module _ (setting : Setting) (w : World) (stamps : Stamping) (me : BrickId) (ask
   numbered =
       put_each (λ j table. (b k : ℕ) → (b ≡ (w.nodes j).boot → k ≤ (w.nodes j).seq) → table b k ≡ w.numbers j b k) w.numbers me.0
       (put (w.numbers me.0) c.call.boot row)
-      (put_each (λ b line. (k : ℕ) → (b ≡ (w.nodes me.0).boot → k ≤ (w.nodes me.0).seq) → line k ≡ w.numbers me.0 b k) (w.numbers me.0) c.call.boot row
-      (put_each (λ k v. (c.call.boot ≡ (w.nodes me.0).boot → k ≤ (w.nodes me.0).seq) → v ≡ w.numbers me.0 c.call.boot k) (w.numbers me.0 c.call.boot)
-      c.call.seq (w.begun + 1) (λ within. absurd (omega (arith, within refl))) (λ k other within. refl))
+      (put_each (λ b line. (k : ℕ) → (b ≡ (w.nodes me.0).boot → k ≤ (w.nodes me.0).seq) → line k ≡ w.numbers me.0 b k) (w.numbers me.0)
+      c.call.boot row
+      (put_each (λ k v. (c.call.boot ≡ (w.nodes me.0).boot → k ≤ (w.nodes me.0).seq) → v ≡ w.numbers me.0 c.call.boot k)
+      (w.numbers me.0 c.call.boot) c.call.seq (w.begun + 1) (λ within. absurd (omega (arith, within refl))) (λ k other within. refl))
       (λ b other k within. refl))
       (λ j other b k within. refl)
 
@@ -166,7 +167,8 @@ module _ (setting : Setting) (w : World) (stamps : Stamping) (me : BrickId) (ask
     floors_known = λ i. stays_known stamps later grows.grow (top_of (part_of w ask.group.0 ask.stripe.0 i)) (said.tops ask.group.0 ask.stripe.0 i);
     fresh = λ i p stamped. ⊎_elim
         (λ (own_was : (q : ℕ) × IsStamped stamps me.0 c.call.boot c.call.seq q (top_of (part_of w ask.group.0 ask.stripe.0 i))).
-        let begun = said.stamps_say.begun me.0 c.call.boot c.call.seq own_was.0 (top_of (part_of w ask.group.0 ask.stripe.0 i)) own_was.1 in omega (arith, begun.1 refl))
+        let begun = said.stamps_say.begun me.0 c.call.boot c.call.seq own_was.0 (top_of (part_of w ask.group.0 ask.stripe.0 i)) own_was.1 in
+        omega (arith, begun.1 refl))
         (λ (never : IsKnown stamps (top_of (part_of w ask.group.0 ask.stripe.0 i)) → ⊥). never (said.tops ask.group.0 ask.stripe.0 i))
         (grows.grow.newer me.0 c.call.boot c.call.seq p (top_of (part_of w ask.group.0 ask.stripe.0 i)) stamped);
     made = λ made. absurd (false≢true made);
@@ -187,8 +189,10 @@ module _ (setting : Setting) (w : World) (stamps : Stamping) (me : BrickId) (ask
       subst (λ (r : Request). RequestSays setting next later me.0 j c.call r) (sym (request_looks setting.code group.m c seat (ap first_phase reads)))
       (refl, (new, called)))
       (λ (writes : (bytes : List ℕ) × (ask.op ≡ WriteStripe bytes)).
-      subst (λ (r : Request). RequestSays setting next later me.0 j c.call r) (sym (request_orders setting.code group.m c seat (ap first_phase writes.1)))
-      (subst (λ (phase : Phase). IsBegun later me.0 c.call.boot c.call.seq c.call.phase phase c.stamp) (ap first_phase writes.1) begun_now, (new, called)))
+      subst (λ (r : Request). RequestSays setting next later me.0 j c.call r) (sym (request_orders setting.code group.m c seat (ap first_phase writes.1))) (
+        subst (λ (phase : Phase). IsBegun later me.0 c.call.boot c.call.seq c.call.phase phase c.stamp) (ap first_phase writes.1) begun_now,
+        (new, called),
+      ))
       (op_cases ask.op stripe_op)
 
   fits : FitsPhase (first_phase ask.op) ask.op

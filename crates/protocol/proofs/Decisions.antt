@@ -243,7 +243,8 @@ module _ (setting : Setting) (sound : IsSound setting) (w : World) (stamps : Sta
       = subst (λ (r : Reply). ReplySays setting w stamps x.brick (record { 0 = me.0 }) c.call r) (order_answered setting.layout.block c.stamp x answers none)
       (counted_says x says) in
       promises_at x says told.operation told.stamp told.called
-      (begun_once stamps me.0 c.call.boot c.call.seq c.call.phase Orders c.phase told.stamp c.stamp told.stamp_is its_begun).1 told.promised told.floor
+      (begun_once stamps me.0 c.call.boot c.call.seq c.call.phase Orders c.phase told.stamp c.stamp told.stamp_is its_begun).1
+      told.promised told.floor
 
   -- an order that a quorum answered
   pub all_ordered : c.phase ≡ Orders → greatest_refuser counted ≡ None → EachCounted PromisesAt counted
@@ -261,7 +262,8 @@ module _ (setting : Setting) (sound : IsSound setting) (w : World) (stamps : Sta
       (counted_says x says) in
       let writes : WriteSays setting w stamps me.0 x.brick.0 c.call told.0 told.1
       = said.packets told.2.0 (record { from = record { 0 = me.0 }; to = x.brick; message = Message.Request c.call (Request.Write told.0 told.1) }) told.2.1 in
-      let same : told.0 ≡ c.stamp = (begun_once stamps me.0 c.call.boot c.call.seq c.call.phase Stores c.phase told.0 c.stamp writes.begun its_begun).1 in (
+      let same : told.0 ≡ c.stamp
+      = (begun_once stamps me.0 c.call.boot c.call.seq c.call.phase Stores c.phase told.0 c.stamp writes.begun its_begun).1 in (
         (seat_fits x says).0,
         subst (λ (t : Stamp). is_held t (part_at x.seat).log ≡ true) same (at_seat (λ g s j. is_held told.0 (part_of w g s j).log ≡ true) x says told.3),
       )
@@ -290,7 +292,8 @@ module _ (setting : Setting) (sound : IsSound setting) (w : World) (stamps : Sta
       let answer = found_by setting.layout.block c.stamp bound c.phase x looks says.answers none in
       let told : OrderedReadSays setting w stamps x.brick.0 me.0 c.call answer.0
       = subst (λ (r : Reply). ReplySays setting w stamps x.brick (record { 0 = me.0 }) c.call r) answer.1 (counted_says x says) in
-      let same = recovery_same stamps me.0 c.call.boot c.call.seq c.call.phase c.phase c.stamp told.stamp bound told.bound its_begun looks told.recovers in
+      let same
+      = recovery_same stamps me.0 c.call.boot c.call.seq c.call.phase c.phase c.stamp told.stamp bound told.bound its_begun looks told.recovers in
       record {
         promises = promises_at x says told.operation told.stamp told.called same.0 told.promised told.floor;
         found = answer.0;

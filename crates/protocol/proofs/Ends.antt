@@ -95,7 +95,17 @@ module _ (setting : Setting) (w : World) (stamps : Stamping) (me : BrickId) (c :
       (answered_made : is_answer answer ≡ true → (bytes : List ℕ) → o.ask.op ≡ WriteStripe bytes → o.made ≡ true)
       (shows : WillShow w o seen answer) where
     on : Continues o ended
-    on = record { brick = refl; boot = refl; seq = refl; begin = refl; ask = refl; floor = refl; version = keeps_version; made = λ v has. refl; base = λ v has. refl }
+    on = record {
+      brick = refl;
+      boot = refl;
+      seq = refl;
+      begin = refl;
+      ask = refl;
+      floor = refl;
+      version = keeps_version;
+      made = λ v has. refl;
+      base = λ v has. refl;
+    }
 
     keeps : OperatedKeeps w me node marks n o ended w.contents
     keeps = record {

@@ -68,12 +68,14 @@ message_keeps setting me from to now node (Message.Request call request) = reque
 message_keeps setting me from to now node (Message.Reply call reply) = reply_keeps setting me now from node call reply
 message_keeps setting me from to now node message = keeps_same node node refl
 
+-- a message whose handling was the last thing that a brick did
 absorbed_keeps : (setting : Setting) (me from to : BrickId) (node : Node) (message : Message)
     → KeepsParts node (absorbed setting me node (record { from = from; to = to; message = message }))
 unfolding absorbed
 absorbed_keeps setting me from to node (Message.Request call request) = request_keeps setting me from node call request
 absorbed_keeps setting me from to node message = keeps_same node node refl
 
+-- a brick that stops keeps its parts, and so does one that is started again
 stopped_keeps : (node : Node) → KeepsParts node (stopped node)
 unfolding stopped
 stopped_keeps node = keeps_same node (stopped node) refl
@@ -92,6 +94,7 @@ delivery_stays setting w (Some packet) =
     (message_keeps setting packet.to packet.from packet.to (w.clocks packet.to.0) (w.nodes packet.to.0) packet.message))
     (λ isnt. parts_same w w refl)
 
+-- a packet is handled, and its reply is lost
 absorption_stays : (setting : Setting) (w : World) (z : Option Packet) → PartsStay w (world_absorbed setting w z)
 absorption_stays setting w None = parts_same w w refl
 absorption_stays setting w (Some packet) =
@@ -132,7 +135,8 @@ parts_stay setting w (Crashes brick) =
     (λ down. parts_same w w refl)
 parts_stay setting w (Starts brick openings) =
     cond_both (may_start setting.layout w brick openings) (world_started w brick openings) w (λ (next : World). PartsStay w next)
-    (λ may. parts_by w (world_started w brick openings) brick.0 (restarted openings (w.nodes brick.0)) refl (restarted_keeps openings (w.nodes brick.0)))
+    (λ may. parts_by w (world_started w brick openings) brick.0 (restarted openings (w.nodes brick.0)) refl
+    (restarted_keeps openings (w.nodes brick.0)))
     (λ cannot. parts_same w w refl)
 parts_stay setting w (Absorbs number) = absorption_stays setting w (packet_of w.packets number)
 
@@ -161,7 +165,8 @@ lost_blocked w g s group v limits lost =
     let more = count_monotone (length group.members) (λ k. lost.seats k && not (held k)) (passes_by w g s group v)
     (λ k below is.
     let parts = and_parts (lost.seats k) (not (held k)) is in
-    passes w g s group v k (below_above v lost.stamp (top_of (part_of w g s (brick_at group k))) lost.above (lost.passed k parts.0)) (not-true (held k) parts.1)) in
+    passes w g s group v k (below_above v lost.stamp (top_of (part_of w g s (brick_at group k))) lost.above (lost.passed k parts.0))
+    (not-true (held k) parts.1)) in
     blocked_by w g s group v limits (omega (arith, split, more, lost.quorum, lost.few))
 
 -- no quorum ever holds a lost version

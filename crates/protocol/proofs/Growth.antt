@@ -42,7 +42,17 @@ pub record Continues (o p : Operation) : Type 0 where
 
 -- an unchanged operation goes on
 pub continues_same : (o : Operation) → Continues o o
-continues_same o = record { brick = refl; boot = refl; seq = refl; begin = refl; ask = refl; floor = refl; version = λ v is. is; made = λ v is. refl; base = λ v is. refl }
+continues_same o = record {
+  brick = refl;
+  boot = refl;
+  seq = refl;
+  begin = refl;
+  ask = refl;
+  floor = refl;
+  version = λ v is. is;
+  made = λ v is. refl;
+  base = λ v is. refl;
+}
 
 -- from one world to the next nothing that was said is lost
 pub record Grows (w next : World) (stamps later : Stamping) : Type 0 where
@@ -328,7 +338,8 @@ module _ (setting : Setting) (w next : World) (stamps later : Stamping) (books :
 
   -- what a coordinator says stays said, where its brick goes on, and its call has no new stamp
   pub stays_call : (i k : ℕ) (c : Coordinator) → (next.nodes i).boot ≡ (w.nodes i).boot
-      → ((p : ℕ) → later i (w.nodes i).boot k p ≡ stamps i (w.nodes i).boot k p) → CallSays setting w stamps i k c → CallSays setting next later i k c
+      → ((p : ℕ) → later i (w.nodes i).boot k p ≡ stamps i (w.nodes i).boot k p) → CallSays setting w stamps i k c
+      → CallSays setting next later i k c
   stays_call i k c boot same says = record {
     begun = subst (λ (b : ℕ). IsBegun later i b k c.call.phase c.phase c.stamp) (sym boot)
         (stays_phase i (w.nodes i).boot k c.call.phase c.phase c.stamp says.begun);

@@ -142,7 +142,8 @@ said_operated setting w stamps later me node more marks n o p contents books sai
           (λ is. let same : p ≡ e = cc in inr (subst (λ (z : Operation). OperationSays setting after later n z) same owes.operation))
           (λ i other is. inl is) a;
       calls = λ i k c.
-          calls_by setting w after stamps later me.0 node refl keeps.boot k c (owes.calls k c) (λ j other. owes.stamps_other j (w.nodes j).boot k other) i;
+          calls_by setting w after stamps later me.0 node refl keeps.boot k c (owes.calls k c)
+          (λ j other. owes.stamps_other j (w.nodes j).boot k other) i;
       ends = owes.ends;
       order = stays_in_order setting w stamps later me node more marks n o p contents keeps said;
     })

@@ -122,7 +122,8 @@ module _ (setting : Setting) (w : World) (stamps : Stamping) (books : Books sett
       (no_order call from other (Descends bound) t u (descent_begun call from to t bound less sent) order)
 
   -- the present phase of an open call was begun
-  call_begun : (from : BrickId) (c : Coordinator) → IsCall w from.0 c.call.seq c → IsBegun stamps from.0 c.call.boot c.call.seq c.call.phase c.phase c.stamp
+  call_begun : (from : BrickId) (c : Coordinator) → IsCall w from.0 c.call.seq c
+      → IsBegun stamps from.0 c.call.boot c.call.seq c.call.phase c.phase c.stamp
   call_begun from c is =
       subst (λ (b : ℕ). IsBegun stamps from.0 b c.call.seq c.call.phase c.phase c.stamp) (sym (books.calls from.0 c.call.seq c is).call_boot)
       (said.calls from.0 c.call.seq c is).begun
@@ -145,7 +146,8 @@ module _ (setting : Setting) (w : World) (stamps : Stamping) (books : Books sett
           let bad : Stores ≡ Recovers = (begun_once stamps from.0 c.call.boot c.call.seq c.call.phase Stores Recovers c.stamp t begun own.1).0 in
           absurd (let never : ⊥ = cc in never))
           (λ (lower : (stamp_below sent.0 t ≡ true) × IsBegun stamps from.0 c.call.boot c.call.seq c.call.phase (Descends sent.0) t).
-          let bad : Stores ≡ Descends sent.0 = (begun_once stamps from.0 c.call.boot c.call.seq c.call.phase Stores (Descends sent.0) c.stamp t begun lower.1).0 in
+          let bad : Stores ≡ Descends sent.0
+          = (begun_once stamps from.0 c.call.boot c.call.seq c.call.phase Stores (Descends sent.0) c.stamp t begun lower.1).0 in
           absurd (let never : ⊥ = cc in never))
           (sent_says c.call from to (Request.OrderRead t (Look.Below sent.0) Want.All) sent.1).1
       asked_as (inr (inr write)) = write
@@ -169,7 +171,8 @@ module _ (setting : Setting) (w : World) (stamps : Stamping) (books : Books sett
           (no_order c.call from to (Descends bound) c.stamp t begun order)
       asked_as (inr (inl sent)) = ⊎_elim
           (λ (own : (sent.0 ≡ t) × IsBegun stamps from.0 c.call.boot c.call.seq c.call.phase Recovers t).
-          let bad : Descends bound ≡ Recovers = (begun_once stamps from.0 c.call.boot c.call.seq c.call.phase (Descends bound) Recovers c.stamp t begun own.1).0 in
+          let bad : Descends bound ≡ Recovers
+          = (begun_once stamps from.0 c.call.boot c.call.seq c.call.phase (Descends bound) Recovers c.stamp t begun own.1).0 in
           absurd (let never : ⊥ = cc in never))
           (λ (lower : (stamp_below sent.0 t ≡ true) × IsBegun stamps from.0 c.call.boot c.call.seq c.call.phase (Descends sent.0) t).
           let phases : Descends bound ≡ Descends sent.0
@@ -181,5 +184,6 @@ module _ (setting : Setting) (w : World) (stamps : Stamping) (books : Books sett
           (sent_says c.call from to (Request.OrderRead t (Look.Below sent.0) Want.All) sent.1).1
       asked_as (inr (inr write)) =
           let bad : Descends bound ≡ Stores
-          = (begun_once stamps from.0 c.call.boot c.call.seq c.call.phase (Descends bound) Stores c.stamp t begun (write_begun c.call from to t write.0 write.1)).0 in
+          = (begun_once stamps from.0 c.call.boot c.call.seq c.call.phase (Descends bound) Stores c.stamp t begun
+          (write_begun c.call from to t write.0 write.1)).0 in
           absurd (let never : ⊥ = cc in never)

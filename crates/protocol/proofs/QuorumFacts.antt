@@ -85,7 +85,8 @@ module _ (setting : Setting) (sound : IsSound setting) (w : World) (stamps : Sta
       let same : u ≡ v = stamp_neither_below u v not_less not_above in
       ⊎_elim
       (λ (made : later.made ≡ true).
-      let own : (p : ℕ) × IsStamped stamps later.brick.0 later.boot later.seq p v = maker_stamp setting w stamps books said b later v is made version in
+      let own : (p : ℕ) × IsStamped stamps later.brick.0 later.boot later.seq p v
+      = maker_stamp setting w stamps books said b later v is made version in
       let floor : later.floor i ≡ v
       = stamp_neither_below (later.floor i) v (subst (λ (t : Stamp). stamp_below (later.floor i) t ≡ false) same above) below in
       absurd ((said.operations b later is).fresh i own.0

@@ -112,7 +112,8 @@ module _ (setting : Setting) (sound : IsSound setting) (w : World) (stamps : Sta
           logs = λ g s k version at. inl at;
           calls = λ k e.
               put_each (λ j x. x ≡ Some e
-              → (((w.nodes me.0).calls j ≡ Some e) × KeepsStamps stamps stamps me.0 (w.nodes me.0).boot j) ⊎ CallSays setting (quiet w me node []) stamps me.0 j e)
+              → (((w.nodes me.0).calls j ≡ Some e) × KeepsStamps stamps stamps me.0 (w.nodes me.0).boot j)
+              ⊎ CallSays setting (quiet w me node []) stamps me.0 j e)
               (w.nodes me.0).calls c.call.seq (Some d)
               (λ at. let same : d ≡ e = cc in
               inr (subst (λ (z : Coordinator). CallSays setting (quiet w me node []) stamps me.0 c.call.seq z) same

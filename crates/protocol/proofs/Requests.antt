@@ -32,8 +32,9 @@ use Rattle.protocol.proofs.Growth.{Grows, Continues, stays_version, stays_called
 use Rattle.protocol.proofs.Steps.{KeepsParts, quiet, quiet_grows, said_quiet, stamps_stay_by}
 
 -- a brick ignores a request, or handles it at its seat
-pub request_each : (P : NodeStep → Type 0) (setting : Setting) (me from : BrickId) (node : Node) (call : Call) (request : Request) → P (no_step node)
-    → ((seat : ℕ) → P (reacted me from node call (handle seat (replica_at node call) request))) → P (requested setting me from node call request)
+pub request_each : (P : NodeStep → Type 0) (setting : Setting) (me from : BrickId) (node : Node) (call : Call) (request : Request)
+    → P (no_step node) → ((seat : ℕ) → P (reacted me from node call (handle seat (replica_at node call) request)))
+    → P (requested setting me from node call request)
 unfolding requested
 request_each P setting me from node call request ignored handled = in_group (group_of setting.layout call.group.0)
   where
@@ -44,8 +45,8 @@ request_each P setting me from node call request ignored handled = in_group (gro
     in_group : (z : Option Group) → P (requested_in setting.layout.block me from node call request z)
     in_group None = ignored
     in_group (Some group) =
-        cond_both (is_served group call && fits_block setting.layout.block request) (requested_at me from node call request (seat_in group.members me.0))
-        (no_step node) P (λ is. at_seat (seat_in group.members me.0)) (λ isnt. ignored)
+        cond_both (is_served group call && fits_block setting.layout.block request)
+        (requested_at me from node call request (seat_in group.members me.0)) (no_step node) P (λ is. at_seat (seat_in group.members me.0)) (λ isnt. ignored)
 
 -- what holds of the changed part, and of each part as it was
 pub parts_each : (Q : ℕ → ℕ → Replica → Type 0) (node : Node) (call : Call) (part : Replica) → Q call.group.0 call.stripe.0 part
@@ -141,7 +142,15 @@ module _ (setting : Setting) (w : World) (stamps : Stamping) (me from : BrickId)
         let says : WriteSays setting w stamps from.0 me.0 call version.stamp version.block
         = subst (λ (r : Request). RequestSays setting w stamps from.0 me.0 call r) is asks in
         record {
-          made = inr (w.numbers from.0 call.boot call.seq, says.operation, says.called.is, says.called.group, says.called.stripe, says.made, says.version);
+          made = inr (
+            w.numbers from.0 call.boot call.seq,
+            says.operation,
+            says.called.is,
+            says.called.group,
+            says.called.stripe,
+            says.made,
+            says.version,
+          );
           block = says.is_block;
         }
 
@@ -274,8 +283,8 @@ module _ (setting : Setting) (w : World) (stamps : Stamping) (me from : BrickId)
     reply_says r told = tt
 
     -- its reply says what it should
-    pub reply_packets_say : (o : Option Reply) → SaysIf before request part o → (k : ℕ) (packet : Packet) → slice_get (reply_packets me from call o) k ≡ Some packet
-        → PacketSays setting next stamps packet
+    pub reply_packets_say : (o : Option Reply) → SaysIf before request part o → (k : ℕ) (packet : Packet)
+        → slice_get (reply_packets me from call o) k ≡ Some packet → PacketSays setting next stamps packet
     reply_packets_say None says k packet is = cc
     reply_packets_say (Some r) says k packet is =
         subst (λ (p : Packet). PacketSays setting next stamps p) (get_one (record { from = me; to = from; message = Message.Reply call r }) packet k is)

@@ -247,14 +247,16 @@ abbrev pub AreOnce : List Counted → Type 0
 AreOnce [] = Unit {0}
 AreOnce (x ∷ counted) = (has_seat x.seat counted ≡ false) × AreOnce counted
 
--- the open operation of brick i's call k. Its present phase is the last that was begun, and each member was sent its request; where it looks below a bound, which is above the first
--- stamp, no quorum will ever hold a version from there up to its stamp; and where it stores, it stores the content of its version.
+-- the open operation of brick i's call k. Its present phase is the last that was begun, and each member was sent its request; where it looks
+-- below a bound, which is above the first stamp, no quorum will ever hold a version from there up to its stamp; and where it stores, it stores
+-- the content of its version.
 pub record CallSays (setting : Setting) (w : World) (stamps : Stamping) (i k : ℕ) (c : Coordinator) : Type 0 where
   pub begun : IsBegun stamps i (w.nodes i).boot k c.call.phase c.phase c.stamp
   pub last : (p : ℕ) → c.call.phase < p → stamps i (w.nodes i).boot k p ≡ None
   pub asked : (group : Group) → group_of setting.layout c.ask.group.0 ≡ Some group → (seat : ℕ) (member : BrickId)
       → slice_get group.members seat ≡ Some member
-      → WasSent w (record { from = record { 0 = i }; to = member; message = Message.Request c.call (request_of setting.code group.m c seat) })
+      → WasSent w
+      (record { from = record { 0 = i }; to = member; message = Message.Request c.call (request_of setting.code group.m c seat) })
   pub fits : FitsPhase c.phase c.ask.op
   pub unbased : c.phase ≡ Orders → c.base ≡ None
   pub above : (bound : Stamp) → c.phase ≡ Descends bound → stamp_below first_stamp bound ≡ true

@@ -67,7 +67,8 @@ request_kept setting w stamps me from call request books said sent =
     request_each (λ step. Said setting (quiet w me step.node []) stamps) setting me from (w.nodes me.0) call request
     (nothing_said setting w stamps me books said)
     (λ seat.
-    said_after_request setting w stamps me from call request books said sent (handle seat (part_of w call.group.0 call.stripe.0 me.0) request).replica []
+    said_after_request setting w stamps me from call request books said sent
+    (handle seat (part_of w call.group.0 call.stripe.0 me.0) request).replica []
     (handle_after seat (part_of w call.group.0 call.stripe.0 me.0) request) (λ k packet at. cc))
 
 -- a fresh stamp is its brick's, and above all that it knows
@@ -114,11 +115,12 @@ message_said setting w stamps me from now (Message.Reply call reply) sound books
 message_said setting w stamps me from now message sound books said sent = (stamps, nothing_said setting w stamps me books said)
 
 -- a message is handled, and no reply is sent
-absorbed_said : (setting : Setting) (w : World) (stamps : Stamping) (me from to : BrickId) (message : Message) → Books setting w → Said setting w stamps
-    → WasSent w (record { from = from; to = me; message = message })
+absorbed_said : (setting : Setting) (w : World) (stamps : Stamping) (me from to : BrickId) (message : Message) → Books setting w
+    → Said setting w stamps → WasSent w (record { from = from; to = me; message = message })
     → Said setting (quiet w me (absorbed setting me (w.nodes me.0) (record { from = from; to = to; message = message })) []) stamps
 unfolding absorbed
-absorbed_said setting w stamps me from to (Message.Request call request) books said sent = request_kept setting w stamps me from call request books said sent
+absorbed_said setting w stamps me from to (Message.Request call request) books said sent =
+    request_kept setting w stamps me from call request books said sent
 absorbed_said setting w stamps me from to message books said sent = nothing_said setting w stamps me books said
 
 -- the books do not change with the replies that count
@@ -140,6 +142,7 @@ delivered_said setting w stamps (Some packet) sound books said sent =
     (sent packet refl))
     (λ isnt. (stamps, said))
 
+-- a packet is handled, and its reply is lost before it is sent
 lost_said : (setting : Setting) (w : World) (stamps : Stamping) (z : Option Packet) → Books setting w → Said setting w stamps
     → ((packet : Packet) → z ≡ Some packet → WasSent w packet) → IsSaid setting (world_absorbed setting w z)
 lost_said setting w stamps None books said sent = (stamps, said)
@@ -182,8 +185,8 @@ stopped_said setting w stamps me books said =
     (get_grown w.marks (crash ∷ []) k (End p n answer) at))
 
 -- a stopped brick is started again: no stamp of its new boot is known
-started_said : (setting : Setting) (w : World) (stamps : Stamping) (me : BrickId) (openings : ℕ) → Books setting w → Said setting w stamps → 1 ≤ openings
-    → Said setting (world_started w me openings) stamps
+started_said : (setting : Setting) (w : World) (stamps : Stamping) (me : BrickId) (openings : ℕ) → Books setting w → Said setting w stamps
+    → 1 ≤ openings → Said setting (world_started w me openings) stamps
 unfolding restarted
 started_said setting w stamps me openings books said some =
     said_idle setting w stamps me.0 (restarted openings (w.nodes me.0)) (put w.up me.0 true)

@@ -37,7 +37,8 @@ AsksPromises setting w g s t (Descends bound) =
 AsksPromises setting w g s t Stores = ⊥
 
 module _ (setting : Setting) (w : World) (stamps : Stamping) (me : BrickId) (c : Coordinator) (group : Group) (known : ℕ) (books : Books setting w)
-    (said : Said setting w stamps) (is : IsCall w me.0 c.call.seq c) (group_is : group_of setting.layout c.ask.group.0 ≡ Some group) (more_known : (w.nodes me.0).known ≤ known) (t : Stamp) (round : ℕ) (phase : Phase)
+    (said : Said setting w stamps) (is : IsCall w me.0 c.call.seq c) (group_is : group_of setting.layout c.ask.group.0 ≡ Some group)
+    (more_known : (w.nodes me.0).known ≤ known) (t : Stamp) (round : ℕ) (phase : Phase)
     (of : IsStampOf (with_known (w.nodes me.0) (max known t.time)) me.0 (w.nodes me.0).boot t)
     (from : ComesFrom stamps me.0 (w.nodes me.0).boot c.call.seq t) (fits : FitsPhase phase c.ask.op)
     (unbased : phase ≡ Orders → c.base ≡ None) (asks : AsksPromises setting w c.ask.group.0 c.ask.stripe.0 t phase) where
@@ -108,7 +109,8 @@ module _ (setting : Setting) (w : World) (stamps : Stamping) (me : BrickId) (c :
     stripe = ap (λ a. a.stripe.0) (sym its.ask) ∙ ap (λ s. s.0) (sym its.call_stripe);
   }
 
-  request_says : (p : Phase) → AsksPromises setting w c.ask.group.0 c.ask.stripe.0 t p → IsBegun later me.0 c.call.boot c.call.seq (c.call.phase + 1) p t → (j seat : ℕ)
+  request_says : (p : Phase) → AsksPromises setting w c.ask.group.0 c.ask.stripe.0 t p
+      → IsBegun later me.0 c.call.boot c.call.seq (c.call.phase + 1) p t → (j seat : ℕ)
       → RequestSays setting next later me.0 j (next_phase c.call) (request_of setting.code group.m (d_in p) seat)
   unfolding request_of
   request_says Looks bad at j seat = absurd bad
@@ -166,10 +168,12 @@ module _ (setting : Setting) (w : World) (stamps : Stamping) (me : BrickId) (c :
           keeps = keeps_same (w.nodes me.0) node refl;
           boot = refl;
           stamps_say = stamps_say stamps me.0 boot c.call.seq (c.call.phase + 1) begun none from w next said.stamps_say
-              (ages_by w next me.0 node refl ages) (subst (λ (x : Node). IsStampOf x me.0 boot t) (sym (put_same w.nodes me.0 node)) stamp) was.0
+              (ages_by w next me.0 node refl ages)
+              (subst (λ (x : Node). IsStampOf x me.0 boot t) (sym (put_same w.nodes me.0 node)) stamp) was.0
               (λ now.
               let most : c.call.seq ≤ (w.nodes me.0).seq = was.1 refl in
-              let seq : (next.nodes me.0).seq ≡ (w.nodes me.0).seq = ap (λ (x : Node). x.seq) (put_same w.nodes me.0 node) in omega arith);
+              let seq : (next.nodes me.0).seq ≡ (w.nodes me.0).seq = ap (λ (x : Node). x.seq) (put_same w.nodes me.0 node) in
+              omega arith);
           stamps_other = λ i b k other. stamps_other stamps me.0 boot c.call.seq (c.call.phase + 1) begun i b k (λ brick same. other brick);
           tops = λ g s. inl refl;
           logs = λ g s k version at. inl at;
@@ -188,8 +192,12 @@ IsRequestOf me call request seat members packet =
 later_request : (me : BrickId) (call : Call) (request : ℕ → Request) (seat : ℕ) (member : BrickId) (members : List BrickId) (packet : Packet)
     → IsRequestOf me call request (seat + 1) members packet → IsRequestOf me call request seat (member ∷ members) packet
 later_request me call request seat member members packet found =
-    let place : seat + 1 + found.0 ≡ seat + suc found.0 = omega arith in
-    (suc found.0, found.1, found.2, found.3 ∙ ap (λ (i : ℕ). record { from = me; to = found.1; message = Message.Request call (request i) }) place)
+    let place : seat + 1 + found.0 ≡ seat + suc found.0 = omega arith in (
+      suc found.0,
+      found.1,
+      found.2,
+      found.3 ∙ ap (λ (i : ℕ). record { from = me; to = found.1; message = Message.Request call (request i) }) place,
+    )
 
 -- the first member's, or a later member's
 first_request : (me : BrickId) (call : Call) (request : ℕ → Request) (seat : ℕ) (member : BrickId) (members : List BrickId) (rest : List Packet)
@@ -204,32 +212,35 @@ first_request me call request seat member members rest (suc j) packet later at =
     later_request me call request seat member members packet (later j at)
 
 -- a packet of a phase that is sent again is a member's request
-resent_to_member : (me : BrickId) (call : Call) (request : ℕ → Request) (counted : List Counted) (seat : ℕ) (members : List BrickId) (k : ℕ) (packet : Packet)
-    → slice_get (resent_to me call request counted seat members) k ≡ Some packet → IsRequestOf me call request seat members packet
+resent_to_member : (me : BrickId) (call : Call) (request : ℕ → Request) (counted : List Counted) (seat : ℕ) (members : List BrickId) (k : ℕ)
+    (packet : Packet) → slice_get (resent_to me call request counted seat members) k ≡ Some packet → IsRequestOf me call request seat members packet
 resent_to_member me call request counted seat [] k packet is = cc
 resent_to_member me call request counted seat (member ∷ members) k packet is =
     let rest : List Packet = resent_to me call request counted (seat + 1) members in
     cond_both (has_seat seat counted) rest (record { from = me; to = member; message = Message.Request call (request seat) } ∷ rest)
     (λ (z : List Packet). slice_get z k ≡ Some packet → IsRequestOf me call request seat (member ∷ members) packet)
-    (λ has at. later_request me call request seat member members packet (resent_to_member me call request counted (seat + 1) members k packet at))
+    (λ has at.
+    later_request me call request seat member members packet (resent_to_member me call request counted (seat + 1) members k packet at))
     (λ isnt at.
-    first_request me call request seat member members rest k packet (λ j. resent_to_member me call request counted (seat + 1) members j packet) at)
+    first_request me call request seat member members rest k packet
+    (λ j. resent_to_member me call request counted (seat + 1) members j packet) at)
     is
 
 module _ (setting : Setting) (w : World) (stamps : Stamping) (me : BrickId) (said : Said setting w stamps) where
   -- what an open operation sends again was sent
-  resent_was_sent : (k : ℕ) (c : Coordinator) → IsCall w me.0 k c → (z : Option Group) → group_of setting.layout c.ask.group.0 ≡ z → (j : ℕ) (packet : Packet)
-      → slice_get (resent_in setting me c z) j ≡ Some packet → WasSent w packet
+  resent_was_sent : (k : ℕ) (c : Coordinator) → IsCall w me.0 k c → (z : Option Group) → group_of setting.layout c.ask.group.0 ≡ z
+      → (j : ℕ) (packet : Packet) → slice_get (resent_in setting me c z) j ≡ Some packet → WasSent w packet
   resent_was_sent k c is None none j packet at = cc
   resent_was_sent k c is (Some group) group_is j packet at =
       let found = resent_to_member me c.call (request_of setting.code group.m c) c.counted 0 group.members j packet at in
       let place : 0 + found.0 ≡ found.0 = omega arith in
       subst (λ (z : Packet). WasSent w z) (sym found.3)
-      (subst (λ (i : ℕ). WasSent w (record { from = me; to = found.1; message = Message.Request c.call (request_of setting.code group.m c i) })) (sym place)
+      (subst (λ (i : ℕ). WasSent w (record { from = me; to = found.1; message = Message.Request c.call (request_of setting.code group.m c i) }))
+      (sym place)
       ((said.calls me.0 k c is).asked group group_is found.0 found.1 found.2))
 
-  call_resent : (k : ℕ) (z : Option Coordinator) → (w.nodes me.0).calls k ≡ z → (j : ℕ) (packet : Packet) → slice_get (resent setting me z) j ≡ Some packet
-      → WasSent w packet
+  call_resent : (k : ℕ) (z : Option Coordinator) → (w.nodes me.0).calls k ≡ z → (j : ℕ) (packet : Packet)
+      → slice_get (resent setting me z) j ≡ Some packet → WasSent w packet
   call_resent k None none j packet at = cc
   call_resent k (Some c) is j packet at = resent_was_sent k c is (group_of setting.layout c.ask.group.0) refl j packet at
 

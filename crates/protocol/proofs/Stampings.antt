@@ -148,7 +148,8 @@ module _ (stamps : Stamping) (i b k p : ℕ) (new : Begun) where
   -- and so are the call's other phases
   pub phases_other : (q : ℕ) → (q ≡ p → ⊥) → with_stamp stamps i b k p new i b k q ≡ stamps i b k q
   phases_other q other =
-      stamp_each (λ a d e f z. (f ≡ p → ⊥) → z ≡ stamps a d e f) stamps i b k p new (λ apart. absurd (apart refl)) (λ a d e f differ apart. refl) i b k q other
+      stamp_each (λ a d e f z. (f ≡ p → ⊥) → z ≡ stamps a d e f) stamps i b k p new (λ apart. absurd (apart refl))
+      (λ a d e f differ apart. refl) i b k q other
 
   module _ (none : (r : ℕ) → p ≤ r → stamps i b k r ≡ None) (from : ComesFrom stamps i b k new.stamp) where
     -- no phase after it was begun
@@ -198,7 +199,8 @@ module _ (stamps : Stamping) (i b k p : ℕ) (new : Begun) where
               (λ is its.
               stamp_each (λ e d f g z. e ≡ i → d ≡ b → z ≡ Some (record { stamp = u; phase = its.0 }) → k ≡ f) stamps i b k p new
               (λ at when here. refl)
-              (λ e d f g differ at when here. sym (had_stamp w say e d f g u (stamp_of new one.0 u is) at when (its.0, here))) i b m r refl refl its.1)
+              (λ e d f g differ at when here. sym (had_stamp w say e d f g u (stamp_of new one.0 u is) at when (its.0, here)))
+              i b m r refl refl its.1)
               (λ e d f g differ is its.
               stamp_each (λ a h x y z. a ≡ e → h ≡ d → z ≡ Some (record { stamp = u; phase = its.0 }) → f ≡ x) stamps i b k p new
               (λ at when here. had_stamp w say e d f g u (stamp_of new its.0 u here) (sym at) (sym when) (one.0, is))

@@ -33,6 +33,10 @@ use Rattle.protocol.proofs.Growth.{Grows, continues_same, stays_version, stays_p
 abbrev pub KeepsStamps : Stamping → Stamping → ℕ → ℕ → ℕ → Type 0
 KeepsStamps stamps later i b k = (p : ℕ) → later i b k p ≡ stamps i b k p
 
+-- call k of brick i was open, in the boot that the brick has now, and has the stamps that it had
+abbrev pub StaysOpen : World → Stamping → Stamping → ℕ → ℕ → Coordinator → ℕ → Type 0
+StaysOpen w stamps later i k c boot = IsCall w i k c × (boot ≡ (w.nodes i).boot) × KeepsStamps stamps later i (w.nodes i).boot k
+
 -- what is new in the next world says what it should
 pub record Owes (setting : Setting) (w next : World) (stamps later : Stamping) : Type 0 where
   pub stamps_say : StampsSay next later
@@ -43,8 +47,7 @@ pub record Owes (setting : Setting) (w next : World) (stamps later : Stamping) :
       → (slice_get w.packets k ≡ Some packet) ⊎ PacketSays setting next later packet
   pub operations : (n : ℕ) (o : Operation) → IsOperation next n o → IsOperation w n o ⊎ OperationSays setting next later n o
   pub calls : (i k : ℕ) (c : Coordinator) → IsCall next i k c
-      → (IsCall w i k c × ((next.nodes i).boot ≡ (w.nodes i).boot) × KeepsStamps stamps later i (w.nodes i).boot k)
-      ⊎ CallSays setting next later i k c
+      → StaysOpen w stamps later i k c (next.nodes i).boot ⊎ CallSays setting next later i k c
   pub ends : (k p n : ℕ) (answer : Answer) → slice_get next.marks k ≡ Some (End p n answer)
       → (slice_get w.marks k ≡ Some (End p n answer)) ⊎ EndShows next n answer
   pub order : IsInOrder setting next
@@ -75,7 +78,7 @@ said_after setting w next stamps later books said grows owes = record {
       (λ (new : OperationSays setting next later n o). new)
       (owes.operations n o is);
   calls = λ i k c is. ⊎_elim
-      (λ (old : IsCall w i k c × ((next.nodes i).boot ≡ (w.nodes i).boot) × KeepsStamps stamps later i (w.nodes i).boot k).
+      (λ (old : StaysOpen w stamps later i k c (next.nodes i).boot).
       stays_call setting w next stamps later books grows i k c old.1 old.2 (said.calls i k c old.0))
       (λ (new : CallSays setting next later i k c). new)
       (owes.calls i k c is);
@@ -145,17 +148,12 @@ sent_by w next more packets packet sent =
     (sent.0, subst (λ (l : List Packet). slice_get l sent.0 ≡ Some packet) (sym packets) (get_kept w.packets more sent.0 packet sent.1))
 
 -- bricks age where the one that changes does
-pub ages_by : (w next : World) (me : ℕ) (node : Node) → next.nodes ≡ put w.nodes me node → Ages (w.nodes me) node → (i : ℕ) → Ages (w.nodes i) (next.nodes i)
+pub ages_by : (w next : World) (me : ℕ) (node : Node) → next.nodes ≡ put w.nodes me node → Ages (w.nodes me) node → (i : ℕ)
+    → Ages (w.nodes i) (next.nodes i)
 ages_by w next me node nodes ages i =
     subst (λ (f : ℕ → Node). Ages (w.nodes i) (f i)) (sym nodes)
-    (put_each (λ j x. Ages (w.nodes j) x) w.nodes me node ages (λ j other. ages_within (w.nodes j) (w.nodes j) refl (omega arith) (omega arith)) i)
-
--- no known time falls where the brick's own does not
-pub known_by : (w next : World) (me : ℕ) (node : Node) → next.nodes ≡ put w.nodes me node → (w.nodes me).known ≤ node.known
-    → (i : ℕ) → (w.nodes i).known ≤ (next.nodes i).known
-known_by w next me node nodes more i =
-    subst (λ (f : ℕ → Node). (w.nodes i).known ≤ (f i).known) (sym nodes)
-    (put_each (λ j x. (w.nodes j).known ≤ x.known) w.nodes me node more (λ j other. omega arith) i)
+    (put_each (λ j x. Ages (w.nodes j) x) w.nodes me node ages
+    (λ j other. ages_within (w.nodes j) (w.nodes j) refl (omega arith) (omega arith)) i)
 
 -- what is owed for call k, where one brick changes within its boot
 pub calls_by : (setting : Setting) (w next : World) (stamps later : Stamping) (me : ℕ) (node : Node) → next.nodes ≡ put w.nodes me node
@@ -163,13 +161,10 @@ pub calls_by : (setting : Setting) (w next : World) (stamps later : Stamping) (m
     → (node.calls k ≡ Some c
     → (((w.nodes me).calls k ≡ Some c) × KeepsStamps stamps later me (w.nodes me).boot k) ⊎ CallSays setting next later me k c)
     → ((j : ℕ) → j ≢ me → KeepsStamps stamps later j (w.nodes j).boot k) → (i : ℕ) → IsCall next i k c
-    → (IsCall w i k c × ((next.nodes i).boot ≡ (w.nodes i).boot) × KeepsStamps stamps later i (w.nodes i).boot k)
-    ⊎ CallSays setting next later i k c
+    → StaysOpen w stamps later i k c (next.nodes i).boot ⊎ CallSays setting next later i k c
 calls_by setting w next stamps later me node nodes boot k c own others i =
-    subst (λ (f : ℕ → Node). (f i).calls k ≡ Some c
-    → (IsCall w i k c × ((f i).boot ≡ (w.nodes i).boot) × KeepsStamps stamps later i (w.nodes i).boot k) ⊎ CallSays setting next later i k c) (sym nodes)
-    (put_each (λ j x. x.calls k ≡ Some c
-    → (IsCall w j k c × (x.boot ≡ (w.nodes j).boot) × KeepsStamps stamps later j (w.nodes j).boot k) ⊎ CallSays setting next later j k c) w.nodes me node
+    subst (λ (f : ℕ → Node). (f i).calls k ≡ Some c → StaysOpen w stamps later i k c (f i).boot ⊎ CallSays setting next later i k c) (sym nodes)
+    (put_each (λ j x. x.calls k ≡ Some c → StaysOpen w stamps later j k c x.boot ⊎ CallSays setting next later j k c) w.nodes me node
     (λ is. ⊎_elim
     (λ (old : ((w.nodes me).calls k ≡ Some c) × KeepsStamps stamps later me (w.nodes me).boot k). inl (old.0, boot, old.1))
     (λ (new : CallSays setting next later me k c). inr new)
@@ -225,7 +220,8 @@ said_quiet setting w stamps later me node more books said grow owes =
           (get_grown w.packets more k packet is);
       operations = λ n o is. inl is;
       calls = λ i k c.
-          calls_by setting w next stamps later me.0 node refl owes.boot k c (owes.calls k c) (λ j other. owes.stamps_other j (w.nodes j).boot k other) i;
+          calls_by setting w next stamps later me.0 node refl owes.boot k c (owes.calls k c)
+          (λ j other. owes.stamps_other j (w.nodes j).boot k other) i;
       ends = λ k p n answer is. inl is;
       order = said.order;
     })
@@ -238,7 +234,8 @@ stamps_stay_by setting w next stamps me node said nodes ages = stamps_stay w nex
 -- each member is sent its request
 pub member_sent : (me : BrickId) (call : Call) (request : ℕ → Request) (seat : ℕ) (members : List BrickId) (k : ℕ) (member : BrickId)
     → slice_get members k ≡ Some member
-    → slice_get (to_members me call request seat members) k ≡ Some (record { from = me; to = member; message = Message.Request call (request (seat + k)) })
+    → slice_get (to_members me call request seat members) k
+    ≡ Some (record { from = me; to = member; message = Message.Request call (request (seat + k)) })
 member_sent me call request seat [] k member at = cc
 member_sent me call request seat (other ∷ members) zero member at =
     let same : other ≡ member = cc in
@@ -297,8 +294,8 @@ pub said_beside : (setting : Setting) (w : World) (stamps : Stamping) (clocks : 
 said_beside setting w stamps clocks replies books said =
     said_added setting w stamps clocks replies w.packets books said (λ packet sent. sent) (λ packet sent. sent)
 
--- a brick that has no operation open any more, as it stopped or was started again, changes nothing of what is said, where no operation's last
--- position comes forward
+-- a brick that has no operation open any more, as it stopped or was started again, changes nothing of what is said, where no operation's
+-- last position comes forward
 pub said_idle : (setting : Setting) (w : World) (stamps : Stamping) (me : ℕ) (node : Node) (up : ℕ → Bool) (past : ℕ → ℕ → ℕ) (marks : List Mark)
     → Books setting w → Said setting w stamps → node.replicas ≡ (w.nodes me).replicas → ((k : ℕ) → node.calls k ≡ None) → Ages (w.nodes me) node
     → length w.marks ≤ length marks → ((a : ℕ) → last_of (life_of w.marks a) ≤ last_of (life_of marks a))
@@ -326,8 +323,7 @@ said_idle setting w stamps me node up past marks books said same none ages longe
       packets = λ k packet is. inl is;
       operations = λ n o is. inl is;
       calls = λ i k c.
-          put_each (λ j x. x.calls k ≡ Some c
-          → (IsCall w j k c × (x.boot ≡ (w.nodes j).boot) × KeepsStamps stamps stamps j (w.nodes j).boot k) ⊎ CallSays setting next stamps j k c) w.nodes me node
+          put_each (λ j x. x.calls k ≡ Some c → StaysOpen w stamps stamps j k c x.boot ⊎ CallSays setting next stamps j k c) w.nodes me node
           (λ is. absurd (let bad : Some c ≡ None = sym is ∙ none k in let never : ⊥ = cc in never))
           (λ j other is. inl (is, refl, (λ p. refl))) i;
       ends = λ k p n answer is. inl (ends k p n answer is);

@@ -351,7 +351,8 @@ module _ (setting : Setting) (sound : IsSound setting) (w : World) (stamps : Sta
           record {
             operation = made;
             called = record {
-              is = subst (λ (b : ℕ). IsOperation next (w.numbers me.0 b c.call.seq) made) (sym its.call_boot) (put_same w.operations n (Some made));
+              is = subst (λ (b : ℕ). IsOperation next (w.numbers me.0 b c.call.seq) made) (sym its.call_boot)
+                  (put_same w.operations n (Some made));
               brick = its.brick;
               boot = its.boot ∙ sym its.call_boot;
               seq = its.seq;
@@ -421,11 +422,12 @@ module _ (setting : Setting) (sound : IsSound setting) (w : World) (stamps : Sta
           let was = said.stamps_say.begun me.0 boot c.call.seq c.call.phase c.stamp its_stamp in
           let ages : Ages (w.nodes me.0) node = ages_within (w.nodes me.0) node refl more_known (omega arith) in
           stamps_say stamps me.0 boot c.call.seq (c.call.phase + 1) begun none from w next said.stamps_say (ages_by w next me.0 node refl ages)
-          (subst (λ (x : Node). IsStampOf x me.0 boot c.stamp) (sym (put_same w.nodes me.0 node)) (stamp_stays (w.nodes me.0) node me.0 boot c.stamp ages at))
-          was.0
+          (subst (λ (x : Node). IsStampOf x me.0 boot c.stamp) (sym (put_same w.nodes me.0 node))
+          (stamp_stays (w.nodes me.0) node me.0 boot c.stamp ages at)) was.0
           (λ now.
           let most : c.call.seq ≤ (w.nodes me.0).seq = was.1 refl in
-          let seq : (next.nodes me.0).seq ≡ (w.nodes me.0).seq = ap (λ (x : Node). x.seq) (put_same w.nodes me.0 node) in omega arith)
+          let seq : (next.nodes me.0).seq ≡ (w.nodes me.0).seq = ap (λ (x : Node). x.seq) (put_same w.nodes me.0 node) in
+          omega arith)
 
       -- the invariant holds when a version was made
       pub said_made : IsSaid setting
@@ -436,7 +438,8 @@ module _ (setting : Setting) (sound : IsSound setting) (w : World) (stamps : Sta
             said_operated setting w stamps later me node more w.marks n o made contents books said grow keeps
                 (record {
                   stamps_say = say;
-                  stamps_other = λ i b k other. stamps_other stamps me.0 boot c.call.seq (c.call.phase + 1) begun i b k (λ brick same. other brick);
+                  stamps_other = λ i b k other.
+                      stamps_other stamps me.0 boot c.call.seq (c.call.phase + 1) begun i b k (λ brick same. other brick);
                   operation = operation_says;
                   calls = calls;
                   packets = packets;
