@@ -198,6 +198,7 @@ module _ (setting : Setting) (w : World) (brick : BrickId) (books : Books settin
     seq = (w.nodes i).seq;
     known = (w.nodes i).known;
     busy = 0;
+    live = (w.nodes i).live;
     replicas = (w.nodes i).replicas;
     calls = no_calls;
   }

@@ -71,6 +71,7 @@ module _ (setting : Setting) (w : World) (brick : BrickId) (openings : ℕ) (boo
     seq = 0;
     known = 0;
     busy = 0;
+    live = (w.nodes i).live;
     replicas = (w.nodes i).replicas;
     calls = no_calls;
   }

@@ -13,8 +13,8 @@ use Rattle.fab_wire.specs.declared.requests.Want.TheVariants.{Seat, All}
 use Rattle.fab_wire.specs.declared.requests.Request.{Request}
 use Rattle.fab_wire.specs.declared.requests.Request.TheVariants.{Read, Order, OrderRead, Write, Modify, Collect, OldRead, Prepare, Accept}
 use Rattle.fab_wire.specs.declared.replies.Reply.{Reply}
-use Rattle.fab_wire.specs.declared.replies.Reply.TheVariants.{Found, Ordered, OrderedRead, Stored, Later}
-use Rattle.protocol.specs.Replicas.{Replica, Reaction, newest_of, is_held, stamp_max, top_of, is_wanted, told_version, ordered, written, below, looked_up, order_read, handle}
+use Rattle.fab_wire.specs.declared.replies.Reply.TheVariants.{Found, Ordered, OrderedRead, Stored, Later, Full}
+use Rattle.protocol.specs.Replicas.{Replica, Reaction, newest_of, is_held, stamp_max, top_of, is_wanted, told_version, stays, unless_full, promised, stored, ordered, written, below, looked_up, order_read, handle}
 use Rattle.protocol.proofs.Logs.{LogAscends, IsWithin, newest_greatest, ascends_more, held_more}
 use Rattle.protocol.proofs.Tables.{get_grown, get_one}
 
@@ -118,47 +118,59 @@ pub record HasWritten (replica : Replica) (request : Request) (next : Replica) :
 abbrev pub IsAfter : Replica → Request → Replica → Type 0
 IsAfter replica request next = (next ≡ replica) ⊎ (HasPromised replica request next ⊎ HasWritten replica request next)
 
-ordered_after : (replica : Replica) (t : Stamp) → IsAfter replica (Order t) (ordered replica t).replica
-ordered_after replica t =
-    cond_both (stamp_below t (top_of replica)) (record { replica = replica; reply = Some (Later (top_of replica)) })
-    (record { replica = record { order = t; log = replica.log }; reply = Some Ordered })
+-- a change is made, or is refused where the store is full
+pub unless_full_cases : (P : Reaction → Type 0) (full : Option ℕ) (replica : Replica) (reaction : Reaction)
+    → ((live : ℕ) → full ≡ Some live → P (stays replica (Full live))) → P reaction → P (unless_full full replica reaction)
+unless_full_cases P None replica reaction refused made = made
+unless_full_cases P (Some live) replica reaction refused made =
+    cond_both reaction.adds (stays replica (Full live)) reaction P (λ more. refused live refl) (λ same. made)
+
+ordered_after : (full : Option ℕ) (replica : Replica) (t : Stamp) → IsAfter replica (Order t) (ordered full replica t).replica
+ordered_after full replica t =
+    cond_both (stamp_below t (top_of replica)) (stays replica (Later (top_of replica))) (unless_full full replica (promised replica t Ordered))
     (λ (z : Reaction). IsAfter replica (Order t) z.replica)
     (λ below. inl refl)
-    (λ at. inr (inl (record { stamp = t; request_is = inl refl; above = at; next_is = refl })))
+    (λ at. unless_full_cases (λ (z : Reaction). IsAfter replica (Order t) z.replica) full replica (promised replica t Ordered)
+    (λ live is. inl refl)
+    (inr (inl (record { stamp = t; request_is = inl refl; above = at; next_is = refl }))))
 
-order_read_after : (replica : Replica) (t : Stamp) (look : Look) (want : Want) (wanted : Bool)
-    → IsAfter replica (OrderRead t look want) (order_read replica t look wanted).replica
-order_read_after replica t look want wanted =
-    cond_both (stamp_below t (top_of replica)) (record { replica = replica; reply = Some (Later (top_of replica)) })
-    (record { replica = record { order = t; log = replica.log }; reply = Some (OrderedRead (told_version wanted (looked_up look replica.log))) })
+order_read_after : (full : Option ℕ) (replica : Replica) (t : Stamp) (look : Look) (want : Want) (wanted : Bool)
+    → IsAfter replica (OrderRead t look want) (order_read full replica t look wanted).replica
+order_read_after full replica t look want wanted =
+    let found : Reply = OrderedRead (told_version wanted (looked_up look replica.log)) in
+    cond_both (stamp_below t (top_of replica)) (stays replica (Later (top_of replica))) (unless_full full replica (promised replica t found))
     (λ (z : Reaction). IsAfter replica (OrderRead t look want) z.replica)
     (λ below. inl refl)
-    (λ at. inr (inl (record { stamp = t; request_is = inr (look, want, refl); above = at; next_is = refl })))
+    (λ at. unless_full_cases (λ (z : Reaction). IsAfter replica (OrderRead t look want) z.replica) full replica (promised replica t found)
+    (λ live is. inl refl)
+    (inr (inl (record { stamp = t; request_is = inr (look, want, refl); above = at; next_is = refl }))))
 
-written_after : (replica : Replica) (t : Stamp) (block : List ℕ) → IsAfter replica (Write t block) (written replica t block).replica
-written_after replica t block =
-    cond_both (is_held t replica.log) (record { replica = replica; reply = Some Stored })
-    (cond (stamp_below t (top_of replica)) (record { replica = replica; reply = Some (Later (top_of replica)) })
-    (record { replica = with_version replica t block; reply = Some Stored }))
+written_after : (full : Option ℕ) (replica : Replica) (t : Stamp) (block : List ℕ)
+    → IsAfter replica (Write t block) (written full replica t block).replica
+written_after full replica t block =
+    cond_both (is_held t replica.log) (stays replica Stored)
+    (cond (stamp_below t (top_of replica)) (stays replica (Later (top_of replica))) (unless_full full replica (stored replica t block)))
     (λ (z : Reaction). IsAfter replica (Write t block) z.replica)
     (λ held. inl refl)
-    (λ isnt. cond_both (stamp_below t (top_of replica)) (record { replica = replica; reply = Some (Later (top_of replica)) })
-    (record { replica = with_version replica t block; reply = Some Stored })
+    (λ isnt. cond_both (stamp_below t (top_of replica)) (stays replica (Later (top_of replica))) (unless_full full replica (stored replica t block))
     (λ (z : Reaction). IsAfter replica (Write t block) z.replica)
     (λ below. inl refl)
-    (λ at. inr (inr (record { stamp = t; block = block; request_is = refl; above = at; next_is = refl }))))
+    (λ at. unless_full_cases (λ (z : Reaction). IsAfter replica (Write t block) z.replica) full replica (stored replica t block)
+    (λ live is. inl refl)
+    (inr (inr (record { stamp = t; block = block; request_is = refl; above = at; next_is = refl })))))
 
-pub handle_after : (seat : ℕ) (replica : Replica) (request : Request) → IsAfter replica request (handle seat replica request).replica
+pub handle_after : (full : Option ℕ) (seat : ℕ) (replica : Replica) (request : Request)
+    → IsAfter replica request (handle full seat replica request).replica
 unfolding handle
-handle_after seat replica (Read want) = inl refl
-handle_after seat replica (Order t) = ordered_after replica t
-handle_after seat replica (Write t block) = written_after replica t block
-handle_after seat replica (OrderRead t look want) = order_read_after replica t look want (is_wanted want seat)
-handle_after seat replica (Modify t base j delta) = inl refl
-handle_after seat replica (Collect t) = inl refl
-handle_after seat replica (OldRead bound) = inl refl
-handle_after seat replica (Prepare ballot) = inl refl
-handle_after seat replica (Accept ballot members) = inl refl
+handle_after full seat replica (Read want) = inl refl
+handle_after full seat replica (Order t) = ordered_after full replica t
+handle_after full seat replica (Write t block) = written_after full replica t block
+handle_after full seat replica (OrderRead t look want) = order_read_after full replica t look want (is_wanted want seat)
+handle_after full seat replica (Modify t base j delta) = inl refl
+handle_after full seat replica (Collect t) = inl refl
+handle_after full seat replica (OldRead bound) = inl refl
+handle_after full seat replica (Prepare ballot) = inl refl
+handle_after full seat replica (Accept ballot members) = inl refl
 
 -- a stamp is asked for
 abbrev pub IsAsked : Request → Stamp → Type 0
@@ -170,21 +182,22 @@ FoundBelow replica request next found t =
     (look : Look) × (want : Want) × (request ≡ OrderRead t look want) × (stamp_below t (top_of replica) ≡ false) × (next ≡ with_order replica t)
     × ((bound : Stamp) → look ≡ Below bound → want ≡ All → found ≡ newest_of (below bound replica.log))
 
--- what a member's reply tells of its part before and after the request
-abbrev pub ReactionSays : Replica → Request → Replica → Reply → Type 0
-ReactionSays replica request next (Found order (Some version)) =
+-- what a member's reply tells of its part before and after the request, and of how many live records it has where those are as many as it may
+abbrev pub ReactionSays : Option ℕ → Replica → Request → Replica → Reply → Type 0
+ReactionSays full replica request next (Found order (Some version)) =
     (want : Want) × (request ≡ Read want) × (want ≡ All → newest_of replica.log ≡ Some version) × (order ≡ replica.order) × (next ≡ replica)
-ReactionSays replica request next Ordered =
+ReactionSays full replica request next Ordered =
     (t : Stamp) × (request ≡ Order t) × (stamp_below t (top_of replica) ≡ false) × (top_of next ≡ t)
-ReactionSays replica request next (OrderedRead found) = (t : Stamp) × FoundBelow replica request next found t
-ReactionSays replica request next Stored = (t : Stamp) × (block : List ℕ) × (request ≡ Write t block) × (is_held t next.log ≡ true)
-ReactionSays replica request next (Later x) = (t : Stamp) × IsAsked request t × (stamp_below t x ≡ true)
-ReactionSays replica request next reply = Unit {0}
+ReactionSays full replica request next (OrderedRead found) = (t : Stamp) × FoundBelow replica request next found t
+ReactionSays full replica request next Stored = (t : Stamp) × (block : List ℕ) × (request ≡ Write t block) × (is_held t next.log ≡ true)
+ReactionSays full replica request next (Later x) = (t : Stamp) × IsAsked request t × (stamp_below t x ≡ true)
+ReactionSays full replica request next (Full live) = full ≡ Some live
+ReactionSays full replica request next reply = Unit {0}
 
 -- of a reply, if there is one
-abbrev pub SaysIf : Replica → Request → Replica → Option Reply → Type 0
-SaysIf replica request next None = Unit {0}
-SaysIf replica request next (Some reply) = ReactionSays replica request next reply
+abbrev pub SaysIf : Option ℕ → Replica → Request → Replica → Option Reply → Type 0
+SaysIf full replica request next None = Unit {0}
+SaysIf full replica request next (Some reply) = ReactionSays full replica request next reply
 
 -- a version that was just stored is held
 held_grown : (log : List Version) (version : Version) → is_held version.stamp (log ++ (version ∷ [])) ≡ true
@@ -199,30 +212,32 @@ held_kept t (x ∷ log) more held = ⊎_elim
     (λ (there : is_held t log ≡ true). or_right (stamp_same x.stamp t) (is_held t (log ++ more)) (held_kept t log more there))
     (or_cases (stamp_same x.stamp t) (is_held t log) held)
 
-ordered_says : (replica : Replica) (t : Stamp) → SaysIf replica (Order t) (ordered replica t).replica (ordered replica t).reply
-ordered_says replica t =
-    cond_both (stamp_below t (top_of replica)) (record { replica = replica; reply = Some (Later (top_of replica)) })
-    (record { replica = record { order = t; log = replica.log }; reply = Some Ordered })
-    (λ (z : Reaction). SaysIf replica (Order t) z.replica z.reply)
+ordered_says : (full : Option ℕ) (replica : Replica) (t : Stamp)
+    → SaysIf full replica (Order t) (ordered full replica t).replica (ordered full replica t).reply
+ordered_says full replica t =
+    cond_both (stamp_below t (top_of replica)) (stays replica (Later (top_of replica))) (unless_full full replica (promised replica t Ordered))
+    (λ (z : Reaction). SaysIf full replica (Order t) z.replica z.reply)
     (λ below. (t, inl (inl refl), below))
-    (λ at. (t, refl, at, top_promised replica t at))
+    (λ at. unless_full_cases (λ (z : Reaction). SaysIf full replica (Order t) z.replica z.reply) full replica (promised replica t Ordered)
+    (λ live is. is)
+    (t, refl, at, top_promised replica t at))
 
 -- what is told where all is wanted is all that is there
 told_true : (o : Option Version) → told_version true o ≡ o
 told_true None = refl
 told_true (Some version) = refl
 
-order_read_says : (replica : Replica) (t : Stamp) (look : Look) (want : Want) (seat : ℕ)
-    → SaysIf replica (OrderRead t look want) (order_read replica t look (is_wanted want seat)).replica (order_read replica t look (is_wanted want seat)).reply
-order_read_says replica t look want seat =
-    cond_both (stamp_below t (top_of replica)) (record { replica = replica; reply = Some (Later (top_of replica)) })
-    (record {
-      replica = record { order = t; log = replica.log };
-      reply = Some (OrderedRead (told_version (is_wanted want seat) (looked_up look replica.log)));
-    })
-    (λ (z : Reaction). SaysIf replica (OrderRead t look want) z.replica z.reply)
+order_read_says : (full : Option ℕ) (replica : Replica) (t : Stamp) (look : Look) (want : Want) (seat : ℕ)
+    → SaysIf full replica (OrderRead t look want) (order_read full replica t look (is_wanted want seat)).replica
+    (order_read full replica t look (is_wanted want seat)).reply
+order_read_says full replica t look want seat =
+    let found : Reply = OrderedRead (told_version (is_wanted want seat) (looked_up look replica.log)) in
+    cond_both (stamp_below t (top_of replica)) (stays replica (Later (top_of replica))) (unless_full full replica (promised replica t found))
+    (λ (z : Reaction). SaysIf full replica (OrderRead t look want) z.replica z.reply)
     (λ under. (t, inl (inr (look, want, refl)), under))
-    (λ at. (
+    (λ at. unless_full_cases (λ (z : Reaction). SaysIf full replica (OrderRead t look want) z.replica z.reply) full replica (promised replica t found)
+    (λ live is. is)
+    (
       t,
       (
         look,
@@ -236,43 +251,44 @@ order_read_says replica t look want seat =
       ),
     ))
 
-written_says : (replica : Replica) (t : Stamp) (block : List ℕ) → SaysIf replica (Write t block) (written replica t block).replica (written replica t block).reply
-written_says replica t block =
-    cond_both (is_held t replica.log) (record { replica = replica; reply = Some Stored })
-    (cond (stamp_below t (top_of replica)) (record { replica = replica; reply = Some (Later (top_of replica)) })
-    (record { replica = with_version replica t block; reply = Some Stored }))
-    (λ (z : Reaction). SaysIf replica (Write t block) z.replica z.reply)
+written_says : (full : Option ℕ) (replica : Replica) (t : Stamp) (block : List ℕ)
+    → SaysIf full replica (Write t block) (written full replica t block).replica (written full replica t block).reply
+written_says full replica t block =
+    cond_both (is_held t replica.log) (stays replica Stored)
+    (cond (stamp_below t (top_of replica)) (stays replica (Later (top_of replica))) (unless_full full replica (stored replica t block)))
+    (λ (z : Reaction). SaysIf full replica (Write t block) z.replica z.reply)
     (λ held. (t, block, refl, held))
-    (λ isnt. cond_both (stamp_below t (top_of replica)) (record { replica = replica; reply = Some (Later (top_of replica)) })
-    (record { replica = with_version replica t block; reply = Some Stored })
-    (λ (z : Reaction). SaysIf replica (Write t block) z.replica z.reply)
+    (λ isnt. cond_both (stamp_below t (top_of replica)) (stays replica (Later (top_of replica))) (unless_full full replica (stored replica t block))
+    (λ (z : Reaction). SaysIf full replica (Write t block) z.replica z.reply)
     (λ below. (t, inr (block, refl), below))
-    (λ at. (t, block, refl, held_grown replica.log (record { stamp = t; block = block }))))
+    (λ at. unless_full_cases (λ (z : Reaction). SaysIf full replica (Write t block) z.replica z.reply) full replica (stored replica t block)
+    (λ live is. is)
+    (t, block, refl, held_grown replica.log (record { stamp = t; block = block }))))
 
 -- what is told where all is wanted
-told_all : (replica : Replica) (want : Want) (seat : ℕ) (newest : Option Version) → newest_of replica.log ≡ newest
-    → SaysIf replica (Read want) replica (Some (Found replica.order (told_version (is_wanted want seat) newest)))
-told_all replica want seat None is = tt
-told_all replica (Seat k) seat (Some version) is =
+told_all : (full : Option ℕ) (replica : Replica) (want : Want) (seat : ℕ) (newest : Option Version) → newest_of replica.log ≡ newest
+    → SaysIf full replica (Read want) replica (Some (Found replica.order (told_version (is_wanted want seat) newest)))
+told_all full replica want seat None is = tt
+told_all full replica (Seat k) seat (Some version) is =
     told_some (is_wanted (Seat k) seat)
   where
-    told_some : (b : Bool) → SaysIf replica (Read (Seat k)) replica (Some (Found replica.order (told_version b (Some version))))
+    told_some : (b : Bool) → SaysIf full replica (Read (Seat k)) replica (Some (Found replica.order (told_version b (Some version))))
     told_some true = (Seat k, refl, (λ e. cc), refl, refl)
     told_some false = (Seat k, refl, (λ e. cc), refl, refl)
-told_all replica All seat (Some version) is = (All, refl, (λ e. is), refl, refl)
+told_all full replica All seat (Some version) is = (All, refl, (λ e. is), refl, refl)
 
-pub handle_says : (seat : ℕ) (replica : Replica) (request : Request)
-    → SaysIf replica request (handle seat replica request).replica (handle seat replica request).reply
+pub handle_says : (full : Option ℕ) (seat : ℕ) (replica : Replica) (request : Request)
+    → SaysIf full replica request (handle full seat replica request).replica (handle full seat replica request).reply
 unfolding handle
-handle_says seat replica (Read want) = told_all replica want seat (newest_of replica.log) refl
-handle_says seat replica (Order t) = ordered_says replica t
-handle_says seat replica (Write t block) = written_says replica t block
-handle_says seat replica (OrderRead t look want) = order_read_says replica t look want seat
-handle_says seat replica (Modify t base j delta) = tt
-handle_says seat replica (Collect t) = tt
-handle_says seat replica (OldRead bound) = tt
-handle_says seat replica (Prepare ballot) = tt
-handle_says seat replica (Accept ballot members) = tt
+handle_says full seat replica (Read want) = told_all full replica want seat (newest_of replica.log) refl
+handle_says full seat replica (Order t) = ordered_says full replica t
+handle_says full seat replica (Write t block) = written_says full replica t block
+handle_says full seat replica (OrderRead t look want) = order_read_says full replica t look want seat
+handle_says full seat replica (Modify t base j delta) = tt
+handle_says full seat replica (Collect t) = tt
+handle_says full seat replica (OldRead bound) = tt
+handle_says full seat replica (Prepare ballot) = tt
+handle_says full seat replica (Accept ballot members) = tt
 
 -- a request does not lower the top
 pub after_top : (replica : Replica) (request : Request) (next : Replica) → IsAfter replica request next → stamp_below (top_of next) (top_of replica) ≡ false

@@ -1,7 +1,8 @@
 -- A member handles a request: what its part of the stripe, and its reply, then say.
 use Rattle.std.proofs.Common.{◌≡◌, ℕ, ◌⊎◌, inl, inr, true, false, ◌&&◌, List, Option, Some, None, refl, sym, ap, ◌∙◌, subst, ⊎_elim, arith}
-use Rattle.std.specs.Prelude.{slice_get}
-use Rattle.std.proofs.lemmas.Bool.{cond_both}
+use Rattle.std.specs.Prelude.{slice_get, nat_eq}
+use Rattle.std.proofs.lemmas.Bool.{cond_both, eqb-true}
+use Rattle.std.proofs.lemmas.Option.{same_Some}
 use Rattle.fab_base.specs.declared.identities.BrickId.{BrickId}
 use Rattle.fab_base.specs.declared.stamps.Stamp.{Stamp}
 use Rattle.fab_base.specs.Stamps.{stamp_below}
@@ -17,9 +18,9 @@ use Rattle.fab_wire.specs.declared.requests.Request.{Request}
 use Rattle.fab_wire.specs.declared.requests.Version.{Version}
 use Rattle.fab_wire.specs.declared.replies.Reply.{Reply}
 use Rattle.protocol.specs.Settings.{Setting, Group, group_of, seat_in}
-use Rattle.protocol.specs.Replicas.{Replica, newest_of, top_of, is_held, stamp_max, below, handle}
+use Rattle.protocol.specs.Replicas.{Replica, Reaction, newest_of, top_of, is_held, stamp_max, below, handle}
 use Rattle.protocol.specs.Coordinators.{Orders, Recovers, Descends, Stores}
-use Rattle.protocol.specs.Nodes.{Node, NodeStep, put, no_step, with_replica, replica_at, reply_packets, reacted, requested_at, is_served, fits_block, requested_in, requested}
+use Rattle.protocol.specs.Nodes.{Node, NodeStep, put, no_step, with_replica, replica_at, full_at, reply_packets, reacted, requested_at, is_served, fits_block, requested_in, requested}
 use Rattle.protocol.specs.Worlds.{World, Operation}
 use Rattle.protocol.specs.Laws.{WasSent, AskedAt, part_of}
 use Rattle.protocol.proofs.Books.{Books}
@@ -33,49 +34,51 @@ use Rattle.protocol.proofs.Steps.{KeepsParts, quiet, quiet_grows, said_quiet, st
 
 -- a brick ignores a request, or handles it at its seat
 pub request_each : (P : NodeStep → Type 0) (setting : Setting) (me from : BrickId) (node : Node) (call : Call) (request : Request)
-    → P (no_step node) → ((seat : ℕ) → P (reacted me from node call (handle seat (replica_at node call) request)))
+    → P (no_step node)
+    → ((seat : ℕ) → P (reacted me from node call (handle (full_at setting.layout.records node) seat (replica_at node call) request)))
     → P (requested setting me from node call request)
 unfolding requested
 request_each P setting me from node call request ignored handled = in_group (group_of setting.layout call.group.0)
   where
-    at_seat : (z : Option ℕ) → P (requested_at me from node call request z)
+    at_seat : (z : Option ℕ) → P (requested_at setting.layout.records me from node call request z)
     at_seat None = ignored
     at_seat (Some seat) = handled seat
 
-    in_group : (z : Option Group) → P (requested_in setting.layout.block me from node call request z)
+    in_group : (z : Option Group) → P (requested_in setting.layout me from node call request z)
     in_group None = ignored
     in_group (Some group) =
         cond_both (is_served group call && fits_block setting.layout.block request)
-        (requested_at me from node call request (seat_in group.members me.0)) (no_step node) P (λ is. at_seat (seat_in group.members me.0)) (λ isnt. ignored)
+        (requested_at setting.layout.records me from node call request (seat_in group.members me.0)) (no_step node) P (λ is. at_seat (seat_in group.members me.0)) (λ isnt. ignored)
 
 -- what holds of the changed part, and of each part as it was
-pub parts_each : (Q : ℕ → ℕ → Replica → Type 0) (node : Node) (call : Call) (part : Replica) → Q call.group.0 call.stripe.0 part
-    → ((g s : ℕ) → Q g s (node.replicas g s)) → (g s : ℕ) → Q g s ((with_replica node call part).replicas g s)
-parts_each Q node call part new old g s =
-    put_each (λ h row. (r : ℕ) → Q h r (row r)) node.replicas call.group.0 (put (node.replicas call.group.0) call.stripe.0 part)
-    (put_each (Q call.group.0) (node.replicas call.group.0) call.stripe.0 part new (λ r other. old call.group.0 r))
+pub parts_each : (Q : ℕ → ℕ → Replica → Type 0) (node : Node) (call : Call) (reaction : Reaction) → Q call.group.0 call.stripe.0 reaction.replica
+    → ((g s : ℕ) → Q g s (node.replicas g s)) → (g s : ℕ) → Q g s ((with_replica node call reaction).replicas g s)
+parts_each Q node call reaction new old g s =
+    put_each (λ h row. (r : ℕ) → Q h r (row r)) node.replicas call.group.0 (put (node.replicas call.group.0) call.stripe.0 reaction.replica)
+    (put_each (Q call.group.0) (node.replicas call.group.0) call.stripe.0 reaction.replica new (λ r other. old call.group.0 r))
     (λ h other r. old h r) g s
 
 -- a request lowers no part, and leaves what is held
-pub parts_keep : (node : Node) (call : Call) (request : Request) (part : Replica) → IsAfter (node.replicas call.group.0 call.stripe.0) request part
-    → KeepsParts node (with_replica node call part)
-parts_keep node call request part after = record {
-  tops = parts_each (λ g s r. stamp_below (top_of r) (top_of (node.replicas g s)) ≡ false) node call part
-      (after_top (node.replicas call.group.0 call.stripe.0) request part after) (λ g s. stamp_below_irrefl (top_of (node.replicas g s)));
-  held = λ g s t. parts_each (λ h r x. is_held t (node.replicas h r).log ≡ true → is_held t x.log ≡ true) node call part
-      (λ held. after_held (node.replicas call.group.0 call.stripe.0) request part t after held) (λ h r held. held) g s;
+pub parts_keep : (node : Node) (call : Call) (request : Request) (reaction : Reaction)
+    → IsAfter (node.replicas call.group.0 call.stripe.0) request reaction.replica
+    → KeepsParts node (with_replica node call reaction)
+parts_keep node call request reaction after = record {
+  tops = parts_each (λ g s r. stamp_below (top_of r) (top_of (node.replicas g s)) ≡ false) node call reaction
+      (after_top (node.replicas call.group.0 call.stripe.0) request reaction.replica after) (λ g s. stamp_below_irrefl (top_of (node.replicas g s)));
+  held = λ g s t. parts_each (λ h r x. is_held t (node.replicas h r).log ≡ true → is_held t x.log ≡ true) node call reaction
+      (λ held. after_held (node.replicas call.group.0 call.stripe.0) request reaction.replica t after held) (λ h r held. held) g s;
   newer = λ g s t.
       parts_each (λ h r x. is_held t x.log ≡ true → (is_held t (node.replicas h r).log ≡ true) ⊎ (stamp_below t (top_of (node.replicas h r)) ≡ false))
-      node call part (λ held. after_newer (node.replicas call.group.0 call.stripe.0) request part t after held) (λ h r held. inl held) g s;
-  ascends = parts_each (λ g s x. LogAscends (node.replicas g s).log → LogAscends x.log) node call part
-      (after_ascends (node.replicas call.group.0 call.stripe.0) request part after) (λ g s ascends. ascends);
+      node call reaction (λ held. after_newer (node.replicas call.group.0 call.stripe.0) request reaction.replica t after held) (λ h r held. inl held) g s;
+  ascends = parts_each (λ g s x. LogAscends (node.replicas g s).log → LogAscends x.log) node call reaction
+      (after_ascends (node.replicas call.group.0 call.stripe.0) request reaction.replica after) (λ g s ascends. ascends);
 }
 
 -- the changed part
-pub part_now : (node : Node) (call : Call) (part : Replica) → (with_replica node call part).replicas call.group.0 call.stripe.0 ≡ part
-part_now node call part =
-    ap (λ row. row call.stripe.0) (put_same node.replicas call.group.0 (put (node.replicas call.group.0) call.stripe.0 part))
-    ∙ put_same (node.replicas call.group.0) call.stripe.0 part
+pub part_now : (node : Node) (call : Call) (reaction : Reaction) → (with_replica node call reaction).replicas call.group.0 call.stripe.0 ≡ reaction.replica
+part_now node call reaction =
+    ap (λ row. row call.stripe.0) (put_same node.replicas call.group.0 (put (node.replicas call.group.0) call.stripe.0 reaction.replica))
+    ∙ put_same (node.replicas call.group.0) call.stripe.0 reaction.replica
 
 module _ (setting : Setting) (w : World) (stamps : Stamping) (me from : BrickId) (call : Call) (request : Request) (books : Books setting w)
     (said : Said setting w stamps) (sent : WasSent w (record { from = from; to = me; message = Message.Request call request })) where
@@ -115,20 +118,28 @@ module _ (setting : Setting) (w : World) (stamps : Stamping) (me from : BrickId)
       let says : WriteSays setting w stamps from.0 me.0 call t is.0 = asks_as (Request.Write t is.0) is.1 in
       inr (from.0, call.boot, call.seq, call.phase, (Stores, says.begun))
 
-  module _ (part : Replica) (more : List Packet) (after : IsAfter before request part) where
+  module _ (reaction : Reaction) (more : List Packet) (after : IsAfter before request reaction.replica) where
+    -- the member's part after it
+    abbrev part : Replica
+    part = reaction.replica
+
+    -- how many live records the member has, where those are as many as it may
+    abbrev full : Option ℕ
+    full = full_at setting.layout.records (w.nodes me.0)
+
     -- the world after it, where these packets are sent
     abbrev next : World
-    next = quiet w me (with_replica (w.nodes me.0) call part) more
+    next = quiet w me (with_replica (w.nodes me.0) call reaction) more
 
-    keeps : KeepsParts (w.nodes me.0) (with_replica (w.nodes me.0) call part)
-    keeps = parts_keep (w.nodes me.0) call request part after
+    keeps : KeepsParts (w.nodes me.0) (with_replica (w.nodes me.0) call reaction)
+    keeps = parts_keep (w.nodes me.0) call request reaction after
 
     grows : Grows w next stamps stamps
-    grows = quiet_grows w stamps stamps me (with_replica (w.nodes me.0) call part) more (stamps_same stamps) keeps
+    grows = quiet_grows w stamps stamps me (with_replica (w.nodes me.0) call reaction) more (stamps_same stamps) keeps
 
-    tops : (g s : ℕ) → (top_of ((with_replica (w.nodes me.0) call part).replicas g s) ≡ top_of ((w.nodes me.0).replicas g s))
-        ⊎ IsKnown stamps (top_of ((with_replica (w.nodes me.0) call part).replicas g s))
-    tops = parts_each (λ g s r. (top_of r ≡ top_of ((w.nodes me.0).replicas g s)) ⊎ IsKnown stamps (top_of r)) (w.nodes me.0) call part
+    tops : (g s : ℕ) → (top_of ((with_replica (w.nodes me.0) call reaction).replicas g s) ≡ top_of ((w.nodes me.0).replicas g s))
+        ⊎ IsKnown stamps (top_of ((with_replica (w.nodes me.0) call reaction).replicas g s))
+    tops = parts_each (λ g s r. (top_of r ≡ top_of ((w.nodes me.0).replicas g s)) ⊎ IsKnown stamps (top_of r)) (w.nodes me.0) call reaction
         (⊎_elim (λ (same : top_of part ≡ top_of before). inl same)
         (λ (asked : IsAsked request (top_of part)).
         inr (asked_known (top_of part) asked))
@@ -154,12 +165,12 @@ module _ (setting : Setting) (w : World) (stamps : Stamping) (me from : BrickId)
           block = says.is_block;
         }
 
-    logs : (g s k : ℕ) (version : Version) → slice_get ((with_replica (w.nodes me.0) call part).replicas g s).log k ≡ Some version
+    logs : (g s k : ℕ) (version : Version) → slice_get ((with_replica (w.nodes me.0) call reaction).replicas g s).log k ≡ Some version
         → (slice_get ((w.nodes me.0).replicas g s).log k ≡ Some version) ⊎ VersionSays setting next g s me.0 version
     logs g s k version = parts_each
         (λ h r x. slice_get x.log k ≡ Some version
         → (slice_get ((w.nodes me.0).replicas h r).log k ≡ Some version) ⊎ VersionSays setting next h r me.0 version)
-        (w.nodes me.0) call part
+        (w.nodes me.0) call reaction
         (λ is. ⊎_elim
         (λ (old : slice_get before.log k ≡ Some version). inl old)
         (λ (new : request ≡ Request.Write version.stamp version.block).
@@ -169,8 +180,8 @@ module _ (setting : Setting) (w : World) (stamps : Stamping) (me from : BrickId)
 
     -- the member's part after the request
     now : part_of next call.group.0 call.stripe.0 me.0 ≡ part
-    now = ap (λ node. node.replicas call.group.0 call.stripe.0) (put_same w.nodes me.0 (with_replica (w.nodes me.0) call part))
-        ∙ part_now (w.nodes me.0) call part
+    now = ap (λ node. node.replicas call.group.0 call.stripe.0) (put_same w.nodes me.0 (with_replica (w.nodes me.0) call reaction))
+        ∙ part_now (w.nodes me.0) call reaction
 
     -- the operation's floor at this member is not above its top
     floor_below : (o : Operation) → IsCalled w from.0 call o → stamp_below (top_of before) (o.floor me.0) ≡ false
@@ -181,7 +192,7 @@ module _ (setting : Setting) (w : World) (stamps : Stamping) (me from : BrickId)
         = subst (λ (g : ℕ). stamp_below (top_of (part_of w g o.ask.stripe.0 me.0)) (o.floor me.0) ≡ false) called.group floors in
         subst (λ (s : ℕ). stamp_below (top_of (part_of w call.group.0 s me.0)) (o.floor me.0) ≡ false) called.stripe in_group
 
-    found_says : (order : Stamp) (version : Version) → ReactionSays before request part (Reply.Found order (Some version))
+    found_says : (order : Stamp) (version : Version) → ReactionSays full before request part (Reply.Found order (Some version))
         → FoundSays setting w me.0 from.0 call order version
     found_says order version told =
         let says : RequestSays setting w stamps from.0 me.0 call (Request.Read told.0)
@@ -206,7 +217,7 @@ module _ (setting : Setting) (w : World) (stamps : Stamping) (me from : BrickId)
         subst (λ (f : ℕ → Stamp). stamp_below t (f me.0) ≡ false) (sym on.floor)
         (stamp_not_below_trans (o.floor me.0) (top_of before) t (floor_below o called) above)
 
-    ordered_says : ReactionSays before request part Reply.Ordered → OrderedSays next stamps me.0 from.0 call
+    ordered_says : ReactionSays full before request part Reply.Ordered → OrderedSays next stamps me.0 from.0 call
     ordered_says told =
         let says : RequestSays setting w stamps from.0 me.0 call (Request.Order told.0)
         = subst (λ (r : Request). RequestSays setting w stamps from.0 me.0 call r) told.1 asks in
@@ -222,7 +233,7 @@ module _ (setting : Setting) (w : World) (stamps : Stamping) (me from : BrickId)
         }
 
     -- what was found when a recovery's stamp was promised
-    read_says : (found : Option Version) → ReactionSays before request part (Reply.OrderedRead found)
+    read_says : (found : Option Version) → ReactionSays full before request part (Reply.OrderedRead found)
         → OrderedReadSays setting next stamps me.0 from.0 call found
     read_says found told =
         let asked = read_asks told.0 told.1.0 told.1.1 (asks_as (Request.OrderRead told.0 told.1.0 told.1.1) told.1.2) in
@@ -267,7 +278,16 @@ module _ (setting : Setting) (w : World) (stamps : Stamping) (me from : BrickId)
           grows.sent (record { from = from; to = me; message = Message.Request call (Request.Write t is.0) }) (sent_as (Request.Write t is.0) is.1),
         ))
 
-    reply_says : (r : Reply) → ReactionSays before request part r → ReplySays setting next stamps me from call r
+    -- a member that tells how many live records it has, its store being full, has as many as it may
+    full_live : (live : ℕ) → full ≡ Some live → live ≡ setting.layout.records
+    full_live live is =
+        cond_both (nat_eq (w.nodes me.0).live setting.layout.records) (Some (w.nodes me.0).live) None
+        (λ (z : Option ℕ). z ≡ Some live → live ≡ setting.layout.records)
+        (λ most told. sym (same_Some (w.nodes me.0).live live told) ∙ eqb-true (w.nodes me.0).live setting.layout.records most)
+        (λ fewer told. cc)
+        is
+
+    reply_says : (r : Reply) → ReactionSays full before request part r → ReplySays setting next stamps me from call r
     reply_says (Reply.Found order (Some version)) told =
         stays_found setting w next stamps stamps books grows me.0 from.0 call order version (found_says order version told)
     reply_says Reply.Ordered told = ordered_says told
@@ -280,10 +300,11 @@ module _ (setting : Setting) (w : World) (stamps : Stamping) (me from : BrickId)
       subst (λ (r : Replica). is_held told.0 r.log ≡ true) (sym now) told.3,
     )
     reply_says (Reply.Later x) told = (told.0, later_asked told.0 told.1, told.2)
+    reply_says (Reply.Full live) told = full_live live told
     reply_says r told = tt
 
     -- its reply says what it should
-    pub reply_packets_say : (o : Option Reply) → SaysIf before request part o → (k : ℕ) (packet : Packet)
+    pub reply_packets_say : (o : Option Reply) → SaysIf full before request part o → (k : ℕ) (packet : Packet)
         → slice_get (reply_packets me from call o) k ≡ Some packet → PacketSays setting next stamps packet
     reply_packets_say None says k packet is = cc
     reply_packets_say (Some r) says k packet is =
@@ -294,11 +315,11 @@ module _ (setting : Setting) (w : World) (stamps : Stamping) (me from : BrickId)
     pub said_after_request : ((k : ℕ) (packet : Packet) → slice_get more k ≡ Some packet → PacketSays setting next stamps packet)
         → Said setting next stamps
     said_after_request packets_say =
-        said_quiet setting w stamps stamps me (with_replica (w.nodes me.0) call part) more books said (stamps_same stamps) (record {
+        said_quiet setting w stamps stamps me (with_replica (w.nodes me.0) call reaction) more books said (stamps_same stamps) (record {
           keeps = keeps;
           boot = refl;
-          stamps_say = stamps_stay_by setting w next stamps me.0 (with_replica (w.nodes me.0) call part) said refl
-              (ages_within (w.nodes me.0) (with_replica (w.nodes me.0) call part) refl (omega arith) (omega arith));
+          stamps_say = stamps_stay_by setting w next stamps me.0 (with_replica (w.nodes me.0) call reaction) said refl
+              (ages_within (w.nodes me.0) (with_replica (w.nodes me.0) call reaction) refl (omega arith) (omega arith));
           stamps_other = λ i b k other p. refl;
           tops = tops;
           logs = logs;

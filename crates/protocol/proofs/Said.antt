@@ -178,6 +178,7 @@ ReplySays setting w stamps from to call Reply.Stored =
     (t : Stamp) × (block : List ℕ) × WriteSent w call to from t block
     × (is_held t (part_of w call.group.0 call.stripe.0 from.0).log ≡ true)
 ReplySays setting w stamps from to call (Reply.Later x) = (t : Stamp) × AskedAt w call to from t × (stamp_below t x ≡ true)
+ReplySays setting w stamps from to call (Reply.Full live) = live ≡ setting.layout.records
 ReplySays setting w stamps from to call reply = Unit {0}
 
 abbrev pub MessageSays : Setting → World → Stamping → BrickId → BrickId → Message → Type 0
