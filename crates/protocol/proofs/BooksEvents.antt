@@ -16,7 +16,7 @@ use Rattle.fab_wire.specs.declared.replies.Reply.{Reply}
 use Rattle.protocol.specs.Settings.{Setting, Group, group_of, seat_in}
 use Rattle.protocol.specs.Replicas.{handle}
 use Rattle.protocol.specs.Coordinators.{Phase, Looks, Orders, Recovers, Descends, Stores, Coordinator, Next, Ignores, Waits, Sends, Makes, Ends, Counted, most_rounds, with_reply, once_full, counted_at, counts_at, on_reply}
-use Rattle.protocol.specs.Nodes.{Node, NodeStep, Nothing, put, no_step, is_stripe_op, has_block, has_length, refusal_in, refusal_of, began, invoked, with_replica, replica_at, reply_packets, requested_at, requested_in, requested, is_served, fits_block, absorbed, ticked, may_open, has_later_time, next_time, new_stamp, fresh_stamp, known_after, with_call, with_known, carried_out, phase_packets, collect_packets, replied_to, replied_at, replied, received}
+use Rattle.protocol.specs.Nodes.{Node, NodeStep, Nothing, put, no_step, is_stripe_op, has_block, has_length, refusal_in, refusal_of, began, invoked, with_replica, replica_at, full_at, reply_packets, requested_at, requested_in, requested, is_served, fits_block, absorbed, ticked, may_open, has_later_time, next_time, new_stamp, fresh_stamp, known_after, with_call, with_known, carried_out, phase_packets, collect_packets, replied_to, replied_at, replied, received}
 use Rattle.protocol.specs.Worlds.{World, Operation, Event, Invokes, Delivers, Sets, Ticks, Crashes, Starts, Absorbs, is_answer, version_after, first_world, is_brick, is_up, may_begin, number_of, may_start, world_absorbed, world_began, world_stepped, with_made, with_answer, with_content, replies_with, delivered, packet_of, happens, run}
 use Rattle.protocol.proofs.Books.{Replies, Books, CallBooks, IsCall, IsUnmade, MadeInPhase, InRound}
 use Rattle.protocol.proofs.BooksKept.{KeepsNumbers}
@@ -60,15 +60,15 @@ books_known setting w replies brick known books grows =
 
 -- a request
 books_requested_at : (setting : Setting) (w : World) (replies : Replies) (me from : BrickId) (call : Call) (request : Request) (seat : Option ℕ)
-    → Books setting w → Books setting (stepped w replies me (requested_at me from (w.nodes me.0) call request seat))
+    → Books setting w → Books setting (stepped w replies me (requested_at setting.layout.records me from (w.nodes me.0) call request seat))
 books_requested_at setting w replies me from call request None books = books_no_step setting w replies me books
 books_requested_at setting w replies me from call request (Some seat) books =
-    let reaction = handle seat (replica_at (w.nodes me.0) call) request in
-    books_nothing setting w replies me (with_replica (w.nodes me.0) call reaction.replica) (reply_packets me from call reaction.reply) books
+    let reaction = handle (full_at setting.layout.records (w.nodes me.0)) seat (replica_at (w.nodes me.0) call) request in
+    books_nothing setting w replies me (with_replica (w.nodes me.0) call reaction) (reply_packets me from call reaction.reply) books
     (record { boot = refl; seq = refl; known = omega arith }) (λ l. refl)
 
 books_requested_in : (setting : Setting) (w : World) (replies : Replies) (me from : BrickId) (call : Call) (request : Request) (group : Option Group)
-    → Books setting w → Books setting (stepped w replies me (requested_in setting.layout.block me from (w.nodes me.0) call request group))
+    → Books setting w → Books setting (stepped w replies me (requested_in setting.layout me from (w.nodes me.0) call request group))
 books_requested_in setting w replies me from call request None books = books_no_step setting w replies me books
 books_requested_in setting w replies me from call request (Some group) books =
     cond_both (is_served group call && fits_block setting.layout.block request) _ _ (λ (step : NodeStep). Books setting (stepped w replies me step))
@@ -146,7 +146,7 @@ round_next fresh c d fits within = by fits.how
 -- an operation that is answered has a version
 ends_version : (c : Coordinator) (o : Operation) (p : Phase) (answer : Answer) (seen : Option Stamp) → MadeInPhase c o p → EndFits p answer seen
     → is_answer answer ≡ true → (v : Stamp) × (version_after o.version seen ≡ Some v)
-ends_version c o Looks answer seen made fits is = (fits.0, ap (λ (x : Option Stamp). version_after o.version x) fits.1)
+ends_version c o Looks answer seen made fits is = (let saw = fits is in (saw.0, ap (λ (x : Option Stamp). version_after o.version x) saw.1))
 ends_version c o Orders answer seen made fits is = absurd (both_ways (is_answer answer) fits is)
 ends_version c o Recovers answer seen made fits is = absurd (both_ways (is_answer answer) fits is)
 ends_version c o (Descends bound) answer seen made fits is = absurd (both_ways (is_answer answer) fits is)
@@ -486,11 +486,11 @@ requested_keeps : (setting : Setting) (me from : BrickId) (node : Node) (call : 
 unfolding requested
 requested_keeps setting me from node call request = in_group (group_of setting.layout call.group.0)
   where
-    at_seat : (z : Option ℕ) → KeepsCalls node (requested_at me from node call request z).node
+    at_seat : (z : Option ℕ) → KeepsCalls node (requested_at setting.layout.records me from node call request z).node
     at_seat None = keeps_itself node
     at_seat (Some seat) = (record { boot = refl; seq = refl; known = omega arith }, λ l. refl)
 
-    in_group : (z : Option Group) → KeepsCalls node (requested_in setting.layout.block me from node call request z).node
+    in_group : (z : Option Group) → KeepsCalls node (requested_in setting.layout me from node call request z).node
     in_group None = keeps_itself node
     in_group (Some group) =
         cond_both (is_served group call && fits_block setting.layout.block request) _ _ (λ (step : NodeStep). KeepsCalls node step.node)

@@ -12,7 +12,7 @@ use Rattle.fab_wire.specs.declared.replies.Reply.{Reply}
 use Rattle.quorum.specs.Quorums.{count, with_seat}
 use Rattle.quorum.proofs.Counts.{count_same, count_empty, count_monotone, count_with_seat}
 use Rattle.protocol.specs.Settings.{Group, Code, Piece, ArePiecesOf, quorum_of}
-use Rattle.protocol.specs.Coordinators.{Counted, Refuser, has_seat, fast_version, told_stamp, greater_stamp, greatest_found, tells, all_tell, told_by_all, found_bytes, pieces_of, refuser_of, greater_refuser, greatest_refuser}
+use Rattle.protocol.specs.Coordinators.{Counted, Refuser, FullMember, has_seat, fast_version, told_stamp, greater_stamp, greatest_found, tells, all_tell, told_by_all, found_bytes, pieces_of, refuser_of, greater_refuser, greatest_refuser, full_member_of, lower_full, lowest_full}
 use Rattle.protocol.specs.Laws.{AtQuorum}
 use Rattle.protocol.proofs.Said.{EachCounted, AreOnce}
 
@@ -267,6 +267,55 @@ refuser_counted P (x ∷ counted) r each is =
     ⊎_elim (λ (here : refuser_of x ≡ Some r). let told = refuser_reply x r here in (x, each.0, told.0, told.1))
     (λ (there : greatest_refuser counted ≡ Some r). refuser_counted P counted r each.1 there)
     (one_refuser (refuser_of x) (greatest_refuser counted) r is)
+
+-- of two members whose stores are full one has the lower seat
+lower_one : (a b : FullMember) → (lower_full (Some a) (Some b) ≡ Some a) ⊎ (lower_full (Some a) (Some b) ≡ Some b)
+lower_one a b =
+    cond_both (nat_lt b.seat a.seat) (Some b) (Some a) (λ (z : Option FullMember). (z ≡ Some a) ⊎ (z ≡ Some b)) (λ less. inr refl) (λ isnt. inl refl)
+
+-- no reply tells that a store is full where none is the lowest
+no_full : (a b : Option FullMember) → lower_full a b ≡ None → (a ≡ None) × (b ≡ None)
+no_full None b is = (refl, is)
+no_full (Some a) None is = cc
+no_full (Some a) (Some b) is =
+    ⊎_elim (λ (one : lower_full (Some a) (Some b) ≡ Some a). let e : Some a ≡ None = sym one ∙ is in cc)
+    (λ (other : lower_full (Some a) (Some b) ≡ Some b). let e : Some b ≡ None = sym other ∙ is in cc)
+    (lower_one a b)
+
+pub none_full : (counted : List Counted) → lowest_full counted ≡ None → EachCounted (λ x. full_member_of x ≡ None) counted
+none_full [] is = tt
+none_full (x ∷ counted) is =
+    let both = no_full (full_member_of x) (lowest_full counted) is in
+    (both.0, none_full counted both.1)
+
+-- the lowest of the members whose stores are full is one of them
+one_full : (a b : Option FullMember) (f : FullMember) → lower_full a b ≡ Some f → (a ≡ Some f) ⊎ (b ≡ Some f)
+one_full None b f is = inr is
+one_full (Some a) None f is = inl is
+one_full (Some a) (Some b) f is =
+    ⊎_elim (λ (one : lower_full (Some a) (Some b) ≡ Some a). inl (sym one ∙ is))
+    (λ (other : lower_full (Some a) (Some b) ≡ Some b). inr (sym other ∙ is))
+    (lower_one a b)
+
+-- its reply
+full_reply : (x : Counted) (f : FullMember) → full_member_of x ≡ Some f → (x.reply ≡ Reply.Full f.live) × (x.brick ≡ f.brick)
+full_reply x f is = told x.reply refl is
+  where
+    told : (reply : Reply) → x.reply ≡ reply → full_member_of (record { seat = x.seat; brick = x.brick; reply = reply }) ≡ Some f
+        → (x.reply ≡ Reply.Full f.live) × (x.brick ≡ f.brick)
+    told (Reply.Full live) e is =
+        let same : record { seat = x.seat; brick = x.brick; live = live } ≡ f = cc in
+        (e ∙ ap (λ (z : FullMember). Reply.Full z.live) same, ap (λ (z : FullMember). z.brick) same)
+    told reply e is = cc
+
+-- and that is one of those that count
+pub full_counted : (P : Counted → Type 0) (counted : List Counted) (f : FullMember) → EachCounted P counted → lowest_full counted ≡ Some f
+    → (x : Counted) × P x × (x.reply ≡ Reply.Full f.live) × (x.brick ≡ f.brick)
+full_counted P [] f each is = cc
+full_counted P (x ∷ counted) f each is =
+    ⊎_elim (λ (here : full_member_of x ≡ Some f). let told = full_reply x f here in (x, each.0, told.0, told.1))
+    (λ (there : lowest_full counted ≡ Some f). full_counted P counted f each.1 there)
+    (one_full (full_member_of x) (lowest_full counted) f is)
 
 -- a reply's bytes are its seat's block of the content
 abbrev pub IsPieceOf : Code → ℕ → ℕ → List ℕ → Counted → Type 0

@@ -17,7 +17,7 @@ use Rattle.quorum.specs.Quorums.{IsWithinLimits}
 use Rattle.reg_model.specs.Registers.{zero_registers}
 use Rattle.protocol.specs.Settings.{Setting, Group, group_of, quorum_of, IsSound, seat_in, are_bytes}
 use Rattle.protocol.specs.Replicas.{Replica, top_of, is_held, stamp_max}
-use Rattle.protocol.specs.Coordinators.{Coordinator, Counted, Phase, Orders, Recovers, Descends, Stores, may_be_found, answers_phase, told_in, refuser_of, greatest_refuser, fast_version, found_bytes, pieces_of}
+use Rattle.protocol.specs.Coordinators.{Coordinator, Counted, Phase, Orders, Recovers, Descends, Stores, may_be_found, answers_phase, told_in, refuser_of, greatest_refuser, full_member_of, lowest_full, fast_version, found_bytes, pieces_of}
 use Rattle.protocol.specs.Worlds.{World, Operation, zero_content}
 use Rattle.protocol.specs.Laws.{part_of, brick_at, AtQuorum, IsGuarded}
 use Rattle.protocol.proofs.Books.{Books, CallBooks, IsOperation, IsCall}
@@ -26,7 +26,7 @@ use Rattle.protocol.proofs.Said.{Stamping, Said, IsBegun, IsRecovery, IsContent,
 use Rattle.protocol.proofs.Tables.{seat_within, brick_at_seat}
 use Rattle.protocol.proofs.Reactions.{max_right, max_most}
 use Rattle.protocol.proofs.Stampings.{begun_once}
-use Rattle.protocol.proofs.Counting.{each_then, each_both, at_quorum, TellsVersion, fast_each, none_refuses, IsPieceOf, are_pieces, pieces_length}
+use Rattle.protocol.proofs.Counting.{each_then, each_both, at_quorum, TellsVersion, fast_each, none_refuses, none_full, IsPieceOf, are_pieces, pieces_length}
 
 -- zeros are bytes
 zero_bytes : (n : ℕ) → are_bytes (replicate n 0) ≡ true
@@ -62,55 +62,63 @@ found_at setting w j i call o order version is says =
           (ap (λ (g : ℕ). w.contents g call.stripe.0 version.stamp) (sym group) ∙ ap (λ (s : ℕ). w.contents o.ask.group.0 s version.stamp) (sym stripe));
     }
 
--- a reply to an order that does not refuse it
-order_answered : (block : ℕ) (t : Stamp) (x : Counted) → answers_phase block t Orders x.reply ≡ true → refuser_of x ≡ None → x.reply ≡ Reply.Ordered
-order_answered block t x answers none = told x.reply refl answers none
+-- a reply that neither refuses what it was asked, nor tells that a store is full
+abbrev pub Allows : Counted → Type 0
+Allows x = (refuser_of x ≡ None) × (full_member_of x ≡ None)
+
+-- a reply to an order that allows it
+order_answered : (block : ℕ) (t : Stamp) (x : Counted) → answers_phase block t Orders x.reply ≡ true → Allows x → x.reply ≡ Reply.Ordered
+order_answered block t x answers allows = told x.reply refl answers allows
   where
     told : (reply : Reply) → x.reply ≡ reply → answers_phase block t Orders reply ≡ true
-        → refuser_of (record { seat = x.seat; brick = x.brick; reply = reply }) ≡ None → x.reply ≡ Reply.Ordered
-    told Reply.Ordered e answers none = e
-    told (Reply.Later u) e answers none = cc
-    told reply e answers none = absurd (false≢true answers)
+        → Allows (record { seat = x.seat; brick = x.brick; reply = reply }) → x.reply ≡ Reply.Ordered
+    told Reply.Ordered e answers allows = e
+    told (Reply.Later u) e answers (none, roomy) = cc
+    told (Reply.Full live) e answers (none, roomy) = cc
+    told reply e answers allows = absurd (false≢true answers)
 
--- a reply to a write that does not refuse it
-write_answered : (block : ℕ) (t : Stamp) (x : Counted) → answers_phase block t Stores x.reply ≡ true → refuser_of x ≡ None → x.reply ≡ Reply.Stored
-write_answered block t x answers none = told x.reply refl answers none
+-- a reply to a write that allows it
+write_answered : (block : ℕ) (t : Stamp) (x : Counted) → answers_phase block t Stores x.reply ≡ true → Allows x → x.reply ≡ Reply.Stored
+write_answered block t x answers allows = told x.reply refl answers allows
   where
     told : (reply : Reply) → x.reply ≡ reply → answers_phase block t Stores reply ≡ true
-        → refuser_of (record { seat = x.seat; brick = x.brick; reply = reply }) ≡ None → x.reply ≡ Reply.Stored
-    told Reply.Stored e answers none = e
-    told (Reply.Later u) e answers none = cc
-    told reply e answers none = absurd (false≢true answers)
+        → Allows (record { seat = x.seat; brick = x.brick; reply = reply }) → x.reply ≡ Reply.Stored
+    told Reply.Stored e answers allows = e
+    told (Reply.Later u) e answers (none, roomy) = cc
+    told (Reply.Full live) e answers (none, roomy) = cc
+    told reply e answers allows = absurd (false≢true answers)
 
 -- the bound below which a recovery's phase looks
 abbrev pub LooksBelow : Coordinator → Stamp → Type 0
 LooksBelow c bound = ((c.phase ≡ Recovers) × (bound ≡ c.stamp)) ⊎ (c.phase ≡ Descends bound)
 
--- the replies to a recovery that do not refuse it, by what its phase does
+-- the replies to a recovery that allow it, by what its phase does
 found_by : (block : ℕ) (t bound : Stamp) (phase : Phase) (x : Counted) → ((phase ≡ Recovers) × (bound ≡ t)) ⊎ (phase ≡ Descends bound)
-    → answers_phase block t phase x.reply ≡ true → refuser_of x ≡ None
+    → answers_phase block t phase x.reply ≡ true → Allows x
     → (found : Option Version) × (x.reply ≡ Reply.OrderedRead found) × (may_be_found block bound found ≡ true)
-found_by block t bound phase x looks answers none = ⊎_elim
+found_by block t bound phase x looks answers allows = ⊎_elim
     (λ (own : (phase ≡ Recovers) × (bound ≡ t)).
     subst (λ (b : Stamp). (found : Option Version) × (x.reply ≡ Reply.OrderedRead found) × (may_be_found block b found ≡ true)) (sym own.1)
-    (recovers x.reply refl (subst (λ (p : Phase). answers_phase block t p x.reply ≡ true) own.0 answers) none))
+    (recovers x.reply refl (subst (λ (p : Phase). answers_phase block t p x.reply ≡ true) own.0 answers) allows))
     (λ (lower : phase ≡ Descends bound).
-    descends x.reply refl (subst (λ (p : Phase). answers_phase block t p x.reply ≡ true) lower answers) none)
+    descends x.reply refl (subst (λ (p : Phase). answers_phase block t p x.reply ≡ true) lower answers) allows)
     looks
   where
     recovers : (reply : Reply) → x.reply ≡ reply → answers_phase block t Recovers reply ≡ true
-        → refuser_of (record { seat = x.seat; brick = x.brick; reply = reply }) ≡ None
+        → Allows (record { seat = x.seat; brick = x.brick; reply = reply })
         → (found : Option Version) × (x.reply ≡ Reply.OrderedRead found) × (may_be_found block t found ≡ true)
-    recovers (Reply.OrderedRead found) e answers none = (found, e, answers)
-    recovers (Reply.Later u) e answers none = cc
-    recovers reply e answers none = absurd (false≢true answers)
+    recovers (Reply.OrderedRead found) e answers allows = (found, e, answers)
+    recovers (Reply.Later u) e answers (none, roomy) = cc
+    recovers (Reply.Full live) e answers (none, roomy) = cc
+    recovers reply e answers allows = absurd (false≢true answers)
 
     descends : (reply : Reply) → x.reply ≡ reply → answers_phase block t (Descends bound) reply ≡ true
-        → refuser_of (record { seat = x.seat; brick = x.brick; reply = reply }) ≡ None
+        → Allows (record { seat = x.seat; brick = x.brick; reply = reply })
         → (found : Option Version) × (x.reply ≡ Reply.OrderedRead found) × (may_be_found block bound found ≡ true)
-    descends (Reply.OrderedRead found) e answers none = (found, e, answers)
-    descends (Reply.Later u) e answers none = cc
-    descends reply e answers none = absurd (false≢true answers)
+    descends (Reply.OrderedRead found) e answers allows = (found, e, answers)
+    descends (Reply.Later u) e answers (none, roomy) = cc
+    descends (Reply.Full live) e answers (none, roomy) = cc
+    descends reply e answers allows = absurd (false≢true answers)
 
 -- a version that may be found is below the bound
 found_below : (block : ℕ) (bound : Stamp) (version : Version) → may_be_found block bound (Some version) ≡ true → stamp_below version.stamp bound ≡ true
@@ -230,35 +238,37 @@ module _ (setting : Setting) (sound : IsSound setting) (w : World) (stamps : Sta
       (λ x h. (h.within, not_from_false _ h.floor)) all)
       once many
 
-  -- each counted reply, where none refuses
-  each_allows : greatest_refuser counted ≡ None → EachCounted (λ x. CountedSays setting w me.0 c x × (refuser_of x ≡ None)) counted
-  each_allows none = each_both (CountedSays setting w me.0 c) (λ x. refuser_of x ≡ None) counted each (none_refuses counted none)
+  -- each counted reply, where none refuses and no store is full
+  each_allows : greatest_refuser counted ≡ None → lowest_full counted ≡ None → EachCounted (λ x. CountedSays setting w me.0 c x × Allows x) counted
+  each_allows none roomy =
+      each_both (CountedSays setting w me.0 c) Allows counted each
+      (each_both (λ x. refuser_of x ≡ None) (λ x. full_member_of x ≡ None) counted (none_refuses counted none) (none_full counted roomy))
 
   -- an order that was answered
-  ordered_seat : c.phase ≡ Orders → (x : Counted) → CountedSays setting w me.0 c x → refuser_of x ≡ None → PromisesAt x
-  ordered_seat orders x says none =
+  ordered_seat : c.phase ≡ Orders → (x : Counted) → CountedSays setting w me.0 c x → Allows x → PromisesAt x
+  ordered_seat orders x says allows =
       let answers : answers_phase setting.layout.block c.stamp Orders x.reply ≡ true
       = subst (λ (p : Phase). answers_phase setting.layout.block c.stamp p x.reply ≡ true) orders says.answers in
       let told : OrderedSays w stamps x.brick.0 me.0 c.call
-      = subst (λ (r : Reply). ReplySays setting w stamps x.brick (record { 0 = me.0 }) c.call r) (order_answered setting.layout.block c.stamp x answers none)
+      = subst (λ (r : Reply). ReplySays setting w stamps x.brick (record { 0 = me.0 }) c.call r) (order_answered setting.layout.block c.stamp x answers allows)
       (counted_says x says) in
       promises_at x says told.operation told.stamp told.called
       (begun_once stamps me.0 c.call.boot c.call.seq c.call.phase Orders c.phase told.stamp c.stamp told.stamp_is its_begun).1
       told.promised told.floor
 
   -- an order that a quorum answered
-  pub all_ordered : c.phase ≡ Orders → greatest_refuser counted ≡ None → EachCounted PromisesAt counted
-  all_ordered orders none =
-      each_then (λ x. CountedSays setting w me.0 c x × (refuser_of x ≡ None)) PromisesAt counted (λ x h. ordered_seat orders x h.0 h.1) (each_allows none)
+  pub all_ordered : c.phase ≡ Orders → greatest_refuser counted ≡ None → lowest_full counted ≡ None → EachCounted PromisesAt counted
+  all_ordered orders none roomy =
+      each_then (λ x. CountedSays setting w me.0 c x × Allows x) PromisesAt counted (λ x h. ordered_seat orders x h.0 h.1) (each_allows none roomy)
 
   -- a write that was answered
-  stored_seat : c.phase ≡ Stores → (x : Counted) → CountedSays setting w me.0 c x → refuser_of x ≡ None
+  stored_seat : c.phase ≡ Stores → (x : Counted) → CountedSays setting w me.0 c x → Allows x
       → (x.seat < length group.members) × (is_held c.stamp (part_at x.seat).log ≡ true)
-  stored_seat stores x says none =
+  stored_seat stores x says allows =
       let answers : answers_phase setting.layout.block c.stamp Stores x.reply ≡ true
       = subst (λ (p : Phase). answers_phase setting.layout.block c.stamp p x.reply ≡ true) stores says.answers in
       let told : ReplySays setting w stamps x.brick (record { 0 = me.0 }) c.call Reply.Stored
-      = subst (λ (r : Reply). ReplySays setting w stamps x.brick (record { 0 = me.0 }) c.call r) (write_answered setting.layout.block c.stamp x answers none)
+      = subst (λ (r : Reply). ReplySays setting w stamps x.brick (record { 0 = me.0 }) c.call r) (write_answered setting.layout.block c.stamp x answers allows)
       (counted_says x says) in
       let writes : WriteSays setting w stamps me.0 x.brick.0 c.call told.0 told.1
       = said.packets told.2.0 (record { from = record { 0 = me.0 }; to = x.brick; message = Message.Request c.call (Request.Write told.0 told.1) }) told.2.1 in
@@ -269,11 +279,12 @@ module _ (setting : Setting) (sound : IsSound setting) (w : World) (stamps : Sta
       )
 
   -- a version that a quorum stored stands
-  pub stored_stands : c.phase ≡ Stores → greatest_refuser counted ≡ None → AtQuorum group (λ seat. is_held c.stamp (part_at seat).log)
-  stored_stands stores none =
+  pub stored_stands : c.phase ≡ Stores → greatest_refuser counted ≡ None → lowest_full counted ≡ None
+      → AtQuorum group (λ seat. is_held c.stamp (part_at seat).log)
+  stored_stands stores none roomy =
       at_quorum group counted (λ seat. is_held c.stamp (part_at seat).log)
-      (each_then (λ x. CountedSays setting w me.0 c x × (refuser_of x ≡ None)) (λ x. (x.seat < length group.members) × (is_held c.stamp (part_at x.seat).log ≡ true))
-      counted (λ x h. stored_seat stores x h.0 h.1) (each_allows none))
+      (each_then (λ x. CountedSays setting w me.0 c x × Allows x) (λ x. (x.seat < length group.members) × (is_held c.stamp (part_at x.seat).log ≡ true))
+      counted (λ x h. stored_seat stores x h.0 h.1) (each_allows none roomy))
       once many
 
   -- what a reply to a recovery shows
@@ -287,9 +298,9 @@ module _ (setting : Setting) (sound : IsSound setting) (w : World) (stamps : Sta
     pub block : (version : Version) → found ≡ Some version
         → version.block ≡ setting.code.encode group.m (w.contents its_operation.ask.group.0 its_operation.ask.stripe.0 version.stamp) x.seat
 
-  read_seat : (bound : Stamp) → LooksBelow c bound → (x : Counted) → CountedSays setting w me.0 c x → refuser_of x ≡ None → ReadsAt bound x
-  read_seat bound looks x says none =
-      let answer = found_by setting.layout.block c.stamp bound c.phase x looks says.answers none in
+  read_seat : (bound : Stamp) → LooksBelow c bound → (x : Counted) → CountedSays setting w me.0 c x → Allows x → ReadsAt bound x
+  read_seat bound looks x says allows =
+      let answer = found_by setting.layout.block c.stamp bound c.phase x looks says.answers allows in
       let told : OrderedReadSays setting w stamps x.brick.0 me.0 c.call answer.0
       = subst (λ (r : Reply). ReplySays setting w stamps x.brick (record { 0 = me.0 }) c.call r) answer.1 (counted_says x says) in
       let same
@@ -310,9 +321,10 @@ module _ (setting : Setting) (sound : IsSound setting) (w : World) (stamps : Sta
       }
 
   -- a recovery that a quorum answered
-  pub all_read : (bound : Stamp) → LooksBelow c bound → greatest_refuser counted ≡ None → EachCounted (ReadsAt bound) counted
-  all_read bound looks none =
-      each_then (λ x. CountedSays setting w me.0 c x × (refuser_of x ≡ None)) (ReadsAt bound) counted (λ x h. read_seat bound looks x h.0 h.1) (each_allows none)
+  pub all_read : (bound : Stamp) → LooksBelow c bound → greatest_refuser counted ≡ None → lowest_full counted ≡ None
+      → EachCounted (ReadsAt bound) counted
+  all_read bound looks none roomy =
+      each_then (λ x. CountedSays setting w me.0 c x × Allows x) (ReadsAt bound) counted (λ x h. read_seat bound looks x h.0 h.1) (each_allows none roomy)
 
   -- what a reply that tells version v shows
   record TellsAt (v : Stamp) (x : Counted) : Type 0 where

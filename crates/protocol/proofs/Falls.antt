@@ -14,7 +14,7 @@ use Rattle.quorum.proofs.Counts.{count_monotone}
 use Rattle.protocol.specs.Settings.{Setting, Group, group_of}
 use Rattle.protocol.specs.Replicas.{top_of, is_held, handle}
 use Rattle.protocol.specs.Coordinators.{Coordinator, Next, Ignores, Waits, Sends, Makes, Ends, on_reply}
-use Rattle.protocol.specs.Nodes.{Node, NodeStep, fresh_stamp, Told, Nothing, Made, Answers, put, began, invoked, replica_at, requested, absorbed, stopped, restarted, known_after, carried_out, replied_to, replied_at, replied, received}
+use Rattle.protocol.specs.Nodes.{Node, NodeStep, fresh_stamp, Told, Nothing, Made, Answers, put, began, invoked, replica_at, full_at, requested, absorbed, stopped, restarted, known_after, carried_out, replied_to, replied_at, replied, received}
 use Rattle.protocol.specs.Worlds.{World, Event, Invokes, Delivers, Sets, Ticks, Crashes, Starts, Absorbs, replies_with, is_brick, is_up, may_start, world_ticked, world_stopped, world_started, world_absorbed, may_begin, world_began, world_stepped, delivered, packet_of, happens, first_world, run}
 use Rattle.protocol.specs.Laws.{NoEventLowers, NeverSurfaces, IsLost, IsGuarded, IsBlocked, part_of, brick_at}
 use Rattle.protocol.proofs.Reactions.{handle_after}
@@ -59,7 +59,9 @@ request_keeps : (setting : Setting) (me from : BrickId) (node : Node) (call : Ca
     → KeepsParts node (requested setting me from node call request).node
 request_keeps setting me from node call request =
     request_each (λ step. KeepsParts node step.node) setting me from node call request (keeps_same node node refl)
-    (λ seat. parts_keep node call request (handle seat (replica_at node call) request).replica (handle_after seat (replica_at node call) request))
+    (λ seat.
+    let full : Option ℕ = full_at setting.layout.records node in
+    parts_keep node call request (handle full seat (replica_at node call) request) (handle_after full seat (replica_at node call) request))
 
 message_keeps : (setting : Setting) (me from to : BrickId) (now : ℕ) (node : Node) (message : Message)
     → KeepsParts node (received setting me now node (record { from = from; to = to; message = message })).node

@@ -269,6 +269,7 @@ module _ (setting : Setting) (w next : World) (stamps later : Stamping) (books :
     grows.parts.held call.group.0 call.stripe.0 from.0 says.0 says.3,
   )
   stays_reply from to call (Reply.Later x) says = (says.0, stays_asked call to from says.0 says.1, says.2)
+  stays_reply from to call (Reply.Full live) says = says
   stays_reply from to call reply says = tt
 
   pub stays_message : (from to : BrickId) (message : Message) → MessageSays setting w stamps from to message → MessageSays setting next later from to message

@@ -1,7 +1,7 @@
 -- What a coordinator decides once a reply counts, by its phase.
 use Rattle.std.proofs.Common.{◌≡◌, ℕ, ◌+◌, ◌<◌, ◌≤◌, ◌⊎◌, inl, inr, true, false, List, [], length, Option, Some, None, is_some, refl, sym, ◌∙◌, arith}
 use Rattle.std.specs.Prelude.{nat_lt}
-use Rattle.std.proofs.lemmas.Bool.{cond_both, ltb-true, ltb-false}
+use Rattle.std.proofs.lemmas.Bool.{cond_both, false≢true, ltb-true, ltb-false}
 use Rattle.fab_base.specs.declared.asks.Ask.{Ask}
 use Rattle.fab_base.specs.declared.asks.Op.{Op}
 use Rattle.fab_base.specs.declared.asks.Op.TheVariants.{ReadBlock, WriteBlock, ReadStripe, WriteStripe}
@@ -9,10 +9,10 @@ use Rattle.fab_base.specs.declared.identities.BrickId.{BrickId}
 use Rattle.fab_base.specs.declared.stamps.Stamp.{Stamp}
 use Rattle.fab_base.specs.declared.answers.Answer.{Answer}
 use Rattle.fab_base.specs.declared.answers.Answer.TheVariants.{Data, Done, Aborted}
-use Rattle.fab_base.specs.declared.answers.Cause.TheVariants as Cause
+use Rattle.fab_base.specs.declared.answers.Cause.{Cause}
 use Rattle.fab_wire.specs.declared.calls.Call.{Call}
 use Rattle.protocol.specs.Settings.{Group, Code, quorum_of}
-use Rattle.protocol.specs.Coordinators.{Phase, Looks, Orders, Recovers, Descends, Stores, Counted, Coordinator, Refuser, Next, Ignores, Waits, Sends, Makes, Ends, next_phase, in_phase, restoring, reordering, forgetting, most_rounds, aborted_by, ordered_again, once_ordered, unless_refused, answered_fast, read_back, answer_of, pieces_at, greatest_refuser, greatest_found, fast_version, decided, once_full}
+use Rattle.protocol.specs.Coordinators.{Phase, Looks, Orders, Recovers, Descends, Stores, Counted, Coordinator, Refuser, FullMember, Next, Ignores, Waits, Sends, Makes, Ends, next_phase, in_phase, restoring, reordering, forgetting, most_rounds, aborted_by, aborted_full, unless_told_full, ordered_again, once_ordered, unless_refused, answered_fast, read_back, answer_of, pieces_at, greatest_refuser, lowest_full, greatest_found, fast_version, decided, once_full}
 use Rattle.protocol.specs.Worlds.{is_answer}
 
 -- the coordinator of the same operation, under the same call
@@ -102,13 +102,21 @@ sends_unmade fresh c d fits is = by fits.how
     by (inl again) = fits.unmade (sym again.phase ∙ is)
     by (inr goes) = recovers goes.phase
 
--- how each phase ends: a read that looks tells a version, and before the store phase all else ends only by an abort
+-- how each phase ends: a read that looks tells a version, where it is answered, and before the store phase all else ends only by an abort
 abbrev pub EndFits : Phase → Answer → Option Stamp → Type 0
-EndFits Looks answer seen = (v : Stamp) × (seen ≡ Some v)
+EndFits Looks answer seen = is_answer answer ≡ true → (v : Stamp) × (seen ≡ Some v)
 EndFits Orders answer seen = is_answer answer ≡ false
 EndFits Recovers answer seen = is_answer answer ≡ false
 EndFits (Descends bound) answer seen = is_answer answer ≡ false
 EndFits Stores answer seen = Unit {0}
+
+-- an abort ends any phase
+abort_ends : (phase : Phase) (cause : Cause) → EndFits phase (Aborted cause) None
+abort_ends Looks cause = λ is. absurd (false≢true is)
+abort_ends Orders cause = refl
+abort_ends Recovers cause = refl
+abort_ends (Descends bound) cause = refl
+abort_ends Stores cause = tt
 
 -- no other round of ordering follows: there is no fresh stamp, or no round is left
 abbrev pub NoRoundFits : Option Stamp → Coordinator → Type 0
@@ -128,10 +136,17 @@ pub record AbortFits (fresh : Option Stamp) (c : Coordinator) (brick : BrickId) 
   pub refused : greatest_refuser c.counted ≡ Some (record { seat = seat; brick = brick; stamp = x })
   pub last : LastFits fresh c c.phase
 
+-- the abort tells of the member of the lowest seat that told that its store is full
+pub record FullFits (c : Coordinator) (brick : BrickId) (live : ℕ) : Type 0 where
+  pub seat : ℕ
+  pub told : lowest_full c.counted ≡ Some (record { seat = seat; brick = brick; live = live })
+
+-- what an answer tells is so
 abbrev pub AnswerFits : Option Stamp → Coordinator → Answer → Type 0
 AnswerFits fresh c (Data bytes) = Unit {0}
 AnswerFits fresh c Done = Unit {0}
 AnswerFits fresh c (Aborted (Cause.Later brick x)) = AbortFits fresh c brick x
+AnswerFits fresh c (Aborted (Cause.Full brick live)) = FullFits c brick live
 AnswerFits fresh c (Aborted cause) = Unit {0}
 
 -- what is decided fits the coordinator
@@ -214,7 +229,7 @@ module _ (ask : Ask) (stamp : Stamp) (round : ℕ) (base : Option Stamp) (conten
     unmade = λ is. cc;
     how = inr (record { stamp = refl; round = refl; phase = inl (refl, refl) });
   }
-  answered_fast_fits code m fresh (Some v) = ((v, refl), tt)
+  answered_fast_fits code m fresh (Some v) = ((λ is. (v, refl)), tt)
 
   read_back_fits : (code : Code) (m : ℕ) (fresh : Option Stamp) (phase : Phase) (v : Option Stamp) → (phase ≡ Stores → ⊥)
       → greatest_refuser counted ≡ None → NextFits fresh (within phase) (read_back code m (within phase) v)
@@ -227,16 +242,21 @@ module _ (ask : Ask) (stamp : Stamp) (round : ℕ) (base : Option Stamp) (conten
       (λ enough. restores_fits phase v (code.decode m (pieces_at v counted)))
 
   -- an abort in a phase that is no round of ordering, or in the last one
-  aborts_fits : (fresh : Option Stamp) (phase : Phase) (r : Refuser) → ((answer : Answer) → is_answer answer ≡ false → EndFits phase answer None)
-      → greatest_refuser counted ≡ Some r → LastFits fresh (within phase) phase → NextFits fresh (within phase) (aborted_by r)
-  aborts_fits fresh phase r ends refused last =
-      (ends (Aborted (Cause.Later r.brick r.stamp)) refl, record { seat = r.seat; refused = refused; last = last })
+  aborts_fits : (fresh : Option Stamp) (phase : Phase) (r : Refuser) → greatest_refuser counted ≡ Some r → LastFits fresh (within phase) phase
+      → NextFits fresh (within phase) (aborted_by r)
+  aborts_fits fresh phase r refused last =
+      (abort_ends phase (Cause.Later r.brick r.stamp), record { seat = r.seat; refused = refused; last = last })
+
+  -- a member whose store is full aborts any phase
+  unless_told_fits : (fresh : Option Stamp) (phase : Phase) (next : Next) (f : Option FullMember) → lowest_full counted ≡ f → NextFits fresh (within phase) next
+      → NextFits fresh (within phase) (unless_told_full f next)
+  unless_told_fits fresh phase next None none fits = fits
+  unless_told_fits fresh phase next (Some f) told fits = (abort_ends phase (Cause.Full f.brick f.live), record { seat = f.seat; told = told })
 
   again_fits : (fresh : Option Stamp) (phase : Phase) (r : Refuser) → IsRound phase → ((f : Option Stamp) → NoRoundFits f (within phase) → LastFits f (within phase) phase)
-      → ((answer : Answer) → is_answer answer ≡ false → EndFits phase answer None) → (phase ≡ Stores → ⊥)
-      → greatest_refuser counted ≡ Some r → NextFits fresh (within phase) (ordered_again fresh (within phase) r)
-  again_fits None phase r is last ends unmade refused = aborts_fits None phase r ends refused (last None (inl refl))
-  again_fits (Some t) phase r is last ends unmade refused =
+      → (phase ≡ Stores → ⊥) → greatest_refuser counted ≡ Some r → NextFits fresh (within phase) (ordered_again fresh (within phase) r)
+  again_fits None phase r is last unmade refused = aborts_fits None phase r refused (last None (inl refl))
+  again_fits (Some t) phase r is last unmade refused =
       cond_both (nat_lt round most_rounds) (Sends (reordering (within phase) t)) (aborted_by r)
       (λ (next : Next). NextFits (Some t) (within phase) next)
       (λ few. record {
@@ -254,22 +274,22 @@ module _ (ask : Ask) (stamp : Stamp) (round : ℕ) (base : Option Stamp) (conten
           refused = rw refused refl;
         });
       })
-      (λ all. aborts_fits (Some t) phase r ends refused (last (Some t) (inr (ltb-false round most_rounds all))))
+      (λ all. aborts_fits (Some t) phase r refused (last (Some t) (inr (ltb-false round most_rounds all))))
 
   ordered_fits : (fresh : Option Stamp) (r : Option Refuser) → greatest_refuser counted ≡ r
       → NextFits fresh (within Orders) (once_ordered fresh (within Orders) r (Makes (in_phase (within Orders) Stores)))
   ordered_fits fresh None refused = makes_fits Orders
-  ordered_fits fresh (Some r) refused = again_fits fresh Orders r tt (λ f none. none) (λ answer is. is) (λ is. cc) refused
+  ordered_fits fresh (Some r) refused = again_fits fresh Orders r tt (λ f none. none) (λ is. cc) refused
 
   recovered_fits : (code : Code) (m : ℕ) (fresh : Option Stamp) (r : Option Refuser) → greatest_refuser counted ≡ r
       → NextFits fresh (within Recovers) (once_ordered fresh (within Recovers) r (read_back code m (within Recovers) (greatest_found counted)))
   recovered_fits code m fresh None refused = read_back_fits code m fresh Recovers (greatest_found counted) (λ is. cc) refused
-  recovered_fits code m fresh (Some r) refused = again_fits fresh Recovers r tt (λ f none. none) (λ answer is. is) (λ is. cc) refused
+  recovered_fits code m fresh (Some r) refused = again_fits fresh Recovers r tt (λ f none. none) (λ is. cc) refused
 
   descended_fits : (code : Code) (m : ℕ) (fresh : Option Stamp) (bound : Stamp) (r : Option Refuser) → greatest_refuser counted ≡ r
       → NextFits fresh (within (Descends bound)) (unless_refused r (read_back code m (within (Descends bound)) (greatest_found counted)))
   descended_fits code m fresh bound None refused = read_back_fits code m fresh (Descends bound) (greatest_found counted) (λ is. cc) refused
-  descended_fits code m fresh bound (Some r) refused = aborts_fits fresh (Descends bound) r (λ answer is. is) refused tt
+  descended_fits code m fresh bound (Some r) refused = aborts_fits fresh (Descends bound) r refused tt
 
   answer_fits : (fresh : Option Stamp) (op : Op) → AnswerFits fresh (within Stores) (answer_of op content)
   answer_fits fresh (ReadBlock j) = tt
@@ -280,15 +300,18 @@ module _ (ask : Ask) (stamp : Stamp) (round : ℕ) (base : Option Stamp) (conten
   stored_fits : (fresh stored : Option Stamp) (r : Option Refuser) → greatest_refuser counted ≡ r
       → NextFits fresh (within Stores) (unless_refused r (Ends (answer_of ask.op content) None stored))
   stored_fits fresh stored None refused = (tt, answer_fits fresh ask.op)
-  stored_fits fresh stored (Some r) refused = aborts_fits fresh Stores r (λ answer is. tt) refused tt
+  stored_fits fresh stored (Some r) refused = aborts_fits fresh Stores r refused tt
 
   decided_fits : (code : Code) (m : ℕ) (fresh : Option Stamp) (phase : Phase) → NextFits fresh (within phase) (decided code m fresh (within phase))
   unfolding decided
-  decided_fits code m fresh Looks = answered_fast_fits code m fresh (fast_version counted)
-  decided_fits code m fresh Orders = ordered_fits fresh (greatest_refuser counted) refl
-  decided_fits code m fresh Recovers = recovered_fits code m fresh (greatest_refuser counted) refl
-  decided_fits code m fresh (Descends bound) = descended_fits code m fresh bound (greatest_refuser counted) refl
-  decided_fits code m fresh Stores = stored_fits fresh (Some stamp) (greatest_refuser counted) refl
+  decided_fits code m fresh Looks = unless_told_fits fresh Looks _ (lowest_full counted) refl (answered_fast_fits code m fresh (fast_version counted))
+  decided_fits code m fresh Orders = unless_told_fits fresh Orders _ (lowest_full counted) refl (ordered_fits fresh (greatest_refuser counted) refl)
+  decided_fits code m fresh Recovers =
+      unless_told_fits fresh Recovers _ (lowest_full counted) refl (recovered_fits code m fresh (greatest_refuser counted) refl)
+  decided_fits code m fresh (Descends bound) =
+      unless_told_fits fresh (Descends bound) _ (lowest_full counted) refl (descended_fits code m fresh bound (greatest_refuser counted) refl)
+  decided_fits code m fresh Stores =
+      unless_told_fits fresh Stores _ (lowest_full counted) refl (stored_fits fresh (Some stamp) (greatest_refuser counted) refl)
 
 -- what a coordinator decides, with a quorum of replies or without, fits it
 pub once_full_fits : (code : Code) (group : Group) (fresh : Option Stamp) (c : Coordinator) → NextFits fresh c (once_full code group fresh c)

@@ -22,7 +22,7 @@ use Rattle.reg_model.specs.Walk.{last_of}
 use Rattle.protocol.specs.Settings.{Setting, Group, group_of, IsSound, seat_in}
 use Rattle.protocol.specs.Coordinators.{told_in}
 use Rattle.protocol.specs.Worlds.{World, Event, Operation, zero_content, first_world, run}
-use Rattle.protocol.specs.Laws.{OneContent, BasesAreNewest, WritesAreGuarded, StoredIsHeld, FollowsRealTime, WriteSent, IsBlocked, brick_at}
+use Rattle.protocol.specs.Laws.{OneContent, BasesAreNewest, WritesAreGuarded, StoredIsHeld, FollowsRealTime, FullIsFull, WriteSent, IsBlocked, brick_at}
 use Rattle.protocol.proofs.Books.{Books, OperationBooks, IsOperation}
 use Rattle.protocol.proofs.Said.{Stamping, Said, IsSaid, IsStamped, IsMadeOrFirst, Stands, WritesWhole, ReadsBack, FloorsAtLeast, VersionSays, WriteSays, ReplySays, HasVersion, DataShown}
 use Rattle.protocol.proofs.Blocking.{blocked_never_stands}
@@ -73,6 +73,7 @@ pub record QuorumFacts (setting : Setting) (w : World) : Type 0 where
   pub bases : BasesAreNewest setting w
   pub guarded : WritesAreGuarded setting w
   pub stored : StoredIsHeld w
+  pub full : FullIsFull setting w
 
 module _ (setting : Setting) (sound : IsSound setting) (w : World) (stamps : Stamping) (books : Books setting w) (said : Said setting w stamps) where
   -- of two versions between which a quorum's floors lie, the lower is not above the other, nor equal to it where the later operation made it
@@ -217,6 +218,7 @@ module _ (setting : Setting) (sound : IsSound setting) (w : World) (stamps : Sta
     bases = bases_hold;
     guarded = λ call from to t block group group_is sent. (write_says call from to t block sent).guarded group group_is;
     stored = λ call from to sent. said.packets sent.0 (record { from = from; to = to; message = Message.Reply call Reply.Stored }) sent.1;
+    full = λ call from to live sent. said.packets sent.0 (record { from = from; to = to; message = Message.Reply call (Reply.Full live) }) sent.1;
   }
 
 -- the facts hold in every world that a run reaches, where the books do

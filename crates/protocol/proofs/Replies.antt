@@ -10,13 +10,13 @@ use Rattle.fab_base.specs.declared.asks.Op.TheVariants.{ReadBlock, WriteBlock, R
 use Rattle.fab_base.specs.Stamps.{stamp_below}
 use Rattle.fab_base.proofs.StampOrder.{stamp_neither_below}
 use Rattle.fab_base.specs.declared.answers.Answer.TheVariants.{Data, Aborted}
-use Rattle.fab_base.specs.declared.answers.Cause.TheVariants as Cause
+use Rattle.fab_base.specs.declared.answers.Cause.{Cause}
 use Rattle.fab_wire.specs.declared.calls.Call.{Call}
 use Rattle.fab_wire.specs.declared.messages.Message.TheVariants as Message
 use Rattle.fab_wire.specs.declared.replies.Reply.{Reply}
 use Rattle.protocol.specs.Settings.{Setting, Code, Group, group_of, quorum_of, IsSound, seat_in}
 use Rattle.protocol.specs.Replicas.{is_held}
-use Rattle.protocol.specs.Coordinators.{Coordinator, Refuser, Phase, Looks, Orders, Recovers, Descends, Stores, Next, Waits, Sends, Makes, Ends, answers_phase, has_seat, counts_at, fast_version, pieces_of, pieces_at, greatest_found, greatest_refuser, stored_by, in_phase, restoring, reordering, most_rounds, aborted_by, unless_refused, ordered_again, once_ordered, answered_fast, read_back, answer_of, decided, with_reply, once_full, counted_at, on_reply, request_of}
+use Rattle.protocol.specs.Coordinators.{Coordinator, Refuser, FullMember, Phase, Looks, Orders, Recovers, Descends, Stores, Next, Waits, Sends, Makes, Ends, answers_phase, has_seat, counts_at, fast_version, pieces_of, pieces_at, greatest_found, greatest_refuser, lowest_full, stored_by, in_phase, restoring, reordering, most_rounds, aborted_by, aborted_full, unless_told_full, unless_refused, ordered_again, once_ordered, answered_fast, read_back, answer_of, decided, with_reply, once_full, counted_at, on_reply, request_of}
 use Rattle.protocol.specs.Nodes.{Node, with_known, with_call, carried_out}
 use Rattle.protocol.specs.Worlds.{World, Operation, number_of, world_stepped}
 use Rattle.protocol.specs.Laws.{WasSent, part_of, brick_at, AtQuorum, IsGuarded, IsBlocked}
@@ -52,27 +52,27 @@ said_known setting w stamps me known books said more =
 
 -- what a quorum of replies decides, by phase
 decided_looks : (code : Code) (m : ℕ) (fresh : Option Stamp) (c : Coordinator) → c.phase ≡ Looks
-    → decided code m fresh c ≡ answered_fast code m c (fast_version c.counted)
+    → decided code m fresh c ≡ unless_told_full (lowest_full c.counted) (answered_fast code m c (fast_version c.counted))
 unfolding decided
 decided_looks code m fresh c is = rw is
 
 decided_orders : (code : Code) (m : ℕ) (fresh : Option Stamp) (c : Coordinator) → c.phase ≡ Orders
-    → decided code m fresh c ≡ once_ordered fresh c (greatest_refuser c.counted) (Makes (in_phase c Stores))
+    → decided code m fresh c ≡ unless_told_full (lowest_full c.counted) (once_ordered fresh c (greatest_refuser c.counted) (Makes (in_phase c Stores)))
 unfolding decided
 decided_orders code m fresh c is = rw is
 
 decided_recovers : (code : Code) (m : ℕ) (fresh : Option Stamp) (c : Coordinator) → c.phase ≡ Recovers
-    → decided code m fresh c ≡ once_ordered fresh c (greatest_refuser c.counted) (read_back code m c (greatest_found c.counted))
+    → decided code m fresh c ≡ unless_told_full (lowest_full c.counted) (once_ordered fresh c (greatest_refuser c.counted) (read_back code m c (greatest_found c.counted)))
 unfolding decided
 decided_recovers code m fresh c is = rw is
 
 decided_descends : (code : Code) (m : ℕ) (fresh : Option Stamp) (bound : Stamp) (c : Coordinator) → c.phase ≡ Descends bound
-    → decided code m fresh c ≡ unless_refused (greatest_refuser c.counted) (read_back code m c (greatest_found c.counted))
+    → decided code m fresh c ≡ unless_told_full (lowest_full c.counted) (unless_refused (greatest_refuser c.counted) (read_back code m c (greatest_found c.counted)))
 unfolding decided
 decided_descends code m fresh bound c is = rw is
 
 decided_stores : (code : Code) (m : ℕ) (fresh : Option Stamp) (c : Coordinator) → c.phase ≡ Stores
-    → decided code m fresh c ≡ unless_refused (greatest_refuser c.counted) (Ends (answer_of c.ask.op c.content) None (Some c.stamp))
+    → decided code m fresh c ≡ unless_told_full (lowest_full c.counted) (unless_refused (greatest_refuser c.counted) (Ends (answer_of c.ask.op c.content) None (Some c.stamp)))
 unfolding decided
 decided_stores code m fresh c is = rw is
 
@@ -125,10 +125,10 @@ module _ (setting : Setting) (sound : IsSound setting) (w : World) (stamps : Sta
       )
 
   -- the operation is aborted
-  said_aborts : (r : Refuser) → IsSaid setting (after (aborted_by r))
-  said_aborts r = (
+  said_aborts : (cause : Cause) → IsSaid setting (after (Ends (Aborted cause) None None))
+  said_aborts cause = (
     stamps,
-    said_ended setting w stamps me c group known books said is more_known (Aborted (Cause.Later r.brick r.stamp)) None None
+    said_ended setting w stamps me c group known books said is more_known (Aborted cause) None None
         (λ v has. has)
         (λ v has. (said.operations (number_of w me.0 c.call.seq) o its.operation_is).version v has)
         (λ v has how. (said.operations (number_of w me.0 c.call.seq) o its.operation_is).stands v has (⊎_elim
@@ -242,7 +242,7 @@ module _ (setting : Setting) (sound : IsSound setting) (w : World) (stamps : Sta
       again : (phase : Phase) → c.phase ≡ phase → FitsPhase phase c.ask.op → AsksPromises setting w c.ask.group.0 c.ask.stripe.0 c.stamp phase
           → ((t : Stamp) → AsksPromises setting w c.ask.group.0 c.ask.stripe.0 t phase) → (r : Refuser) (z : Option Stamp) → fresh ≡ z
           → IsSaid setting (after (ordered_again z d r))
-      again phase same fits here asks r None none = said_aborts r
+      again phase same fits here asks r None none = said_aborts (Cause.Later r.brick r.stamp)
       again phase same fits here asks r (Some t) new =
           let own = fresh_is t new in
           cond_both (nat_lt c.round most_rounds) (Sends (reordering d t)) (aborted_by r) (λ (z : Next). IsSaid setting (after z))
@@ -258,12 +258,12 @@ module _ (setting : Setting) (sound : IsSound setting) (w : World) (stamps : Sta
           })
           (inr (later_unknown w stamps said.stamps_say (with_known (w.nodes me.0) t.time) me.0 t own.0 own.1))
           says.fits says.unbased (subst (λ (p : Phase). AsksPromises setting w c.ask.group.0 c.ask.stripe.0 t p) (sym same) (asks t)))
-          (λ all. said_aborts r)
+          (λ all. said_aborts (Cause.Later r.brick r.stamp))
 
-      orders_on : c.phase ≡ Orders → (z : Option Refuser) → greatest_refuser d.counted ≡ z
+      orders_on : c.phase ≡ Orders → lowest_full d.counted ≡ None → (z : Option Refuser) → greatest_refuser d.counted ≡ z
           → IsSaid setting (after (once_ordered fresh d z (Makes (in_phase d Stores))))
-      orders_on orders None none =
-          let all = all_ordered setting sound w stamps me c group books said is group_is d.counted each once many orders none in
+      orders_on orders roomy None none =
+          let all = all_ordered setting sound w stamps me c group books said is group_is d.counted each once many orders none roomy in
           let unmade : IsUnmade o = subst (λ (p : Phase). MadeInPhase c o p) orders its.made in
           let writes : (bytes : List ℕ) × (c.ask.op ≡ WriteStripe bytes) = subst (λ (p : Phase). FitsPhase p c.ask.op) orders says.fits in
           said_made setting sound w stamps me c group known books said is group_is more_known c.base c.content (unmade.0, unmade.1)
@@ -271,14 +271,14 @@ module _ (setting : Setting) (sound : IsSound setting) (w : World) (stamps : Sta
           (promises_guard setting sound w stamps me c group books said is group_is d.counted each once many all))
           (promises_floors setting sound w stamps me c group books said is group_is d.counted each once many all)
           (inl (says.unbased orders, writes))
-      orders_on orders (Some r) refused =
+      orders_on orders roomy (Some r) refused =
           again Orders orders (subst (λ (p : Phase). FitsPhase p c.ask.op) orders says.fits) tt (λ t. tt) r fresh refl
 
       -- a recovery that no reply refused reads back what it found
-      module _ (bound : Stamp) (looks : LooksBelow c bound) (none : greatest_refuser d.counted ≡ None) (reads : c.ask.op ≡ ReadStripe)
-          (unmade : IsUnmade o) where
+      module _ (bound : Stamp) (looks : LooksBelow c bound) (none : greatest_refuser d.counted ≡ None) (roomy : lowest_full d.counted ≡ None)
+          (reads : c.ask.op ≡ ReadStripe)          (unmade : IsUnmade o) where
         all : EachCounted (ReadsAt setting sound w stamps me c group books said is group_is d.counted each once many bound) d.counted
-        all = all_read setting sound w stamps me c group books said is group_is d.counted each once many bound looks none
+        all = all_read setting sound w stamps me c group books said is group_is d.counted each once many bound looks none roomy
 
         promised : EachCounted (PromisesAt setting sound w stamps me c group books said is group_is d.counted each once many) d.counted
         promised =
@@ -348,20 +348,21 @@ module _ (setting : Setting) (sound : IsSound setting) (w : World) (stamps : Sta
             (λ few. descends_on v greatest (ltb-true (length (pieces_at v d.counted)) group.m few))
             (λ enough. restores_on v greatest (ltb-false (length (pieces_at v d.counted)) group.m enough))
 
-      recovers_on : c.phase ≡ Recovers → (z : Option Refuser) → greatest_refuser d.counted ≡ z
+      recovers_on : c.phase ≡ Recovers → lowest_full d.counted ≡ None → (z : Option Refuser) → greatest_refuser d.counted ≡ z
           → IsSaid setting (after (once_ordered fresh d z (read_back setting.code group.m d (greatest_found d.counted))))
-      recovers_on recovers None none =
-          reads_on c.stamp (inl (recovers, refl)) none (subst (λ (p : Phase). FitsPhase p c.ask.op) recovers says.fits)
+      recovers_on recovers roomy None none =
+          reads_on c.stamp (inl (recovers, refl)) none roomy (subst (λ (p : Phase). FitsPhase p c.ask.op) recovers says.fits)
           (subst (λ (p : Phase). MadeInPhase c o p) recovers its.made) (greatest_found d.counted) refl
-      recovers_on recovers (Some r) refused =
+      recovers_on recovers roomy (Some r) refused =
           again Recovers recovers (subst (λ (p : Phase). FitsPhase p c.ask.op) recovers says.fits) tt (λ t. tt) r fresh refl
 
-      lowers_on : (bound : Stamp) → c.phase ≡ Descends bound → (z : Option Refuser) → greatest_refuser d.counted ≡ z
+      lowers_on : (bound : Stamp) → c.phase ≡ Descends bound → lowest_full d.counted ≡ None → (z : Option Refuser)
+          → greatest_refuser d.counted ≡ z
           → IsSaid setting (after (unless_refused z (read_back setting.code group.m d (greatest_found d.counted))))
-      lowers_on bound descends None none =
-          reads_on bound (inr descends) none (subst (λ (p : Phase). FitsPhase p c.ask.op) descends says.fits)
+      lowers_on bound descends roomy None none =
+          reads_on bound (inr descends) none roomy (subst (λ (p : Phase). FitsPhase p c.ask.op) descends says.fits)
           (subst (λ (p : Phase). MadeInPhase c o p) descends its.made) (greatest_found d.counted) refl
-      lowers_on bound descends (Some r) refused = said_aborts r
+      lowers_on bound descends roomy (Some r) refused = said_aborts (Cause.Later r.brick r.stamp)
 
       -- what an operation that stored its version is answered is the version's content
       stored_shows : (op : Op) (v : Stamp) → o.version ≡ Some v → stored_by op c.content ≡ w.contents o.ask.group.0 o.ask.stripe.0 v
@@ -371,12 +372,12 @@ module _ (setting : Setting) (sound : IsSound setting) (w : World) (stamps : Sta
       stored_shows ReadStripe v has content = (v, has, content)
       stored_shows (WriteStripe bytes) v has content = tt
 
-      stores_on : c.phase ≡ Stores → (z : Option Refuser) → greatest_refuser d.counted ≡ z
+      stores_on : c.phase ≡ Stores → lowest_full d.counted ≡ None → (z : Option Refuser) → greatest_refuser d.counted ≡ z
           → IsSaid setting (after (unless_refused z (Ends (answer_of c.ask.op c.content) None (Some c.stamp))))
-      stores_on stores None none =
+      stores_on stores roomy None none =
           let made = subst (λ (p : Phase). MadeInPhase c o p) stores its.made in
           let stands : AtQuorum group (λ seat. is_held c.stamp (part_of w o.ask.group.0 o.ask.stripe.0 (brick_at group seat)).log)
-          = stored_stands setting sound w stamps me c group books said is group_is d.counted each once many stores none in (
+          = stored_stands setting sound w stamps me c group books said is group_is d.counted each once many stores none roomy in (
             stamps,
             said_ended setting w stamps me c group known books said is more_known (answer_of c.ask.op c.content) None (Some c.stamp)
                 (λ v has. has)
@@ -390,7 +391,13 @@ module _ (setting : Setting) (sound : IsSound setting) (w : World) (stamps : Sta
                 (stored_shows c.ask.op c.stamp made.0
                 ((says.stores stores).1 ∙ ap (λ (a : Ask). w.contents a.group.0 a.stripe.0 c.stamp) its.ask)),
           )
-      stores_on stores (Some r) refused = said_aborts r
+      stores_on stores roomy (Some r) refused = said_aborts (Cause.Later r.brick r.stamp)
+
+      -- a member whose store is full aborts it, and else no reply tells so
+      unless_told : (next : Next) → (lowest_full d.counted ≡ None → IsSaid setting (after next)) → (z : Option FullMember) → lowest_full d.counted ≡ z
+          → IsSaid setting (after (unless_told_full z next))
+      unless_told next goes None none = goes none
+      unless_told next goes (Some f) told = said_aborts (Cause.Full f.brick f.live)
 
       -- what a quorum of replies decides keeps the invariant
       decides : IsSaid setting (after (decided setting.code group.m fresh d))
@@ -398,19 +405,20 @@ module _ (setting : Setting) (sound : IsSound setting) (w : World) (stamps : Sta
         where
           by_phase : (p : Phase) → c.phase ≡ p → IsSaid setting (after (decided setting.code group.m fresh d))
           by_phase Looks at =
-              subst (λ (z : Next). IsSaid setting (after z)) (sym (decided_looks setting.code group.m fresh d at)) (looks_on at (fast_version d.counted) refl)
+              subst (λ (z : Next). IsSaid setting (after z)) (sym (decided_looks setting.code group.m fresh d at))
+              (unless_told _ (λ roomy. looks_on at (fast_version d.counted) refl) (lowest_full d.counted) refl)
           by_phase Orders at =
               subst (λ (z : Next). IsSaid setting (after z)) (sym (decided_orders setting.code group.m fresh d at))
-              (orders_on at (greatest_refuser d.counted) refl)
+              (unless_told _ (λ roomy. orders_on at roomy (greatest_refuser d.counted) refl) (lowest_full d.counted) refl)
           by_phase Recovers at =
               subst (λ (z : Next). IsSaid setting (after z)) (sym (decided_recovers setting.code group.m fresh d at))
-              (recovers_on at (greatest_refuser d.counted) refl)
+              (unless_told _ (λ roomy. recovers_on at roomy (greatest_refuser d.counted) refl) (lowest_full d.counted) refl)
           by_phase (Descends bound) at =
               subst (λ (z : Next). IsSaid setting (after z)) (sym (decided_descends setting.code group.m fresh bound d at))
-              (lowers_on bound at (greatest_refuser d.counted) refl)
+              (unless_told _ (λ roomy. lowers_on bound at roomy (greatest_refuser d.counted) refl) (lowest_full d.counted) refl)
           by_phase Stores at =
               subst (λ (z : Next). IsSaid setting (after z)) (sym (decided_stores setting.code group.m fresh d at))
-              (stores_on at (greatest_refuser d.counted) refl)
+              (unless_told _ (λ roomy. stores_on at roomy (greatest_refuser d.counted) refl) (lowest_full d.counted) refl)
 
     -- a reply that counts keeps the invariant
     counts : IsSaid setting (after (once_full setting.code group fresh d))

@@ -19,7 +19,7 @@ use Rattle.reg_model.specs.declared.marks.Mark.TheVariants.{End, Crash}
 use Rattle.protocol.specs.Settings.{Setting, Group, group_of, IsSound}
 use Rattle.protocol.specs.Replicas.{Reaction, first_replica, top_of, handle}
 use Rattle.protocol.specs.Coordinators.{Coordinator, Counted}
-use Rattle.protocol.specs.Nodes.{Node, NodeStep, put, with_known, reply_packets, absorbed, ticked, stopped, restarted, new_stamp, fresh_stamp, no_step, began, invoked, requested, known_after, replied_to, replied_at, replied, received}
+use Rattle.protocol.specs.Nodes.{Node, NodeStep, put, with_known, full_at, reply_packets, absorbed, ticked, stopped, restarted, new_stamp, fresh_stamp, no_step, began, invoked, requested, known_after, replied_to, replied_at, replied, received}
 use Rattle.protocol.specs.Worlds.{World, Event, Invokes, Delivers, Sets, Ticks, Crashes, Starts, Absorbs, replies_with, first_world, zero_content, is_brick, is_up, may_start, world_ticked, world_stopped, world_started, world_absorbed, may_begin, world_began, world_stepped, delivered, packet_of, happens, run}
 use Rattle.protocol.specs.Laws.{WasSent, part_of}
 use Rattle.protocol.proofs.Books.{Books, IsCall}
@@ -53,11 +53,12 @@ request_said setting w stamps me from call request books said sent =
     request_each (λ step. Said setting (stepped w me step) stamps) setting me from (w.nodes me.0) call request
     (nothing_said setting w stamps me books said)
     (λ seat.
-    let reaction : Reaction = handle seat (part_of w call.group.0 call.stripe.0 me.0) request in
-    let after = handle_after seat (part_of w call.group.0 call.stripe.0 me.0) request in
-    said_after_request setting w stamps me from call request books said sent reaction.replica (reply_packets me from call reaction.reply) after
-    (reply_packets_say setting w stamps me from call request books said sent reaction.replica (reply_packets me from call reaction.reply) after
-    reaction.reply (handle_says seat (part_of w call.group.0 call.stripe.0 me.0) request)))
+    let full : Option ℕ = full_at setting.layout.records (w.nodes me.0) in
+    let reaction : Reaction = handle full seat (part_of w call.group.0 call.stripe.0 me.0) request in
+    let after = handle_after full seat (part_of w call.group.0 call.stripe.0 me.0) request in
+    said_after_request setting w stamps me from call request books said sent reaction (reply_packets me from call reaction.reply) after
+    (reply_packets_say setting w stamps me from call request books said sent reaction (reply_packets me from call reaction.reply) after
+    reaction.reply (handle_says full seat (part_of w call.group.0 call.stripe.0 me.0) request)))
 
 -- a request is handled, and its reply is lost
 request_kept : (setting : Setting) (w : World) (stamps : Stamping) (me from : BrickId) (call : Call) (request : Request) → Books setting w
@@ -67,9 +68,10 @@ request_kept setting w stamps me from call request books said sent =
     request_each (λ step. Said setting (quiet w me step.node []) stamps) setting me from (w.nodes me.0) call request
     (nothing_said setting w stamps me books said)
     (λ seat.
+    let full : Option ℕ = full_at setting.layout.records (w.nodes me.0) in
     said_after_request setting w stamps me from call request books said sent
-    (handle seat (part_of w call.group.0 call.stripe.0 me.0) request).replica []
-    (handle_after seat (part_of w call.group.0 call.stripe.0 me.0) request) (λ k packet at. cc))
+    (handle full seat (part_of w call.group.0 call.stripe.0 me.0) request) []
+    (handle_after full seat (part_of w call.group.0 call.stripe.0 me.0) request) (λ k packet at. cc))
 
 -- a fresh stamp is its brick's, and above all that it knows
 fresh_says : (setting : Setting) (w : World) (me : BrickId) (now known : ℕ) (t : Stamp) → Books setting w → (w.nodes me.0).known ≤ known

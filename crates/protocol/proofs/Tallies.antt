@@ -13,7 +13,7 @@ use Rattle.fab_wire.specs.declared.replies.Reply.TheVariants as Reply
 use Rattle.reg_model.specs.Marks.{life_of, IsOpen}
 use Rattle.protocol.specs.Coordinators.{Coordinator, Counted, Descends, Stores, greatest_refuser}
 use Rattle.protocol.specs.Worlds.{World, Operation, number_of, known_in}
-use Rattle.protocol.specs.Laws.{WasSent, WriteSent, OrderSent, AskedAt, Evidence, IsCallOf, CountedWereSent, AbortsShow}
+use Rattle.protocol.specs.Laws.{WasSent, WriteSent, OrderSent, AskedAt, Evidence, IsCallOf, CountedWereSent, AbortsShow, FullAbortsShow}
 use Rattle.protocol.proofs.Books.{Replies, IsOperation, IsCall}
 use Rattle.protocol.proofs.Outcomes.{IsRound, first_round}
 use Rattle.protocol.proofs.Said.{EachCounted}
@@ -40,12 +40,19 @@ CountedSent w n phase x =
 abbrev pub AbortShown : World → ℕ → BrickId → Stamp → Type 0
 AbortShown w n brick x = (o : Operation) × IsOperation w n o × Evidence w n o brick x
 
+-- the abort of operation n for a full store shows that its brick told so
+abbrev pub FullAbortShown : World → ℕ → BrickId → ℕ → Type 0
+FullAbortShown w n brick live =
+    (o : Operation) × IsOperation w n o
+    × ((call : Call) × IsCallOf call o × WasSent w (record { from = brick; to = o.brick; message = Message.Reply call (Reply.Full live) }))
+
 -- the history of a world
 pub record Tallied (w : World) : Type 0 where
   pub calls : (i k : ℕ) (c : Coordinator) → IsCall w i k c → CallTallied w.replies (number_of w i k) c
   pub unbegun : (n p : ℕ) → w.begun < n → w.replies n p ≡ []
   pub counted : CountedWereSent w
   pub aborts : AbortsShow w
+  pub full_aborts : FullAbortsShow w
 
 -- an order of stamp t that looks below a bound was sent
 abbrev pub DescentSent : World → Call → BrickId → BrickId → Stamp → Stamp → Type 0

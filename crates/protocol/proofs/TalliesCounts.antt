@@ -17,20 +17,20 @@ use Rattle.fab_wire.specs.declared.replies.Reply.{Reply}
 use Rattle.reg_model.specs.declared.marks.Mark.TheVariants.{End}
 use Rattle.reg_model.specs.Marks.{Life, life_of, IsOpen}
 use Rattle.protocol.specs.Settings.{Setting, Group}
-use Rattle.protocol.specs.Coordinators.{Phase, Looks, Orders, Recovers, Descends, Stores, Coordinator, Counted, Refuser, Next, Ignores, Waits, Sends, Makes, Ends, refuser_of, greater_refuser, greatest_refuser, with_reply}
+use Rattle.protocol.specs.Coordinators.{Phase, Looks, Orders, Recovers, Descends, Stores, Coordinator, Counted, Refuser, FullMember, Next, Ignores, Waits, Sends, Makes, Ends, refuser_of, greater_refuser, greatest_refuser, with_reply}
 use Rattle.protocol.specs.Nodes.{Node, put, has_later_time, new_stamp, fresh_stamp, with_call, phase_packets, collect_packets, carried_out}
 use Rattle.protocol.specs.Worlds.{World, Operation, number_of, known_in, with_made, with_answer, with_counted, world_stepped}
 use Rattle.protocol.specs.Laws.{WasSent, WriteSent, OrderSent, AskedAt, IsLastRound}
 use Rattle.protocol.proofs.Books.{Replies, Books, OperationBooks, CallBooks, IsOperation, IsCall, InRound}
 use Rattle.protocol.proofs.BooksKept.{KeepsNumbers, calls_apart}
 use Rattle.protocol.proofs.BooksEvents.{keeps_put, brick_of}
-use Rattle.protocol.proofs.Outcomes.{IsRound, first_round, ReordersFits, RecoversFits, SendsFits, NoRoundFits, LastFits, AbortFits, AnswerFits, NextFits}
+use Rattle.protocol.proofs.Outcomes.{IsRound, first_round, ReordersFits, RecoversFits, SendsFits, NoRoundFits, LastFits, AbortFits, FullFits, AnswerFits, NextFits}
 use Rattle.protocol.proofs.Said.{EachCounted}
-use Rattle.protocol.proofs.Counting.{each_more, refuser_counted}
+use Rattle.protocol.proofs.Counting.{each_more, refuser_counted, full_counted}
 use Rattle.protocol.proofs.Puts.{put_other}
 use Rattle.protocol.proofs.Tables.{put_each, put_same, get_grown, get_one}
 use Rattle.protocol.proofs.Steps.{sent_by}
-use Rattle.protocol.proofs.Tallies.{IsTally, CallTallied, CountedSent, AbortShown, Tallied, MessagesShow, Furthers}
+use Rattle.protocol.proofs.Tallies.{IsTally, CallTallied, CountedSent, AbortShown, FullAbortShown, Tallied, MessagesShow, Furthers}
 use Rattle.protocol.proofs.TalliesKept.{call_tallied_on, known_kept, counted_on, descent_on, write_on, asked_on, tallied_on}
 
 -- where there is no fresh stamp no later time is left
@@ -313,6 +313,33 @@ module _ (setting : Setting) (group : Group) (w : World) (me : BrickId) (now kno
       (with_answer answer seen (w.operations n)) (λ at. (_, ap (λ (z : Option Operation). with_answer answer seen z) at, refl, refl, refl))
       (λ a other at. (e, at, refl, refl, refl)) m
 
+  -- each reply that counts was sent
+  each_sent : EachCounted (λ y. WasSent w (record { from = y.brick; to = me; message = Message.Reply c.call y.reply })) (c.counted ++ (one ∷ []))
+  each_sent =
+      each_more (λ y. WasSent w (record { from = y.brick; to = me; message = Message.Reply c.call y.reply })) c.counted one (shows.counted i k c is) sent
+
+  -- the brick whose full store aborts the operation told so
+  full_shown : (answer : Answer) (seen stored : Option Stamp) (brick : BrickId) (live : ℕ) → FullFits (with_reply c seat from reply) brick live
+      → Furthers w (after (Ends answer seen stored)) → FullAbortShown (after (Ends answer seen stored)) n brick live
+  full_shown answer seen stored brick live fits on =
+      let P : Counted → Type 0 = λ y. WasSent w (record { from = y.brick; to = me; message = Message.Reply c.call y.reply }) in
+      let f : FullMember = record { seat = fits.seat; brick = brick; live = live } in
+      let found = full_counted P (c.counted ++ (one ∷ [])) f each_sent fits.told in
+      let told : WasSent w (record { from = brick; to = me; message = Message.Reply c.call (Reply.Full live) })
+      = subst (λ (b : BrickId). WasSent w (record { from = b; to = me; message = Message.Reply c.call (Reply.Full live) })) found.3
+      (subst (λ (y : Reply). WasSent w (record { from = found.0.brick; to = me; message = Message.Reply c.call y })) found.2 found.1) in
+      let goes = on.operations n o mine.operation_is in (
+        goes.0,
+        goes.1,
+        (
+          c.call,
+          (mine.call_boot ∙ sym mine.boot ∙ sym goes.3, sym mine.seq ∙ sym goes.4),
+          subst (λ (b : BrickId). WasSent (after (Ends answer seen stored)) (record { from = brick; to = b; message = Message.Reply c.call (Reply.Full live) }))
+              (me_is ∙ sym goes.2)
+              (on.sent (record { from = brick; to = me; message = Message.Reply c.call (Reply.Full live) }) told),
+        ),
+      )
+
   -- the evidence of an abort
   abort_shown : (answer : Answer) (seen stored : Option Stamp) (brick : BrickId) (x : Stamp) → AbortFits fresh (with_reply c seat from reply) brick x
       → MessagesShow (after (Ends answer seen stored)) → Furthers w (after (Ends answer seen stored))
@@ -320,8 +347,7 @@ module _ (setting : Setting) (group : Group) (w : World) (me : BrickId) (now kno
   abort_shown answer seen stored brick x fits later on =
       let P : Counted → Type 0 = λ y. WasSent w (record { from = y.brick; to = me; message = Message.Reply c.call y.reply }) in
       let r : Refuser = record { seat = fits.seat; brick = brick; stamp = x } in
-      let each : EachCounted P (c.counted ++ (one ∷ [])) = each_more P c.counted one (shows.counted i k c is) sent in
-      let found = refuser_counted P (c.counted ++ (one ∷ [])) r each fits.refused in
+      let found = refuser_counted P (c.counted ++ (one ∷ [])) r each_sent fits.refused in
       let told : WasSent w (record { from = brick; to = me; message = Message.Reply c.call (Reply.Later x) })
       = subst (λ (b : BrickId). WasSent w (record { from = b; to = me; message = Message.Reply c.call (Reply.Later x) })) found.3
       (subst (λ (y : Reply). WasSent w (record { from = found.0.brick; to = me; message = Message.Reply c.call y })) found.2 found.1) in
@@ -401,7 +427,7 @@ module _ (setting : Setting) (group : Group) (w : World) (me : BrickId) (now kno
         later = λ p above. replies_later p (omega arith);
         refused = λ round p low high. refused_before (subst (λ (x : Phase). IsRound x) fits.phase round) p (omega arith) (omega arith);
       }))
-      unbegun (counted_next (after (Waits d)) on) (λ a p m brick x at. inl at)
+      unbegun (counted_next (after (Waits d)) on) (λ a p m brick x at. inl at) (λ a p m brick live at. inl at)
   tallied_counted (Sends d) fits later =
       let on : Furthers w (after (Sends d)) = furthers (after (Sends d)) (max known d.stamp.time) node.busy (Some d) (phase_packets setting group me d) refl
       (omega arith) refl refl (λ j b. refl) same_operations in
@@ -412,7 +438,7 @@ module _ (setting : Setting) (group : Group) (w : World) (me : BrickId) (now kno
         later = λ p above. replies_later p (omega arith);
         refused = refused_sends d fits phase;
       }))
-      unbegun (counted_next (after (Sends d)) on) (λ a p m brick x at. inl at)
+      unbegun (counted_next (after (Sends d)) on) (λ a p m brick x at. inl at) (λ a p m brick live at. inl at)
   tallied_counted (Makes d) fits later =
       let on : Furthers w (after (Makes d)) = furthers (after (Makes d)) known node.busy (Some d) (phase_packets setting group me d) refl grows refl refl
       (λ j b. refl) (made_operations d.stamp d.base) in
@@ -423,7 +449,7 @@ module _ (setting : Setting) (group : Group) (w : World) (me : BrickId) (now kno
         later = λ p above. replies_later p (omega arith);
         refused = λ round p low high. absurd (subst (λ (x : Phase). IsRound x) fits.phase round);
       }))
-      unbegun (counted_next (after (Makes d)) on) (λ a p m brick x at. inl at)
+      unbegun (counted_next (after (Makes d)) on) (λ a p m brick x at. inl at) (λ a p m brick live at. inl at)
   tallied_counted (Ends answer seen stored) fits later =
       let on : Furthers w (after (Ends answer seen stored)) = furthers (after (Ends answer seen stored)) known (node.busy - 1) None
       (collect_packets group me c.call stored) refl grows refl refl (λ j b. refl) (answered_operations answer seen) in
@@ -441,3 +467,14 @@ module _ (setting : Setting) (group : Group) (w : World) (me : BrickId) (now kno
       = subst (λ (z : Answer). AnswerFits fresh (with_reply c seat from reply) z) by fits.1 in
       inr (subst (λ (z : ℕ). AbortShown (after (Ends answer seen stored)) z brick x) number (abort_shown answer seen stored brick x abort later on)))
       (get_grown w.marks (End (length w.marks) n answer ∷ []) a (End p m (Aborted (Cause.Later brick x))) at))
+      (λ a p m brick live at. ⊎_elim
+      (λ (old : slice_get w.marks a ≡ Some (End p m (Aborted (Cause.Full brick live)))). inl old)
+      (λ (new : (j : ℕ) × (slice_get (End (length w.marks) n answer ∷ []) j ≡ Some (End p m (Aborted (Cause.Full brick live))))).
+      let mark : End (length w.marks) n answer ≡ End p m (Aborted (Cause.Full brick live))
+      = get_one (End (length w.marks) n answer) (End p m (Aborted (Cause.Full brick live))) new.0 new.1 in
+      let number : n ≡ m = cc in
+      let by : answer ≡ Aborted (Cause.Full brick live) = cc in
+      let told : FullFits (with_reply c seat from reply) brick live
+      = subst (λ (z : Answer). AnswerFits fresh (with_reply c seat from reply) z) by fits.1 in
+      inr (subst (λ (z : ℕ). FullAbortShown (after (Ends answer seen stored)) z brick live) number (full_shown answer seen stored brick live told on)))
+      (get_grown w.marks (End (length w.marks) n answer ∷ []) a (End p m (Aborted (Cause.Full brick live))) at))

@@ -20,7 +20,7 @@ use Rattle.reg_model.specs.declared.marks.Mark.TheVariants.{Begin, End, Crash}
 use Rattle.protocol.specs.Settings.{Setting, Group, group_of, IsSound, seat_in}
 use Rattle.protocol.specs.Replicas.{handle}
 use Rattle.protocol.specs.Coordinators.{Coordinator, with_reply, once_full, counted_at, counts_at, on_reply}
-use Rattle.protocol.specs.Nodes.{Node, NodeStep, is_served, fits_block, absorbed, ticked, new_coordinator, Nothing, put, no_step, fresh_stamp, began_in, began, invoked, with_replica, replica_at, reply_packets, requested_at, requested_in, requested, known_after, with_known, carried_out, replied_to, replied_at, replied, received}
+use Rattle.protocol.specs.Nodes.{Node, NodeStep, is_served, fits_block, absorbed, ticked, new_coordinator, Nothing, put, no_step, fresh_stamp, began_in, began, invoked, with_replica, replica_at, full_at, reply_packets, requested_at, requested_in, requested, known_after, with_known, carried_out, replied_to, replied_at, replied, received}
 use Rattle.protocol.specs.Worlds.{World, Event, Invokes, Delivers, Sets, Ticks, Crashes, Starts, Absorbs, first_world, is_brick, is_up, may_begin, may_start, number_of, world_absorbed, world_stopped, world_started, world_began, counted_after, replies_in, replies_at, replies_with, delivered, packet_of, happens, run}
 use Rattle.protocol.specs.Laws.{WasSent}
 use Rattle.protocol.proofs.Books.{Books, IsCall}
@@ -56,7 +56,7 @@ tallied_quiet setting w nodes clocks packets books tallied shows keeps calls sen
     })
     (λ i k c is. call_tallied_on w.replies w.replies (number_of w i k) (w.numbers i (nodes i).boot k) c
     (ap (λ (b : ℕ). w.numbers i b k) (keeps i).boot) (λ p. refl) (tallied.calls i k c (sym (calls i k) ∙ is)))
-    tallied.unbegun (λ n phase k x is. inl is) (λ k p n brick x is. inl is)
+    tallied.unbegun (λ n phase k x is. inl is) (λ k p n brick x is. inl is) (λ k p n brick live is. inl is)
 
 tallied_nothing : (setting : Setting) (w : World) (me : BrickId) (node : Node) (packets : List Packet) → Books setting w → Tallied w
     → MessagesShow (stepped w w.replies me (record { node = node; packets = packets; told = Nothing })) → KeepsNumbers (w.nodes me.0) node
@@ -85,16 +85,16 @@ tallied_requested : (setting : Setting) (w : World) (me from : BrickId) (call : 
 unfolding requested
 tallied_requested setting w me from call request books tallied = in_group (group_of setting.layout call.group.0)
   where
-    at_seat : (z : Option ℕ) → MessagesShow (stepped w w.replies me (requested_at me from (w.nodes me.0) call request z))
-        → Tallied (stepped w w.replies me (requested_at me from (w.nodes me.0) call request z))
+    at_seat : (z : Option ℕ) → MessagesShow (stepped w w.replies me (requested_at setting.layout.records me from (w.nodes me.0) call request z))
+        → Tallied (stepped w w.replies me (requested_at setting.layout.records me from (w.nodes me.0) call request z))
     at_seat None shows = tallied_no_step setting w me books tallied shows
     at_seat (Some seat) shows =
-        let reaction = handle seat (replica_at (w.nodes me.0) call) request in
-        tallied_nothing setting w me (with_replica (w.nodes me.0) call reaction.replica) (reply_packets me from call reaction.reply) books tallied shows
+        let reaction = handle (full_at setting.layout.records (w.nodes me.0)) seat (replica_at (w.nodes me.0) call) request in
+        tallied_nothing setting w me (with_replica (w.nodes me.0) call reaction) (reply_packets me from call reaction.reply) books tallied shows
         (record { boot = refl; seq = refl; known = omega arith }) (λ l. refl)
 
-    in_group : (z : Option Group) → MessagesShow (stepped w w.replies me (requested_in setting.layout.block me from (w.nodes me.0) call request z))
-        → Tallied (stepped w w.replies me (requested_in setting.layout.block me from (w.nodes me.0) call request z))
+    in_group : (z : Option Group) → MessagesShow (stepped w w.replies me (requested_in setting.layout me from (w.nodes me.0) call request z))
+        → Tallied (stepped w w.replies me (requested_in setting.layout me from (w.nodes me.0) call request z))
     in_group None shows = tallied_no_step setting w me books tallied shows
     in_group (Some group) shows =
         cond_both (is_served group call && fits_block setting.layout.block request) _ _
@@ -223,6 +223,12 @@ tallied_began setting w brick now ask fits up books tallied shows =
     absurd (let never : Begin (length w.marks) n brick ask ≡ End p m (Aborted (Cause.Later by x))
     = get_one (Begin (length w.marks) n brick ask) (End p m (Aborted (Cause.Later by x))) new.0 new.1 in cc))
     (get_grown w.marks (Begin (length w.marks) n brick ask ∷ []) a (End p m (Aborted (Cause.Later by x))) is))
+    (λ a p m by live is. ⊎_elim
+    (λ (old : slice_get w.marks a ≡ Some (End p m (Aborted (Cause.Full by live)))). inl old)
+    (λ (new : (q : ℕ) × (slice_get (Begin (length w.marks) n brick ask ∷ []) q ≡ Some (End p m (Aborted (Cause.Full by live))))).
+    absurd (let never : Begin (length w.marks) n brick ask ≡ End p m (Aborted (Cause.Full by live))
+    = get_one (Begin (length w.marks) n brick ask) (End p m (Aborted (Cause.Full by live))) new.0 new.1 in cc))
+    (get_grown w.marks (Begin (length w.marks) n brick ask ∷ []) a (End p m (Aborted (Cause.Full by live))) is))
 
 tallied_invoked : (setting : Setting) (w : World) (brick : BrickId) (now : ℕ) (ask : Ask) → Books setting w → Tallied w → may_begin setting w brick ask ≡ true
     → MessagesShow (world_began w brick ask (invoked setting brick now (w.nodes brick.0) ask))
@@ -263,6 +269,12 @@ tallied_stopped setting w brick books tallied shows =
     absurd (let never : Crash (length w.marks) brick ≡ End p n (Aborted (Cause.Later by x))
     = get_one (Crash (length w.marks) brick) (End p n (Aborted (Cause.Later by x))) new.0 new.1 in cc))
     (get_grown w.marks (Crash (length w.marks) brick ∷ []) k (End p n (Aborted (Cause.Later by x))) is))
+    (λ k p n by live is. ⊎_elim
+    (λ (old : slice_get w.marks k ≡ Some (End p n (Aborted (Cause.Full by live)))). inl old)
+    (λ (new : (q : ℕ) × (slice_get (Crash (length w.marks) brick ∷ []) q ≡ Some (End p n (Aborted (Cause.Full by live))))).
+    absurd (let never : Crash (length w.marks) brick ≡ End p n (Aborted (Cause.Full by live))
+    = get_one (Crash (length w.marks) brick) (End p n (Aborted (Cause.Full by live))) new.0 new.1 in cc))
+    (get_grown w.marks (Crash (length w.marks) brick ∷ []) k (End p n (Aborted (Cause.Full by live))) is))
 
 -- a stopped brick is started again
 tallied_started : (setting : Setting) (w : World) (brick : BrickId) (openings : ℕ) → w.up brick.0 ≡ false → 1 ≤ openings → Books setting w → Tallied w
@@ -286,7 +298,7 @@ tallied_started setting w brick openings down once books tallied shows =
     call_tallied_on w.replies w.replies (number_of w i k) (number_of next i k) c (ap (λ (x : Node). w.numbers i x.boot k) same) (λ p. refl)
     (tallied.calls i k c old))
     (cases_eq i brick.0))
-    tallied.unbegun (λ n phase k x is. inl is) (λ k p n by x is. inl is)
+    tallied.unbegun (λ n phase k x is. inl is) (λ k p n by x is. inl is) (λ k p n by live is. inl is)
 
 -- a message is handled, and the reply is lost
 tallied_absorbed : (setting : Setting) (w : World) (packet : Option Packet) → Books setting w → Tallied w
@@ -340,6 +352,7 @@ tallied_first setting = record {
   unbegun = λ n p above. refl;
   counted = λ n phase k x is. absurd (let never : None ≡ Some x = is in cc);
   aborts = λ k p n brick x is. absurd (let never : None ≡ Some (End p n (Aborted (Cause.Later brick x))) = is in cc);
+  full_aborts = λ k p n brick live is. absurd (let never : None ≡ Some (End p n (Aborted (Cause.Full brick live))) = is in cc);
 }
 
 -- every run keeps the history of replies, where each of its worlds has its books and its messages show what they should

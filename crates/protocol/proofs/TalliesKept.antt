@@ -22,7 +22,7 @@ use Rattle.protocol.specs.Worlds.{World, Operation, number_of, known_in}
 use Rattle.protocol.specs.Laws.{WasSent, WriteSent, OrderSent, AskedAt, IsLastRound, Evidence}
 use Rattle.protocol.proofs.Books.{Replies, Books, IsCall}
 use Rattle.protocol.proofs.Lives.{ended_not_open}
-use Rattle.protocol.proofs.Tallies.{CallTallied, CountedSent, AbortShown, DescentSent, Tallied, MessagesShow, Furthers}
+use Rattle.protocol.proofs.Tallies.{CallTallied, CountedSent, AbortShown, FullAbortShown, DescentSent, Tallied, MessagesShow, Furthers}
 
 -- an operation whose replies stay
 pub call_tallied_on : (replies later : Replies) (n m : ℕ) (c : Coordinator) → m ≡ n → ((p : ℕ) → later n p ≡ replies n p)
@@ -63,6 +63,21 @@ module _ (w next : World) (on : Furthers w next) where
           was.2.2,
           subst (λ (b : BrickId). WasSent next (record { from = x.brick; to = b; message = Message.Reply call x.reply })) (sym goes.2)
               (on.sent (record { from = x.brick; to = was.0.brick; message = Message.Reply call x.reply }) was.2.3),
+        ),
+      )
+
+  -- what an abort for a full store shows stays
+  full_on : (n : ℕ) (brick : BrickId) (live : ℕ) → FullAbortShown w n brick live → FullAbortShown next n brick live
+  full_on n brick live was =
+      let goes = on.operations n was.0 was.1 in
+      let call : Call = was.2.0 in (
+        goes.0,
+        goes.1,
+        (
+          call,
+          (was.2.1.0 ∙ sym goes.3, was.2.1.1 ∙ sym goes.4),
+          subst (λ (b : BrickId). WasSent next (record { from = brick; to = b; message = Message.Reply call (Reply.Full live) })) (sym goes.2)
+              (on.sent (record { from = brick; to = was.0.brick; message = Message.Reply call (Reply.Full live) }) was.2.2),
         ),
       )
 
@@ -140,8 +155,10 @@ pub tallied_on : (setting : Setting) (w next : World) → Books setting w → Ta
     → (slice_get (w.replies n phase) k ≡ Some x) ⊎ CountedSent next n phase x)
     → ((k p n : ℕ) (brick : BrickId) (x : Stamp) → slice_get next.marks k ≡ Some (End p n (Aborted (Cause.Later brick x)))
     → (slice_get w.marks k ≡ Some (End p n (Aborted (Cause.Later brick x)))) ⊎ AbortShown next n brick x)
+    → ((k p n : ℕ) (brick : BrickId) (live : ℕ) → slice_get next.marks k ≡ Some (End p n (Aborted (Cause.Full brick live)))
+    → (slice_get w.marks k ≡ Some (End p n (Aborted (Cause.Full brick live)))) ⊎ FullAbortShown next n brick live)
     → Tallied next
-tallied_on setting w next books tallied shows on calls unbegun counted aborts = record {
+tallied_on setting w next books tallied shows on calls unbegun counted aborts full_aborts = record {
   calls = calls;
   unbegun = unbegun;
   counted = λ n phase k x is. ⊎_elim
@@ -160,4 +177,9 @@ tallied_on setting w next books tallied shows on calls unbegun counted aborts = 
       (on.replies n))
       (λ (new : AbortShown next n brick x). new)
       (aborts k p n brick x is);
+  full_aborts = λ k p n brick live is. ⊎_elim
+      (λ (old : slice_get w.marks k ≡ Some (End p n (Aborted (Cause.Full brick live)))).
+      full_on w next on n brick live (tallied.full_aborts k p n brick live old))
+      (λ (new : FullAbortShown next n brick live). new)
+      (full_aborts k p n brick live is);
 }
