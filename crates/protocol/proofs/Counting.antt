@@ -271,9 +271,10 @@ refuser_counted P (x ∷ counted) r each is =
 -- of two members whose stores are full one has the lower seat
 lower_one : (a b : FullMember) → (lower_full (Some a) (Some b) ≡ Some a) ⊎ (lower_full (Some a) (Some b) ≡ Some b)
 lower_one a b =
-    cond_both (nat_lt b.seat a.seat) (Some b) (Some a) (λ (z : Option FullMember). (z ≡ Some a) ⊎ (z ≡ Some b)) (λ less. inr refl) (λ isnt. inl refl)
+    cond_both (nat_lt b.seat a.seat) (Some b) (Some a) (λ (z : Option FullMember). (z ≡ Some a) ⊎ (z ≡ Some b))
+    (λ less. inr refl) (λ isnt. inl refl)
 
--- no reply tells that a store is full where none is the lowest
+-- neither of two tells that a store is full where none is the lowest
 no_full : (a b : Option FullMember) → lower_full a b ≡ None → (a ≡ None) × (b ≡ None)
 no_full None b is = (refl, is)
 no_full (Some a) None is = cc
@@ -282,6 +283,7 @@ no_full (Some a) (Some b) is =
     (λ (other : lower_full (Some a) (Some b) ≡ Some b). let e : Some b ≡ None = sym other ∙ is in cc)
     (lower_one a b)
 
+-- no reply tells that a store is full where none is the lowest
 pub none_full : (counted : List Counted) → lowest_full counted ≡ None → EachCounted (λ x. full_member_of x ≡ None) counted
 none_full [] is = tt
 none_full (x ∷ counted) is =

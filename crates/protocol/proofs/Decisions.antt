@@ -250,8 +250,8 @@ module _ (setting : Setting) (sound : IsSound setting) (w : World) (stamps : Sta
       let answers : answers_phase setting.layout.block c.stamp Orders x.reply ≡ true
       = subst (λ (p : Phase). answers_phase setting.layout.block c.stamp p x.reply ≡ true) orders says.answers in
       let told : OrderedSays w stamps x.brick.0 me.0 c.call
-      = subst (λ (r : Reply). ReplySays setting w stamps x.brick (record { 0 = me.0 }) c.call r) (order_answered setting.layout.block c.stamp x answers allows)
-      (counted_says x says) in
+      = subst (λ (r : Reply). ReplySays setting w stamps x.brick (record { 0 = me.0 }) c.call r)
+      (order_answered setting.layout.block c.stamp x answers allows) (counted_says x says) in
       promises_at x says told.operation told.stamp told.called
       (begun_once stamps me.0 c.call.boot c.call.seq c.call.phase Orders c.phase told.stamp c.stamp told.stamp_is its_begun).1
       told.promised told.floor
@@ -268,8 +268,8 @@ module _ (setting : Setting) (sound : IsSound setting) (w : World) (stamps : Sta
       let answers : answers_phase setting.layout.block c.stamp Stores x.reply ≡ true
       = subst (λ (p : Phase). answers_phase setting.layout.block c.stamp p x.reply ≡ true) stores says.answers in
       let told : ReplySays setting w stamps x.brick (record { 0 = me.0 }) c.call Reply.Stored
-      = subst (λ (r : Reply). ReplySays setting w stamps x.brick (record { 0 = me.0 }) c.call r) (write_answered setting.layout.block c.stamp x answers allows)
-      (counted_says x says) in
+      = subst (λ (r : Reply). ReplySays setting w stamps x.brick (record { 0 = me.0 }) c.call r)
+      (write_answered setting.layout.block c.stamp x answers allows) (counted_says x says) in
       let writes : WriteSays setting w stamps me.0 x.brick.0 c.call told.0 told.1
       = said.packets told.2.0 (record { from = record { 0 = me.0 }; to = x.brick; message = Message.Request c.call (Request.Write told.0 told.1) }) told.2.1 in
       let same : told.0 ≡ c.stamp

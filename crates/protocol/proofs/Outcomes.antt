@@ -12,7 +12,7 @@ use Rattle.fab_base.specs.declared.answers.Answer.TheVariants.{Data, Done, Abort
 use Rattle.fab_base.specs.declared.answers.Cause.{Cause}
 use Rattle.fab_wire.specs.declared.calls.Call.{Call}
 use Rattle.protocol.specs.Settings.{Group, Code, quorum_of}
-use Rattle.protocol.specs.Coordinators.{Phase, Looks, Orders, Recovers, Descends, Stores, Counted, Coordinator, Refuser, FullMember, Next, Ignores, Waits, Sends, Makes, Ends, next_phase, in_phase, restoring, reordering, forgetting, most_rounds, aborted_by, aborted_full, unless_told_full, ordered_again, once_ordered, unless_refused, answered_fast, read_back, answer_of, pieces_at, greatest_refuser, lowest_full, greatest_found, fast_version, decided, once_full}
+use Rattle.protocol.specs.Coordinators.{Phase, Looks, Orders, Recovers, Descends, Stores, Counted, Coordinator, Refuser, FullMember, Next, Ignores, Waits, Sends, Makes, Ends, next_phase, in_phase, restoring, reordering, forgetting, most_rounds, aborted_by, unless_told_full, ordered_again, once_ordered, unless_refused, answered_fast, read_back, answer_of, pieces_at, greatest_refuser, lowest_full, greatest_found, fast_version, decided, once_full}
 use Rattle.protocol.specs.Worlds.{is_answer}
 
 -- the coordinator of the same operation, under the same call
@@ -248,8 +248,8 @@ module _ (ask : Ask) (stamp : Stamp) (round : ℕ) (base : Option Stamp) (conten
       (abort_ends phase (Cause.Later r.brick r.stamp), record { seat = r.seat; refused = refused; last = last })
 
   -- a member whose store is full aborts any phase
-  unless_told_fits : (fresh : Option Stamp) (phase : Phase) (next : Next) (f : Option FullMember) → lowest_full counted ≡ f → NextFits fresh (within phase) next
-      → NextFits fresh (within phase) (unless_told_full f next)
+  unless_told_fits : (fresh : Option Stamp) (phase : Phase) (next : Next) (f : Option FullMember) → lowest_full counted ≡ f
+      → NextFits fresh (within phase) next → NextFits fresh (within phase) (unless_told_full f next)
   unless_told_fits fresh phase next None none fits = fits
   unless_told_fits fresh phase next (Some f) told fits = (abort_ends phase (Cause.Full f.brick f.live), record { seat = f.seat; told = told })
 

@@ -118,47 +118,46 @@ pub record HasWritten (replica : Replica) (request : Request) (next : Replica) :
 abbrev pub IsAfter : Replica → Request → Replica → Type 0
 IsAfter replica request next = (next ≡ replica) ⊎ (HasPromised replica request next ⊎ HasWritten replica request next)
 
--- a change is made, or is refused where the store is full
-pub unless_full_cases : (P : Reaction → Type 0) (full : Option ℕ) (replica : Replica) (reaction : Reaction)
-    → ((live : ℕ) → full ≡ Some live → P (stays replica (Full live))) → P reaction → P (unless_full full replica reaction)
-unless_full_cases P None replica reaction refused made = made
-unless_full_cases P (Some live) replica reaction refused made =
-    cond_both reaction.adds (stays replica (Full live)) reaction P (λ more. refused live refl) (λ same. made)
+-- below the top nothing changes; else the change is made, or is refused where the store is full
+change_cases : (P : Reaction → Type 0) (full : Option ℕ) (replica : Replica) (t : Stamp) (reaction : Reaction)
+    → (stamp_below t (top_of replica) ≡ true → P (stays replica (Later (top_of replica))))
+    → ((live : ℕ) → full ≡ Some live → P (stays replica (Full live)))
+    → (stamp_below t (top_of replica) ≡ false → P reaction)
+    → P (cond (stamp_below t (top_of replica)) (stays replica (Later (top_of replica))) (unless_full full replica reaction))
+change_cases P full replica t reaction later refused made =
+    cond_both (stamp_below t (top_of replica)) (stays replica (Later (top_of replica))) (unless_full full replica reaction) P later
+    (λ at. with_room full refused (made at))
+  where
+    with_room : (f : Option ℕ) → ((live : ℕ) → f ≡ Some live → P (stays replica (Full live))) → P reaction → P (unless_full f replica reaction)
+    with_room None refused made = made
+    with_room (Some live) refused made =
+        cond_both reaction.adds (stays replica (Full live)) reaction P (λ more. refused live refl) (λ same. made)
 
+-- the part after each kind of request
 ordered_after : (full : Option ℕ) (replica : Replica) (t : Stamp) → IsAfter replica (Order t) (ordered full replica t).replica
 ordered_after full replica t =
-    cond_both (stamp_below t (top_of replica)) (stays replica (Later (top_of replica))) (unless_full full replica (promised replica t Ordered))
-    (λ (z : Reaction). IsAfter replica (Order t) z.replica)
-    (λ below. inl refl)
-    (λ at. unless_full_cases (λ (z : Reaction). IsAfter replica (Order t) z.replica) full replica (promised replica t Ordered)
-    (λ live is. inl refl)
-    (inr (inl (record { stamp = t; request_is = inl refl; above = at; next_is = refl }))))
+    change_cases (λ (z : Reaction). IsAfter replica (Order t) z.replica) full replica t (promised replica t Ordered)
+    (λ below. inl refl) (λ live is. inl refl)
+    (λ at. inr (inl (record { stamp = t; request_is = inl refl; above = at; next_is = refl })))
 
 order_read_after : (full : Option ℕ) (replica : Replica) (t : Stamp) (look : Look) (want : Want) (wanted : Bool)
     → IsAfter replica (OrderRead t look want) (order_read full replica t look wanted).replica
 order_read_after full replica t look want wanted =
-    let found : Reply = OrderedRead (told_version wanted (looked_up look replica.log)) in
-    cond_both (stamp_below t (top_of replica)) (stays replica (Later (top_of replica))) (unless_full full replica (promised replica t found))
-    (λ (z : Reaction). IsAfter replica (OrderRead t look want) z.replica)
-    (λ below. inl refl)
-    (λ at. unless_full_cases (λ (z : Reaction). IsAfter replica (OrderRead t look want) z.replica) full replica (promised replica t found)
-    (λ live is. inl refl)
-    (inr (inl (record { stamp = t; request_is = inr (look, want, refl); above = at; next_is = refl }))))
+    change_cases (λ (z : Reaction). IsAfter replica (OrderRead t look want) z.replica) full replica t
+    (promised replica t (OrderedRead (told_version wanted (looked_up look replica.log))))
+    (λ below. inl refl) (λ live is. inl refl)
+    (λ at. inr (inl (record { stamp = t; request_is = inr (look, want, refl); above = at; next_is = refl })))
 
 written_after : (full : Option ℕ) (replica : Replica) (t : Stamp) (block : List ℕ)
     → IsAfter replica (Write t block) (written full replica t block).replica
 written_after full replica t block =
-    cond_both (is_held t replica.log) (stays replica Stored)
-    (cond (stamp_below t (top_of replica)) (stays replica (Later (top_of replica))) (unless_full full replica (stored replica t block)))
-    (λ (z : Reaction). IsAfter replica (Write t block) z.replica)
+    cond_both (is_held t replica.log) (stays replica Stored) _ (λ (z : Reaction). IsAfter replica (Write t block) z.replica)
     (λ held. inl refl)
-    (λ isnt. cond_both (stamp_below t (top_of replica)) (stays replica (Later (top_of replica))) (unless_full full replica (stored replica t block))
-    (λ (z : Reaction). IsAfter replica (Write t block) z.replica)
-    (λ below. inl refl)
-    (λ at. unless_full_cases (λ (z : Reaction). IsAfter replica (Write t block) z.replica) full replica (stored replica t block)
-    (λ live is. inl refl)
-    (inr (inr (record { stamp = t; block = block; request_is = refl; above = at; next_is = refl })))))
+    (λ isnt. change_cases (λ (z : Reaction). IsAfter replica (Write t block) z.replica) full replica t (stored replica t block)
+    (λ below. inl refl) (λ live is. inl refl)
+    (λ at. inr (inr (record { stamp = t; block = block; request_is = refl; above = at; next_is = refl }))))
 
+-- the part after a request
 pub handle_after : (full : Option ℕ) (seat : ℕ) (replica : Replica) (request : Request)
     → IsAfter replica request (handle full seat replica request).replica
 unfolding handle
@@ -182,7 +181,7 @@ FoundBelow replica request next found t =
     (look : Look) × (want : Want) × (request ≡ OrderRead t look want) × (stamp_below t (top_of replica) ≡ false) × (next ≡ with_order replica t)
     × ((bound : Stamp) → look ≡ Below bound → want ≡ All → found ≡ newest_of (below bound replica.log))
 
--- what a member's reply tells of its part before and after the request, and of how many live records it has where those are as many as it may
+-- What a member's reply tells of its part before and after the request, and of how many live records it keeps, where those are as many as it may.
 abbrev pub ReactionSays : Option ℕ → Replica → Request → Replica → Reply → Type 0
 ReactionSays full replica request next (Found order (Some version)) =
     (want : Want) × (request ≡ Read want) × (want ≡ All → newest_of replica.log ≡ Some version) × (order ≡ replica.order) × (next ≡ replica)
@@ -212,15 +211,13 @@ held_kept t (x ∷ log) more held = ⊎_elim
     (λ (there : is_held t log ≡ true). or_right (stamp_same x.stamp t) (is_held t (log ++ more)) (held_kept t log more there))
     (or_cases (stamp_same x.stamp t) (is_held t log) held)
 
+-- what each kind of reply tells
 ordered_says : (full : Option ℕ) (replica : Replica) (t : Stamp)
     → SaysIf full replica (Order t) (ordered full replica t).replica (ordered full replica t).reply
 ordered_says full replica t =
-    cond_both (stamp_below t (top_of replica)) (stays replica (Later (top_of replica))) (unless_full full replica (promised replica t Ordered))
-    (λ (z : Reaction). SaysIf full replica (Order t) z.replica z.reply)
-    (λ below. (t, inl (inl refl), below))
-    (λ at. unless_full_cases (λ (z : Reaction). SaysIf full replica (Order t) z.replica z.reply) full replica (promised replica t Ordered)
-    (λ live is. is)
-    (t, refl, at, top_promised replica t at))
+    change_cases (λ (z : Reaction). SaysIf full replica (Order t) z.replica z.reply) full replica t (promised replica t Ordered)
+    (λ below. (t, inl (inl refl), below)) (λ live is. is)
+    (λ at. (t, refl, at, top_promised replica t at))
 
 -- what is told where all is wanted is all that is there
 told_true : (o : Option Version) → told_version true o ≡ o
@@ -231,13 +228,10 @@ order_read_says : (full : Option ℕ) (replica : Replica) (t : Stamp) (look : Lo
     → SaysIf full replica (OrderRead t look want) (order_read full replica t look (is_wanted want seat)).replica
     (order_read full replica t look (is_wanted want seat)).reply
 order_read_says full replica t look want seat =
-    let found : Reply = OrderedRead (told_version (is_wanted want seat) (looked_up look replica.log)) in
-    cond_both (stamp_below t (top_of replica)) (stays replica (Later (top_of replica))) (unless_full full replica (promised replica t found))
-    (λ (z : Reaction). SaysIf full replica (OrderRead t look want) z.replica z.reply)
-    (λ under. (t, inl (inr (look, want, refl)), under))
-    (λ at. unless_full_cases (λ (z : Reaction). SaysIf full replica (OrderRead t look want) z.replica z.reply) full replica (promised replica t found)
-    (λ live is. is)
-    (
+    change_cases (λ (z : Reaction). SaysIf full replica (OrderRead t look want) z.replica z.reply) full replica t
+    (promised replica t (OrderedRead (told_version (is_wanted want seat) (looked_up look replica.log))))
+    (λ under. (t, inl (inr (look, want, refl)), under)) (λ live is. is)
+    (λ at. (
       t,
       (
         look,
@@ -254,16 +248,11 @@ order_read_says full replica t look want seat =
 written_says : (full : Option ℕ) (replica : Replica) (t : Stamp) (block : List ℕ)
     → SaysIf full replica (Write t block) (written full replica t block).replica (written full replica t block).reply
 written_says full replica t block =
-    cond_both (is_held t replica.log) (stays replica Stored)
-    (cond (stamp_below t (top_of replica)) (stays replica (Later (top_of replica))) (unless_full full replica (stored replica t block)))
-    (λ (z : Reaction). SaysIf full replica (Write t block) z.replica z.reply)
+    cond_both (is_held t replica.log) (stays replica Stored) _ (λ (z : Reaction). SaysIf full replica (Write t block) z.replica z.reply)
     (λ held. (t, block, refl, held))
-    (λ isnt. cond_both (stamp_below t (top_of replica)) (stays replica (Later (top_of replica))) (unless_full full replica (stored replica t block))
-    (λ (z : Reaction). SaysIf full replica (Write t block) z.replica z.reply)
-    (λ below. (t, inr (block, refl), below))
-    (λ at. unless_full_cases (λ (z : Reaction). SaysIf full replica (Write t block) z.replica z.reply) full replica (stored replica t block)
-    (λ live is. is)
-    (t, block, refl, held_grown replica.log (record { stamp = t; block = block }))))
+    (λ isnt. change_cases (λ (z : Reaction). SaysIf full replica (Write t block) z.replica z.reply) full replica t (stored replica t block)
+    (λ below. (t, inr (block, refl), below)) (λ live is. is)
+    (λ at. (t, block, refl, held_grown replica.log (record { stamp = t; block = block }))))
 
 -- what is told where all is wanted
 told_all : (full : Option ℕ) (replica : Replica) (want : Want) (seat : ℕ) (newest : Option Version) → newest_of replica.log ≡ newest
@@ -277,6 +266,7 @@ told_all full replica (Seat k) seat (Some version) is =
     told_some false = (Seat k, refl, (λ e. cc), refl, refl)
 told_all full replica All seat (Some version) is = (All, refl, (λ e. is), refl, refl)
 
+-- what the reply to a request tells
 pub handle_says : (full : Option ℕ) (seat : ℕ) (replica : Replica) (request : Request)
     → SaysIf full replica request (handle full seat replica request).replica (handle full seat replica request).reply
 unfolding handle

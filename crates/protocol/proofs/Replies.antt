@@ -16,7 +16,7 @@ use Rattle.fab_wire.specs.declared.messages.Message.TheVariants as Message
 use Rattle.fab_wire.specs.declared.replies.Reply.{Reply}
 use Rattle.protocol.specs.Settings.{Setting, Code, Group, group_of, quorum_of, IsSound, seat_in}
 use Rattle.protocol.specs.Replicas.{is_held}
-use Rattle.protocol.specs.Coordinators.{Coordinator, Refuser, FullMember, Phase, Looks, Orders, Recovers, Descends, Stores, Next, Waits, Sends, Makes, Ends, answers_phase, has_seat, counts_at, fast_version, pieces_of, pieces_at, greatest_found, greatest_refuser, lowest_full, stored_by, in_phase, restoring, reordering, most_rounds, aborted_by, aborted_full, unless_told_full, unless_refused, ordered_again, once_ordered, answered_fast, read_back, answer_of, decided, with_reply, once_full, counted_at, on_reply, request_of}
+use Rattle.protocol.specs.Coordinators.{Coordinator, Refuser, FullMember, Phase, Looks, Orders, Recovers, Descends, Stores, Next, Waits, Sends, Makes, Ends, answers_phase, has_seat, counts_at, fast_version, pieces_of, pieces_at, greatest_found, greatest_refuser, lowest_full, stored_by, in_phase, restoring, reordering, most_rounds, aborted_by, unless_told_full, unless_refused, ordered_again, once_ordered, answered_fast, read_back, answer_of, decided, with_reply, once_full, counted_at, on_reply, request_of}
 use Rattle.protocol.specs.Nodes.{Node, with_known, with_call, carried_out}
 use Rattle.protocol.specs.Worlds.{World, Operation, number_of, world_stepped}
 use Rattle.protocol.specs.Laws.{WasSent, part_of, brick_at, AtQuorum, IsGuarded, IsBlocked}
@@ -57,22 +57,26 @@ unfolding decided
 decided_looks code m fresh c is = rw is
 
 decided_orders : (code : Code) (m : ℕ) (fresh : Option Stamp) (c : Coordinator) → c.phase ≡ Orders
-    → decided code m fresh c ≡ unless_told_full (lowest_full c.counted) (once_ordered fresh c (greatest_refuser c.counted) (Makes (in_phase c Stores)))
+    → decided code m fresh c ≡ unless_told_full (lowest_full c.counted)
+    (once_ordered fresh c (greatest_refuser c.counted) (Makes (in_phase c Stores)))
 unfolding decided
 decided_orders code m fresh c is = rw is
 
 decided_recovers : (code : Code) (m : ℕ) (fresh : Option Stamp) (c : Coordinator) → c.phase ≡ Recovers
-    → decided code m fresh c ≡ unless_told_full (lowest_full c.counted) (once_ordered fresh c (greatest_refuser c.counted) (read_back code m c (greatest_found c.counted)))
+    → decided code m fresh c ≡ unless_told_full (lowest_full c.counted)
+    (once_ordered fresh c (greatest_refuser c.counted) (read_back code m c (greatest_found c.counted)))
 unfolding decided
 decided_recovers code m fresh c is = rw is
 
 decided_descends : (code : Code) (m : ℕ) (fresh : Option Stamp) (bound : Stamp) (c : Coordinator) → c.phase ≡ Descends bound
-    → decided code m fresh c ≡ unless_told_full (lowest_full c.counted) (unless_refused (greatest_refuser c.counted) (read_back code m c (greatest_found c.counted)))
+    → decided code m fresh c ≡ unless_told_full (lowest_full c.counted)
+    (unless_refused (greatest_refuser c.counted) (read_back code m c (greatest_found c.counted)))
 unfolding decided
 decided_descends code m fresh bound c is = rw is
 
 decided_stores : (code : Code) (m : ℕ) (fresh : Option Stamp) (c : Coordinator) → c.phase ≡ Stores
-    → decided code m fresh c ≡ unless_told_full (lowest_full c.counted) (unless_refused (greatest_refuser c.counted) (Ends (answer_of c.ask.op c.content) None (Some c.stamp)))
+    → decided code m fresh c ≡ unless_told_full (lowest_full c.counted)
+    (unless_refused (greatest_refuser c.counted) (Ends (answer_of c.ask.op c.content) None (Some c.stamp)))
 unfolding decided
 decided_stores code m fresh c is = rw is
 
@@ -276,7 +280,7 @@ module _ (setting : Setting) (sound : IsSound setting) (w : World) (stamps : Sta
 
       -- a recovery that no reply refused reads back what it found
       module _ (bound : Stamp) (looks : LooksBelow c bound) (none : greatest_refuser d.counted ≡ None) (roomy : lowest_full d.counted ≡ None)
-          (reads : c.ask.op ≡ ReadStripe)          (unmade : IsUnmade o) where
+          (reads : c.ask.op ≡ ReadStripe) (unmade : IsUnmade o) where
         all : EachCounted (ReadsAt setting sound w stamps me c group books said is group_is d.counted each once many bound) d.counted
         all = all_read setting sound w stamps me c group books said is group_is d.counted each once many bound looks none roomy
 

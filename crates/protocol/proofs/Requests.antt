@@ -48,7 +48,8 @@ request_each P setting me from node call request ignored handled = in_group (gro
     in_group None = ignored
     in_group (Some group) =
         cond_both (is_served group call && fits_block setting.layout.block request)
-        (requested_at setting.layout.records me from node call request (seat_in group.members me.0)) (no_step node) P (λ is. at_seat (seat_in group.members me.0)) (λ isnt. ignored)
+        (requested_at setting.layout.records me from node call request (seat_in group.members me.0)) (no_step node) P
+        (λ is. at_seat (seat_in group.members me.0)) (λ isnt. ignored)
 
 -- what holds of the changed part, and of each part as it was
 pub parts_each : (Q : ℕ → ℕ → Replica → Type 0) (node : Node) (call : Call) (reaction : Reaction) → Q call.group.0 call.stripe.0 reaction.replica
@@ -75,7 +76,8 @@ parts_keep node call request reaction after = record {
 }
 
 -- the changed part
-pub part_now : (node : Node) (call : Call) (reaction : Reaction) → (with_replica node call reaction).replicas call.group.0 call.stripe.0 ≡ reaction.replica
+pub part_now : (node : Node) (call : Call) (reaction : Reaction)
+    → (with_replica node call reaction).replicas call.group.0 call.stripe.0 ≡ reaction.replica
 part_now node call reaction =
     ap (λ row. row call.stripe.0) (put_same node.replicas call.group.0 (put (node.replicas call.group.0) call.stripe.0 reaction.replica))
     ∙ put_same (node.replicas call.group.0) call.stripe.0 reaction.replica

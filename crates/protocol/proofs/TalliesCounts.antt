@@ -334,7 +334,8 @@ module _ (setting : Setting) (group : Group) (w : World) (me : BrickId) (now kno
         (
           c.call,
           (mine.call_boot ∙ sym mine.boot ∙ sym goes.3, sym mine.seq ∙ sym goes.4),
-          subst (λ (b : BrickId). WasSent (after (Ends answer seen stored)) (record { from = brick; to = b; message = Message.Reply c.call (Reply.Full live) }))
+          subst (λ (b : BrickId).
+              WasSent (after (Ends answer seen stored)) (record { from = brick; to = b; message = Message.Reply c.call (Reply.Full live) }))
               (me_is ∙ sym goes.2)
               (on.sent (record { from = brick; to = me; message = Message.Reply c.call (Reply.Full live) }) told),
         ),

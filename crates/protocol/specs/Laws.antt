@@ -171,13 +171,13 @@ AbortsShow w =
     (k p n : ℕ) (brick : BrickId) (x : Stamp) → slice_get w.marks k ≡ Some (End p n (Aborted (Cause.Later brick x)))
     → (o : Operation) × (w.operations n ≡ Some o) × Evidence w n o brick x
 
--- a member says that its store is full only where it keeps as many live records as it may
+-- a member says that its store is full only with as many live records as a brick may keep
 abbrev pub FullIsFull : Setting → World → Type 0
 FullIsFull setting w =
     (call : Call) (from to : BrickId) (live : ℕ) → WasSent w (record { from = from; to = to; message = Message.Reply call (Reply.Full live) })
     → live ≡ setting.layout.records
 
--- every abort for a full store shows that its brick told so, in a phase of this very operation
+-- every abort for a full store shows that its brick told so, with that many live records, in a phase of this very operation
 abbrev pub FullAbortsShow : World → Type 0
 FullAbortsShow w =
     (k p n : ℕ) (brick : BrickId) (live : ℕ) → slice_get w.marks k ≡ Some (End p n (Aborted (Cause.Full brick live)))

@@ -20,9 +20,13 @@ ghost use Rattle.protocol.specs.Laws.{EveryRunKeepsTheLaws, NeverSurfaces, NoEve
 ///   two, or ever will (Frølund et al., DSN 2004).
 /// - Of two neighbours among the versions that take effect, the upper was written whole, or was made on the lower.
 /// - Each reply that counted in a phase of an operation was sent to its coordinator, as a reply to that phase.
-/// - An operation is aborted only where a member had told its coordinator of a later stamp than the one that it was asked at, and
-///   no reply that counted in that phase told a greater one. A round of ordering, of which an operation has four at most, aborts
-///   only where it is the last: the three rounds before it had each counted a later stamp, or its coordinator knows no later time.
+/// - An operation is aborted for a later stamp only where a member had told its coordinator of a later stamp than the one that it
+///   was asked at, and no reply that counted in that phase told a greater one. A round of ordering, of which an operation has
+///   four at most, aborts only where it is the last: the three rounds before it had each counted a later stamp, or its
+///   coordinator knows no later time.
+/// - A member says that its store is full only with as many live records as a brick may keep.
+/// - An operation is aborted for a full store only where that member had told its coordinator so, with that many live records,
+///   in a phase of this very operation.
 /// - Marks are well formed: positions and numbers rise, and only an operation that is open ends.
 pub fn every_run_keeps_the_laws()
     ensures { EveryRunKeepsTheLaws }
