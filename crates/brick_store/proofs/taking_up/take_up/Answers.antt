@@ -1,5 +1,5 @@
 -- What was read stands, and at each moment each image opens as it or was allowed before.
-use Rattle.std.proofs.Common.{◌≡◌, ◌+◌, ℕ, List, None, sym, subst, ◌∙◌, arith}
+use Rattle.std.proofs.Common.{◌≡◌, ◌+◌, ℕ, List, None, sym, ap, subst, ◌∙◌, arith}
 use Rattle.std.specs.Prelude.{replicate}
 use Rattle.std.proofs.lemmas.Grind.{common_steps}
 use Rattle.fab_disk.specs.Disk.{LeavesOnly}
@@ -59,3 +59,6 @@ returns-clause-standing g c =
 pub returns-clause-stored : goal.returns-clause-stored
 returns-clause-stored g c = λ told.
     subst (λ (x : StateOf Entry). AllSlots (IsStored c.args.frames.now.shape c.in_ok-loaded.loaded.blocks (g.D.Disk.seen c.args.frames.now.disk)) x) (sym c.in_ok-loaded.ensures.loaded.found) (c.in_ok-loaded.ensures.loaded.stored told)
+
+pub returns-clause-boots : goal.returns-clause-boots
+returns-clause-boots g c = λ ok. omega (arith, c.in_ok-loaded.ensures.loaded.boots, ap (λ (x : StateOf Entry). x.boot) c.in_ok-loaded.ensures.loaded.found)
