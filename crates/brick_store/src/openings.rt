@@ -6,6 +6,7 @@ ghost use Rattle.frame_store.specs.Layouts.{shape_of};
 ghost use Rattle.frame_store.specs.Images.{IsNoStore};
 ghost use Rattle.version_log.specs.Versions.{Version};
 ghost use Rattle.brick_state.specs.States.{StateOf, booted};
+ghost use Rattle.brick_store.specs.Calls.{MakesCalls};
 ghost use Rattle.brick_store.specs.Images.{IsFound, StandsFor, StandsForEither, LeavesState};
 ghost use Rattle.brick_store.specs.Openings.{IsAllowedOr};
 
@@ -17,6 +18,7 @@ use fab_disk::Disk;
 use std::alloc::Global;
 
 /// Opens the store that a disk holds for a brick: its count of openings is one greater, and nothing else is changed.
+/// It makes five calls of `write_at` and `sync`, and seven more where the list of frames ended early or is full.
 ///
 /// # Errors
 /// Each hands the disk back. [`StoreFault::NotAStore`]: neither header is open. [`StoreFault::Worn`]: the store was opened
@@ -42,6 +44,8 @@ pub fn open_store<D: Disk>(
     // Where all that it allowed opens as the state before, all opens as one of the two.
     ensures any_moment { IfOk result (λ store. D.tells → (st : StateOf Version) → LeavesState (shape_of me.0 block records) st (D.may_leave disk) → LeavesOnly D.moment D.left_since disk store.disk (StandsForEither (shape_of me.0 block records) st (booted (st.boot + 1) st))) }
     ensures any_moment_err { IfErr result (λ e. D.tells → (st : StateOf Version) → LeavesState (shape_of me.0 block records) st (D.may_leave disk) → LeavesOnly D.moment D.left_since disk e.1 (StandsForEither (shape_of me.0 block records) st (booted (st.boot + 1) st))) }
+    // So many calls of `write_at` and `sync`, or seven more where the list of frames was rewritten first.
+    ensures counted { IfOk result (λ store. D.tells → MakesCalls 5 (D.moment disk) (D.moment store.disk)) }
     ensures not_a_store { IfErr result (λ e. e.0 ≡ StoreFault.NotAStore → D.tells → IsNoStore (shape_of me.0 block records) (D.seen disk)) }
     // There was a store, and it was opened as often as it can be.
     ensures worn { IfErr result (λ e. e.0 ≡ StoreFault.Worn → D.tells → (st : StateOf Version) × IsFound (shape_of me.0 block records) st (D.seen disk) × (st.boot ≡ 2 ^ 32 - 1)) }

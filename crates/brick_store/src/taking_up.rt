@@ -6,6 +6,7 @@ ghost use Rattle.frame_store.specs.Layouts.{IsShape};
 ghost use Rattle.frame_store.specs.Stores.{IsRead};
 ghost use Rattle.brick_state.specs.States.{booted};
 ghost use Rattle.brick_state.specs.Indexes.{state_of};
+ghost use Rattle.brick_store.specs.Calls.{MakesCalls};
 ghost use Rattle.brick_store.specs.Standing.{AllSlots, IsStored, Standing};
 ghost use Rattle.brick_store.specs.Openings.{found_in, IsAllowedOr, IsKeptInEither};
 
@@ -53,6 +54,7 @@ pub(crate) fn take_up<D: Disk>(
     ensures not_halted { result ≢ Err StoreFault.Halted }
     ensures not_full { (n : ℕ) → result ≢ Err (StoreFault.Full n) }
     ensures a_store { D.tells → result ≢ Err StoreFault.NotAStore }
+    ensures counted { D.tells → IsOk result → MakesCalls 5 (D.moment frames.old.disk) (D.moment frames.new.disk) }
     ensures cause { Kept (D.faults frames.old.disk) (D.faults frames.new.disk) (D.sound frames.old.disk) (D.sound frames.new.disk) (result ≡ Err StoreFault.Disk) }
 {
     let zero = Bytes::from_vec(vec![in alloc; 0u8; block as usize]?);
