@@ -1,6 +1,6 @@
 -- A slot that no version names.
-use Rattle.std.proofs.Common.{◌≡◌, ◌≢◌, ℕ, zero, suc, ◌+◌, ◌<◌, ◌≤◌, Bool, true, false, cond, ltb, not, Some, None, List, [], ◌∷◌, length, map, drop, get_or, set, replicate, refl, sym, subst, ◌∙◌, arith}
-use Rattle.std.specs.List.{AllByRecursion, position, position_or_len}
+use Rattle.std.proofs.Common.{◌≡◌, ◌≢◌, ◌⊎◌, inl, inr, ⊎_elim, ℕ, zero, suc, ◌+◌, ◌<◌, ◌≤◌, Bool, true, false, cond, ltb, not, Some, None, List, [], ◌∷◌, length, map, drop, get_or, set, replicate, refl, sym, ap, subst, ◌∙◌, arith}
+use Rattle.std.specs.List.{AllByRecursion, Contains, position, position_or_len}
 use Rattle.std.specs.Map.{values_of}
 use Rattle.std.proofs.lemmas.Bool.Decides.{nat_tests}
 use Rattle.std.proofs.lemmas.List.{length-append, length-map, length-set, length-replicate}
@@ -82,7 +82,27 @@ unused_of flags (slot ∷ used) k h = (other, unused_of (set flags slot true) us
     other : slot ≡ k → ⊥
     other is = differ (sym (marked_keeps (set flags slot true) used k (subst (λ (n : ℕ). get_or (set flags slot true) n true ≡ true) is (set_here flags slot))) ∙ h)
 
--- the first flag that is not set is that of a free slot, and with fewer used slots than flags there is one
+-- only the flags of used slots are set
+set_only : (flags : List Bool) (i k : ℕ) → get_or (set flags i true) k false ≡ true → (i ≡ k) ⊎ (get_or flags k false ≡ true)
+set_only [] zero k h = inr h
+set_only [] (suc i) k h = inr h
+set_only (b ∷ flags) zero zero h = inl refl
+set_only (b ∷ flags) zero (suc k) h = inr h
+set_only (b ∷ flags) (suc i) zero h = inr h
+set_only (b ∷ flags) (suc i) (suc k) h = ⊎_elim (λ e. inl (ap suc e)) (λ e. inr e) (set_only flags i k h)
+
+used_of : (flags : List Bool) (used : List ℕ) (k : ℕ) → get_or (marked flags used) k false ≡ true → (get_or flags k false ≡ true) ⊎ Contains used k
+unfolding marked
+used_of flags [] k h = inl h
+used_of flags (slot ∷ used) k h = ⊎_elim (λ set. ⊎_elim (λ is. inr (0, omega arith, is)) (λ was. inl was) (set_only flags slot k set)) (λ more. inr (suc more.0, omega (arith, more.1), more.2)) (used_of (set flags slot true) used k h)
+
+none_set : (n k : ℕ) → get_or (replicate n false) k false ≡ false
+none_set zero zero = refl
+none_set zero (suc k) = refl
+none_set (suc n) zero = refl
+none_set (suc n) (suc k) = none_set n k
+
+-- the first flag that is not set is that of the least free slot, and with fewer used slots than flags there is one
 pub free_of : (slots : ℕ) (used : List ℕ) (i : ℕ) → position not (marked (replicate slots false) used) ≡ Some i → IsFree slots used i
 free_of slots used i h = by (ltb p (length flags)) refl h
   where
@@ -99,12 +119,28 @@ free_of slots used i h = by (ltb p (length flags)) refl h
     of_not false e = refl
     of_not true e = absurd cc
 
+    is_set : (b : Bool) → not b ≡ false → b ≡ true
+    is_set true e = refl
+    is_set false e = absurd cc
+
+    differ : true ≡ false → ⊥
+    differ e = cc
+
+    lower : (k : ℕ) → k < p → Contains used k
+    lower k before =
+        ⊎_elim (λ set. absurd (differ (sym set ∙ none_set slots k))) (λ more. more)
+        (used_of (replicate slots false) used k (is_set (get_or flags k false) (fails_before_first not flags k false before)))
+
     by : (b : Bool) → ltb p (length flags) ≡ b → cond b (Some p) None ≡ Some i → IsFree slots used i
     by false at is = absurd cc
     by true at is =
         let lt : p < length flags = grind (arith, nat_tests, at) in
         let same : p ≡ i = cc in
-        subst (λ (k : ℕ). IsFree slots used k) same (record { is_slot = omega (arith, lt, len); unused = unused_of (replicate slots false) used p (of_not (get_or flags p true) (passes_at_first not flags true lt)) })
+        subst (λ (k : ℕ). IsFree slots used k) same (record {
+          is_slot = omega (arith, lt, len);
+          unused = unused_of (replicate slots false) used p (of_not (get_or flags p true) (passes_at_first not flags true lt));
+          least = lower;
+        })
 
 pub some_free : (slots : ℕ) (used : List ℕ) → length used < slots → position not (marked (replicate slots false) used) ≡ None → ⊥
 some_free slots used few h = by (ltb p (length flags)) refl h

@@ -1,6 +1,6 @@
 -- The slots that the versions of a brick name.
 use Rattle.std.specs.Prelude.{◌≢◌, ℕ, ◌<◌, Bool, true, List, [], ◌∷◌, ◌++◌, map, slice_set}
-use Rattle.std.specs.List.{AllByRecursion}
+use Rattle.std.specs.List.{AllByRecursion, Contains}
 use Rattle.brick_state.specs.declared.stripes.Entry.{Entry}
 use Rattle.brick_state.specs.States.{Place, StripeOf, StateOf}
 
@@ -15,10 +15,11 @@ slots_in (e ∷ stripes) = map slot_of e.1.added ++ slots_in stripes
 abbrev pub slots_of : StateOf Entry → List ℕ
 slots_of st = slots_in st.stripes
 
--- the slot is one of so many, and none of these
+-- the slot is one of so many and none of these, and the least such one
 pub record IsFree (slots : ℕ) (used : List ℕ) (slot : ℕ) : Type 0 where
   pub is_slot : slot < slots
   pub unused : AllByRecursion (λ other. other ≢ slot) used
+  pub least : (other : ℕ) → other < slot → Contains used other
 
 -- the flags of these slots are set
 unfoldable pub marked : List Bool → List ℕ → List Bool

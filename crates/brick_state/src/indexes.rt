@@ -103,7 +103,7 @@ impl Index {
         Ok(made)
     }
 
-    /// A slot that no version names, where there are fewer live records than slots.
+    /// The least slot that no version names, where there are fewer live records than slots.
     pub fn free_slot(&self) -> Result<u32, NoMem>
         requires { live (state_of self.now) < (limits_of self.now).slots }
         ensures { IfOk result (λ slot. IsFree (limits_of self.now).slots (slots_of (state_of self.now)) slot) }

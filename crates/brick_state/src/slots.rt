@@ -29,7 +29,7 @@ fn put_entries(slots: &mut Vec<u32>, entries: &[Entry]) -> Result<(), NoMem>
     Ok(())
 }
 
-/// A slot that is none of the used ones, where these are fewer than there are slots.
+/// The least slot that is none of the used ones, where these are fewer than there are slots.
 pub fn first_free(alloc: Global, used: &[u32], slots: u32) -> Result<u32, NoMem>
     requires { length used.now < slots }
     ensures { IfOk result (λ slot. IsFree slots used.now slot) }

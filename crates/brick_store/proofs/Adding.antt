@@ -31,6 +31,7 @@ use Rattle.brick_store.specs.Bricks.{Brick, IsAnswer}
 use Rattle.brick_store.specs.Images.{limits_of, StandsFor}
 use Rattle.brick_store.specs.Standing.{AllSlots, IsCached, IsStored, GroupHasMembers, Standing}
 use Rattle.brick_store.specs.Steps.{changed, Step}
+use Rattle.brick_store.specs.Calls.{MakesRoomCalls, HasFrameRoom}
 use Rattle.brick_store.specs.Changes.{Changes}
 use Rattle.brick_store.proofs.Changed.{changed_to, not_full}
 use Rattle.brick_store.proofs.Changing.{brick_of, stands_for, stored_still, changes_tried, standing_after}
@@ -154,8 +155,9 @@ module _ {D : Type 0} (tells : Type 0) (seen : D → List ℕ) (may_leave : D �
       → Step tells seen may_leave moment left_since (Some (slot, bytes)) (state_of index) (changed (indexes.limits_of index) item (state_of index)) old new result
       → OnOk result (st_now ≡ changed (indexes.limits_of index) item (state_of index)) → OnErr result (st_now ≡ state_of index)
       → Kept (faults old.disk) (faults new.disk) (sound old.disk) (sound new.disk) (result ≡ Err Disk)
-      → Changes tells seen may_leave moment left_since faults sound (brick_of blocks old (state_of index)) (brick_of blocks new st_now) (resolved (cached old.shape.block blocks) next) true result
-  changes_put slot bytes blocks zero_block old new index item st_now next result standing runs free is slots small held unnamed step made not_made cause =
+      → (tells → OnOk result (MakesRoomCalls (HasFrameRoom old.shape old.frames) 5 (moment old.disk) (moment new.disk)))
+      → Changes tells seen may_leave moment left_since faults sound (brick_of blocks old (state_of index)) (brick_of blocks new st_now) (resolved (cached old.shape.block blocks) next) true 5 result
+  changes_put slot bytes blocks zero_block old new index item st_now next result standing runs free is slots small held unnamed step made not_made cause counted =
       let st = state_of index in
       let limits = indexes.limits_of index in
       let to = changed_to limits item st next is in
@@ -163,8 +165,8 @@ module _ {D : Type 0} (tells : Type 0) (seen : D → List ℕ) (may_leave : D �
       let made_next = subst (λ (n : StateOf Entry). OnOk result (st_now ≡ n)) to made in
       let records : limits.records ≡ old.shape.records = ap (λ (l : Limits). l.records) standing.indexed.limits_are in
       let before = stored_before slot bytes blocks zero_block old index standing runs unnamed in
-      changes_tried tells seen may_leave moment left_since faults sound (Some (slot, bytes)) blocks st next old new st_now true result runs (λ add at. not_full limits st free (at ∙ sym records))
-      before (λ told content kept put. slots (IsStored old.shape blocks content) (stored_here slot bytes blocks old.shape content small held put) (before told content kept)) step_next made_next not_made cause
+      changes_tried tells seen may_leave moment left_since faults sound (Some (slot, bytes)) blocks st next old new st_now true 5 result runs (λ add at. not_full limits st free (at ∙ sym records))
+      before (λ told content kept put. slots (IsStored old.shape blocks content) (stored_here slot bytes blocks old.shape content small held put) (before told content kept)) step_next made_next not_made cause counted
 
   -- and that the store stands after it
   pub standing_put : (slot : ℕ) (bytes : List ℕ) (blocks : BTreeMap ℕ (List ℕ)) (zero_block : List ℕ) (old new : Held D) (index index_now : Index) (item : Record) (next : StateOf Entry) (result : Result (Unit {0}) StoreFault)
@@ -188,10 +190,10 @@ module _ {D : Type 0} (tells : Type 0) (seen : D → List ℕ) (may_leave : D �
       (λ told content kept_slots put. slots (IsStored old.shape blocks content) (stored_here slot bytes blocks old.shape content small held put) (before told content kept_slots))
 
   -- a store of which a call was refused before it tried, for want of memory
-  pub changes_stopped : (only_now : (disk : D) (image : List ℕ) → left_since disk (moment disk) image → may_leave disk image) (blocks : BTreeMap ℕ (List ℕ)) (zero_block : List ℕ) (old : Held D) (index : Index) (after : StateOf Version)
+  pub changes_stopped : (only_now : (disk : D) (image : List ℕ) → left_since disk (moment disk) image → may_leave disk image) (blocks : BTreeMap ℕ (List ℕ)) (zero_block : List ℕ) (old : Held D) (index : Index) (after : StateOf Version) (calls : ℕ)
       → Standing tells seen may_leave old index blocks zero_block → old.halted ≡ false → is_full (indexes.limits_of index) (state_of index) ≡ false
-      → Changes tells seen may_leave moment left_since faults sound (brick_of blocks old (state_of index)) (brick_of blocks old (state_of index)) after true (Err NoMemory)
-  changes_stopped only_now blocks zero_block old index after standing running free = record {
+      → Changes tells seen may_leave moment left_since faults sound (brick_of blocks old (state_of index)) (brick_of blocks old (state_of index)) after true calls (Err NoMemory)
+  changes_stopped only_now blocks zero_block old index after calls standing running free = record {
     ok = tt;
     refused = record { shape = refl; state = refl };
     durable = λ told. tt;
@@ -203,6 +205,7 @@ module _ {D : Type 0} (tells : Type 0) (seen : D → List ℕ) (may_leave : D �
     answer = subst (λ n. IsAnswer old.shape.records n true old.halted old.halted (Err NoMemory)) (sym (live-resolved (cached old.shape.block blocks) (state_of index))) memory;
     no_call = λ other. record { content = refl; crash = λ image left. left; clock = refl; time = record { later = omega arith; nothing_else = λ t image le left. inl left; keeps = λ t image le past. past } };
     cause = record { later = omega arith; rose = λ bad. absurd cc; stays = λ here. here; never = λ here bad. absurd cc };
+    counted = λ told. tt;
   }
     where
       differ : true ≡ false → ⊥
@@ -220,10 +223,10 @@ module _ {D : Type 0} (tells : Type 0) (seen : D → List ℕ) (may_leave : D �
       }
 
   -- in the words of what a clause sees of the store
-  pub told_stopped : (only_now : (disk : D) (image : List ℕ) → left_since disk (moment disk) image → may_leave disk image) (blocks : BTreeMap ℕ (List ℕ)) (zero_block : List ℕ) (old : Held D) (index : Index) (b : Brick D) (after : StateOf Version) (fault : StoreFault)
+  pub told_stopped : (only_now : (disk : D) (image : List ℕ) → left_since disk (moment disk) image → may_leave disk image) (blocks : BTreeMap ℕ (List ℕ)) (zero_block : List ℕ) (old : Held D) (index : Index) (b : Brick D) (after : StateOf Version) (calls : ℕ) (fault : StoreFault)
       → brick_of blocks old (state_of index) ≡ b → fault ≡ NoMemory → Standing tells seen may_leave old index blocks zero_block → old.halted ≡ false → is_full (indexes.limits_of index) (state_of index) ≡ false
-      → Changes tells seen may_leave moment left_since faults sound b (brick_of blocks old (state_of index)) after true (Err fault)
-  told_stopped only_now blocks zero_block old index b after fault view memory standing runs free =
-      subst (λ (e : StoreFault). Changes tells seen may_leave moment left_since faults sound b (brick_of blocks old (state_of index)) after true (Err e)) (sym memory)
-      (subst (λ (x : Brick D). Changes tells seen may_leave moment left_since faults sound x (brick_of blocks old (state_of index)) after true (Err NoMemory)) view
-      (changes_stopped only_now blocks zero_block old index after standing runs free))
+      → Changes tells seen may_leave moment left_since faults sound b (brick_of blocks old (state_of index)) after true calls (Err fault)
+  told_stopped only_now blocks zero_block old index b after calls fault view memory standing runs free =
+      subst (λ (e : StoreFault). Changes tells seen may_leave moment left_since faults sound b (brick_of blocks old (state_of index)) after true calls (Err e)) (sym memory)
+      (subst (λ (x : Brick D). Changes tells seen may_leave moment left_since faults sound x (brick_of blocks old (state_of index)) after true calls (Err NoMemory)) view
+      (changes_stopped only_now blocks zero_block old index after calls standing runs free))

@@ -29,9 +29,11 @@ use Rattle.brick_store.specs.Bricks.{Brick, Keeps, IsAnswer, halted_after}
 use Rattle.brick_store.specs.Images.{records_of, limits_of, block_at, StandsFor, StandsForEither, LeavesState}
 use Rattle.brick_store.specs.Standing.{Leads, AllSlots, IsCached, IsStored, GroupHasMembers, IsIndexed, IsOnDisk, Standing}
 use Rattle.brick_store.specs.Steps.{changed, LeadsTo, IsMoment, IsSettled, IsMade, Step, IsRefused}
+use Rattle.brick_store.specs.Calls.{MakesRoomCalls, HasFrameRoom}
 use Rattle.brick_store.specs.Changes.{Changes}
 use Rattle.brick_state.proofs.Keeping.{applied_keeps}
 use Rattle.brick_store.proofs.Stepping.{refused}
+use Rattle.brick_store.proofs.Counting.{change_counted}
 use Rattle.brick_store.proofs.Changed.{changed_to, not_full}
 use Rattle.brick_store.proofs.Resolving.{resolved_same, slots_imply, live-resolved}
 
@@ -168,15 +170,16 @@ module _ {D : Type 0} (tells : Type 0) (seen : D → List ℕ) (may_leave : D �
       (λ there. inr (stands_for old.shape blocks next image there.0 (after image is.slots there.1))) is.opens
 
   -- what a step says of the whole call
-  pub changes_tried : (put : Option (ℕ × List ℕ)) (blocks : BTreeMap ℕ (List ℕ)) (st next : StateOf Entry) (old new : Held D) (st_now : StateOf Entry) (adds : Bool) (result : Result (Unit {0}) StoreFault)
+  pub changes_tried : (put : Option (ℕ × List ℕ)) (blocks : BTreeMap ℕ (List ℕ)) (st next : StateOf Entry) (old new : Held D) (st_now : StateOf Entry) (adds : Bool) (calls : ℕ) (result : Result (Unit {0}) StoreFault)
       → old.halted ≡ false → (adds ≡ true → live st ≢ old.shape.records)
       → (tells → (content : List ℕ) → KeepsSlots old.shape put (seen old.disk) content → AllSlots (IsStored old.shape blocks content) st)
       → (tells → (content : List ℕ) → KeepsSlots old.shape put (seen old.disk) content → StandsIn old.shape put content → AllSlots (IsStored old.shape blocks content) next)
       → Step tells seen may_leave moment left_since put st next old new result
       → OnOk result (st_now ≡ next) → OnErr result (st_now ≡ st)
       → Kept (faults old.disk) (faults new.disk) (sound old.disk) (sound new.disk) (result ≡ Err Disk)
-      → Changes tells seen may_leave moment left_since faults sound (brick_of blocks old st) (brick_of blocks new st_now) (resolved (cached old.shape.block blocks) next) adds result
-  changes_tried put blocks st next old new st_now adds result runs free before after step made not_made cause = record {
+      → (tells → OnOk result (MakesRoomCalls (HasFrameRoom old.shape old.frames) calls (moment old.disk) (moment new.disk)))
+      → Changes tells seen may_leave moment left_since faults sound (brick_of blocks old st) (brick_of blocks new st_now) (resolved (cached old.shape.block blocks) next) adds calls result
+  changes_tried put blocks st next old new st_now adds calls result runs free before after step made not_made cause counted = record {
     ok = keeps_ok result made;
     refused = keeps_err result not_made;
     durable = λ told. leaves result made step.made step.stands told;
@@ -186,6 +189,7 @@ module _ {D : Type 0} (tells : Type 0) (seen : D → List ℕ) (may_leave : D �
         (subst (λ n. IsAnswer old.shape.records n adds false new.halted result) (sym (live-resolved (cached old.shape.block blocks) st)) (tried_answer old.shape.records (live st) adds new.halted result free step.only step.halts));
     no_call = untouched result step.only step.no_memory;
     cause = cause;
+    counted = λ told. change_counted result (HasFrameRoom old.shape old.frames) calls (moment old.disk) (moment new.disk) (counted told);
   }
     where
       now_is : (s : StateOf Entry) → st_now ≡ s → resolved (cached new.shape.block blocks) st_now ≡ resolved (cached old.shape.block blocks) s
@@ -276,10 +280,10 @@ module _ {D : Type 0} (tells : Type 0) (seen : D → List ℕ) (may_leave : D �
           })
 
   -- a store of which a call was refused before it tried
-  pub changes_refused : (only_now : (disk : D) (image : List ℕ) → left_since disk (moment disk) image → may_leave disk image) (blocks : BTreeMap ℕ (List ℕ)) (zero_block : List ℕ) (old : Held D) (index : Index) (after : StateOf Version) (adds : Bool) (fault : StoreFault)
+  pub changes_refused : (only_now : (disk : D) (image : List ℕ) → left_since disk (moment disk) image → may_leave disk image) (blocks : BTreeMap ℕ (List ℕ)) (zero_block : List ℕ) (old : Held D) (index : Index) (after : StateOf Version) (adds : Bool) (calls : ℕ) (fault : StoreFault)
       → Standing tells seen may_leave old index blocks zero_block → IsRefused old.halted adds (indexes.limits_of index).records (live (state_of index)) (Err fault)
-      → Changes tells seen may_leave moment left_since faults sound (brick_of blocks old (state_of index)) (brick_of blocks old (state_of index)) after adds (Err fault)
-  changes_refused only_now blocks zero_block old index after adds fault standing is = record {
+      → Changes tells seen may_leave moment left_since faults sound (brick_of blocks old (state_of index)) (brick_of blocks old (state_of index)) after adds calls (Err fault)
+  changes_refused only_now blocks zero_block old index after adds calls fault standing is = record {
     ok = tt;
     refused = record { shape = refl; state = refl };
     durable = λ told. tt;
@@ -292,6 +296,7 @@ module _ {D : Type 0} (tells : Type 0) (seen : D → List ℕ) (may_leave : D �
         (refused_answer old.shape.records (live (state_of index)) adds old.halted fault (subst (λ (l : Limits). IsRefused old.halted adds l.records (live (state_of index)) (Err fault)) standing.indexed.limits_are is));
     no_call = λ other. record { content = refl; crash = λ image left. left; clock = refl; time = record { later = omega arith; nothing_else = λ t image le left. inl left; keeps = λ t image le past. past } };
     cause = record { later = omega arith; rose = λ bad. absurd (not_disk old.halted adds _ _ fault is bad); stays = λ here. here; never = λ here bad. not_disk old.halted adds _ _ fault is bad };
+    counted = λ told. tt;
   }
 
   -- what the record of a change that adds no block of its own says of the whole call
@@ -301,8 +306,9 @@ module _ {D : Type 0} (tells : Type 0) (seen : D → List ℕ) (may_leave : D �
       → Step tells seen may_leave moment left_since None (state_of index) (changed (indexes.limits_of index) item (state_of index)) old new result
       → OnOk result (st_now ≡ changed (indexes.limits_of index) item (state_of index)) → OnErr result (st_now ≡ state_of index)
       → Kept (faults old.disk) (faults new.disk) (sound old.disk) (sound new.disk) (result ≡ Err Disk)
-      → Changes tells seen may_leave moment left_since faults sound (brick_of blocks old (state_of index)) (brick_of blocks new st_now) (resolved (cached old.shape.block blocks) next) adds result
-  changes_plain blocks zero_block old new index item st_now next adds result standing runs free is slots step made not_made cause =
+      → (tells → OnOk result (MakesRoomCalls (HasFrameRoom old.shape old.frames) 4 (moment old.disk) (moment new.disk)))
+      → Changes tells seen may_leave moment left_since faults sound (brick_of blocks old (state_of index)) (brick_of blocks new st_now) (resolved (cached old.shape.block blocks) next) adds 4 result
+  changes_plain blocks zero_block old new index item st_now next adds result standing runs free is slots step made not_made cause counted =
       let st = state_of index in
       let limits = indexes.limits_of index in
       let to = changed_to limits item st next is in
@@ -310,8 +316,8 @@ module _ {D : Type 0} (tells : Type 0) (seen : D → List ℕ) (may_leave : D �
       let made_next = subst (λ (n : StateOf Entry). OnOk result (st_now ≡ n)) to made in
       let records : limits.records ≡ old.shape.records = ap (λ (l : Limits). l.records) standing.indexed.limits_are in
       let stored = stored_plain blocks zero_block old index standing runs in
-      changes_tried None blocks st next old new st_now adds result runs (λ add at. not_full limits st (free add) (at ∙ sym records))
-      stored (λ told content kept put. slots (IsStored old.shape blocks content) (inl refl) (stored told content kept)) step_next made_next not_made cause
+      changes_tried None blocks st next old new st_now adds 4 result runs (λ add at. not_full limits st (free add) (at ∙ sym records))
+      stored (λ told content kept put. slots (IsStored old.shape blocks content) (inl refl) (stored told content kept)) step_next made_next not_made cause counted
     where
       stored_plain : (bs : BTreeMap ℕ (List ℕ)) (z : List ℕ) (s : Held D) (ix : Index) → Standing tells seen may_leave s ix bs z → s.halted ≡ false
           → tells → (content : List ℕ) → KeepsSlots s.shape None (seen s.disk) content → AllSlots (IsStored s.shape bs content) (state_of ix)
@@ -339,21 +345,21 @@ module _ {D : Type 0} (tells : Type 0) (seen : D → List ℕ) (may_leave : D �
       (slots_imply (IsStored old.shape blocks (seen old.disk)) (IsStored old.shape blocks content) (λ slot. stored_still old.shape None blocks (seen old.disk) content kept_slots slot tt) st (standing.on_disk told runs).stored))
 
   -- in the words of what a clause sees of the store
-  pub told_of : (blocks : BTreeMap ℕ (List ℕ)) (old new : Held D) (st st_now next : StateOf Entry) (b : Brick D) (F : StateOf Version → StateOf Version) (A : StateOf Version → Bool) (adds : Bool) (result : Result (Unit {0}) StoreFault)
+  pub told_of : (blocks : BTreeMap ℕ (List ℕ)) (old new : Held D) (st st_now next : StateOf Entry) (b : Brick D) (F : StateOf Version → StateOf Version) (A : StateOf Version → Bool) (adds : Bool) (calls : ℕ) (result : Result (Unit {0}) StoreFault)
       → brick_of blocks old st ≡ b → resolved (cached old.shape.block blocks) next ≡ F (resolved (cached old.shape.block blocks) st) → adds ≡ A (resolved (cached old.shape.block blocks) st)
-      → Changes tells seen may_leave moment left_since faults sound (brick_of blocks old st) (brick_of blocks new st_now) (resolved (cached old.shape.block blocks) next) adds result
-      → Changes tells seen may_leave moment left_since faults sound b (brick_of blocks new st_now) (F b.state) (A b.state) result
-  told_of blocks old new st st_now next b F A adds result view after add tried =
-      subst (λ (x : Brick D). Changes tells seen may_leave moment left_since faults sound x (brick_of blocks new st_now) (F x.state) (A x.state) result) view
-      (subst (λ (a : StateOf Version). Changes tells seen may_leave moment left_since faults sound (brick_of blocks old st) (brick_of blocks new st_now) a (A (resolved (cached old.shape.block blocks) st)) result) after
-      (subst (λ (x : Bool). Changes tells seen may_leave moment left_since faults sound (brick_of blocks old st) (brick_of blocks new st_now) (resolved (cached old.shape.block blocks) next) x result) add tried))
+      → Changes tells seen may_leave moment left_since faults sound (brick_of blocks old st) (brick_of blocks new st_now) (resolved (cached old.shape.block blocks) next) adds calls result
+      → Changes tells seen may_leave moment left_since faults sound b (brick_of blocks new st_now) (F b.state) (A b.state) calls result
+  told_of blocks old new st st_now next b F A adds calls result view after add tried =
+      subst (λ (x : Brick D). Changes tells seen may_leave moment left_since faults sound x (brick_of blocks new st_now) (F x.state) (A x.state) calls result) view
+      (subst (λ (a : StateOf Version). Changes tells seen may_leave moment left_since faults sound (brick_of blocks old st) (brick_of blocks new st_now) a (A (resolved (cached old.shape.block blocks) st)) calls result) after
+      (subst (λ (x : Bool). Changes tells seen may_leave moment left_since faults sound (brick_of blocks old st) (brick_of blocks new st_now) (resolved (cached old.shape.block blocks) next) x calls result) add tried))
 
-  pub told_refused : (only_now : (disk : D) (image : List ℕ) → left_since disk (moment disk) image → may_leave disk image) (blocks : BTreeMap ℕ (List ℕ)) (zero_block : List ℕ) (old : Held D) (index : Index) (b : Brick D) (F : StateOf Version → StateOf Version) (A : StateOf Version → Bool) (adds : Bool) (fault : StoreFault)
+  pub told_refused : (only_now : (disk : D) (image : List ℕ) → left_since disk (moment disk) image → may_leave disk image) (blocks : BTreeMap ℕ (List ℕ)) (zero_block : List ℕ) (old : Held D) (index : Index) (b : Brick D) (F : StateOf Version → StateOf Version) (A : StateOf Version → Bool) (adds : Bool) (calls : ℕ) (fault : StoreFault)
       → brick_of blocks old (state_of index) ≡ b → adds ≡ A (resolved (cached old.shape.block blocks) (state_of index)) → Standing tells seen may_leave old index blocks zero_block
       → IsRefused old.halted adds (indexes.limits_of index).records (live (state_of index)) (Err fault)
-      → Changes tells seen may_leave moment left_since faults sound b b (F b.state) (A b.state) (Err fault)
-  told_refused only_now blocks zero_block old index b F A adds fault view add standing is =
+      → Changes tells seen may_leave moment left_since faults sound b b (F b.state) (A b.state) calls (Err fault)
+  told_refused only_now blocks zero_block old index b F A adds calls fault view add standing is =
       let st = state_of index in
-      subst (λ (x : Brick D). Changes tells seen may_leave moment left_since faults sound x x (F x.state) (A x.state) (Err fault)) view
-      (subst (λ (x : Bool). Changes tells seen may_leave moment left_since faults sound (brick_of blocks old st) (brick_of blocks old st) (F (resolved (cached old.shape.block blocks) st)) x (Err fault)) add
-      (changes_refused only_now blocks zero_block old index (F (resolved (cached old.shape.block blocks) st)) adds fault standing is))
+      subst (λ (x : Brick D). Changes tells seen may_leave moment left_since faults sound x x (F x.state) (A x.state) calls (Err fault)) view
+      (subst (λ (x : Bool). Changes tells seen may_leave moment left_since faults sound (brick_of blocks old st) (brick_of blocks old st) (F (resolved (cached old.shape.block blocks) st)) x calls (Err fault)) add
+      (changes_refused only_now blocks zero_block old index (F (resolved (cached old.shape.block blocks) st)) adds calls fault standing is))

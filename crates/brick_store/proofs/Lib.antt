@@ -16,3 +16,4 @@ pub mod Versions
 pub mod Adding
 pub mod Opened
 pub mod HeldLogs
+pub mod Counting

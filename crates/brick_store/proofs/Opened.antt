@@ -1,5 +1,5 @@
 -- What an opening makes of what the disk held.
-use Rattle.std.proofs.Common.{◌≡◌, inl, inr, ⊎_elim, ℕ, ◌+◌, Bool, true, false, cond, eqb, None, List, length, refl, sym, ap, subst, ◌∙◌}
+use Rattle.std.proofs.Common.{◌≡◌, inl, inr, ⊎_elim, ℕ, ◌+◌, ◌<◌, Bool, true, false, cond, eqb, None, List, length, refl, sym, ap, subst, ◌∙◌, arith}
 use Rattle.std.specs.Prelude.{replicate}
 use Rattle.std.specs.List.{AllByRecursion}
 use Rattle.std.specs.BTreeMap.{BTreeMap}
@@ -91,19 +91,23 @@ module _ {D : Type 0} (seen : D → List ℕ) (held : Held D) (shows : Shows see
       ∙ ap (λ (x : StateOf Version). booted (x.boot + 1) x) (finds held.shape st (seen held.disk) held.frames held.closed shows.opens here).1
 
   -- the disk held a store, and this state was found
+  is_found : (content : List ℕ) → seen held.disk ≡ content → IsFound held.shape found content
+  is_found content content_is = subst (λ (x : List ℕ). IsFound held.shape found x) content_is (record { frames = held.frames; closed = held.closed; opens = shows.opens; state = refl })
+
+  -- with this count of openings
+  found_boot : found.boot ≡ (found_in held.shape held.frames).boot
+  found_boot = boot-resolved (block_at held.shape (seen held.disk)) (found_in held.shape held.frames)
+
   pub found_there : (content : List ℕ) → seen held.disk ≡ content → (blocks : BTreeMap ℕ (List ℕ)) (size : ℕ) (now : StateOf Entry) → size ≡ held.shape.block
       → AllSlots (IsStored held.shape blocks (seen held.disk)) (found_in held.shape held.frames) → now ≡ booted ((found_in held.shape held.frames).boot + 1) (found_in held.shape held.frames)
-      → (st : StateOf Version) × IsFound held.shape st content × (resolved (cached size blocks) now ≡ booted (st.boot + 1) st)
-  found_there content content_is blocks size now size_is stored is =
-      let there : IsFound held.shape found (seen held.disk) = record { frames = held.frames; closed = held.closed; opens = shows.opens; state = refl } in
-      (found, subst (λ (x : List ℕ). IsFound held.shape found x) content_is there, found_counted blocks size now size_is stored is)
+      → (found_in held.shape held.frames).boot < 4294967295
+      → (st : StateOf Version) × IsFound held.shape st content × (st.boot < 4294967295) × (resolved (cached size blocks) now ≡ booted (st.boot + 1) st)
+  found_there content content_is blocks size now size_is stored is few =
+      (found, is_found content content_is, omega (arith, few, found_boot), found_counted blocks size now size_is stored is)
 
-  -- the count of openings that was found
-  pub boot_there : (content : List ℕ) → seen held.disk ≡ content → (st : StateOf Version) → StandsFor held.shape st content → st.boot ≡ (found_in held.shape held.frames).boot
-  boot_there content content_is st stands =
-      let here : StandsFor held.shape st (seen held.disk) = subst (λ (x : List ℕ). StandsFor held.shape st x) (sym content_is) stands in
-      ap (λ (x : StateOf Version). x.boot) (sym (finds held.shape st (seen held.disk) held.frames held.closed shows.opens here).1)
-      ∙ boot-resolved (block_at held.shape (seen held.disk)) (found_in held.shape held.frames)
+  -- a store that is worn
+  pub worn_there : (content : List ℕ) → seen held.disk ≡ content → (found_in held.shape held.frames).boot ≡ 4294967295 → (st : StateOf Version) × IsFound held.shape st content × (st.boot ≡ 4294967295)
+  worn_there content content_is worn = (found, is_found content content_is, found_boot ∙ worn)
 
   -- the list did not end early where the disk held a store
   closed_there : (st : StateOf Version) → StandsFor held.shape st (seen held.disk) → held.closed ≡ true

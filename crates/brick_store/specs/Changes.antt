@@ -6,11 +6,13 @@ use Rattle.brick_state.specs.States.{StateOf, live}
 use Rattle.brick_store.specs.declared.faults.StoreFault.{StoreFault}
 use Rattle.brick_store.specs.declared.faults.StoreFault.TheVariants.{Disk}
 use Rattle.brick_store.specs.Bricks.{Brick, Keeps, IsAnswer}
+use Rattle.brick_store.specs.Calls.{MakesCalls}
 use Rattle.brick_store.specs.Images.{StandsForEither, LeavesState}
 
--- The call makes a change to this state, or refuses; `adds` says whether the change adds a live record.
+-- The call makes a change to this state, or refuses; `adds` says whether the change adds a live record, and `calls` how many
+-- calls of `write_at` and `sync` it makes.
 pub record Changes {D : Type 0} (tells : Type 0) (seen : D → List ℕ) (may_leave : D → List ℕ → Type 0) (moment : D → ℕ) (left_since : D → ℕ → List ℕ → Type 0) (faults : D → ℕ) (sound : D → Type 0)
-    (old new : Brick D) (after : StateOf Version) (adds : Bool) (result : Result (Unit {0}) StoreFault) : Type 0 where
+    (old new : Brick D) (after : StateOf Version) (adds : Bool) (calls : ℕ) (result : Result (Unit {0}) StoreFault) : Type 0 where
   pub ok : OnOk result (Keeps after old new)
   pub refused : OnErr result (Keeps old.state old new)
   -- after Ok a crash leaves only the state after the change
@@ -20,3 +22,5 @@ pub record Changes {D : Type 0} (tells : Type 0) (seen : D → List ℕ) (may_le
   pub answer : IsAnswer old.shape.records (live old.state) adds old.halted new.halted result
   pub no_call : OnErr result (result ≢ Err Disk → IsUntouched seen may_leave moment left_since old.disk new.disk)
   pub cause : Kept (faults old.disk) (faults new.disk) (sound old.disk) (sound new.disk) (result ≡ Err Disk)
+  -- after Ok, or seven more where the list of frames was rewritten first
+  pub counted : tells → OnOk result (MakesCalls calls (moment old.disk) (moment new.disk))

@@ -4,6 +4,7 @@ pub mod Bricks
 pub mod Standing
 pub mod Openings
 pub mod Steps
+pub mod Calls
 pub mod Changes
 pub mod Sizes
 pub mod Logs

@@ -1,8 +1,10 @@
 //! The block of a version that is added.
 
 ghost use Rattle.std.specs.Prelude.{◌≡◌, ◌≢◌, ◌<◌, ℕ, Some, Err, IfOk, OnOk, OnErr};
+ghost use Rattle.std.specs.List.{Contains};
 ghost use Rattle.std.specs.Ordering.{nat_cmp};
 ghost use Rattle.std.specs.BTreeMap.{get};
+ghost use Rattle.brick_state.specs.Slots.{slots_of};
 ghost use Rattle.brick_state.specs.States.{live};
 ghost use Rattle.brick_state.specs.Indexes.{state_of, limits_of};
 ghost use Rattle.brick_store.specs.Standing.{AllSlots};
@@ -13,7 +15,7 @@ use fab_base::Bytes;
 use std::alloc::Global;
 use std::collections::BTreeMap;
 
-/// Holds a block in memory, under a slot that no version names. What was held there was the block of a version that is no
+/// Holds a block in memory, under the least slot that no version names. What was held there was the block of a version that is no
 /// longer kept.
 ///
 /// # Errors
@@ -27,6 +29,8 @@ pub fn hold_new(
     requires free { live (state_of index.now) < (limits_of index.now).slots }
     ensures slot { IfOk result (λ slot. slot < (limits_of index.now).slots) }
     ensures unnamed { IfOk result (λ slot. AllSlots (λ other. other ≢ slot) (state_of index.now)) }
+    // Each lower slot is named by a version.
+    ensures least { IfOk result (λ slot. (other : ℕ) → other < slot → Contains (slots_of (state_of index.now)) other) }
     ensures held { IfOk result (λ slot. get nat_cmp blocks.new slot ≡ Some block.now) }
     ensures same { AllSlots (λ other. get nat_cmp blocks.new other ≡ get nat_cmp blocks.old other) (state_of index.now) }
     ensures memory { OnErr result (result ≡ Err StoreFault.NoMemory) }

@@ -9,6 +9,7 @@ ghost use Rattle.brick_state.specs.States.{live};
 ghost use Rattle.brick_state.specs.Indexes.{state_of, limits_of};
 ghost use Rattle.brick_state.specs.Folds.{applied, is_full};
 ghost use Rattle.brick_state.specs.KeptStates.{IsKeptState};
+ghost use Rattle.brick_store.specs.Calls.{MakesRoomCalls, HasFrameRoom};
 ghost use Rattle.brick_store.specs.Standing.{GroupHasMembers, IsIndexed};
 ghost use Rattle.brick_store.specs.Steps.{RecordHasMembers, Step, MayStep, changed, HasAppendRoom, IsRefused};
 
@@ -34,6 +35,7 @@ fn rewrite<D: Disk>(
     ensures step { Step D.tells D.seen D.may_leave D.moment D.left_since None (state_of index.now) (state_of index.now) frames.old frames.new result }
     ensures fits { OnOk result (Fits frames.new.shape frames.new.frames body) }
     ensures room { OnOk result (HasAppendRoom D.has_room frames.new body) }
+    ensures counted { D.tells → OnOk result (D.moment frames.new.disk ≡ D.moment frames.old.disk + 7) }
     ensures cause { Kept (D.faults frames.old.disk) (D.faults frames.new.disk) (D.sound frames.old.disk) (D.sound frames.new.disk) (result ≡ Err StoreFault.Disk) }
 {
     let live = live_frames(alloc, index)?;
@@ -56,6 +58,7 @@ fn make_room<D: Disk>(
     ensures step { Step D.tells D.seen D.may_leave D.moment D.left_since None (state_of index.now) (state_of index.now) frames.old frames.new result }
     ensures fits { OnOk result (Fits frames.new.shape frames.new.frames body) }
     ensures room { OnOk result ((frames.new ≡ frames.old) ⊎ HasAppendRoom D.has_room frames.new body) }
+    ensures counted { D.tells → OnOk result (MakesRoomCalls (Fits frames.old.shape frames.old.frames body) 0 (D.moment frames.old.disk) (D.moment frames.new.disk)) }
     ensures cause { Kept (D.faults frames.old.disk) (D.faults frames.new.disk) (D.sound frames.old.disk) (D.sound frames.new.disk) (result ≡ Err StoreFault.Disk) }
 {
     if frames.fits(body) {
@@ -77,6 +80,7 @@ fn append_record<D: Disk>(
     requires members { RecordHasMembers item.now }
     requires can { IsSome (applied (limits_of index.now) item.now (state_of index.now)) }
     ensures step { Step D.tells D.seen D.may_leave D.moment D.left_since None (state_of index.now) (changed (limits_of index.now) item.now (state_of index.now)) frames.old frames.new result }
+    ensures counted { D.tells → OnOk result (MakesRoomCalls (HasFrameRoom frames.old.shape frames.old.frames) 4 (D.moment frames.old.disk) (D.moment frames.new.disk)) }
     ensures cause { Kept (D.faults frames.old.disk) (D.faults frames.new.disk) (D.sound frames.old.disk) (D.sound frames.new.disk) (result ≡ Err StoreFault.Disk) }
 {
     let frame = frame_of(alloc, item)?;
@@ -122,6 +126,7 @@ fn append_version<D: Disk>(
     requires slot { slot < frames.old.shape.records }
     requires block { length block.now ≡ frames.old.shape.block }
     ensures step { Step D.tells D.seen D.may_leave D.moment D.left_since (Some (slot, block.now)) (state_of index.now) (changed (limits_of index.now) item.now (state_of index.now)) frames.old frames.new result }
+    ensures counted { D.tells → OnOk result (MakesRoomCalls (HasFrameRoom frames.old.shape frames.old.frames) 5 (D.moment frames.old.disk) (D.moment frames.new.disk)) }
     ensures cause { Kept (D.faults frames.old.disk) (D.faults frames.new.disk) (D.sound frames.old.disk) (D.sound frames.new.disk) (result ≡ Err StoreFault.Disk) }
 {
     let frame = frame_of(alloc, item)?;
@@ -130,7 +135,8 @@ fn append_version<D: Disk>(
     Ok(())
 }
 
-/// Makes the change of a record that can be, and that adds no block of its own.
+/// Makes the change of a record that can be, and that adds no block of its own. It makes four calls of `write_at` and `sync`,
+/// or eleven where the half has no room for the frame.
 ///
 /// # Errors
 /// [`StoreFault::Disk`]; [`StoreFault::NoMemory`], before the disk changed.
@@ -149,6 +155,7 @@ pub fn commit<D: Disk>(
     ensures made { OnOk result (state_of index.new ≡ changed (limits_of index.old) item.now (state_of index.old)) }
     ensures not_made { OnErr result (state_of index.new ≡ state_of index.old) }
     ensures limits { limits_of index.new ≡ limits_of index.old }
+    ensures counted { D.tells → OnOk result (MakesRoomCalls (HasFrameRoom frames.old.shape frames.old.frames) 4 (D.moment frames.old.disk) (D.moment frames.new.disk)) }
     ensures cause { Kept (D.faults frames.old.disk) (D.faults frames.new.disk) (D.sound frames.old.disk) (D.sound frames.new.disk) (result ≡ Err StoreFault.Disk) }
 {
     reserve(index, item)?;
@@ -157,7 +164,8 @@ pub fn commit<D: Disk>(
     Ok(())
 }
 
-/// Makes the change of a record that can be, with a block in its slot.
+/// Makes the change of a record that can be, with a block in its slot. It makes five calls of `write_at` and `sync`, or twelve
+/// where the half has no room for the frame.
 ///
 /// # Errors
 /// [`StoreFault::Disk`]; [`StoreFault::NoMemory`], before the disk changed.
@@ -180,6 +188,7 @@ pub fn commit_with<D: Disk>(
     ensures made { OnOk result (state_of index.new ≡ changed (limits_of index.old) item.now (state_of index.old)) }
     ensures not_made { OnErr result (state_of index.new ≡ state_of index.old) }
     ensures limits { limits_of index.new ≡ limits_of index.old }
+    ensures counted { D.tells → OnOk result (MakesRoomCalls (HasFrameRoom frames.old.shape frames.old.frames) 5 (D.moment frames.old.disk) (D.moment frames.new.disk)) }
     ensures cause { Kept (D.faults frames.old.disk) (D.faults frames.new.disk) (D.sound frames.old.disk) (D.sound frames.new.disk) (result ≡ Err StoreFault.Disk) }
 {
     reserve(index, item)?;

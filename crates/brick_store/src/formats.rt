@@ -1,6 +1,6 @@
 //! Making a store.
 
-ghost use Rattle.std.specs.Prelude.{◌≡◌, ◌⊎◌, ◌≤◌, Err, OnOk, OnErr};
+ghost use Rattle.std.specs.Prelude.{◌≡◌, ◌⊎◌, ◌+◌, ◌≤◌, Err, OnOk, OnErr};
 ghost use Rattle.fab_disk.specs.Disk.{IsUntouched, Kept};
 ghost use Rattle.frame_store.specs.Layouts.{shape_of};
 ghost use Rattle.brick_state.specs.States.{empty};
@@ -11,8 +11,8 @@ use fab_base::BrickId;
 use fab_disk::Disk;
 use std::alloc::Global;
 
-/// Makes an empty store of these blocks and records for a brick, in the place of whatever the disk holds. What the disk opens
-/// as after a format that did not succeed is not told.
+/// Makes an empty store of these blocks and records for a brick, in the place of whatever the disk holds. It makes five calls of
+/// `write_at` and `sync`. What the disk opens as after a format that did not succeed is not told.
 ///
 /// # Errors
 /// [`StoreFault::Disk`]: the disk failed. [`StoreFault::NoMemory`]: memory was refused, and the disk is as it was.
@@ -27,6 +27,7 @@ pub fn format<D: Disk>(
     requires records_range { (1 ≤ records) × (records ≤ 1048576) }
     ensures empty { D.tells → OnOk result (StandsFor (shape_of me.0 block records) empty (D.seen disk.new)) }
     ensures durable { D.tells → OnOk result (LeavesState (shape_of me.0 block records) empty (D.may_leave disk.new)) }
+    ensures counted { D.tells → OnOk result (D.moment disk.new ≡ D.moment disk.old + 5) }
     ensures only { OnErr result ((result ≡ Err StoreFault.Disk) ⊎ (result ≡ Err StoreFault.NoMemory)) }
     ensures no_memory { result ≡ Err StoreFault.NoMemory → IsUntouched D.seen D.may_leave D.moment D.left_since disk.old disk.new }
     ensures cause { Kept (D.faults disk.old) (D.faults disk.new) (D.sound disk.old) (D.sound disk.new) (result ≡ Err StoreFault.Disk) }

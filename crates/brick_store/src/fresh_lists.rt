@@ -1,6 +1,6 @@
 //! A list of frames that ended early is written anew before anything is appended to it.
 
-ghost use Rattle.std.specs.Prelude.{◌≡◌, ◌⊎◌, true, false, None, Err, OnOk, OnErr};
+ghost use Rattle.std.specs.Prelude.{◌≡◌, ◌⊎◌, ◌+◌, true, false, None, Err, OnOk, OnErr};
 ghost use Rattle.std.specs.List.{AllByRecursion};
 ghost use Rattle.fab_disk.specs.Disk.{LeavesOnly, Kept};
 ghost use Rattle.frame_store.specs.Images.{KeepsSlots};
@@ -11,6 +11,7 @@ ghost use Rattle.brick_state.specs.Indexes.{state_of};
 ghost use Rattle.brick_state.specs.Indexes as indexes;
 ghost use Rattle.brick_state.specs.KeptStates.{IsKeptState};
 ghost use Rattle.brick_store.specs.Images.{records_of, limits_of};
+ghost use Rattle.brick_store.specs.Calls.{HasFrameRoom, Settles};
 ghost use Rattle.brick_store.specs.Standing.{GroupHasMembers, Leads};
 ghost use Rattle.brick_store.specs.Steps.{MayStep};
 ghost use Rattle.brick_store.specs.Openings.{IsKeptIn, IsAllowedOr};
@@ -41,6 +42,8 @@ fn replace_list<D: Disk>(
     ensures slots { D.tells → OnOk result (KeepsSlots frames.old.shape None (D.seen frames.old.disk) (D.seen frames.new.disk)) }
     ensures moments { D.tells → frames.old.closed ≡ true → LeavesOnly D.moment D.left_since frames.old.disk frames.new.disk (IsKeptIn frames.old.shape (state_of index.now) (D.seen frames.old.disk)) }
     ensures only { OnErr result ((result ≡ Err StoreFault.Disk) ⊎ (result ≡ Err StoreFault.NoMemory)) }
+    ensures counted { D.tells → OnOk result (D.moment frames.new.disk ≡ D.moment frames.old.disk + 7) }
+    ensures room { OnOk result (HasFrameRoom frames.new.shape frames.new.frames) }
     ensures cause { Kept (D.faults frames.old.disk) (D.faults frames.new.disk) (D.sound frames.old.disk) (D.sound frames.new.disk) (result ≡ Err StoreFault.Disk) }
 {
     let live = live_frames(alloc, index)?;
@@ -67,6 +70,7 @@ pub fn settle<D: Disk>(
     ensures slots { D.tells → OnOk result (KeepsSlots frames.old.shape None (D.seen frames.old.disk) (D.seen frames.new.disk)) }
     ensures moments { D.tells → frames.old.closed ≡ true → LeavesOnly D.moment D.left_since frames.old.disk frames.new.disk (IsAllowedOr (D.may_leave frames.old.disk) (IsKeptIn frames.old.shape (state_of index.now) (D.seen frames.old.disk))) }
     ensures only { OnErr result ((result ≡ Err StoreFault.Disk) ⊎ (result ≡ Err StoreFault.NoMemory)) }
+    ensures counted { D.tells → OnOk result (Settles (HasFrameRoom frames.new.shape frames.new.frames) (D.moment frames.old.disk) (D.moment frames.new.disk)) }
     ensures cause { Kept (D.faults frames.old.disk) (D.faults frames.new.disk) (D.sound frames.old.disk) (D.sound frames.new.disk) (result ≡ Err StoreFault.Disk) }
 {
     frames.sync()?;

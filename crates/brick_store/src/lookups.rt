@@ -1,12 +1,13 @@
 //! What a store tells of what it keeps. No look-up needs memory.
 
-ghost use Rattle.std.specs.Prelude.{◌≡◌, ◌<◌, ◌↔◌, ℕ, List, IsTrue, option_map};
+ghost use Rattle.std.specs.Prelude.{◌≡◌, ◌<◌, ◌↔◌, ℕ, List, IsTrue, false, option_map};
 ghost use Rattle.fab_disk.specs.Disk.{KeepsRoom};
 ghost use Rattle.fab_disk.specs.Plan.{IsPlanned};
 ghost use Rattle.brick_state.specs.States.{live, group_at};
 ghost use Rattle.brick_state.specs.Times.{top_time};
 ghost use Rattle.brick_store.specs.Blocks.{accepted_of, version_stamp, first_kept, learnt_of, IsServed};
 ghost use Rattle.brick_store.specs.Bricks.{Keeps};
+ghost use Rattle.brick_store.specs.Images.{LeavesState, StandsFor};
 
 use crate::index_steps::accepted_of;
 use crate::stores::BrickStore;
@@ -85,9 +86,18 @@ impl<D: Disk> BrickStore<D> {
         BrickId(self.frames.shape().me)
     }
 
-    /// Gives the disk back.
+    /// Whether a call of this store answered [`StoreFault::Disk`](crate::StoreFault::Disk).
+    pub fn is_halted(&self) -> bool
+        ensures { result ≡ self.now.halted }
+    {
+        self.frames.is_halted()
+    }
+
+    /// Gives the disk back. Where the store is not halted, the disk stands for what it keeps, and so does whatever a crash leaves.
     pub fn into_disk(self) -> D
-        ensures { result ≡ self.disk }
+        ensures disk { result ≡ self.disk }
+        ensures stands { D.tells → self.halted ≡ false → StandsFor self.shape self.state (D.seen result) }
+        ensures durable { D.tells → self.halted ≡ false → LeavesState self.shape self.state (D.may_leave result) }
     {
         let BrickStore {
             alloc: _,

@@ -1,11 +1,12 @@
 //! Opening a store.
 
-ghost use Rattle.std.specs.Prelude.{◌≡◌, ◌≢◌, ◌⊎◌, ℕ, ◌+◌, ◌-◌, ◌≤◌, ◌^◌, false, IfOk, IfErr};
+ghost use Rattle.std.specs.Prelude.{◌≡◌, ◌≢◌, ◌⊎◌, ℕ, ◌+◌, ◌-◌, ◌≤◌, ◌<◌, ◌^◌, false, IfOk, IfErr};
 ghost use Rattle.fab_disk.specs.Disk.{IsUntouched, LeavesOnly, Kept};
 ghost use Rattle.frame_store.specs.Layouts.{shape_of};
 ghost use Rattle.frame_store.specs.Images.{IsNoStore};
 ghost use Rattle.version_log.specs.Versions.{Version};
 ghost use Rattle.brick_state.specs.States.{StateOf, booted};
+ghost use Rattle.brick_store.specs.Calls.{MakesCalls};
 ghost use Rattle.brick_store.specs.Images.{IsFound, StandsFor, StandsForEither, LeavesState};
 ghost use Rattle.brick_store.specs.Openings.{IsAllowedOr};
 
@@ -17,6 +18,7 @@ use fab_disk::Disk;
 use std::alloc::Global;
 
 /// Opens the store that a disk holds for a brick: its count of openings is one greater, and nothing else is changed.
+/// It makes five calls of `write_at` and `sync`, and seven more where the list of frames ended early or is full.
 ///
 /// # Errors
 /// Each hands the disk back. [`StoreFault::NotAStore`]: neither header is open. [`StoreFault::Worn`]: the store was opened
@@ -33,8 +35,8 @@ pub fn open_store<D: Disk>(
     ensures shape { IfOk result (λ store. store.shape ≡ shape_of me.0 block records) }
     ensures runs { IfOk result (λ store. store.halted ≡ false) }
     ensures state { IfOk result (λ store. D.tells → (st : StateOf Version) → StandsFor (shape_of me.0 block records) st (D.seen disk) → store.state ≡ booted (st.boot + 1) st) }
-    // There was a store, and it is the one that was counted.
-    ensures found { IfOk result (λ store. D.tells → (st : StateOf Version) × IsFound (shape_of me.0 block records) st (D.seen disk) × (store.state ≡ booted (st.boot + 1) st)) }
+    // There was a store that was not worn, and it is the one that was counted.
+    ensures found { IfOk result (λ store. D.tells → (st : StateOf Version) × IsFound (shape_of me.0 block records) st (D.seen disk) × (st.boot < 2 ^ 32 - 1) × (store.state ≡ booted (st.boot + 1) st)) }
     ensures durable { IfOk result (λ store. D.tells → LeavesState store.shape store.state (D.may_leave store.disk)) }
     // At each moment each image is one that the disk allowed before, or opens as the state before or after.
     ensures moments { IfOk result (λ store. D.tells → (st : StateOf Version) → StandsFor (shape_of me.0 block records) st (D.seen disk) → LeavesOnly D.moment D.left_since disk store.disk (IsAllowedOr (D.may_leave disk) (StandsForEither (shape_of me.0 block records) st (booted (st.boot + 1) st)))) }
@@ -42,8 +44,11 @@ pub fn open_store<D: Disk>(
     // Where all that it allowed opens as the state before, all opens as one of the two.
     ensures any_moment { IfOk result (λ store. D.tells → (st : StateOf Version) → LeavesState (shape_of me.0 block records) st (D.may_leave disk) → LeavesOnly D.moment D.left_since disk store.disk (StandsForEither (shape_of me.0 block records) st (booted (st.boot + 1) st))) }
     ensures any_moment_err { IfErr result (λ e. D.tells → (st : StateOf Version) → LeavesState (shape_of me.0 block records) st (D.may_leave disk) → LeavesOnly D.moment D.left_since disk e.1 (StandsForEither (shape_of me.0 block records) st (booted (st.boot + 1) st))) }
+    // So many calls of `write_at` and `sync`, or seven more where the list of frames was rewritten first.
+    ensures counted { IfOk result (λ store. D.tells → MakesCalls 5 (D.moment disk) (D.moment store.disk)) }
     ensures not_a_store { IfErr result (λ e. e.0 ≡ StoreFault.NotAStore → D.tells → IsNoStore (shape_of me.0 block records) (D.seen disk)) }
-    ensures worn { IfErr result (λ e. e.0 ≡ StoreFault.Worn → D.tells → (st : StateOf Version) → StandsFor (shape_of me.0 block records) st (D.seen disk) → st.boot ≡ 2 ^ 32 - 1) }
+    // There was a store, and it was opened as often as it can be.
+    ensures worn { IfErr result (λ e. e.0 ≡ StoreFault.Worn → D.tells → (st : StateOf Version) × IsFound (shape_of me.0 block records) st (D.seen disk) × (st.boot ≡ 2 ^ 32 - 1)) }
     ensures unchanged { IfErr result (λ e. (e.0 ≡ StoreFault.NotAStore) ⊎ (e.0 ≡ StoreFault.Worn) → IsUntouched D.seen D.may_leave D.moment D.left_since disk e.1) }
     // No other fault is answered.
     ensures not_halted { IfErr result (λ e. e.0 ≢ StoreFault.Halted) }

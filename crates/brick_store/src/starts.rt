@@ -14,6 +14,7 @@ ghost use Rattle.brick_state.specs.Indexes as indexes;
 ghost use Rattle.brick_state.specs.KeptStates.{IsKeptState};
 ghost use Rattle.brick_store.specs.Images.{records_of, limits_of};
 ghost use Rattle.brick_store.specs.Standing.{GroupHasMembers, Leads};
+ghost use Rattle.brick_store.specs.Calls.{MakesCalls};
 ghost use Rattle.brick_store.specs.Steps.{IsSettled};
 ghost use Rattle.brick_store.specs.Openings.{IsAllowedOr, IsKeptInEither};
 
@@ -43,7 +44,7 @@ pub fn start<D: Disk>(
     requires found { folded (limits_of frames.old.shape) (records_of frames.old.frames) empty ≡ state_of index.old }
     requires whole { whole ≡ true → Leads (limits_of frames.old.shape) frames.old.frames empty (state_of index.old) }
     requires boots { (state_of index.old).boot < 2 ^ 32 - 1 }
-    ensures counted { OnOk result (state_of index.new ≡ booted ((state_of index.old).boot + 1) (state_of index.old)) }
+    ensures made { OnOk result (state_of index.new ≡ booted ((state_of index.old).boot + 1) (state_of index.old)) }
     ensures limits { indexes.limits_of index.new ≡ indexes.limits_of index.old }
     ensures leads { OnOk result (Leads (limits_of frames.old.shape) frames.new.frames empty (state_of index.new)) }
     ensures shape { frames.new.shape ≡ frames.old.shape }
@@ -52,6 +53,7 @@ pub fn start<D: Disk>(
     ensures slots { D.tells → OnOk result (KeepsSlots frames.old.shape None (D.seen frames.old.disk) (D.seen frames.new.disk)) }
     ensures moments { D.tells → frames.old.closed ≡ true → LeavesOnly D.moment D.left_since frames.old.disk frames.new.disk (IsAllowedOr (D.may_leave frames.old.disk) (IsKeptInEither frames.old.shape (state_of index.old) (booted ((state_of index.old).boot + 1) (state_of index.old)) (D.seen frames.old.disk))) }
     ensures only { OnErr result ((result ≡ Err StoreFault.Disk) ⊎ (result ≡ Err StoreFault.NoMemory)) }
+    ensures counted { D.tells → OnOk result (MakesCalls 5 (D.moment frames.old.disk) (D.moment frames.new.disk)) }
     ensures cause { disks.Kept (D.faults frames.old.disk) (D.faults frames.new.disk) (D.sound frames.old.disk) (D.sound frames.new.disk) (result ≡ Err StoreFault.Disk) }
 {
     settle(alloc, frames, index, whole)?;

@@ -5,6 +5,7 @@ ghost use Rattle.std.specs.Option.{ForSome};
 ghost use Rattle.brick_state.specs.States.{stripe_at, ordered, collected, viewed, balloted, group_at};
 ghost use Rattle.brick_state.specs.Folds.{place};
 ghost use Rattle.brick_store.specs.Blocks.{log_at, version_stamp, HasStamp, IsServed, adds_stamp, IsNext, with_version, accepted_of, learnt_of, all_synced};
+ghost use Rattle.brick_store.specs.Calls.{version_calls};
 ghost use Rattle.brick_store.specs.Changes.{Changes};
 
 use crate::additions::{forget_refused, hold_new};
@@ -21,6 +22,9 @@ use std::collections::BTreeMap;
 use std::marker::Model;
 
 /// An open store over a disk.
+///
+/// A change makes four calls of `write_at` and `sync`, five where it adds a version with a block of its own, and seven more
+/// where the list of frames has to be rewritten first.
 ///
 /// A clause sees the disk, what the store was made for, what it keeps, and whether it is halted.
 #[derive(Drop)]
@@ -60,7 +64,7 @@ impl<D: Disk> BrickStore<D> {
     ) -> Result<(), StoreFault>
         requires group { group.0 < 64 }
         requires view { IsServed (group_at self.old.state group.0) view.0 }
-        ensures { Changes D.tells D.seen D.may_leave D.moment D.left_since D.faults D.sound self.old self.new (ordered (place group view stripe) stamp self.old.state) (adds_stamp stamp (stripe_at self.old.state (place group view stripe)).order) result }
+        ensures { Changes D.tells D.seen D.may_leave D.moment D.left_since D.faults D.sound self.old self.new (ordered (place group view stripe) stamp self.old.state) (adds_stamp stamp (stripe_at self.old.state (place group view stripe)).order) 4 result }
     {
         let place = (group.0, view.0, stripe.0);
         let adds = adds_stamp(stamp, self.index.order(place));
@@ -86,7 +90,7 @@ impl<D: Disk> BrickStore<D> {
     ) -> Result<(), StoreFault>
         requires group { group.0 < 64 }
         requires view { view.0 ≡ learnt_of (group_at self.old.state group.0) }
-        ensures { Changes D.tells D.seen D.may_leave D.moment D.left_since D.faults D.sound self.old self.new (balloted group.0 promised (accepted_of (group_at self.old.state group.0)) self.old.state) false result }
+        ensures { Changes D.tells D.seen D.may_leave D.moment D.left_since D.faults D.sound self.old self.new (balloted group.0 promised (accepted_of (group_at self.old.state group.0)) self.old.state) false 4 result }
     {
         let accepted = accepted_of(self.index.group(group.0));
         let item = Record::Kept(Kept::Ballots {
@@ -113,7 +117,7 @@ impl<D: Disk> BrickStore<D> {
         requires group { group.0 < 64 }
         requires view { view.0 ≡ learnt_of (group_at self.old.state group.0) }
         requires members { 1 ≤ length members }
-        ensures { Changes D.tells D.seen D.may_leave D.moment D.left_since D.faults D.sound self.old self.new (balloted group.0 ballot (Some (ballot, members)) self.old.state) false result }
+        ensures { Changes D.tells D.seen D.may_leave D.moment D.left_since D.faults D.sound self.old self.new (balloted group.0 ballot (Some (ballot, members)) self.old.state) false 4 result }
     {
         let item = Record::Kept(Kept::Ballots {
             group,
@@ -134,7 +138,7 @@ impl<D: Disk> BrickStore<D> {
         requires group { group.0 < 64 }
         requires above { learnt_of (group_at self.old.state group.0) < view.number.0 }
         requires members { (1 ≤ length view.members) × (1 ≤ length view.prior) }
-        ensures { Changes D.tells D.seen D.may_leave D.moment D.left_since D.faults D.sound self.old self.new (viewed group.0 view false self.old.state) false result }
+        ensures { Changes D.tells D.seen D.may_leave D.moment D.left_since D.faults D.sound self.old self.new (viewed group.0 view false self.old.state) false 4 result }
     {
         let item = Record::Kept(Kept::View {
             group,
@@ -153,7 +157,7 @@ impl<D: Disk> BrickStore<D> {
         requires group { group.0 < 64 }
         requires view { view.0 ≡ learnt_of (group_at self.old.state group.0) }
         requires learnt { IsSome (group_at self.old.state group.0).known }
-        ensures { Changes D.tells D.seen D.may_leave D.moment D.left_since D.faults D.sound self.old self.new (all_synced group.0 self.old.state) false result }
+        ensures { Changes D.tells D.seen D.may_leave D.moment D.left_since D.faults D.sound self.old self.new (all_synced group.0 self.old.state) false 4 result }
     {
         let _ = view;
         let item = Record::Kept(Kept::View {
@@ -179,7 +183,7 @@ impl<D: Disk> BrickStore<D> {
         requires group { group.0 < 64 }
         requires view { IsServed (group_at self.old.state group.0) view.0 }
         requires held { HasStamp stamp (log_at self.old.shape.block self.old.state (place group view stripe)) }
-        ensures { Changes D.tells D.seen D.may_leave D.moment D.left_since D.faults D.sound self.old self.new (collected version_stamp (place group view stripe) stamp self.old.state) false result }
+        ensures { Changes D.tells D.seen D.may_leave D.moment D.left_since D.faults D.sound self.old self.new (collected version_stamp (place group view stripe) stamp self.old.state) false 4 result }
     {
         let item = Record::Logged(Logged {
             group,
@@ -208,7 +212,7 @@ impl<D: Disk> BrickStore<D> {
         requires view { IsServed (group_at self.old.state group.0) view.0 }
         requires above { IsNext stamp (log_at self.old.shape.block self.old.state (place group view stripe)) block }
         requires block { ForSome block (λ bytes. length bytes ≡ self.old.shape.block) }
-        ensures { Changes D.tells D.seen D.may_leave D.moment D.left_since D.faults D.sound self.old self.new (with_version self.old.shape.block (place group view stripe) stamp block self.old.state) true result }
+        ensures { Changes D.tells D.seen D.may_leave D.moment D.left_since D.faults D.sound self.old self.new (with_version self.old.shape.block (place group view stripe) stamp block self.old.state) true (version_calls block) result }
     {
         match block {
             Some(bytes) => self.add_block(group, view, stripe, stamp, bytes),
@@ -226,7 +230,7 @@ impl<D: Disk> BrickStore<D> {
     ) -> Result<(), StoreFault>
         requires group { group.0 < 64 }
         requires above { IsNext stamp (log_at self.old.shape.block self.old.state (place group view stripe)) None }
-        ensures { Changes D.tells D.seen D.may_leave D.moment D.left_since D.faults D.sound self.old self.new (with_version self.old.shape.block (place group view stripe) stamp None self.old.state) true result }
+        ensures { Changes D.tells D.seen D.may_leave D.moment D.left_since D.faults D.sound self.old self.new (with_version self.old.shape.block (place group view stripe) stamp None self.old.state) true 4 result }
     {
         let item = Record::Logged(Logged {
             group,
@@ -251,7 +255,7 @@ impl<D: Disk> BrickStore<D> {
         requires group { group.0 < 64 }
         requires above { IsNext stamp (log_at self.old.shape.block self.old.state (place group view stripe)) (Some block) }
         requires block { length block ≡ self.old.shape.block }
-        ensures { Changes D.tells D.seen D.may_leave D.moment D.left_since D.faults D.sound self.old self.new (with_version self.old.shape.block (place group view stripe) stamp (Some block) self.old.state) true result }
+        ensures { Changes D.tells D.seen D.may_leave D.moment D.left_since D.faults D.sound self.old self.new (with_version self.old.shape.block (place group view stripe) stamp (Some block) self.old.state) true 5 result }
     {
         ready(&self.frames, &self.index, true)?;
         let slot = hold_new(self.alloc, &self.index, &mut self.blocks, &block)?;

@@ -1,11 +1,12 @@
 //! Taking up the store that a list of frames makes.
 
-ghost use Rattle.std.specs.Prelude.{◌≡◌, ◌≢◌, ◌+◌, ◌-◌, ◌^◌, ℕ, true, false, Err, IfOk, IsOk};
+ghost use Rattle.std.specs.Prelude.{◌≡◌, ◌≢◌, ◌+◌, ◌-◌, ◌<◌, ◌^◌, ℕ, true, false, Err, IfOk, IsOk};
 ghost use Rattle.fab_disk.specs.Disk.{IsUntouched, LeavesOnly, Kept};
 ghost use Rattle.frame_store.specs.Layouts.{IsShape};
 ghost use Rattle.frame_store.specs.Stores.{IsRead};
 ghost use Rattle.brick_state.specs.States.{booted};
 ghost use Rattle.brick_state.specs.Indexes.{state_of};
+ghost use Rattle.brick_store.specs.Calls.{MakesCalls};
 ghost use Rattle.brick_store.specs.Standing.{AllSlots, IsStored, Standing};
 ghost use Rattle.brick_store.specs.Openings.{found_in, IsAllowedOr, IsKeptInEither};
 
@@ -46,12 +47,14 @@ pub(crate) fn take_up<D: Disk>(
     ensures still_runs { IsOk result → frames.new.halted ≡ false }
     ensures shape { frames.new.shape ≡ frames.old.shape }
     ensures moments { D.tells → frames.old.closed ≡ true → LeavesOnly D.moment D.left_since frames.old.disk frames.new.disk (IsAllowedOr (D.may_leave frames.old.disk) (IsKeptInEither frames.old.shape (found_in frames.old.shape frames.old.frames) (booted ((found_in frames.old.shape frames.old.frames).boot + 1) (found_in frames.old.shape frames.old.frames)) (D.seen frames.old.disk))) }
+    ensures boots { IsOk result → (found_in frames.old.shape frames.old.frames).boot < 2 ^ 32 - 1 }
     ensures worn { result ≡ Err StoreFault.Worn → (found_in frames.old.shape frames.old.frames).boot ≡ 2 ^ 32 - 1 }
     ensures unchanged { result ≡ Err StoreFault.Worn → IsUntouched D.seen D.may_leave D.moment D.left_since frames.old.disk frames.new.disk }
     ensures unchanged_no_store { result ≡ Err StoreFault.NotAStore → IsUntouched D.seen D.may_leave D.moment D.left_since frames.old.disk frames.new.disk }
     ensures not_halted { result ≢ Err StoreFault.Halted }
     ensures not_full { (n : ℕ) → result ≢ Err (StoreFault.Full n) }
     ensures a_store { D.tells → result ≢ Err StoreFault.NotAStore }
+    ensures counted { D.tells → IsOk result → MakesCalls 5 (D.moment frames.old.disk) (D.moment frames.new.disk) }
     ensures cause { Kept (D.faults frames.old.disk) (D.faults frames.new.disk) (D.sound frames.old.disk) (D.sound frames.new.disk) (result ≡ Err StoreFault.Disk) }
 {
     let zero = Bytes::from_vec(vec![in alloc; 0u8; block as usize]?);

@@ -10,6 +10,9 @@ use Rattle.brick_store.specs.Images as images
 use Rattle.brick_store.specs.declared.faults.StoreFault.TheVariants.{NoMemory}
 use Rattle.brick_store.specs.Bricks.{fault_of}
 use Rattle.brick_store.specs.Steps.{changed, HasAppendRoom}
+use Rattle.frame_store.specs.Listed.{Fits}
+use Rattle.brick_store.specs.Calls.{HasFrameRoom}
+use Rattle.brick_store.proofs.Counting.{append_counted, most_few}
 use Rattle.brick_store.proofs.Stepping.{call_made, call_refused, call_moments, steps_both, may_go_on, nothing_changed, leads_changed, memory_refused, refused, room_less}
 use Rattle.brick_store.proofs.commits.append_record.Goals as goal
 
@@ -59,3 +62,10 @@ returns-clause-step g c =
     let leads = leads_changed (limits_of index) (images.limits_of mid.shape) mid.frames (frame_of frame.kind bytes) c.args.item.now st limits may.leads read c.requires.can in
     let second = call_made d.tells d.seen d.may_leave d.moment d.left_since None st next (mid.frames ++ frame_of frame.kind bytes ∷ []) mid new may leads call.ok call.after call.durable call.any_moment call.read call.answer.halts in
     steps_both d.tells d.seen d.may_leave d.moment d.left_since None st next old mid new (Ok tt) first second (λ bad. absurd cc)
+
+pub returns-clause-counted : goal.returns-clause-counted
+returns-clause-counted g c = λ told.
+    let moment = g.D.Disk.moment in
+    let old = c.args.frames.now in
+    append_counted (Fits old.shape old.frames c.len.result) (HasFrameRoom old.shape old.frames) 4 (moment old.disk) (moment c.make_room.new.frames.disk) (moment c.append.new.self.disk)
+    (λ room. omega (arith, room, c.len.ensures, c.in_ok-frame.ensures.size, most_few c.args.item.now)) (c.in_ok-make_room.ensures.counted told) (c.in_ok-append.ensures.counted told)

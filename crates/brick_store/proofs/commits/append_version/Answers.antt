@@ -9,6 +9,9 @@ use Rattle.brick_store.specs.Images as images
 use Rattle.brick_store.specs.declared.faults.StoreFault.TheVariants.{NoMemory}
 use Rattle.brick_store.specs.Bricks.{fault_of}
 use Rattle.brick_store.specs.Steps.{changed, HasAppendRoom}
+use Rattle.frame_store.specs.Listed.{Fits}
+use Rattle.brick_store.specs.Calls.{HasFrameRoom}
+use Rattle.brick_store.proofs.Counting.{append_counted, most_few}
 use Rattle.brick_store.proofs.Stepping.{call_made, call_refused, call_moments, steps_both, may_go_on, nothing_changed, leads_changed, memory_refused, refused, room_less, step_stopped}
 use Rattle.brick_store.proofs.commits.append_version.Goals as goal
 
@@ -66,3 +69,10 @@ returns-in_err-make_room-clause-step g c =
     let st = state_of index in
     let p = err_from_is_err_and c.from_residual-in_err-make_room.result c.from_residual-in_err-make_room.ensures.1 in
     rw (p.1, p.2) (step_stopped d.tells d.seen d.may_leave d.moment d.left_since (Some (c.args.slot, c.args.block.now)) st (changed (limits_of index) c.args.item.now st) c.args.frames.now c.make_room.new.frames c.in_err-make_room.field-0.0 c.in_err-make_room.ensures.step)
+
+pub returns-clause-counted : goal.returns-clause-counted
+returns-clause-counted g c = λ told.
+    let moment = g.D.Disk.moment in
+    let old = c.args.frames.now in
+    append_counted (Fits old.shape old.frames c.len.result) (HasFrameRoom old.shape old.frames) 5 (moment old.disk) (moment c.make_room.new.frames.disk) (moment c.append_with.new.self.disk)
+    (λ room. omega (arith, room, c.len.ensures, c.in_ok-frame.ensures.size, most_few c.args.item.now)) (c.in_ok-make_room.ensures.counted told) (c.in_ok-append_with.ensures.counted told)

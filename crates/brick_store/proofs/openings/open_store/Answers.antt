@@ -1,5 +1,5 @@
 -- What was opened is what the disk held, counted.
-use Rattle.std.proofs.Common.{◌≡◌, ◌+◌, Err, refl, sym, ap, subst, ◌∙◌}
+use Rattle.std.proofs.Common.{◌≡◌, ◌+◌, ◌<◌, Err, refl, sym, ap, subst}
 use Rattle.fab_disk.specs.Disk.{LeavesOnly}
 use Rattle.frame_store.specs.declared.shapes.Shape.{Shape}
 use Rattle.frame_store.specs.Layouts.{shape_of}
@@ -9,7 +9,7 @@ use Rattle.brick_state.specs.States.{StateOf, booted}
 use Rattle.brick_store.specs.Blocks.{resolved, cached}
 use Rattle.brick_store.specs.Images.{IsFound, StandsFor, StandsForEither, LeavesState}
 use Rattle.brick_store.specs.Openings.{IsAllowedOr}
-use Rattle.brick_store.proofs.Opened.{state_counted, found_there, boot_there, opening_moments, synced_moments, standing_leaves}
+use Rattle.brick_store.proofs.Opened.{state_counted, found_there, worn_there, opening_moments, synced_moments, standing_leaves}
 use Rattle.brick_store.proofs.openings.open_store.Goals as goal
 
 pub returns-in-Ok-take_up-clause-state : goal.returns-in-Ok-take_up-clause-state
@@ -31,8 +31,8 @@ returns-in-Ok-take_up-clause-found g c = λ told.
     let made = c.in-Ok-take_up.ensures in
     let taken = c.in-Ok-take_up.taken in
     let size = c.take_up.new.frames.shape.block in
-    subst (λ (s : Shape). (st : StateOf Version) × IsFound s st (d.seen c.args.disk) × (resolved (cached size taken.blocks) (state_of taken.index) ≡ booted (st.boot + 1) st)) here.shape
-    (found_there d.seen held (here.read told here.runs) (d.seen c.args.disk) here.untouched.content taken.blocks size (state_of taken.index) (ap (λ (s : Shape). s.block) made.shape) (made.stored told) made.state)
+    subst (λ (s : Shape). (st : StateOf Version) × IsFound s st (d.seen c.args.disk) × (st.boot < 4294967295) × (resolved (cached size taken.blocks) (state_of taken.index) ≡ booted (st.boot + 1) st)) here.shape
+    (found_there d.seen held (here.read told here.runs) (d.seen c.args.disk) here.untouched.content taken.blocks size (state_of taken.index) (ap (λ (s : Shape). s.block) made.shape) (made.stored told) made.state (made.boots refl))
 
 pub returns-in-Ok-take_up-clause-durable : goal.returns-in-Ok-take_up-clause-durable
 returns-in-Ok-take_up-clause-durable g c = λ told.
@@ -88,5 +88,5 @@ returns-in-Err-take_up-clause-worn g c = λ is told.
     let d = g.D.Disk in
     let held = c.in-Ok.frames in
     let here = c.in-Ok.ensures in
-    subst (λ (s : Shape). (st : StateOf Version) → StandsFor s st (d.seen c.args.disk) → st.boot ≡ 4294967295) here.shape
-    (λ st stands. boot_there d.seen held (here.read told here.runs) (d.seen c.args.disk) here.untouched.content st stands ∙ c.in-Err-take_up.ensures.worn (ap Err is))
+    subst (λ (s : Shape). (st : StateOf Version) × IsFound s st (d.seen c.args.disk) × (st.boot ≡ 4294967295)) here.shape
+    (worn_there d.seen held (here.read told here.runs) (d.seen c.args.disk) here.untouched.content (c.in-Err-take_up.ensures.worn (ap Err is)))

@@ -9,11 +9,13 @@ use Rattle.brick_state.specs.States.{StateOf, booted}
 use Rattle.brick_state.specs.Indexes.{state_of}
 use Rattle.brick_state.specs.Indexes as indexes
 use Rattle.brick_store.specs.Steps.{IsMoment, changed}
+use Rattle.brick_store.specs.Calls.{HasFrameRoom}
+use Rattle.brick_store.proofs.Counting.{start_counted}
 use Rattle.brick_store.proofs.Starting.{counted, counted_moments}
 use Rattle.brick_store.proofs.starts.start.Goals as goal
 
-pub returns-clause-counted : goal.returns-clause-counted
-returns-clause-counted g c =
+pub returns-clause-made : goal.returns-clause-made
+returns-clause-made g c =
     let st = state_of c.args.index.now in
     let is : changed (indexes.limits_of c.args.index.now) (forms.Kept (Boot (c.boot-count.result + 1))) st ≡ booted (c.args.index.now.boot + 1) st =
     counted (indexes.limits_of c.args.index.now) (c.boot-count.result + 1) st ∙ ap (λ (n : ℕ). booted (n + 1) st) c.boot-count.ensures in
@@ -32,3 +34,9 @@ returns-clause-moments g c = λ told closed.
     c.settle.ensures.shape (c.commit.ensures.step.moments told) in
     counted_moments d.moment d.left_since (d.may_leave old.disk) old.shape st (booted (c.args.index.now.boot + 1) st) (d.seen old.disk) old.disk mid.disk new.disk (d.seen mid.disk) (c.in_ok-settle.ensures.slots told) (c.settle.ensures.moments told closed)
     (subst (λ (s : StateOf Entry). LeavesOnly d.moment d.left_since mid.disk new.disk (IsMoment old.shape None st s (d.seen mid.disk))) is step)
+
+pub returns-clause-counted : goal.returns-clause-counted
+returns-clause-counted g c = λ told.
+    let moment = g.D.Disk.moment in
+    let mid = c.settle.new.frames in
+    start_counted c.commit.result (HasFrameRoom mid.shape mid.frames) (moment c.args.frames.now.disk) (moment mid.disk) (moment c.commit.new.frames.disk) (c.in_ok-settle.ensures.counted told) (c.commit.ensures.counted told)

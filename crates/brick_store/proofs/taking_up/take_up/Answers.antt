@@ -1,5 +1,5 @@
 -- What was read stands, and at each moment each image opens as it or was allowed before.
-use Rattle.std.proofs.Common.{◌≡◌, ◌+◌, ℕ, List, None, sym, subst, ◌∙◌, arith}
+use Rattle.std.proofs.Common.{◌≡◌, ◌+◌, ℕ, List, None, sym, ap, subst, ◌∙◌, arith}
 use Rattle.std.specs.Prelude.{replicate}
 use Rattle.std.proofs.lemmas.Grind.{common_steps}
 use Rattle.fab_disk.specs.Disk.{LeavesOnly}
@@ -52,10 +52,13 @@ returns-clause-standing g c =
     let shape : mid.shape ≡ old.shape = c.load.ensures.same.shape in
     let zero_is : c.from_vec-zero.result ≡ replicate old.shape.block 0 = grind (arith, common_steps) in
     standing_from d.tells d.seen d.may_leave d.moment d.left_since new c.start.new.index c.in_ok-loaded.loaded.blocks c.from_vec-zero.result old.shape old.frames (d.seen old.disk) (indexes.limits_of index) (state_of index) c.in_ok-loaded.loaded.folded.whole
-    (c.start.ensures.shape ∙ shape) c.requires.shape c.in_ok-loaded.ensures.loaded zero_is c.start.ensures.limits here.counted
+    (c.start.ensures.shape ∙ shape) c.requires.shape c.in_ok-loaded.ensures.loaded zero_is c.start.ensures.limits here.made
     (subst (λ (s : Shape). Leads (limits_of s) new.frames empty (state_of c.start.new.index)) shape here.leads) here.settled
     (λ told. subst (λ (x : List ℕ). KeepsSlots old.shape None x (d.seen new.disk)) c.load.ensures.untouched.content (subst (λ (s : Shape). KeepsSlots s None (d.seen mid.disk) (d.seen new.disk)) shape (here.slots told)))
 
 pub returns-clause-stored : goal.returns-clause-stored
 returns-clause-stored g c = λ told.
     subst (λ (x : StateOf Entry). AllSlots (IsStored c.args.frames.now.shape c.in_ok-loaded.loaded.blocks (g.D.Disk.seen c.args.frames.now.disk)) x) (sym c.in_ok-loaded.ensures.loaded.found) (c.in_ok-loaded.ensures.loaded.stored told)
+
+pub returns-clause-boots : goal.returns-clause-boots
+returns-clause-boots g c = λ ok. omega (arith, c.in_ok-loaded.ensures.loaded.boots, ap (λ (x : StateOf Entry). x.boot) c.in_ok-loaded.ensures.loaded.found)

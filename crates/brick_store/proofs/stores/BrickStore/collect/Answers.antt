@@ -55,9 +55,9 @@ returns g c =
     let tried = changes_plain d.tells d.seen d.may_leave d.moment d.left_since d.faults d.sound x.blocks x.zero x.frames c.commit.new.frames x.index
     (forms.Logged (record { group = c.args.group; view = c.args.view; stripe = c.args.stripe; stamp = c.args.stamp; change = Collect })) (state_of c.commit.new.index) (collected stamp_of p c.args.stamp st) false c.commit.result c.self.invariant c.in_ok-ready.ensures.runs c.in_ok-ready.ensures.free
     (collect_applied (limits_of x.index) c.args.group c.args.view c.args.stripe c.args.stamp st c.requires.group held)
-    (λ P zero all. slots_collected P p c.args.stamp st all) c.commit.ensures.step c.commit.ensures.made c.commit.ensures.not_made c.commit.ensures.cause in
+    (λ P zero all. slots_collected P p c.args.stamp st all) c.commit.ensures.step c.commit.ensures.made c.commit.ensures.not_made c.commit.ensures.cause c.commit.ensures.counted in
     told_of d.tells d.seen d.may_leave d.moment d.left_since d.faults d.sound x.blocks x.frames c.commit.new.frames st (state_of c.commit.new.index) (collected stamp_of p c.args.stamp st) c.args.self.now
-    (λ s. collected version_stamp (place c.args.group c.args.view c.args.stripe) c.args.stamp s) (λ s. false) false c.commit.result c.self.view_is (collected-resolved (cached x.frames.shape.block x.blocks) p c.args.stamp st) refl tried
+    (λ s. collected version_stamp (place c.args.group c.args.view c.args.stripe) c.args.stamp s) (λ s. false) false 4 c.commit.result c.self.view_is (collected-resolved (cached x.frames.shape.block x.blocks) p c.args.stamp st) refl tried
 
 pub returns-in_err-ready : goal.returns-in_err-ready
 returns-in_err-ready g c =
@@ -66,4 +66,4 @@ returns-in_err-ready g c =
     let f = c.in_err-ready.field-0.0 in
     let q = err_from_is_err_and c.from_residual.result c.from_residual.ensures.1 in
     rw (q.1, q.2) (told_refused d.tells d.seen d.may_leave d.moment d.left_since d.faults d.sound g.met.D.Disk.only_now x.blocks x.zero x.frames x.index c.args.self.now
-    (λ s. collected version_stamp (place c.args.group c.args.view c.args.stripe) c.args.stamp s) (λ s. false) false f c.self.view_is refl c.self.invariant c.in_err-ready.ensures.refused)
+    (λ s. collected version_stamp (place c.args.group c.args.view c.args.stripe) c.args.stamp s) (λ s. false) false 4 f c.self.view_is refl c.self.invariant c.in_err-ready.ensures.refused)

@@ -53,9 +53,9 @@ returns g c =
     let tried = changes_plain d.tells d.seen d.may_leave d.moment d.left_since d.faults d.sound x.blocks x.zero x.frames c.commit.new.frames x.index
     (forms.Kept (kinds.View c.args.group c.args.view false)) (state_of c.commit.new.index) (viewed c.args.group.0 c.args.view false st) false c.commit.result c.self.invariant c.in_ok-ready.ensures.runs c.in_ok-ready.ensures.free
     (view_applied (limits_of x.index) c.args.group c.args.view false st c.requires.group above)
-    (λ P zero all. slots_viewed P c.args.group.0 c.args.view false st all) c.commit.ensures.step c.commit.ensures.made c.commit.ensures.not_made c.commit.ensures.cause in
+    (λ P zero all. slots_viewed P c.args.group.0 c.args.view false st all) c.commit.ensures.step c.commit.ensures.made c.commit.ensures.not_made c.commit.ensures.cause c.commit.ensures.counted in
     told_of d.tells d.seen d.may_leave d.moment d.left_since d.faults d.sound x.blocks x.frames c.commit.new.frames st (state_of c.commit.new.index) (viewed c.args.group.0 c.args.view false st) c.args.self.now
-    (λ s. viewed c.args.group.0 c.args.view false s) (λ s. false) false c.commit.result c.self.view_is (viewed-resolved (cached x.frames.shape.block x.blocks) c.args.group.0 c.args.view false st) refl tried
+    (λ s. viewed c.args.group.0 c.args.view false s) (λ s. false) false 4 c.commit.result c.self.view_is (viewed-resolved (cached x.frames.shape.block x.blocks) c.args.group.0 c.args.view false st) refl tried
 
 pub returns-in_err-ready : goal.returns-in_err-ready
 returns-in_err-ready g c =
@@ -64,4 +64,4 @@ returns-in_err-ready g c =
     let f = c.in_err-ready.field-0.0 in
     let q = err_from_is_err_and c.from_residual.result c.from_residual.ensures.1 in
     rw (q.1, q.2) (told_refused d.tells d.seen d.may_leave d.moment d.left_since d.faults d.sound g.met.D.Disk.only_now x.blocks x.zero x.frames x.index c.args.self.now
-    (λ s. viewed c.args.group.0 c.args.view false s) (λ s. false) false f c.self.view_is refl c.self.invariant c.in_err-ready.ensures.refused)
+    (λ s. viewed c.args.group.0 c.args.view false s) (λ s. false) false 4 f c.self.view_is refl c.self.invariant c.in_err-ready.ensures.refused)

@@ -66,9 +66,9 @@ returns g c =
     let tried = changes_plain d.tells d.seen d.may_leave d.moment d.left_since d.faults d.sound x.blocks x.zero x.frames c.commit.new.frames x.index
     (forms.Kept (kinds.View c.args.group c.learnt_view.result true)) (state_of c.commit.new.index) (viewed c.args.group.0 c.learnt_view.result true st) false c.commit.result c.self.invariant c.in_ok-ready.ensures.runs c.in_ok-ready.ensures.free
     (view_applied (limits_of x.index) c.args.group c.learnt_view.result true st c.requires.group sound.0)
-    (λ P zero all. slots_viewed P c.args.group.0 c.learnt_view.result true st all) c.commit.ensures.step c.commit.ensures.made c.commit.ensures.not_made c.commit.ensures.cause in
+    (λ P zero all. slots_viewed P c.args.group.0 c.learnt_view.result true st all) c.commit.ensures.step c.commit.ensures.made c.commit.ensures.not_made c.commit.ensures.cause c.commit.ensures.counted in
     told_of d.tells d.seen d.may_leave d.moment d.left_since d.faults d.sound x.blocks x.frames c.commit.new.frames st (state_of c.commit.new.index) (viewed c.args.group.0 c.learnt_view.result true st) c.args.self.now
-    (λ s. all_synced c.args.group.0 s) (λ s. false) false c.commit.result c.self.view_is (viewed-resolved (cached x.frames.shape.block x.blocks) c.args.group.0 c.learnt_view.result true st ∙ ap (λ (o : Option View). synced_to o c.args.group.0 (resolved (cached x.frames.shape.block x.blocks) st)) (sym (ap (λ (gs : List Group). learnt_view (slice_index_or gs c.args.group.0 no_group)) (groups-resolved (cached x.frames.shape.block x.blocks) st) ∙ is))) refl tried
+    (λ s. all_synced c.args.group.0 s) (λ s. false) false 4 c.commit.result c.self.view_is (viewed-resolved (cached x.frames.shape.block x.blocks) c.args.group.0 c.learnt_view.result true st ∙ ap (λ (o : Option View). synced_to o c.args.group.0 (resolved (cached x.frames.shape.block x.blocks) st)) (sym (ap (λ (gs : List Group). learnt_view (slice_index_or gs c.args.group.0 no_group)) (groups-resolved (cached x.frames.shape.block x.blocks) st) ∙ is))) refl tried
 
 pub returns-in_err-ready : goal.returns-in_err-ready
 returns-in_err-ready g c =
@@ -77,4 +77,4 @@ returns-in_err-ready g c =
     let f = c.in_err-ready.field-0.0 in
     let q = err_from_is_err_and c.from_residual.result c.from_residual.ensures.1 in
     rw (q.1, q.2) (told_refused d.tells d.seen d.may_leave d.moment d.left_since d.faults d.sound g.met.D.Disk.only_now x.blocks x.zero x.frames x.index c.args.self.now
-    (λ s. all_synced c.args.group.0 s) (λ s. false) false f c.self.view_is refl c.self.invariant c.in_err-ready.ensures.refused)
+    (λ s. all_synced c.args.group.0 s) (λ s. false) false 4 f c.self.view_is refl c.self.invariant c.in_err-ready.ensures.refused)
