@@ -4,7 +4,7 @@ use Rattle.std.specs.Option.{ForSome}
 use Rattle.fab_base.specs.Stamps.{stamp_below}
 use Rattle.version_log.specs.Versions.{Version, newest}
 use Rattle.store_tests.proofs.Shapes.{same_shape}
-use Rattle.store_tests.proofs.tests.version.Goals as goal
+use Rattle.store_tests.proofs.changes.version.Goals as goal
 
 pub add_version-requires-clause-above : goal.add_version-requires-clause-above
 add_version-requires-clause-above g c = record {

@@ -4,7 +4,7 @@ use Rattle.std.specs.Option.{IsSome}
 use Rattle.std.specs.List.{find}
 use Rattle.version_log.specs.Versions.{Version, has_stamp}
 use Rattle.store_tests.proofs.Shapes.{same_shape}
-use Rattle.store_tests.proofs.tests.collect.Goals as goal
+use Rattle.store_tests.proofs.changes.collect.Goals as goal
 
 pub collect-requires-clause-held : goal.collect-requires-clause-held
 collect-requires-clause-held g c =
