@@ -1,7 +1,5 @@
 //! Disks that stop or fail in one of their calls.
 
-ghost use Rattle.std.specs.Prelude.{◌≡◌, ◌<◌};
-
 use crate::pictures::Picture;
 use fab_disk::Plan;
 use std::alloc::{AllocError, Global};
@@ -25,7 +23,8 @@ pub struct Case {
 impl Case {
     // A case of something that makes so many calls of the disk: the last but one opens the gate of what is appended, and the
     // last one makes that durable. A call that is stopped may have done its work, one that fails has done none.
-    fn of(plan: Plan, pick: u64, calls: u64) -> Case {
+    pub fn of(plan: Plan, pick: u64, calls: u8) -> Case {
+        let calls = u64::from(calls);
         let (number, opens) = match plan {
             Plan::Never => (u64::MAX, true),
             Plan::Stop(number) => (number, calls <= number.saturating_add(1)),
@@ -56,11 +55,9 @@ impl Case {
 }
 
 // Each case of something that makes so many calls, and of the call after them.
-pub fn cases(alloc: Global, calls: u64) -> Result<Vec<Case>, AllocError>
-    requires { calls < 100 }
-{
+pub fn cases(alloc: Global, calls: u8) -> Result<Vec<Case>, AllocError> {
     let mut cases = Vec::new(alloc);
-    for number in 1..calls + 2 {
+    for number in 1..u64::from(calls) + 2 {
         for plan in [Plan::Stop(number), Plan::Fail(number)] {
             for pick in 0..3 {
                 cases.push(Case::of(plan, pick, calls))?;

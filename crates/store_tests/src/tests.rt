@@ -1,5 +1,3 @@
-ghost use Rattle.std.specs.Prelude.{◌<◌};
-
 use crate::cases::{Case, cases};
 use crate::changes::{
     Change, GROUP, ME, STRIPE, collect, formatted, fresh, opened, order, prepared, stamp, tried, try_open, version,
@@ -46,14 +44,11 @@ fn each_call(
     alloc: Global,
     bytes: &[u8],
     change: Change,
-    calls: u64,
-) -> Result<(), StoreFault>
-    requires { calls < 100 }
-{
-    let mut store = opened(alloc, disk_of(alloc, bytes)?)?;
-    let before = Picture { boot: 3, ..look_at(&store) };
-    tried(alloc, &mut store, change)?;
-    let after = Picture { boot: 3, ..look_at(&store) };
+    calls: u8,
+) -> Result<(), StoreFault> {
+    let untouched = opened(alloc, disk_of(alloc, bytes)?)?;
+    let before = reopened(alloc, untouched.into_disk())?;
+    let after = changed(alloc, bytes, change, Case::of(Plan::Never, 1, calls))?;
     assert!(rt; before != after, "{change:?}");
     for case in cases(alloc, calls)? {
         let found = changed(alloc, bytes, change, case)?;

@@ -11,4 +11,4 @@ collect-requires-clause-held g c =
     subst (λ (log : List Version). IsSome (find (has_stamp c.stamp-at.result) log)) c.state.ensures.log (c.if-not-held.ensures refl)
 
 pub returns : goal.returns
-returns g c = same_shape _ _ _ _ _ _ _ _ _ _ _ _ c.collect.ensures
+returns g c = same_shape c.collect.ensures

@@ -3,4 +3,4 @@ use Rattle.store_tests.proofs.Shapes.{same_shape}
 use Rattle.store_tests.proofs.changes.learn.Goals as goal
 
 pub returns : goal.returns
-returns g c = same_shape _ _ _ _ _ _ _ _ _ _ _ _ c.learn.ensures
+returns g c = same_shape c.learn.ensures

@@ -13,4 +13,4 @@ add_version-requires-clause-above g c = record {
 }
 
 pub returns : goal.returns
-returns g c = same_shape _ _ _ _ _ _ _ _ _ _ _ _ c.add_version.ensures
+returns g c = same_shape c.add_version.ensures
