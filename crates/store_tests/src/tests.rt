@@ -1,6 +1,7 @@
 use crate::cases::{Case, cases};
 use crate::changes::{
-    Change, GROUP, ME, STRIPE, collect, formatted, fresh, opened, order, prepared, stamp, tried, try_open, version,
+    Change, GROUP, ME, STRIPE, collect, formatted, fresh, opened, order, prepared, stamp, tried,
+    try_open, version,
 };
 use crate::pictures::{Picture, look_at};
 use brick_store::{BrickStore, StoreFault};
@@ -52,7 +53,10 @@ fn each_call(
     assert!(rt; before != after, "{change:?}");
     for case in cases(alloc, calls)? {
         let found = changed(alloc, bytes, change, case)?;
-        assert!(rt; case.allows(found, before, after), "{change:?} {case:?} {found:?}");
+        assert!(rt;
+            case.allows(found, before, after),
+            "{change:?} {case:?} {found:?}"
+        );
     }
     Ok(())
 }
