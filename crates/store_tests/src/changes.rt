@@ -1,4 +1,5 @@
 //! Stores, and the changes that are tried on them.
+#![tactic(auto, using(crate::proofs::Shapes::same_shape))]
 
 ghost use Rattle.std.specs.Prelude.{◌≡◌, length, find, IsSome, IsTrue, IfOk};
 ghost use Rattle.std.specs.Option.{ForSome};

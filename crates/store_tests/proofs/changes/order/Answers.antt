@@ -1,6 +1,0 @@
--- A change keeps what a store was made for.
-use Rattle.store_tests.proofs.Shapes.{same_shape}
-use Rattle.store_tests.proofs.changes.order.Goals as goal
-
-pub returns : goal.returns
-returns g c = same_shape c.set_order.ensures
