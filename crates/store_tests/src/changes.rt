@@ -18,7 +18,7 @@ pub const GROUP: GroupId = GroupId(0);
 
 pub const STRIPE: StripeNo = StripeNo(7);
 
-// What is tried on a store.
+// What is tried on a store: a function below for each, which answers `NotAStore` where the store may not be asked for it.
 #[derive(Clone, Copy, Debug)]
 pub enum Change {
     Order,
@@ -37,6 +37,7 @@ pub fn try_open<D: Disk>(alloc: Global, disk: D) -> Result<BrickStore<D>, (Store
     open_store(alloc, disk, ME, 2, 100)
 }
 
+// A store that is opened.
 pub fn opened<D: Disk + Drop>(alloc: Global, disk: D) -> Result<BrickStore<D>, StoreFault>
     ensures { IfOk result (λ store. store.shape ≡ shape_of 5 2 100) }
 {
@@ -106,6 +107,7 @@ fn is_above(state: &State<'_>, stamp: Stamp) -> bool
     }
 }
 
+// Adds a version whose block begins with this byte.
 pub fn version<D: Disk>(
     alloc: Global,
     store: &mut BrickStore<D>,
@@ -184,6 +186,7 @@ fn all_synced<D: Disk>(store: &mut BrickStore<D>) -> Result<(), StoreFault>
     store.synced(GROUP, learnt)
 }
 
+// Tries a change of a store that was prepared for it.
 pub fn tried<D: Disk>(
     alloc: Global,
     store: &mut BrickStore<D>,

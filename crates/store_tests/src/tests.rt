@@ -23,7 +23,7 @@ fn reopened(alloc: Global, disk: MemDisk) -> Result<Picture, StoreFault> {
     Ok(look_at(&store))
 }
 
-// What is found once a change was tried and the disk settled.
+// What a store tells once the disk of one that was cut off is settled by this number.
 fn settled(alloc: Global, disk: MemDisk, pick: u64) -> Result<Picture, StoreFault> {
     let mut disk = disk;
     disk.settle(pick);
@@ -31,8 +31,13 @@ fn settled(alloc: Global, disk: MemDisk, pick: u64) -> Result<Picture, StoreFaul
     reopened(alloc, disk)
 }
 
-// What is found after a change of the store that these bytes hold.
-fn changed(alloc: Global, bytes: &[u8], change: Change, case: Case) -> Result<Picture, StoreFault> {
+// What is found after a change of the store that these bytes hold, in this case.
+fn after_change(
+    alloc: Global,
+    bytes: &[u8],
+    change: Change,
+    case: Case,
+) -> Result<Picture, StoreFault> {
     let mut store = opened(alloc, disk_of(alloc, bytes)?)?;
     store.arm(case.plan);
     let _ = tried(alloc, &mut store, change);
@@ -49,10 +54,10 @@ fn each_call(
 ) -> Result<(), StoreFault> {
     let untouched = opened(alloc, disk_of(alloc, bytes)?)?;
     let before = reopened(alloc, untouched.into_disk())?;
-    let after = changed(alloc, bytes, change, Case::of(Plan::Never, 1, calls))?;
+    let after = after_change(alloc, bytes, change, Case::of(Plan::Never, 1, calls))?;
     assert!(rt; before != after, "{change:?}");
     for case in cases(alloc, calls)? {
-        let found = changed(alloc, bytes, change, case)?;
+        let found = after_change(alloc, bytes, change, case)?;
         assert!(rt;
             case.allows(found, before, after),
             "{change:?} {case:?} {found:?}"
@@ -111,8 +116,8 @@ fn a_rewrite_is_whole_or_not_there(rt: HostRuntime) -> Result<(), Fail> {
     Ok(())
 }
 
-// What is found after an opening of the store that these bytes hold.
-fn opened_in(alloc: Global, bytes: &[u8], case: Case) -> Result<Picture, StoreFault> {
+// What is found after an opening of the store that these bytes hold, in this case.
+fn after_opening(alloc: Global, bytes: &[u8], case: Case) -> Result<Picture, StoreFault> {
     let mut disk = disk_of(alloc, bytes)?;
     disk.arm(case.plan);
     let disk = match try_open(alloc, disk) {
@@ -133,7 +138,7 @@ fn an_opening_is_counted_or_not(rt: HostRuntime) -> Result<(), Fail> {
     let before = Picture { boot: 2, ..picture };
     let after = Picture { boot: 3, ..picture };
     for case in cases(alloc, 5)? {
-        let found = opened_in(alloc, disk.bytes(), case)?;
+        let found = after_opening(alloc, disk.bytes(), case)?;
         assert!(rt; case.allows(found, before, after), "{case:?} {found:?}");
     }
     Ok(())

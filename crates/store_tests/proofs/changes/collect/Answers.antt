@@ -7,4 +7,5 @@ use Rattle.store_tests.proofs.changes.collect.Goals as goal
 
 pub collect-requires-clause-held : goal.collect-requires-clause-held
 collect-requires-clause-held g c =
-    subst (λ (log : List Version). IsSome (find (has_stamp c.stamp-at.result) log)) c.state.ensures.log (c.if-not-held.ensures refl)
+    subst (λ (log : List Version). IsSome (find (has_stamp c.stamp-at.result) log))
+    c.state.ensures.log (c.if-not-held.ensures refl)

@@ -7,6 +7,8 @@ use Rattle.store_tests.proofs.changes.version.Goals as goal
 
 pub add_version-requires-clause-above : goal.add_version-requires-clause-above
 add_version-requires-clause-above g c = record {
-  above = subst (λ (log : List Version). ForSome (newest log) (λ top. IsTrue (stamp_below top.stamp c.stamp-at.result))) c.state.ensures.log (c.if-not-above.ensures refl);
+  above =
+      subst (λ (log : List Version). ForSome (newest log) (λ top. IsTrue (stamp_below top.stamp c.stamp-at.result)))
+      c.state.ensures.log (c.if-not-above.ensures refl);
   content = λ e. refl;
 }
