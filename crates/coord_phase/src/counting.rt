@@ -58,7 +58,7 @@ fn answers(block: u16, stamp: Stamp, phase: Phase, reply: &Reply) -> bool
         | (Phase::Stores, Reply::Stored)
         | (
             Phase::Orders | Phase::Recovers | Phase::Descends(_) | Phase::Stores,
-            Reply::Later { .. },
+            Reply::Later { .. } | Reply::Full { .. },
         ) => true,
         _ => false,
     }

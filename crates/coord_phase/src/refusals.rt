@@ -1,11 +1,11 @@
-//! The members that told a later stamp.
+//! The members that told a later stamp, or that their store is full.
 
 ghost use Rattle.std.specs.Prelude.{◌≡◌, length};
-ghost use Rattle.protocol.specs.Coordinators.{refuser_of, greater_refuser, greatest_refuser};
+ghost use Rattle.protocol.specs.Coordinators.{refuser_of, greater_refuser, greatest_refuser, full_member_of, lower_full, lowest_full};
 
 use crate::operations::Operation;
 use fab_wire::Reply;
-use protocol::{Counted, Refuser};
+use protocol::{Counted, FullMember, Refuser};
 
 /// The member that told a later stamp, if this reply did.
 fn refuser(counted: &Counted) -> Option<Refuser>
@@ -52,14 +52,62 @@ fn greatest(counted: &[Counted]) -> Option<Refuser>
     }
 }
 
+/// The member that told that its store is full, if this reply did.
+fn full_member(counted: &Counted) -> Option<FullMember>
+    ensures { result ≡ full_member_of counted.now }
+{
+    match &counted.reply {
+        Reply::Full { live } => Some(FullMember {
+            seat: counted.seat,
+            brick: counted.brick,
+            live: *live,
+        }),
+        _ => None,
+    }
+}
+
+/// Of two such members the one of the lower seat.
+fn lower(left: Option<FullMember>, right: Option<FullMember>) -> Option<FullMember>
+    ensures { result ≡ lower_full left right }
+{
+    match (left, right) {
+        (None, right) => right,
+        (Some(left), None) => Some(left),
+        (Some(left), Some(right)) => {
+            if right.seat < left.seat {
+                Some(right)
+            } else {
+                Some(left)
+            }
+        }
+    }
+}
+
+/// The member of the lowest seat that told that its store is full, if one did.
+fn lowest(counted: &[Counted]) -> Option<FullMember>
+    ensures { result ≡ lowest_full counted.now }
+{
+    match counted.split_first() {
+        None => None,
+        Some((first, others)) => lower(full_member(first), lowest(others)),
+    }
+}
+
 impl Operation {
     ghost use Rattle.std.specs.Prelude.{◌≡◌};
-    ghost use Rattle.protocol.specs.Coordinators.{greatest_refuser};
+    ghost use Rattle.protocol.specs.Coordinators.{greatest_refuser, lowest_full};
 
     /// The member that told the greatest later stamp, if one did; of equals, the one of the lowest seat.
     pub fn refuser(&self) -> Option<Refuser>
         ensures { result ≡ greatest_refuser self.now.state.counted }
     {
         greatest(self.counted.as_slice())
+    }
+
+    /// The member of the lowest seat that told that its store is full, if one did.
+    pub fn full_member(&self) -> Option<FullMember>
+        ensures { result ≡ lowest_full self.now.state.counted }
+    {
+        lowest(self.counted.as_slice())
     }
 }

@@ -6,7 +6,7 @@ use crate::messages::messages;
 use crate::operations::{Operation, Stage, stored};
 use fab_base::{Answer, Bytes, CallId, Cause, NoMem, Note, Op, Stamp};
 use fab_wire::{Messages, Next, Turn};
-use protocol::{Phase, Refuser};
+use protocol::{FullMember, Phase, Refuser};
 use std::alloc::Global;
 
 /// How many rounds of ordering an operation may begin.
@@ -14,7 +14,7 @@ pub const MOST_ROUNDS: u8 = 4;
 
 impl Operation {
     ghost use Rattle.std.specs.Prelude.{◌≡◌, ◌-◌, ◌*◌, ◌<◌, ◌^◌, true, None, Some, IfOk, OnOk, OnErr, length};
-    ghost use Rattle.protocol.specs.Coordinators.{Ends, Makes, next_phase, in_phase, restoring, reordering, ordered_again, answer_of, greatest_refuser, aborted_by, unless_refused, stored_by, stored_content};
+    ghost use Rattle.protocol.specs.Coordinators.{Ends, Makes, next_phase, in_phase, restoring, reordering, ordered_again, answer_of, greatest_refuser, aborted_by, aborted_full, unless_refused, stored_by, stored_content};
     ghost use Rattle.protocol.specs.declared.phases.Phase.TheVariants.{Orders, Stores};
     ghost use Rattle.coord_phase.specs.Operations.{telling, at_stage, is_ordering, StoresBlocks, StaysAsked};
     ghost use Rattle.coord_phase.specs.Messages.{phase_messages};
@@ -140,6 +140,21 @@ impl Operation {
         Next::End(Answer::Aborted(Cause::Later {
             brick: refuser.brick,
             stamp: refuser.stamp,
+        }))
+    }
+
+    /// Ends the operation, since this member's store is full.
+    pub fn abort_full(&mut self, member: FullMember) -> Next
+        ensures next { decision self.new result ≡ aborted_full member }
+        ensures state { self.new ≡ telling self.old self.old.state None }
+        ensures sent { SendsPhase self.new result }
+        ensures never { NeverRecovers result }
+    {
+        self.note = None;
+        self.made = None;
+        Next::End(Answer::Aborted(Cause::Full {
+            brick: member.brick,
+            live: member.live,
         }))
     }
 

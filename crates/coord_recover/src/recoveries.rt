@@ -154,7 +154,8 @@ impl Recovery {
         Ok(Next::Send(messages))
     }
 
-    /// What a quorum of replies decides, where a new round would have the fresh stamp. After want of memory nothing has changed.
+    /// What a quorum of replies decides, where a new round would have the fresh stamp. A member's full store aborts the operation,
+    /// whatever the others told. After want of memory nothing has changed.
     fn decide(&mut self, fresh: Option<Stamp>) -> Result<Next, NoMem>
         requires phase { self.old.state.call.phase < 2 ^ 32 - 1 }
         ensures next { IfOk result (λ next. decision self.new next ≡ decided (block_code self.old.block) self.old.group.m fresh self.old.state) }
@@ -164,6 +165,9 @@ impl Recovery {
         ensures stays { OnOk result (StaysAsked self.old self.new) }
         ensures err { OnErr result (self.new ≡ self.old) }
     {
+        if let Some(member) = self.op.full_member() {
+            return Ok(self.op.abort_full(member));
+        }
         match (self.op.stage().phase, self.op.refuser()) {
             (Phase::Stores, _) => self.op.end_store(self.alloc),
             (Phase::Recovers, Some(refuser)) => self.op.order_again(self.alloc, fresh, refuser),

@@ -1,4 +1,4 @@
-//! A worked example.
+//! Worked examples.
 
 ghost use Rattle.std.specs.Prelude.{length, IfSome};
 ghost use Rattle.quorum.specs.Quorums.{IsWithinLimits};
@@ -6,7 +6,8 @@ ghost use Rattle.coord_phase.specs.Operations.{group_in_view};
 
 use crate::Recovery;
 use fab_base::{
-    Answer, Ask, BrickId, Bytes, CallId, GroupId, Members, Note, Op, Stamp, StripeNo, View, ViewNo,
+    Answer, Ask, BrickId, Bytes, CallId, Cause, GroupId, Members, Note, Op, Stamp, StripeNo, View,
+    ViewNo,
 };
 use fab_wire::{Message, Next, Reply, Turn, Version};
 use layout::Layout;
@@ -92,5 +93,51 @@ fn one_brick(rt: HostRuntime) -> Result<(), Fail> {
     };
     assert_eq!(&rt; bytes.as_slice(), [0x80].as_slice());
     assert_eq!(&rt; recovery.made(), Some(recovery.stamp()));
+    Ok(())
+}
+
+// The stripe's only brick has a full store: the write is given up, as `full 0 1`.
+#[test]
+fn a_full_store(rt: HostRuntime) -> Result<(), Fail> {
+    let text =
+        b"block = 1\nbricks = 1\nrecords = 1\n[[group]]\nm = 1\nmembers = [0]\nstripes = 1\n";
+    let layout = Layout::read(rt.alloc(), text).ok().ok_or("layout")?;
+    if layout.block() != 1 {
+        return Err(Fail::from("block"));
+    }
+    let view = first_view(&layout).ok_or("view")?;
+    let ask = Ask {
+        group: GroupId(0),
+        stripe: StripeNo(0),
+        op: Op::WriteBlock(0, Bytes::from_slice(rt.alloc(), &[0x80])?),
+    };
+    let (mut recovery, next) = Recovery::start(
+        rt.alloc(),
+        &layout,
+        view,
+        CallId { boot: 1, seq: 1 },
+        1,
+        ask,
+        STAMP,
+        Turn::Order,
+    )?;
+    assert!(&rt; sends_one(&next));
+    let full = Message::Reply(
+        recovery.call(),
+        Reply::Full {
+            live: layout.records(),
+        },
+    );
+    assert!(&rt; recovery.counts(BrickId(0), &full));
+    let next = recovery.on_reply(BrickId(0), &full, None)?;
+    let Next::End(Answer::Aborted(cause)) = next else {
+        return Err(Fail::from("aborted"));
+    };
+    let full = Cause::Full {
+        brick: BrickId(0),
+        live: 1,
+    };
+    assert_eq!(&rt; cause, full);
+    assert_eq!(&rt; recovery.made(), None);
     Ok(())
 }

@@ -180,7 +180,8 @@ impl StripeOp {
         }
     }
 
-    /// What a quorum of replies decides, where a new round would have this fresh stamp.
+    /// What a quorum of replies decides, where a new round would have this fresh stamp. A member's full store aborts the operation,
+    /// whatever the others told.
     #[tactic(auto, unfolding(protocol::specs::Coordinators::decided))]
     fn decide(&mut self, fresh: Option<Stamp>) -> Result<Next, NoMem>
         requires enough { self.old.group.m ≤ length self.old.state.counted }
@@ -191,6 +192,9 @@ impl StripeOp {
         ensures stays { OnOk result (StaysAsked self.old self.new) }
         ensures err { OnErr result (self.new ≡ self.old) }
     {
+        if let Some(member) = self.op.full_member() {
+            return Ok(self.op.abort_full(member));
+        }
         match self.op.stage().phase {
             Phase::Looks => self.end_look(),
             Phase::Orders => self.end_order(fresh),

@@ -234,16 +234,20 @@ layout_is table description is =
     let (known, known_read, last) = passed (no_other Other top_keys table) _ description after_groups in
     let bytes = within_range keys.Block 1 4096 (integer_at table keys.Block) block block_read in
     let disk = within_range keys.Bricks 1 64 (integer_at table keys.Bricks) bricks bricks_read in
+    let room = within_range keys.Records 1 1048576 (integer_at table keys.Records) records records_read in
     let count = tables_are table tables tables_read in
     let all = groups_are block bricks tables groups groups_read in
-    let same : Ok (record { layout = record { block = block; bricks = bricks; groups = groups }; records = records; port = port }) ≡ Ok description = last in
-    let layout_same : record { block = block; bricks = bricks; groups = groups } ≡ description.layout =
-    ap (λ (d : Description). d.layout) (let e : record { layout = record { block = block; bricks = bricks; groups = groups }; records = records; port = port } ≡ description = cc in e) in
+    let same : Ok (record { layout = record { block = block; bricks = bricks; records = records; groups = groups }; port = port }) ≡ Ok description = last in
+    let layout_same : record { block = block; bricks = bricks; records = records; groups = groups } ≡ description.layout =
+    ap (λ (d : Description). d.layout)
+    (let e : record { layout = record { block = block; bricks = bricks; records = records; groups = groups }; port = port } ≡ description = cc in e) in
     subst IsLayout layout_same (record {
       some_byte = bytes.0;
       few_bytes = bytes.1;
       some_brick = disk.0;
       few_bricks = disk.1;
+      some_record = room.0;
+      few_records = room.1;
       some_group = omega (arith, all.count);
       few_groups = omega (arith, all.count);
       each = all.each;

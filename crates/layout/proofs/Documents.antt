@@ -41,7 +41,7 @@ three_copies-document : parse_document THREE_COPIES.now ≡ Some three_copies-ta
 unfolding toml_on_literals three_copies-table
 three_copies-document = refl
 
-three_copies-checks : description_in three_copies-table ≡ Ok (record { layout = three_copies; records = 100; port = 17000 })
+three_copies-checks : description_in three_copies-table ≡ Ok (record { layout = three_copies; port = 17000 })
 unfolding three_copies-table
 three_copies-checks = refl
 

@@ -191,4 +191,4 @@ description_in table = do
   tables ← tables_at table
   groups ← groups_in block bricks tables
   known ← no_other Other top_keys table
-  Ok (record { layout = record { block = block; bricks = bricks; groups = groups }; records = records; port = port })
+  Ok (record { layout = record { block = block; bricks = bricks; records = records; groups = groups }; port = port })

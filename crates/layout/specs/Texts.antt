@@ -30,6 +30,6 @@ layout_of text = description_of text >>= λ description. Ok description.layout
 abbrev pub three_members : Group
 three_members = record { members = record { 0 = 0 } ∷ (record { 0 = 1 } ∷ (record { 0 = 2 } ∷ [])); m = 1; stripes = 4 }
 
--- three bricks with blocks of one byte
+-- three bricks with blocks of one byte, each with room for 100 live records
 abbrev pub three_copies : Layout
-three_copies = record { block = 1; bricks = 3; groups = three_members ∷ [] }
+three_copies = record { block = 1; bricks = 3; records = 100; groups = three_members ∷ [] }

@@ -15,8 +15,6 @@ use toml::Table;
 pub struct Description {
     /// The layout.
     pub layout: Layout,
-    /// How many live records a brick's store has room for, 1 to 1,048,576.
-    pub records: u32,
     /// The UDP port of brick 0, 1 to 65,472; brick b has the port b above it.
     pub port: u16,
 }

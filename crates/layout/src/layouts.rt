@@ -1,6 +1,6 @@
 //! Layouts.
 
-ghost use Rattle.std.specs.Prelude.{◌≡◌, length, option_copied};
+ghost use Rattle.std.specs.Prelude.{◌≡◌, ◌<◌, length, option_copied, IfSome};
 ghost use Rattle.protocol.specs.Settings.{group_of};
 ghost use Rattle.layout.specs.Limits.{IsLayout};
 
@@ -13,6 +13,7 @@ use std::marker::Model;
 pub struct Layout {
     block: u16,
     bricks: u16,
+    records: u32,
     groups: Vec<Group>,
 }
 
@@ -22,20 +23,21 @@ impl Model for Layout {
 
     ghost Value = { Layout };
 
-    ghost view = { λ layout. record { block = layout.block; bricks = layout.bricks; groups = layout.groups.items } };
+    ghost view = { λ layout. record { block = layout.block; bricks = layout.bricks; records = layout.records; groups = layout.groups.items } };
 
-    ghost invariant = { λ layout. IsLayout (record { block = layout.block; bricks = layout.bricks; groups = layout.groups.items }) };
+    ghost invariant = { λ layout. IsLayout (record { block = layout.block; bricks = layout.bricks; records = layout.records; groups = layout.groups.items }) };
 }
 
 impl Layout {
-    // A layout of blocks of this many bytes, this many bricks, and these groups.
-    pub(crate) fn new(block: u16, bricks: u16, groups: Vec<Group>) -> Layout
-        requires { IsLayout (record { block = block; bricks = bricks; groups = groups.items }) }
-        ensures { result ≡ record { block = block; bricks = bricks; groups = groups.items } }
+    // A layout of blocks of this many bytes, this many bricks, each with room for so many live records, and these groups.
+    pub(crate) fn new(block: u16, bricks: u16, records: u32, groups: Vec<Group>) -> Layout
+        requires { IsLayout (record { block = block; bricks = bricks; records = records; groups = groups.items }) }
+        ensures { result ≡ record { block = block; bricks = bricks; records = records; groups = groups.items } }
     {
         Layout {
             block,
             bricks,
+            records,
             groups,
         }
     }
@@ -55,6 +57,14 @@ impl Layout {
         self.bricks
     }
 
+    /// How many live records a brick may keep, 1 to 1,048,576.
+    pub fn records(&self) -> u32
+        ensures value { result ≡ self.now.records }
+        ensures limits { IsLayout self.now }
+    {
+        self.records
+    }
+
     /// How many groups there are: numbers 0 to one below this.
     pub fn group_count(&self) -> usize
         ensures value { result ≡ length self.now.groups }
@@ -72,7 +82,8 @@ impl Layout {
 
     /// The group of this number, if there is one.
     pub fn group(&self, group: GroupId) -> Option<&Group>
-        ensures { option_copied result ≡ group_of self.now group.0 }
+        ensures found { option_copied result ≡ group_of self.now group.0 }
+        ensures few { IfSome result (λ found. group.0 < 64) }
     {
         self.groups.get(group.0 as usize)
     }

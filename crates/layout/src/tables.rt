@@ -292,8 +292,7 @@ pub fn description_in(alloc: Global, table: &Table) -> Result<Description, Layou
         });
     }
     Ok(Description {
-        layout: Layout::new(block, bricks, groups),
-        records,
+        layout: Layout::new(block, bricks, records, groups),
         port,
     })
 }

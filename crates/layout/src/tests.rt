@@ -419,15 +419,16 @@ fn counts_of_groups(rt: HostRuntime) -> Result<(), Fail> {
 fn what_a_text_says(rt: HostRuntime) -> Result<(), Fail> {
     let text =
         b"port = 9000\nblock = 512\nbricks = 6\nrecords = 7\n[[group]]\nm = 2\nmembers = [5, 0, 3, 1]\nstripes = 8\n[[group]]\nm = 1\nmembers = [4]\nstripes = 9\n";
-    let Description {
-        layout,
-        records,
-        port,
-    } = Description::read(rt.alloc(), text)?;
-    assert_eq!(rt; (records, port), (7, 9000));
+    let Description { layout, port } = Description::read(rt.alloc(), text)?;
+    assert_eq!(rt; port, 9000);
     assert_eq!(rt;
-        (layout.block(), layout.bricks(), layout.group_count()),
-        (512, 6, 2)
+        (
+            layout.block(),
+            layout.bricks(),
+            layout.records(),
+            layout.group_count()
+        ),
+        (512, 6, 7, 2)
     );
     let group = layout.group(GroupId(0)).ok_or("group 0")?;
     assert_eq!(rt;
@@ -444,7 +445,7 @@ fn what_a_text_says(rt: HostRuntime) -> Result<(), Fail> {
     assert!(rt; layout.group(GroupId(2)).is_none());
 
     let three = Description::read(rt.alloc(), THREE_COPIES)?;
-    assert_eq!(rt; (three.records, three.port), (100, 17000));
+    assert_eq!(rt; (three.layout.records(), three.port), (100, 17000));
     assert!(rt; THREE_COPIES.len() < LAYOUT_LIMIT);
     Ok(())
 }

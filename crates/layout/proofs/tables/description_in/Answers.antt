@@ -9,8 +9,12 @@ use Rattle.layout.proofs.tables.description_in.Goals as goal
 pub new-requires : goal.new-requires
 new-requires c =
     let said : Description = record {
-      layout = record { block = c.in_ok-block.field-0; bricks = c.in_ok-bricks.field-0; groups = c.in_ok-groups.groups.items };
-      records = c.in_ok-records.records;
+      layout = record {
+        block = c.in_ok-block.field-0;
+        bricks = c.in_ok-bricks.field-0;
+        records = c.in_ok-records.records;
+        groups = c.in_ok-groups.groups.items;
+      };
       port = c.in_ok-port.field-0;
     } in
     layout_is (table_view c.args.table.now) said (grind (arith, common_steps))
