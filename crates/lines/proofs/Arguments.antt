@@ -1,6 +1,6 @@
 -- What stands behind a line's first word, where there are so many words of it.
 use Rattle.std.proofs.Common.{◌≡◌, ◌≢◌, ℕ, List, [], ◌∷◌, length, map, get_or, Bor, None, refl, arith}
-use Rattle.lines.specs.Grammar.{write_all, read_all, deliver, clock}
+use Rattle.lines.specs.Grammar.{write_all, read_all, deliver, clock, one_brick}
 
 -- the words that stand in a slice
 abbrev pub words : List (Bor (List ℕ)) → List (List ℕ)
@@ -45,6 +45,12 @@ unfolding deliver
 deliver_count [] other = refl
 deliver_count (k ∷ []) other = absurd (other refl)
 deliver_count (k ∷ a ∷ more) other = refl
+
+pub one_brick_count : (found : List (Bor (List ℕ))) → length found ≢ 1 → None ≡ one_brick (words found)
+unfolding one_brick
+one_brick_count [] other = refl
+one_brick_count (b ∷ []) other = absurd (other refl)
+one_brick_count (b ∷ a ∷ more) other = refl
 
 pub clock_count : (found : List (Bor (List ℕ))) → length found ≢ 2 → None ≡ clock (words found)
 unfolding clock

@@ -1,10 +1,11 @@
 -- What a line of a schedule says.
 use Rattle.std.specs.Prelude.{ℕ, nat_le, if◌then◌else◌, List, [], ◌∷◌, length, nat_eq, codes, Option, Some, None, option_and_then}
 use Rattle.std.specs.List.{starts_with}
+use Rattle.std.specs.Option.{option_map}
 use Rattle.std.specs.Str.{bytes_eq}
 use Rattle.lines.specs.Tokens.{tokens, number, bytes_of_hex}
 use Rattle.lines.specs.declared.forms.Line.{Line}
-use Rattle.lines.specs.declared.forms.Line.TheVariants.{Nothing, Invoke, Deliver, SetClock}
+use Rattle.lines.specs.declared.forms.Line.TheVariants.{Nothing, Invoke, Deliver, SetClock, Tick, Crash, Start}
 use Rattle.fab_base.specs.declared.asks.Op.{Op}
 use Rattle.fab_base.specs.declared.asks.Op.TheVariants.{WriteStripe, ReadStripe}
 
@@ -48,6 +49,11 @@ clock (b ∷ v ∷ []) = do
   Some (SetClock brick time)
 clock _ = None
 
+-- the brick of `tick B`, `crash B` and `start B`, behind the first word
+unfoldable pub one_brick : List (List ℕ) → Option ℕ
+one_brick (b ∷ []) = number b
+one_brick _ = None
+
 -- what a line says whose first word and the words behind it are these; nothing else is a line
 unfoldable pub form : List ℕ → List (List ℕ) → Option Line
 form word arguments =
@@ -55,6 +61,9 @@ form word arguments =
     else if bytes_eq word (codes "readall") then read_all arguments
     else if bytes_eq word (codes "deliver") then deliver arguments
     else if bytes_eq word (codes "clock") then clock arguments
+    else if bytes_eq word (codes "tick") then option_map Tick (one_brick arguments)
+    else if bytes_eq word (codes "crash") then option_map Crash (one_brick arguments)
+    else if bytes_eq word (codes "start") then option_map Start (one_brick arguments)
     else None
 
 -- what the tokens of a line say: nothing where there is none or the first begins with `#`

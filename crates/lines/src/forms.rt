@@ -1,6 +1,6 @@
 // The forms of a line.
 ghost use Rattle.std.specs.Prelude.{◌≡◌, map, IfOk};
-ghost use Rattle.lines.specs.Grammar.{line_of, line_of_tokens, form, write_all, read_all, invoke, deliver, clock};
+ghost use Rattle.lines.specs.Grammar.{line_of, line_of_tokens, form, write_all, read_all, invoke, deliver, clock, one_brick};
 
 use crate::tokens::{parse_hex, parse_number, split};
 use fab_base::{NoMem, Op};
@@ -37,6 +37,21 @@ pub enum Line {
         brick: u64,
         /// The time.
         time: u64,
+    },
+    /// A brick's clock ticks: `tick B`.
+    Tick {
+        /// The brick.
+        brick: u64,
+    },
+    /// A brick stops: `crash B`.
+    Crash {
+        /// The brick.
+        brick: u64,
+    },
+    /// A brick that stopped starts again: `start B`.
+    Start {
+        /// The brick.
+        brick: u64,
     },
 }
 
@@ -82,6 +97,12 @@ fn parse_form(alloc: Global, word: &[u8], arguments: &[&[u8]]) -> Result<Option<
         Ok(parse_deliver(arguments))
     } else if word == b"clock".as_slice() {
         Ok(parse_clock(arguments))
+    } else if word == b"tick".as_slice() {
+        Ok(parse_brick(arguments).map(|brick| Line::Tick { brick }))
+    } else if word == b"crash".as_slice() {
+        Ok(parse_brick(arguments).map(|brick| Line::Crash { brick }))
+    } else if word == b"start".as_slice() {
+        Ok(parse_brick(arguments).map(|brick| Line::Start { brick }))
     } else {
         Ok(None)
     }
@@ -151,4 +172,14 @@ fn parse_clock(arguments: &[&[u8]]) -> Option<Line>
         brick: parse_number(arguments[0])?,
         time: parse_number(arguments[1])?,
     })
+}
+
+/// The brick of `tick B`, `crash B` and `start B`, behind the first word.
+fn parse_brick(arguments: &[&[u8]]) -> Option<u64>
+    ensures { result ≡ one_brick (map (λ token. token.now) arguments.now) }
+{
+    if arguments.len() != 1 {
+        return None;
+    }
+    parse_number(arguments[0])
 }

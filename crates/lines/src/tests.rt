@@ -14,6 +14,9 @@ fn meaning(alloc: Global, content: &[u8]) -> Result<String, Fail> {
         Line::Nothing => format!(in alloc; "nothing")?,
         Line::Deliver { message } => format!(in alloc; "deliver {message}")?,
         Line::SetClock { brick, time } => format!(in alloc; "clock {brick} {time}")?,
+        Line::Tick { brick } => format!(in alloc; "tick {brick}")?,
+        Line::Crash { brick } => format!(in alloc; "crash {brick}")?,
+        Line::Start { brick } => format!(in alloc; "start {brick}")?,
         Line::Invoke {
             brick,
             group,
@@ -33,7 +36,7 @@ fn meaning(alloc: Global, content: &[u8]) -> Result<String, Fail> {
 
 #[test]
 fn lines_and_their_meaning(rt: HostRuntime) -> Result<(), Fail> {
-    let cases: [(&str, &str); 44] = [
+    let cases: [(&str, &str); 53] = [
         ("", "nothing"),
         ("   ", "nothing"),
         ("#", "nothing"),
@@ -83,6 +86,15 @@ fn lines_and_their_meaning(rt: HostRuntime) -> Result<(), Fail> {
         ("clock 0", "bad"),
         ("clock 0 1 2", "bad"),
         ("clocks 0 1", "bad"),
+        ("tick 0", "tick 0"),
+        ("tick 18446744073709551615", "tick 18446744073709551615"),
+        ("tick", "bad"),
+        ("tick 0 1", "bad"),
+        ("crash 65536", "crash 65536"),
+        ("crash 18446744073709551616", "bad"),
+        (" start  007 ", "start 7"),
+        ("start", "bad"),
+        ("restart 0", "bad"),
         ("---", "bad"),
     ];
     for (line, want) in cases {
