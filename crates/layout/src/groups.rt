@@ -43,6 +43,17 @@ impl Group {
         })
     }
 
+    /// An equal value.
+    pub fn copy(&self) -> Group
+        ensures { result ≡ self.now }
+    {
+        Group {
+            members: self.members.copy(),
+            policy: self.policy,
+            stripes: self.stripes,
+        }
+    }
+
     /// The members, by seat.
     pub fn members(&self) -> &Members
         ensures { result.now ≡ self.now.members }

@@ -1,11 +1,12 @@
 //! Layouts.
 
-ghost use Rattle.std.specs.Prelude.{◌≡◌, ◌<◌, length, option_copied, IfSome};
+ghost use Rattle.std.specs.Prelude.{◌≡◌, ◌<◌, length, option_copied, IfSome, IfOk};
 ghost use Rattle.protocol.specs.Settings.{group_of};
 ghost use Rattle.layout.specs.Limits.{IsLayout};
 
 use crate::groups::Group;
-use fab_base::GroupId;
+use fab_base::{GroupId, NoMem};
+use std::alloc::Global;
 use std::marker::Model;
 
 /// The layout of a disk. Each value is within the limits of the format, as a text that says it.
@@ -28,6 +29,17 @@ impl Model for Layout {
     ghost invariant = { λ layout. IsLayout (record { block = layout.block; bricks = layout.bricks; records = layout.records; groups = layout.groups.items }) };
 }
 
+// Equal groups, in the same order.
+fn copy_groups(alloc: Global, groups: &[Group]) -> Result<Vec<Group>, NoMem>
+    ensures { IfOk result (λ made. made.items ≡ groups.now) }
+{
+    let mut made = Vec::new(alloc);
+    for group in groups {
+        made.push(group.copy())?;
+    }
+    Ok(made)
+}
+
 impl Layout {
     // A layout of blocks of this many bytes, this many bricks, each with room for so many live records, and these groups.
     pub(crate) fn new(block: u16, bricks: u16, records: u32, groups: Vec<Group>) -> Layout
@@ -40,6 +52,22 @@ impl Layout {
             records,
             groups,
         }
+    }
+
+    /// An equal value.
+    ///
+    /// # Errors
+    ///
+    /// `NoMemory` where no memory was left.
+    pub fn copy(&self, alloc: Global) -> Result<Layout, NoMem>
+        ensures { IfOk result (λ made. made ≡ self.now) }
+    {
+        Ok(Layout {
+            block: self.block,
+            bricks: self.bricks,
+            records: self.records,
+            groups: copy_groups(alloc, &self.groups)?,
+        })
     }
 
     /// Bytes per block.

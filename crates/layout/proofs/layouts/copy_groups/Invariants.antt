@@ -1,0 +1,6 @@
+-- What was copied so far.
+use Rattle.std.proofs.Common.{◌≡◌, take}
+use Rattle.layout.proofs.layouts.copy_groups.Given as goal
+
+abbrev pub invariant-loop-group : goal.invariant-loop-group
+invariant-loop-group l = l.made.items ≡ take l.group-index l.groups
