@@ -49,8 +49,8 @@ decided_recovering code m fresh c room is =
     (sym (in_its_phase c Recovers is)) refl
     ∙ goes_on c _ room
 
-pub refused_recovering : (code : Code) (m : ℕ) (fresh : Option Stamp) (c : Coordinator) (r : Refuser) → lowest_full c.counted ≡ None → c.phase ≡ Recovers
-    → greatest_refuser c.counted ≡ Some r → decided code m fresh c ≡ ordered_again fresh c r
+pub refused_recovering : (code : Code) (m : ℕ) (fresh : Option Stamp) (c : Coordinator) (r : Refuser)
+    → lowest_full c.counted ≡ None → c.phase ≡ Recovers → greatest_refuser c.counted ≡ Some r → decided code m fresh c ≡ ordered_again fresh c r
 refused_recovering code m fresh c r room is refused =
     decided_recovering code m fresh c room is ∙ ap (λ refuser. once_ordered fresh c refuser (read_back code m c (greatest_found c.counted))) refused
 
@@ -60,7 +60,8 @@ unrefused_recovering code m fresh c room is refused =
     decided_recovering code m fresh c room is ∙ ap (λ refuser. once_ordered fresh c refuser (read_back code m c (greatest_found c.counted))) refused
 
 -- once it looked below a bound
-decided_descending : (code : Code) (m : ℕ) (fresh : Option Stamp) (c : Coordinator) (bound : Stamp) → lowest_full c.counted ≡ None → c.phase ≡ Descends bound
+decided_descending : (code : Code) (m : ℕ) (fresh : Option Stamp) (c : Coordinator) (bound : Stamp)
+    → lowest_full c.counted ≡ None → c.phase ≡ Descends bound
     → decided code m fresh c ≡ unless_refused (greatest_refuser c.counted) (read_back code m c (greatest_found c.counted))
 unfolding decided
 decided_descending code m fresh c bound room is =
@@ -70,13 +71,13 @@ decided_descending code m fresh c bound room is =
     (sym (in_its_phase c (Descends bound) is)) refl
     ∙ goes_on c _ room
 
-pub refused_descending : (code : Code) (m : ℕ) (fresh : Option Stamp) (c : Coordinator) (bound : Stamp) (r : Refuser) → lowest_full c.counted ≡ None
-    → c.phase ≡ Descends bound → greatest_refuser c.counted ≡ Some r → decided code m fresh c ≡ aborted_by r
+pub refused_descending : (code : Code) (m : ℕ) (fresh : Option Stamp) (c : Coordinator) (bound : Stamp) (r : Refuser)
+    → lowest_full c.counted ≡ None → c.phase ≡ Descends bound → greatest_refuser c.counted ≡ Some r → decided code m fresh c ≡ aborted_by r
 refused_descending code m fresh c bound r room is refused =
     decided_descending code m fresh c bound room is ∙ ap (λ refuser. unless_refused refuser (read_back code m c (greatest_found c.counted))) refused
 
-pub unrefused_descending : (code : Code) (m : ℕ) (fresh : Option Stamp) (c : Coordinator) (bound : Stamp) → lowest_full c.counted ≡ None
-    → c.phase ≡ Descends bound → greatest_refuser c.counted ≡ None → decided code m fresh c ≡ read_back code m c (greatest_found c.counted)
+pub unrefused_descending : (code : Code) (m : ℕ) (fresh : Option Stamp) (c : Coordinator) (bound : Stamp)
+    → lowest_full c.counted ≡ None → c.phase ≡ Descends bound → greatest_refuser c.counted ≡ None → decided code m fresh c ≡ read_back code m c (greatest_found c.counted)
 unrefused_descending code m fresh c bound room is refused =
     decided_descending code m fresh c bound room is ∙ ap (λ refuser. unless_refused refuser (read_back code m c (greatest_found c.counted))) refused
 

@@ -49,14 +49,16 @@ returns-in-Some-clause-told c =
 pub returns-in-Stores-default-clause-next : goal.returns-in-Stores-default-clause-next
 returns-in-Stores-default-clause-next c =
     let op = c.self.inside.op in
-    let is = decided_storing (block_code op.block) op.group.m c.args.fresh op.state (sym c.full_member.ensures ∙ c.in_default.is) (sym (ap (λ (s : Stage). s.phase) c.stage.ensures) ∙ c.in-Stores-default.is-0) in
+    let is = decided_storing (block_code op.block) op.group.m c.args.fresh op.state (sym c.full_member.ensures ∙ c.in_default.is)
+    (sym (ap (λ (s : Stage). s.phase) c.stage.ensures) ∙ c.in-Stores-default.is-0) in
     subst (λ (before : Operation). NextIs c.end_store.result c.end_store.new.self c.args.fresh before) c.self.view_is
     (next_is c.end_store.result c.end_store.new.self c.args.fresh op _ is c.end_store.ensures.next)
 
 pub returns-in-Stores-default-clause-told : goal.returns-in-Stores-default-clause-told
 returns-in-Stores-default-clause-told c =
     let op = c.self.inside.op in
-    let is = decided_storing (block_code op.block) op.group.m c.args.fresh op.state (sym c.full_member.ensures ∙ c.in_default.is) (sym (ap (λ (s : Stage). s.phase) c.stage.ensures) ∙ c.in-Stores-default.is-0) in
+    let is = decided_storing (block_code op.block) op.group.m c.args.fresh op.state (sym c.full_member.ensures ∙ c.in_default.is)
+    (sym (ap (λ (s : Stage). s.phase) c.stage.ensures) ∙ c.in-Stores-default.is-0) in
     subst (λ (before : Operation). ToldIs c.end_store.result c.end_store.new.self c.args.fresh before) c.self.view_is
     (told_is c.end_store.result c.end_store.new.self c.args.fresh op None
     (ap (note_told op.state.call) is ∙ nothing_told_at_end op.state.call (greatest_refuser op.state.counted) (answer_of op.state.ask.op op.state.content) (Some op.state.stamp))
@@ -66,7 +68,8 @@ pub returns-in-Recovers-Some-clause-next : goal.returns-in-Recovers-Some-clause-
 returns-in-Recovers-Some-clause-next c =
     let op = c.self.inside.op in
     let is = refused_recovering (block_code op.block) op.group.m c.args.fresh op.state c.in-Recovers-Some.refuser
-    (sym c.full_member.ensures ∙ c.in_default.is) (sym (ap (λ (s : Stage). s.phase) c.stage.ensures) ∙ c.in-Recovers-Some.is-0) (sym c.refuser.ensures ∙ c.in-Recovers-Some.is-1) in
+    (sym c.full_member.ensures ∙ c.in_default.is)
+    (sym (ap (λ (s : Stage). s.phase) c.stage.ensures) ∙ c.in-Recovers-Some.is-0) (sym c.refuser.ensures ∙ c.in-Recovers-Some.is-1) in
     subst (λ (before : Operation). NextIs c.order_again.result c.order_again.new.self c.args.fresh before) c.self.view_is
     (next_is c.order_again.result c.order_again.new.self c.args.fresh op _ is c.order_again.ensures.next)
 
@@ -74,7 +77,8 @@ pub returns-in-Recovers-Some-clause-told : goal.returns-in-Recovers-Some-clause-
 returns-in-Recovers-Some-clause-told c =
     let op = c.self.inside.op in
     let is = refused_recovering (block_code op.block) op.group.m c.args.fresh op.state c.in-Recovers-Some.refuser
-    (sym c.full_member.ensures ∙ c.in_default.is) (sym (ap (λ (s : Stage). s.phase) c.stage.ensures) ∙ c.in-Recovers-Some.is-0) (sym c.refuser.ensures ∙ c.in-Recovers-Some.is-1) in
+    (sym c.full_member.ensures ∙ c.in_default.is)
+    (sym (ap (λ (s : Stage). s.phase) c.stage.ensures) ∙ c.in-Recovers-Some.is-0) (sym c.refuser.ensures ∙ c.in-Recovers-Some.is-1) in
     subst (λ (before : Operation). ToldIs c.order_again.result c.order_again.new.self c.args.fresh before) c.self.view_is
     (told_is c.order_again.result c.order_again.new.self c.args.fresh op None
     (ap (note_told op.state.call) is ∙ nothing_told_again op.state.call c.args.fresh op.state c.in-Recovers-Some.refuser) c.order_again.ensures.told)
@@ -83,14 +87,16 @@ pub returns-in-Descends-Some-clause-next : goal.returns-in-Descends-Some-clause-
 returns-in-Descends-Some-clause-next c =
     let op = c.self.inside.op in
     let is = refused_descending (block_code op.block) op.group.m c.args.fresh op.state c.in-Descends-Some.field-0-0 c.in-Descends-Some.refuser
-    (sym c.full_member.ensures ∙ c.in_default.is) (sym (ap (λ (s : Stage). s.phase) c.stage.ensures) ∙ c.in-Descends-Some.is-0) (sym c.refuser.ensures ∙ c.in-Descends-Some.is-1) in
+    (sym c.full_member.ensures ∙ c.in_default.is)
+    (sym (ap (λ (s : Stage). s.phase) c.stage.ensures) ∙ c.in-Descends-Some.is-0) (sym c.refuser.ensures ∙ c.in-Descends-Some.is-1) in
     c.abort.ensures.next ∙ sym is ∙ ap (decided_of c.args.fresh) c.self.view_is
 
 pub returns-in-Descends-Some-clause-told : goal.returns-in-Descends-Some-clause-told
 returns-in-Descends-Some-clause-told c =
     let op = c.self.inside.op in
     let is = refused_descending (block_code op.block) op.group.m c.args.fresh op.state c.in-Descends-Some.field-0-0 c.in-Descends-Some.refuser
-    (sym c.full_member.ensures ∙ c.in_default.is) (sym (ap (λ (s : Stage). s.phase) c.stage.ensures) ∙ c.in-Descends-Some.is-0) (sym c.refuser.ensures ∙ c.in-Descends-Some.is-1) in
+    (sym c.full_member.ensures ∙ c.in_default.is)
+    (sym (ap (λ (s : Stage). s.phase) c.stage.ensures) ∙ c.in-Descends-Some.is-0) (sym c.refuser.ensures ∙ c.in-Descends-Some.is-1) in
     ap (λ (o : Operation). o.note) c.abort.ensures.state ∙ sym (ap (note_told op.state.call) is)
     ∙ ap (λ (o : Operation). note_told o.state.call (decided_of c.args.fresh o)) c.self.view_is
 
@@ -102,14 +108,16 @@ pub returns-in-Recovers-None-clause-next : goal.returns-in-Recovers-None-clause-
 returns-in-Recovers-None-clause-next c =
     let op = c.self.inside.op in
     let is = unrefused_recovering (block_code op.block) op.group.m c.args.fresh op.state
-    (sym c.full_member.ensures ∙ c.in_default.is) (sym (ap (λ (s : Stage). s.phase) c.stage.ensures) ∙ c.in-Recovers-None.is-0) (sym c.refuser.ensures ∙ c.in-Recovers-None.is-1) in
+    (sym c.full_member.ensures ∙ c.in_default.is)
+    (sym (ap (λ (s : Stage). s.phase) c.stage.ensures) ∙ c.in-Recovers-None.is-0) (sym c.refuser.ensures ∙ c.in-Recovers-None.is-1) in
     next_is c.read_back.result c.read_back.new.self c.args.fresh c.args.self.now _ (subst (ReadsBack c.args.fresh) c.self.view_is is) c.read_back.ensures.next
 
 pub returns-in-Recovers-None-clause-told : goal.returns-in-Recovers-None-clause-told
 returns-in-Recovers-None-clause-told c =
     let op = c.self.inside.op in
     let is = unrefused_recovering (block_code op.block) op.group.m c.args.fresh op.state
-    (sym c.full_member.ensures ∙ c.in_default.is) (sym (ap (λ (s : Stage). s.phase) c.stage.ensures) ∙ c.in-Recovers-None.is-0) (sym c.refuser.ensures ∙ c.in-Recovers-None.is-1) in
+    (sym c.full_member.ensures ∙ c.in_default.is)
+    (sym (ap (λ (s : Stage). s.phase) c.stage.ensures) ∙ c.in-Recovers-None.is-0) (sym c.refuser.ensures ∙ c.in-Recovers-None.is-1) in
     told_is c.read_back.result c.read_back.new.self c.args.fresh c.args.self.now _
     (ap (note_told c.args.self.now.state.call) (subst (ReadsBack c.args.fresh) c.self.view_is is)) c.read_back.ensures.told
 
@@ -117,13 +125,15 @@ pub returns-in-Descends-None-clause-next : goal.returns-in-Descends-None-clause-
 returns-in-Descends-None-clause-next c =
     let op = c.self.inside.op in
     let is = unrefused_descending (block_code op.block) op.group.m c.args.fresh op.state c.in-Descends-None.field-0-0
-    (sym c.full_member.ensures ∙ c.in_default.is) (sym (ap (λ (s : Stage). s.phase) c.stage.ensures) ∙ c.in-Descends-None.is-0) (sym c.refuser.ensures ∙ c.in-Descends-None.is-1) in
+    (sym c.full_member.ensures ∙ c.in_default.is)
+    (sym (ap (λ (s : Stage). s.phase) c.stage.ensures) ∙ c.in-Descends-None.is-0) (sym c.refuser.ensures ∙ c.in-Descends-None.is-1) in
     next_is c.read_back-in-Descends-None.result c.read_back-in-Descends-None.new.self c.args.fresh c.args.self.now _ (subst (ReadsBack c.args.fresh) c.self.view_is is) c.read_back-in-Descends-None.ensures.next
 
 pub returns-in-Descends-None-clause-told : goal.returns-in-Descends-None-clause-told
 returns-in-Descends-None-clause-told c =
     let op = c.self.inside.op in
     let is = unrefused_descending (block_code op.block) op.group.m c.args.fresh op.state c.in-Descends-None.field-0-0
-    (sym c.full_member.ensures ∙ c.in_default.is) (sym (ap (λ (s : Stage). s.phase) c.stage.ensures) ∙ c.in-Descends-None.is-0) (sym c.refuser.ensures ∙ c.in-Descends-None.is-1) in
+    (sym c.full_member.ensures ∙ c.in_default.is)
+    (sym (ap (λ (s : Stage). s.phase) c.stage.ensures) ∙ c.in-Descends-None.is-0) (sym c.refuser.ensures ∙ c.in-Descends-None.is-1) in
     told_is c.read_back-in-Descends-None.result c.read_back-in-Descends-None.new.self c.args.fresh c.args.self.now _
     (ap (note_told c.args.self.now.state.call) (subst (ReadsBack c.args.fresh) c.self.view_is is)) c.read_back-in-Descends-None.ensures.told
