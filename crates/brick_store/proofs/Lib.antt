@@ -17,3 +17,4 @@ pub mod Adding
 pub mod Opened
 pub mod HeldLogs
 pub mod Counting
+pub mod KeptLogs

@@ -1,11 +1,14 @@
 -- What a clause sees of a brick's store, and of the answers of its calls.
 use Rattle.std.specs.Prelude.{◌≡◌, ◌≢◌, ℕ, Bool, true, false, Result, Ok, Err}
-use Rattle.version_log.specs.Versions.{Version}
+use Rattle.std.specs.List.Sorted.{IsStrictlySortedBy}
+use Rattle.std.specs.Map.{keys_of}
+use Rattle.version_log.specs.Versions.{Version, IsRising}
 use Rattle.frame_store.specs.declared.faults.FrameFault.{FrameFault}
 use Rattle.frame_store.specs.declared.faults.FrameFault.TheVariants as frames
 use Rattle.frame_store.specs.declared.shapes.Shape.{Shape}
-use Rattle.brick_state.specs.States.{StateOf}
+use Rattle.brick_state.specs.States.{Place, StateOf, place_cmp}
 use Rattle.brick_store.specs.declared.faults.StoreFault.{StoreFault}
+use Rattle.brick_store.specs.Blocks.{log_at}
 use Rattle.brick_store.specs.declared.faults.StoreFault.TheVariants.{Disk, Full, Halted, NotAStore, Worn, NoMemory}
 
 -- a store over a disk: what it was made for, what it keeps, and whether a call of it answered Disk
@@ -14,6 +17,11 @@ pub record Brick (D : Type 0) : Type 0 where
   pub shape : Shape
   pub state : StateOf Version
   pub halted : Bool
+
+-- what a store keeps: stripes in the order of their places, and logs whose stamps rise
+pub record IsOrdered (block : ℕ) (st : StateOf Version) : Type 0 where
+  pub sorted : IsStrictlySortedBy place_cmp (keys_of st.stripes)
+  pub rising : (p : Place) → IsRising (log_at block st p)
 
 -- the store keeps this now
 pub record Keeps {D : Type 0} (st : StateOf Version) (old new : Brick D) : Type 0 where

@@ -6,7 +6,7 @@ ghost use Rattle.fab_disk.specs.Plan.{IsPlanned};
 ghost use Rattle.brick_state.specs.States.{live, group_at};
 ghost use Rattle.brick_state.specs.Times.{top_time};
 ghost use Rattle.brick_store.specs.Blocks.{accepted_of, version_stamp, first_kept, learnt_of, IsServed};
-ghost use Rattle.brick_store.specs.Bricks.{Keeps};
+ghost use Rattle.brick_store.specs.Bricks.{Keeps, IsOrdered};
 ghost use Rattle.brick_store.specs.Images.{LeavesState, StandsFor};
 
 use crate::index_steps::accepted_of;
@@ -86,10 +86,14 @@ impl<D: Disk> BrickStore<D> {
         BrickId(self.frames.shape().me)
     }
 
-    /// Whether a call of this store answered [`StoreFault::Disk`](crate::StoreFault::Disk).
+    /// Whether a call of this store answered [`StoreFault::Disk`](crate::StoreFault::Disk). While none did, a crash leaves only
+    /// what opens as what the store keeps.
     pub fn is_halted(&self) -> bool
-        ensures { result ≡ self.now.halted }
+        ensures value { result ≡ self.now.halted }
+        ensures durable { D.tells → self.now.halted ≡ false → LeavesState self.now.shape self.now.state (D.may_leave self.now.disk) }
+        ensures ordered { IsOrdered self.now.shape.block self.now.state }
     {
+        let _ = &self.index;
         self.frames.is_halted()
     }
 

@@ -1,0 +1,21 @@
+-- What the frames and the index say is what a clause sees.
+use Rattle.std.proofs.Common.{◌≡◌, false, subst}
+use Rattle.brick_state.specs.Indexes.{state_of}
+use Rattle.brick_store.specs.Blocks.{cached}
+use Rattle.brick_store.specs.Bricks.{Brick, IsOrdered}
+use Rattle.brick_store.specs.Images.{LeavesState, limits_of}
+use Rattle.brick_store.proofs.KeptLogs.{kept_ordered, standing_leaves}
+use Rattle.brick_store.proofs.stores.BrickStore.is_halted.Goals as goal
+
+pub returns-clause-durable : goal.returns-clause-durable
+returns-clause-durable g c =
+    let d = g.D.Disk in
+    let x = c.self.inside in
+    subst (λ (b : Brick g.row.D.Denot). d.tells → b.halted ≡ false → LeavesState b.shape b.state (d.may_leave b.disk)) c.self.view_is
+    (standing_leaves d.tells d.seen d.may_leave x.blocks x.zero x.frames x.index c.self.invariant)
+
+pub returns-clause-ordered : goal.returns-clause-ordered
+returns-clause-ordered g c =
+    let x = c.self.inside in
+    subst (λ (b : Brick g.row.D.Denot). IsOrdered b.shape.block b.state) c.self.view_is
+    (kept_ordered x.frames.shape.block (cached x.frames.shape.block x.blocks) (limits_of x.frames.shape) (state_of x.index) c.self.invariant.indexed.kept)

@@ -1,0 +1,6 @@
+pub mod Logs
+pub mod Deciding
+pub mod Places
+pub mod Reacting
+pub mod Answering
+pub mod Stepping

@@ -1,0 +1,65 @@
+-- What a call that handles a request promises of the store.
+use Rattle.std.specs.Prelude.{◌≡◌, ◌≢◌, ◌⊎◌, ℕ, Bool, true, false, Option, Some, List, Result, Ok, Err, IfOk, OnOk, OnErr}
+use Rattle.fab_base.specs.declared.identities.BrickId.{BrickId}
+use Rattle.fab_disk.specs.Disk.{IsUntouched, LeavesOnly, Kept}
+use Rattle.fab_wire.specs.declared.replies.Reply.{Reply}
+use Rattle.fab_wire.specs.declared.replies.Reply.TheVariants.{Full}
+use Rattle.frame_store.specs.declared.shapes.Shape.{Shape}
+use Rattle.version_log.specs.Versions.{Version}
+use Rattle.brick_state.specs.States.{StateOf}
+use Rattle.brick_store.specs.declared.faults.StoreFault.{StoreFault}
+use Rattle.brick_store.specs.declared.faults.StoreFault.TheVariants as faults
+use Rattle.brick_store.specs.Bricks.{Brick, IsOrdered}
+use Rattle.brick_store.specs.Images.{StandsFor, LeavesState}
+use Rattle.replica.specs.declared.faults.ReplicaFault.{ReplicaFault}
+use Rattle.replica.specs.declared.faults.ReplicaFault.TheVariants.{Disk, Halted, NoMemory}
+use Rattle.replica.specs.Parts.{part_in}
+
+-- the brick that a store was made for
+abbrev pub me_of : {D : Type 0} → Brick D → BrickId
+me_of store = record { 0 = store.shape.me }
+
+-- a store is halted once a call of it answered Disk
+abbrev pub halted_after : Bool → Result (Option Reply) ReplicaFault → Bool
+halted_after halted (Err Disk) = true
+halted_after halted (Err other) = halted
+halted_after halted (Ok reply) = halted
+
+-- the image opens as the state before the call, or as one that may follow it
+abbrev pub OpensAsEither : Shape → StateOf Version → (Option Reply → StateOf Version → Type 0) → List ℕ → Type 0
+OpensAsEither shape before Follows image =
+    StandsFor shape before image ⊎ ((st : StateOf Version) × (reply : Option Reply) × StandsFor shape st image × Follows reply st)
+
+-- The store runs, and a crash leaves only what opens as its state.
+pub record Runs {D : Type 0} (tells : Type 0) (may_leave : D → List ℕ → Type 0) (store : Brick D) : Type 0 where
+  pub runs : store.halted ≡ false
+  pub durable : tells → LeavesState store.shape store.state (may_leave store.disk)
+  pub ordered : IsOrdered store.shape.block store.state
+
+-- The call makes a reply and a state that follow, the state whole or not at all, or is refused. `g` and `s` name the stripe that it is about.
+pub record Handles {D : Type 0} (tells : Type 0) (seen : D → List ℕ) (may_leave : D → List ℕ → Type 0) (moment : D → ℕ) (left_since : D → ℕ → List ℕ → Type 0) (faults : D → ℕ) (sound : D → Type 0)
+    (g s : ℕ) (Follows : Option Reply → StateOf Version → Type 0) (old new : Brick D) (result : Result (Option Reply) ReplicaFault) : Type 0 where
+  pub ok : IfOk result (λ reply. Follows reply new.state)
+  pub refused : OnErr result (new.state ≡ old.state)
+  pub shape : new.shape ≡ old.shape
+  -- after Ok a crash leaves only the state of the store now
+  pub durable : tells → OnOk result (LeavesState new.shape new.state (may_leave new.disk))
+  -- at each moment of the call each image opens as the state before it, or as one that follows
+  pub any_moment : tells → old.halted ≡ false → LeavesOnly moment left_since old.disk new.disk (OpensAsEither old.shape old.state Follows)
+  -- where the stripe's part stays as it was, no call of the disk was made
+  pub still : OnOk result (part_in old.shape.block new.state g s ≡ part_in old.shape.block old.state g s → (new.state ≡ old.state) × IsUntouched seen may_leave moment left_since old.disk new.disk)
+  pub halted : old.halted ≡ true → result ≡ Err Halted
+  pub only_halted : result ≡ Err Halted → old.halted ≡ true
+  pub halts : new.halted ≡ halted_after old.halted result
+  pub no_call : OnErr result (result ≢ Err Disk → IsUntouched seen may_leave moment left_since old.disk new.disk)
+  pub cause : Kept (faults old.disk) (faults new.disk) (sound old.disk) (sound new.disk) (result ≡ Err Disk)
+
+-- what a change's answer makes of the reply to be given; no change of a running store answers the others
+abbrev pub answered : Reply → Result (Unit {0}) StoreFault → Result (Option Reply) ReplicaFault
+answered reply (Ok done) = Ok (Some reply)
+answered reply (Err faults.Disk) = Err Disk
+answered reply (Err (faults.Full live)) = Ok (Some (Full live))
+answered reply (Err faults.Halted) = Err Halted
+answered reply (Err faults.NotAStore) = Err NoMemory
+answered reply (Err faults.Worn) = Err NoMemory
+answered reply (Err faults.NoMemory) = Err NoMemory

@@ -1,0 +1,4 @@
+pub mod Parts
+pub mod Plans
+pub mod Reactions
+pub mod Handling

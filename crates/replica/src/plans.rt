@@ -1,0 +1,17 @@
+//! What a request comes to at a member.
+
+use fab_base::{Bytes, Stamp};
+use fab_wire::Reply;
+
+/// What a request comes to at a member, before it is kept.
+#[derive(Debug, Drop)]
+pub(crate) enum Plan {
+    /// The request is ignored.
+    Ignore,
+    /// The member's part stays as it is.
+    Tell(Reply),
+    /// The member promises to take nothing below a stamp, and replies so.
+    Promise(Stamp, Reply),
+    /// The member stores a version.
+    Store(Stamp, Bytes),
+}
