@@ -81,32 +81,76 @@ const ABORTED: Example = Example {
     output: "0 begin 1 0 writeall 0 0 41\n1 begin 2 1 writeall 0 0 42\n2 end 1 aborted later 1 1.9.1.1\n3 begin 3 2 readall 0 0\n4 begin 4 2 readall 0 0\ncount lines 26 begun 4 answered 0 aborted 1 crashes 0\n",
 };
 
-/// A write reached one member, too few for its two blocks: a read rolls it back, and its late second Write is refused.
+/// A write whose brick stopped had reached one member, too few for its two blocks: a read rolls it back, and its late second Write is refused.
 const ROLLED_BACK: Example = Example {
     head: CODED,
     lines: &[
         ("writeall 0 0 0 8001", &[]),
         ("deliver", &[1, 2, 3, 5, 6, 7, 8]),
+        ("crash 0", &[]),
         ("readall 1 0 0", &[]),
         ("deliver", &[14, 15, 16, 17, 18, 19, 21, 22, 23]),
         ("deliver", &[24, 25, 26, 28, 29, 30, 31, 32, 33, 9]),
         ("readall 2 0 0", &[]),
         ("deliver", &[40, 41, 42, 43, 44, 45]),
     ],
-    output: "0 begin 1 0 writeall 0 0 8001\n1 begin 2 1 readall 0 0\n2 end 2 data 0000\n3 begin 3 2 readall 0 0\n4 end 3 data 0000\nhappened 0 0 2@1 3@3\ncount lines 35 begun 3 answered 2 aborted 0 crashes 0\n",
+    output: "0 begin 1 0 writeall 0 0 8001\n1 crash 0\n2 begin 2 1 readall 0 0\n3 end 2 data 0000\n4 begin 3 2 readall 0 0\n5 end 3 data 0000\nhappened 0 0 2@2 3@4\ncount lines 36 begun 3 answered 2 aborted 0 crashes 1\n",
 };
 
-/// A write reached two members, enough for its two blocks: a read rolls it forward.
+/// A write whose brick stopped had reached two members, enough for its two blocks: a read rolls it forward.
 const ROLLED_FORWARD: Example = Example {
     head: CODED,
     lines: &[
         ("writeall 0 0 0 8001", &[]),
         ("deliver", &[1, 2, 3, 5, 6, 7, 9, 10]),
+        ("crash 0", &[]),
         ("readall 1 0 0", &[]),
         ("deliver", &[15, 16, 17, 18, 19, 20, 22, 23, 24]),
         ("deliver", &[25, 26, 27, 29, 30, 31, 32, 33, 34]),
     ],
-    output: "0 begin 1 0 writeall 0 0 8001\n1 begin 2 1 readall 0 0\n2 end 2 data 8001\nhappened 0 0 1@0 2@1\ncount lines 28 begun 2 answered 1 aborted 0 crashes 0\n",
+    output: "0 begin 1 0 writeall 0 0 8001\n1 crash 0\n2 begin 2 1 readall 0 0\n3 end 2 data 8001\nhappened 0 0 1@0 2@2\ncount lines 29 begun 2 answered 1 aborted 0 crashes 1\n",
+};
+
+/// A write whose first messages were lost, but for one, ends by what a tick sends again.
+const TICKED: Example = Example {
+    head: HEAD,
+    lines: &[
+        ("writeall 0 0 0 41", &[]),
+        ("deliver", &[1, 4]),
+        ("tick 0", &[]),
+        ("tick 1", &[]),
+        ("deliver", &[5, 7, 8, 9, 10, 11, 12, 13, 14, 15]),
+    ],
+    output: "0 begin 1 0 writeall 0 0 41\n1 end 1 done\nhappened 0 0 1@0\ncount lines 15 begun 1 answered 1 aborted 0 crashes 0\n",
+};
+
+/// A brick that was started again: its stamp has boot 2, and aborts the write of another.
+const RESTARTED: Example = Example {
+    head: HEAD,
+    lines: &[
+        ("crash 0", &[]),
+        ("crash 0", &[]),
+        ("tick 0", &[]),
+        ("readall 0 0 0", &[]),
+        ("start 1", &[]),
+        ("start 0", &[]),
+        ("clock 0 7", &[]),
+        ("writeall 1 0 0 41", &[]),
+        ("deliver", &[2, 3, 4, 5]),
+        ("writeall 0 0 0 42", &[]),
+        ("deliver", &[9, 10, 11, 6, 7, 15, 16]),
+    ],
+    output: "0 crash 0\nidle\nidle\nrefused down\nidle\n1 begin 1 1 writeall 0 0 41\n2 begin 2 0 writeall 0 0 42\n3 end 1 aborted later 0 1.7.0.2\ncount lines 20 begun 2 answered 0 aborted 1 crashes 1\n",
+};
+
+/// A store with room for one live record: the write's order fills it.
+const FULL: Example = Example {
+    head: "block = 1\nbricks = 3\nrecords = 1\n[[group]]\nm = 1\nmembers = [0, 1, 2]\nstripes = 4\n---\n",
+    lines: &[
+        ("writeall 0 0 0 41", &[]),
+        ("deliver", &[1, 2, 4, 5, 6, 7, 9, 10]),
+    ],
+    output: "0 begin 1 0 writeall 0 0 41\n1 end 1 aborted full 0 1\ncount lines 9 begun 1 answered 0 aborted 1 crashes 0\n",
 };
 
 impl Example {
@@ -238,7 +282,17 @@ fn a_worked_input(rt: HostRuntime) -> Result<(), Fail> {
 
 #[test]
 fn more_worked_inputs(rt: HostRuntime) -> Result<(), Fail> {
-    for worked in [TWO_WRITERS, REFUSED, ABORTED, ROLLED_BACK, ROLLED_FORWARD] {
+    let rows = [
+        TWO_WRITERS,
+        REFUSED,
+        ABORTED,
+        ROLLED_BACK,
+        ROLLED_FORWARD,
+        TICKED,
+        RESTARTED,
+        FULL,
+    ];
+    for worked in rows {
         let mut source = MemSource::new(worked.input(rt.alloc())?);
         let mut sink = MemSink::new(rt.alloc());
         assert_eq!(rt; run(rt.alloc(), &mut source, &mut sink)?, 0);
