@@ -11,3 +11,6 @@ mod plans;
 
 pub use faults::ReplicaFault;
 pub use handling::handle;
+
+#[cfg(test)]
+mod tests;
