@@ -50,7 +50,8 @@ decided_recovering code m fresh c room is =
     ∙ goes_on c _ room
 
 pub refused_recovering : (code : Code) (m : ℕ) (fresh : Option Stamp) (c : Coordinator) (r : Refuser)
-    → lowest_full c.counted ≡ None → c.phase ≡ Recovers → greatest_refuser c.counted ≡ Some r → decided code m fresh c ≡ ordered_again fresh c r
+    → lowest_full c.counted ≡ None → c.phase ≡ Recovers → greatest_refuser c.counted ≡ Some r
+    → decided code m fresh c ≡ ordered_again fresh c r
 refused_recovering code m fresh c r room is refused =
     decided_recovering code m fresh c room is ∙ ap (λ refuser. once_ordered fresh c refuser (read_back code m c (greatest_found c.counted))) refused
 
@@ -72,12 +73,14 @@ decided_descending code m fresh c bound room is =
     ∙ goes_on c _ room
 
 pub refused_descending : (code : Code) (m : ℕ) (fresh : Option Stamp) (c : Coordinator) (bound : Stamp) (r : Refuser)
-    → lowest_full c.counted ≡ None → c.phase ≡ Descends bound → greatest_refuser c.counted ≡ Some r → decided code m fresh c ≡ aborted_by r
+    → lowest_full c.counted ≡ None → c.phase ≡ Descends bound → greatest_refuser c.counted ≡ Some r
+    → decided code m fresh c ≡ aborted_by r
 refused_descending code m fresh c bound r room is refused =
     decided_descending code m fresh c bound room is ∙ ap (λ refuser. unless_refused refuser (read_back code m c (greatest_found c.counted))) refused
 
 pub unrefused_descending : (code : Code) (m : ℕ) (fresh : Option Stamp) (c : Coordinator) (bound : Stamp)
-    → lowest_full c.counted ≡ None → c.phase ≡ Descends bound → greatest_refuser c.counted ≡ None → decided code m fresh c ≡ read_back code m c (greatest_found c.counted)
+    → lowest_full c.counted ≡ None → c.phase ≡ Descends bound → greatest_refuser c.counted ≡ None
+    → decided code m fresh c ≡ read_back code m c (greatest_found c.counted)
 unrefused_descending code m fresh c bound room is refused =
     decided_descending code m fresh c bound room is ∙ ap (λ refuser. unless_refused refuser (read_back code m c (greatest_found c.counted))) refused
 
