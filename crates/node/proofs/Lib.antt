@@ -1,9 +1,14 @@
 pub mod ByteLists
-pub mod Logs
 pub mod Phases
 pub mod Answered
 pub mod GoingOn
 pub mod States
-pub mod Requests
 pub mod Tables
 pub mod Replied
+pub mod Ticks
+pub mod Resending
+pub mod Views
+pub mod Moments
+pub mod Steps
+pub mod Requests
+pub mod Starts

@@ -10,8 +10,9 @@ use Rattle.protocol.specs.declared.phases.Phase.{Phase}
 use Rattle.protocol.specs.declared.phases.Phase.TheVariants.{Looks, Orders, Recovers, Descends, Stores}
 use Rattle.protocol.specs.declared.phases.Counted.{Counted}
 use Rattle.protocol.specs.declared.phases.Refuser.{Refuser}
+use Rattle.protocol.specs.declared.phases.FullMember.{FullMember}
 use Rattle.protocol.specs.Settings.{Group, Code, quorum_of}
-use Rattle.protocol.specs.Coordinators.{Coordinator, Next, Ignores, Waits, Sends, Makes, Ends, next_phase, in_phase, fast_version, greatest_refuser, greatest_found, pieces_at, answered_fast, once_ordered, ordered_again, unless_refused, read_back, answer_of, decided, once_full, counted_at, counts_at, on_reply, most_rounds}
+use Rattle.protocol.specs.Coordinators.{Coordinator, Next, Ignores, Waits, Sends, Makes, Ends, next_phase, in_phase, fast_version, greatest_refuser, greatest_found, pieces_at, answered_fast, once_ordered, ordered_again, unless_refused, unless_told_full, lowest_full, read_back, answer_of, decided, once_full, counted_at, counts_at, on_reply, most_rounds}
 use Rattle.node.specs.Operations.{IsFirst, IsNoRecovery}
 
 -- the coordinator waits: it is in the same phase of its call
@@ -93,13 +94,17 @@ module _ (ask : Ask) (stamp : Stamp) (round : ℕ) (base : Option Stamp) (conten
   stores None = tt
   stores (Some r) = tt
 
+  unless_full : (told : Option FullMember) (phase : Phase) (next : Next) → Follows (before phase) next → Follows (before phase) (unless_told_full told next)
+  unless_full None phase next is = is
+  unless_full (Some f) phase next is = tt
+
   decides : (code : Code) (m : ℕ) (fresh : Option Stamp) (phase : Phase) → Follows (before phase) (decided code m fresh (after phase))
   unfolding decided
-  decides code m fresh Looks = fast code m (fast_version more)
-  decides code m fresh Orders = orders fresh (greatest_refuser more)
-  decides code m fresh Recovers = recovers code m fresh (greatest_refuser more)
-  decides code m fresh (Descends bound) = descends code m bound (greatest_refuser more)
-  decides code m fresh Stores = stores (greatest_refuser more)
+  decides code m fresh Looks = unless_full (lowest_full more) Looks _ (fast code m (fast_version more))
+  decides code m fresh Orders = unless_full (lowest_full more) Orders _ (orders fresh (greatest_refuser more))
+  decides code m fresh Recovers = unless_full (lowest_full more) Recovers _ (recovers code m fresh (greatest_refuser more))
+  decides code m fresh (Descends bound) = unless_full (lowest_full more) (Descends bound) _ (descends code m bound (greatest_refuser more))
+  decides code m fresh Stores = unless_full (lowest_full more) Stores _ (stores (greatest_refuser more))
 
   once_full_follows : (code : Code) (group : Group) (fresh : Option Stamp) (phase : Phase) → Follows (before phase) (once_full code group fresh (after phase))
   once_full_follows code group fresh phase =

@@ -1,31 +1,108 @@
--- What a brick does with a request.
-use Rattle.std.proofs.Common.{◌≡◌, ℕ, Some, None, ◌∙◌, ap}
+-- What a brick does with a request, over its store.
+use Rattle.std.proofs.Common.{◌≡◌, ℕ, ◌&&◌, List, Option, Some, None, inl, inr, refl, sym, ◌∙◌, ap, subst}
+use Rattle.std.proofs.lemmas.Bool.{cond_both}
 use Rattle.fab_base.specs.declared.identities.BrickId.{BrickId}
 use Rattle.fab_wire.specs.declared.calls.Call.{Call}
+use Rattle.fab_wire.specs.declared.replies.Reply.{Reply}
 use Rattle.fab_wire.specs.declared.requests.Request.{Request}
-use Rattle.protocol.specs.Settings.{Group, Layout, group_of, seat_in}
-use Rattle.protocol.specs.Replicas.{handle}
-use Rattle.protocol.specs.Nodes.{Node, no_step, replica_at, reacted, requested, requested_in, requested_at}
+use Rattle.frame_store.specs.declared.shapes.Shape.{Shape}
+use Rattle.version_log.specs.Versions.{Version}
+use Rattle.brick_state.specs.States.{StateOf}
+use Rattle.brick_store.specs.Bricks.{Brick}
+use Rattle.brick_store.specs.Images.{StandsFor}
+use Rattle.protocol.specs.Settings.{Layout, Group, group_of, seat_in}
+use Rattle.protocol.specs.Nodes.{Node, NodeStep, no_step, requested, requested_in, requested_at, reply_packets, is_served, fits_block}
+use Rattle.protocol.specs.declared.tellings.Told.TheVariants.{Nothing}
 use Rattle.stripe_code.specs.Codes.{coding}
+use Rattle.replica.specs.Parts.{IsPartsOf}
+use Rattle.replica.specs.Reactions.{IsStep}
+use Rattle.replica.specs.Handling.{me_of, OpensAsEither}
+use Rattle.node.specs.declared.open_calls.OpenCalls.{OpenCalls}
+use Rattle.node.specs.Running.{running, state_of, shape_at, IsKept, ShowsEither}
+use Rattle.node.proofs.States.{same_states}
+use Rattle.node.proofs.Views.{shows_so}
 
--- a request of no group is ignored
-pub no_group : (layout : Layout) (me from : BrickId) (node : Node) (call : Call) (request : Request)
-    → group_of layout call.group.0 ≡ None → requested (coding layout) me from node call request ≡ no_step node
-unfolding requested
-no_group layout me from node call request missing = ap (requested_in me from node call request) missing
+-- a step that tells nothing, and changes nothing but what is kept of stripes
+record KeepsCalls (old : Node) (step : NodeStep) : Type 0 where
+  boot : step.node.boot ≡ old.boot
+  seq : step.node.seq ≡ old.seq
+  known : step.node.known ≡ old.known
+  busy : step.node.busy ≡ old.busy
+  calls : step.node.calls ≡ old.calls
+  told : step.told ≡ Nothing
 
--- so is one to another brick than a member
-pub no_seat : (layout : Layout) (group : Group) (me from : BrickId) (node : Node) (call : Call) (request : Request)
-    → group_of layout call.group.0 ≡ Some group → seat_in group.members me.0 ≡ None
-    → requested (coding layout) me from node call request ≡ no_step node
-unfolding requested
-no_seat layout group me from node call request found missing =
-    ap (requested_in me from node call request) found ∙ ap (requested_at me from node call request) missing
+same_calls : (node : Node) → KeepsCalls node (no_step node)
+same_calls node = record { boot = refl; seq = refl; known = refl; busy = refl; calls = refl; told = refl }
 
--- a member handles it
-pub by_member : (layout : Layout) (group : Group) (me from : BrickId) (node : Node) (call : Call) (request : Request) (seat : ℕ)
-    → group_of layout call.group.0 ≡ Some group → seat_in group.members me.0 ≡ Some seat
-    → requested (coding layout) me from node call request ≡ reacted me from node call (handle seat (replica_at node call) request)
-unfolding requested
-by_member layout group me from node call request seat found seated =
-    ap (requested_in me from node call request) found ∙ ap (requested_at me from node call request) seated
+at_seat : (records : ℕ) (me from : BrickId) (node : Node) (call : Call) (request : Request) (seat : Option ℕ)
+    → KeepsCalls node (requested_at records me from node call request seat)
+at_seat records me from node call request None = same_calls node
+at_seat records me from node call request (Some seat) = record { boot = refl; seq = refl; known = refl; busy = refl; calls = refl; told = refl }
+
+-- so a request does
+keeps_calls : (layout : Layout) (me from : BrickId) (node : Node) (call : Call) (request : Request) (group : Option Group)
+    → KeepsCalls node (requested_in layout me from node call request group)
+keeps_calls layout me from node call request None = same_calls node
+keeps_calls layout me from node call request (Some group) =
+    cond_both (is_served group call && fits_block layout.block request) _ _ (λ (step : NodeStep). KeepsCalls node step)
+    (λ valid. at_seat layout.records me from node call request (seat_in group.members me.0)) (λ void. same_calls node)
+
+-- the machine's brick that a store's state and the open calls show
+module _ {D : Type 0} (layout : Layout) (calls : OpenCalls) (old : Brick D) (from : BrickId) (call : Call) (request : Request) where
+  -- the store is the brick's
+  pub is_me : old.shape ≡ shape_at layout calls.me → me_of old ≡ calls.me
+  is_me shape = ap (λ (s : Shape). record { 0 = s.me }) shape
+
+  -- the brick after the request
+  abbrev after : Node
+  after = (requested (coding layout) calls.me from (state_of (running layout calls old)) call request).node
+
+  seen_parts : IsPartsOf layout.block old.state (state_of (running layout calls old))
+  unfolding state_of
+  seen_parts = record { boot = refl; live = refl; replicas = λ g s. refl }
+
+  -- the state of a store that follows is the machine's
+  pub follows_state : (new : Brick D) (reply : Option Reply) → IsStep layout calls.me call request old.state reply new.state
+      → state_of (running layout calls new) ≡ after
+  unfolding state_of requested
+  follows_state new reply is =
+      let node = state_of (running layout calls old) in
+      let keeps = keeps_calls layout calls.me from node call request (group_of layout call.group.0) in
+      let parts = is.parts from node (record { boot = refl; live = refl; replicas = λ g s. refl }) in
+      same_states _ _ (sym parts.boot) (sym keeps.seq) (sym keeps.known) (sym keeps.busy) (sym parts.live) (λ g s. sym (parts.replicas g s))
+      (λ k. ap (λ (f : ℕ → Option _). f k) (sym keeps.calls))
+
+  -- it was opened as often as before
+  pub follows_boot : (new : Brick D) (reply : Option Reply) → IsStep layout calls.me call request old.state reply new.state
+      → calls.boot ≡ old.state.boot → calls.boot ≡ new.state.boot
+  unfolding state_of
+  follows_boot new reply is boot =
+      let node = state_of (running layout calls old) in
+      boot ∙ sym (keeps_calls layout calls.me from node call request (group_of layout call.group.0)).boot ∙ (is.parts from node seen_parts).boot
+
+  -- the reply that follows is the machine's
+  pub follows_packets : (st : StateOf Version) (reply : Option Reply) → IsStep layout calls.me call request old.state reply st
+      → (requested (coding layout) calls.me from (state_of (running layout calls old)) call request).packets ≡ reply_packets calls.me from call reply
+  unfolding requested
+  follows_packets st reply is = is.packets from (state_of (running layout calls old)) seen_parts
+
+  -- and tells nothing
+  pub follows_told : Nothing ≡ (requested (coding layout) calls.me from (state_of (running layout calls old)) call request).told
+  unfolding requested
+  follows_told = sym (keeps_calls layout calls.me from (state_of (running layout calls old)) call request (group_of layout call.group.0)).told
+
+  -- an image that opens as what follows shows the brick after the request
+  pub follows_shown : old.shape ≡ shape_at layout calls.me → IsKept layout.block old.state (state_of (running layout calls old)) → (image : List ℕ)
+      → OpensAsEither old.shape old.state (IsStep layout calls.me call request old.state) image
+      → ShowsEither layout calls.me (state_of (running layout calls old)) after image
+  unfolding requested
+  follows_shown shape kept image (inl stands) = inl (shows_so layout calls.me (state_of (running layout calls old)) old image shape kept stands)
+  follows_shown shape kept image (inr follows) =
+      let st = follows.0 in
+      let is = follows.3 in
+      inr (record {
+        st = st;
+        stands = subst (λ (s : Shape). StandsFor s st image) shape follows.2;
+        parts = is.parts from (state_of (running layout calls old)) seen_parts;
+        first = is.view;
+      })

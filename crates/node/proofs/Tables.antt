@@ -1,57 +1,21 @@
 -- Maps as functions of their keys.
-use Rattle.std.proofs.Common.{◌≡◌, ℕ, ◌+◌, ◌<◌, ◌≤◌, Bool, true, false, cond, nat_eq, ◌&&◌, if◌then◌else◌, Option, Some, refl, sym, ◌∙◌, ap, subst, arith}
-use Rattle.std.specs.Option.{is_some, unwrap_or, option_map}
-use Rattle.std.specs.declared.cmp.Ordering.{Ordering}
-use Rattle.std.specs.declared.cmp.Ordering.TheVariants.{Less, Equal, Greater}
-use Rattle.std.specs.Ordering.{nat_cmp, is_eq, ordering_then}
+use Rattle.std.proofs.Common.{◌≡◌, ℕ, ◌+◌, ◌<◌, ◌≤◌, Bool, true, false, cond, nat_eq, if◌then◌else◌, Option, Some, refl, sym, ◌∙◌, ap, subst, arith}
+use Rattle.std.specs.Option.{is_some, option_map}
+use Rattle.std.specs.Ordering.{nat_cmp}
 use Rattle.std.specs.Map.{lookup}
 use Rattle.std.specs.BTreeMap.{BTreeMap, get, is_at}
 use Rattle.std.proofs.lemmas.Bool.Decides.{nat_tests}
 use Rattle.protocol.specs.Nodes.{put}
-use Rattle.node.specs.States.{stripe_cmp}
 
 -- a query for a number is at its own key
 pub is_at_number : (k q : ℕ) → is_at (nat_cmp k) q ≡ nat_eq q k
 is_at_number k q = grind (arith, nat_tests)
-
--- two orders in turn find a key equal where both do
-then_is_eq : (a b : Ordering) → is_eq (ordering_then a b) ≡ is_eq a && is_eq b
-then_is_eq Less b = refl
-then_is_eq Equal b = refl
-then_is_eq Greater b = refl
-
--- a query for a stripe is at its own group and number
-pub is_at_stripe : (g s h t : ℕ) → is_at (stripe_cmp (g, s)) (h, t) ≡ nat_eq h g && nat_eq t s
-is_at_stripe g s h t =
-    then_is_eq (nat_cmp g h) (nat_cmp s t) ∙ ap (λ b. b && is_eq (nat_cmp s t)) (is_at_number g h) ∙ ap (λ b. nat_eq h g && b) (is_at_number s t)
 
 -- after a change at a key the map is the function changed there
 pub calls_after : {X : Type 0} (m n : BTreeMap ℕ X) (k : ℕ) (w : Option X)
     → ((q : ℕ) → get nat_cmp n q ≡ cond (is_at (nat_cmp k) q) w (get nat_cmp m q))
     → (q : ℕ) → get nat_cmp n q ≡ put (λ j. get nat_cmp m j) k w q
 calls_after m n k w h q = h q ∙ ap (λ b. cond b w (get nat_cmp m q)) (is_at_number k q)
-
--- a function of two numbers, changed at a pair
-put_pair : {X : Type 0} (f : ℕ → ℕ → X) (g s : ℕ) (r : X) (h t : ℕ) (b : Bool) → nat_eq h g ≡ b
-    → cond (b && nat_eq t s) r (f h t) ≡ cond b (put (f g) s r) (f h) t
-put_pair f g s r h t true e = let same : h ≡ g = grind (arith, nat_tests) in ap (λ x. cond (nat_eq t s) r (f x t)) same
-put_pair f g s r h t false e = refl
-
--- the value at a key, or another where there is none, after a change
-value_after : {X : Type 0} (b : Bool) (r d : X) (o : Option X) → unwrap_or (cond b (Some r) o) d ≡ cond b r (unwrap_or o d)
-value_after true r d o = refl
-value_after false r d o = refl
-
--- after a write at a stripe the parts of stripes are the function changed there
-pub parts_after : {X : Type 0} (m n : BTreeMap (ℕ × ℕ) X) (d : X) (g s : ℕ) (r : X)
-    → ((q : ℕ × ℕ) → get stripe_cmp n q ≡ cond (is_at (stripe_cmp (g, s)) q) (Some r) (get stripe_cmp m q))
-    → (h t : ℕ)
-    → unwrap_or (get stripe_cmp n (h, t)) d
-    ≡ put (λ i j. unwrap_or (get stripe_cmp m (i, j)) d) g (put (λ j. unwrap_or (get stripe_cmp m (g, j)) d) s r) h t
-parts_after m n d g s r e h t =
-    ap (λ o. unwrap_or o d) (e (h, t) ∙ ap (λ b. cond b (Some r) (get stripe_cmp m (h, t))) (is_at_stripe g s h t))
-    ∙ value_after (nat_eq h g && nat_eq t s) r d (get stripe_cmp m (h, t))
-    ∙ put_pair (λ i j. unwrap_or (get stripe_cmp m (i, j)) d) g s r h t (nat_eq h g) refl
 
 -- a key that the map has is not above the last one
 pub not_above : {X : Type 0} (m : BTreeMap ℕ X) (last k : ℕ)
@@ -81,13 +45,8 @@ one_fewer old before after present e = ap (λ b. after + (if b then 1 else 0)) (
 pub same_calls : {X : Type 0} (m n : BTreeMap ℕ X) → n.entries ≡ m.entries → (k : ℕ) → get nat_cmp n k ≡ get nat_cmp m k
 same_calls m n e k = ap (lookup (is_at (nat_cmp k))) e
 
--- and the same parts of stripes
-pub same_parts : {X : Type 0} (m n : BTreeMap (ℕ × ℕ) X) (d : X) → n.entries ≡ m.entries
-    → (g s : ℕ) → unwrap_or (get stripe_cmp n (g, s)) d ≡ unwrap_or (get stripe_cmp m (g, s)) d
-same_parts m n d e g s = ap (λ es. unwrap_or (lookup (is_at (stripe_cmp (g, s))) es) d) e
-
 -- a choice between two, seen through a function
-map_cond : {X Y : Type 0} (f : X → Y) (b : Bool) (w o : Option X) → option_map f (cond b w o) ≡ cond b (option_map f w) (option_map f o)
+pub map_cond : {X Y : Type 0} (f : X → Y) (b : Bool) (w o : Option X) → option_map f (cond b w o) ≡ cond b (option_map f w) (option_map f o)
 map_cond f true w o = refl
 map_cond f false w o = refl
 

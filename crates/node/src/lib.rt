@@ -1,13 +1,16 @@
-//! One brick: its parts of stripes, and the operations that it coordinates. Each step computes exactly what the protocol's
-//! machine says, from the brick's own state and the message alone.
+//! One brick over its durable store: its parts of stripes, and the operations that it coordinates. Each step computes exactly what the
+//! protocol's machine says, from the brick's own state and the message alone, and what it keeps is kept before it answers.
 #![tactic(auto)]
 
 mod admissions;
+pub mod faults;
 pub mod nodes;
+pub mod open_calls;
 pub mod operations;
+pub mod outs;
 mod packets;
-pub mod replicas;
 
-pub use nodes::{Begun, Node, NodeFault, Outs};
+pub use faults::NodeFault;
+pub use nodes::Node;
 pub use operations::Operation;
-pub use replicas::Replica;
+pub use outs::{Begun, Outs};

@@ -1,511 +1,351 @@
 //! A brick's steps.
 
-ghost use Rattle.std.specs.Prelude.{◌≡◌, ◌<◌, ◌≤◌, ℕ, true, false, [], IfOk, OnOk, OnErr, is_some, vec_len, length};
-ghost use Rattle.std.specs.BTreeMap as tree;
-ghost use Rattle.std.specs.Ordering.{nat_cmp};
-ghost use Rattle.protocol.specs.Nodes.{known_after};
+ghost use Rattle.std.specs.Prelude.{◌≡◌, ◌≢◌, ◌⊎◌, ◌+◌, ◌-◌, ◌^◌, ◌<◌, ◌≤◌, ℕ, List, true, false, Some, None, Ok, Err, IfOk, IfErr, OnOk, OnErr, vec_len};
+ghost use Rattle.std.specs.Option.{SomeIff};
+ghost use Rattle.fab_disk.specs.Disk.{IsUntouched, LeavesOnly, Kept, KeepsRoom};
+ghost use Rattle.fab_disk.specs.Plan.{IsPlanned};
+ghost use Rattle.frame_store.specs.Images.{IsNoStore};
+ghost use Rattle.version_log.specs.Versions.{Version};
+ghost use Rattle.brick_state.specs.States.{StateOf, booted};
+ghost use Rattle.brick_store.specs.Bricks.{Brick};
+ghost use Rattle.brick_store.specs.Images.{IsFound};
+ghost use Rattle.brick_store.specs.Openings.{IsAllowedOr};
+ghost use Rattle.protocol.specs.Nodes as machine;
+ghost use Rattle.protocol.specs.Nodes.{is_stripe_op, refusal_of, invoked, requested, replied, received, absorbed, ticked, restarted};
+ghost use Rattle.fab_wire.specs.declared.messages.Message.TheVariants as message;
+ghost use Rattle.stripe_code.specs.Codes.{coding};
+ghost use Rattle.replica.specs.Parts.{IsFirstView, part_seen};
+ghost use Rattle.node.specs.Faults.{halted_after, RefusesAs};
+ghost use Rattle.node.specs.States.{BeginsAs, StepsAs};
+ghost use Rattle.node.specs.Running.{shape_at, state_of, IsKept, ImageShows, ShowsEither, LeavesBrick, IsSameBrick, reopened};
 
-use crate::admissions::{has_block, has_later_time, has_length};
-use crate::operations::{Decision, Operation};
-use crate::packets::{collect_packets, packets_of};
-use crate::replicas::Replica;
-use coord_phase::seat_of;
-use fab_base::{Ask, BrickId, CallId, GroupId, NoMem, Refusal, Stamp, StripeNo, ViewNo};
-use fab_wire::{Call, Message, Packet, Reply, Request, Version};
-use layout::{Group, Layout};
+use crate::faults::NodeFault;
+use crate::open_calls::OpenCalls;
+use crate::outs::{Begun, Outs};
+use crate::packets::reply_packets;
+use brick_store::{BrickStore, State, StoreFault};
+use fab_base::{Ask, BrickId, GroupId, Refusal, StripeNo, ViewNo};
+use fab_disk::{Armed, Disk, Plan};
+use fab_wire::{Call, Message, Packet, Reply, Request};
+use layout::Layout;
 use protocol::Told;
-use std::alloc::{AllocFailed, Global};
-use std::collections::BTreeMap;
+use std::alloc::Global;
+use std::marker::Model;
 
-/// How many operations a brick may have open.
-pub const MOST_OPEN: usize = 64;
-
-/// A running brick: its parts of stripes, and the operations that it coordinates.
+/// A running brick: its parts of stripes, which its disk keeps, and the operations that it coordinates.
+///
+/// A clause sees the layout, the brick's number, the operations that it has open, and its store.
 #[derive(Drop)]
-pub struct Node {
-    me: BrickId,
-    boot: u32,
-    seq: u64,
-    known: u64,
-    replicas: BTreeMap<(u32, u32), Replica>,
-    calls: BTreeMap<u64, Operation>,
-    ghost fresh: { (k : ℕ) → seq < k → is_some (tree.get nat_cmp calls k) ≡ false },
+pub struct Node<D: Disk> {
+    alloc: Global,
+    layout: Layout,
+    calls: OpenCalls,
+    store: BrickStore<D>,
 }
 
-/// What a step sends, in order, and what it tells of an operation.
-#[derive(Debug, Drop)]
-pub struct Outs {
-    /// The packets, in the order of sending.
-    pub packets: Vec<Packet>,
-    /// What is told.
-    pub told: Told,
+impl<D: Disk> Model for Node<D> {
+    ghost use Rattle.node.specs.Running.{Running, running, IsBrickOf};
+
+    ghost Value = { Running D };
+
+    ghost view = { λ n. running n.layout n.calls n.store };
+
+    ghost invariant = { λ n. IsBrickOf n.layout n.store.shape n.store.state n.calls };
 }
 
-/// A new operation: the number of its call, and the packets that it sends, in order.
-#[derive(Debug, Drop)]
-pub struct Begun {
-    /// The number of the call since the brick's store was opened.
-    pub seq: u64,
-    /// The packets, in the order of sending.
-    pub packets: Vec<Packet>,
-}
-
-/// Why an operation is not begun. Nothing has changed then.
-#[derive(Clone, Copy, Debug, PartialEq, Eq)]
-pub enum NodeFault {
-    /// The brick refuses it.
-    Refused(Refusal),
-    /// No memory was left.
-    NoMemory,
-}
-
-impl From<NoMem> for NodeFault {
-    ghost use Rattle.std.specs.Prelude.{◌≡◌};
-    ghost use Rattle.node.specs.declared.nodes.NodeFault.TheVariants.{NoMemory};
-
-    ghost from_gives = { λ _ e. e ≡ NoMemory };
-
-    fn from(_error: NoMem) -> NodeFault {
-        NodeFault::NoMemory
-    }
-}
-
-impl<T: Drop> From<AllocFailed<T>> for NodeFault {
-    ghost use Rattle.std.specs.Prelude.{◌≡◌};
-    ghost use Rattle.node.specs.declared.nodes.NodeFault.TheVariants.{NoMemory};
-
-    ghost from_gives = { λ _ e. e ≡ NoMemory };
-
-    fn from(_error: AllocFailed<T>) -> NodeFault {
-        NodeFault::NoMemory
-    }
-}
-
-/// The time that a reply makes known.
-fn known_after(known: u64, reply: &Reply) -> u64
-    ensures { result ≡ known_after known reply.now }
-{
-    match reply {
-        Reply::Later { stamp } => known.max(stamp.time),
-        _ => known,
-    }
-}
-
-impl Outs {
-    /// Nothing is sent, and nothing told.
-    fn nothing(alloc: Global) -> Outs
-        ensures packets { result.packets.items ≡ [] }
-        ensures told { result.told ≡ Told.Nothing }
+impl<D: Disk> Node<D> {
+    /// Opens the store that a disk holds for a brick of a layout: the brick runs, has made no call, and knows no time.
+    ///
+    /// # Errors
+    ///
+    /// Each hands the disk back, and is a fault of [`open_store`](brick_store::open_store). [`StoreFault::NotAStore`] also where the store
+    /// was opened, and has learnt a later view of a group: later views are not built yet.
+    pub fn start(
+        alloc: Global,
+        layout: Layout,
+        me: BrickId,
+        disk: D,
+    ) -> Result<Node<D>, (StoreFault, D)>
+        ensures layout { IfOk result (λ node. node.layout ≡ layout) }
+        ensures me { IfOk result (λ node. node.me ≡ me) }
+        ensures runs { IfOk result (λ node. node.brick.halted ≡ false) }
+        ensures state { IfOk result (λ node. D.tells → (before : machine.Node) → ImageShows layout me before (D.seen disk) → state_of node ≡ restarted 1 before) }
+        // There was a store that was not worn, and it is the one that was counted.
+        ensures found { IfOk result (λ node. D.tells → (st : StateOf Version) × IsFound (shape_at layout me) st (D.seen disk) × (st.boot < 2 ^ 32 - 1) × (node.brick.state ≡ booted (st.boot + 1) st)) }
+        ensures seen { IfOk result (λ node. D.tells → ImageShows layout me (state_of node) (D.seen node.brick.disk)) }
+        ensures durable { IfOk result (λ node. D.tells → LeavesBrick layout me (state_of node) (D.may_leave node.brick.disk)) }
+        // At each moment each image is one that the disk allowed before, or shows the brick as it was, or opened once more.
+        ensures moments { IfOk result (λ node. D.tells → (before : machine.Node) → ImageShows layout me before (D.seen disk) → LeavesOnly D.moment D.left_since disk node.brick.disk (IsAllowedOr (D.may_leave disk) (ShowsEither layout me before (reopened before)))) }
+        ensures moments_err { IfErr result (λ e. D.tells → (before : machine.Node) → ImageShows layout me before (D.seen disk) → LeavesOnly D.moment D.left_since disk e.1 (IsAllowedOr (D.may_leave disk) (ShowsEither layout me before (reopened before)))) }
+        // Where all that it allowed shows the brick, all shows one of the two.
+        ensures any_moment { IfOk result (λ node. D.tells → (before : machine.Node) → LeavesBrick layout me before (D.may_leave disk) → LeavesOnly D.moment D.left_since disk node.brick.disk (ShowsEither layout me before (reopened before))) }
+        ensures any_moment_err { IfErr result (λ e. D.tells → (before : machine.Node) → LeavesBrick layout me before (D.may_leave disk) → LeavesOnly D.moment D.left_since disk e.1 (ShowsEither layout me before (reopened before))) }
+        // There is no store, and nothing has changed; or its store has learnt a later view.
+        ensures not_a_store { IfErr result (λ e. e.0 ≡ StoreFault.NotAStore → D.tells → (IsNoStore (shape_at layout me) (D.seen disk) × IsUntouched D.seen D.may_leave D.moment D.left_since disk e.1) ⊎ ((st : StateOf Version) × IsFound (shape_at layout me) st (D.seen disk) × (IsFirstView st → ⊥))) }
+        // There was a store, and it was opened as often as it can be.
+        ensures worn { IfErr result (λ e. e.0 ≡ StoreFault.Worn → D.tells → (st : StateOf Version) × IsFound (shape_at layout me) st (D.seen disk) × (st.boot ≡ 2 ^ 32 - 1)) }
+        ensures unchanged { IfErr result (λ e. e.0 ≡ StoreFault.Worn → IsUntouched D.seen D.may_leave D.moment D.left_since disk e.1) }
+        // No other fault is answered.
+        ensures not_halted { IfErr result (λ e. e.0 ≢ StoreFault.Halted) }
+        ensures not_full { IfErr result (λ e. (n : ℕ) → e.0 ≢ StoreFault.Full n) }
+        ensures cause { IfOk result (λ node. Kept (D.faults disk) (D.faults node.brick.disk) (D.sound disk) (D.sound node.brick.disk) ⊥) }
+        ensures cause_err { IfErr result (λ e. Kept (D.faults disk) (D.faults e.1) (D.sound disk) (D.sound e.1) (e.0 ≡ StoreFault.Disk)) }
     {
-        Outs {
-            packets: Vec::new(alloc),
-            told: Told::Nothing,
-        }
-    }
-}
-
-impl Node {
-    ghost use Rattle.std.specs.Prelude.{◌≡◌, ◌+◌, ◌-◌, ◌^◌, ◌<◌, ◌≤◌, ℕ, true, None, Some, IfOk, OnOk, OnErr, MatchOption, vec_len};
-    ghost use Rattle.std.specs.Option.{SomeIff};
-    ghost use Rattle.std.specs.Result.{result_err};
-    ghost use Rattle.protocol.specs.Settings as layouts;
-    ghost use Rattle.protocol.specs.Settings.{group_of};
-    ghost use Rattle.protocol.specs.Replicas.{first_replica, handle};
-    ghost use Rattle.protocol.specs.Nodes.{first_node, is_stripe_op, has_length, refusal_in, refusal_of, new_stamp, fresh_stamp, new_coordinator, with_call, began_in, invoked, replica_at, with_replica, requested, carried_out, replied, received};
-    ghost use Rattle.fab_wire.specs.declared.messages.Message.TheVariants as message;
-    ghost use Rattle.stripe_code.specs.Codes.{coding};
-    ghost use Rattle.node.specs.Operations.{shown_of, coordinator_of};
-    ghost use Rattle.node.specs.Decisions.{machine_next, IsDecisionOf, HasFewMessages};
-    ghost use Rattle.node.specs.States.{state_of, IsAt, IsNodeOf, RefusesAs, BeginsAs, StepsAs};
-
-    /// A brick whose fresh store was just opened.
-    pub fn new(alloc: Global, me: BrickId) -> Node
-        ensures me { result.me ≡ me }
-        ensures state { (block : ℕ) → state_of block result ≡ first_node block }
-        ensures node { (layout : layouts.Layout) → IsNodeOf layout result }
-    {
-        Node {
+        let store = match brick_store::open_store(
+            alloc,
+            disk,
             me,
-            boot: 1,
-            seq: 0,
-            known: 0,
-            replicas: BTreeMap::new(alloc),
-            calls: BTreeMap::new(alloc),
-        }
-    }
-
-    /// The log of the brick's part of a stripe, oldest version first. None where the stripe was never asked for here: its log
-    /// is then that of a fresh stripe.
-    pub fn log(&self, group: GroupId, stripe: StripeNo) -> Option<&[Version]>
-        ensures { MatchOption result
-            ((block : ℕ) → (state_of block self.now).replicas group.0 stripe.0 ≡ first_replica block)
-            (λ log. (block : ℕ) → log.now ≡ ((state_of block self.now).replicas group.0 stripe.0).log) }
-    {
-        let replica = self.replicas.get(&(group.0, stripe.0))?;
-        Some(replica.log())
-    }
-
-    /// Why the brick does not begin an operation on a group, the first reason there is: there is no such stripe; no such data
-    /// block; the bytes are not one block, or m blocks; 64 operations are open; no later time or call number is left.
-    #[tactic(auto, unfolding(crate::specs::States::state_of))]
-    fn refusal(&self, block: u16, group: &Group, ask: &Ask) -> Option<Refusal>
-        ensures value { result ≡ refusal_in block (state_of block self.now) ask.now (Some group.now) }
-        ensures known { result ≡ None → self.now.known + 1 < 2 ^ 64 }
-        ensures seq { result ≡ None → self.now.seq + 1 < 2 ^ 64 }
-        ensures fits { result ≡ None → has_length group.now.m block ask.now.op ≡ true }
-    {
-        if ask.stripe.0 >= group.stripes() {
-            Some(Refusal::NoStripe)
-        } else if !has_block(group.m(), &ask.op) {
-            Some(Refusal::NoBlock)
-        } else if !has_length(group.m(), block, &ask.op) {
-            Some(Refusal::Length)
-        } else if self.calls.len() >= MOST_OPEN {
-            Some(Refusal::Busy)
-        } else if !has_later_time(self.known) || self.seq == u64::MAX {
-            Some(Refusal::Spent)
-        } else {
-            None
-        }
-    }
-
-    /// The group that is asked for, where the brick begins the operation; else why it does not.
-    #[tactic(auto, unfolding(protocol::specs::Nodes::refusal_of))]
-    fn admit<'a>(&self, layout: &'a Layout, ask: &Ask) -> Result<&'a Group, Refusal>
-        ensures refused { result_err result ≡ refusal_of layout.now (state_of layout.now.block self.now) ask.now }
-        ensures group { IfOk result (λ group. group_of layout.now ask.now.group.0 ≡ Some group.now) }
-        ensures known { OnOk result (self.now.known + 1 < 2 ^ 64) }
-        ensures seq { OnOk result (self.now.seq + 1 < 2 ^ 64) }
-        ensures fits { IfOk result (λ group. has_length group.now.m layout.now.block ask.now.op ≡ true) }
-    {
-        let Some(group) = layout.group(ask.group) else {
-            return Err(Refusal::NoStripe);
+            layout.block(),
+            layout.records(),
+        ) {
+            Ok(store) => store,
+            Err(refused) => return Err(refused),
         };
-        match self.refusal(layout.block(), group, ask) {
-            Some(refusal) => Err(refusal),
-            None => Ok(group),
+        if !is_first_view(&store) {
+            return Err((StoreFault::NotAStore, store.into_disk()));
         }
-    }
-
-    /// The number of the brick's next call. None where no number is left.
-    #[tactic(auto, unfolding(crate::specs::States::state_of))]
-    pub fn next_seq(&self) -> Option<u64>
-        ensures { (block : ℕ) → SomeIff result ((state_of block self.now).seq + 1 < 2 ^ 64) ((state_of block self.now).seq + 1) }
-    {
-        self.seq.checked_add(1)
-    }
-
-    /// A new stamp where the brick knows this time, at this time of its clock.
-    fn new_stamp(&self, now: u64, known: u64) -> Stamp
-        requires { known + 1 < 2 ^ 64 }
-        ensures { result ≡ new_stamp self.now.me now self.now.boot known }
-    {
-        Stamp {
-            view: ViewNo(1),
-            time: now.max(known + 1),
-            brick: self.me,
-            boot: self.boot,
-        }
-    }
-
-    /// The stamp that a new round of ordering would have where the brick knows this time. None where no later time is left.
-    fn fresh_stamp(&self, now: u64, known: u64) -> Option<Stamp>
-        ensures { result ≡ fresh_stamp self.now.me now self.now.boot known }
-    {
-        if !has_later_time(known) {
-            return None;
-        }
-        Some(self.new_stamp(now, known))
+        let calls = OpenCalls::new(alloc, me, store.boot());
+        Ok(Node {
+            alloc,
+            layout,
+            calls,
+            store,
+        })
     }
 
     /// Begins an operation on a whole stripe, at this time of the brick's clock.
     ///
     /// # Errors
     ///
-    /// `Refused` exactly where the brick does not begin it, with the first reason there is: there is no such group or stripe; no such
-    /// data block; the bytes are not one block, or m blocks; 64 operations are open; no later time or call number is left. `NoMemory`
-    /// where no memory was left.
-    pub fn invoke(
-        &mut self,
-        alloc: Global,
-        layout: &Layout,
-        now: u64,
-        ask: &Ask,
-    ) -> Result<Begun, NodeFault>
+    /// `Halted` exactly where an earlier call answered `Disk`. `Refused` exactly where the brick does not begin it, with the first reason
+    /// there is: there is no such group or stripe; no such data block; the bytes are not one block, or m blocks; 64 operations are open;
+    /// no later time or call number is left. `NoMemory` where no memory was left.
+    pub fn invoke(&mut self, now: u64, ask: &Ask) -> Result<Begun, NodeFault>
         requires stripe { is_stripe_op ask.now.op ≡ true }
-        requires node { IsNodeOf layout.now self.old }
-
-        ensures refused { RefusesAs result (refusal_of layout.now (state_of layout.now.block self.old) ask.now) }
-        ensures begun { IfOk result (BeginsAs layout.now.block self.new (invoked (coding layout.now) self.old.me now (state_of layout.now.block self.old) ask.now)) }
-        ensures err { OnErr result ((block : ℕ) → state_of block self.new ≡ state_of block self.old) }
-        ensures me { self.new.me ≡ self.old.me }
-        ensures node { IsNodeOf layout.now self.new }
+        ensures refused { RefusesAs result (refusal_of self.old.layout (state_of self.old) ask.now) }
+        ensures begun { IfOk result (BeginsAs (state_of self.new) (invoked (coding self.old.layout) self.old.me now (state_of self.old) ask.now)) }
+        ensures err { OnErr result (state_of self.new ≡ state_of self.old) }
         ensures few { IfOk result (λ begun. vec_len begun.packets ≤ 32) }
+        ensures same { IsSameBrick self.old self.new }
+        ensures brick { self.new.brick ≡ self.old.brick }
+        ensures halted { self.old.brick.halted ≡ true → result ≡ Err NodeFault.Halted }
+        ensures only_halted { result ≡ Err NodeFault.Halted → self.old.brick.halted ≡ true }
+        ensures not_disk { result ≢ Err NodeFault.Disk }
     {
-        match self.admit(layout, ask) {
-            Err(refusal) => Err(NodeFault::Refused(refusal)),
-            Ok(group) => Ok(self.begin(alloc, layout, group, now, ask)?),
+        if self.is_halted() {
+            return Err(NodeFault::Halted);
+        }
+        let group = match self.calls.admit(&self.layout, ask) {
+            Ok(group) => group,
+            Err(refusal) => return Err(NodeFault::Refused(refusal)),
+        };
+        Ok(self.calls.begin(self.alloc, &self.layout, group, now, ask)?)
+    }
+
+    /// At a tick of the brick's clock each open operation, in the order of beginning, sends its present phase again to each member
+    /// without a reply that counts.
+    ///
+    /// # Errors
+    ///
+    /// `Halted` exactly where an earlier call answered `Disk`. `NoMemory` where no memory was left.
+    pub fn on_tick(&self) -> Result<Vec<Packet>, NodeFault>
+        ensures packets { IfOk result (λ packets. packets.items ≡ ticked (coding self.now.layout) self.now.me (state_of self.now)) }
+        ensures few { IfOk result (λ packets. vec_len packets ≤ 2048) }
+        ensures halted { self.now.brick.halted ≡ true → result ≡ Err NodeFault.Halted }
+        ensures only { OnErr result ((result ≡ Err NodeFault.Halted × (self.now.brick.halted ≡ true)) ⊎ (result ≡ Err NodeFault.NoMemory)) }
+    {
+        if self.is_halted() {
+            return Err(NodeFault::Halted);
+        }
+        Ok(self.calls.on_tick(self.alloc, &self.layout)?)
+    }
+
+    /// Handles a message, at this time of the brick's clock. What it keeps of a request is on the disk before it answers.
+    ///
+    /// # Errors
+    ///
+    /// `Halted` exactly where an earlier call answered `Disk`. `Disk` where the disk failed: the brick is halted. `NoMemory` where no
+    /// memory was left. What the machine sees of the brick has not changed then.
+    #[tactic(auto, unfolding(protocol::specs::Nodes::received, protocol::specs::Nodes::absorbed))]
+    pub fn on_message(&mut self, now: u64, packet: &Packet) -> Result<Outs, NodeFault>
+        ensures step { IfOk result (StepsAs (state_of self.new) (received (coding self.old.layout) self.old.me now (state_of self.old) packet.now)) }
+        ensures few { IfOk result (λ outs. vec_len outs.packets ≤ 32) }
+        ensures err { OnErr result (state_of self.new ≡ state_of self.old) }
+        ensures same { IsSameBrick self.old self.new }
+        // After it a crash leaves only what shows the brick as it is now.
+        ensures durable { D.tells → OnOk result (LeavesBrick self.old.layout self.old.me (state_of self.new) (D.may_leave self.new.brick.disk)) }
+        // At each moment of the call each image shows the brick as it was, or with what the request makes it keep.
+        ensures moments { D.tells → self.old.brick.halted ≡ false → LeavesOnly D.moment D.left_since self.old.brick.disk self.new.brick.disk (ShowsEither self.old.layout self.old.me (state_of self.old) (absorbed (coding self.old.layout) self.old.me (state_of self.old) packet.now)) }
+        ensures halted { self.old.brick.halted ≡ true → result ≡ Err NodeFault.Halted }
+        ensures only_halted { result ≡ Err NodeFault.Halted → self.old.brick.halted ≡ true }
+        ensures halts { self.new.brick.halted ≡ halted_after self.old.brick.halted result }
+        ensures not_refused { (reason : Refusal) → result ≢ Err (NodeFault.Refused reason) }
+        ensures no_call { OnErr result (result ≢ Err NodeFault.Disk → IsUntouched D.seen D.may_leave D.moment D.left_since self.old.brick.disk self.new.brick.disk) }
+        ensures cause { Kept (D.faults self.old.brick.disk) (D.faults self.new.brick.disk) (D.sound self.old.brick.disk) (D.sound self.new.brick.disk) (result ≡ Err NodeFault.Disk) }
+    {
+        if self.is_halted() {
+            return Err(NodeFault::Halted);
+        }
+        match &packet.message {
+            Message::Request(call, request) => self.on_request(packet.from, *call, request),
+            Message::Reply(call, reply) => self.on_reply(now, packet, *call, reply),
+            Message::Learn { .. }
+            | Message::Synced { .. }
+            | Message::Client(_)
+            | Message::ClientReply { .. } => Ok(Outs::nothing(self.alloc)),
         }
     }
 
-    /// Begins an operation that is not refused, on a stripe of this group.
-    fn begin(
-        &mut self,
-        alloc: Global,
-        layout: &Layout,
-        group: &Group,
-        now: u64,
-        ask: &Ask,
-    ) -> Result<Begun, NoMem>
-        requires known { self.old.known + 1 < 2 ^ 64 }
-        requires seq { self.old.seq + 1 < 2 ^ 64 }
-        requires stripe { is_stripe_op ask.now.op ≡ true }
-        requires group { group_of layout.now ask.now.group.0 ≡ Some group.now }
-        requires fits { has_length group.now.m layout.now.block ask.now.op ≡ true }
-        requires node { IsNodeOf layout.now self.old }
-        ensures begun { IfOk result (BeginsAs layout.now.block self.new (began_in (coding layout.now) group.now self.old.me (state_of layout.now.block self.old) (new_coordinator self.old.me now (state_of layout.now.block self.old) ask.now))) }
-        ensures err { OnErr result ((block : ℕ) → state_of block self.new ≡ state_of block self.old) }
-        ensures me { self.new.me ≡ self.old.me }
-        ensures node { IsNodeOf layout.now self.new }
-        ensures few { IfOk result (λ begun. vec_len begun.packets ≤ 32) }
-    {
-        let seq = self.seq + 1;
-        let stamp = self.new_stamp(now, self.known);
-        let call = CallId {
-            boot: self.boot,
-            seq,
-        };
-        let (operation, messages) = Operation::begin(
-            alloc,
-            layout,
-            group,
-            call,
-            ask.copy(alloc)?,
-            stamp,
-        )?;
-        let packets = packets_of(alloc, self.me, messages)?;
-        self.calls.insert(seq, operation)?;
-        self.seq = seq;
-        self.known = stamp.time;
-        Ok(Begun { seq, packets })
-    }
-
-    /// Handles a request, as a member of its group; another brick ignores it.
+    /// Handles a request, as a member of its group; another brick ignores it. So does each brick a request of a stripe that the
+    /// group does not have in its view, or that would store what is no block.
     fn on_request(
         &mut self,
-        alloc: Global,
-        layout: &Layout,
         from: BrickId,
         call: Call,
         request: &Request,
-    ) -> Result<Outs, NoMem>
-        ensures step { IfOk result (StepsAs layout.now.block self.new (requested (coding layout.now) self.old.me from (state_of layout.now.block self.old) call request.now)) }
+    ) -> Result<Outs, NodeFault>
+        requires runs { self.old.brick.halted ≡ false }
+        requires durable { D.tells → LeavesBrick self.old.layout self.old.me (state_of self.old) (D.may_leave self.old.brick.disk) }
+        ensures step { IfOk result (StepsAs (state_of self.new) (requested (coding self.old.layout) self.old.me from (state_of self.old) call request.now)) }
         ensures few { IfOk result (λ outs. vec_len outs.packets ≤ 32) }
-        ensures calls { self.new.calls ≡ self.old.calls }
-        ensures err { OnErr result ((block : ℕ) → state_of block self.new ≡ state_of block self.old) }
-        ensures me { self.new.me ≡ self.old.me }
+        ensures err { OnErr result (state_of self.new ≡ state_of self.old) }
+        ensures same { IsSameBrick self.old self.new }
+        ensures durable { D.tells → OnOk result (LeavesBrick self.old.layout self.old.me (state_of self.new) (D.may_leave self.new.brick.disk)) }
+        ensures moments { D.tells → LeavesOnly D.moment D.left_since self.old.brick.disk self.new.brick.disk (ShowsEither self.old.layout self.old.me (state_of self.old) (requested (coding self.old.layout) self.old.me from (state_of self.old) call request.now).node) }
+        ensures not_halted { result ≢ Err NodeFault.Halted }
+        ensures halts { self.new.brick.halted ≡ halted_after false result }
+        ensures not_refused { (reason : Refusal) → result ≢ Err (NodeFault.Refused reason) }
+        ensures no_call { OnErr result (result ≢ Err NodeFault.Disk → IsUntouched D.seen D.may_leave D.moment D.left_since self.old.brick.disk self.new.brick.disk) }
+        ensures cause { Kept (D.faults self.old.brick.disk) (D.faults self.new.brick.disk) (D.sound self.old.brick.disk) (D.sound self.new.brick.disk) (result ≡ Err NodeFault.Disk) }
     {
-        let Some(group) = layout.group(call.group) else {
-            return Ok(Outs::nothing(alloc));
-        };
-        let Some(seat) = seat_of(group.members().as_slice(), self.me) else {
-            return Ok(Outs::nothing(alloc));
-        };
-        let mut packets = Vec::with_capacity(alloc, 1)?;
-        let reply = self.handle(alloc, layout.block(), seat, call, request)?;
-        if let Some(reply) = reply {
-            packets.push(Packet {
-                from: self.me,
-                to: from,
-                message: Message::Reply(call, reply),
-            })?;
-        }
+        // The reply has its room before anything is kept: after that nothing can fail.
+        let room = Vec::with_capacity(self.alloc, 1)?;
+        let reply = replica::handle(self.alloc, &mut self.store, &self.layout, call, request)?;
         Ok(Outs {
-            packets,
+            packets: reply_packets(room, self.calls.me(), from, call, reply),
             told: Told::Nothing,
         })
-    }
-
-    /// What the brick's part of the call's stripe does with a request, as the member at a seat.
-    fn handle(
-        &mut self,
-        alloc: Global,
-        block: u16,
-        seat: u8,
-        call: Call,
-        request: &Request,
-    ) -> Result<Option<Reply>, NoMem>
-        ensures reply { IfOk result (λ reply. reply ≡ (handle seat (replica_at (state_of block self.old) call) request.now).reply) }
-        ensures replica { OnOk result (state_of block self.new ≡ with_replica (state_of block self.old) call (handle seat (replica_at (state_of block self.old) call) request.now).replica) }
-        ensures calls { self.new.calls ≡ self.old.calls }
-        ensures err { OnErr result ((block : ℕ) → state_of block self.new ≡ state_of block self.old) }
-        ensures me { self.new.me ≡ self.old.me }
-    {
-        let key = (call.group.0, call.stripe.0);
-        match self.replicas.get_mut(&key) {
-            Some(replica) => replica.handle(alloc, seat, request),
-            None => {
-                let mut replica = Replica::first(alloc, block)?;
-                let reply = replica.handle(alloc, seat, request)?;
-                self.replicas.insert(key, replica)?;
-                Ok(reply)
-            }
-        }
     }
 
     /// Handles a reply, at this time of the brick's clock: the operation of its call counts it, or leaves it out.
     fn on_reply(
         &mut self,
-        alloc: Global,
-        layout: &Layout,
         now: u64,
         packet: &Packet,
         call: Call,
         reply: &Reply,
-    ) -> Result<Outs, NoMem>
+    ) -> Result<Outs, NodeFault>
         requires reply { packet.now.message ≡ message.Reply call reply.now }
-        requires node { IsNodeOf layout.now self.old }
-        ensures step { IfOk result (StepsAs layout.now.block self.new (replied (coding layout.now) self.old.me now packet.now.from (state_of layout.now.block self.old) call reply.now)) }
+        ensures step { IfOk result (StepsAs (state_of self.new) (replied (coding self.old.layout) self.old.me now packet.now.from (state_of self.old) call reply.now)) }
         ensures few { IfOk result (λ outs. vec_len outs.packets ≤ 32) }
-        ensures err { OnErr result ((block : ℕ) → state_of block self.new ≡ state_of block self.old) }
-        ensures node { IsNodeOf layout.now self.new }
-        ensures me { self.new.me ≡ self.old.me }
+        ensures err { OnErr result (state_of self.new ≡ state_of self.old) }
+        ensures same { IsSameBrick self.old self.new }
+        ensures brick { self.new.brick ≡ self.old.brick }
+        ensures shown { (image : List ℕ) → ImageShows self.old.layout self.old.me (state_of self.old) image → ImageShows self.old.layout self.old.me (state_of self.new) image }
+        ensures only { OnErr result (result ≡ Err NodeFault.NoMemory) }
     {
-        let known = known_after(self.known, reply);
-        let Some(open) = self.calls.get(&call.seq) else {
-            self.known = known;
-            return Ok(Outs::nothing(alloc));
-        };
-        let last = open.call();
-        let Some(group) = layout.group(last.group) else {
-            return Ok(Outs::nothing(alloc));
-        };
-        let fresh = self.fresh_stamp(now, known);
-        let decision = open
-            .copy(alloc)?
-            .on_reply(alloc, layout, group, packet.from, &packet.message, fresh)?;
-        self.carry_out(alloc, group, known, last, decision)
+        Ok(
+            self.calls
+                .on_reply(self.alloc, &self.layout, now, packet, call, reply)?,
+        )
     }
 
-    /// Carries out what the open operation of this call decided; the brick now knows this time, or that of a new round's stamp.
-    fn carry_out(
-        &mut self,
-        alloc: Global,
-        group: &Group,
-        known: u64,
-        call: Call,
-        decision: Decision,
-    ) -> Result<Outs, NoMem>
-        requires held { is_some (tree.get nat_cmp self.old.calls call.seq) ≡ true }
-        requires few { HasFewMessages decision }
-        ensures step { (layout : layouts.Layout) (before : Operation) → (coordinator_of before).call ≡ call → (shown_of before).group ≡ group.now → IsDecisionOf layout before decision
-            → IfOk result (StepsAs layout.block self.new (carried_out (coding layout) group.now self.old.me (state_of layout.block self.old) known (coordinator_of before) (machine_next decision))) }
-        ensures node { (layout : layouts.Layout) (before : Operation) → (coordinator_of before).call ≡ call → IsDecisionOf layout before decision
-            → IsNodeOf layout self.old → IsNodeOf layout self.new }
-        ensures few { IfOk result (λ outs. vec_len outs.packets ≤ 32) }
-        ensures err { OnErr result ((block : ℕ) → state_of block self.new ≡ state_of block self.old) }
-        ensures me { self.new.me ≡ self.old.me }
+    /// Gives the disk back. Where the brick is not halted, the disk shows it, and so does whatever a crash leaves.
+    pub fn into_disk(self) -> D
+        ensures disk { result ≡ self.brick.disk }
+        ensures seen { D.tells → self.brick.halted ≡ false → ImageShows self.layout self.me (state_of self) (D.seen result) }
+        ensures durable { D.tells → self.brick.halted ≡ false → LeavesBrick self.layout self.me (state_of self) (D.may_leave result) }
     {
-        match decision {
-            Decision::Waits(operation) => {
-                self.put_back(known, call.seq, operation);
-                Ok(Outs::nothing(alloc))
-            }
-            Decision::Sends(operation, messages) => {
-                let packets = packets_of(alloc, self.me, messages)?;
-                self.put_back(known.max(operation.stamp().time), call.seq, operation);
-                Ok(Outs {
-                    packets,
-                    told: Told::Nothing,
-                })
-            }
-            Decision::Makes {
-                operation,
-                messages,
-                stamp,
-                base,
-            } => {
-                let packets = packets_of(alloc, self.me, messages)?;
-                self.put_back(known, call.seq, operation);
-                Ok(Outs {
-                    packets,
-                    told: Told::Made {
-                        seq: call.seq,
-                        stamp,
-                        base,
-                    },
-                })
-            }
-            Decision::Ends {
-                answer,
-                seen,
-                stored,
-            } => {
-                let packets = collect_packets(alloc, self.me, group, call, stored)?;
-                self.close(known, call.seq);
-                Ok(Outs {
-                    packets,
-                    told: Told::Answers {
-                        seq: call.seq,
-                        answer,
-                        seen,
-                    },
-                })
-            }
+        let Node {
+            alloc: _,
+            layout: _,
+            calls: _,
+            store,
+        } = self;
+        store.into_disk()
+    }
+}
+
+/// What a brick tells of itself. No look-up needs memory.
+impl<D: Disk> Node<D> {
+    /// Whether a call of this brick answered [`NodeFault::Disk`]. While none did, a crash leaves only what shows the brick.
+    pub fn is_halted(&self) -> bool
+        ensures value { result ≡ self.now.brick.halted }
+        ensures durable { D.tells → self.now.brick.halted ≡ false → LeavesBrick self.now.layout self.now.me (state_of self.now) (D.may_leave self.now.brick.disk) }
+        ensures kept { IsKept self.now.layout.block self.now.brick.state (state_of self.now) }
+        ensures shape { self.now.brick.shape ≡ shape_at self.now.layout self.now.me }
+    {
+        let _ = &self.calls;
+        self.store.is_halted()
+    }
+
+    /// The store.
+    pub fn store(&self) -> &BrickStore<D>
+        ensures { result.now ≡ self.now.brick }
+    {
+        &self.store
+    }
+
+    /// The brick's part of a stripe: its order stamp, and its log.
+    #[tactic(auto, unfolding(crate::specs::Running::state_of))]
+    pub fn log(&self, group: GroupId, stripe: StripeNo) -> State<'_>
+        ensures { part_seen result ≡ (state_of self.now).replicas group.0 stripe.0 }
+    {
+        self.store.state(group, ViewNo(1), stripe)
+    }
+
+    /// The number of the brick's next call. None where no number is left.
+    #[tactic(auto, unfolding(crate::specs::Running::state_of))]
+    pub fn next_seq(&self) -> Option<u64>
+        ensures { SomeIff result ((state_of self.now).seq + 1 < 2 ^ 64) ((state_of self.now).seq + 1) }
+    {
+        self.calls.next_seq()
+    }
+
+    /// How often the brick's store was opened.
+    #[tactic(auto, unfolding(crate::specs::Running::state_of))]
+    pub fn boot(&self) -> u32
+        ensures { result ≡ (state_of self.now).boot }
+    {
+        self.calls.boot()
+    }
+
+    /// The greatest time that the brick knows. 0 where it knows none.
+    #[tactic(auto, unfolding(crate::specs::Running::state_of))]
+    pub fn known_time(&self) -> u64
+        ensures { result ≡ (state_of self.now).known }
+    {
+        self.calls.known_time()
+    }
+}
+
+impl<D: Armed> Node<D> {
+    /// Passes a plan on to the disk: see [`Armed::arm`].
+    #[tactic(auto, unfolding(crate::specs::Running::state_of))]
+    pub fn arm(&mut self, plan: Plan)
+        ensures same { IsSameBrick self.old self.new }
+        ensures state { state_of self.new ≡ state_of self.old }
+        ensures halted { self.new.brick.halted ≡ self.old.brick.halted }
+        ensures content { D.seen self.new.brick.disk ≡ D.seen self.old.brick.disk }
+        ensures crash { (image : List ℕ) → D.may_leave self.new.brick.disk image → D.may_leave self.old.brick.disk image }
+        ensures planned { (n : ℕ) → IsPlanned plan n → D.fails_in self.new.brick.disk n }
+        ensures faults { D.faults self.new.brick.disk ≡ D.faults self.old.brick.disk }
+        ensures room { KeepsRoom (D.has_room self.old.brick.disk) (D.has_room self.new.brick.disk) }
+        ensures sound { plan ≡ Plan.Never → D.sound self.old.brick.disk → D.sound self.new.brick.disk }
+    {
+        self.store.arm(plan);
+    }
+}
+
+/// Whether a store has learnt no later view of a group.
+fn is_first_view<D: Disk>(store: &BrickStore<D>) -> bool
+    ensures first { result ≡ true → IsFirstView store.now.state }
+    ensures later { result ≡ false → IsFirstView store.now.state → ⊥ }
+{
+    for group in 0..64 {
+        if store.known_view(GroupId(group)).is_some() {
+            return false;
         }
     }
-
-    /// Puts back the open operation of this number; the brick now knows this time.
-    fn put_back(&mut self, known: u64, seq: u64, operation: Operation)
-        requires { is_some (tree.get nat_cmp self.old.calls seq) ≡ true }
-        ensures state { (block : ℕ) → state_of block self.new ≡ with_call (state_of block self.old) known (state_of block self.old).busy seq (Some (coordinator_of operation)) }
-        ensures node { (layout : layouts.Layout) → IsNodeOf layout self.old → IsAt layout seq operation → IsNodeOf layout self.new }
-        ensures me { self.new.me ≡ self.old.me }
-    {
-        self.known = known;
-        if let Some(open) = self.calls.get_mut(&seq) {
-            *open = operation;
-        }
-    }
-
-    /// Forgets the open operation of this number, which has ended; the brick now knows this time.
-    fn close(&mut self, known: u64, seq: u64)
-        requires { is_some (tree.get nat_cmp self.old.calls seq) ≡ true }
-        ensures state { (block : ℕ) → state_of block self.new ≡ with_call (state_of block self.old) known ((state_of block self.old).busy - 1) seq None }
-        ensures node { (layout : layouts.Layout) → IsNodeOf layout self.old → IsNodeOf layout self.new }
-        ensures me { self.new.me ≡ self.old.me }
-    {
-        self.known = known;
-        self.calls.remove(&seq);
-    }
-
-    /// Handles a message, at this time of the brick's clock. After a refusal for want of memory nothing has changed.
-    #[tactic(auto, unfolding(protocol::specs::Nodes::received))]
-    pub fn on_message(
-        &mut self,
-        alloc: Global,
-        layout: &Layout,
-        now: u64,
-        packet: &Packet,
-    ) -> Result<Outs, NoMem>
-        requires { IsNodeOf layout.now self.old }
-        ensures step { IfOk result (StepsAs layout.now.block self.new (received (coding layout.now) self.old.me now (state_of layout.now.block self.old) packet.now)) }
-        ensures err { OnErr result ((block : ℕ) → state_of block self.new ≡ state_of block self.old) }
-        ensures node { IsNodeOf layout.now self.new }
-        ensures few { IfOk result (λ outs. vec_len outs.packets ≤ 32) }
-        ensures me { self.new.me ≡ self.old.me }
-    {
-        match &packet.message {
-            Message::Request(call, request) => {
-                self.on_request(alloc, layout, packet.from, *call, request)
-            }
-            Message::Reply(call, reply) => {
-                self.on_reply(alloc, layout, now, packet, *call, reply)
-            }
-            Message::Learn { .. }
-            | Message::Synced { .. }
-            | Message::Client(_)
-            | Message::ClientReply { .. } => Ok(Outs::nothing(alloc)),
-        }
-    }
+    true
 }

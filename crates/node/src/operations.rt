@@ -84,6 +84,7 @@ impl Operation {
     ghost use Rattle.protocol.specs.Settings.{Layout, group_of};
     ghost use Rattle.protocol.specs.Nodes.{is_stripe_op, has_length};
     ghost use Rattle.coord_phase.specs.Decisions.{decided_on, begins_in, seen_in, note_told};
+    ghost use Rattle.coord_phase.specs.Messages.{phase_messages};
     ghost use Rattle.coord_stripe.specs.StripeOps.{first_op};
     ghost use Rattle.node.specs.Operations.{shown_of, coordinator_of, IsOperationOf};
     ghost use Rattle.node.specs.Decisions.{made_in, machine_next, or_waits, SendsPhase, BeginsPhase, IsDecisionOf, HasFewMessages};
@@ -206,6 +207,25 @@ impl Operation {
         let view = first_view(group);
         let (op, next) = StripeOp::start(alloc, layout, view, call, ask, stamp)?;
         Ok((Operation::Stripe(op), messages_in(next)))
+    }
+
+    /// The messages of the present phase again, to each member of the group without a reply that counts.
+    pub fn on_tick(&self, alloc: Global, group: &Group) -> Result<Messages, NoMem>
+        requires { (shown_of self.now).group ≡ group.now }
+        ensures messages { IfOk result (λ messages. messages.items ≡ phase_messages (shown_of self.now)) }
+        ensures few { IfOk result (λ messages. vec_len messages ≤ 32) }
+    {
+        let _ = group.policy();
+        match self {
+            Operation::Stripe(op) => {
+                let mut op = op.copy(alloc)?;
+                Ok(messages_in(op.on_tick()?))
+            }
+            Operation::Recovery(op) => {
+                let mut op = op.copy(alloc)?;
+                Ok(messages_in(op.on_tick()?))
+            }
+        }
     }
 
     /// What the operation of a group does with a message, in the group's first view. A new round of ordering would have the fresh

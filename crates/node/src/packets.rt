@@ -1,11 +1,11 @@
 //! What a brick sends.
 
-ghost use Rattle.std.specs.Prelude.{◌≡◌, ◌≤◌, IfOk, length, vec_len};
-ghost use Rattle.protocol.specs.Nodes.{collect_packets};
+ghost use Rattle.std.specs.Prelude.{◌≡◌, ◌≤◌, [], IfOk, length, vec_len, vec_capacity};
+ghost use Rattle.protocol.specs.Nodes.{collect_packets, reply_packets};
 ghost use Rattle.coord_phase.specs.Messages.{packets_from};
 
 use fab_base::{BrickId, NoMem, Stamp};
-use fab_wire::{Call, Message, Messages, Packet, Request};
+use fab_wire::{Call, Message, Messages, Packet, Reply, Request};
 use layout::Group;
 use std::alloc::Global;
 
@@ -27,6 +27,30 @@ pub(crate) fn packets_of(
         })?;
     }
     Ok(packets)
+}
+
+/// The packet that carries a reply to a call's brick, if there is a reply, in room that was made for it.
+pub(crate) fn reply_packets(
+    mut room: Vec<Packet>,
+    me: BrickId,
+    to: BrickId,
+    call: Call,
+    reply: Option<Reply>,
+) -> Vec<Packet>
+    requires empty { room.items ≡ [] }
+    requires room { 1 ≤ vec_capacity room }
+    ensures items { result.items ≡ reply_packets me to call reply }
+    ensures few { vec_len result ≤ 1 }
+{
+    if let Some(reply) = reply {
+        let packet = Packet {
+            from: me,
+            to,
+            message: Message::Reply(call, reply),
+        };
+        room.push(packet).unwrap();
+    }
+    room
 }
 
 /// The packets that let all members collect what is below a version.

@@ -6,6 +6,8 @@ use Rattle.fab_wire.specs.declared.replies.Reply.{Reply}
 use Rattle.frame_store.specs.declared.shapes.Shape.{Shape}
 use Rattle.version_log.specs.Versions.{Version}
 use Rattle.brick_state.specs.States.{StateOf}
+use Rattle.brick_store.specs.Blocks.{log_at}
+use Rattle.brick_store.specs.Logs.{StripeLog}
 use Rattle.protocol.specs.Settings.{group_of}
 use Rattle.protocol.specs.Replicas.{Replica, Reaction, handle}
 use Rattle.replica.specs.Parts.{part_of, part_seen, part_in}
@@ -15,6 +17,10 @@ use Rattle.replica.specs.Handling.{me_of}
 use Rattle.replica.proofs.Answering.{handles_imply}
 use Rattle.replica.proofs.Stepping.{step_served}
 use Rattle.replica.proofs.handling.handle.Goals as goal
+
+-- a look-up with this order stamp and log sees the part that they are
+seen_part : (seen : StripeLog) (order : Stamp) (log : List Version) → seen.order ≡ order → seen.log ≡ log → part_seen seen ≡ part_of order log
+seen_part seen order log order_is log_is = ap (λ (o : Stamp). part_of o seen.log) order_is ∙ ap (part_of order) log_is
 
 pub returns : goal.returns
 returns g c =
@@ -34,7 +40,7 @@ returns g c =
     let part = part_in old.shape.block st n s in
     let block : old.shape.block ≡ layout.block = ap (λ (x : Shape). x.block) c.requires.shape in
     let records : old.shape.records ≡ layout.records = ap (λ (x : Shape). x.records) c.requires.shape in
-    let shown : part_seen seen ≡ part = ap (λ (o : Stamp). part_of o seen.log) c.state-part.ensures.order ∙ ap (λ (log : List Version). part_of part.order log) c.state-part.ensures.log in
+    let shown : part_seen seen ≡ part = seen_part seen part.order (log_at old.shape.block st (n, 1, s)) c.state-part.ensures.order c.state-part.ensures.log in
     let reaction : planned full part plan ≡ handle full seat part request = subst (λ (r : Replica). planned full r plan ≡ handle full seat r request) shown (c.in_ok-plan.ensures.plan full) in
     let me : c.me.result ≡ me_of old = ap (λ (k : ℕ). brick k) c.me.ensures in
     let served : seat_served layout (me_of old) call request (group_of layout n) ≡ Some seat

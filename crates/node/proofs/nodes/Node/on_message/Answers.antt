@@ -1,10 +1,18 @@
--- A request leaves the open operations as they are.
-use Rattle.std.proofs.Common.{ℕ, sym, ◌∙◌, ap}
-use Rattle.std.specs.Ordering.{nat_cmp}
-use Rattle.std.specs.BTreeMap.{BTreeMap, get}
-use Rattle.node.specs.declared.operations.Operation.{Operation}
+-- A reply leaves the store as it was.
+use Rattle.std.proofs.Common.{◌≡◌, false, sym, subst}
+use Rattle.std.specs.Result.{OnOk}
+use Rattle.brick_store.specs.Bricks.{Brick}
+use Rattle.node.specs.Running.{state_of, LeavesBrick}
+use Rattle.node.proofs.States.{on_ok}
 use Rattle.node.proofs.nodes.Node.on_message.Goals as goal
 
-pub returns-in-Request-clause-node : goal.returns-in-Request-clause-node
-returns-in-Request-clause-node c =
-    λ k operation is. c.requires k operation (ap (λ (m : BTreeMap ℕ Operation). get nat_cmp m k) (sym c.on_request.ensures.calls) ∙ is)
+pub returns-in-Reply-clause-durable : goal.returns-in-Reply-clause-durable
+returns-in-Reply-clause-durable g c = λ told.
+    let d = g.D.Disk in
+    let old = c.args.self.now in
+    let new = c.on_reply.new.self in
+    let runs : old.brick.halted ≡ false = sym c.if-is_halted.ensures.value in
+    let leaves : LeavesBrick old.layout old.me (state_of new) (d.may_leave old.brick.disk) =
+    λ image left. c.on_reply.ensures.shown image (c.is_halted.ensures.durable told runs image left) in
+    subst (λ (b : Brick g.row.D.Denot). OnOk c.on_reply.result (LeavesBrick old.layout old.me (state_of new) (d.may_leave b.disk))) (sym c.on_reply.ensures.brick)
+    (on_ok c.on_reply.result leaves)

@@ -1,85 +1,43 @@
--- Which of the machine's cases a reply is.
-use Rattle.std.proofs.Common.{◌≡◌, ℕ, Option, Some, sym, ◌∙◌, ap, subst}
-use Rattle.std.specs.Option.{option_map}
-use Rattle.std.specs.Ordering.{nat_cmp}
-use Rattle.std.specs.BTreeMap.{get}
-use Rattle.std.proofs.lemmas.Result.{IfOk-weaker}
-use Rattle.fab_base.specs.declared.identities.GroupId.{GroupId}
-use Rattle.fab_base.specs.declared.stamps.Stamp.{Stamp}
-use Rattle.fab_wire.specs.declared.calls.Call.{Call}
-use Rattle.fab_wire.specs.declared.messages.Message.{Message}
-use Rattle.fab_wire.specs.declared.messages.Message.TheVariants as message
-use Rattle.protocol.specs.Settings.{Group, group_of}
-use Rattle.protocol.specs.Coordinators as machine
-use Rattle.protocol.specs.Coordinators.{Coordinator}
-use Rattle.protocol.specs.Nodes.{with_known, known_after, fresh_stamp, carried_out, replied}
-use Rattle.stripe_code.specs.Codes.{block_code, coding}
-use Rattle.coord_phase.specs.Decisions.{decided_on}
-use Rattle.node.specs.declared.nodes.Outs.{Outs}
-use Rattle.node.specs.declared.operations.Operation.{Operation}
-use Rattle.node.specs.Operations.{shown_of, coordinator_of}
-use Rattle.node.specs.Decisions.{machine_next, or_waits, IsDecisionOf}
-use Rattle.node.specs.States.{state_of, StepsAs, IsAt}
-use Rattle.node.proofs.States.{steps_as}
-use Rattle.node.proofs.Replied.{no_call, replied_is}
+-- The open calls do what the brick does.
+use Rattle.std.proofs.Common.{List, ℕ, ◌∙◌, ap, subst}
+use Rattle.protocol.specs.Nodes.{replied}
+use Rattle.stripe_code.specs.Codes.{coding}
+use Rattle.node.specs.States.{StepsAs}
+use Rattle.node.specs.Running.{Running, running, state_of, ImageShows}
+use Rattle.node.proofs.Views.{still_shows}
+use Rattle.node.proofs.States.{on_err}
+use Rattle.node.proofs.Steps.{steps_so, stays_so}
 use Rattle.node.proofs.nodes.Node.on_reply.Goals as goal
 
-pub returns-in_default-clause-step : goal.returns-in_default-clause-step
-unfolding state_of
-returns-in_default-clause-step c =
-    let before = state_of c.args.layout.now.block c.args.self.now in
-    steps_as _ _ _ _ _
-    (no_call c.args.layout.now c.args.self.now.me c.args.now c.args.packet.now.from before c.args.call c.args.reply.now
-    (ap (option_map coordinator_of) (sym c.in_default.ensures.value)))
-    (record { packets = c.nothing.ensures.packets; told = c.nothing.ensures.told; state = ap (with_known before) c.known_after-known.ensures })
+pub returns-in_err-on_reply-clause-err : goal.returns-in_err-on_reply-clause-err
+returns-in_err-on_reply-clause-err g c =
+    let x = c.self.inside in
+    on_err _
+    (stays_so x.layout x.calls c.on_reply.new.self x.store c.self.invariant.boot c.in_err-on_reply.ensures.boot c.in_err-on_reply.ensures.err
+    ∙ ap (λ (n : Running g.row.D.Denot). state_of n) c.self.view_is)
+
+pub returns-in_err-on_reply-clause-shown : goal.returns-in_err-on_reply-clause-shown
+returns-in_err-on_reply-clause-shown g c =
+    let x = c.self.inside in
+    subst
+    (λ (n : Running g.row.D.Denot). (image : List ℕ) → ImageShows n.layout n.me (state_of n) image
+    → ImageShows n.layout n.me (state_of (running x.layout c.on_reply.new.self x.store)) image)
+    c.self.view_is (still_shows x.layout x.calls c.on_reply.new.self x.store x.calls.me)
 
 pub returns-clause-step : goal.returns-clause-step
-unfolding state_of
-returns-clause-step c =
-    let layout = c.args.layout.now in
-    let me = c.args.self.now.me in
-    let from = c.args.packet.now.from in
-    let call = c.args.call in
-    let reply = c.args.reply.now in
-    let before = state_of layout.block c.args.self.now in
-    let op : Operation = c.in-Some.open.now in
-    let k : Coordinator = coordinator_of op in
-    let group : Group = c.in-Some-group.group.now in
-    let held : get nat_cmp c.args.self.now.calls call.seq ≡ Some op = sym c.in-Some.ensures.value in
-    let at : IsAt layout call.seq op = c.requires.node call.seq op held in
-    let its = at.is_operation.of_layout in
-    let asked : (c.call-last.result).group ≡ k.ask.group =
-    ap (λ (last : Call). last.group) c.call-last.ensures ∙ ap (λ (last : Call). last.group) its.call in
-    let found : group_of layout k.ask.group.0 ≡ Some group = ap (λ (g : GroupId). group_of layout g.0) (sym asked) ∙ sym c.in-Some-group.ensures in
-    let both : Some (shown_of op).group ≡ Some group = sym its.group ∙ found in
-    let same_group : (shown_of op).group ≡ group = cc in
-    let known = known_after before.known reply in
-    let fresh = fresh_stamp me c.args.now before.boot known in
-    let new : c.fresh_stamp-fresh.result ≡ fresh =
-    c.fresh_stamp-fresh.ensures ∙ ap (fresh_stamp me c.args.now before.boot) c.known_after-known.ensures in
-    let decided : machine_next c.in_ok-decision.decision ≡ or_waits k (machine.on_reply layout.block (block_code layout.block) group fresh k from call reply) =
-    c.in_ok-decision.ensures.decided
-    ∙ ap (λ (o : Operation). or_waits (coordinator_of o) (decided_on c.fresh_stamp-fresh.result (shown_of o) from c.args.packet.now.message)) c.in_ok-copy.ensures
-    ∙ ap (λ (m : Message). or_waits k (decided_on c.fresh_stamp-fresh.result (shown_of op) from m)) c.requires.reply
-    ∙ ap (λ (f : Option Stamp). or_waits k (decided_on f (shown_of op) from (message.Reply call reply))) new
-    ∙ ap (λ (b : ℕ). or_waits k (machine.on_reply b (block_code b) (shown_of op).group fresh k from call reply)) its.block
-    ∙ ap (λ (g : Group). or_waits k (machine.on_reply layout.block (block_code layout.block) g fresh k from call reply)) same_group in
-    let kept : IsDecisionOf layout op c.in_ok-decision.decision =
-    subst (λ (o : Operation). IsDecisionOf layout o c.in_ok-decision.decision) c.in_ok-copy.ensures c.in_ok-decision.ensures.kept in
-    let is : replied (coding layout) me c.args.now from before call reply
-    ≡ carried_out (coding layout) group me before c.known_after-known.result k (machine_next c.in_ok-decision.decision) =
-    replied_is layout group me c.args.now from before call reply k (ap (option_map coordinator_of) held) at.seq found
-    ∙ ap (carried_out (coding layout) group me before known k) (sym decided)
-    ∙ ap (λ (t : ℕ). carried_out (coding layout) group me before t k (machine_next c.in_ok-decision.decision)) (sym c.known_after-known.ensures) in
-    IfOk-weaker c.carry_out.result
-    (StepsAs layout.block c.carry_out.new.self (carried_out (coding layout) group me before c.known_after-known.result k (machine_next c.in_ok-decision.decision))) _
-    (λ (outs : Outs). steps_as _ _ _ _ outs is)
-    (c.carry_out.ensures.step layout op (sym c.call-last.ensures) same_group kept)
+returns-clause-step g c =
+    let x = c.self.inside in
+    subst
+    (λ (n : Running g.row.D.Denot). StepsAs (state_of (running x.layout c.on_reply.new.self x.store)) (replied (coding n.layout) n.me c.args.now c.args.packet.now.from (state_of n) c.args.call c.args.reply.now) c.in_ok-on_reply.field-0)
+    c.self.view_is
+    (steps_so x.layout x.calls c.on_reply.new.self x.store c.self.invariant.boot
+    (λ s. replied (coding x.layout) x.calls.me c.args.now c.args.packet.now.from s c.args.call c.args.reply.now) c.in_ok-on_reply.field-0
+    c.in_ok-on_reply.ensures.boot c.in_ok-on_reply.ensures.step)
 
-pub returns-clause-node : goal.returns-clause-node
-returns-clause-node c =
-    let layout = c.args.layout.now in
-    let op : Operation = c.in-Some.open.now in
-    let kept : IsDecisionOf layout op c.in_ok-decision.decision =
-    subst (λ (o : Operation). IsDecisionOf layout o c.in_ok-decision.decision) c.in_ok-copy.ensures c.in_ok-decision.ensures.kept in
-    c.carry_out.ensures.node layout op (sym c.call-last.ensures) kept c.requires.node
+pub returns-clause-shown : goal.returns-clause-shown
+returns-clause-shown g c =
+    let x = c.self.inside in
+    subst
+    (λ (n : Running g.row.D.Denot). (image : List ℕ) → ImageShows n.layout n.me (state_of n) image
+    → ImageShows n.layout n.me (state_of (running x.layout c.on_reply.new.self x.store)) image)
+    c.self.view_is (still_shows x.layout x.calls c.on_reply.new.self x.store x.calls.me)

@@ -1,46 +1,107 @@
--- Which of the machine's cases a request is.
-use Rattle.std.proofs.Common.{◌≡◌, ℕ, refl, sym, ◌∙◌, ap, subst, rules}
-use Rattle.protocol.specs.Settings.{seat_in}
-use Rattle.protocol.specs.Replicas.{handle}
-use Rattle.protocol.specs.Nodes.{replica_at, with_replica, reply_packets}
-use Rattle.node.specs.States.{state_of}
-use Rattle.node.proofs.States.{steps_as}
-use Rattle.node.proofs.Requests.{no_group, no_seat, by_member}
+-- What follows of the store is what the machine's brick does.
+use Rattle.std.proofs.Common.{◌≡◌, false, inl, sym, ◌∙◌, ap, subst}
+use Rattle.fab_base.specs.declared.identities.BrickId.{BrickId}
+use Rattle.fab_disk.specs.Disk.{LeavesOnly}
+use Rattle.protocol.specs.Nodes.{requested, reply_packets}
+use Rattle.protocol.specs.declared.tellings.Told.TheVariants.{Nothing}
+use Rattle.stripe_code.specs.Codes.{coding}
+use Rattle.replica.specs.Reactions.{IsStep}
+use Rattle.replica.specs.Handling.{OpensAsEither}
+use Rattle.node.specs.States.{StepsAs}
+use Rattle.node.specs.Running.{Running, running, state_of, ShowsEither, LeavesBrick}
+use Rattle.node.proofs.Views.{kept_so, leaves_so, same_kept}
+use Rattle.node.proofs.Moments.{leaves_more, leaves_still}
+use Rattle.node.proofs.States.{on_err}
+use Rattle.node.proofs.Requests.{is_me, follows_state, follows_boot, follows_packets, follows_told, follows_shown}
 use Rattle.node.proofs.nodes.Node.on_request.Goals as goal
-use Rattle.node.proofs.nodes.Node.on_request.Goals.{in-Some-reply+in_ok-push, in_default-reply}
 
-pub returns-in_default-clause-step : goal.returns-in_default-clause-step
-returns-in_default-clause-step c =
-    let before = state_of c.args.layout.now.block c.args.self.now in
-    steps_as _ _ _ _ _ (no_group c.args.layout.now c.args.self.now.me c.args.from before c.args.call c.args.request.now (sym c.in_default.ensures))
-    (record { packets = c.nothing.ensures.packets; told = c.nothing.ensures.told; state = refl })
+pub returns-in_err-room-clause-moments : goal.returns-in_err-room-clause-moments
+returns-in_err-room-clause-moments g c = λ told.
+    let d = g.D.Disk in
+    leaves_still d.moment d.left_since d.may_leave g.met.D.Disk.only_now c.args.self.now.brick.disk _ (λ image left. inl (c.requires.durable told image left))
 
-pub returns-in_default-seat_of-clause-step : goal.returns-in_default-seat_of-clause-step
-returns-in_default-seat_of-clause-step c =
-    let before = state_of c.args.layout.now.block c.args.self.now in
-    let group = c.in-Some.group.now in
-    let seated = ap (λ members. seat_in members c.args.self.now.me.0) (sym (c.as_slice.ensures.value ∙ c.members.ensures)) in
-    steps_as _ _ _ _ _
-    (no_seat c.args.layout.now group c.args.self.now.me c.args.from before c.args.call c.args.request.now (sym c.in-Some.ensures)
-    (seated ∙ sym c.in_default-seat_of.ensures.seat))
-    (record { packets = c.nothing-in_default-seat_of.ensures.packets; told = c.nothing-in_default-seat_of.ensures.told; state = refl })
+pub returns-in_err-reply-clause-err : goal.returns-in_err-reply-clause-err
+returns-in_err-reply-clause-err g c =
+    let x = c.self.inside in
+    on_err _
+    (same_kept x.layout x.calls x.store c.handle.new.store c.in_err-reply.ensures.refused ∙ ap (λ (n : Running g.row.D.Denot). state_of n) c.self.view_is)
+
+pub returns-in_err-reply-clause-moments : goal.returns-in_err-reply-clause-moments
+returns-in_err-reply-clause-moments g c = λ told.
+    let d = g.D.Disk in
+    let x = c.self.inside in
+    let old = x.store in
+    let new = c.handle.new.store in
+    let call = c.args.call in
+    let request = c.args.request.now in
+    let shape = c.self.invariant.shape_is in
+    let runs : old.halted ≡ false = ap (λ (n : Running g.row.D.Denot). n.brick.halted) c.self.view_is ∙ c.requires.runs in
+    let moved = subst (λ (me : BrickId). LeavesOnly d.moment d.left_since old.disk new.disk (OpensAsEither old.shape old.state (IsStep x.layout me call request old.state)))
+    (is_me x.layout x.calls old c.args.from call request shape) (c.in_err-reply.ensures.any_moment told runs) in
+    subst
+    (λ (n : Running g.row.D.Denot). LeavesOnly d.moment d.left_since n.brick.disk new.disk
+    (ShowsEither n.layout n.me (state_of n) (requested (coding n.layout) n.me c.args.from (state_of n) call request).node))
+    c.self.view_is
+    (leaves_more d.moment d.left_since old.disk new.disk _ _
+    (follows_shown x.layout x.calls old c.args.from call request shape (kept_so x.layout x.calls old c.self.invariant)) moved)
+
+pub invariant_of-self-2 : goal.invariant_of-self-2
+invariant_of-self-2 g c =
+    let x = c.self.inside in
+    let h = c.in_ok-reply.ensures in
+    let is = subst (λ (me : BrickId). IsStep x.layout me c.args.call c.args.request.now x.store.state c.in_ok-reply.reply c.handle.new.store.state)
+    (is_me x.layout x.calls x.store c.args.from c.args.call c.args.request.now c.self.invariant.shape_is) h.ok in
+    record {
+      shape_is = h.shape ∙ c.self.invariant.shape_is;
+      boot = follows_boot x.layout x.calls x.store c.args.from c.args.call c.args.request.now c.handle.new.store c.in_ok-reply.reply is c.self.invariant.boot;
+      first = is.view;
+      open_calls = c.self.invariant.open_calls;
+    }
 
 pub returns-clause-step : goal.returns-clause-step
-returns-clause-step c =
-    let before = state_of c.args.layout.now.block c.args.self.now in
-    let group = c.in-Some.group.now in
-    let seated = ap (λ members. seat_in members c.args.self.now.me.0) (sym (c.as_slice.ensures.value ∙ c.members.ensures)) in
-    let reaction = λ (block : ℕ). handle c.in-Some-seat_of.seat (replica_at (state_of block c.args.self.now) c.args.call) c.args.request.now in
-    let sent : c.match-reply.packets.items ≡ reply_packets c.args.self.now.me c.args.from c.args.call c.in_ok-reply.reply =
-    elim c.match-reply.branch [ in-Some-reply+in_ok-push w ↦ search rules | in_default-reply w ↦ search rules ] in
-    steps_as _ _ _ _ _
-    (by_member c.args.layout.now group c.args.self.now.me c.args.from before c.args.call c.args.request.now c.in-Some-seat_of.seat (sym c.in-Some.ensures)
-    (seated ∙ sym c.in-Some-seat_of.ensures.seat))
+returns-clause-step g c =
+    let x = c.self.inside in
+    let call = c.args.call in
+    let request = c.args.request.now in
+    let reply = c.in_ok-reply.reply in
+    let new = c.handle.new.store in
+    let is = subst (λ (me : BrickId). IsStep x.layout me call request x.store.state reply new.state)
+    (is_me x.layout x.calls x.store c.args.from call request c.self.invariant.shape_is) c.in_ok-reply.ensures.ok in
+    subst
+    (λ (n : Running g.row.D.Denot). StepsAs (state_of (running x.layout x.calls new)) (requested (coding n.layout) n.me c.args.from (state_of n) call request) (record { packets = c.reply_packets.result; told = Nothing }))
+    c.self.view_is
     (record {
-      packets = sent
-          ∙ ap (reply_packets c.args.self.now.me c.args.from c.args.call) c.in_ok-reply.ensures.reply
-          ∙ ap (λ block. reply_packets c.args.self.now.me c.args.from c.args.call (reaction block).reply) c.block.ensures;
-      told = refl;
-      state = subst (λ (block : ℕ). state_of block c.handle.new.self ≡ with_replica (state_of block c.args.self.now) c.args.call (reaction block).replica)
-          c.block.ensures c.in_ok-reply.ensures.replica;
+      packets = c.reply_packets.ensures.items ∙ ap (λ (me : BrickId). reply_packets me c.args.from call reply) c.me.ensures
+          ∙ sym (follows_packets x.layout x.calls x.store c.args.from call request new.state reply is);
+      told = follows_told x.layout x.calls x.store c.args.from call request;
+      state_is = follows_state x.layout x.calls x.store c.args.from call request new reply is;
     })
+
+pub returns-clause-durable : goal.returns-clause-durable
+returns-clause-durable g c = λ told.
+    let d = g.D.Disk in
+    let x = c.self.inside in
+    let h = c.in_ok-reply.ensures in
+    let new = c.handle.new.store in
+    subst (λ (n : Running g.row.D.Denot). LeavesBrick n.layout n.me (state_of (running x.layout x.calls new)) (d.may_leave new.disk)) c.self.view_is
+    (leaves_so x.layout x.calls.me (state_of (running x.layout x.calls new)) new (d.may_leave new.disk) (h.shape ∙ c.self.invariant.shape_is)
+    (kept_so x.layout x.calls new (invariant_of-self-2 g c)) (h.durable told))
+
+pub returns-clause-moments : goal.returns-clause-moments
+returns-clause-moments g c = λ told.
+    let d = g.D.Disk in
+    let x = c.self.inside in
+    let old = x.store in
+    let new = c.handle.new.store in
+    let call = c.args.call in
+    let request = c.args.request.now in
+    let shape = c.self.invariant.shape_is in
+    let runs : old.halted ≡ false = ap (λ (n : Running g.row.D.Denot). n.brick.halted) c.self.view_is ∙ c.requires.runs in
+    let moved = subst (λ (me : BrickId). LeavesOnly d.moment d.left_since old.disk new.disk (OpensAsEither old.shape old.state (IsStep x.layout me call request old.state)))
+    (is_me x.layout x.calls old c.args.from call request shape) (c.in_ok-reply.ensures.any_moment told runs) in
+    subst
+    (λ (n : Running g.row.D.Denot). LeavesOnly d.moment d.left_since n.brick.disk new.disk
+    (ShowsEither n.layout n.me (state_of n) (requested (coding n.layout) n.me c.args.from (state_of n) call request).node))
+    c.self.view_is
+    (leaves_more d.moment d.left_since old.disk new.disk _ _
+    (follows_shown x.layout x.calls old c.args.from call request shape (kept_so x.layout x.calls old c.self.invariant)) moved)

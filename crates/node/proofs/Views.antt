@@ -1,0 +1,75 @@
+-- What the machine sees of a brick, and what its store shows of it.
+use Rattle.std.proofs.Common.{◌≡◌, ℕ, suc, Bool, cond, List, [], ◌∷◌, Some, refl, sym, ◌∙◌, ap, subst}
+use Rattle.std.specs.Prelude.{length, map}
+use Rattle.std.specs.Option.{option_map}
+use Rattle.std.specs.Ordering.{nat_cmp}
+use Rattle.std.specs.Map.{lookup}
+use Rattle.std.specs.BTreeMap.{is_at}
+use Rattle.fab_base.specs.declared.identities.BrickId.{BrickId}
+use Rattle.frame_store.specs.declared.shapes.Shape.{Shape}
+use Rattle.version_log.specs.Versions.{Version}
+use Rattle.brick_state.specs.States.{StateOf}
+use Rattle.brick_store.specs.Bricks.{Brick}
+use Rattle.brick_store.specs.Images.{StandsFor, LeavesState}
+use Rattle.protocol.specs.Settings.{Layout}
+use Rattle.protocol.specs.Nodes.{Node}
+use Rattle.node.specs.declared.open_calls.OpenCalls.{OpenCalls}
+use Rattle.node.specs.Operations.{coordinator_of}
+use Rattle.node.specs.States.{state_with, parts_in}
+use Rattle.node.specs.Running.{running, state_of, shape_at, IsKept, IsBrickOf, ImageShows, LeavesBrick}
+use Rattle.node.proofs.States.{same_states}
+use Rattle.node.proofs.Tables.{map_cond}
+
+-- as many as before
+map_length : {X Y : Type 0} (f : X → Y) (es : List X) → length (map f es) ≡ length es
+map_length f [] = refl
+map_length f (e ∷ es) = ap (λ n. suc n) (map_length f es)
+
+-- a value among others, seen through a function
+map_lookup : {X Y : Type 0} (f : X → Y) (test : ℕ → Bool) (es : List (ℕ × X)) → lookup test (map (λ e. (e.0, f e.1)) es) ≡ option_map f (lookup test es)
+map_lookup f test [] = refl
+map_lookup f test (e ∷ es) =
+    ap (λ o. cond (test e.0) (Some (f e.1)) o) (map_lookup f test es) ∙ sym (map_cond f (test e.0) (Some e.1) (lookup test es))
+
+module _ {D : Type 0} (layout : Layout) (calls : OpenCalls) (store : Brick D) where
+  -- the machine sees the store's parts, and the open calls
+  pub seen_so : calls.boot ≡ store.state.boot → state_of (running layout calls store) ≡ state_with (parts_in layout.block store.state) calls
+  unfolding state_of state_with
+  seen_so boot =
+      same_states _ _ (sym boot) refl refl (map_length (λ e. (e.0, coordinator_of e.1)) calls.operations.entries) refl (λ g s. refl)
+      (λ k. map_lookup coordinator_of (is_at (nat_cmp k)) calls.operations.entries)
+
+  -- what the machine's brick keeps is what the store keeps
+  pub kept_so : IsBrickOf layout store.shape store.state calls → IsKept layout.block store.state (state_of (running layout calls store))
+  unfolding state_of
+  kept_so is = record { parts = record { boot = refl; live = refl; replicas = λ g s. refl }; first = is.first }
+
+-- whatever calls are open, the images are the same
+pub still_shows : {D : Type 0} (layout : Layout) (before after : OpenCalls) (store : Brick D) (me : BrickId) (image : List ℕ)
+    → ImageShows layout me (state_of (running layout before store)) image → ImageShows layout me (state_of (running layout after store)) image
+unfolding state_of
+still_shows layout before after store me image shows =
+    record {
+      st = shows.st;
+      stands = shows.stands;
+      parts = record { boot = shows.parts.boot; live = shows.parts.live; replicas = shows.parts.replicas };
+      first = shows.first;
+    }
+
+-- a store that keeps the same is the same to the machine
+pub same_kept : {D : Type 0} (layout : Layout) (calls : OpenCalls) (old new : Brick D) → new.state ≡ old.state
+    → state_of (running layout calls new) ≡ state_of (running layout calls old)
+unfolding state_of
+same_kept layout calls old new is =
+    ap (λ (st : StateOf Version). state_of (running layout calls (record { disk = old.disk; shape = old.shape; state = st; halted = old.halted }))) is
+
+-- an image that stands for the store shows the brick
+pub shows_so : {D : Type 0} (layout : Layout) (me : BrickId) (node : Node) (store : Brick D) (image : List ℕ) → store.shape ≡ shape_at layout me
+    → IsKept layout.block store.state node → StandsFor store.shape store.state image → ImageShows layout me node image
+shows_so layout me node store image shape kept stands =
+    record { st = store.state; stands = subst (λ (s : Shape). StandsFor s store.state image) shape stands; parts = kept.parts; first = kept.first }
+
+-- so does all that a crash leaves
+pub leaves_so : {D : Type 0} (layout : Layout) (me : BrickId) (node : Node) (store : Brick D) (left : List ℕ → Type 0) → store.shape ≡ shape_at layout me
+    → IsKept layout.block store.state node → LeavesState store.shape store.state left → LeavesBrick layout me node left
+leaves_so layout me node store left shape kept leaves = λ image is. shows_so layout me node store image shape kept (leaves image is)

@@ -1,0 +1,140 @@
+-- What was opened is what the disk showed, restarted.
+use Rattle.std.proofs.Common.{◌≡◌, ◌+◌, inr, refl, sym, ◌∙◌, ap, subst}
+use Rattle.fab_base.specs.declared.identities.BrickId.{BrickId}
+use Rattle.fab_disk.specs.Disk.{LeavesOnly}
+use Rattle.frame_store.specs.declared.shapes.Shape.{Shape}
+use Rattle.frame_store.specs.Layouts.{shape_of}
+use Rattle.version_log.specs.Versions.{Version}
+use Rattle.brick_state.specs.States.{StateOf, booted}
+use Rattle.brick_store.specs.Images.{IsFound, StandsFor, StandsForEither}
+use Rattle.brick_store.specs.Openings.{IsAllowedOr}
+use Rattle.replica.specs.Parts.{IsFirstView}
+use Rattle.node.specs.Running.{running, state_of, shape_at, reopened}
+use Rattle.node.proofs.Views.{kept_so, leaves_so}
+use Rattle.node.proofs.Starts.{restarts_so, opening_shows, all_shown}
+use Rattle.node.proofs.nodes.Node.start.Goals as goal
+
+pub returns-in-Err-clause-moments_err : goal.returns-in-Err-clause-moments_err
+returns-in-Err-clause-moments_err g c = λ told before shows.
+    let d = g.D.Disk in
+    let disk = c.args.disk in
+    let layout = c.args.layout in
+    let me = c.args.me in
+    let same : shape_of me.0 c.block.result c.records.result ≡ shape_at layout me = λ i. shape_of me.0 (c.block.ensures i) (c.records.ensures.value i) in
+    let last = c.in-Err.refused.1 in
+    opening_shows layout me before (d.seen disk) shows d.moment d.left_since (d.may_leave disk) disk last
+    (subst
+    (λ (s : Shape). (st : StateOf Version) → StandsFor s st (d.seen disk) → LeavesOnly d.moment d.left_since disk last (IsAllowedOr (d.may_leave disk) (StandsForEither s st (booted (st.boot + 1) st))))
+    same (c.in-Err.ensures.moments_err told) shows.st shows.stands)
+
+pub returns-in-Err-clause-any_moment_err : goal.returns-in-Err-clause-any_moment_err
+returns-in-Err-clause-any_moment_err g c = λ told before all.
+    let d = g.D.Disk in
+    let disk = c.args.disk in
+    let layout = c.args.layout in
+    let me = c.args.me in
+    let shows = all (d.seen disk) (g.met.D.Disk.seen_is_left disk) in
+    all_shown d.moment d.left_since layout me before (reopened before) (d.may_leave disk) disk c.in-Err.refused.1 all (returns-in-Err-clause-moments_err g c told before shows)
+
+pub returns-then-not-is_first_view-clause-moments_err : goal.returns-then-not-is_first_view-clause-moments_err
+returns-then-not-is_first_view-clause-moments_err g c = λ told before shows.
+    let d = g.D.Disk in
+    let disk = c.args.disk in
+    let layout = c.args.layout in
+    let me = c.args.me in
+    let same : shape_of me.0 c.block.result c.records.result ≡ shape_at layout me = λ i. shape_of me.0 (c.block.ensures i) (c.records.ensures.value i) in
+    let last = c.into_disk.result in
+    let moments =
+    subst
+    (λ (end : g.row.D.Denot). (st : StateOf Version) → StandsFor (shape_of me.0 c.block.result c.records.result) st (d.seen disk) → LeavesOnly d.moment d.left_since disk end (IsAllowedOr (d.may_leave disk) (StandsForEither (shape_of me.0 c.block.result c.records.result) st (booted (st.boot + 1) st))))
+    (sym c.into_disk.ensures.disk) (c.in-Ok.ensures.moments told) in
+    opening_shows layout me before (d.seen disk) shows d.moment d.left_since (d.may_leave disk) disk last
+    (subst
+    (λ (s : Shape). (st : StateOf Version) → StandsFor s st (d.seen disk) → LeavesOnly d.moment d.left_since disk last (IsAllowedOr (d.may_leave disk) (StandsForEither s st (booted (st.boot + 1) st))))
+    same (moments) shows.st shows.stands)
+
+pub returns-then-not-is_first_view-clause-any_moment_err : goal.returns-then-not-is_first_view-clause-any_moment_err
+returns-then-not-is_first_view-clause-any_moment_err g c = λ told before all.
+    let d = g.D.Disk in
+    let disk = c.args.disk in
+    let layout = c.args.layout in
+    let me = c.args.me in
+    let shows = all (d.seen disk) (g.met.D.Disk.seen_is_left disk) in
+    all_shown d.moment d.left_since layout me before (reopened before) (d.may_leave disk) disk c.into_disk.result all (returns-then-not-is_first_view-clause-moments_err g c told before shows)
+
+pub returns-then-not-is_first_view-clause-not_a_store : goal.returns-then-not-is_first_view-clause-not_a_store
+returns-then-not-is_first_view-clause-not_a_store g c = λ is told.
+    let d = g.D.Disk in
+    let disk = c.args.disk in
+    let layout = c.args.layout in
+    let me = c.args.me in
+    let same : shape_of me.0 c.block.result c.records.result ≡ shape_at layout me = λ i. shape_of me.0 (c.block.ensures i) (c.records.ensures.value i) in
+    let found = c.in-Ok.ensures.found told in
+    inr (
+      found.0,
+      subst (λ (s : Shape). IsFound s found.0 (d.seen disk)) same found.1,
+      λ first. c.if-not-is_first_view.ensures.later refl (subst (λ (st : StateOf Version). IsFirstView st) (sym found.3) first),
+    )
+
+pub invariant_of-result : goal.invariant_of-result
+invariant_of-result g c =
+    let layout = c.args.layout in
+    let me = c.args.me in
+    let same : shape_of me.0 c.block.result c.records.result ≡ shape_at layout me = λ i. shape_of me.0 (c.block.ensures i) (c.records.ensures.value i) in
+    record {
+      shape_is = c.in-Ok.ensures.shape ∙ same ∙ ap (λ (brick : BrickId). shape_at layout brick) (sym c.new-calls.ensures.me);
+      boot = c.new-calls.ensures.boot ∙ c.boot.ensures;
+      first = c.if-not-is_first_view.ensures.first refl;
+      open_calls = c.new-calls.ensures.calls layout;
+    }
+
+pub returns-clause-state : goal.returns-clause-state
+returns-clause-state g c = λ told before shows.
+    let d = g.D.Disk in
+    let disk = c.args.disk in
+    let layout = c.args.layout in
+    let me = c.args.me in
+    let same : shape_of me.0 c.block.result c.records.result ≡ shape_at layout me = λ i. shape_of me.0 (c.block.ensures i) (c.records.ensures.value i) in
+    let store = c.in-Ok.store in
+    let opened =
+    subst (λ (s : Shape). (st : StateOf Version) → StandsFor s st (d.seen disk) → store.state ≡ booted (st.boot + 1) st) same (c.in-Ok.ensures.state told)
+    shows.st shows.stands in
+    restarts_so layout me c.new-calls.result store c.boot.result before (d.seen disk) (c.new-calls.ensures.boot ∙ c.boot.ensures) c.boot.ensures
+    c.new-calls.ensures.state shows opened
+
+pub returns-clause-durable : goal.returns-clause-durable
+returns-clause-durable g c = λ told.
+    let d = g.D.Disk in
+    let disk = c.args.disk in
+    let layout = c.args.layout in
+    let me = c.args.me in
+    let same : shape_of me.0 c.block.result c.records.result ≡ shape_at layout me = λ i. shape_of me.0 (c.block.ensures i) (c.records.ensures.value i) in
+    let store = c.in-Ok.store in
+    leaves_so layout me (state_of (running layout c.new-calls.result store)) store (d.may_leave store.disk) (c.in-Ok.ensures.shape ∙ same)
+    (kept_so layout c.new-calls.result store (invariant_of-result g c)) (c.in-Ok.ensures.durable told)
+
+pub returns-clause-seen : goal.returns-clause-seen
+returns-clause-seen g c = λ told.
+    returns-clause-durable g c told (g.D.Disk.seen c.in-Ok.store.disk) (g.met.D.Disk.seen_is_left c.in-Ok.store.disk)
+
+pub returns-clause-moments : goal.returns-clause-moments
+returns-clause-moments g c = λ told before shows.
+    let d = g.D.Disk in
+    let disk = c.args.disk in
+    let layout = c.args.layout in
+    let me = c.args.me in
+    let same : shape_of me.0 c.block.result c.records.result ≡ shape_at layout me = λ i. shape_of me.0 (c.block.ensures i) (c.records.ensures.value i) in
+    let last = c.in-Ok.store.disk in
+    opening_shows layout me before (d.seen disk) shows d.moment d.left_since (d.may_leave disk) disk last
+    (subst
+    (λ (s : Shape). (st : StateOf Version) → StandsFor s st (d.seen disk) → LeavesOnly d.moment d.left_since disk last (IsAllowedOr (d.may_leave disk) (StandsForEither s st (booted (st.boot + 1) st))))
+    same (c.in-Ok.ensures.moments told) shows.st shows.stands)
+
+pub returns-clause-any_moment : goal.returns-clause-any_moment
+returns-clause-any_moment g c = λ told before all.
+    let d = g.D.Disk in
+    let disk = c.args.disk in
+    let layout = c.args.layout in
+    let me = c.args.me in
+    let shows = all (d.seen disk) (g.met.D.Disk.seen_is_left disk) in
+    all_shown d.moment d.left_since layout me before (reopened before) (d.may_leave disk) disk c.in-Ok.store.disk all (returns-clause-moments g c told before shows)

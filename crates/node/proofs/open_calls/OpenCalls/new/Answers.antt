@@ -1,0 +1,16 @@
+-- An empty map has no open operation.
+use Rattle.std.proofs.Common.{refl, ap}
+use Rattle.std.specs.Option.{option_map}
+use Rattle.std.specs.Map.{lookup}
+use Rattle.std.specs.BTreeMap.{is_at}
+use Rattle.std.specs.Ordering.{nat_cmp}
+use Rattle.node.specs.Operations.{coordinator_of}
+use Rattle.node.specs.States.{state_with}
+use Rattle.node.proofs.States.{same_states}
+use Rattle.node.proofs.open_calls.OpenCalls.new.Goals as goal
+
+pub returns-clause-state : goal.returns-clause-state
+unfolding state_with
+returns-clause-state c =
+    λ parts. same_states _ _ refl refl refl c.new.ensures.len refl (λ g s. refl)
+    (λ k. ap (λ es. option_map coordinator_of (lookup (is_at (nat_cmp k)) es)) c.new.ensures.empty)

@@ -1,0 +1,12 @@
+-- The messages of the phase are the machine's packets.
+use Rattle.std.proofs.Common.{◌∙◌, ap}
+use Rattle.coord_phase.specs.Messages.{packets_from}
+use Rattle.node.specs.Operations.{shown_of}
+use Rattle.node.proofs.Resending.{sends_again}
+use Rattle.node.proofs.open_calls.OpenCalls.send_again.Goals as goal
+
+pub returns-clause-packets : goal.returns-clause-packets
+returns-clause-packets c =
+    c.in_ok-packets_of.ensures.items
+    ∙ ap (packets_from c.args.self.now.me) c.in_ok-messages.ensures.messages
+    ∙ sends_again c.args.layout.now (shown_of c.args.operation.now) c.args.self.now.me c.requires.of_layout

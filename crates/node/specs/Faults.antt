@@ -1,0 +1,25 @@
+-- What the answers of a brick's steps say.
+use Rattle.std.specs.Prelude.{◌≡◌, Bool, true, Option, Some, None, Result, Ok, Err}
+use Rattle.fab_base.specs.declared.answers.Refusal.{Refusal}
+use Rattle.replica.specs.declared.faults.ReplicaFault.{ReplicaFault}
+use Rattle.replica.specs.declared.faults.ReplicaFault.TheVariants as replica
+use Rattle.node.specs.declared.faults.NodeFault.{NodeFault}
+use Rattle.node.specs.declared.faults.NodeFault.TheVariants.{Halted, Refused, Disk, NoMemory}
+
+-- a fault of handling a request is one of the brick
+abbrev pub fault_of : ReplicaFault → NodeFault
+fault_of replica.Disk = Disk
+fault_of replica.Halted = Halted
+fault_of replica.NoMemory = NoMemory
+
+-- a brick is halted once a call of it answered Disk
+abbrev pub halted_after : {T : Type 0} → Bool → Result T NodeFault → Bool
+halted_after halted (Err Disk) = true
+halted_after halted (Err other) = halted
+halted_after halted (Ok value) = halted
+
+-- a refusal is the machine's, and there is none where the operation begins
+abbrev pub RefusesAs : {T : Type 0} → Result T NodeFault → Option Refusal → Type 0
+RefusesAs (Ok begun) refusal = refusal ≡ None
+RefusesAs (Err (Refused reason)) refusal = refusal ≡ Some reason
+RefusesAs (Err other) refusal = Unit {0}

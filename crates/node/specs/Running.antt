@@ -1,0 +1,102 @@
+-- A running brick over its durable store, and what its disk shows.
+use Rattle.std.specs.Prelude.{◌≡◌, ◌⊎◌, ℕ, ◌+◌, List, length, map}
+use Rattle.std.specs.Ordering.{nat_cmp}
+use Rattle.std.specs.Map.{lookup}
+use Rattle.std.specs.BTreeMap.{BTreeMap, is_at}
+use Rattle.fab_base.specs.declared.identities.BrickId.{BrickId}
+use Rattle.frame_store.specs.declared.shapes.Shape.{Shape}
+use Rattle.frame_store.specs.Layouts.{shape_of}
+use Rattle.version_log.specs.Versions.{Version}
+use Rattle.brick_state.specs.States.{StateOf, live}
+use Rattle.brick_store.specs.Bricks.{Brick}
+use Rattle.brick_store.specs.Images.{StandsFor}
+use Rattle.protocol.specs.Settings.{Layout}
+use Rattle.protocol.specs.Coordinators.{Coordinator}
+use Rattle.protocol.specs.Nodes as machine
+use Rattle.replica.specs.Parts.{part_in, IsPartsOf, IsFirstView}
+use Rattle.node.specs.declared.open_calls.OpenCalls.{OpenCalls}
+use Rattle.node.specs.declared.operations.Operation.{Operation}
+use Rattle.node.specs.Operations.{coordinator_of}
+use Rattle.node.specs.States.{AreCallsOf}
+
+-- A running brick: the disk's layout, its number, its last call number, the greatest time that it knows, the coordinators of its open operations
+-- by their call numbers, which rise, and its store.
+pub record Running (D : Type 0) : Type 0 where
+  pub layout : Layout
+  pub me : BrickId
+  pub seq : ℕ
+  pub known : ℕ
+  pub calls : List (ℕ × Coordinator)
+  pub brick : Brick D
+
+-- what the machine sees of it
+unfoldable pub state_of : {D : Type 0} → Running D → machine.Node
+state_of node =
+    record {
+      boot = node.brick.state.boot;
+      seq = node.seq;
+      known = node.known;
+      busy = length node.calls;
+      live = live node.brick.state;
+      replicas = part_in node.layout.block node.brick.state;
+      calls = λ k. lookup (is_at (nat_cmp k)) node.calls;
+    }
+
+-- the coordinators of operations by number
+abbrev pub coordinators : BTreeMap ℕ Operation → List (ℕ × Coordinator)
+coordinators operations = map (λ e. (e.0, coordinator_of e.1)) operations.entries
+
+-- the brick of this layout that has these calls open, over this store
+abbrev pub running : {D : Type 0} → Layout → OpenCalls → Brick D → Running D
+running layout calls store =
+    record { layout = layout; me = calls.me; seq = calls.seq; known = calls.known; calls = coordinators calls.operations; brick = store }
+
+-- what a store is made for at a brick of the layout
+abbrev pub shape_at : Layout → BrickId → Shape
+shape_at layout me = shape_of me.0 layout.block layout.records
+
+-- the store's state keeps what the machine's brick keeps, and no later view
+pub record IsKept (block : ℕ) (st : StateOf Version) (node : machine.Node) : Type 0 where
+  pub parts : IsPartsOf block st node
+  pub first : IsFirstView st
+
+-- the image opens as a store that keeps what the machine's brick keeps
+pub record ImageShows (layout : Layout) (me : BrickId) (node : machine.Node) (image : List ℕ) : Type 0 where
+  pub st : StateOf Version
+  pub stands : StandsFor (shape_at layout me) st image
+  pub parts : IsPartsOf layout.block st node
+  pub first : IsFirstView st
+
+-- the image shows the brick before a step, or the brick after it
+abbrev pub ShowsEither : Layout → BrickId → machine.Node → machine.Node → List ℕ → Type 0
+ShowsEither layout me before after image = ImageShows layout me before image ⊎ ImageShows layout me after image
+
+-- a crash leaves only images that show this brick
+abbrev pub LeavesBrick : Layout → BrickId → machine.Node → (List ℕ → Type 0) → Type 0
+LeavesBrick layout me node may_leave = (image : List ℕ) → may_leave image → ImageShows layout me node image
+
+-- the brick, with its store opened once more
+abbrev pub reopened : machine.Node → machine.Node
+reopened node =
+    record {
+      boot = node.boot + 1;
+      seq = node.seq;
+      known = node.known;
+      busy = node.busy;
+      live = node.live;
+      replicas = node.replicas;
+      calls = node.calls;
+    }
+
+-- it is the same brick of the same disk
+pub record IsSameBrick {D : Type 0} (old new : Running D) : Type 0 where
+  pub layout : new.layout ≡ old.layout
+  pub me : new.me ≡ old.me
+
+-- The store is that of the brick of the layout, was opened as often as its calls say, and has learnt no later view; and the open operations are
+-- of the layout.
+pub record IsBrickOf (layout : Layout) (shape : Shape) (st : StateOf Version) (calls : OpenCalls) : Type 0 where
+  pub shape_is : shape ≡ shape_at layout calls.me
+  pub boot : calls.boot ≡ st.boot
+  pub first : IsFirstView st
+  pub open_calls : AreCallsOf layout calls

@@ -1,0 +1,38 @@
+//! What a brick's steps send and tell.
+
+ghost use Rattle.std.specs.Prelude.{◌≡◌, []};
+
+use fab_wire::Packet;
+use protocol::Told;
+use std::alloc::Global;
+
+/// What a step sends, in order, and what it tells of an operation.
+#[derive(Debug, Drop)]
+pub struct Outs {
+    /// The packets, in the order of sending.
+    pub packets: Vec<Packet>,
+    /// What is told.
+    pub told: Told,
+}
+
+/// A new operation: the number of its call, and the packets that it sends, in order.
+#[derive(Debug, Drop)]
+pub struct Begun {
+    /// The number of the call since the brick's store was opened.
+    pub seq: u64,
+    /// The packets, in the order of sending.
+    pub packets: Vec<Packet>,
+}
+
+impl Outs {
+    /// Nothing is sent, and nothing told.
+    pub(crate) fn nothing(alloc: Global) -> Outs
+        ensures packets { result.packets.items ≡ [] }
+        ensures told { result.told ≡ Told.Nothing }
+    {
+        Outs {
+            packets: Vec::new(alloc),
+            told: Told::Nothing,
+        }
+    }
+}
