@@ -1,6 +1,6 @@
 //! What a store tells of what it keeps. No look-up needs memory.
 
-ghost use Rattle.std.specs.Prelude.{◌≡◌, ◌<◌, ◌↔◌, ℕ, List, IsTrue, false, option_map};
+ghost use Rattle.std.specs.Prelude.{◌≡◌, ◌<◌, ◌≤◌, ◌↔◌, ℕ, List, None, IsTrue, false, option_map};
 ghost use Rattle.fab_disk.specs.Disk.{KeepsRoom};
 ghost use Rattle.fab_disk.specs.Plan.{IsPlanned};
 ghost use Rattle.brick_state.specs.States.{live, group_at};
@@ -24,10 +24,11 @@ impl<D: Disk> BrickStore<D> {
     }
 
     /// The greatest view learnt of a group, above 1, and whether all its stripes are known to be in it. None before a view was
-    /// learnt.
+    /// learnt. There is none of a group from 64 on.
     pub fn known_view(&self, group: GroupId) -> Option<(View, bool)>
         requires { group.0 < 64 }
-        ensures { result ≡ (group_at self.now.state group.0).known }
+        ensures value { result ≡ (group_at self.now.state group.0).known }
+        ensures none { (other : ℕ) → 64 ≤ other → (group_at self.now.state other).known ≡ None }
     {
         known_of(self.index.group(group.0))
     }
