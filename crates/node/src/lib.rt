@@ -9,6 +9,8 @@ pub mod open_calls;
 pub mod operations;
 pub mod outs;
 mod packets;
+#[cfg(test)]
+mod tests;
 
 pub use faults::NodeFault;
 pub use nodes::Node;

@@ -11,10 +11,10 @@ use Rattle.fab_base.specs.declared.identities.BrickId.{BrickId}
 use Rattle.fab_base.specs.declared.stamps.Stamp.{Stamp}
 use Rattle.fab_wire.specs.declared.messages.Packet.{Packet}
 use Rattle.reg_model.specs.declared.marks.Mark.{Mark}
-use Rattle.reg_model.specs.declared.marks.Mark.TheVariants.{Begin, End}
-use Rattle.protocol.specs.Nodes.{Node, NodeStep, put}
+use Rattle.reg_model.specs.declared.marks.Mark.TheVariants.{Begin, End, Crash}
+use Rattle.protocol.specs.Nodes.{Node, NodeStep, put, stopped, restarted}
 use Rattle.protocol.specs.declared.tellings.Told.TheVariants.{Made, Answers}
-use Rattle.protocol.specs.Worlds.{World, Operation, world_began, world_stepped, with_made, with_answer, version_after, is_answer}
+use Rattle.protocol.specs.Worlds.{World, Operation, number_of, with_number, world_began, world_stepped, world_stopped, world_started, with_made, with_answer, version_after, is_answer}
 use Rattle.protocol.specs.Happenings.{writes}
 use Rattle.world.specs.declared.histories.History.{History}
 use Rattle.world.specs.declared.histories.Known.{Known}
@@ -29,7 +29,7 @@ tells_same old new w sent marks operations numbers tells = record {
   marks = marks ∙ tells.marks;
   begun = ap length operations ∙ tells.begun;
   operations = subst (λ (kept : List Known). StandFor kept w.operations) (sym operations) tells.operations;
-  numbers = λ i k low high. subst (λ (map : BTreeMap (ℕ × ℕ) ℕ). get call_cmp map (i, k) ≡ Some (w.numbers i k)) (sym numbers) (tells.numbers i k low high);
+  numbers = λ i k low high. subst (λ (map : BTreeMap (ℕ × ℕ) ℕ). get call_cmp map (i, k) ≡ Some (number_of w i k)) (sym numbers) (tells.numbers i k low high);
 }
 
 -- the number of a call that is none so far changes nothing that is told
@@ -47,19 +47,35 @@ tells_numbered old map w b s above others tells = record {
     apart : (i k : ℕ) → i ≡ b → k ≡ s → k ≤ (w.nodes i).seq → ⊥
     apart i k here this high = let same : (w.nodes i).seq ≡ (w.nodes b).seq = ap (λ j. (w.nodes j).seq) here in omega arith
 
+-- each call so far of each brick's present boot is one of the world before, and has the same number
+pub record KeepsCalls (w v : World) : Type 0 where
+  pub each : (i k : ℕ) → 1 ≤ k → k ≤ (v.nodes i).seq → (k ≤ (w.nodes i).seq) × (number_of v i k ≡ number_of w i k)
+
+-- so where the boots, the counts of calls and the numbers stay
+pub calls_same : (w v : World) → ((i : ℕ) → (v.nodes i).boot ≡ (w.nodes i).boot) → ((i : ℕ) → (v.nodes i).seq ≡ (w.nodes i).seq) → v.numbers ≡ w.numbers
+    → KeepsCalls w v
+calls_same w v boots seqs numbers = record {
+  each = λ i k low high. (
+    (let same : (v.nodes i).seq ≡ (w.nodes i).seq = seqs i in omega arith),
+    ap (λ (n : ℕ → ℕ → ℕ → ℕ). n i (v.nodes i).boot k) numbers ∙ ap (λ b. w.numbers i b k) (boots i),
+  );
+}
+
 -- a world that differs in what no history tells
 pub tells_other : (history : History) (w v : World) → v.packets ≡ w.packets → v.marks ≡ w.marks → v.begun ≡ w.begun → v.operations ≡ w.operations
-    → v.numbers ≡ w.numbers → ((i : ℕ) → (v.nodes i).seq ≡ (w.nodes i).seq) → Tells history w → Tells history v
-tells_other history w v packets marks begun operations numbers seqs tells = record {
+    → KeepsCalls w v → Tells history w → Tells history v
+tells_other history w v packets marks begun operations calls tells = record {
   packets = tells.packets ∙ sym packets;
   marks = tells.marks ∙ sym marks;
   begun = tells.begun ∙ sym begun;
   operations = subst (λ (o : ℕ → Option Operation). StandFor history.operations.items o) (sym operations) tells.operations;
-  numbers = λ i k low high.
-      tells.numbers i k low (let same : (v.nodes i).seq ≡ (w.nodes i).seq = seqs i in omega arith) ∙ ap (λ (n : ℕ → ℕ → ℕ). Some (n i k)) (sym numbers);
+  numbers = λ i k low high. (let kept = calls.each i k low high in tells.numbers i k low kept.0 ∙ ap (λ n. Some n) (sym kept.1));
 }
 
--- a brick's step that opens no call leaves all call numbers
+-- a brick's step leaves all boots, and one that opens no call all call numbers
+pub boots_stay : (w : World) (brick : BrickId) (node : Node) → node.boot ≡ (w.nodes brick.0).boot → (i : ℕ) → (put w.nodes brick.0 node i).boot ≡ (w.nodes i).boot
+boots_stay w brick node same = each_value (λ i x. x.boot ≡ (w.nodes i).boot) w.nodes brick.0 node same (λ i other. refl)
+
 pub seqs_stay : (w : World) (brick : BrickId) (node : Node) → node.seq ≡ (w.nodes brick.0).seq → (i : ℕ) → (put w.nodes brick.0 node i).seq ≡ (w.nodes i).seq
 seqs_stay w brick node same = each_value (λ i x. x.seq ≡ (w.nodes i).seq) w.nodes brick.0 node same (λ i other. refl)
 
@@ -126,6 +142,19 @@ ended_alike answer seen known o is = (
   },
 )
 
+-- a brick that stops stays at its boot and its calls so far; one that starts again has none
+stopped_boot : (node : Node) → (stopped node).boot ≡ node.boot
+unfolding stopped
+stopped_boot node = refl
+
+stopped_seq : (node : Node) → (stopped node).seq ≡ node.seq
+unfolding stopped
+stopped_seq node = refl
+
+restarted_seq : (openings : ℕ) (node : Node) → (restarted openings node).seq ≡ 0
+unfolding restarted
+restarted_seq openings node = refl
+
 -- one operation changed, and some marks came
 tells_changed : (old new : History) (w : World) (number : ℕ) (kept after : List Known) (change : Known → Known) (next : Option Operation → Option Operation)
     → Tells old w → kept ≡ old.operations.items → new.operations.items ≡ after
@@ -140,24 +169,31 @@ tells_changed old new w number kept after change next tells are become alike cha
   operations = subst (λ (x : List Known). StandFor x (put w.operations number (next (w.operations number)))) (sym become)
       (known_changed kept after w.operations number change next alike changed
       (subst (λ (x : List Known). StandFor x w.operations) (sym are) tells.operations));
-  numbers = λ i k low high. subst (λ (map : BTreeMap (ℕ × ℕ) ℕ). get call_cmp map (i, k) ≡ Some (w.numbers i k)) (sym numbers) (tells.numbers i k low high);
+  numbers = λ i k low high. subst (λ (map : BTreeMap (ℕ × ℕ) ℕ). get call_cmp map (i, k) ≡ Some (number_of w i k)) (sym numbers) (tells.numbers i k low high);
 }
 
 -- the numbers of calls with one call more
-numbers_grow : (w : World) (map : BTreeMap (ℕ × ℕ) ℕ) (b number : ℕ) (node : Node) → node.seq ≡ (w.nodes b).seq + 1
+numbers_grow : (w : World) (map : BTreeMap (ℕ × ℕ) ℕ) (b number : ℕ) (node : Node) → node.boot ≡ (w.nodes b).boot → node.seq ≡ (w.nodes b).seq + 1
     → get call_cmp map (b, node.seq) ≡ Some number
-    → ((i k : ℕ) → 1 ≤ k → k ≤ (w.nodes i).seq → get call_cmp map (i, k) ≡ Some (w.numbers i k))
+    → ((i k : ℕ) → 1 ≤ k → k ≤ (w.nodes i).seq → get call_cmp map (i, k) ≡ Some (number_of w i k))
     → (i k : ℕ) → 1 ≤ k → k ≤ (put w.nodes b node i).seq
-    → get call_cmp map (i, k) ≡ Some (put w.numbers b (put (w.numbers b) node.seq number) i k)
-numbers_grow w map b number node next here old i k low = by_brick (nat_eq i b) refl
+    → get call_cmp map (i, k) ≡ Some (with_number w.numbers b node number i (put w.nodes b node i).boot k)
+numbers_grow w map b number node boot next here old i k low = by_brick (nat_eq i b) refl
   where
-    by_call : (y : Bool) → nat_eq k node.seq ≡ y → k ≤ node.seq → get call_cmp map (b, k) ≡ Some (cond y number (w.numbers b k))
+    by_call : (y : Bool) → nat_eq k node.seq ≡ y → k ≤ node.seq → get call_cmp map (b, k) ≡ Some (cond y number (w.numbers b node.boot k))
     by_call true this high = ap (λ j. get call_cmp map (b, j)) (eqb-true k node.seq this) ∙ here
-    by_call false other high = let apart : k ≢ node.seq = eqb-false k node.seq other in old b k low (omega arith)
+    by_call false other high =
+        let apart : k ≢ node.seq = eqb-false k node.seq other in
+        old b k low (omega arith) ∙ ap (λ x. Some (w.numbers b x k)) (sym boot)
+
+    of_boot : ℕ → ℕ
+    of_boot = put (w.numbers b node.boot) node.seq number
 
     by_brick : (x : Bool) → nat_eq i b ≡ x → k ≤ (cond x node (w.nodes i)).seq
-        → get call_cmp map (i, k) ≡ Some (cond x (put (w.numbers b) node.seq number) (w.numbers i) k)
-    by_brick true same high = ap (λ j. get call_cmp map (j, k)) (eqb-true i b same) ∙ by_call (nat_eq k node.seq) refl high
+        → get call_cmp map (i, k) ≡ Some (cond x (put (w.numbers b) node.boot of_boot) (w.numbers i) (cond x node (w.nodes i)).boot k)
+    by_brick true same high =
+        ap (λ j. get call_cmp map (j, k)) (eqb-true i b same) ∙ by_call (nat_eq k node.seq) refl high
+        ∙ ap (λ (f : ℕ → ℕ). Some (f k)) (sym (value_here (w.numbers b) node.boot node.boot of_boot refl))
     by_brick false other high = old i k low high
 
 -- what is kept of the operations with one more
@@ -195,10 +231,10 @@ pub tells_began : (old new : History) (w : World) (brick : BrickId) (ask : Ask) 
     → new.marks.items ≡ old.marks.items ++ Begin (length old.marks.items) (length old.operations.items + 1) brick ask ∷ []
     → new.operations.items ≡ old.operations.items ++ begun_known (length old.marks.items) ask ∷ []
     → new.numbers ≡ old.numbers
-    → step.node.seq ≡ (w.nodes brick.0).seq + 1
+    → step.node.boot ≡ (w.nodes brick.0).boot → step.node.seq ≡ (w.nodes brick.0).seq + 1
     → get call_cmp old.numbers (brick.0, step.node.seq) ≡ Some (w.begun + 1)
     → Tells new (world_began w brick ask step)
-tells_began old new w brick ask step tells sent marks operations numbers next number = record {
+tells_began old new w brick ask step tells sent marks operations numbers boot next number = record {
   packets = sent ∙ ap (λ xs. xs ++ step.packets) tells.packets;
   marks = marks ∙ ap (λ (xs : List Mark). xs ++ Begin (length xs) (length old.operations.items + 1) brick ask ∷ []) tells.marks
       ∙ ap (λ n. w.marks ++ Begin (length w.marks) (n + 1) brick ask ∷ []) tells.begun;
@@ -216,8 +252,8 @@ tells_began old new w brick ask step tells sent marks operations numbers next nu
         answered = refl;
       }) tells.operations);
   numbers = subst (λ (map : BTreeMap (ℕ × ℕ) ℕ). (i k : ℕ) → 1 ≤ k → k ≤ (put w.nodes brick.0 step.node i).seq
-      → get call_cmp map (i, k) ≡ Some (put w.numbers brick.0 (put (w.numbers brick.0) step.node.seq (w.begun + 1)) i k)) (sym numbers)
-      (numbers_grow w old.numbers brick.0 (w.begun + 1) step.node next number tells.numbers);
+      → get call_cmp map (i, k) ≡ Some (with_number w.numbers brick.0 step.node (w.begun + 1) i (put w.nodes brick.0 step.node i).boot k)) (sym numbers)
+      (numbers_grow w old.numbers brick.0 (w.begun + 1) step.node boot next number tells.numbers);
 }
 
 -- there is no operation 0
@@ -273,63 +309,99 @@ changes_to kept number default value change some within is =
 
 -- the number of a call is that of its operation
 pub number_is : (history : History) (w : World) (b seq number : ℕ) → Tells history w → 1 ≤ seq → seq ≤ (w.nodes b).seq
-    → number ≡ unwrap_or (get call_cmp history.numbers (b, seq)) 0 → number ≡ w.numbers b seq
+    → number ≡ unwrap_or (get call_cmp history.numbers (b, seq)) 0 → number ≡ number_of w b seq
 number_is history w b seq number tells low high is = is ∙ ap (λ o. unwrap_or o 0) (tells.numbers b seq low high)
 
 -- an operation made a version
 pub tells_made : (old new : History) (w : World) (b seq number : ℕ) (stamp : Stamp) (base : Option Stamp) (kept after : List Known) → Tells old w
-    → number ≡ w.numbers b seq → kept ≡ old.operations.items → new.operations.items ≡ after
+    → number ≡ number_of w b seq → kept ≡ old.operations.items → new.operations.items ≡ after
     → new.sent.items ≡ old.sent.items → new.marks.items ≡ old.marks.items
     → ChangesAt kept after number (made_known stamp base) → length after ≡ length kept → new.numbers ≡ old.numbers
-    → Tells new (record w { operations = put w.operations (w.numbers b seq) (with_made stamp base (w.operations (w.numbers b seq))) })
+    → Tells new (record w { operations = put w.operations (number_of w b seq) (with_made stamp base (w.operations (number_of w b seq))) })
 tells_made old new w b seq number stamp base kept after tells is are become sent marks changed count numbers =
-    tells_changed old new w (w.numbers b seq) kept after (made_known stamp base) (with_made stamp base) tells are become (made_alike stamp base)
+    tells_changed old new w (number_of w b seq) kept after (made_known stamp base) (with_made stamp base) tells are become (made_alike stamp base)
     (subst (λ n. ChangesAt kept after n (made_known stamp base)) is changed) count sent numbers w.marks (marks ∙ tells.marks)
 
 -- an operation ended
 pub tells_ended : (old new : History) (w : World) (b seq number : ℕ) (answer : Answer) (answered : Bool) (seen : Option Stamp) (kept after : List Known)
-    → Tells old w → number ≡ w.numbers b seq → kept ≡ old.operations.items → new.operations.items ≡ after → answered ≡ is_answer answer
+    → Tells old w → number ≡ number_of w b seq → kept ≡ old.operations.items → new.operations.items ≡ after → answered ≡ is_answer answer
     → new.sent.items ≡ old.sent.items → new.marks.items ≡ old.marks.items ++ End (length old.marks.items) number answer ∷ []
     → ChangesAt kept after number (ended_known answered seen) → length after ≡ length kept → new.numbers ≡ old.numbers
     → Tells new (record w {
-      marks = w.marks ++ End (length w.marks) (w.numbers b seq) answer ∷ [];
-      operations = put w.operations (w.numbers b seq) (with_answer answer seen (w.operations (w.numbers b seq)));
+      marks = w.marks ++ End (length w.marks) (number_of w b seq) answer ∷ [];
+      operations = put w.operations (number_of w b seq) (with_answer answer seen (w.operations (number_of w b seq)));
     })
 tells_ended old new w b seq number answer answered seen kept after tells is are become right sent marks changed count numbers =
-    let at : ChangesAt kept after (w.numbers b seq) (ended_known answered seen) =
+    let at : ChangesAt kept after (number_of w b seq) (ended_known answered seen) =
     subst (λ n. ChangesAt kept after n (ended_known answered seen)) is changed in
-    tells_changed old new w (w.numbers b seq) kept after (ended_known (is_answer answer) seen) (with_answer answer seen) tells are become (ended_alike answer seen)
-    (subst (λ (x : Bool). ChangesAt kept after (w.numbers b seq) (ended_known x seen)) right at) count sent numbers _
+    tells_changed old new w (number_of w b seq) kept after (ended_known (is_answer answer) seen) (with_answer answer seen) tells are become (ended_alike answer seen)
+    (subst (λ (x : Bool). ChangesAt kept after (number_of w b seq) (ended_known x seen)) right at) count sent numbers _
     (marks ∙ ap (λ n. old.marks.items ++ End (length old.marks.items) n answer ∷ []) is
-    ∙ ap (λ (xs : List Mark). xs ++ End (length xs) (w.numbers b seq) answer ∷ []) tells.marks)
+    ∙ ap (λ (xs : List Mark). xs ++ End (length xs) (number_of w b seq) answer ∷ []) tells.marks)
 
 -- a step that made a version
 pub tells_step_made : (history : History) (w : World) (brick : BrickId) (step : NodeStep) (packets : List Packet) (seq : ℕ) (stamp : Stamp)
-    (base : Option Stamp) → step.told ≡ Made seq stamp base → packets ≡ step.packets → step.node.seq ≡ (w.nodes brick.0).seq → IsOfCall (w.nodes brick.0) step.told
+    (base : Option Stamp) → step.told ≡ Made seq stamp base → packets ≡ step.packets → step.node.boot ≡ (w.nodes brick.0).boot
+    → step.node.seq ≡ (w.nodes brick.0).seq → IsOfCall (w.nodes brick.0) step.told
     → (1 ≤ seq → seq ≤ (w.nodes brick.0).seq
     → Tells history (record w {
       packets = w.packets ++ packets;
-      operations = put w.operations (w.numbers brick.0 seq) (with_made stamp base (w.operations (w.numbers brick.0 seq)));
+      operations = put w.operations (number_of w brick.0 seq) (with_made stamp base (w.operations (number_of w brick.0 seq)));
     }))
     → Tells history (world_stepped w brick step step.told)
-tells_step_made history w brick step packets seq stamp base is sent next of made =
+tells_step_made history w brick step packets seq stamp base is sent boot next of made =
     let call : (1 ≤ seq) × (seq ≤ (w.nodes brick.0).seq) = subst (IsOfCall (w.nodes brick.0)) is of in
     subst (λ told. Tells history (world_stepped w brick step told)) (sym is)
-    (tells_other history _ (world_stepped w brick step (Made seq stamp base)) (ap (λ xs. w.packets ++ xs) (sym sent)) refl refl refl refl
-    (seqs_stay w brick step.node next) (made call.0 call.1))
+    (tells_other history _ (world_stepped w brick step (Made seq stamp base)) (ap (λ xs. w.packets ++ xs) (sym sent)) refl refl refl
+    (calls_same _ (world_stepped w brick step (Made seq stamp base)) (boots_stay w brick step.node boot) (seqs_stay w brick step.node next) refl)
+    (made call.0 call.1))
 
 -- a step that ended an operation
 pub tells_step_ended : (history : History) (w : World) (brick : BrickId) (step : NodeStep) (packets : List Packet) (seq : ℕ) (answer : Answer) (seen : Option Stamp)
-    → step.told ≡ Answers seq answer seen → packets ≡ step.packets → step.node.seq ≡ (w.nodes brick.0).seq → IsOfCall (w.nodes brick.0) step.told
+    → step.told ≡ Answers seq answer seen → packets ≡ step.packets → step.node.boot ≡ (w.nodes brick.0).boot
+    → step.node.seq ≡ (w.nodes brick.0).seq → IsOfCall (w.nodes brick.0) step.told
     → (1 ≤ seq → seq ≤ (w.nodes brick.0).seq
     → Tells history (record w {
       packets = w.packets ++ packets;
-      marks = w.marks ++ End (length w.marks) (w.numbers brick.0 seq) answer ∷ [];
-      operations = put w.operations (w.numbers brick.0 seq) (with_answer answer seen (w.operations (w.numbers brick.0 seq)));
+      marks = w.marks ++ End (length w.marks) (number_of w brick.0 seq) answer ∷ [];
+      operations = put w.operations (number_of w brick.0 seq) (with_answer answer seen (w.operations (number_of w brick.0 seq)));
     }))
     → Tells history (world_stepped w brick step step.told)
-tells_step_ended history w brick step packets seq answer seen is sent next of ended =
+tells_step_ended history w brick step packets seq answer seen is sent boot next of ended =
     let call : (1 ≤ seq) × (seq ≤ (w.nodes brick.0).seq) = subst (IsOfCall (w.nodes brick.0)) is of in
     subst (λ told. Tells history (world_stepped w brick step told)) (sym is)
-    (tells_other history _ (world_stepped w brick step (Answers seq answer seen)) (ap (λ xs. w.packets ++ xs) (sym sent)) refl refl refl refl
-    (seqs_stay w brick step.node next) (ended call.0 call.1))
+    (tells_other history _ (world_stepped w brick step (Answers seq answer seen)) (ap (λ xs. w.packets ++ xs) (sym sent)) refl refl refl
+    (calls_same _ (world_stepped w brick step (Answers seq answer seen)) (boots_stay w brick step.node boot) (seqs_stay w brick step.node next) refl)
+    (ended call.0 call.1))
+
+-- a brick stopped
+pub tells_crashed : (old new : History) (w : World) (brick : BrickId) → Tells old w → new.sent.items ≡ old.sent.items
+    → new.marks.items ≡ old.marks.items ++ Crash (length old.marks.items) brick ∷ [] → new.operations.items ≡ old.operations.items
+    → new.numbers ≡ old.numbers → Tells new (world_stopped w brick)
+tells_crashed old new w brick tells sent marks operations numbers =
+    let kept : Tells (record new { marks = old.marks }) w = tells_same old (record new { marks = old.marks }) w sent refl operations numbers tells in
+    let other : Tells (record new { marks = old.marks }) (record (world_stopped w brick) { marks = w.marks }) =
+    tells_other (record new { marks = old.marks }) w (record (world_stopped w brick) { marks = w.marks }) refl refl refl refl
+    (calls_same w (record (world_stopped w brick) { marks = w.marks }) (boots_stay w brick (stopped (w.nodes brick.0)) (stopped_boot (w.nodes brick.0)))
+    (seqs_stay w brick (stopped (w.nodes brick.0)) (stopped_seq (w.nodes brick.0))) refl) kept
+    in
+    record {
+      packets = other.packets;
+      marks = marks ∙ ap (λ (xs : List Mark). xs ++ Crash (length xs) brick ∷ []) tells.marks;
+      begun = other.begun;
+      operations = other.operations;
+      numbers = other.numbers;
+    }
+
+-- a brick that starts has made no call yet
+started_calls : (w : World) (brick : BrickId) (openings : ℕ) → KeepsCalls w (world_started w brick openings)
+started_calls w brick openings = record {
+  each = λ i k low. each_value (λ j x. k ≤ x.seq → (k ≤ (w.nodes j).seq) × (w.numbers j x.boot k ≡ number_of w j k)) w.nodes brick.0
+      (restarted openings (w.nodes brick.0)) (λ high. absurd (let none : (restarted openings (w.nodes brick.0)).seq ≡ 0 = restarted_seq openings (w.nodes brick.0) in omega arith))
+      (λ j other high. (high, refl)) i;
+}
+
+-- a brick started again
+pub tells_started : (history : History) (w : World) (brick : BrickId) (openings : ℕ) → Tells history w → Tells history (world_started w brick openings)
+tells_started history w brick openings tells =
+    tells_other history w (world_started w brick openings) refl refl refl refl (started_calls w brick openings) tells

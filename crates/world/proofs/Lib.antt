@@ -1,3 +1,4 @@
+pub mod BrickLemmas
 pub mod HistoryLemmas
 pub mod KeptOperations
 pub mod LineLemmas

@@ -1,15 +1,16 @@
 -- A line asks for whole stripes only.
 use Rattle.std.proofs.Common.{◌≡◌, ℕ, true, nat_eq, List, [], ◌∷◌, Option, Some, None, refl, subst}
 use Rattle.std.specs.Prelude.{nat_le, codes, length, option_and_then}
+use Rattle.std.specs.Option.{option_map}
 use Rattle.std.specs.Str.{bytes_eq}
 use Rattle.std.specs.List.{starts_with}
 use Rattle.std.proofs.lemmas.Bool.{cond_both}
 use Rattle.fab_base.specs.declared.asks.Op.{Op}
 use Rattle.fab_base.specs.declared.asks.Op.TheVariants.{ReadStripe, WriteStripe}
-use Rattle.lines.specs.Grammar.{invoke, write_all, read_all, deliver, clock, form, line_of_tokens, line_of}
+use Rattle.lines.specs.Grammar.{invoke, write_all, read_all, deliver, clock, one_brick, form, line_of_tokens, line_of}
 use Rattle.lines.specs.Tokens.{tokens, number, bytes_of_hex}
 use Rattle.lines.specs.declared.forms.Line.{Line}
-use Rattle.lines.specs.declared.forms.Line.TheVariants.{Nothing, Invoke, Deliver, SetClock}
+use Rattle.lines.specs.declared.forms.Line.TheVariants.{Nothing, Invoke, Deliver, SetClock, Tick, Crash, Start}
 use Rattle.protocol.specs.Nodes.{is_stripe_op}
 use Rattle.world.specs.States.{IsOfStripes}
 
@@ -68,13 +69,21 @@ unfolding clock
 clock_asks (b ∷ v ∷ []) = set (number b) (number v)
 clock_asks _ = none
 
+-- a form that asks for no operation
+named : (says : ℕ → Line) → ((brick : ℕ) → IsOfStripes (says brick)) → (found : Option ℕ) → AsksStripes (option_map says found)
+named says asks None = none
+named says asks (Some brick) = some (says brick) (asks brick)
+
 form_asks : (word : List ℕ) (arguments : List (List ℕ)) → AsksStripes (form word arguments)
 unfolding form
 form_asks word arguments =
     cond_both (bytes_eq word (codes "writeall")) _ _ AsksStripes (λ this. write_all_asks arguments)
     (λ other. cond_both (bytes_eq word (codes "readall")) _ _ AsksStripes (λ this. read_all_asks arguments)
     (λ other. cond_both (bytes_eq word (codes "deliver")) _ _ AsksStripes (λ this. deliver_asks arguments)
-    (λ other. cond_both (bytes_eq word (codes "clock")) _ _ AsksStripes (λ this. clock_asks arguments) (λ other. none))))
+    (λ other. cond_both (bytes_eq word (codes "clock")) _ _ AsksStripes (λ this. clock_asks arguments)
+    (λ other. cond_both (bytes_eq word (codes "tick")) _ _ AsksStripes (λ this. named Tick (λ brick. tt) (one_brick arguments))
+    (λ other. cond_both (bytes_eq word (codes "crash")) _ _ AsksStripes (λ this. named Crash (λ brick. tt) (one_brick arguments))
+    (λ other. cond_both (bytes_eq word (codes "start")) _ _ AsksStripes (λ this. named Start (λ brick. tt) (one_brick arguments)) (λ other. none)))))))
 
 tokens_ask : (tokens : List (List ℕ)) → AsksStripes (line_of_tokens tokens)
 unfolding line_of_tokens

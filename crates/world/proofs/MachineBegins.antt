@@ -10,7 +10,7 @@ use Rattle.fab_base.specs.declared.identities.BrickId.{BrickId}
 use Rattle.fab_wire.specs.declared.messages.Packet.{Packet}
 use Rattle.protocol.specs.Settings.{Layout, Setting, Group, group_of}
 use Rattle.protocol.specs.Nodes.{Node, put, is_stripe_op, has_block, has_length, is_spent, most_open, refusal_in, refusal_of, began, invoked, received}
-use Rattle.protocol.specs.Worlds.{World, Invokes, Delivers, Sets, is_brick, world_began, world_stepped, replies_with, delivered, packet_of, happens}
+use Rattle.protocol.specs.Worlds.{World, Invokes, Delivers, Sets, Ticks, Crashes, Starts, is_up, may_start, world_began, world_stepped, world_ticked, world_stopped, world_started, replies_with, delivered, packet_of, happens}
 use Rattle.world.specs.Runs.{ask_of, refusal_at}
 
 -- where there is no such group there is no such stripe
@@ -36,19 +36,15 @@ refused_no_stripe layout g s group node op found past =
     ap (refusal_in layout.block node (ask_of g s op)) found
     ∙ ap (λ b. cond (not b) (Some Refusal.NoStripe) (refusal_behind layout.block node op group)) past_last
 
--- a brick of the layout refuses for its own reason
-pub refusal_here : (setting : Setting) (w : World) (brick : BrickId) (ask : Ask) → brick.0 < setting.layout.bricks
+-- a brick that is up refuses for its own reason
+pub refusal_here : (setting : Setting) (w : World) (brick : BrickId) (ask : Ask) → is_up setting.layout w brick ≡ true
     → refusal_at setting w brick ask ≡ refusal_of setting.layout (w.nodes brick.0) ask
-refusal_here setting w brick ask within =
-    ap (λ b. cond b (refusal_of setting.layout (w.nodes brick.0) ask) (Some Refusal.Down))
-    (let e : nat_lt brick.0 setting.layout.bricks ≡ true = grind (arith, nat_tests) in e)
+refusal_here setting w brick ask up = ap (λ b. cond b (refusal_of setting.layout (w.nodes brick.0) ask) (Some Refusal.Down)) up
 
--- there is no such brick
-pub refusal_down : (setting : Setting) (w : World) (brick : BrickId) (ask : Ask) → setting.layout.bricks ≤ brick.0
+-- there is no such brick that is up
+pub refusal_down : (setting : Setting) (w : World) (brick : BrickId) (ask : Ask) → is_up setting.layout w brick ≡ false
     → refusal_at setting w brick ask ≡ Some Refusal.Down
-refusal_down setting w brick ask past =
-    ap (λ b. cond b (refusal_of setting.layout (w.nodes brick.0) ask) (Some Refusal.Down))
-    (let e : nat_lt brick.0 setting.layout.bricks ≡ false = grind (arith, nat_tests) in e)
+refusal_down setting w brick ask down = ap (λ b. cond b (refusal_of setting.layout (w.nodes brick.0) ask) (Some Refusal.Down)) down
 
 may_not : (b c : Bool) (r : Option Refusal) (reason : Refusal) → r ≡ Some reason → b && (c && not (is_some r)) ≡ false
 may_not true true r reason is = ap (λ x. not (is_some x)) is
@@ -61,14 +57,14 @@ pub happens_refused : (setting : Setting) (w : World) (brick : BrickId) (ask : A
 unfolding happens
 happens_refused setting w brick ask reason is =
     ap (λ b. cond b (world_began w brick ask (invoked setting brick (w.clocks brick.0) (w.nodes brick.0) ask)) w)
-    (may_not (is_brick setting.layout brick) (is_stripe_op ask.op) (refusal_of setting.layout (w.nodes brick.0) ask) reason is)
+    (may_not (is_up setting.layout w brick) (is_stripe_op ask.op) (refusal_of setting.layout (w.nodes brick.0) ask) reason is)
 
--- nothing begins at a brick that there is not
-pub happens_down : (setting : Setting) (w : World) (brick : BrickId) (ask : Ask) → setting.layout.bricks ≤ brick.0 → happens setting w (Invokes brick ask) ≡ w
+-- nothing begins at a brick that is not up
+pub happens_down : (setting : Setting) (w : World) (brick : BrickId) (ask : Ask) → is_up setting.layout w brick ≡ false → happens setting w (Invokes brick ask) ≡ w
 unfolding happens
-happens_down setting w brick ask past =
+happens_down setting w brick ask down =
     ap (λ b. cond (b && (is_stripe_op ask.op && not (is_some (refusal_of setting.layout (w.nodes brick.0) ask)))) (world_began w brick ask (invoked setting brick (w.clocks brick.0) (w.nodes brick.0) ask)) w)
-    (let e : nat_lt brick.0 setting.layout.bricks ≡ false = grind (arith, nat_tests) in e)
+    down
 
 may : (b c : Bool) (r : Option Refusal) → b ≡ true → c ≡ true → r ≡ None → b && (c && not (is_some r)) ≡ true
 may true true r here stripe none = ap (λ x. not (is_some x)) none
@@ -76,14 +72,13 @@ may true false r here stripe none = let never : false ≡ true = stripe in cc
 may false c r here stripe none = let never : false ≡ true = here in cc
 
 -- an operation that is not refused begins
-pub happens_begun : (setting : Setting) (w : World) (brick : BrickId) (ask : Ask) → brick.0 < setting.layout.bricks → is_stripe_op ask.op ≡ true
+pub happens_begun : (setting : Setting) (w : World) (brick : BrickId) (ask : Ask) → is_up setting.layout w brick ≡ true → is_stripe_op ask.op ≡ true
     → refusal_of setting.layout (w.nodes brick.0) ask ≡ None
     → happens setting w (Invokes brick ask) ≡ world_began w brick ask (invoked setting brick (w.clocks brick.0) (w.nodes brick.0) ask)
 unfolding happens
-happens_begun setting w brick ask within stripe none =
+happens_begun setting w brick ask up stripe none =
     ap (λ b. cond b (world_began w brick ask (invoked setting brick (w.clocks brick.0) (w.nodes brick.0) ask)) w)
-    (may (is_brick setting.layout brick) (is_stripe_op ask.op) (refusal_of setting.layout (w.nodes brick.0) ask)
-    (let e : nat_lt brick.0 setting.layout.bricks ≡ true = grind (arith, nat_tests) in e) stripe none)
+    (may (is_up setting.layout w brick) (is_stripe_op ask.op) (refusal_of setting.layout (w.nodes brick.0) ask) up stripe none)
 
 began_next : (setting : Setting) (brick : BrickId) (now : ℕ) (node : Node) (ask : Ask) (found : Option Group) → refusal_in setting.layout.block node ask found ≡ None
     → (began setting brick now node ask found).node.seq ≡ node.seq + 1
@@ -96,6 +91,16 @@ pub invoked_next : (setting : Setting) (brick : BrickId) (now : ℕ) (node : Nod
 unfolding invoked refusal_of
 invoked_next setting brick now node ask none = began_next setting brick now node ask (group_of setting.layout ask.group.0) none
 
+-- it is a call of the same boot
+invoked_boot_in : (setting : Setting) (brick : BrickId) (now : ℕ) (node : Node) (ask : Ask) (found : Option Group)
+    → (began setting brick now node ask found).node.boot ≡ node.boot
+invoked_boot_in setting brick now node ask None = refl
+invoked_boot_in setting brick now node ask (Some group) = refl
+
+pub invoked_boot : (setting : Setting) (brick : BrickId) (now : ℕ) (node : Node) (ask : Ask) → (invoked setting brick now node ask).node.boot ≡ node.boot
+unfolding invoked
+invoked_boot setting brick now node ask = invoked_boot_in setting brick now node ask (group_of setting.layout ask.group.0)
+
 -- the world after its brick handled a message
 abbrev pub after_message : Setting → World → Packet → World
 after_message setting w packet =
@@ -107,23 +112,17 @@ pub happens_unsent : (setting : Setting) (w : World) (number : ℕ) → packet_o
 unfolding happens
 happens_unsent setting w number none = ap (delivered setting w) none
 
--- a message to no brick of the layout changes nothing
-pub happens_astray : (setting : Setting) (w : World) (number : ℕ) (packet : Packet) → packet_of w.packets number ≡ Some packet → setting.layout.bricks ≤ packet.to.0
-    → happens setting w (Delivers number) ≡ w
+-- a message to no brick that is up changes nothing
+pub happens_astray : (setting : Setting) (w : World) (number : ℕ) (packet : Packet) → packet_of w.packets number ≡ Some packet
+    → is_up setting.layout w packet.to ≡ false → happens setting w (Delivers number) ≡ w
 unfolding happens
-happens_astray setting w number packet sent past =
-    ap (delivered setting w) sent
-    ∙ ap (λ b. cond b (after_message setting w packet) w)
-    (let e : nat_lt packet.to.0 setting.layout.bricks ≡ false = grind (arith, nat_tests) in e)
+happens_astray setting w number packet sent down = ap (delivered setting w) sent ∙ ap (λ b. cond b (after_message setting w packet) w) down
 
 -- a message is handled by its brick
-pub happens_handled : (setting : Setting) (w : World) (number : ℕ) (packet : Packet) → packet_of w.packets number ≡ Some packet → packet.to.0 < setting.layout.bricks
-    → happens setting w (Delivers number) ≡ after_message setting w packet
+pub happens_handled : (setting : Setting) (w : World) (number : ℕ) (packet : Packet) → packet_of w.packets number ≡ Some packet
+    → is_up setting.layout w packet.to ≡ true → happens setting w (Delivers number) ≡ after_message setting w packet
 unfolding happens
-happens_handled setting w number packet sent within =
-    ap (delivered setting w) sent
-    ∙ ap (λ b. cond b (after_message setting w packet) w)
-    (let e : nat_lt packet.to.0 setting.layout.bricks ≡ true = grind (arith, nat_tests) in e)
+happens_handled setting w number packet sent up = ap (delivered setting w) sent ∙ ap (λ b. cond b (after_message setting w packet) w) up
 
 -- a clock is set
 pub happens_set : (setting : Setting) (w : World) (brick : BrickId) (time : ℕ) → brick.0 < setting.layout.bricks
@@ -140,3 +139,34 @@ unfolding happens
 happens_unset setting w brick time past =
     ap (λ b. cond b (record w { clocks = put w.clocks brick.0 time }) w)
     (let e : nat_lt brick.0 setting.layout.bricks ≡ false = grind (arith, nat_tests) in e)
+
+-- the clock of a brick that is up ticks
+pub happens_ticked : (setting : Setting) (w : World) (brick : BrickId) → is_up setting.layout w brick ≡ true
+    → happens setting w (Ticks brick) ≡ world_ticked setting w brick
+unfolding happens
+happens_ticked setting w brick up = ap (λ b. cond b (world_ticked setting w brick) w) up
+
+pub happens_unticked : (setting : Setting) (w : World) (brick : BrickId) → is_up setting.layout w brick ≡ false → happens setting w (Ticks brick) ≡ w
+unfolding happens
+happens_unticked setting w brick down = ap (λ b. cond b (world_ticked setting w brick) w) down
+
+-- a brick that is up stops
+pub happens_stopped : (setting : Setting) (w : World) (brick : BrickId) → is_up setting.layout w brick ≡ true
+    → happens setting w (Crashes brick) ≡ world_stopped w brick
+unfolding happens
+happens_stopped setting w brick up = ap (λ b. cond b (world_stopped w brick) w) up
+
+pub happens_unstopped : (setting : Setting) (w : World) (brick : BrickId) → is_up setting.layout w brick ≡ false → happens setting w (Crashes brick) ≡ w
+unfolding happens
+happens_unstopped setting w brick down = ap (λ b. cond b (world_stopped w brick) w) down
+
+-- a brick that may start does
+pub happens_started : (setting : Setting) (w : World) (brick : BrickId) → may_start setting.layout w brick 1 ≡ true
+    → happens setting w (Starts brick 1) ≡ world_started w brick 1
+unfolding happens
+happens_started setting w brick may = ap (λ b. cond b (world_started w brick 1) w) may
+
+pub happens_unstarted : (setting : Setting) (w : World) (brick : BrickId) → may_start setting.layout w brick 1 ≡ false
+    → happens setting w (Starts brick 1) ≡ w
+unfolding happens
+happens_unstarted setting w brick may_not = ap (λ b. cond b (world_started w brick 1) w) may_not

@@ -1,14 +1,15 @@
--- A message leaves a brick's call numbers as they are, and what a brick tells is of one of its calls.
-use Rattle.std.proofs.Common.{◌≡◌, ℕ, ◌≤◌, Option, Some, None, refl, arith}
+-- A message leaves a brick's boot and call numbers as they are, and what a brick tells is of one of its calls.
+use Rattle.std.proofs.Common.{◌≡◌, ℕ, ◌≤◌, ◌&&◌, Option, Some, None, refl, arith}
+use Rattle.std.proofs.lemmas.Bool.{cond_both}
 use Rattle.fab_base.specs.declared.identities.BrickId.{BrickId}
 use Rattle.fab_wire.specs.declared.calls.Call.{Call}
 use Rattle.fab_wire.specs.declared.messages.Message.{Message}
 use Rattle.fab_wire.specs.declared.messages.Packet.{Packet}
 use Rattle.fab_wire.specs.declared.requests.Request.{Request}
 use Rattle.fab_wire.specs.declared.replies.Reply.{Reply}
-use Rattle.protocol.specs.Settings.{Setting, Group, group_of, seat_in}
+use Rattle.protocol.specs.Settings.{Layout, Setting, Group, group_of, seat_in}
 use Rattle.protocol.specs.Coordinators.{Coordinator, Next, Ignores, Waits, Sends, Makes, Ends, on_reply}
-use Rattle.protocol.specs.Nodes.{Node, NodeStep, known_after, fresh_stamp, requested_at, requested_in, requested, carried_out, replied_to, replied_at, replied, received}
+use Rattle.protocol.specs.Nodes.{Node, NodeStep, known_after, fresh_stamp, no_step, is_served, fits_block, requested_at, requested_in, requested, carried_out, replied_to, replied_at, replied, received}
 use Rattle.world.specs.States.{IsOfCall}
 
 -- each open call knows its number, and is one of the brick's calls so far
@@ -17,37 +18,41 @@ CallsAreNumbered node = (k : ℕ) (c : Coordinator) → node.calls k ≡ Some c 
 
 -- the step opens no call, and tells of one of the calls so far
 pub record OpensNone (node : Node) (step : NodeStep) : Type 0 where
+  pub boot : step.node.boot ≡ node.boot
   pub seq : step.node.seq ≡ node.seq
   pub told : IsOfCall node step.told
 
 -- a request
-requested_at_opens_none : (me from : BrickId) (node : Node) (call : Call) (request : Request) (seat : Option ℕ)
-    → OpensNone node (requested_at me from node call request seat)
-requested_at_opens_none me from node call request None = record { seq = refl; told = tt }
-requested_at_opens_none me from node call request (Some seat) = record { seq = refl; told = tt }
+requested_at_opens_none : (records : ℕ) (me from : BrickId) (node : Node) (call : Call) (request : Request) (seat : Option ℕ)
+    → OpensNone node (requested_at records me from node call request seat)
+requested_at_opens_none records me from node call request None = record { boot = refl; seq = refl; told = tt }
+requested_at_opens_none records me from node call request (Some seat) = record { boot = refl; seq = refl; told = tt }
 
-requested_in_opens_none : (me from : BrickId) (node : Node) (call : Call) (request : Request) (group : Option Group)
-    → OpensNone node (requested_in me from node call request group)
-requested_in_opens_none me from node call request None = record { seq = refl; told = tt }
-requested_in_opens_none me from node call request (Some group) = requested_at_opens_none me from node call request (seat_in group.members me.0)
+requested_in_opens_none : (layout : Layout) (me from : BrickId) (node : Node) (call : Call) (request : Request) (group : Option Group)
+    → OpensNone node (requested_in layout me from node call request group)
+requested_in_opens_none layout me from node call request None = record { boot = refl; seq = refl; told = tt }
+requested_in_opens_none layout me from node call request (Some group) =
+    cond_both (is_served group call && fits_block layout.block request) (requested_at layout.records me from node call request (seat_in group.members me.0)) (no_step node)
+    (λ (step : NodeStep). OpensNone node step)
+    (λ serves. requested_at_opens_none layout.records me from node call request (seat_in group.members me.0)) (λ void. record { boot = refl; seq = refl; told = tt })
 
 requested_opens_none : (setting : Setting) (me from : BrickId) (node : Node) (call : Call) (request : Request)
     → OpensNone node (requested setting me from node call request)
 unfolding requested
-requested_opens_none setting me from node call request = requested_in_opens_none me from node call request (group_of setting.layout call.group.0)
+requested_opens_none setting me from node call request = requested_in_opens_none setting.layout me from node call request (group_of setting.layout call.group.0)
 
 -- a reply
 carried_out_opens_none : (setting : Setting) (group : Group) (me : BrickId) (node : Node) (known : ℕ) (c : Coordinator) (next : Next)
     → 1 ≤ c.call.seq → c.call.seq ≤ node.seq → OpensNone node (carried_out setting group me node known c next)
-carried_out_opens_none setting group me node known c Ignores low high = record { seq = refl; told = tt }
-carried_out_opens_none setting group me node known c (Waits d) low high = record { seq = refl; told = tt }
-carried_out_opens_none setting group me node known c (Sends d) low high = record { seq = refl; told = tt }
-carried_out_opens_none setting group me node known c (Makes d) low high = record { seq = refl; told = (low, high) }
-carried_out_opens_none setting group me node known c (Ends answer seen stored) low high = record { seq = refl; told = (low, high) }
+carried_out_opens_none setting group me node known c Ignores low high = record { boot = refl; seq = refl; told = tt }
+carried_out_opens_none setting group me node known c (Waits d) low high = record { boot = refl; seq = refl; told = tt }
+carried_out_opens_none setting group me node known c (Sends d) low high = record { boot = refl; seq = refl; told = tt }
+carried_out_opens_none setting group me node known c (Makes d) low high = record { boot = refl; seq = refl; told = (low, high) }
+carried_out_opens_none setting group me node known c (Ends answer seen stored) low high = record { boot = refl; seq = refl; told = (low, high) }
 
 replied_to_opens_none : (setting : Setting) (me : BrickId) (now : ℕ) (from : BrickId) (node : Node) (call : Call) (reply : Reply) (c : Coordinator)
     (group : Option Group) → 1 ≤ c.call.seq → c.call.seq ≤ node.seq → OpensNone node (replied_to setting me now from node call reply c group)
-replied_to_opens_none setting me now from node call reply c None low high = record { seq = refl; told = tt }
+replied_to_opens_none setting me now from node call reply c None low high = record { boot = refl; seq = refl; told = tt }
 replied_to_opens_none setting me now from node call reply c (Some group) low high =
     let known : ℕ = known_after node.known reply in
     carried_out_opens_none setting group me node known c
@@ -56,7 +61,7 @@ replied_to_opens_none setting me now from node call reply c (Some group) low hig
 replied_at_opens_none : (setting : Setting) (me : BrickId) (now : ℕ) (from : BrickId) (node : Node) (call : Call) (reply : Reply)
     (found : Option Coordinator) → CallsAreNumbered node → node.calls call.seq ≡ found
     → OpensNone node (replied_at setting me now from node call reply found)
-replied_at_opens_none setting me now from node call reply None numbered is = record { seq = refl; told = tt }
+replied_at_opens_none setting me now from node call reply None numbered is = record { boot = refl; seq = refl; told = tt }
 replied_at_opens_none setting me now from node call reply (Some c) numbered is =
     let at = numbered call.seq c is in
     replied_to_opens_none setting me now from node call reply c (group_of setting.layout c.ask.group.0) (omega (arith, at.0, at.1)) (omega (arith, at.0, at.2))
@@ -73,7 +78,7 @@ received_as_opens_none : (setting : Setting) (me : BrickId) (now : ℕ) (from to
 unfolding received
 received_as_opens_none setting me now from to node (Message.Request call request) numbered = requested_opens_none setting me from node call request
 received_as_opens_none setting me now from to node (Message.Reply call reply) numbered = replied_opens_none setting me now from node call reply numbered
-received_as_opens_none setting me now from to node message numbered = record { seq = refl; told = tt }
+received_as_opens_none setting me now from to node message numbered = record { boot = refl; seq = refl; told = tt }
 
 pub received_opens_none : (setting : Setting) (me : BrickId) (now : ℕ) (node : Node) (packet : Packet) → CallsAreNumbered node
     → OpensNone node (received setting me now node packet)

@@ -7,11 +7,11 @@ use Rattle.fab_base.specs.declared.answers.Refusal.{Refusal}
 use Rattle.fab_wire.specs.declared.requests.Version.{Version}
 use Rattle.reg_model.specs.declared.marks.Mark.{Mark}
 use Rattle.lines.specs.declared.forms.Line.{Line}
-use Rattle.lines.specs.declared.forms.Line.TheVariants.{Nothing, Invoke, Deliver, SetClock}
+use Rattle.lines.specs.declared.forms.Line.TheVariants.{Nothing, Invoke, Deliver, SetClock, Tick, Crash, Start}
 use Rattle.stripe_code.specs.Codes.{coding}
 use Rattle.protocol.specs.Settings.{Setting, Layout, Group, group_of}
 use Rattle.protocol.specs.Nodes.{put}
-use Rattle.protocol.specs.Worlds.{World, Sets, first_world, is_brick, packet_of, happens, run}
+use Rattle.protocol.specs.Worlds.{World, Sets, Ticks, Starts, first_world, is_brick, is_up, may_start, packet_of, number_of, world_ticked, world_started, happens, run}
 use Rattle.protocol.proofs.Books.{Books}
 use Rattle.world.specs.Runs.{Run, after_line, after_lines, world_of, events_of, brick_of, ask_of, refusal_at}
 use Rattle.world.specs.States.{IsNumbered, Shows, outcome_of, refused_or_begun}
@@ -40,18 +40,29 @@ shows_line layout state old new line grown shows =
     (sym (ap (λ (lines : List Line). world_of (record { layout = layout; lines = lines })) grown ∙ world_of-with_line (record { layout = layout; lines = old }) line)) shows
 
 -- the log of a part that there is
-pub log_at_part : (r : Run) (b g s : ℕ) (group : Group) (log : List Version) → group_of r.layout g ≡ Some group → s < group.stripes → b < r.layout.bricks
+pub log_at_part : (r : Run) (b g s : ℕ) (group : Group) (log : List Version) → group_of r.layout g ≡ Some group → s < group.stripes
+    → is_up r.layout (world_of r) (brick_of b) ≡ true
     → log ≡ (((world_of r).nodes b).replicas g s).log → Some log ≡ log_at r b g s
-log_at_part r b g s group log found within here is =
-    let there : is_stripe (group_of r.layout g) s && nat_lt b r.layout.bricks ≡ true =
-    ap (λ o. is_stripe o s && nat_lt b r.layout.bricks) found ∙ both (nat_lt s group.stripes) (nat_lt b r.layout.bricks)
-    (let e : nat_lt s group.stripes ≡ true = grind (arith, nat_tests) in e) (let e : nat_lt b r.layout.bricks ≡ true = grind (arith, nat_tests) in e)
+log_at_part r b g s group log found within up is =
+    let there : is_stripe (group_of r.layout g) s && is_up r.layout (world_of r) (brick_of b) ≡ true =
+    ap (λ o. is_stripe o s && is_up r.layout (world_of r) (brick_of b)) found
+    ∙ both (nat_lt s group.stripes) (is_up r.layout (world_of r) (brick_of b)) (let e : nat_lt s group.stripes ≡ true = grind (arith, nat_tests) in e) up
     in
     ap (λ l. Some l) is ∙ sym (ap (λ x. cond x (Some (((world_of r).nodes b).replicas g s).log) None) there)
   where
     both : (x y : Bool) → x ≡ true → y ≡ true → x && y ≡ true
     both true y first second = second
     both false y first second = absurd (let e : false ≡ true = first in cc)
+
+-- there is no log of a brick that is not up
+pub log_at_down : (r : Run) (b g s : ℕ) → is_up r.layout (world_of r) (brick_of b) ≡ false → None ≡ log_at r b g s
+log_at_down r b g s down =
+    sym (ap (λ x. cond (is_stripe (group_of r.layout g) s && x) (Some (((world_of r).nodes b).replicas g s).log) None) down
+    ∙ ap (λ x. cond x (Some (((world_of r).nodes b).replicas g s).log) None) (never (is_stripe (group_of r.layout g) s)))
+  where
+    never : (x : Bool) → x && false ≡ false
+    never true = refl
+    never false = refl
 
 -- lines do what their events do
 pub after_lines-run : (setting : Setting) (w : World) (lines : List Line) → after_lines setting w lines ≡ run setting (events_of lines) w
@@ -60,6 +71,9 @@ after_lines-run setting w (Nothing ∷ lines) = after_lines-run setting w lines
 after_lines-run setting w (Invoke b g s op ∷ lines) = after_lines-run setting (after_line setting w (Invoke b g s op)) lines
 after_lines-run setting w (Deliver k ∷ lines) = after_lines-run setting (after_line setting w (Deliver k)) lines
 after_lines-run setting w (SetClock b v ∷ lines) = after_lines-run setting (after_line setting w (SetClock b v)) lines
+after_lines-run setting w (Tick b ∷ lines) = after_lines-run setting (after_line setting w (Tick b)) lines
+after_lines-run setting w (Crash b ∷ lines) = after_lines-run setting (after_line setting w (Crash b)) lines
+after_lines-run setting w (Start b ∷ lines) = after_lines-run setting (after_line setting w (Start b)) lines
 
 -- the world that a run leaves is one that a schedule of events reaches
 pub world_of-run : (r : Run) → world_of r ≡ run (coding r.layout) (events_of r.lines) (first_world r.layout)
@@ -69,9 +83,10 @@ world_of-run r = after_lines-run (coding r.layout) (first_world r.layout) r.line
 pub numbered_from_books : (setting : Setting) (w : World) → Books setting w → IsNumbered w
 numbered_from_books setting w books i k c is =
     let call = books.calls i k c is in
-    let operation = books.operations (w.numbers i k) call.operation call.operation_is in
+    let operation = books.operations (number_of w i k) call.operation call.operation_is in
+    let boot : call.operation.boot ≡ (w.nodes call.operation.brick.0).boot = call.boot ∙ sym (ap (λ j. (w.nodes j).boot) call.brick) in
     let seq : (w.nodes call.operation.brick.0).seq ≡ (w.nodes i).seq = ap (λ j. (w.nodes j).seq) call.brick in
-    (call.call_seq, omega (arith, operation.called.0, call.seq), omega (arith, operation.called.1, call.seq, seq))
+    (call.call_seq, omega (arith, operation.called.0, call.seq), omega (arith, operation.called.1 boot, call.seq, seq))
 
 -- past the end there is nothing
 drop_all : {A : Type 0} (xs : List A) → drop (length xs) xs ≡ []
@@ -85,6 +100,19 @@ no_mark setting w brick time =
     cond_both (is_brick setting.layout brick) (record w { clocks = put w.clocks brick.0 time }) w (λ (v : World). new_marks w v ≡ [])
     (λ here. drop_all w.marks) (λ nowhere. drop_all w.marks)
 
+-- nor does a tick, nor a start
+no_mark_ticked : (setting : Setting) (w : World) (brick : BrickId) → new_marks w (happens setting w (Ticks brick)) ≡ []
+unfolding happens
+no_mark_ticked setting w brick =
+    cond_both (is_up setting.layout w brick) (world_ticked setting w brick) w (λ (v : World). new_marks w v ≡ [])
+    (λ up. drop_all w.marks) (λ down. drop_all w.marks)
+
+no_mark_started : (setting : Setting) (w : World) (brick : BrickId) → new_marks w (happens setting w (Starts brick 1)) ≡ []
+unfolding happens
+no_mark_started setting w brick =
+    cond_both (may_start setting.layout w brick 1) (world_started w brick 1) w (λ (v : World). new_marks w v ≡ [])
+    (λ may. drop_all w.marks) (λ may_not. drop_all w.marks)
+
 refused_text : (refusal : Option Refusal) (marks : List Mark) → outcome_text (refused_or_begun refusal) marks ≡ refused_or_marks refusal marks
 refused_text None marks = refl
 refused_text (Some refusal) marks = refl
@@ -94,7 +122,7 @@ pub outcome_text-text_of : (setting : Setting) (w : World) (line : Line)
     → outcome_text (outcome_of setting w line) (new_marks w (after_line setting w line)) ≡ text_of setting w line
 outcome_text-text_of setting w Nothing = ap marks_text (drop_all w.marks)
 outcome_text-text_of setting w (Invoke b g s op) = refused_text (refusal_at setting w (brick_of b) (ask_of g s op)) _
-outcome_text-text_of setting w (Deliver k) = by_test (is_deliverable setting (packet_of w.packets k))
+outcome_text-text_of setting w (Deliver k) = by_test (is_deliverable setting w (packet_of w.packets k))
   where
     by_test : (b : Bool) → outcome_text (cond b Marks Idle) (new_marks w (after_line setting w (Deliver k)))
         ≡ cond b (marks_text (new_marks w (after_line setting w (Deliver k)))) idle_text
@@ -105,6 +133,22 @@ outcome_text-text_of setting w (SetClock b v) = by_brick (is_brick setting.layou
     by_brick : (x : Bool) → outcome_text (cond x Marks Idle) (new_marks w (after_line setting w (SetClock b v))) ≡ cond x [] idle_text
     by_brick true = ap marks_text (no_mark setting w (brick_of b) v)
     by_brick false = refl
+outcome_text-text_of setting w (Tick b) = by_test (is_up setting.layout w (brick_of b))
+  where
+    by_test : (x : Bool) → outcome_text (cond x Marks Idle) (new_marks w (after_line setting w (Tick b))) ≡ cond x [] idle_text
+    by_test true = ap marks_text (no_mark_ticked setting w (brick_of b))
+    by_test false = refl
+outcome_text-text_of setting w (Crash b) = by_test (is_up setting.layout w (brick_of b))
+  where
+    by_test : (x : Bool) → outcome_text (cond x Marks Idle) (new_marks w (after_line setting w (Crash b)))
+        ≡ cond x (marks_text (new_marks w (after_line setting w (Crash b)))) idle_text
+    by_test true = refl
+    by_test false = refl
+outcome_text-text_of setting w (Start b) = by_test (may_start setting.layout w (brick_of b) 1)
+  where
+    by_test : (x : Bool) → outcome_text (cond x Marks Idle) (new_marks w (after_line setting w (Start b))) ≡ cond x [] idle_text
+    by_test true = ap marks_text (no_mark_started setting w (brick_of b))
+    by_test false = refl
 
 -- what a line came to, with the marks behind those before it, is what it prints
 pub text_is : (old new : Run) (line : Line) (outcome : Outcome) (marks : List Mark) (before : ℕ) (text : List ℕ)

@@ -1,6 +1,4 @@
 -- What a world always keeps.
-use Rattle.std.specs.Prelude.{◌≡◌}
-use Rattle.protocol.specs.Replicas.{first_replica}
 use Rattle.world.specs.Runs.{Run, world_of}
 use Rattle.world.specs.States.{Shows}
 use Rattle.world.specs.declared.worlds.World.TheInside.{Inside}
@@ -12,4 +10,3 @@ run_of inside = record { layout = inside.layout; lines = inside.lines.items }
 -- its state shows the world that its run leaves
 pub record IsStanding (inside : Inside) : Type 0 where
   pub shows : Shows inside.layout inside.state (world_of (run_of inside))
-  pub fresh : inside.fresh ≡ first_replica inside.layout.block

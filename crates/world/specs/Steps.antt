@@ -6,7 +6,8 @@ use Rattle.lines.specs.Grammar.{line_of}
 use Rattle.lines.specs.declared.forms.Line.{Line}
 use Rattle.stripe_code.specs.Codes.{coding}
 use Rattle.protocol.specs.Settings.{Group, group_of}
-use Rattle.world.specs.Runs.{Run, world_of}
+use Rattle.protocol.specs.Worlds.{is_up}
+use Rattle.world.specs.Runs.{Run, world_of, brick_of}
 use Rattle.world.specs.Texts.{text_of, marks_text, refusal_text, idle_text}
 use Rattle.world.specs.declared.states.Outcome.{Outcome}
 use Rattle.world.specs.declared.states.Outcome.TheVariants.{Marks, Refused, Idle}
@@ -41,7 +42,7 @@ abbrev pub is_stripe : Option Group → ℕ → Bool
 is_stripe None s = false
 is_stripe (Some group) s = nat_lt s group.stripes
 
--- the log of a brick's part of a stripe, where there is such a brick and such a stripe
+-- the log of a brick's part of a stripe, where there is such a brick, it is up, and there is such a stripe
 abbrev pub log_at : Run → ℕ → ℕ → ℕ → Option (List Version)
 log_at r b g s =
-    if is_stripe (group_of r.layout g) s && nat_lt b r.layout.bricks then Some (((world_of r).nodes b).replicas g s).log else None
+    if is_stripe (group_of r.layout g) s && is_up r.layout (world_of r) (brick_of b) then Some (((world_of r).nodes b).replicas g s).log else None

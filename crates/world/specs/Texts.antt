@@ -13,12 +13,12 @@ use Rattle.fab_base.specs.declared.answers.Refusal.{Refusal}
 use Rattle.fab_base.specs.declared.answers.Refusal.TheVariants.{Down, NoStripe, NoBlock, Length, Busy, Spent}
 use Rattle.fab_base.specs.Stamps.{stamp_text}
 use Rattle.reg_model.specs.declared.marks.Mark.{Mark}
-use Rattle.reg_model.specs.declared.marks.Mark.TheVariants.{Begin, End, Crash}
+use Rattle.reg_model.specs.declared.marks.Mark.TheVariants.{Begin, End}
 use Rattle.lines.specs.declared.forms.Line.{Line}
-use Rattle.lines.specs.declared.forms.Line.TheVariants.{Nothing, Invoke, Deliver, SetClock}
+use Rattle.lines.specs.declared.forms.Line.TheVariants.{Nothing, Invoke, Deliver, SetClock, Tick, Start}
 use Rattle.fab_wire.specs.declared.messages.Packet.{Packet}
 use Rattle.protocol.specs.Settings.{Setting}
-use Rattle.protocol.specs.Worlds.{World, is_brick, packet_of}
+use Rattle.protocol.specs.Worlds.{World, is_brick, is_up, may_start, packet_of}
 use Rattle.world.specs.Runs.{after_line, brick_of, ask_of, refusal_at}
 
 -- the end of a line
@@ -59,7 +59,7 @@ abbrev pub mark_text : Mark → List ℕ
 mark_text (Begin p n brick ask) =
     decimal p ++ (codes " begin " ++ (decimal n ++ (codes " " ++ (decimal brick.0 ++ (codes " " ++ ask_text ask)))))
 mark_text (End p n answer) = decimal p ++ (codes " end " ++ (decimal n ++ (codes " " ++ answer_text answer)))
-mark_text (Crash p brick) = decimal p ++ (codes " crash " ++ (decimal brick.0 ++ newline))
+mark_text (Mark.Crash p brick) = decimal p ++ (codes " crash " ++ (decimal brick.0 ++ newline))
 
 -- marks, in order
 abbrev pub marks_text : List Mark → List ℕ
@@ -80,9 +80,9 @@ abbrev pub idle_text : List ℕ
 idle_text = codes "idle" ++ newline
 
 -- the message of a number was sent, to a brick that is up
-abbrev pub is_deliverable : Setting → Option Packet → Bool
-is_deliverable setting None = false
-is_deliverable setting (Some packet) = is_brick setting.layout packet.to
+abbrev pub is_deliverable : Setting → World → Option Packet → Bool
+is_deliverable setting w None = false
+is_deliverable setting w (Some packet) = is_up setting.layout w packet.to
 
 -- the marks that a world has after another
 abbrev pub new_marks : World → World → List Mark
@@ -99,5 +99,9 @@ text_of setting w Nothing = []
 text_of setting w (Invoke b g s op) =
     refused_or_marks (refusal_at setting w (brick_of b) (ask_of g s op)) (new_marks w (after_line setting w (Invoke b g s op)))
 text_of setting w (Deliver k) =
-    if is_deliverable setting (packet_of w.packets k) then marks_text (new_marks w (after_line setting w (Deliver k))) else idle_text
+    if is_deliverable setting w (packet_of w.packets k) then marks_text (new_marks w (after_line setting w (Deliver k))) else idle_text
 text_of setting w (SetClock b v) = if is_brick setting.layout (brick_of b) then [] else idle_text
+text_of setting w (Tick b) = if is_up setting.layout w (brick_of b) then [] else idle_text
+text_of setting w (Line.Crash b) =
+    if is_up setting.layout w (brick_of b) then marks_text (new_marks w (after_line setting w (Line.Crash b))) else idle_text
+text_of setting w (Start b) = if may_start setting.layout w (brick_of b) 1 then [] else idle_text

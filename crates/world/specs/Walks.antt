@@ -33,6 +33,7 @@ abbrev pub operation_of : Known → Operation
 operation_of known =
     record {
       brick = record { 0 = 0 };
+      boot = 0;
       seq = 0;
       begin = known.begin;
       ask = record { group = known.group; stripe = known.stripe; op = op_that known.writes };

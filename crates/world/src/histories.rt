@@ -15,7 +15,7 @@ use reg_model::Mark;
 use std::alloc::Global;
 use std::collections::BTreeMap;
 
-/// The most packets that a step of a brick sends: one to each member of a group.
+/// The most packets that a step of a brick sends on a message or for an operation that begins: one to each member of a group.
 const MOST_PACKETS: usize = 32;
 
 /// What is kept of an operation.
@@ -39,7 +39,8 @@ pub struct Known {
     pub answered: bool,
 }
 
-/// What happened. Operations are by number, from 1, and the number of an operation by its brick and call.
+/// What happened. Operations are by number, from 1, and the number of an operation by its brick and call. A brick that starts again counts its
+/// calls from 1: what was kept of its calls before then stays until it is written over, and is never asked for.
 #[derive(Drop)]
 pub struct History {
     pub sent: Vec<Packet>,
@@ -112,13 +113,13 @@ fn note_answer(operations: &mut [Known], number: u64, answered: bool, seen: Opti
 }
 
 impl History {
-    ghost use Rattle.std.specs.Prelude.{◌≡◌, ℕ, ◌+◌, ◌<◌, ◌≤◌, [], ◌∷◌, ◌++◌, Some, length, unwrap_or, OnOk, vec_len, vec_capacity};
+    ghost use Rattle.std.specs.Prelude.{◌≡◌, ℕ, ◌+◌, ◌<◌, ◌≤◌, [], ◌∷◌, ◌++◌, Some, length, unwrap_or, OnOk, OnErr, vec_len, vec_capacity};
     ghost use Rattle.std.specs.BTreeMap.{get};
     ghost use Rattle.std.specs.Option.{ForSome};
     ghost use Rattle.protocol.specs.Settings.{Layout};
     ghost use Rattle.protocol.specs.Nodes.{NodeStep};
     ghost use Rattle.protocol.specs.Nodes.{put as changed};
-    ghost use Rattle.protocol.specs.Worlds.{World, first_world, world_began, world_stepped, with_made, with_answer};
+    ghost use Rattle.protocol.specs.Worlds.{World, first_world, number_of, world_began, world_stepped, world_stopped, with_made, with_answer};
     ghost use Rattle.reg_model.specs.declared.marks.Mark.TheVariants.{End};
     ghost use Rattle.world.specs.States.{Tells, HasRoom, call_cmp, IsOfCall};
 
@@ -187,8 +188,7 @@ impl History {
 
     /// Notes what is sent.
     fn send(&mut self, packets: Vec<Packet>)
-        requires room { HasRoom self.old }
-        requires few { vec_len packets ≤ 32 }
+        requires { vec_len self.old.sent + vec_len packets ≤ vec_capacity self.old.sent }
         ensures sent { (w : World) → Tells self.old w → Tells self.new (record w { packets = w.packets ++ packets.items }) }
         ensures marks { self.new.marks ≡ self.old.marks }
         ensures operations { self.new.operations ≡ self.old.operations }
@@ -197,12 +197,33 @@ impl History {
         put_all(&mut self.sent, packets);
     }
 
+    /// Makes room for packets, and notes that they are sent.
+    pub fn send_more(&mut self, packets: Vec<Packet>) -> Result<(), NoMem>
+        ensures sent { OnOk result ((w : World) → Tells self.old w → Tells self.new (record w { packets = w.packets ++ packets.items })) }
+        ensures err { OnErr result ((w : World) → Tells self.old w → Tells self.new w) }
+        ensures marks { vec_len self.new.marks ≡ vec_len self.old.marks }
+    {
+        self.sent.reserve(packets.len())?;
+        self.send(packets);
+        Ok(())
+    }
+
+    /// Notes that a brick stops.
+    pub fn crash(&mut self, brick: BrickId)
+        requires { HasRoom self.old }
+        ensures crashed { (w : World) → Tells self.old w → Tells self.new (world_stopped w brick) }
+        ensures marks { vec_len self.old.marks ≤ vec_len self.new.marks }
+    {
+        let position = self.marks.len() as u64;
+        put(&mut self.marks, Mark::Crash { position, brick });
+    }
+
     /// Notes an operation that begins, and what it sends.
     pub fn begin(&mut self, brick: BrickId, ask: Ask, packets: Vec<Packet>)
         requires room { HasRoom self.old }
         requires few { vec_len packets ≤ 32 }
         ensures begun { (w : World) (step : NodeStep) → Tells self.old w
-            → packets.items ≡ step.packets → step.node.seq ≡ (w.nodes brick.0).seq + 1
+            → packets.items ≡ step.packets → step.node.boot ≡ (w.nodes brick.0).boot → step.node.seq ≡ (w.nodes brick.0).seq + 1
             → get call_cmp self.old.numbers (brick.0, step.node.seq) ≡ Some (w.begun + 1) → Tells self.new (world_began w brick ask step) }
         ensures marks { vec_len self.old.marks ≤ vec_len self.new.marks }
     {
@@ -237,7 +258,7 @@ impl History {
     /// The operation of a brick's call made a version, on this base.
     fn made(&mut self, brick: BrickId, seq: u64, stamp: Stamp, base: Option<Stamp>)
         ensures made { (w : World) → Tells self.old w → 1 ≤ seq → seq ≤ (w.nodes brick.0).seq
-            → (let n = w.numbers brick.0 seq in Tells self.new (record w { operations = changed w.operations n (with_made stamp base (w.operations n)) })) }
+            → (let n = number_of w brick.0 seq in Tells self.new (record w { operations = changed w.operations n (with_made stamp base (w.operations n)) })) }
         ensures marks { self.new.marks ≡ self.old.marks }
     {
         let number = self.number(brick, seq);
@@ -248,7 +269,7 @@ impl History {
     fn end(&mut self, brick: BrickId, seq: u64, answer: Answer, seen: Option<Stamp>)
         requires { vec_len self.old.marks < vec_capacity self.old.marks }
         ensures ended { (w : World) → Tells self.old w → 1 ≤ seq → seq ≤ (w.nodes brick.0).seq
-            → (let n = w.numbers brick.0 seq in Tells self.new (record w {
+            → (let n = number_of w brick.0 seq in Tells self.new (record w {
               marks = w.marks ++ End (length w.marks) n answer ∷ [];
               operations = changed w.operations n (with_answer answer seen (w.operations n));
             })) }
@@ -273,7 +294,7 @@ impl History {
         requires few { vec_len outs.packets ≤ 32 }
         ensures stepped { (w : World) (step : NodeStep) → Tells self.old w
             → outs.packets.items ≡ step.packets → outs.told ≡ step.told
-            → step.node.seq ≡ (w.nodes brick.0).seq → IsOfCall (w.nodes brick.0) step.told → Tells self.new (world_stepped w brick step step.told) }
+            → step.node.boot ≡ (w.nodes brick.0).boot → step.node.seq ≡ (w.nodes brick.0).seq → IsOfCall (w.nodes brick.0) step.told → Tells self.new (world_stepped w brick step step.told) }
         ensures marks { vec_len self.old.marks ≤ vec_len self.new.marks }
     {
         let Outs { packets, told } = outs;

@@ -1,6 +1,7 @@
 //! The whole disk over simulated bricks: a schedule's lines are run one after another, and each tells what it marks.
 #![tactic(auto)]
 
+mod bricks;
 mod histories;
 mod rooms;
 mod states;

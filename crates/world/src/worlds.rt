@@ -3,15 +3,15 @@
 ghost use Rattle.std.specs.Prelude.{◌≡◌, IfOk};
 ghost use Rattle.world.specs.Steps.{outcome_text};
 
+use crate::bricks::Power;
 use crate::rooms::put;
 use crate::states::{Outcome, State};
 use crate::texts::{idle_text, marks_text, refusal_text};
 use crate::walks;
 use fab_base::{BrickId, Bytes, GroupId, NoMem, StripeNo};
-use fab_wire::{Packet, Version};
+use fab_wire::Packet;
 use layout::Layout;
 use lines::{Line, parse};
-use node::Replica;
 use reg_model::{Happening, Mark};
 use std::alloc::Global;
 use std::marker::Model;
@@ -23,7 +23,6 @@ pub struct World {
     layout: Layout,
     lines: Vec<Line>,
     state: State,
-    fresh: Replica,
 }
 
 impl Model for World {
@@ -73,7 +72,8 @@ fn print(alloc: Global, outcome: Outcome, marks: &[Mark]) -> Result<Bytes, NoMem
 
 impl World {
     ghost use Rattle.std.specs.Prelude.{◌≡◌, ◌≤◌, [], None, IfOk, OnOk, OnErr, IsErrOf, length};
-    ghost use Rattle.std.specs.Option.{option_copied};
+    ghost use Rattle.std.specs.Option.{option_map};
+    ghost use Rattle.replica.specs.Parts.{part_seen};
     ghost use Rattle.lines.specs.Grammar.{line_of};
     ghost use Rattle.stripe_code.specs.Codes.{coding};
     ghost use Rattle.protocol.specs.Happenings.{happenings_of};
@@ -86,13 +86,11 @@ impl World {
         ensures { IfOk result (λ world. world ≡ record { layout = layout; lines = [] }) }
     {
         let state = State::new(alloc, &layout)?;
-        let fresh = Replica::first(alloc, layout.block())?;
         Ok(World {
             alloc,
             layout,
             lines: Vec::new(alloc),
             state,
-            fresh,
         })
     }
 
@@ -151,18 +149,24 @@ impl World {
         self.state.history.sent.as_slice()
     }
 
-    /// The log of a brick's part of a stripe, oldest version first. None exactly where there is no such brick, group or stripe.
-    pub fn log_of(&self, brick: BrickId, group: GroupId, stripe: StripeNo) -> Option<&[Version]>
-        ensures { option_copied result ≡ log_at self.now brick.0 group.0 stripe.0 }
+    /// A brick's part of a stripe, with its log, oldest version first. None exactly where there is no such group or stripe, or no such brick
+    /// that is up.
+    pub fn log_of(
+        &self,
+        brick: BrickId,
+        group: GroupId,
+        stripe: StripeNo,
+    ) -> Option<brick_store::State<'_>>
+        ensures { option_map (λ seen. (part_seen seen).log) result ≡ log_at self.now brick.0 group.0 stripe.0 }
     {
         let stripes = self.layout.group(group)?.stripes();
         if stripe.0 >= stripes {
             return None;
         }
         let brick = self.state.bricks.get(brick.0 as usize)?;
-        match brick.node.log(group, stripe) {
-            Some(log) => Some(log),
-            None => Some(self.fresh.log()),
+        match &brick.power {
+            Power::Up(node) => Some(node.log(group, stripe)),
+            Power::Down(_) => None,
         }
     }
 

@@ -1,13 +1,13 @@
 -- One more fresh brick; and fresh bricks are those of the first world.
 use Rattle.std.proofs.Common.{◌+◌, List, sym, subst, arith}
-use Rattle.world.specs.declared.states.Brick.{Brick}
+use Rattle.world.specs.declared.bricks.Brick.{Brick}
 use Rattle.world.proofs.NodeLemmas.{AreFresh, fresh_more, shows_fresh}
 use Rattle.world.proofs.states.fresh_bricks.Goals as goal
 
 pub loop-number-preserved : goal.loop-number-preserved
 loop-number-preserved c =
-    subst (λ (bricks : List Brick). AreFresh bricks (c.loop-number.number + 1)) (sym c.in_ok-push.ensures.items)
-    (fresh_more c.loop-number.bricks.items c.loop-number.number c.new.result c.loop-number.invariant c.new.ensures.me c.new.ensures.state c.new.ensures.node)
+    subst (λ (bricks : List Brick). AreFresh c.args.layout.now bricks (c.loop-number.number + 1)) (sym c.in_ok-push.ensures.items)
+    (fresh_more c.args.layout.now c.loop-number.bricks.items c.loop-number.number _ c.loop-number.invariant c.in_ok-fresh_brick.ensures)
 
 pub returns : goal.returns
 returns c = shows_fresh c.args.layout.now c.loop-number.bricks.items c.loop-number.number (omega arith) c.loop-number.invariant

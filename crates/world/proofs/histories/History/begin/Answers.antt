@@ -5,7 +5,7 @@ use Rattle.world.proofs.HistoryLemmas.{begun_known, tells_began}
 use Rattle.world.proofs.histories.History.begin.Goals as goal
 
 pub returns-clause-begun : goal.returns-clause-begun
-returns-clause-begun c w step tells sent next number =
+returns-clause-begun c w step tells sent boot next number =
     let place = c.len-position.ensures ∙ c.args.self.now.marks.ok.0 in
     let count = c.len.ensures ∙ c.args.self.now.operations.ok.0 in
     tells_began c.args.self.now _ w c.args.brick c.args.ask step tells
@@ -14,4 +14,4 @@ returns-clause-begun c w step tells sent next number =
     ∙ ap (λ n. c.args.self.now.marks.items ++ Begin (length c.args.self.now.marks.items) (n + 1) c.args.brick c.args.ask ∷ []) count)
     (c.put.ensures ∙ ap (λ writes. c.args.self.now.operations.items ++ record (begun_known c.len-position.result c.args.ask) { writes = writes } ∷ []) c.writes-writes.ensures
     ∙ ap (λ p. c.args.self.now.operations.items ++ begun_known p c.args.ask ∷ []) place)
-    refl next number
+    refl boot next number

@@ -10,13 +10,12 @@ use Rattle.world.proofs.RunLemmas.{shows_line}
 use Rattle.world.proofs.worlds.World.run.Goals as goal
 
 pub run-requires-clause-nodes : goal.run-requires-clause-nodes
-run-requires-clause-nodes c = nodes_of _ _ _ _ c.self.invariant.shows.bricks
+run-requires-clause-nodes c = nodes_of _ _ _ _ _ c.self.invariant.shows.bricks
 
 pub invariant_of-self-in_err-outcome : goal.invariant_of-self-in_err-outcome
 invariant_of-self-in_err-outcome c = record {
   shows = subst (λ (lines : List Line). Shows c.self.inside.layout c.run.new.self (world_of (record { layout = c.self.inside.layout; lines = lines })))
       (sym c.reserve.ensures.items) (c.in_err-outcome.ensures.err (world_of (run_of c.self.inside)) c.self.invariant.shows);
-  fresh = c.self.invariant.fresh;
 }
 
 pub invariant_of-self-2 : goal.invariant_of-self-2
@@ -24,7 +23,6 @@ invariant_of-self-2 c = record {
   shows = (shows_line c.self.inside.layout c.run.new.self c.self.inside.lines.items c.put.new.things.items c.args.line
       (c.put.ensures ∙ ap (λ (lines : List Line). lines ++ c.args.line ∷ []) c.reserve.ensures.items)
       (c.in_ok-outcome.ensures.shows (world_of (run_of c.self.inside)) (numbered (run_of c.self.inside)) c.self.invariant.shows));
-  fresh = c.self.invariant.fresh;
 }
 
 pub returns-clause-marks : goal.returns-clause-marks
