@@ -1,5 +1,5 @@
 -- What was printed of a whole schedule is strict.
-use Rattle.std.proofs.Common.{◌≡◌, ℕ, ◌+◌, Bool, true, false, List, [], ◌∷◌, ◌++◌, length, map, Option, Some, None, Result, Ok, Err, refl, sym, ap, ◌∙◌, arith, append_assoc}
+use Rattle.std.proofs.Common.{◌≡◌, ℕ, ◌+◌, Bool, true, false, List, [], ◌∷◌, ◌++◌, length, map, Option, Some, None, Result, Ok, Err, refl, sym, ap, subst, ◌∙◌, ◌⊎◌, inl, inr, ⊎_elim, arith, append_assoc}
 use Rattle.std.specs.Prelude.{nat_lt}
 use Rattle.lines.specs.declared.forms.Line.{Line}
 use Rattle.lines.specs.Grammar.{line_of}
@@ -15,7 +15,7 @@ use Rattle.layout.proofs.Accepted.{accepted_is}
 use Rattle.world.specs.Runs.{after_line, after_lines}
 use Rattle.world.specs.Texts.{text_of}
 use Rattle.world.proofs.RunLaws.{laws_of}
-use Rattle.replay.specs.declared.endings.Verdict.TheVariants.{Whole}
+use Rattle.replay.specs.declared.endings.Verdict.TheVariants.{Whole, BadLayout}
 use Rattle.replay.specs.Inputs.{Input, Parted, TooLong, Endless}
 use Rattle.replay.specs.Outputs.{onto, output_line, output_from, output_with, output_of, closing_text, most_lines}
 use Rattle.replay.specs.Replays.{lines_text, left_by, IsStrictWorld, IsLinearizable, StaysStrict}
@@ -89,14 +89,44 @@ over_layout head layout schedule is h =
       is_strict = strict_world layout (accepted_is head layout is) all.lines;
     }
 
+-- a text was read as a layout, or refused
+read_or_refused : (r : Result Layout LayoutFault) → ((fault : LayoutFault) × (r ≡ Err fault)) ⊎ ((layout : Layout) × (r ≡ Ok layout))
+read_or_refused (Err fault) = inl (fault, refl)
+read_or_refused (Ok layout) = inr (layout, refl)
+
+-- no output of a refused layout ends as whole
+refused_not_whole : (fault : LayoutFault) (schedule : List (List ℕ)) → (output_with (Err fault) schedule).verdict ≡ Whole → ⊥
+refused_not_whole fault schedule h = cc
+
+-- The same, of whatever the text before the schedule is read as. It goes by cases of that without matching it, so that no proof of a law is computed.
+by_layout : (head : List ℕ) (schedule : List (List ℕ)) (r : Result Layout LayoutFault) → layout_of head ≡ r
+    → (output_with r schedule).verdict ≡ Whole → IsLinearizable (Parted head schedule) (output_with r schedule).text
+by_layout head schedule r is h = ⊎_elim
+    (λ (refused : (fault : LayoutFault) × (r ≡ Err fault)).
+    absurd (refused_not_whole refused.0 schedule (subst (λ (x : Result Layout LayoutFault). (output_with x schedule).verdict ≡ Whole) refused.1 h)))
+    (λ (read : (layout : Layout) × (r ≡ Ok layout)).
+    subst (λ (x : Result Layout LayoutFault). IsLinearizable (Parted head schedule) (output_with x schedule).text) (sym read.1)
+    (over_layout head read.0 schedule (is ∙ read.1) (subst (λ (x : Result Layout LayoutFault). (output_with x schedule).verdict ≡ Whole) read.1 h)))
+    (read_or_refused r)
+
+-- the same of an input that has a schedule
+by_parts : (head : List ℕ) (schedule : List (List ℕ)) → (output_of (Parted head schedule)).verdict ≡ Whole
+    → IsLinearizable (Parted head schedule) (output_of (Parted head schedule)).text
+unfolding output_of
+by_parts head schedule h = by_layout head schedule (layout_of head) refl h
+
+-- no output of an input without a schedule ends as whole
+parted_or_not : (input : Input) → ((output_of input).verdict ≡ Whole → ⊥) ⊎ ((head : List ℕ) × (schedule : List (List ℕ)) × (input ≡ Parted head schedule))
+unfolding output_of
+parted_or_not TooLong = inl (λ h. let never : BadLayout ≡ Whole = h in cc)
+parted_or_not Endless = inl (λ h. let never : BadLayout ≡ Whole = h in cc)
+parted_or_not (Parted head schedule) = inr (head, schedule, refl)
+
 -- what was printed of an input that ends as whole is strict
 pub linearizable : (input : Input) → (output_of input).verdict ≡ Whole → IsLinearizable input (output_of input).text
-unfolding output_of
-linearizable TooLong h = cc
-linearizable Endless h = cc
-linearizable (Parted head schedule) h = by_layout (layout_of head) refl h
-  where
-    by_layout : (r : Result Layout LayoutFault) → layout_of head ≡ r → (output_with r schedule).verdict ≡ Whole
-        → IsLinearizable (Parted head schedule) (output_with r schedule).text
-    by_layout (Err fault) is h = cc
-    by_layout (Ok layout) is h = over_layout head layout schedule is h
+linearizable input h = ⊎_elim
+    (λ (no_schedule : (output_of input).verdict ≡ Whole → ⊥). absurd (no_schedule h))
+    (λ (parts : (head : List ℕ) × (schedule : List (List ℕ)) × (input ≡ Parted head schedule)).
+    subst (λ (x : Input). IsLinearizable x (output_of x).text) (sym parts.2)
+    (by_parts parts.0 parts.1 (subst (λ (x : Input). (output_of x).verdict ≡ Whole) parts.2 h)))
+    (parted_or_not input)
