@@ -12,10 +12,6 @@ use std::test::Fail;
 const TWO_OF_FOUR: &[u8] =
     b"block = 1\nbricks = 4\nrecords = 100\n[[group]]\nm = 2\nmembers = [0, 1, 2, 3]\nstripes = 4\n";
 
-/// Three bricks with a copy of every block, each with room for one live record.
-const ONE_RECORD: &[u8] =
-    b"block = 1\nbricks = 3\nrecords = 1\n[[group]]\nm = 1\nmembers = [0, 1, 2]\nstripes = 4\n";
-
 /// What lines print over the disk of a layout, and the world that they leave.
 fn run(alloc: Global, layout: &[u8], lines: &[&str]) -> Result<(String, World), Fail> {
     let layout = Layout::read(alloc, layout)?;
@@ -338,32 +334,6 @@ fn a_stamp_tells_that_its_brick_was_started_again(rt: HostRuntime) -> Result<(),
         3 end 2 done\n\
         4 end 1 aborted later 0 1.6.0.2\n";
     let (printed, _) = run(rt.alloc(), THREE_COPIES, &lines)?;
-    assert_eq!(rt; printed.as_str(), text);
-    Ok(())
-}
-
-#[test]
-fn a_full_store_aborts_a_write(rt: HostRuntime) -> Result<(), Fail> {
-    let lines = [
-        "writeall 0 0 0 41",
-        "deliver 1",
-        "deliver 2",
-        "deliver 4",
-        "deliver 5",
-        "deliver 6",
-        "deliver 9",
-        "crash 0",
-        "start 0",
-        "writeall 0 0 1 42",
-        "deliver 10",
-        "deliver 13",
-    ];
-    let text = "0 begin 1 0 writeall 0 0 41\n\
-        1 end 1 aborted full 0 1\n\
-        2 crash 0\n\
-        3 begin 2 0 writeall 0 1 42\n\
-        4 end 2 aborted full 0 1\n";
-    let (printed, _) = run(rt.alloc(), ONE_RECORD, &lines)?;
     assert_eq!(rt; printed.as_str(), text);
     Ok(())
 }
