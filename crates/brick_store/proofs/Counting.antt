@@ -1,12 +1,12 @@
 -- How many calls of the disk are made.
-use Rattle.std.proofs.Common.{◌≡◌, inl, inr, ⊎_elim, ℕ, ◌+◌, ◌≤◌, Result, Ok, Err, arith}
+use Rattle.std.proofs.Common.{◌≡◌, ◌⊎◌, inl, inr, ⊎_elim, ℕ, ◌+◌, ◌≤◌, Result, Ok, Err, arith}
 use Rattle.std.specs.Result.{OnOk}
 use Rattle.stamp_store.specs.declared.kept_records.Kept.TheVariants.{Boot, Ballots, Order}
 use Rattle.stamp_store.specs.declared.kept_records.Kept.TheVariants as kinds
 use Rattle.brick_state.specs.declared.records.Record.{Record}
 use Rattle.brick_state.specs.declared.records.Record.TheVariants as forms
 use Rattle.brick_store.specs.declared.faults.StoreFault.{StoreFault}
-use Rattle.brick_store.specs.Calls.{MakesCalls, MakesRoomCalls, Settles}
+use Rattle.brick_store.specs.Calls.{MakesCalls, MakesRoomCalls}
 use Rattle.brick_store.specs.Sizes.{most}
 
 -- no frame of a record is longer
@@ -29,8 +29,7 @@ pub change_counted : (r : Result (Unit {0}) StoreFault) (room : Type 0) (calls a
 change_counted (Ok u) room calls a b h = h.made
 change_counted (Err e) room calls a b h = tt
 
--- the list was settled, and then the opening was counted
-pub start_counted : (r : Result (Unit {0}) StoreFault) (room : Type 0) (a b c : ℕ) → Settles room a b → OnOk r (MakesRoomCalls room 4 b c) → OnOk r (MakesCalls 5 a c)
-start_counted (Err e) room a b c first second = tt
-start_counted (Ok u) room a b c (inl one) second = ⊎_elim (λ four. inl (omega (arith, one, four))) (λ more. inr (omega (arith, one, more))) second.made
-start_counted (Ok u) room a b c (inr eight) second = inr (omega (arith, eight.0, second.at_once eight.1))
+-- the disk was synced and the list perhaps rewritten, and then the opening was counted
+pub start_counted : (r : Result (Unit {0}) StoreFault) (a b c : ℕ) → (b ≡ a + 1) ⊎ (b ≡ a + 8) → OnOk r (c ≡ b + 4) → OnOk r (MakesCalls 5 a c)
+start_counted (Err e) a b c first second = tt
+start_counted (Ok u) a b c first second = ⊎_elim (λ one. inl (omega (arith, one, second))) (λ eight. inr (omega (arith, eight, second))) first

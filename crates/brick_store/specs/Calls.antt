@@ -21,7 +21,3 @@ HasFrameRoom shape frames = Fits shape frames 145
 pub record MakesRoomCalls (room : Type 0) (calls before after : ℕ) : Type 0 where
   pub made : MakesCalls calls before after
   pub at_once : room → after ≡ before + calls
-
--- a sync alone, or a list that was written anew as well, with room behind it
-abbrev pub Settles : Type 0 → ℕ → ℕ → Type 0
-Settles room before after = (after ≡ before + 1) ⊎ ((after ≡ before + 8) × room)

@@ -78,4 +78,4 @@ IsRefused halted adds records live result =
 
 -- room for one append
 abbrev pub HasAppendRoom : {D : Type 0} → (D → ℕ → ℕ → ℕ → Type 0) → Held D → ℕ → Type 0
-HasAppendRoom has_room frames body = HasRoom has_room frames 6 (frames.shape.block + body + 7) (body + 6) (length frames.frames + 1) body
+HasAppendRoom has_room frames body = HasRoom has_room frames 5 (frames.shape.block + body + 7) (body + 6) (length frames.frames + 1) body

@@ -1,19 +1,21 @@
-//! A list of frames that ended early is written anew before anything is appended to it.
+//! A store that was read is made ready for the count of its opening: a list of frames that ended early, or that has no room for
+//! one more, is written anew before anything is appended to it.
 
-ghost use Rattle.std.specs.Prelude.{◌≡◌, ◌⊎◌, ◌+◌, true, false, None, Err, OnOk, OnErr};
+ghost use Rattle.std.specs.Prelude.{◌≡◌, ◌⊎◌, ◌+◌, ◌≤◌, true, false, None, Err, OnOk, OnErr};
 ghost use Rattle.std.specs.List.{AllByRecursion};
-ghost use Rattle.fab_disk.specs.Disk.{LeavesOnly, Kept};
+ghost use Rattle.fab_disk.specs.Disk.{IsUntouched, LeavesOnly, Kept};
+ghost use Rattle.frame_store.specs.Layouts.{IsShape};
 ghost use Rattle.frame_store.specs.Images.{KeepsSlots};
-ghost use Rattle.frame_store.specs.Stores.{IsDurable, IsRead};
+ghost use Rattle.frame_store.specs.Listed.{Fits};
+ghost use Rattle.frame_store.specs.Stores.{IsRead};
 ghost use Rattle.brick_state.specs.States.{empty};
 ghost use Rattle.brick_state.specs.Folds.{folded};
 ghost use Rattle.brick_state.specs.Indexes.{state_of};
 ghost use Rattle.brick_state.specs.Indexes as indexes;
 ghost use Rattle.brick_state.specs.KeptStates.{IsKeptState};
 ghost use Rattle.brick_store.specs.Images.{records_of, limits_of};
-ghost use Rattle.brick_store.specs.Calls.{HasFrameRoom, Settles};
 ghost use Rattle.brick_store.specs.Standing.{GroupHasMembers, Leads};
-ghost use Rattle.brick_store.specs.Steps.{MayStep};
+ghost use Rattle.brick_store.specs.Steps.{MayStep, HasAppendRoom};
 ghost use Rattle.brick_store.specs.Openings.{IsKeptIn, IsAllowedOr};
 
 use crate::faults::StoreFault;
@@ -23,41 +25,51 @@ use fab_disk::Disk;
 use frame_store::FrameStore;
 use std::alloc::Global;
 
-// Puts the frames of what the index keeps in the place of the list. At each moment each image opens as frames of this state,
-// where a closed gate stood after the list.
-fn replace_list<D: Disk>(
+// Syncs the disk and puts the frames of what the index keeps in the place of the list. At each moment each image opens as frames
+// of this state, where a closed gate stood after the list, or was allowed before the sync.
+fn renew<D: Disk>(
     alloc: Global,
     frames: &mut FrameStore<D>,
     index: &Index,
+    body: usize,
 ) -> Result<(), StoreFault>
+    requires shape { IsShape frames.old.shape }
     requires runs { frames.old.halted ≡ false }
     requires read { IsRead D.tells D.seen frames.old }
-    requires durable { D.tells → IsDurable D.tells D.seen D.may_leave frames.old }
     requires limits { indexes.limits_of index.now ≡ limits_of frames.old.shape }
     requires kept { IsKeptState (limits_of frames.old.shape) (state_of index.now) }
     requires members { AllByRecursion GroupHasMembers (state_of index.now).groups }
     requires found { folded (limits_of frames.old.shape) (records_of frames.old.frames) empty ≡ state_of index.now }
+    requires small { body ≤ 145 }
     ensures may { OnOk result (MayStep D.tells D.seen D.may_leave D.moment D.left_since (state_of index.now) frames.new) }
     ensures shape { frames.new.shape ≡ frames.old.shape }
     ensures slots { D.tells → OnOk result (KeepsSlots frames.old.shape None (D.seen frames.old.disk) (D.seen frames.new.disk)) }
-    ensures moments { D.tells → frames.old.closed ≡ true → LeavesOnly D.moment D.left_since frames.old.disk frames.new.disk (IsKeptIn frames.old.shape (state_of index.now) (D.seen frames.old.disk)) }
+    ensures moments { D.tells → frames.old.closed ≡ true → LeavesOnly D.moment D.left_since frames.old.disk frames.new.disk (IsAllowedOr (D.may_leave frames.old.disk) (IsKeptIn frames.old.shape (state_of index.now) (D.seen frames.old.disk))) }
     ensures only { OnErr result ((result ≡ Err StoreFault.Disk) ⊎ (result ≡ Err StoreFault.NoMemory)) }
-    ensures counted { D.tells → OnOk result (D.moment frames.new.disk ≡ D.moment frames.old.disk + 7) }
-    ensures room { OnOk result (HasFrameRoom frames.new.shape frames.new.frames) }
+    ensures no_memory { result ≡ Err StoreFault.NoMemory → IsUntouched D.seen D.may_leave D.moment D.left_since frames.old.disk frames.new.disk }
+    ensures fits { OnOk result (Fits frames.new.shape frames.new.frames body) }
+    ensures room { OnOk result (HasAppendRoom D.has_room frames.new body) }
+    ensures counted { D.tells → OnOk result (D.moment frames.new.disk ≡ D.moment frames.old.disk + 8) }
     ensures cause { Kept (D.faults frames.old.disk) (D.faults frames.new.disk) (D.sound frames.old.disk) (D.sound frames.new.disk) (result ≡ Err StoreFault.Disk) }
 {
     let live = live_frames(alloc, index)?;
+    frames.reserve(&live, body)?;
+    frames.sync()?;
     frames.rewrite(live)?;
     Ok(())
 }
 
-/// Syncs the disk, and where the list of frames ended early puts the frames of what the index keeps in its place.
+/// Makes a store that was read ready for one append of a frame with a body of this length: syncs the disk, and where the list of
+/// frames ended early, or has no room for the frame, puts the frames of what the index keeps in its place. All memory for this
+/// and for the append is taken before the disk is touched.
 pub fn settle<D: Disk>(
     alloc: Global,
     frames: &mut FrameStore<D>,
     index: &Index,
     whole: bool,
+    body: usize,
 ) -> Result<(), StoreFault>
+    requires shape { IsShape frames.old.shape }
     requires runs { frames.old.halted ≡ false }
     requires read { IsRead D.tells D.seen frames.old }
     requires limits { indexes.limits_of index.now ≡ limits_of frames.old.shape }
@@ -65,17 +77,22 @@ pub fn settle<D: Disk>(
     requires members { AllByRecursion GroupHasMembers (state_of index.now).groups }
     requires found { folded (limits_of frames.old.shape) (records_of frames.old.frames) empty ≡ state_of index.now }
     requires whole { whole ≡ true → Leads (limits_of frames.old.shape) frames.old.frames empty (state_of index.now) }
+    requires small { body ≤ 145 }
     ensures may { OnOk result (MayStep D.tells D.seen D.may_leave D.moment D.left_since (state_of index.now) frames.new) }
     ensures shape { frames.new.shape ≡ frames.old.shape }
     ensures slots { D.tells → OnOk result (KeepsSlots frames.old.shape None (D.seen frames.old.disk) (D.seen frames.new.disk)) }
     ensures moments { D.tells → frames.old.closed ≡ true → LeavesOnly D.moment D.left_since frames.old.disk frames.new.disk (IsAllowedOr (D.may_leave frames.old.disk) (IsKeptIn frames.old.shape (state_of index.now) (D.seen frames.old.disk))) }
     ensures only { OnErr result ((result ≡ Err StoreFault.Disk) ⊎ (result ≡ Err StoreFault.NoMemory)) }
-    ensures counted { D.tells → OnOk result (Settles (HasFrameRoom frames.new.shape frames.new.frames) (D.moment frames.old.disk) (D.moment frames.new.disk)) }
+    ensures no_memory { result ≡ Err StoreFault.NoMemory → IsUntouched D.seen D.may_leave D.moment D.left_since frames.old.disk frames.new.disk }
+    ensures fits { OnOk result (Fits frames.new.shape frames.new.frames body) }
+    ensures room { OnOk result (HasAppendRoom D.has_room frames.new body) }
+    ensures counted { D.tells → OnOk result ((D.moment frames.new.disk ≡ D.moment frames.old.disk + 1) ⊎ (D.moment frames.new.disk ≡ D.moment frames.old.disk + 8)) }
     ensures cause { Kept (D.faults frames.old.disk) (D.faults frames.new.disk) (D.sound frames.old.disk) (D.sound frames.new.disk) (result ≡ Err StoreFault.Disk) }
 {
-    frames.sync()?;
-    if whole && frames.is_closed() {
+    if whole && frames.is_closed() && frames.fits(body) {
+        frames.reserve(&[], body)?;
+        frames.sync()?;
         return Ok(());
     }
-    replace_list(alloc, frames, index)
+    renew(alloc, frames, index, body)
 }

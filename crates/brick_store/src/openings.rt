@@ -1,6 +1,6 @@
 //! Opening a store.
 
-ghost use Rattle.std.specs.Prelude.{◌≡◌, ◌≢◌, ◌⊎◌, ℕ, ◌+◌, ◌-◌, ◌≤◌, ◌<◌, ◌^◌, false, IfOk, IfErr};
+ghost use Rattle.std.specs.Prelude.{◌≡◌, ◌≢◌, ℕ, ◌+◌, ◌-◌, ◌≤◌, ◌<◌, ◌^◌, false, IfOk, IfErr};
 ghost use Rattle.fab_disk.specs.Disk.{IsUntouched, LeavesOnly, Kept};
 ghost use Rattle.frame_store.specs.Layouts.{shape_of};
 ghost use Rattle.frame_store.specs.Images.{IsNoStore};
@@ -22,7 +22,8 @@ use std::alloc::Global;
 ///
 /// # Errors
 /// Each hands the disk back. [`StoreFault::NotAStore`]: neither header is open. [`StoreFault::Worn`]: the store was opened
-/// 2^32 - 1 times. [`StoreFault::Disk`]: the disk failed. [`StoreFault::NoMemory`]: memory was refused.
+/// 2^32 - 1 times. [`StoreFault::Disk`]: the disk failed. [`StoreFault::NoMemory`]: memory was refused, before the
+/// disk changed.
 pub fn open_store<D: Disk>(
     alloc: Global,
     disk: D,
@@ -49,7 +50,8 @@ pub fn open_store<D: Disk>(
     ensures not_a_store { IfErr result (λ e. e.0 ≡ StoreFault.NotAStore → D.tells → IsNoStore (shape_of me.0 block records) (D.seen disk)) }
     // There was a store, and it was opened as often as it can be.
     ensures worn { IfErr result (λ e. e.0 ≡ StoreFault.Worn → D.tells → (st : StateOf Version) × IsFound (shape_of me.0 block records) st (D.seen disk) × (st.boot ≡ 2 ^ 32 - 1)) }
-    ensures unchanged { IfErr result (λ e. (e.0 ≡ StoreFault.NotAStore) ⊎ (e.0 ≡ StoreFault.Worn) → IsUntouched D.seen D.may_leave D.moment D.left_since disk e.1) }
+    // Each fault but Disk comes before the disk is changed.
+    ensures unchanged { IfErr result (λ e. e.0 ≢ StoreFault.Disk → IsUntouched D.seen D.may_leave D.moment D.left_since disk e.1) }
     // No other fault is answered.
     ensures not_halted { IfErr result (λ e. e.0 ≢ StoreFault.Halted) }
     ensures not_full { IfErr result (λ e. (n : ℕ) → e.0 ≢ StoreFault.Full n) }

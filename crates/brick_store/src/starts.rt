@@ -1,33 +1,62 @@
 //! Making a store go on once it was read.
 
-ghost use Rattle.std.specs.Prelude.{◌≡◌, ◌⊎◌, ◌+◌, ◌-◌, ◌<◌, ◌^◌, true, false, None, Err, OnOk, OnErr};
+ghost use Rattle.std.specs.Prelude.{◌≡◌, ◌≢◌, ◌⊎◌, ◌+◌, ◌-◌, ◌<◌, ◌^◌, true, false, Some, None, IsSome, Err, OnOk, OnErr, length};
 ghost use Rattle.std.specs.List.{AllByRecursion};
-ghost use Rattle.fab_disk.specs.Disk.{LeavesOnly};
+ghost use Rattle.fab_disk.specs.Disk.{IsUntouched, LeavesOnly};
 ghost use Rattle.fab_disk.specs.Disk as disks;
 ghost use Rattle.frame_store.specs.Layouts.{IsShape};
 ghost use Rattle.frame_store.specs.Images.{KeepsSlots};
+ghost use Rattle.frame_store.specs.Listed.{Fits};
 ghost use Rattle.frame_store.specs.Stores.{IsRead};
 ghost use Rattle.brick_state.specs.States.{empty, booted};
-ghost use Rattle.brick_state.specs.Folds.{folded};
-ghost use Rattle.brick_state.specs.Indexes.{state_of};
+ghost use Rattle.brick_state.specs.Folds.{applied, folded};
+ghost use Rattle.brick_state.specs.Indexes.{state_of, IsReady};
 ghost use Rattle.brick_state.specs.Indexes as indexes;
 ghost use Rattle.brick_state.specs.KeptStates.{IsKeptState};
-ghost use Rattle.brick_store.specs.Images.{records_of, limits_of};
+ghost use Rattle.brick_store.specs.Images.{record_of, records_of, limits_of};
 ghost use Rattle.brick_store.specs.Standing.{GroupHasMembers, Leads};
 ghost use Rattle.brick_store.specs.Calls.{MakesCalls};
-ghost use Rattle.brick_store.specs.Steps.{IsSettled};
+ghost use Rattle.brick_store.specs.Steps.{IsSettled, Step, MayStep, changed, HasAppendRoom};
 ghost use Rattle.brick_store.specs.Openings.{IsAllowedOr, IsKeptInEither};
 
-use crate::commits::commit;
 use crate::faults::StoreFault;
 use crate::fresh_lists::settle;
+use crate::index_steps::apply;
+use crate::rewrites::frame_of;
 use brick_state::{Index, Record};
 use fab_disk::Disk;
-use frame_store::FrameStore;
+use frame_store::{Frame, FrameStore};
 use stamp_store::Kept;
 use std::alloc::Global;
 
-/// Syncs the disk, writes a list that ended early anew, and counts the opening.
+// Appends the frame of a record that can be, for which there is room in the half and in memory, and makes its change.
+fn append_count<D: Disk>(
+    frames: &mut FrameStore<D>,
+    index: &mut Index,
+    item: &Record,
+    frame: &Frame,
+) -> Result<(), StoreFault>
+    requires may { MayStep D.tells D.seen D.may_leave D.moment D.left_since (state_of index.old) frames.old }
+    requires limits { indexes.limits_of index.old ≡ limits_of frames.old.shape }
+    requires read { record_of frame.now ≡ Some item.now }
+    requires can { IsSome (applied (indexes.limits_of index.old) item.now (state_of index.old)) }
+    requires ready { IsReady index.old item.now }
+    requires fits { Fits frames.old.shape frames.old.frames (length frame.now.body) }
+    requires room { HasAppendRoom D.has_room frames.old (length frame.now.body) }
+    ensures step { Step D.tells D.seen D.may_leave D.moment D.left_since None (state_of index.old) (changed (indexes.limits_of index.old) item.now (state_of index.old)) frames.old frames.new result }
+    ensures made { OnOk result (state_of index.new ≡ changed (indexes.limits_of index.old) item.now (state_of index.old)) }
+    ensures limits { indexes.limits_of index.new ≡ indexes.limits_of index.old }
+    ensures no_memory { result ≢ Err StoreFault.NoMemory }
+    ensures counted { D.tells → OnOk result (D.moment frames.new.disk ≡ D.moment frames.old.disk + 4) }
+    ensures cause { disks.Kept (D.faults frames.old.disk) (D.faults frames.new.disk) (D.sound frames.old.disk) (D.sound frames.new.disk) (result ≡ Err StoreFault.Disk) }
+{
+    frames.append(frame.kind, frame.body.as_slice())?;
+    apply(index, item);
+    Ok(())
+}
+
+/// Syncs the disk, writes a list that ended early or is full anew, and counts the opening. Memory is refused before the disk is
+/// touched.
 #[tactic(auto, unfolding(brick_state::specs::Folds::applied))]
 pub fn start<D: Disk>(
     alloc: Global,
@@ -53,10 +82,12 @@ pub fn start<D: Disk>(
     ensures slots { D.tells → OnOk result (KeepsSlots frames.old.shape None (D.seen frames.old.disk) (D.seen frames.new.disk)) }
     ensures moments { D.tells → frames.old.closed ≡ true → LeavesOnly D.moment D.left_since frames.old.disk frames.new.disk (IsAllowedOr (D.may_leave frames.old.disk) (IsKeptInEither frames.old.shape (state_of index.old) (booted ((state_of index.old).boot + 1) (state_of index.old)) (D.seen frames.old.disk))) }
     ensures only { OnErr result ((result ≡ Err StoreFault.Disk) ⊎ (result ≡ Err StoreFault.NoMemory)) }
+    ensures no_memory { result ≡ Err StoreFault.NoMemory → IsUntouched D.seen D.may_leave D.moment D.left_since frames.old.disk frames.new.disk }
     ensures counted { D.tells → OnOk result (MakesCalls 5 (D.moment frames.old.disk) (D.moment frames.new.disk)) }
     ensures cause { disks.Kept (D.faults frames.old.disk) (D.faults frames.new.disk) (D.sound frames.old.disk) (D.sound frames.new.disk) (result ≡ Err StoreFault.Disk) }
 {
-    settle(alloc, frames, index, whole)?;
-    let count = index.boot() + 1;
-    commit(alloc, frames, index, &Record::Kept(Kept::Boot(count)))
+    let item = Record::Kept(Kept::Boot(index.boot() + 1));
+    let frame = frame_of(alloc, &item)?;
+    settle(alloc, frames, index, whole, frame.body.len())?;
+    append_count(frames, index, &item, &frame)
 }

@@ -1,6 +1,6 @@
 //! Taking up the store that a list of frames makes.
 
-ghost use Rattle.std.specs.Prelude.{◌≡◌, ◌≢◌, ◌+◌, ◌-◌, ◌<◌, ◌^◌, ℕ, true, false, Err, IfOk, IsOk};
+ghost use Rattle.std.specs.Prelude.{◌≡◌, ◌≢◌, ◌+◌, ◌-◌, ◌<◌, ◌^◌, ℕ, true, false, Err, IfOk, IfErr, IsOk};
 ghost use Rattle.fab_disk.specs.Disk.{IsUntouched, LeavesOnly, Kept};
 ghost use Rattle.frame_store.specs.Layouts.{IsShape};
 ghost use Rattle.frame_store.specs.Stores.{IsRead};
@@ -29,7 +29,7 @@ pub(crate) struct TakenUp {
 }
 
 /// Reads the store that the frames make into memory, and counts the opening. NotAStore only where the file changed since its
-/// frames were read; Worn and NotAStore come before the disk is touched.
+/// frames were read. All faults but Disk come before the disk is touched.
 pub(crate) fn take_up<D: Disk>(
     alloc: Global,
     frames: &mut FrameStore<D>,
@@ -49,8 +49,7 @@ pub(crate) fn take_up<D: Disk>(
     ensures moments { D.tells → frames.old.closed ≡ true → LeavesOnly D.moment D.left_since frames.old.disk frames.new.disk (IsAllowedOr (D.may_leave frames.old.disk) (IsKeptInEither frames.old.shape (found_in frames.old.shape frames.old.frames) (booted ((found_in frames.old.shape frames.old.frames).boot + 1) (found_in frames.old.shape frames.old.frames)) (D.seen frames.old.disk))) }
     ensures boots { IsOk result → (found_in frames.old.shape frames.old.frames).boot < 2 ^ 32 - 1 }
     ensures worn { result ≡ Err StoreFault.Worn → (found_in frames.old.shape frames.old.frames).boot ≡ 2 ^ 32 - 1 }
-    ensures unchanged { result ≡ Err StoreFault.Worn → IsUntouched D.seen D.may_leave D.moment D.left_since frames.old.disk frames.new.disk }
-    ensures unchanged_no_store { result ≡ Err StoreFault.NotAStore → IsUntouched D.seen D.may_leave D.moment D.left_since frames.old.disk frames.new.disk }
+    ensures unchanged { IfErr result (λ fault. fault ≢ StoreFault.Disk → IsUntouched D.seen D.may_leave D.moment D.left_since frames.old.disk frames.new.disk) }
     ensures not_halted { result ≢ Err StoreFault.Halted }
     ensures not_full { (n : ℕ) → result ≢ Err (StoreFault.Full n) }
     ensures a_store { D.tells → result ≢ Err StoreFault.NotAStore }

@@ -10,20 +10,6 @@ use fab_wire::{Call, Message, Reply, Version};
 use protocol::{Counted, Phase};
 use std::alloc::Global;
 
-/// The seat of a brick among the members, the first if there are several.
-pub fn seat_of(members: &[BrickId], brick: BrickId) -> Option<u8>
-    requires { length members.now ≤ 32 }
-    ensures seat { result ≡ seat_in members.now brick.0 }
-    ensures within { IfSome result (λ seat. seat < length members.now) }
-{
-    for (seat, member) in members.iter().enumerate() {
-        if member.0 == brick.0 {
-            return Some(seat as u8);
-        }
-    }
-    None
-}
-
 /// Whether two calls are the same, phase and all.
 fn is_same_call(left: Call, right: Call) -> bool
     ensures { result ≡ call_same left right }
@@ -94,7 +80,7 @@ impl Operation {
         if !is_to_this_phase {
             return None;
         }
-        let seat = seat_of(self.group.members().as_slice(), from)?;
+        let seat = self.group.seat_of(from)?;
         if has_reply(seat, self.counted.as_slice()) {
             return None;
         }

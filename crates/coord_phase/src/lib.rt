@@ -11,6 +11,5 @@ mod refusals;
 mod stages;
 mod versions;
 
-pub use counting::seat_of;
 pub use operations::{Operation, Stage};
 pub use stages::MOST_ROUNDS;

@@ -1,10 +1,10 @@
 //! Groups.
 
-ghost use Rattle.std.specs.Prelude.{◌≡◌, ◌↔◌, IsSome, IfSome, length};
+ghost use Rattle.std.specs.Prelude.{◌≡◌, ◌↔◌, ◌<◌, IsSome, IfSome, length};
 ghost use Rattle.quorum.specs.Quorums.{IsWithinLimits};
-ghost use Rattle.protocol.specs.Settings.{quorum_of};
+ghost use Rattle.protocol.specs.Settings.{quorum_of, seat_in};
 
-use fab_base::Members;
+use fab_base::{BrickId, Members};
 use quorum::Policy;
 use std::marker::Model;
 
@@ -59,6 +59,20 @@ impl Group {
         ensures { result.now ≡ self.now.members }
     {
         &self.members
+    }
+
+    /// The seat of a brick among the members, the first if there are several. None where it is no member.
+    pub fn seat_of(&self, brick: BrickId) -> Option<u8>
+        ensures seat { result ≡ seat_in self.now.members brick.0 }
+        ensures within { IfSome result (λ seat. seat < length self.now.members) }
+    {
+        let _ = self.policy.m();
+        for (seat, member) in self.members.as_slice().iter().enumerate() {
+            if member.0 == brick.0 {
+                return Some(seat as u8);
+            }
+        }
+        None
     }
 
     /// The sizes of its view and of its quorums.

@@ -84,7 +84,7 @@ impl<D: Disk> Node<D> {
         ensures not_a_store { IfErr result (λ e. e.0 ≡ StoreFault.NotAStore → D.tells → (IsNoStore (shape_at layout me) (D.seen disk) × IsUntouched D.seen D.may_leave D.moment D.left_since disk e.1) ⊎ ((st : StateOf Version) × IsFound (shape_at layout me) st (D.seen disk) × (IsFirstView st → ⊥))) }
         // There was a store, and it was opened as often as it can be.
         ensures worn { IfErr result (λ e. e.0 ≡ StoreFault.Worn → D.tells → (st : StateOf Version) × IsFound (shape_at layout me) st (D.seen disk) × (st.boot ≡ 2 ^ 32 - 1)) }
-        ensures unchanged { IfErr result (λ e. e.0 ≡ StoreFault.Worn → IsUntouched D.seen D.may_leave D.moment D.left_since disk e.1) }
+        ensures unchanged { IfErr result (λ e. (e.0 ≡ StoreFault.Worn) ⊎ (e.0 ≡ StoreFault.NoMemory) → IsUntouched D.seen D.may_leave D.moment D.left_since disk e.1) }
         // No other fault is answered.
         ensures not_halted { IfErr result (λ e. e.0 ≢ StoreFault.Halted) }
         ensures not_full { IfErr result (λ e. (n : ℕ) → e.0 ≢ StoreFault.Full n) }

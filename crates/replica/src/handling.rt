@@ -65,19 +65,6 @@ fn carry_out<D: Disk>(
     }
 }
 
-// The seat of a brick among the members of a group, the first if there are several.
-fn seat_of(members: &[BrickId], brick: BrickId) -> Option<u8>
-    requires { length members.now ≤ 32 }
-    ensures { result ≡ seat_in members.now brick.0 }
-{
-    for (seat, member) in members.iter().enumerate() {
-        if member.0 == brick.0 {
-            return Some(seat as u8);
-        }
-    }
-    None
-}
-
 // Whether a call is of a stripe that the group has, in its first view.
 fn is_served(group: &Group, call: Call) -> bool
     ensures { result ≡ is_served group.now call }
@@ -108,7 +95,7 @@ fn seat_served(layout: &Layout, me: BrickId, call: Call, request: &Request) -> O
     let group = layout.group(call.group)?;
     let _ = group.policy();
     if is_served(group, call) && fits_block(layout.block(), request) {
-        seat_of(group.members().as_slice(), me)
+        group.seat_of(me)
     } else {
         None
     }

@@ -75,20 +75,15 @@ rests_off layout me state node disk runs same seen durable =
       sound = subst IsSound (sym same) runs.sound;
     })
 
--- a copy of a disk at rest, which remembers no call
-pub rests_copied : (layout : Layout) (me : BrickId) (state : machine.Node) (disk made : MemDisk) → content_of made ≡ content_of disk
-    → past_of_disk made ≡ [] → IsSound made → Rests layout me state disk → Rests layout me state made
-rests_copied layout me state disk made content past sound rests =
-    let seen : ImageShows layout me state (content_of made) =
-    subst (λ (image : List ℕ). ImageShows layout me state image) (sym content) rests.seen
-    in
-    record {
-      seen = seen;
-      durable = λ image left.
-          let same : image ≡ content_of made = subst (λ p. IsImage p (content_of made) image) past left in
-          subst (λ (x : List ℕ). ImageShows layout me state x) (sym same) seen;
-      sound = sound;
-    }
+-- a disk at rest that was left alone
+pub rests_still : (layout : Layout) (me : BrickId) (state : machine.Node) (disk new : MemDisk) → content_of new ≡ content_of disk
+    → ((image : List ℕ) → IsImage (past_of_disk new) (content_of new) image → IsImage (past_of_disk disk) (content_of disk) image) → (IsSound disk → IsSound new)
+    → Rests layout me state disk → Rests layout me state new
+rests_still layout me state disk new content crash sound rests = record {
+  seen = subst (λ (image : List ℕ). ImageShows layout me state image) (sym content) rests.seen;
+  durable = λ image left. rests.durable image (crash image left);
+  sound = sound rests.sound;
+}
 
 -- no view was learnt of any group of a fresh store
 no_view : (n g : ℕ) → (slice_index_or (replicate n no_group) g no_group).known ≡ None
@@ -107,6 +102,22 @@ empty_shows layout me block records image block_is records_is stands = record {
   first = λ g. no_view 64 g;
 }
 
+-- whether a store may be opened once more
+may_open_is : (n m : ℕ) → n ≡ m → m < 2 ^ 32 - 1 → nat_lt (n + 1) (2 ^ 32) ≡ true
+may_open_is n m is less = grind (arith, nat_tests)
+
+may_open_not : (n m : ℕ) → n ≡ m → m ≡ 2 ^ 32 - 1 → nat_lt (n + 1) (2 ^ 32) ≡ false
+may_open_not n m is most = grind (arith, nat_tests)
+
+-- a brick whose store was opened as often as it can be
+pub is_spent : (layout made : Layout) (me : BrickId) (disk : MemDisk) (state : machine.Node) → made ≡ layout → Rests layout me state disk
+    → ((st : StateOf Version) × IsFound (shape_at made me) st (content_of disk) × (st.boot ≡ 2 ^ 32 - 1)) → machine.may_open 1 state ≡ false
+is_spent layout made me disk state same rests found =
+    let seen : ImageShows made me state (content_of disk) =
+    subst (λ (l : Layout). ImageShows l me state (content_of disk)) (sym same) rests.seen
+    in
+    may_open_not state.boot found.0.boot (found_boot made me state found.0 (content_of disk) found.1 seen) found.2
+
 -- a brick that was started over its disk
 pub runs_over : (layout made : Layout) (me : BrickId) (disk : MemDisk) (node : Running MemDisk) (state : machine.Node) → made ≡ layout
     → Rests layout me state disk → node.layout ≡ made → node.me ≡ me → node.brick.halted ≡ false
@@ -118,10 +129,7 @@ runs_over layout made me disk node state same rests layout_is me_is runs state_i
     subst (λ (l : Layout). ImageShows l me state (content_of disk)) (sym same) rests.seen
     in
     let boot : state.boot ≡ found.0.boot = found_boot made me state found.0 (content_of disk) found.1 seen in
-    (may state.boot found.0.boot boot found.2, record { layout_is = layout_is ∙ same; me_is = me_is; state_is = state_is state seen; runs = runs; sound = sound rests.sound })
-  where
-    may : (n m : ℕ) → n ≡ m → m < 2 ^ 32 - 1 → nat_lt (n + 1) (2 ^ 32) ≡ true
-    may n m is less = grind (arith, nat_tests)
+    (may_open_is state.boot found.0.boot boot found.2, record { layout_is = layout_is ∙ same; me_is = me_is; state_is = state_is state seen; runs = runs; sound = sound rests.sound })
 
 -- a brick that took a step
 pub still_runs : (layout : Layout) (me : BrickId) (state next : machine.Node) (node new : Running MemDisk) → Runs layout me state node → IsSameBrick node new

@@ -1,6 +1,6 @@
 -- What the bricks show, after a step of one of them.
 use Rattle.std.proofs.Common.{◌≡◌, ◌≢◌, ℕ, ◌+◌, ◌^◌, ◌<◌, ◌≤◌, ◌&&◌, Bool, true, false, not, ap₂, ⊎_elim, List, [], ◌∷◌, ◌++◌, length, set, get_or, Option, Some, None, refl, sym, ap, ◌∙◌, subst, arith, length-append}
-use Rattle.std.specs.Prelude.{slice_get, Result, IfOk, OnErr}
+use Rattle.std.specs.Prelude.{slice_get, Result, Ok, Err, IfOk, OnErr}
 use Rattle.std.specs.Option.{ForSome, SomeIff}
 use Rattle.std.proofs.lemmas.Bool.Decides.{nat_tests}
 use Rattle.std.proofs.lemmas.List.{length-set}
@@ -24,7 +24,7 @@ use Rattle.protocol.specs.Worlds.{World, first_world, is_brick, is_up, may_start
 use Rattle.protocol.specs.Settings.{Layout}
 use Rattle.protocol.specs.Nodes as machine
 use Rattle.world.specs.Runs.{brick_of}
-use Rattle.world.specs.States.{Runs, Rests, ShowsPower, ShowsBrick, ShowsBricks, ShowsStarted, IsNodeOf, IsOn, IsUp, FindsUp, AreNodesOf}
+use Rattle.world.specs.States.{Runs, Rests, ShowsPower, ShowsBrick, ShowsBricks, ShowsStarted, IsNodeOf, IsOn, IsUp, FindsUp, AreNodesOf, TurnsOn}
 use Rattle.world.specs.declared.bricks.Brick.{Brick}
 use Rattle.world.specs.declared.bricks.Power.{Power}
 use Rattle.world.specs.declared.bricks.Power.TheVariants.{Up, Down}
@@ -114,42 +114,39 @@ may_start_is layout bricks b w within shows =
     let here : is_brick layout (brick_of b) ≡ true = (let count = shows.count in grind (arith, nat_tests)) in
     ap (λ (x : Bool). x && (not (w.up b) && machine.may_open 1 (w.nodes b))) here
 
--- a brick that is up does not start
-pub shows_up_still : (layout : Layout) (bricks : List Brick) (b : ℕ) (old : Brick) (node : Running MemDisk) (w : World) → b < length bricks
-    → old ≡ get_or bricks b old → old.power ≡ Up node → ShowsBricks layout bricks w.nodes w.up w.clocks
-    → ShowsStarted layout (brick_of b) w (set bricks b old) false
-shows_up_still layout bricks b old node w within is on shows =
-    let runs = runs_at layout bricks w b old node within is on shows in
-    record {
-      may = sym (may_start_is layout bricks b w within shows ∙ ap (λ (x : Bool). not x && machine.may_open 1 (w.nodes b)) runs.0);
-      after = shows_after layout bricks b old w w (brick_at layout bricks w b old within is shows) (λ i other. (refl, refl, refl)) shows;
-    }
-
--- nor does one whose store was opened as often as it can count
-pub shows_spent : (layout : Layout) (bricks : List Brick) (b : ℕ) (old : Brick) (disk : MemDisk) (w : World) → b < length bricks → old ≡ get_or bricks b old
-    → old.power ≡ Down disk → ((state : machine.Node) → Rests layout (brick_of b) state disk → machine.may_open 1 state ≡ false)
-    → ShowsBricks layout bricks w.nodes w.up w.clocks → ShowsStarted layout (brick_of b) w (set bricks b old) false
-shows_spent layout bricks b old disk w within is off spent shows =
-    let rests = rests_at layout bricks w b old disk within is off shows in
-    record {
-      may = sym (may_start_is layout bricks b w within shows ∙ ap₂ (λ (x y : Bool). not x && y) rests.0 (spent (w.nodes b) rests.1));
-      after = shows_after layout bricks b old w w (brick_at layout bricks w b old within is shows) (λ i other. (refl, refl, refl)) shows;
-    }
-
--- a brick started
-pub shows_started : (layout : Layout) (bricks : List Brick) (b : ℕ) (old : Brick) (disk : MemDisk) (new : Running MemDisk) (w : World) → b < length bricks
-    → old ≡ get_or bricks b old → old.power ≡ Down disk
-    → ((state : machine.Node) → Rests layout (brick_of b) state disk
-    → (machine.may_open 1 state ≡ true) × Runs layout (brick_of b) (machine.restarted 1 state) new)
-    → ShowsBricks layout bricks w.nodes w.up w.clocks → ShowsStarted layout (brick_of b) w (set bricks b (with_power old (Up new))) true
-shows_started layout bricks b old disk new w within is off started shows =
+-- a brick that is as it was
+shows_kept : (layout : Layout) (bricks : List Brick) (b : ℕ) (old : Brick) (power : Power) (w : World) → b < length bricks → old ≡ get_or bricks b old
+    → ShowsPower layout (brick_of b) (w.nodes b) (w.up b) power → ShowsBricks layout bricks w.nodes w.up w.clocks
+    → ShowsBricks layout (set bricks b (with_power old power)) w.nodes w.up w.clocks
+shows_kept layout bricks b old power w within is power_shows shows =
     let was = brick_at layout bricks w b old within is shows in
-    let rests = rests_at layout bricks w b old disk within is off shows in
-    let runs = started (w.nodes b) rests.1 in
-    record {
-      may = sym (may_start_is layout bricks b w within shows ∙ ap₂ (λ (x y : Bool). not x && y) rests.0 runs.0);
-      after = shows_turned layout bricks b old (Up new) true w (machine.restarted 1 (w.nodes b)) was.clock (refl, runs.1) shows;
-    }
+    shows_after layout bricks b (with_power old power) w w (record { power = power_shows; clock = was.clock }) (λ i other. (refl, refl, refl)) shows
+
+-- a brick that was to start
+module _ (layout : Layout) (bricks : List Brick) (b : ℕ) (old : Brick) (power : Power) (within : b < length bricks) (is : old ≡ get_or bricks b old) where
+  pub shows_turned_on : (result : Result Bool NoMem) → ((state : machine.Node) (up : Bool) → ShowsPower layout (brick_of b) state up old.power → TurnsOn layout (brick_of b) state up power result)
+      → IfOk result (λ started. (w : World) → ShowsBricks layout bricks w.nodes w.up w.clocks → ShowsStarted layout (brick_of b) w (set bricks b (with_power old power)) started)
+  shows_turned_on (Ok true) turns = λ w shows.
+      let was = brick_at layout bricks w b old within is shows in
+      let runs = turns (w.nodes b) (w.up b) was.power in
+      record {
+        may = sym (may_start_is layout bricks b w within shows ∙ runs.0);
+        after = shows_turned layout bricks b old power true w (machine.restarted 1 (w.nodes b)) was.clock runs.1 shows;
+      }
+  shows_turned_on (Ok false) turns = λ w shows.
+      let was = brick_at layout bricks w b old within is shows in
+      let kept = turns (w.nodes b) (w.up b) was.power in
+      record {
+        may = sym (may_start_is layout bricks b w within shows ∙ kept.0);
+        after = shows_kept layout bricks b old power w within is kept.1 shows;
+      }
+  shows_turned_on (Err refused) turns = tt
+
+  pub shows_not_on : (result : Result Bool NoMem) → ((state : machine.Node) (up : Bool) → ShowsPower layout (brick_of b) state up old.power → TurnsOn layout (brick_of b) state up power result)
+      → OnErr result ((w : World) → ShowsBricks layout bricks w.nodes w.up w.clocks → ShowsBricks layout (set bricks b (with_power old power)) w.nodes w.up w.clocks)
+  shows_not_on (Ok started) turns = tt
+  shows_not_on (Err refused) turns = λ w shows.
+      shows_kept layout bricks b old power w within is (turns (w.nodes b) (w.up b) (brick_at layout bricks w b old within is shows).power) shows
 
 -- what a brick sends at a tick is what the machine's sends
 pub ticks_as : (layout : Layout) (bricks : List Brick) (b : ℕ) (brick : Brick) (node : Running MemDisk) (packets : List Packet) → b < length bricks
@@ -314,17 +311,9 @@ pub nodes_of : (layout : Layout) (bricks : List Brick) (nodes : ℕ → machine.
 nodes_of layout bricks nodes up clocks shows = λ i brick at. record { state = nodes i; up = up i; shows = (shows.each i brick at).power }
 
 -- the brick of a number is one of the layout
-pub node_at : (layout : Layout) (bricks : List Brick) (b : ℕ) (brick : Brick) → b < length bricks → brick ≡ get_or bricks b brick → AreNodesOf layout bricks
+pub pub node_at : (layout : Layout) (bricks : List Brick) (b : ℕ) (brick : Brick) → b < length bricks → brick ≡ get_or bricks b brick → AreNodesOf layout bricks
     → IsNodeOf layout b brick.power
 node_at layout bricks b brick within is of = of b brick (slice_get_read bricks (length bricks) b brick refl within is)
-
--- the disk of a brick that is down is at rest
-pub rests_here : (layout : Layout) (bricks : List Brick) (b : ℕ) (brick : Brick) (disk : MemDisk) → b < length bricks → brick ≡ get_or bricks b brick
-    → brick.power ≡ Down disk → AreNodesOf layout bricks → (state : machine.Node) × Rests layout (brick_of b) state disk
-rests_here layout bricks b brick disk within is off of =
-    let node = node_at layout bricks b brick within is of in
-    let rests = subst (λ (power : Power). ShowsPower layout (brick_of b) node.state node.up power) off node.shows in
-    (node.state, rests.1)
 
 -- the brick of a number that is up is on
 pub on_at : (layout : Layout) (bricks : List Brick) (number : BrickId) (brick : Brick) (power : Power) → brick ≡ get_or bricks number.0 brick

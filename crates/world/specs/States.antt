@@ -1,10 +1,11 @@
 -- What a world keeps, and the machine's world that it shows.
-use Rattle.std.specs.Prelude.{◌≡◌, ℕ, ◌+◌, ◌<◌, ◌≤◌, Bool, true, false, nat_eq, if◌then◌else◌, List, length, Option, Some, None, slice_get, vec_len, vec_capacity}
+use Rattle.std.specs.Prelude.{◌≡◌, ℕ, ◌+◌, ◌<◌, ◌≤◌, Bool, true, false, not, ◌&&◌, nat_eq, if◌then◌else◌, List, length, Option, Some, None, Result, Ok, Err, slice_get, vec_len, vec_capacity}
 use Rattle.std.specs.declared.cmp.Ordering.{Ordering}
 use Rattle.std.specs.Ordering.{nat_cmp, ordering_then}
 use Rattle.std.specs.BTreeMap.{get}
 use Rattle.std.specs.Option.{option_map}
 use Rattle.fab_base.specs.declared.answers.Refusal.{Refusal}
+use Rattle.fab_base.specs.declared.faults.NoMem.{NoMem}
 use Rattle.fab_base.specs.declared.identities.BrickId.{BrickId}
 use Rattle.fab_base.specs.declared.stamps.Stamp.{Stamp}
 use Rattle.fab_wire.specs.declared.messages.Packet.{Packet}
@@ -144,6 +145,13 @@ pub record IsUp (layout : Layout) (bricks : List Brick) (brick : BrickId) : Type
 abbrev pub FindsUp : Layout → List Brick → ℕ → Option BrickId → Type 0
 FindsUp layout bricks number None = (w : World) → ShowsBricks layout bricks w.nodes w.up w.clocks → is_up layout w (brick_of number) ≡ false
 FindsUp layout bricks number (Some brick) = (brick ≡ brick_of number) × IsUp layout bricks brick
+
+-- A brick that was to start: it did exactly where it was down and its store may be opened once more, and else, or where memory was
+-- refused, it shows what it showed.
+abbrev pub TurnsOn : Layout → BrickId → machine.Node → Bool → Power → Result Bool NoMem → Type 0
+TurnsOn layout me state up power (Ok true) = (not up && machine.may_open 1 state ≡ true) × ShowsPower layout me (machine.restarted 1 state) true power
+TurnsOn layout me state up power (Ok false) = (not up && machine.may_open 1 state ≡ false) × ShowsPower layout me state up power
+TurnsOn layout me state up power (Err refused) = ShowsPower layout me state up power
 
 -- the bricks after one of them was to start: it did, or no brick has changed
 abbrev pub ShowsAfterStart : Layout → BrickId → World → List Brick → Bool → Type 0

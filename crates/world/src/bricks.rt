@@ -1,14 +1,14 @@
 //! The bricks of a world: each is a disk in memory, and the brick that runs over it while it is up.
 
-ghost use Rattle.std.specs.Prelude.{◌≡◌, ◌≢◌, ◌≤◌, [], true, false, Err, IfOk, IfNone, IfSome, OnErr, vec_len};
-ghost use Rattle.fab_disk.specs.MemDisk.{content_of, past_of_disk, IsSound};
+ghost use Rattle.std.specs.Prelude.{◌≡◌, ◌≢◌, ◌≤◌, true, false, Err, IfOk, OnErr, vec_len};
+ghost use Rattle.fab_disk.specs.MemDisk.{IsSound};
 ghost use Rattle.protocol.specs.Nodes as machine;
-ghost use Rattle.protocol.specs.Nodes.{first_node, is_stripe_op, refusal_of, invoked, received, ticked, stopped, restarted, may_open};
+ghost use Rattle.protocol.specs.Nodes.{first_node, is_stripe_op, refusal_of, invoked, received, ticked, stopped};
 ghost use Rattle.stripe_code.specs.Codes.{coding};
 ghost use Rattle.node.specs.Faults.{RefusesAs};
 ghost use Rattle.node.specs.Running.{state_of, IsSameBrick};
 ghost use Rattle.node.specs.States.{BeginsAs, StepsAs};
-ghost use Rattle.world.specs.States.{Runs, Rests, ShowsBrick, unopened};
+ghost use Rattle.world.specs.States.{Rests, ShowsBrick, TurnsOn, unopened};
 
 use brick_store::StoreFault;
 use fab_base::{Ask, BrickId, NoMem};
@@ -37,7 +37,7 @@ pub struct Brick {
 impl Power {
     ghost use Rattle.std.specs.Prelude.{false};
     ghost use Rattle.protocol.specs.Nodes.{stopped};
-    ghost use Rattle.world.specs.States.{ShowsPower};
+    ghost use Rattle.world.specs.States.{ShowsPower, IsNodeOf, TurnsOn};
 
     /// What is left where the brick stops.
     pub fn off(self) -> Power
@@ -48,36 +48,38 @@ impl Power {
             Power::Down(disk) => Power::Down(disk),
         }
     }
+
+    /// Starts the brick over its disk, where it is down and its store can be opened once more. Answers whether it did. The brick
+    /// shows what it showed where it did not, and where memory is refused.
+    pub fn on(self, alloc: Global, layout: &Layout, me: BrickId) -> (Power, Result<bool, NoMem>)
+        requires { IsNodeOf layout.now me.0 self }
+        ensures { (state : _) (up : _) → ShowsPower layout.now me state up self → TurnsOn layout.now me state up result.0 result.1 }
+    {
+        match self {
+            Power::Up(node) => (Power::Up(node), Ok(false)),
+            Power::Down(disk) => start_over(alloc, layout, me, disk),
+        }
+    }
 }
 
-/// A sound disk of the same bytes. A crash leaves them.
-pub fn copy_disk(alloc: Global, disk: &MemDisk) -> Result<MemDisk, NoMem>
-    ensures content { IfOk result (λ made. content_of made ≡ content_of disk.now) }
-    ensures past { IfOk result (λ made. past_of_disk made ≡ []) }
-    ensures sound { IfOk result (λ made. IsSound made) }
-{
-    let mut bytes = Vec::new(alloc);
-    bytes.extend_from_slice(disk.bytes())?;
-    Ok(MemDisk::new(alloc, bytes))
-}
-
-/// Starts a brick over its disk. None where its store was opened as often as it can be.
-pub fn run_over(
+// Starts a brick that is down over its disk.
+fn start_over(
     alloc: Global,
     layout: &Layout,
     me: BrickId,
     disk: MemDisk,
-) -> Result<Option<Node<MemDisk>>, NoMem>
+) -> (Power, Result<bool, NoMem>)
     requires { (state : machine.Node) × Rests layout.now me state disk }
-    ensures runs { IfOk result (λ started. IfSome started (λ node. (state : machine.Node) → Rests layout.now me state disk
-        → (may_open 1 state ≡ true) × Runs layout.now me (restarted 1 state) node)) }
-    ensures worn { IfOk result (λ started. IfNone started ((state : machine.Node) → Rests layout.now me state disk → may_open 1 state ≡ false)) }
+    ensures { (state : machine.Node) → Rests layout.now me state disk → TurnsOn layout.now me state false result.0 result.1 }
 {
-    let layout = layout.copy(alloc)?;
+    let layout = match layout.copy(alloc) {
+        Ok(layout) => layout,
+        Err(refused) => return (Power::Down(disk), Err(refused)),
+    };
     match Node::start(alloc, layout, me, disk) {
-        Ok(node) => Ok(Some(node)),
-        Err((StoreFault::Worn, _)) => Ok(None),
-        Err((StoreFault::NoMemory, _)) => Err(NoMem::NoMemory),
+        Ok(node) => (Power::Up(node), Ok(true)),
+        Err((StoreFault::Worn, disk)) => (Power::Down(disk), Ok(false)),
+        Err((StoreFault::NoMemory, disk)) => (Power::Down(disk), Err(NoMem::NoMemory)),
         Err(
             (
                 StoreFault::Disk
@@ -113,13 +115,9 @@ pub fn fresh_brick(alloc: Global, layout: &Layout, me: BrickId) -> Result<Brick,
     ensures { IfOk result (λ brick. ShowsBrick layout.now me.0 brick (first_node layout.now.block) true 0) }
 {
     let disk = fresh_disk(alloc, layout, me)?;
-    match run_over(alloc, layout, me, disk)? {
-        Some(node) => Ok(Brick {
-            power: Power::Up(node),
-            clock: 0,
-        }),
-        None => unreachable!(),
-    }
+    let (power, started) = start_over(alloc, layout, me, disk);
+    started?;
+    Ok(Brick { power, clock: 0 })
 }
 
 /// A running brick is asked for an operation.

@@ -11,7 +11,7 @@ ghost use Rattle.node.specs.Faults.{RefusesAs};
 ghost use Rattle.world.specs.Runs.{ask_of};
 ghost use Rattle.world.specs.States.{ShowsBricks, ShowsStarted, FindsUp, IsUp, AreNodesOf};
 
-use crate::bricks::{Brick, Power, copy_disk, deliver, fresh_brick, invoke, run_over, tick};
+use crate::bricks::{Brick, Power, deliver, fresh_brick, invoke, tick};
 use crate::histories::{History, packet_at};
 use fab_base::{Ask, BrickId, GroupId, NoMem, Op, Refusal, StripeNo};
 use fab_disk::MemDisk;
@@ -143,7 +143,8 @@ fn stop_brick(bricks: &mut Vec<Brick>, alloc: Global, number: BrickId)
     brick.power = power.off();
 }
 
-/// Starts a brick, where it is down and its store can be opened once more. Answers whether it did; no brick has changed where it did not.
+/// Starts a brick, where it is down and its store can be opened once more. Answers whether it did; the bricks show what they showed
+/// where it did not, and where memory is refused.
 fn start_brick(
     bricks: &mut Vec<Brick>,
     alloc: Global,
@@ -154,21 +155,14 @@ fn start_brick(
     requires brick { number.0 < vec_len bricks.old }
     ensures started { IfOk result (λ started. (w : World) → ShowsBricks layout.now bricks.old.items w.nodes w.up w.clocks
         → ShowsStarted layout.now number w bricks.new.items started) }
-    ensures err { OnErr result (bricks.new.items ≡ bricks.old.items) }
+    ensures err { OnErr result ((w : World) → ShowsBricks layout.now bricks.old.items w.nodes w.up w.clocks
+        → ShowsBricks layout.now bricks.new.items w.nodes w.up w.clocks) }
 {
     let brick = &mut bricks[number.0 as usize];
-    // Over a copy, so that the disk is as it was where memory is refused later.
-    let disk = match &brick.power {
-        Power::Up(_) => return Ok(false),
-        Power::Down(disk) => copy_disk(alloc, disk)?,
-    };
-    match run_over(alloc, layout, number, disk)? {
-        Some(node) => {
-            brick.power = Power::Up(node);
-            Ok(true)
-        }
-        None => Ok(false),
-    }
+    let nothing = Power::Down(MemDisk::new(alloc, Vec::new(alloc)));
+    let (power, started) = mem::replace(&mut brick.power, nothing).on(alloc, layout, number);
+    brick.power = power;
+    started
 }
 
 /// The stripe of these numbers. None exactly where there is none.

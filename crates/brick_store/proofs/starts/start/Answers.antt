@@ -9,7 +9,6 @@ use Rattle.brick_state.specs.States.{StateOf, booted}
 use Rattle.brick_state.specs.Indexes.{state_of}
 use Rattle.brick_state.specs.Indexes as indexes
 use Rattle.brick_store.specs.Steps.{IsMoment, changed}
-use Rattle.brick_store.specs.Calls.{HasFrameRoom}
 use Rattle.brick_store.proofs.Counting.{start_counted}
 use Rattle.brick_store.proofs.Starting.{counted, counted_moments}
 use Rattle.brick_store.proofs.starts.start.Goals as goal
@@ -17,9 +16,9 @@ use Rattle.brick_store.proofs.starts.start.Goals as goal
 pub returns-clause-made : goal.returns-clause-made
 returns-clause-made g c =
     let st = state_of c.args.index.now in
-    let is : changed (indexes.limits_of c.args.index.now) (forms.Kept (Boot (c.boot-count.result + 1))) st ≡ booted (c.args.index.now.boot + 1) st =
-    counted (indexes.limits_of c.args.index.now) (c.boot-count.result + 1) st ∙ ap (λ (n : ℕ). booted (n + 1) st) c.boot-count.ensures in
-    subst (λ (s : StateOf Entry). OnOk c.commit.result (state_of c.commit.new.index ≡ s)) is c.commit.ensures.made
+    let is : changed (indexes.limits_of c.args.index.now) (forms.Kept (Boot (c.boot.result + 1))) st ≡ booted (c.args.index.now.boot + 1) st =
+    counted (indexes.limits_of c.args.index.now) (c.boot.result + 1) st ∙ ap (λ (n : ℕ). booted (n + 1) st) c.boot.ensures in
+    subst (λ (s : StateOf Entry). OnOk c.append_count.result (state_of c.append_count.new.index ≡ s)) is c.append_count.ensures.made
 
 pub returns-clause-moments : goal.returns-clause-moments
 returns-clause-moments g c = λ told closed.
@@ -27,16 +26,15 @@ returns-clause-moments g c = λ told closed.
     let st = state_of c.args.index.now in
     let old = c.args.frames.now in
     let mid = c.settle.new.frames in
-    let new = c.commit.new.frames in
-    let is : changed (indexes.limits_of c.args.index.now) (forms.Kept (Boot (c.boot-count.result + 1))) st ≡ booted (c.args.index.now.boot + 1) st =
-    counted (indexes.limits_of c.args.index.now) (c.boot-count.result + 1) st ∙ ap (λ (n : ℕ). booted (n + 1) st) c.boot-count.ensures in
-    let step = subst (λ (s : Shape). LeavesOnly d.moment d.left_since mid.disk new.disk (IsMoment s None st (changed (indexes.limits_of c.args.index.now) (forms.Kept (Boot (c.boot-count.result + 1))) st) (d.seen mid.disk)))
-    c.settle.ensures.shape (c.commit.ensures.step.moments told) in
+    let new = c.append_count.new.frames in
+    let is : changed (indexes.limits_of c.args.index.now) (forms.Kept (Boot (c.boot.result + 1))) st ≡ booted (c.args.index.now.boot + 1) st =
+    counted (indexes.limits_of c.args.index.now) (c.boot.result + 1) st ∙ ap (λ (n : ℕ). booted (n + 1) st) c.boot.ensures in
+    let step = subst (λ (s : Shape). LeavesOnly d.moment d.left_since mid.disk new.disk (IsMoment s None st (changed (indexes.limits_of c.args.index.now) (forms.Kept (Boot (c.boot.result + 1))) st) (d.seen mid.disk)))
+    c.settle.ensures.shape (c.append_count.ensures.step.moments told) in
     counted_moments d.moment d.left_since (d.may_leave old.disk) old.shape st (booted (c.args.index.now.boot + 1) st) (d.seen old.disk) old.disk mid.disk new.disk (d.seen mid.disk) (c.in_ok-settle.ensures.slots told) (c.settle.ensures.moments told closed)
     (subst (λ (s : StateOf Entry). LeavesOnly d.moment d.left_since mid.disk new.disk (IsMoment old.shape None st s (d.seen mid.disk))) is step)
 
 pub returns-clause-counted : goal.returns-clause-counted
 returns-clause-counted g c = λ told.
     let moment = g.D.Disk.moment in
-    let mid = c.settle.new.frames in
-    start_counted c.commit.result (HasFrameRoom mid.shape mid.frames) (moment c.args.frames.now.disk) (moment mid.disk) (moment c.commit.new.frames.disk) (c.in_ok-settle.ensures.counted told) (c.commit.ensures.counted told)
+    start_counted c.append_count.result (moment c.args.frames.now.disk) (moment c.settle.new.frames.disk) (moment c.append_count.new.frames.disk) (c.in_ok-settle.ensures.counted told) (c.append_count.ensures.counted told)

@@ -2,7 +2,7 @@
 use Rattle.std.proofs.Common.{◌≡◌, ◌+◌, drop}
 use Rattle.std.specs.Option.{option_map}
 use Rattle.protocol.specs.Settings.{seat_in}
-use Rattle.coord_phase.proofs.counting.seat_of.Given as goal
+use Rattle.layout.proofs.groups.Group.seat_of.Given as goal
 
 abbrev pub invariant-loop-seat : goal.invariant-loop-seat
-invariant-loop-seat l = seat_in l.members l.brick.0 ≡ option_map (λ s. s + l.seat) (seat_in (drop l.seat l.members) l.brick.0)
+invariant-loop-seat l = seat_in l.self.members l.brick.0 ≡ option_map (λ s. s + l.seat) (seat_in (drop l.seat l.self.members) l.brick.0)

@@ -1,0 +1,93 @@
+-- The frames of the live records bring the state back, and all memory is taken first.
+use Rattle.std.proofs.Common.{◌≡◌, ◌+◌, ℕ, None, false, List, length, sym, ap, subst, ◌∙◌, arith}
+use Rattle.std.proofs.lemmas.Result.{err_from_is_err_and}
+use Rattle.frame_store.specs.declared.faults.FrameFault.{FrameFault}
+use Rattle.frame_store.specs.declared.frames.Frame.{Frame}
+use Rattle.frame_store.specs.declared.shapes.Shape.{Shape}
+use Rattle.frame_store.specs.Images.{KeepsSlots}
+use Rattle.frame_store.specs.Listed.{size_of}
+use Rattle.frame_store.specs.Stores.{HasRoom}
+use Rattle.brick_state.specs.States.{empty}
+use Rattle.brick_state.specs.Indexes.{state_of}
+use Rattle.brick_store.specs.Bricks.{fault_of}
+use Rattle.brick_store.specs.Images.{limits_of}
+use Rattle.brick_store.specs.Openings.{IsKeptIn}
+use Rattle.brick_store.specs.Standing.{Leads}
+use Rattle.brick_store.specs.declared.faults.StoreFault.TheVariants.{NoMemory}
+use Rattle.brick_store.proofs.FreshLists.{live_lead, renewed, synced_allowed}
+use Rattle.brick_store.proofs.Starting.{still_allowed}
+use Rattle.brick_store.proofs.Stepping.{memory_refused, refused, room_less}
+use Rattle.brick_store.proofs.fresh_lists.renew.Goals as goal
+
+pub returns-in_err-rewrite-clause-moments : goal.returns-in_err-rewrite-clause-moments
+returns-in_err-rewrite-clause-moments g c = λ told closed.
+    let d = g.D.Disk in
+    let old = c.args.frames.now in
+    let st = state_of c.args.index.now in
+    let made = c.in_ok-reserve.ensures in
+    let call = c.in_ok-sync.ensures in
+    let leads = live_lead (limits_of old.shape) c.in_ok-live.live.items st c.requires.kept c.in_ok-live.ensures.read in
+    renewed d.tells d.seen d.may_leave d.moment d.left_since g.met.D.Disk.only_now old c.sync.new.self c.reserve.new.self.disk c.rewrite.new.self.disk c.in_ok-live.live.items st made.untouched
+    call.time call.crash call.content (call.same.shape ∙ made.same.shape) (call.same.frames ∙ made.same.frames) c.requires.found leads
+    (c.rewrite.ensures.any_moment (call.durable told) (call.same.closed ∙ made.same.closed ∙ closed))
+
+pub returns-in_err-rewrite-clause-no_memory : goal.returns-in_err-rewrite-clause-no_memory
+returns-in_err-rewrite-clause-no_memory g c =
+    let d = g.D.Disk in
+    let made = c.in_ok-reserve.ensures in
+    let synced = c.in_ok-sync.ensures in
+    let held = c.sync.new.self in
+    let f = c.in_err-rewrite.field-0.0 in
+    let are : c.deref.result.now ≡ c.in_ok-live.live.items = c.deref.ensures.value in
+    let p = err_from_is_err_and c.from_residual-in_err-rewrite.result c.from_residual-in_err-rewrite.ensures.1 in
+    let never = λ (is : refused (fault_of f) ≡ refused NoMemory).
+    absurd (c.in_err-rewrite.ensures.room (room_less d.has_room g.met.D.Disk.room_for_less held _ _ _ _ _ _ _ _ _ _ (omega arith) (omega (arith, ap size_of are)) (omega (arith, ap size_of are)) (omega (arith, ap length are)) (omega arith) (synced.left 12 _ _ _ _ made.room)) (ap (refused {E = FrameFault}) (memory_refused f is))) in
+    rw (p.1, p.2) never
+
+pub returns-clause-moments : goal.returns-clause-moments
+returns-clause-moments g c = λ told closed.
+    let d = g.D.Disk in
+    let old = c.args.frames.now in
+    let st = state_of c.args.index.now in
+    let made = c.in_ok-reserve.ensures in
+    let call = c.in_ok-sync.ensures in
+    let leads = live_lead (limits_of old.shape) c.in_ok-live.live.items st c.requires.kept c.in_ok-live.ensures.read in
+    renewed d.tells d.seen d.may_leave d.moment d.left_since g.met.D.Disk.only_now old c.sync.new.self c.reserve.new.self.disk c.rewrite.new.self.disk c.in_ok-live.live.items st made.untouched
+    call.time call.crash call.content (call.same.shape ∙ made.same.shape) (call.same.frames ∙ made.same.frames) c.requires.found leads
+    (c.rewrite.ensures.any_moment (call.durable told) (call.same.closed ∙ made.same.closed ∙ closed))
+
+pub returns-clause-may : goal.returns-clause-may
+returns-clause-may g c =
+    let old = c.args.frames.now in
+    let new = c.rewrite.new.self in
+    let st = state_of c.args.index.now in
+    let here = c.in_ok-rewrite.ensures in
+    let shape : new.shape ≡ old.shape = here.ok.shape ∙ c.in_ok-sync.ensures.same.shape ∙ c.in_ok-reserve.ensures.same.shape in
+    let leads : Leads (limits_of old.shape) c.in_ok-live.live.items empty st = live_lead (limits_of old.shape) c.in_ok-live.live.items st c.requires.kept c.in_ok-live.ensures.read in
+    let listed : Leads (limits_of old.shape) new.frames empty st = subst (λ (xs : List Frame). Leads (limits_of old.shape) xs empty st) (sym here.ok.frames) leads in
+    let runs : new.halted ≡ false = here.answer.halts ∙ c.in_ok-sync.ensures.answer.halts ∙ c.in_ok-reserve.ensures.answer.halts ∙ c.requires.runs in
+    record {
+      runs = runs;
+      leads = subst (λ (s : Shape). Leads (limits_of s) new.frames empty st) (sym shape) listed;
+      settled = λ told. record { durable = here.durable told; shows = here.read told runs; closed = here.ok.closed };
+    }
+
+pub returns-clause-room : goal.returns-clause-room
+returns-clause-room g c =
+    let d = g.D.Disk in
+    let mid = c.sync.new.self in
+    let new = c.rewrite.new.self in
+    let live = c.in_ok-live.live.items in
+    let call = c.in_ok-rewrite.ensures in
+    let made = c.in_ok-reserve.ensures in
+    let synced = c.in_ok-sync.ensures in
+    let are : c.deref.result.now ≡ live = c.deref.ensures.value in
+    let size = ap size_of are in
+    let count = ap length are in
+    let block = λ (a b : Shape) (same : a ≡ b). ap (λ (s : Shape). s.block) same in
+    let bytes = mid.shape.block + c.args.body + 7 in
+    let before : HasRoom d.has_room mid (5 + 7) (bytes + (size_of live + 34)) (c.args.body + 6) (length live + 1) c.args.body =
+    room_less d.has_room g.met.D.Disk.room_for_less mid _ _ _ _ _ _ _ _ _ _ (omega arith) (omega (arith, size, block mid.shape c.reserve.new.self.shape synced.same.shape, block c.reserve.new.self.shape c.args.frames.now.shape made.same.shape)) (omega arith) (omega (arith, count)) (omega arith) (synced.left 12 _ _ _ _ made.room) in
+    let after = call.left 5 bytes (c.args.body + 6) (length live + 1) c.args.body before in
+    let listed = ap length call.ok.frames in
+    room_less d.has_room g.met.D.Disk.room_for_less new _ _ _ _ _ _ _ _ _ _ (omega arith) (omega (arith, block new.shape mid.shape call.ok.shape)) (omega arith) (omega (arith, listed)) (omega arith) after
