@@ -29,6 +29,3 @@ pub use messages::{Message, Packet};
 pub use replies::{Choice, Lineage, Reply};
 pub use requests::{Look, Request, Version, Want};
 pub use turns::{Messages, Next, Turn};
-
-#[cfg(test)]
-mod tests;

@@ -18,6 +18,3 @@ pub use faults::FrameFault;
 pub use frames::Frame;
 pub use shapes::{Half, Shape};
 pub use stores::{FrameStore, format, open_store};
-
-#[cfg(test)]
-mod tests;

@@ -9,8 +9,6 @@ pub mod open_calls;
 pub mod operations;
 pub mod outs;
 mod packets;
-#[cfg(test)]
-mod tests;
 
 pub use faults::NodeFault;
 pub use nodes::Node;

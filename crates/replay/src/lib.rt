@@ -6,8 +6,6 @@ mod endings;
 mod heads;
 mod programs;
 mod schedules;
-#[cfg(test)]
-mod tests;
 mod texts;
 mod turns;
 

@@ -11,6 +11,3 @@ mod plans;
 
 pub use faults::ReplicaFault;
 pub use handling::handle;
-
-#[cfg(test)]
-mod tests;

@@ -311,7 +311,7 @@ pub nodes_of : (layout : Layout) (bricks : List Brick) (nodes : ℕ → machine.
 nodes_of layout bricks nodes up clocks shows = λ i brick at. record { state = nodes i; up = up i; shows = (shows.each i brick at).power }
 
 -- the brick of a number is one of the layout
-pub pub node_at : (layout : Layout) (bricks : List Brick) (b : ℕ) (brick : Brick) → b < length bricks → brick ≡ get_or bricks b brick → AreNodesOf layout bricks
+pub node_at : (layout : Layout) (bricks : List Brick) (b : ℕ) (brick : Brick) → b < length bricks → brick ≡ get_or bricks b brick → AreNodesOf layout bricks
     → IsNodeOf layout b brick.power
 node_at layout bricks b brick within is of = of b brick (slice_get_read bricks (length bricks) b brick refl within is)
 

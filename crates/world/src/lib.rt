@@ -5,8 +5,6 @@ mod bricks;
 mod histories;
 mod rooms;
 mod states;
-#[cfg(test)]
-mod tests;
 mod texts;
 mod walks;
 mod worlds;

@@ -2,9 +2,9 @@ ghost use Rattle.std.specs.Prelude.{◌≡◌, ◌++◌, ◌∷◌, [], ◌≤�
 ghost use Rattle.frame_store.specs.Layouts.{shape_of, half_size};
 ghost use Rattle.frame_store.specs.Listed.{frame_of, size_of, Fits};
 
-use super::*;
 use fab_base::Bytes;
 use fab_disk::{FileDisk, MemDisk, Plan};
+use frame_store::{Frame, FrameFault, FrameStore, format, open_store};
 use std::alloc::Global;
 use std::fs::{File, OpenOptions};
 use std::process::Abort;

@@ -1,9 +1,9 @@
 // Datagrams of every kind, each cut short anywhere and with each byte changed, against an independent decoder.
-use crate::{
+use fab_base::{Ask, BrickId, Bytes, GroupId, Op, Stamp, StripeNo, ViewNo};
+use fab_wire::{
     Call, ClientAsk, Message, Reply, Request, WireFault, decode, encode, read_ballot, read_call,
     read_stamp,
 };
-use fab_base::{Ask, BrickId, Bytes, GroupId, Op, Stamp, StripeNo, ViewNo};
 use std::alloc::Global;
 use std::test::Fail;
 

@@ -1,10 +1,10 @@
 //! A brick over a disk in memory. Whole operations are tested above, over many bricks.
 
-use crate::Node;
 use fab_base::BrickId;
 use fab_disk::MemDisk;
 use layout::Layout;
 use layout::texts::THREE_COPIES;
+use node::Node;
 use std::alloc::Global;
 use std::test::Fail;
 

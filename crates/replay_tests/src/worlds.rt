@@ -1,12 +1,12 @@
 //! Schedules and what they print, as an independent reader of the rules works them out.
 
-use crate::World;
 use fab_base::{BrickId, GroupId, StripeNo};
 use layout::Layout;
 use layout::texts::THREE_COPIES;
 use reg_model::Happening;
 use std::alloc::Global;
 use std::test::Fail;
+use world::World;
 
 /// Four bricks, any two of which give back a stripe of two data blocks of one byte.
 const TWO_OF_FOUR: &[u8] =

@@ -4,7 +4,7 @@ use Rattle.std.specs.Prelude.{replicate, slice_index_or}
 use Rattle.version_log.specs.Versions.{Version}
 use Rattle.brick_state.specs.declared.groups.Group.{Group}
 use Rattle.brick_state.specs.States.{StateOf, group_at, no_group, empty, booted}
-use Rattle.replica.proofs.tests.fresh.Goals as goal
+use Rattle.replay_tests.proofs.replicas.fresh.Goals as goal
 
 no_groups : (n g : ℕ) → slice_index_or (replicate n no_group) g no_group ≡ no_group
 no_groups zero g = refl

@@ -2,12 +2,12 @@ ghost use Rattle.std.specs.Prelude.{◌≡◌, IfOk};
 ghost use Rattle.frame_store.specs.Layouts.{shape_of};
 ghost use Rattle.replica.specs.Parts.{IsFirstView};
 
-use crate::{ReplicaFault, handle};
 use brick_store::{BrickStore, StoreFault, format, open_store};
 use fab_base::{BrickId, Bytes, GroupId, Stamp, StripeNo, ViewNo};
 use fab_disk::MemDisk;
 use fab_wire::{Call, Look, Reply, Request, Want};
 use layout::Layout;
+use replica::{ReplicaFault, handle};
 use std::alloc::Global;
 use std::test::Fail;
 
