@@ -45,11 +45,13 @@ pub no_slot_fault : (fault : StoreFault) → no_slot fault ≡ no_slot NoMemory 
 no_slot_fault fault h = cc
 
 -- both hold of the slot of each version
-entries_both : (P Q : ℕ → Type 0) (entries : List Entry) → AllByRecursion (λ v. P v.slot) entries → AllByRecursion (λ v. Q v.slot) entries → AllByRecursion (λ v. P v.slot × Q v.slot) entries
+entries_both : (P Q : ℕ → Type 0) (entries : List Entry) → AllByRecursion (λ v. P v.slot) entries → AllByRecursion (λ v. Q v.slot) entries
+    → AllByRecursion (λ v. P v.slot × Q v.slot) entries
 entries_both P Q [] all also = tt
 entries_both P Q (e ∷ entries) all also = ((all.0, also.0), entries_both P Q entries all.1 also.1)
 
-stripes_both : (P Q : ℕ → Type 0) (stripes : List (Place × StripeOf Entry)) → AllByRecursion (λ e. AllByRecursion (λ v. P v.slot) e.1.added) stripes → AllByRecursion (λ e. AllByRecursion (λ v. Q v.slot) e.1.added) stripes
+stripes_both : (P Q : ℕ → Type 0) (stripes : List (Place × StripeOf Entry)) → AllByRecursion (λ e. AllByRecursion (λ v. P v.slot) e.1.added) stripes
+    → AllByRecursion (λ e. AllByRecursion (λ v. Q v.slot) e.1.added) stripes
     → AllByRecursion (λ e. AllByRecursion (λ v. P v.slot × Q v.slot) e.1.added) stripes
 stripes_both P Q [] all also = tt
 stripes_both P Q (e ∷ stripes) all also = (entries_both P Q e.1.added all.0 also.0, stripes_both P Q stripes all.1 also.1)
@@ -70,59 +72,72 @@ other_apart slot other apart = away (nat_cmp slot other) refl
     away Equal at = absurd (apart (sym (exact_unsigned slot other at)))
 
 -- as it does where one slot changed that no version names
-pub same_others : (blocks now : BTreeMap ℕ (List ℕ)) (slot : ℕ) (st : StateOf Entry) → ((other : ℕ) → is_at (nat_cmp slot) other ≡ false → get nat_cmp now other ≡ get nat_cmp blocks other) → AllSlots (λ other. other ≢ slot) st
+pub same_others : (blocks now : BTreeMap ℕ (List ℕ)) (slot : ℕ) (st : StateOf Entry)
+    → ((other : ℕ) → is_at (nat_cmp slot) other ≡ false → get nat_cmp now other ≡ get nat_cmp blocks other) → AllSlots (λ other. other ≢ slot) st
     → AllSlots (SameUnder blocks now) st
-same_others blocks now slot st updates unnamed = slots_imply (λ other. other ≢ slot) (SameUnder blocks now) (λ other apart. updates other (other_apart slot other apart)) st unnamed
+same_others blocks now slot st updates unnamed = slots_imply (λ other. other ≢ slot) (SameUnder blocks now)
+    (λ other apart. updates other (other_apart slot other apart)) st unnamed
 
 -- it is so of each version where it is so of each slot
 entries_every : (P : ℕ → Type 0) → ((slot : ℕ) → P slot) → (entries : List Entry) → AllByRecursion (λ v. P v.slot) entries
 entries_every P each [] = tt
 entries_every P each (e ∷ entries) = (each e.slot, entries_every P each entries)
 
-stripes_every : (P : ℕ → Type 0) → ((slot : ℕ) → P slot) → (stripes : List (Place × StripeOf Entry)) → AllByRecursion (λ e. AllByRecursion (λ v. P v.slot) e.1.added) stripes
+stripes_every : (P : ℕ → Type 0) → ((slot : ℕ) → P slot) → (stripes : List (Place × StripeOf Entry))
+    → AllByRecursion (λ e. AllByRecursion (λ v. P v.slot) e.1.added) stripes
 stripes_every P each [] = tt
 stripes_every P each (e ∷ stripes) = (entries_every P each e.1.added, stripes_every P each stripes)
 
 -- the slot of a version that was not added is forgotten
-pub same_settled : (blocks now : BTreeMap ℕ (List ℕ)) (slot : ℕ) (st st_now : StateOf Entry) (result : Result (Unit {0}) StoreFault) → OnOk result (now ≡ blocks) → ((other : ℕ) → other ≢ slot → SameUnder blocks now other) → OnErr result (st_now ≡ st)
+pub same_settled : (blocks now : BTreeMap ℕ (List ℕ)) (slot : ℕ) (st st_now : StateOf Entry) (result : Result (Unit {0}) StoreFault)
+    → OnOk result (now ≡ blocks) → ((other : ℕ) → other ≢ slot → SameUnder blocks now other) → OnErr result (st_now ≡ st)
     → AllSlots (λ other. other ≢ slot) st → AllSlots (SameUnder blocks now) st_now
-same_settled blocks now slot st st_now (Ok u) added others same unnamed = stripes_every (SameUnder blocks now) (λ other. ap (λ (b : BTreeMap ℕ (List ℕ)). get nat_cmp b other) added) st_now.stripes
+same_settled blocks now slot st st_now (Ok u) added others same unnamed = stripes_every (SameUnder blocks now)
+    (λ other. ap (λ (b : BTreeMap ℕ (List ℕ)). get nat_cmp b other) added) st_now.stripes
 same_settled blocks now slot st st_now (Err e) added others same unnamed =
-    subst (λ (s : StateOf Entry). AllSlots (SameUnder blocks now) s) (sym same) (slots_imply (λ other. other ≢ slot) (SameUnder blocks now) others st unnamed)
+    subst (λ (s : StateOf Entry). AllSlots (SameUnder blocks now) s) (sym same)
+    (slots_imply (λ other. other ≢ slot) (SameUnder blocks now) others st unnamed)
 
 cached_same : (size : ℕ) (blocks now : BTreeMap ℕ (List ℕ)) (slot : ℕ) → SameUnder blocks now slot → cached size now slot ≡ cached size blocks slot
 cached_same size blocks now slot same = ap (λ (o : Option (List ℕ)). cond (eqb slot 4294967295) (replicate size 0) (unwrap_or o [])) same
 
 -- the block in a slot that is held
-pub cached_is : (size : ℕ) (blocks : BTreeMap ℕ (List ℕ)) (slot : ℕ) (bytes : List ℕ) → slot < 4294967295 → get nat_cmp blocks slot ≡ Some bytes → cached size blocks slot ≡ bytes
+pub cached_is : (size : ℕ) (blocks : BTreeMap ℕ (List ℕ)) (slot : ℕ) (bytes : List ℕ) → slot < 4294967295 → get nat_cmp blocks slot ≡ Some bytes
+    → cached size blocks slot ≡ bytes
 cached_is size blocks slot bytes small held =
     let other : eqb slot 4294967295 ≡ false = grind (arith, nat_tests, small) in
     ap (λ (b : Bool). cond b (replicate size 0) (unwrap_or (get nat_cmp blocks slot) [])) other ∙ ap (λ (o : Option (List ℕ)). unwrap_or o []) held
 
 -- a clause sees no difference
-pub brick_same : {D : Type 0} (blocks now : BTreeMap ℕ (List ℕ)) (frames : Held D) (st : StateOf Entry) → AllSlots (SameUnder blocks now) st → brick_of now frames st ≡ brick_of blocks frames st
+pub brick_same : {D : Type 0} (blocks now : BTreeMap ℕ (List ℕ)) (frames : Held D) (st : StateOf Entry) → AllSlots (SameUnder blocks now) st
+    → brick_of now frames st ≡ brick_of blocks frames st
 brick_same {D} blocks now frames st same =
     ap with_state (resolved_same (cached frames.shape.block now) (cached frames.shape.block blocks) st
-    (slots_imply (SameUnder blocks now) (λ slot. cached frames.shape.block now slot ≡ cached frames.shape.block blocks slot) (cached_same frames.shape.block blocks now) st same))
+    (slots_imply (SameUnder blocks now) (λ slot. cached frames.shape.block now slot ≡ cached frames.shape.block blocks slot)
+    (cached_same frames.shape.block blocks now) st same))
   where
     with_state : StateOf Version → Brick D
     with_state s = record { disk = frames.disk; shape = frames.shape; state = s; halted = frames.halted }
 
-module _ {D : Type 0} (tells : Type 0) (seen : D → List ℕ) (may_leave : D → List ℕ → Type 0) (moment : D → ℕ) (left_since : D → ℕ → List ℕ → Type 0) (faults : D → ℕ) (sound : D → Type 0) where
+module _ {D : Type 0} (tells : Type 0) (seen : D → List ℕ) (may_leave : D → List ℕ → Type 0) (moment : D → ℕ) (left_since : D → ℕ → List ℕ → Type 0)
+    (faults : D → ℕ) (sound : D → Type 0) where
   -- and the store stands with it
-  pub standing_same : (blocks now : BTreeMap ℕ (List ℕ)) (zero_block : List ℕ) (frames : Held D) (index : Index) → AllSlots (SameUnder blocks now) (state_of index)
+  pub standing_same : (blocks now : BTreeMap ℕ (List ℕ)) (zero_block : List ℕ) (frames : Held D) (index : Index) → AllSlots (SameUnder blocks now)
+      (state_of index)
       → Standing tells seen may_leave frames index blocks zero_block → Standing tells seen may_leave frames index now zero_block
   standing_same blocks now zero_block frames index same standing = record {
     limits = standing.limits;
     indexed = standing.indexed;
-    cached_all = slots_imply (λ slot. IsCached frames.shape.block blocks slot × SameUnder blocks now slot) (IsCached frames.shape.block now) cached_now (state_of index)
+    cached_all = slots_imply (λ slot. IsCached frames.shape.block blocks slot × SameUnder blocks now slot)
+        (IsCached frames.shape.block now) cached_now (state_of index)
         (slots_both (IsCached frames.shape.block blocks) (SameUnder blocks now) (state_of index) standing.cached_all same);
     zero_is = standing.zero_is;
     on_disk = λ told runs. let was = standing.on_disk told runs in record {
       durable = was.durable;
       shows = was.shows;
       closed = was.closed;
-      stored = slots_imply (λ slot. IsStored frames.shape blocks (seen frames.disk) slot × SameUnder blocks now slot) (IsStored frames.shape now (seen frames.disk)) stored_now (state_of index)
+      stored = slots_imply (λ slot. IsStored frames.shape blocks (seen frames.disk) slot × SameUnder blocks now slot)
+          (IsStored frames.shape now (seen frames.disk)) stored_now (state_of index)
           (slots_both (IsStored frames.shape blocks (seen frames.disk)) (SameUnder blocks now) (state_of index) was.stored same);
     };
   }
@@ -131,32 +146,40 @@ module _ {D : Type 0} (tells : Type 0) (seen : D → List ℕ) (may_leave : D �
       cached_now slot (inl zero, under) = inl zero
       cached_now slot (inr held, under) = inr (held.0, under ∙ held.1, held.2)
 
-      stored_now : (slot : ℕ) → IsStored frames.shape blocks (seen frames.disk) slot × SameUnder blocks now slot → IsStored frames.shape now (seen frames.disk) slot
+      stored_now : (slot : ℕ) → IsStored frames.shape blocks (seen frames.disk) slot × SameUnder blocks now slot
+          → IsStored frames.shape now (seen frames.disk) slot
       stored_now slot (inl zero, under) = inl zero
       stored_now slot (inr there, under) = inr (there.0, there.1 ∙ sym (cached_same frames.shape.block blocks now slot under))
 
   -- what stood in the slots of versions still does, and the block that was put
-  stored_before : (slot : ℕ) (bytes : List ℕ) (blocks : BTreeMap ℕ (List ℕ)) (zero_block : List ℕ) (old : Held D) (index : Index) → Standing tells seen may_leave old index blocks zero_block → old.halted ≡ false
-      → AllSlots (λ other. other ≢ slot) (state_of index) → tells → (content : List ℕ) → KeepsSlots old.shape (Some (slot, bytes)) (seen old.disk) content → AllSlots (IsStored old.shape blocks content) (state_of index)
+  stored_before : (slot : ℕ) (bytes : List ℕ) (blocks : BTreeMap ℕ (List ℕ)) (zero_block : List ℕ) (old : Held D) (index : Index)
+      → Standing tells seen may_leave old index blocks zero_block → old.halted ≡ false
+      → AllSlots (λ other. other ≢ slot) (state_of index) → tells → (content : List ℕ) → KeepsSlots old.shape (Some (slot, bytes))
+      (seen old.disk) content → AllSlots (IsStored old.shape blocks content) (state_of index)
   stored_before slot bytes blocks zero_block old index standing runs unnamed told content kept =
       slots_imply (λ other. IsStored old.shape blocks (seen old.disk) other × (other ≢ slot)) (IsStored old.shape blocks content)
       (λ other both. stored_still old.shape (Some (slot, bytes)) blocks (seen old.disk) content kept other both.1 both.0) (state_of index)
       (slots_both (IsStored old.shape blocks (seen old.disk)) (λ other. other ≢ slot) (state_of index) (standing.on_disk told runs).stored unnamed)
 
-  stored_here : (slot : ℕ) (bytes : List ℕ) (blocks : BTreeMap ℕ (List ℕ)) (shape : Shape) (content : List ℕ) → slot < 4294967295 → get nat_cmp blocks slot ≡ Some bytes → StandsIn shape (Some (slot, bytes)) content → IsStored shape blocks content slot
+  stored_here : (slot : ℕ) (bytes : List ℕ) (blocks : BTreeMap ℕ (List ℕ)) (shape : Shape) (content : List ℕ) → slot < 4294967295
+      → get nat_cmp blocks slot ≡ Some bytes → StandsIn shape (Some (slot, bytes)) content → IsStored shape blocks content slot
   stored_here slot bytes blocks shape content small held put =
       inr (put.0, put.1 ∙ sym (cached_is shape.block blocks slot bytes small held))
 
   -- what the record of a version with a block of its own says of the whole call
-  pub changes_put : (slot : ℕ) (bytes : List ℕ) (blocks : BTreeMap ℕ (List ℕ)) (zero_block : List ℕ) (old new : Held D) (index : Index) (item : Record) (st_now next : StateOf Entry) (result : Result (Unit {0}) StoreFault)
+  pub changes_put : (slot : ℕ) (bytes : List ℕ) (blocks : BTreeMap ℕ (List ℕ)) (zero_block : List ℕ) (old new : Held D) (index : Index)
+      (item : Record) (st_now next : StateOf Entry) (result : Result (Unit {0}) StoreFault)
       → Standing tells seen may_leave old index blocks zero_block → old.halted ≡ false → is_full (indexes.limits_of index) (state_of index) ≡ false
-      → applied (indexes.limits_of index) item (state_of index) ≡ Some next → ((P : ℕ → Type 0) → P slot → AllSlots P (state_of index) → AllSlots P next)
+      → applied (indexes.limits_of index) item (state_of index) ≡ Some next
+      → ((P : ℕ → Type 0) → P slot → AllSlots P (state_of index) → AllSlots P next)
       → slot < 4294967295 → get nat_cmp blocks slot ≡ Some bytes → AllSlots (λ other. other ≢ slot) (state_of index)
-      → Step tells seen may_leave moment left_since (Some (slot, bytes)) (state_of index) (changed (indexes.limits_of index) item (state_of index)) old new result
+      → Step tells seen may_leave moment left_since (Some (slot, bytes)) (state_of index)
+      (changed (indexes.limits_of index) item (state_of index)) old new result
       → OnOk result (st_now ≡ changed (indexes.limits_of index) item (state_of index)) → OnErr result (st_now ≡ state_of index)
       → Kept (faults old.disk) (faults new.disk) (sound old.disk) (sound new.disk) (result ≡ Err Disk)
       → (tells → OnOk result (MakesRoomCalls (HasFrameRoom old.shape old.frames) 5 (moment old.disk) (moment new.disk)))
-      → Changes tells seen may_leave moment left_since faults sound (brick_of blocks old (state_of index)) (brick_of blocks new st_now) (resolved (cached old.shape.block blocks) next) true 5 result
+      → Changes tells seen may_leave moment left_since faults sound (brick_of blocks old (state_of index)) (brick_of blocks new st_now)
+      (resolved (cached old.shape.block blocks) next) true 5 result
   changes_put slot bytes blocks zero_block old new index item st_now next result standing runs free is slots small held unnamed step made not_made cause counted =
       let st = state_of index in
       let limits = indexes.limits_of index in
@@ -165,17 +188,23 @@ module _ {D : Type 0} (tells : Type 0) (seen : D → List ℕ) (may_leave : D �
       let made_next = subst (λ (n : StateOf Entry). OnOk result (st_now ≡ n)) to made in
       let records : limits.records ≡ old.shape.records = ap (λ (l : Limits). l.records) standing.indexed.limits_are in
       let before = stored_before slot bytes blocks zero_block old index standing runs unnamed in
-      changes_tried tells seen may_leave moment left_since faults sound (Some (slot, bytes)) blocks st next old new st_now true 5 result runs (λ add at. not_full limits st free (at ∙ sym records))
-      before (λ told content kept put. slots (IsStored old.shape blocks content) (stored_here slot bytes blocks old.shape content small held put) (before told content kept)) step_next made_next not_made cause counted
+      changes_tried tells seen may_leave moment left_since faults sound (Some (slot, bytes)) blocks st next old new st_now true 5 result runs
+      (λ add at. not_full limits st free (at ∙ sym records))
+      before (λ told content kept put. slots (IsStored old.shape blocks content) (stored_here slot bytes blocks old.shape content small held put)
+      (before told content kept)) step_next made_next not_made cause counted
 
   -- and that the store stands after it
-  pub standing_put : (slot : ℕ) (bytes : List ℕ) (blocks : BTreeMap ℕ (List ℕ)) (zero_block : List ℕ) (old new : Held D) (index index_now : Index) (item : Record) (next : StateOf Entry) (result : Result (Unit {0}) StoreFault)
+  pub standing_put : (slot : ℕ) (bytes : List ℕ) (blocks : BTreeMap ℕ (List ℕ)) (zero_block : List ℕ) (old new : Held D) (index index_now : Index)
+      (item : Record) (next : StateOf Entry) (result : Result (Unit {0}) StoreFault)
       → Standing tells seen may_leave old index blocks zero_block → old.halted ≡ false
-      → applied (indexes.limits_of index) item (state_of index) ≡ Some next → ((P : ℕ → Type 0) → P slot → AllSlots P (state_of index) → AllSlots P next)
+      → applied (indexes.limits_of index) item (state_of index) ≡ Some next
+      → ((P : ℕ → Type 0) → P slot → AllSlots P (state_of index) → AllSlots P next)
       → slot < 4294967295 → get nat_cmp blocks slot ≡ Some bytes → length bytes ≡ old.shape.block → AllSlots (λ other. other ≢ slot) (state_of index)
       → AllByRecursion GroupHasMembers next.groups → indexes.limits_of index_now ≡ indexes.limits_of index
-      → Step tells seen may_leave moment left_since (Some (slot, bytes)) (state_of index) (changed (indexes.limits_of index) item (state_of index)) old new result
-      → OnOk result (state_of index_now ≡ changed (indexes.limits_of index) item (state_of index)) → OnErr result (state_of index_now ≡ state_of index)
+      → Step tells seen may_leave moment left_since (Some (slot, bytes)) (state_of index)
+      (changed (indexes.limits_of index) item (state_of index)) old new result
+      → OnOk result (state_of index_now ≡ changed (indexes.limits_of index) item (state_of index))
+      → OnErr result (state_of index_now ≡ state_of index)
       → Standing tells seen may_leave new index_now blocks zero_block
   standing_put slot bytes blocks zero_block old new index index_now item next result standing runs is slots small held len unnamed members limits step made not_made =
       let st = state_of index in
@@ -185,24 +214,33 @@ module _ {D : Type 0} (tells : Type 0) (seen : D → List ℕ) (may_leave : D �
       let shaped = subst (λ (l : Limits). applied l item st ≡ Some next) standing.indexed.limits_are is in
       let kept = applied_keeps (limits_of old.shape) item st next standing.indexed.kept shaped in
       let before = stored_before slot bytes blocks zero_block old index standing runs unnamed in
-      standing_after tells seen may_leave moment left_since faults sound (Some (slot, bytes)) blocks zero_block next old new index index_now result standing runs limits step_next made_next not_made kept members
+      standing_after tells seen may_leave moment left_since faults sound
+      (Some (slot, bytes)) blocks zero_block next old new index index_now result standing runs limits step_next made_next not_made kept members
       (slots (IsCached old.shape.block blocks) (inr (bytes, held, len)) standing.cached_all)
-      (λ told content kept_slots put. slots (IsStored old.shape blocks content) (stored_here slot bytes blocks old.shape content small held put) (before told content kept_slots))
+      (λ told content kept_slots put. slots (IsStored old.shape blocks content) (stored_here slot bytes blocks old.shape content small held put)
+      (before told content kept_slots))
 
   -- a store of which a call was refused before it tried, for want of memory
-  pub changes_stopped : (only_now : (disk : D) (image : List ℕ) → left_since disk (moment disk) image → may_leave disk image) (blocks : BTreeMap ℕ (List ℕ)) (zero_block : List ℕ) (old : Held D) (index : Index) (after : StateOf Version) (calls : ℕ)
+  pub changes_stopped : (only_now : (disk : D) (image : List ℕ) → left_since disk (moment disk) image → may_leave disk image)
+      (blocks : BTreeMap ℕ (List ℕ)) (zero_block : List ℕ) (old : Held D) (index : Index) (after : StateOf Version) (calls : ℕ)
       → Standing tells seen may_leave old index blocks zero_block → old.halted ≡ false → is_full (indexes.limits_of index) (state_of index) ≡ false
-      → Changes tells seen may_leave moment left_since faults sound (brick_of blocks old (state_of index)) (brick_of blocks old (state_of index)) after true calls (Err NoMemory)
+      → Changes tells seen may_leave moment left_since faults sound (brick_of blocks old (state_of index))
+      (brick_of blocks old (state_of index)) after true calls (Err NoMemory)
   changes_stopped only_now blocks zero_block old index after calls standing running free = record {
     ok = tt;
     refused = record { shape = refl; state = refl };
     durable = λ told. tt;
     any_moment = λ told runs.
         let was = standing.on_disk told runs in
-        let opens : OpensAs old.shape old.frames true (seen old.disk) = subst (λ (b : Bool). OpensAs old.shape old.frames b (seen old.disk)) was.closed was.shows.opens in
-        let here = stands_for old.shape blocks (state_of index) (seen old.disk) (record { frames = old.frames; opens = opens; leads = standing.indexed.leads }) was.stored in
-        started moment left_since old.disk _ (λ image left. inl (subst (λ (x : List ℕ). StandsFor old.shape (resolved (cached old.shape.block blocks) (state_of index)) x) (sym (was.durable.only image (only_now old.disk image left))) here));
-    answer = subst (λ n. IsAnswer old.shape.records n true old.halted old.halted (Err NoMemory)) (sym (live-resolved (cached old.shape.block blocks) (state_of index))) memory;
+        let opens : OpensAs old.shape old.frames true (seen old.disk) = subst
+        (λ (b : Bool). OpensAs old.shape old.frames b (seen old.disk)) was.closed was.shows.opens in
+        let here = stands_for old.shape blocks (state_of index) (seen old.disk)
+        (record { frames = old.frames; opens = opens; leads = standing.indexed.leads }) was.stored in
+        started moment left_since old.disk _ (λ image left. inl
+        (subst (λ (x : List ℕ). StandsFor old.shape (resolved (cached old.shape.block blocks) (state_of index)) x)
+        (sym (was.durable.only image (only_now old.disk image left))) here));
+    answer = subst (λ n. IsAnswer old.shape.records n true old.halted old.halted (Err NoMemory))
+        (sym (live-resolved (cached old.shape.block blocks) (state_of index))) memory;
     no_call = λ other. record { content = refl; crash = λ image left. left; clock = refl; time = record { later = omega arith; nothing_else = λ t image le left. inl left; keeps = λ t image le past. past } };
     cause = record { later = omega arith; rose = λ bad. absurd cc; stays = λ here. here; never = λ here bad. absurd cc };
     counted = λ told. tt;
@@ -215,7 +253,8 @@ module _ {D : Type 0} (tells : Type 0) (seen : D → List ℕ) (may_leave : D �
       memory = record {
         refused = λ h. absurd (differ (sym h ∙ running));
         only_then = λ h. absurd cc;
-        full = λ runs add at. absurd (not_full (indexes.limits_of index) (state_of index) free (at ∙ sym (ap (λ (l : Limits). l.records) standing.indexed.limits_are)));
+        full = λ runs add at. absurd (not_full (indexes.limits_of index) (state_of index) free
+            (at ∙ sym (ap (λ (l : Limits). l.records) standing.indexed.limits_are)));
         only_full = λ n h. absurd cc;
         a_store = λ h. absurd cc;
         not_worn = λ h. absurd cc;
@@ -223,10 +262,15 @@ module _ {D : Type 0} (tells : Type 0) (seen : D → List ℕ) (may_leave : D �
       }
 
   -- in the words of what a clause sees of the store
-  pub told_stopped : (only_now : (disk : D) (image : List ℕ) → left_since disk (moment disk) image → may_leave disk image) (blocks : BTreeMap ℕ (List ℕ)) (zero_block : List ℕ) (old : Held D) (index : Index) (b : Brick D) (after : StateOf Version) (calls : ℕ) (fault : StoreFault)
-      → brick_of blocks old (state_of index) ≡ b → fault ≡ NoMemory → Standing tells seen may_leave old index blocks zero_block → old.halted ≡ false → is_full (indexes.limits_of index) (state_of index) ≡ false
+  pub told_stopped : (only_now : (disk : D) (image : List ℕ) → left_since disk (moment disk) image → may_leave disk image)
+      (blocks : BTreeMap ℕ (List ℕ)) (zero_block : List ℕ) (old : Held D) (index : Index) (b : Brick D) (after : StateOf Version) (calls : ℕ)
+      (fault : StoreFault)
+      → brick_of blocks old (state_of index) ≡ b → fault ≡ NoMemory → Standing tells seen may_leave old index blocks zero_block → old.halted ≡ false
+      → is_full (indexes.limits_of index) (state_of index) ≡ false
       → Changes tells seen may_leave moment left_since faults sound b (brick_of blocks old (state_of index)) after true calls (Err fault)
   told_stopped only_now blocks zero_block old index b after calls fault view memory standing runs free =
-      subst (λ (e : StoreFault). Changes tells seen may_leave moment left_since faults sound b (brick_of blocks old (state_of index)) after true calls (Err e)) (sym memory)
-      (subst (λ (x : Brick D). Changes tells seen may_leave moment left_since faults sound x (brick_of blocks old (state_of index)) after true calls (Err NoMemory)) view
+      subst (λ (e : StoreFault). Changes tells seen may_leave moment left_since faults sound b (brick_of blocks old (state_of index)) after true calls
+      (Err e)) (sym memory)
+      (subst (λ (x : Brick D). Changes tells seen may_leave moment left_since faults sound x (brick_of blocks old (state_of index)) after true calls
+      (Err NoMemory)) view
       (changes_stopped only_now blocks zero_block old index after calls standing runs free))

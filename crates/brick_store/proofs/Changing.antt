@@ -40,33 +40,40 @@ use Rattle.brick_store.proofs.Resolving.{resolved_same, slots_imply, live-resolv
 -- ---- images
 
 -- what the frames lead to is what they make
-pub leads_folded : (limits : Limits) (frames : List Frame) (old st : StateOf Entry) → Leads limits frames old st → folded limits (records_of frames) old ≡ st
+pub leads_folded : (limits : Limits) (frames : List Frame) (old st : StateOf Entry) → Leads limits frames old st
+    → folded limits (records_of frames) old ≡ st
 unfolding Leads records_of folded
 leads_folded limits [] old st leads = leads
 leads_folded limits (frame ∷ frames) old st leads = rw leads.1 (rw leads.3 (leads_folded limits frames leads.2 st leads.4))
 
 -- what lies in the slot is what is held in memory
-pub stored_same : (shape : Shape) (blocks : BTreeMap ℕ (List ℕ)) (image : List ℕ) (slot : ℕ) → IsStored shape blocks image slot → block_at shape image slot ≡ cached shape.block blocks slot
+pub stored_same : (shape : Shape) (blocks : BTreeMap ℕ (List ℕ)) (image : List ℕ) (slot : ℕ) → IsStored shape blocks image slot
+    → block_at shape image slot ≡ cached shape.block blocks slot
 stored_same shape blocks image slot (inl zero) = rw zero refl
 stored_same shape blocks image slot (inr there) = by (eqb slot 4294967295) refl
   where
-    by : (b : Bool) → eqb slot 4294967295 ≡ b → cond b (replicate shape.block 0) (block_in shape slot image) ≡ cond b (replicate shape.block 0) (unwrap_or (get nat_cmp blocks slot) [])
+    by : (b : Bool) → eqb slot 4294967295 ≡ b → cond b (replicate shape.block 0) (block_in shape slot image) ≡ cond b (replicate shape.block 0)
+        (unwrap_or (get nat_cmp blocks slot) [])
     by true at = refl
     by false at = there.1 ∙ ap (λ (c : Bool). cond c (replicate shape.block 0) (unwrap_or (get nat_cmp blocks slot) [])) at
 
 -- an image whose slots hold the blocks stands for the state
-pub stands_for : (shape : Shape) (blocks : BTreeMap ℕ (List ℕ)) (st : StateOf Entry) (image : List ℕ) → LeadsTo shape st image → AllSlots (IsStored shape blocks image) st
+pub stands_for : (shape : Shape) (blocks : BTreeMap ℕ (List ℕ)) (st : StateOf Entry) (image : List ℕ) → LeadsTo shape st image
+    → AllSlots (IsStored shape blocks image) st
     → StandsFor shape (resolved (cached shape.block blocks) st) image
 stands_for shape blocks st image leads stored = record {
   frames = leads.frames;
   opens = leads.opens;
   state =
       ap (resolved (block_at shape image)) (leads_folded (limits_of shape) leads.frames empty st leads.leads)
-      ∙ resolved_same (block_at shape image) (cached shape.block blocks) st (slots_imply (IsStored shape blocks image) (λ slot. block_at shape image slot ≡ cached shape.block blocks slot) (stored_same shape blocks image) st stored);
+      ∙ resolved_same (block_at shape image) (cached shape.block blocks) st
+      (slots_imply (IsStored shape blocks image) (λ slot. block_at shape image slot ≡ cached shape.block blocks slot)
+      (stored_same shape blocks image) st stored);
 }
 
 -- a block that lay in its slot still does
-pub stored_still : (shape : Shape) (put : Option (ℕ × List ℕ)) (blocks : BTreeMap ℕ (List ℕ)) (content image : List ℕ) → KeepsSlots shape put content image
+pub stored_still : (shape : Shape) (put : Option (ℕ × List ℕ)) (blocks : BTreeMap ℕ (List ℕ)) (content image : List ℕ)
+    → KeepsSlots shape put content image
     → (slot : ℕ) → IsOther put slot → IsStored shape blocks content slot → IsStored shape blocks image slot
 stored_still shape put blocks content image kept slot free (inl zero) = inl zero
 stored_still shape put blocks content image kept slot free (inr there) =
@@ -76,15 +83,23 @@ stored_still shape put blocks content image kept slot free (inr there) =
 
 -- what a clause sees of a store of these frames, blocks and state
 abbrev pub brick_of : {D : Type 0} → BTreeMap ℕ (List ℕ) → Held D → StateOf Entry → Brick D
-brick_of blocks frames st = record { disk = frames.disk; shape = frames.shape; state = resolved (cached frames.shape.block blocks) st; halted = frames.halted }
+brick_of blocks frames st = record {
+  disk = frames.disk;
+  shape = frames.shape;
+  state = resolved
+      (cached frames.shape.block blocks) st;
+  halted = frames.halted;
+}
 
 -- the answer of a call that was tried
-answers_of : (r : Result (Unit {0}) StoreFault) (x : StoreFault) → OnErr r ((r ≡ Err Disk) ⊎ (r ≡ Err NoMemory)) → r ≡ Err x → (x ≡ Disk) ⊎ (x ≡ NoMemory)
+answers_of : (r : Result (Unit {0}) StoreFault) (x : StoreFault) → OnErr r ((r ≡ Err Disk) ⊎ (r ≡ Err NoMemory)) → r ≡ Err x → (x ≡ Disk)
+    ⊎ (x ≡ NoMemory)
 answers_of (Ok u) x only is = absurd cc
 answers_of (Err e) x (inl h) is = inl cc
 answers_of (Err e) x (inr h) is = inr cc
 
-tried_answer : (records live : ℕ) (adds halted_now : Bool) (result : Result (Unit {0}) StoreFault) → (adds ≡ true → live ≢ records) → OnErr result ((result ≡ Err Disk) ⊎ (result ≡ Err NoMemory))
+tried_answer : (records live : ℕ) (adds halted_now : Bool) (result : Result (Unit {0}) StoreFault) → (adds ≡ true → live ≢ records)
+    → OnErr result ((result ≡ Err Disk) ⊎ (result ≡ Err NoMemory))
     → halted_now ≡ halted_after false result → IsAnswer records live adds false halted_now result
 tried_answer records live adds halted_now result free only halts = record {
   refused = λ h. absurd cc;
@@ -121,7 +136,8 @@ tried_answer records live adds halted_now result free only halts = record {
     worn_memory e = cc
 
 -- and of one that was not
-refused_answer : (records live : ℕ) (adds halted : Bool) (fault : StoreFault) → IsRefused halted adds records live (Err fault) → IsAnswer records live adds halted halted (Err fault)
+refused_answer : (records live : ℕ) (adds halted : Bool) (fault : StoreFault) → IsRefused halted adds records live (Err fault)
+    → IsAnswer records live adds halted halted (Err fault)
 refused_answer records live adds halted fault (inl is) =
     let f : fault ≡ Halted = cc in
     subst (λ (x : StoreFault). IsAnswer records live adds halted halted (Err x)) (sym f) (record {
@@ -154,15 +170,18 @@ refused_answer records live adds halted fault (inr is) =
     same : (m n : ℕ) → refused (Full n) ≡ refused (Full m) → m ≡ n
     same m n h = cc
 
-not_disk : (halted adds : Bool) (records live : ℕ) (fault : StoreFault) → IsRefused halted adds records live (Err fault) → refused fault ≡ refused Disk → ⊥
+not_disk : (halted adds : Bool) (records live : ℕ) (fault : StoreFault) → IsRefused halted adds records live (Err fault)
+    → refused fault ≡ refused Disk → ⊥
 not_disk halted adds records live fault (inl is) bad = absurd cc
 not_disk halted adds records live fault (inr is) bad = absurd cc
 
-module _ {D : Type 0} (tells : Type 0) (seen : D → List ℕ) (may_leave : D → List ℕ → Type 0) (moment : D → ℕ) (left_since : D → ℕ → List ℕ → Type 0) (faults : D → ℕ) (sound : D → Type 0) where
+module _ {D : Type 0} (tells : Type 0) (seen : D → List ℕ) (may_leave : D → List ℕ → Type 0) (moment : D → ℕ) (left_since : D → ℕ → List ℕ → Type 0)
+    (faults : D → ℕ) (sound : D → Type 0) where
   -- at a moment of a step each image stands for the state before it or for the one after it
   pub either_stands : (put : Option (ℕ × List ℕ)) (blocks : BTreeMap ℕ (List ℕ)) (st next : StateOf Entry) (old : Held D) (image : List ℕ)
       → ((content : List ℕ) → KeepsSlots old.shape put (seen old.disk) content → AllSlots (IsStored old.shape blocks content) st)
-      → ((content : List ℕ) → KeepsSlots old.shape put (seen old.disk) content → StandsIn old.shape put content → AllSlots (IsStored old.shape blocks content) next)
+      → ((content : List ℕ) → KeepsSlots old.shape put (seen old.disk) content → StandsIn old.shape put content
+      → AllSlots (IsStored old.shape blocks content) next)
       → IsMoment old.shape put st next (seen old.disk) image
       → StandsForEither old.shape (resolved (cached old.shape.block blocks) st) (resolved (cached old.shape.block blocks) next) image
   either_stands put blocks st next old image before after is =
@@ -170,15 +189,18 @@ module _ {D : Type 0} (tells : Type 0) (seen : D → List ℕ) (may_leave : D �
       (λ there. inr (stands_for old.shape blocks next image there.0 (after image is.slots there.1))) is.opens
 
   -- what a step says of the whole call
-  pub changes_tried : (put : Option (ℕ × List ℕ)) (blocks : BTreeMap ℕ (List ℕ)) (st next : StateOf Entry) (old new : Held D) (st_now : StateOf Entry) (adds : Bool) (calls : ℕ) (result : Result (Unit {0}) StoreFault)
+  pub changes_tried : (put : Option (ℕ × List ℕ)) (blocks : BTreeMap ℕ (List ℕ)) (st next : StateOf Entry) (old new : Held D) (st_now : StateOf Entry)
+      (adds : Bool) (calls : ℕ) (result : Result (Unit {0}) StoreFault)
       → old.halted ≡ false → (adds ≡ true → live st ≢ old.shape.records)
       → (tells → (content : List ℕ) → KeepsSlots old.shape put (seen old.disk) content → AllSlots (IsStored old.shape blocks content) st)
-      → (tells → (content : List ℕ) → KeepsSlots old.shape put (seen old.disk) content → StandsIn old.shape put content → AllSlots (IsStored old.shape blocks content) next)
+      → (tells → (content : List ℕ) → KeepsSlots old.shape put (seen old.disk) content → StandsIn old.shape put content
+      → AllSlots (IsStored old.shape blocks content) next)
       → Step tells seen may_leave moment left_since put st next old new result
       → OnOk result (st_now ≡ next) → OnErr result (st_now ≡ st)
       → Kept (faults old.disk) (faults new.disk) (sound old.disk) (sound new.disk) (result ≡ Err Disk)
       → (tells → OnOk result (MakesRoomCalls (HasFrameRoom old.shape old.frames) calls (moment old.disk) (moment new.disk)))
-      → Changes tells seen may_leave moment left_since faults sound (brick_of blocks old st) (brick_of blocks new st_now) (resolved (cached old.shape.block blocks) next) adds calls result
+      → Changes tells seen may_leave moment left_since faults sound (brick_of blocks old st) (brick_of blocks new st_now)
+      (resolved (cached old.shape.block blocks) next) adds calls result
   changes_tried put blocks st next old new st_now adds calls result runs free before after step made not_made cause counted = record {
     ok = keeps_ok result made;
     refused = keeps_err result not_made;
@@ -186,7 +208,8 @@ module _ {D : Type 0} (tells : Type 0) (seen : D → List ℕ) (may_leave : D �
     any_moment = λ told go. widened moment left_since old.disk new.disk (IsMoment old.shape put st next (seen old.disk)) _
         (λ image. either_stands put blocks st next old image (before told) (after told)) (step.moments told);
     answer = subst (λ (b : Bool). IsAnswer old.shape.records (live (resolved (cached old.shape.block blocks) st)) adds b new.halted result) (sym runs)
-        (subst (λ n. IsAnswer old.shape.records n adds false new.halted result) (sym (live-resolved (cached old.shape.block blocks) st)) (tried_answer old.shape.records (live st) adds new.halted result free step.only step.halts));
+        (subst (λ n. IsAnswer old.shape.records n adds false new.halted result) (sym (live-resolved (cached old.shape.block blocks) st))
+        (tried_answer old.shape.records (live st) adds new.halted result free step.only step.halts));
     no_call = untouched result step.only step.no_memory;
     cause = cause;
     counted = λ told. change_counted result (HasFrameRoom old.shape old.frames) calls (moment old.disk) (moment new.disk) (counted told);
@@ -195,57 +218,77 @@ module _ {D : Type 0} (tells : Type 0) (seen : D → List ℕ) (may_leave : D �
       now_is : (s : StateOf Entry) → st_now ≡ s → resolved (cached new.shape.block blocks) st_now ≡ resolved (cached old.shape.block blocks) s
       now_is s is = ap (resolved (cached new.shape.block blocks)) is ∙ ap (λ (h : Shape). resolved (cached h.block blocks) s) step.shape
 
-      keeps_ok : (r : Result (Unit {0}) StoreFault) → OnOk r (st_now ≡ next) → OnOk r (Keeps (resolved (cached old.shape.block blocks) next) (brick_of blocks old st) (brick_of blocks new st_now))
+      keeps_ok : (r : Result (Unit {0}) StoreFault) → OnOk r (st_now ≡ next)
+          → OnOk r (Keeps (resolved (cached old.shape.block blocks) next) (brick_of blocks old st) (brick_of blocks new st_now))
       keeps_ok (Ok u) h = record { shape = step.shape; state = now_is next h }
       keeps_ok (Err e) h = tt
 
-      keeps_err : (r : Result (Unit {0}) StoreFault) → OnErr r (st_now ≡ st) → OnErr r (Keeps (resolved (cached old.shape.block blocks) st) (brick_of blocks old st) (brick_of blocks new st_now))
+      keeps_err : (r : Result (Unit {0}) StoreFault) → OnErr r (st_now ≡ st)
+          → OnErr r (Keeps (resolved (cached old.shape.block blocks) st) (brick_of blocks old st) (brick_of blocks new st_now))
       keeps_err (Ok u) h = tt
       keeps_err (Err e) h = record { shape = step.shape; state = now_is st h }
 
-      leaves : (r : Result (Unit {0}) StoreFault) → OnOk r (st_now ≡ next) → OnOk r (Leads (limits_of old.shape) new.frames empty next) → OnOk r (tells → IsMade tells seen may_leave moment left_since put old new) → tells
+      leaves : (r : Result (Unit {0}) StoreFault) → OnOk r (st_now ≡ next) → OnOk r (Leads (limits_of old.shape) new.frames empty next)
+          → OnOk r (tells → IsMade tells seen may_leave moment left_since put old new) → tells
           → OnOk r (LeavesState new.shape (resolved (cached new.shape.block blocks) st_now) (may_leave new.disk))
       leaves (Err e) is leads h told = tt
       leaves (Ok u) is leads h told = λ image left.
           let made = h told in
           let settled = made.settled in
-          let opens : OpensAs new.shape new.frames true (seen new.disk) = subst (λ (b : Bool). OpensAs new.shape new.frames b (seen new.disk)) settled.closed settled.shows.opens in
+          let opens : OpensAs new.shape new.frames true (seen new.disk) = subst
+          (λ (b : Bool). OpensAs new.shape new.frames b (seen new.disk)) settled.closed settled.shows.opens in
           let stored : AllSlots (IsStored old.shape blocks (seen new.disk)) next = after told (seen new.disk) made.slots made.stands in
-          let opened : OpensAs old.shape new.frames true (seen new.disk) = subst (λ (h : Shape). OpensAs h new.frames true (seen new.disk)) step.shape opens in
-          let here : StandsFor old.shape (resolved (cached old.shape.block blocks) next) (seen new.disk) = stands_for old.shape blocks next (seen new.disk) (record { frames = new.frames; opens = opened; leads = leads }) stored in
+          let opened : OpensAs old.shape new.frames true (seen new.disk) = subst
+          (λ (h : Shape). OpensAs h new.frames true (seen new.disk)) step.shape opens in
+          let here : StandsFor old.shape (resolved (cached old.shape.block blocks) next) (seen new.disk) = stands_for old.shape blocks next
+          (seen new.disk) (record { frames = new.frames; opens = opened; leads = leads }) stored in
           subst (λ (x : List ℕ). StandsFor new.shape (resolved (cached new.shape.block blocks) st_now) x) (sym (settled.durable.only image left))
-          (subst (λ (s : StateOf Version). StandsFor new.shape s (seen new.disk)) (sym (now_is next is)) (subst (λ (h : Shape). StandsFor h (resolved (cached old.shape.block blocks) next) (seen new.disk)) (sym step.shape) here))
+          (subst (λ (s : StateOf Version). StandsFor new.shape s (seen new.disk)) (sym (now_is next is))
+          (subst (λ (h : Shape). StandsFor h (resolved (cached old.shape.block blocks) next) (seen new.disk)) (sym step.shape) here))
 
-      untouched : (r : Result (Unit {0}) StoreFault) → OnErr r ((r ≡ Err Disk) ⊎ (r ≡ Err NoMemory)) → (r ≡ Err NoMemory → IsUntouched seen may_leave moment left_since old.disk new.disk × IsSame old new)
+      untouched : (r : Result (Unit {0}) StoreFault) → OnErr r ((r ≡ Err Disk) ⊎ (r ≡ Err NoMemory))
+          → (r ≡ Err NoMemory → IsUntouched seen may_leave moment left_since old.disk new.disk × IsSame old new)
           → OnErr r (r ≢ Err Disk → IsUntouched seen may_leave moment left_since old.disk new.disk)
       untouched (Ok u) only h = tt
       untouched (Err e) (inl is) h = λ other. absurd (other is)
       untouched (Err e) (inr is) h = λ other. (h is).0
 
   -- the store stands after the call
-  pub standing_after : (put : Option (ℕ × List ℕ)) (blocks : BTreeMap ℕ (List ℕ)) (zero_block : List ℕ) (next : StateOf Entry) (old new : Held D) (index index_now : Index) (result : Result (Unit {0}) StoreFault)
+  pub standing_after : (put : Option (ℕ × List ℕ)) (blocks : BTreeMap ℕ (List ℕ)) (zero_block : List ℕ) (next : StateOf Entry) (old new : Held D)
+      (index index_now : Index) (result : Result (Unit {0}) StoreFault)
       → Standing tells seen may_leave old index blocks zero_block → old.halted ≡ false → indexes.limits_of index_now ≡ indexes.limits_of index
       → Step tells seen may_leave moment left_since put (state_of index) next old new result
       → OnOk result (state_of index_now ≡ next) → OnErr result (state_of index_now ≡ state_of index)
       → IsKeptState (limits_of old.shape) next → AllByRecursion GroupHasMembers next.groups → AllSlots (IsCached old.shape.block blocks) next
-      → (tells → (content : List ℕ) → KeepsSlots old.shape put (seen old.disk) content → StandsIn old.shape put content → AllSlots (IsStored old.shape blocks content) next)
+      → (tells → (content : List ℕ) → KeepsSlots old.shape put (seen old.disk) content → StandsIn old.shape put content
+      → AllSlots (IsStored old.shape blocks content) next)
       → Standing tells seen may_leave new index_now blocks zero_block
   standing_after put blocks zero_block next old new index index_now result standing started_running limits step made not_made kept members cached_next after = by result step.made step.not_made step.stands step.only step.no_memory step.halts made not_made
     where
-      of : (st : StateOf Entry) → state_of index_now ≡ st → Leads (limits_of old.shape) new.frames empty st → IsKeptState (limits_of old.shape) st → AllByRecursion GroupHasMembers st.groups → AllSlots (IsCached old.shape.block blocks) st
+      of : (st : StateOf Entry) → state_of index_now ≡ st → Leads (limits_of old.shape) new.frames empty st → IsKeptState (limits_of old.shape) st
+          → AllByRecursion GroupHasMembers st.groups → AllSlots (IsCached old.shape.block blocks) st
           → (tells → new.halted ≡ false → IsOnDisk tells seen may_leave blocks new st) → Standing tells seen may_leave new index_now blocks zero_block
       of st is leads kept_st named held_all on_disk =
-          let indexed : IsIndexed old.shape new.frames (indexes.limits_of index_now) st = record { limits_are = limits ∙ standing.indexed.limits_are; leads = leads; kept = kept_st; members = named } in
+          let indexed : IsIndexed old.shape new.frames (indexes.limits_of index_now) st = record {
+            limits_are = limits
+                ∙ standing.indexed.limits_are;
+            leads = leads;
+            kept = kept_st;
+            members = named;
+          } in
           let back = sym is in
           record {
             limits = subst IsShape (sym step.shape) standing.limits;
-            indexed = subst (λ (s : StateOf Entry). IsIndexed new.shape new.frames (indexes.limits_of index_now) s) back (subst (λ (h : Shape). IsIndexed h new.frames (indexes.limits_of index_now) st) (sym step.shape) indexed);
-            cached_all = subst (λ (s : StateOf Entry). AllSlots (IsCached new.shape.block blocks) s) back (subst (λ (h : Shape). AllSlots (IsCached h.block blocks) st) (sym step.shape) held_all);
+            indexed = subst (λ (s : StateOf Entry). IsIndexed new.shape new.frames (indexes.limits_of index_now) s) back
+                (subst (λ (h : Shape). IsIndexed h new.frames (indexes.limits_of index_now) st) (sym step.shape) indexed);
+            cached_all = subst (λ (s : StateOf Entry). AllSlots (IsCached new.shape.block blocks) s) back
+                (subst (λ (h : Shape). AllSlots (IsCached h.block blocks) st) (sym step.shape) held_all);
             zero_is = standing.zero_is ∙ ap (λ (h : Shape). replicate h.block 0) (sym step.shape);
             on_disk = λ told runs. subst (λ (s : StateOf Entry). IsOnDisk tells seen may_leave blocks new s) back (on_disk told runs);
           }
 
-      on_new : (st : StateOf Entry) → IsSettled tells seen may_leave moment left_since new → AllSlots (IsStored old.shape blocks (seen new.disk)) st → IsOnDisk tells seen may_leave blocks new st
+      on_new : (st : StateOf Entry) → IsSettled tells seen may_leave moment left_since new → AllSlots (IsStored old.shape blocks (seen new.disk)) st
+          → IsOnDisk tells seen may_leave blocks new st
       on_new st settled stored = record {
         durable = settled.durable;
         shows = settled.shows;
@@ -259,11 +302,15 @@ module _ {D : Type 0} (tells : Type 0) (seen : D → List ℕ) (may_leave : D �
           differ : true ≡ false → ⊥
           differ e = cc
 
-      by : (r : Result (Unit {0}) StoreFault) → OnOk r (Leads (limits_of old.shape) new.frames empty next) → OnErr r (Leads (limits_of old.shape) new.frames empty (state_of index))
-          → OnOk r (tells → IsMade tells seen may_leave moment left_since put old new) → OnErr r ((r ≡ Err Disk) ⊎ (r ≡ Err NoMemory)) → (r ≡ Err NoMemory → IsUntouched seen may_leave moment left_since old.disk new.disk × IsSame old new)
-          → new.halted ≡ halted_after false r → OnOk r (state_of index_now ≡ next) → OnErr r (state_of index_now ≡ state_of index) → Standing tells seen may_leave new index_now blocks zero_block
+      by : (r : Result (Unit {0}) StoreFault) → OnOk r (Leads (limits_of old.shape) new.frames empty next)
+          → OnErr r (Leads (limits_of old.shape) new.frames empty (state_of index))
+          → OnOk r (tells → IsMade tells seen may_leave moment left_since put old new) → OnErr r ((r ≡ Err Disk) ⊎ (r ≡ Err NoMemory))
+          → (r ≡ Err NoMemory → IsUntouched seen may_leave moment left_since old.disk new.disk × IsSame old new)
+          → new.halted ≡ halted_after false r → OnOk r (state_of index_now ≡ next) → OnErr r (state_of index_now ≡ state_of index)
+          → Standing tells seen may_leave new index_now blocks zero_block
       by (Ok u) leads not_leads stands only idle halts is is_not =
-          of next is leads kept members cached_next (λ told runs. let m = stands told in on_new next m.settled (after told (seen new.disk) m.slots m.stands))
+          of next is leads kept members cached_next (λ told runs. let m = stands told in on_new next m.settled
+          (after told (seen new.disk) m.slots m.stands))
       by (Err e) leads not_leads stands (inl disk) idle halts is is_not =
           of (state_of index) is_not not_leads standing.indexed.kept standing.indexed.members standing.cached_all
           (λ told runs. absurd (halted_disk new.halted (halts ∙ ap (halted_after false) disk) runs))
@@ -273,41 +320,67 @@ module _ {D : Type 0} (tells : Type 0) (seen : D → List ℕ) (may_leave : D �
           let untouched = (idle memory).0 in
           let was = standing.on_disk told started_running in
           record {
-            durable = record { told = told; runs = runs; only = λ image left. was.durable.only image (untouched.crash image left) ∙ sym untouched.content };
+            durable = record {
+              told = told;
+              runs = runs;
+              only = λ image left. was.durable.only image (untouched.crash image left)
+                  ∙ sym untouched.content;
+            };
             shows = step.shows told runs;
             closed = same.closed ∙ was.closed;
-            stored = subst (λ (h : Shape). AllSlots (IsStored h blocks (seen new.disk)) (state_of index)) (sym step.shape) (subst (λ (x : List ℕ). AllSlots (IsStored old.shape blocks x) (state_of index)) (sym untouched.content) was.stored);
+            stored = subst (λ (h : Shape). AllSlots (IsStored h blocks (seen new.disk)) (state_of index)) (sym step.shape)
+                (subst (λ (x : List ℕ). AllSlots (IsStored old.shape blocks x) (state_of index)) (sym untouched.content) was.stored);
           })
 
   -- a store of which a call was refused before it tried
-  pub changes_refused : (only_now : (disk : D) (image : List ℕ) → left_since disk (moment disk) image → may_leave disk image) (blocks : BTreeMap ℕ (List ℕ)) (zero_block : List ℕ) (old : Held D) (index : Index) (after : StateOf Version) (adds : Bool) (calls : ℕ) (fault : StoreFault)
-      → Standing tells seen may_leave old index blocks zero_block → IsRefused old.halted adds (indexes.limits_of index).records (live (state_of index)) (Err fault)
-      → Changes tells seen may_leave moment left_since faults sound (brick_of blocks old (state_of index)) (brick_of blocks old (state_of index)) after adds calls (Err fault)
+  pub changes_refused : (only_now : (disk : D) (image : List ℕ) → left_since disk (moment disk) image → may_leave disk image)
+      (blocks : BTreeMap ℕ (List ℕ)) (zero_block : List ℕ) (old : Held D) (index : Index) (after : StateOf Version) (adds : Bool) (calls : ℕ)
+      (fault : StoreFault)
+      → Standing tells seen may_leave old index blocks zero_block → IsRefused old.halted adds (indexes.limits_of index).records
+      (live (state_of index)) (Err fault)
+      → Changes tells seen may_leave moment left_since faults sound (brick_of blocks old (state_of index))
+      (brick_of blocks old (state_of index)) after adds calls (Err fault)
   changes_refused only_now blocks zero_block old index after adds calls fault standing is = record {
     ok = tt;
     refused = record { shape = refl; state = refl };
     durable = λ told. tt;
     any_moment = λ told runs.
         let was = standing.on_disk told runs in
-        let opens : OpensAs old.shape old.frames true (seen old.disk) = subst (λ (b : Bool). OpensAs old.shape old.frames b (seen old.disk)) was.closed was.shows.opens in
-        let here = stands_for old.shape blocks (state_of index) (seen old.disk) (record { frames = old.frames; opens = opens; leads = standing.indexed.leads }) was.stored in
-        started moment left_since old.disk _ (λ image left. inl (subst (λ (x : List ℕ). StandsFor old.shape (resolved (cached old.shape.block blocks) (state_of index)) x) (sym (was.durable.only image (only_now old.disk image left))) here));
-    answer = subst (λ n. IsAnswer old.shape.records n adds old.halted old.halted (Err fault)) (sym (live-resolved (cached old.shape.block blocks) (state_of index)))
-        (refused_answer old.shape.records (live (state_of index)) adds old.halted fault (subst (λ (l : Limits). IsRefused old.halted adds l.records (live (state_of index)) (Err fault)) standing.indexed.limits_are is));
+        let opens : OpensAs old.shape old.frames true (seen old.disk) = subst
+        (λ (b : Bool). OpensAs old.shape old.frames b (seen old.disk)) was.closed was.shows.opens in
+        let here = stands_for old.shape blocks (state_of index) (seen old.disk)
+        (record { frames = old.frames; opens = opens; leads = standing.indexed.leads }) was.stored in
+        started moment left_since old.disk _ (λ image left. inl
+        (subst (λ (x : List ℕ). StandsFor old.shape (resolved (cached old.shape.block blocks) (state_of index)) x)
+        (sym (was.durable.only image (only_now old.disk image left))) here));
+    answer = subst (λ n. IsAnswer old.shape.records n adds old.halted old.halted (Err fault))
+        (sym (live-resolved (cached old.shape.block blocks) (state_of index)))
+        (refused_answer old.shape.records (live (state_of index)) adds old.halted fault
+        (subst (λ (l : Limits). IsRefused old.halted adds l.records (live (state_of index)) (Err fault)) standing.indexed.limits_are is));
     no_call = λ other. record { content = refl; crash = λ image left. left; clock = refl; time = record { later = omega arith; nothing_else = λ t image le left. inl left; keeps = λ t image le past. past } };
-    cause = record { later = omega arith; rose = λ bad. absurd (not_disk old.halted adds _ _ fault is bad); stays = λ here. here; never = λ here bad. not_disk old.halted adds _ _ fault is bad };
+    cause = record {
+      later = omega arith;
+      rose = λ bad. absurd
+          (not_disk old.halted adds _ _ fault is bad);
+      stays = λ here. here;
+      never = λ here bad. not_disk old.halted adds _ _ fault is bad;
+    };
     counted = λ told. tt;
   }
 
   -- what the record of a change that adds no block of its own says of the whole call
-  pub changes_plain : (blocks : BTreeMap ℕ (List ℕ)) (zero_block : List ℕ) (old new : Held D) (index : Index) (item : Record) (st_now next : StateOf Entry) (adds : Bool) (result : Result (Unit {0}) StoreFault)
-      → Standing tells seen may_leave old index blocks zero_block → old.halted ≡ false → (adds ≡ true → is_full (indexes.limits_of index) (state_of index) ≡ false)
-      → applied (indexes.limits_of index) item (state_of index) ≡ Some next → ((P : ℕ → Type 0) → P 4294967295 → AllSlots P (state_of index) → AllSlots P next)
+  pub changes_plain : (blocks : BTreeMap ℕ (List ℕ)) (zero_block : List ℕ) (old new : Held D) (index : Index) (item : Record)
+      (st_now next : StateOf Entry) (adds : Bool) (result : Result (Unit {0}) StoreFault)
+      → Standing tells seen may_leave old index blocks zero_block → old.halted ≡ false
+      → (adds ≡ true → is_full (indexes.limits_of index) (state_of index) ≡ false)
+      → applied (indexes.limits_of index) item (state_of index) ≡ Some next → ((P : ℕ → Type 0) → P 4294967295 → AllSlots P (state_of index)
+      → AllSlots P next)
       → Step tells seen may_leave moment left_since None (state_of index) (changed (indexes.limits_of index) item (state_of index)) old new result
       → OnOk result (st_now ≡ changed (indexes.limits_of index) item (state_of index)) → OnErr result (st_now ≡ state_of index)
       → Kept (faults old.disk) (faults new.disk) (sound old.disk) (sound new.disk) (result ≡ Err Disk)
       → (tells → OnOk result (MakesRoomCalls (HasFrameRoom old.shape old.frames) 4 (moment old.disk) (moment new.disk)))
-      → Changes tells seen may_leave moment left_since faults sound (brick_of blocks old (state_of index)) (brick_of blocks new st_now) (resolved (cached old.shape.block blocks) next) adds 4 result
+      → Changes tells seen may_leave moment left_since faults sound (brick_of blocks old (state_of index)) (brick_of blocks new st_now)
+      (resolved (cached old.shape.block blocks) next) adds 4 result
   changes_plain blocks zero_block old new index item st_now next adds result standing runs free is slots step made not_made cause counted =
       let st = state_of index in
       let limits = indexes.limits_of index in
@@ -317,20 +390,25 @@ module _ {D : Type 0} (tells : Type 0) (seen : D → List ℕ) (may_leave : D �
       let records : limits.records ≡ old.shape.records = ap (λ (l : Limits). l.records) standing.indexed.limits_are in
       let stored = stored_plain blocks zero_block old index standing runs in
       changes_tried None blocks st next old new st_now adds 4 result runs (λ add at. not_full limits st (free add) (at ∙ sym records))
-      stored (λ told content kept put. slots (IsStored old.shape blocks content) (inl refl) (stored told content kept)) step_next made_next not_made cause counted
+      stored (λ told content kept put. slots (IsStored old.shape blocks content) (inl refl)
+      (stored told content kept)) step_next made_next not_made cause counted
     where
       stored_plain : (bs : BTreeMap ℕ (List ℕ)) (z : List ℕ) (s : Held D) (ix : Index) → Standing tells seen may_leave s ix bs z → s.halted ≡ false
           → tells → (content : List ℕ) → KeepsSlots s.shape None (seen s.disk) content → AllSlots (IsStored s.shape bs content) (state_of ix)
       stored_plain bs z s ix stands go told content kept =
-          slots_imply (IsStored s.shape bs (seen s.disk)) (IsStored s.shape bs content) (λ slot. stored_still s.shape None bs (seen s.disk) content kept slot tt) (state_of ix) (stands.on_disk told go).stored
+          slots_imply (IsStored s.shape bs (seen s.disk)) (IsStored s.shape bs content)
+          (λ slot. stored_still s.shape None bs (seen s.disk) content kept slot tt) (state_of ix) (stands.on_disk told go).stored
 
   -- and that the store stands after it
-  pub standing_plain : (blocks : BTreeMap ℕ (List ℕ)) (zero_block : List ℕ) (old new : Held D) (index index_now : Index) (item : Record) (next : StateOf Entry) (result : Result (Unit {0}) StoreFault)
+  pub standing_plain : (blocks : BTreeMap ℕ (List ℕ)) (zero_block : List ℕ) (old new : Held D) (index index_now : Index) (item : Record)
+      (next : StateOf Entry) (result : Result (Unit {0}) StoreFault)
       → Standing tells seen may_leave old index blocks zero_block → old.halted ≡ false
-      → applied (indexes.limits_of index) item (state_of index) ≡ Some next → ((P : ℕ → Type 0) → P 4294967295 → AllSlots P (state_of index) → AllSlots P next)
+      → applied (indexes.limits_of index) item (state_of index) ≡ Some next → ((P : ℕ → Type 0) → P 4294967295 → AllSlots P (state_of index)
+      → AllSlots P next)
       → AllByRecursion GroupHasMembers next.groups → indexes.limits_of index_now ≡ indexes.limits_of index
       → Step tells seen may_leave moment left_since None (state_of index) (changed (indexes.limits_of index) item (state_of index)) old new result
-      → OnOk result (state_of index_now ≡ changed (indexes.limits_of index) item (state_of index)) → OnErr result (state_of index_now ≡ state_of index)
+      → OnOk result (state_of index_now ≡ changed (indexes.limits_of index) item (state_of index))
+      → OnErr result (state_of index_now ≡ state_of index)
       → Standing tells seen may_leave new index_now blocks zero_block
   standing_plain blocks zero_block old new index index_now item next result standing runs is slots members limits step made not_made =
       let st = state_of index in
@@ -342,24 +420,35 @@ module _ {D : Type 0} (tells : Type 0) (seen : D → List ℕ) (may_leave : D �
       standing_after None blocks zero_block next old new index index_now result standing runs limits step_next made_next not_made kept members
       (slots (IsCached old.shape.block blocks) (inl refl) standing.cached_all)
       (λ told content kept_slots put. slots (IsStored old.shape blocks content) (inl refl)
-      (slots_imply (IsStored old.shape blocks (seen old.disk)) (IsStored old.shape blocks content) (λ slot. stored_still old.shape None blocks (seen old.disk) content kept_slots slot tt) st (standing.on_disk told runs).stored))
+      (slots_imply (IsStored old.shape blocks (seen old.disk)) (IsStored old.shape blocks content)
+      (λ slot. stored_still old.shape None blocks (seen old.disk) content kept_slots slot tt) st (standing.on_disk told runs).stored))
 
   -- in the words of what a clause sees of the store
-  pub told_of : (blocks : BTreeMap ℕ (List ℕ)) (old new : Held D) (st st_now next : StateOf Entry) (b : Brick D) (F : StateOf Version → StateOf Version) (A : StateOf Version → Bool) (adds : Bool) (calls : ℕ) (result : Result (Unit {0}) StoreFault)
-      → brick_of blocks old st ≡ b → resolved (cached old.shape.block blocks) next ≡ F (resolved (cached old.shape.block blocks) st) → adds ≡ A (resolved (cached old.shape.block blocks) st)
-      → Changes tells seen may_leave moment left_since faults sound (brick_of blocks old st) (brick_of blocks new st_now) (resolved (cached old.shape.block blocks) next) adds calls result
+  pub told_of : (blocks : BTreeMap ℕ (List ℕ)) (old new : Held D) (st st_now next : StateOf Entry) (b : Brick D)
+      (F : StateOf Version → StateOf Version) (A : StateOf Version → Bool) (adds : Bool) (calls : ℕ) (result : Result (Unit {0}) StoreFault)
+      → brick_of blocks old st ≡ b → resolved (cached old.shape.block blocks) next ≡ F (resolved (cached old.shape.block blocks) st)
+      → adds ≡ A (resolved (cached old.shape.block blocks) st)
+      → Changes tells seen may_leave moment left_since faults sound (brick_of blocks old st) (brick_of blocks new st_now)
+      (resolved (cached old.shape.block blocks) next) adds calls result
       → Changes tells seen may_leave moment left_since faults sound b (brick_of blocks new st_now) (F b.state) (A b.state) calls result
   told_of blocks old new st st_now next b F A adds calls result view after add tried =
-      subst (λ (x : Brick D). Changes tells seen may_leave moment left_since faults sound x (brick_of blocks new st_now) (F x.state) (A x.state) calls result) view
-      (subst (λ (a : StateOf Version). Changes tells seen may_leave moment left_since faults sound (brick_of blocks old st) (brick_of blocks new st_now) a (A (resolved (cached old.shape.block blocks) st)) calls result) after
-      (subst (λ (x : Bool). Changes tells seen may_leave moment left_since faults sound (brick_of blocks old st) (brick_of blocks new st_now) (resolved (cached old.shape.block blocks) next) x calls result) add tried))
+      subst (λ (x : Brick D). Changes tells seen may_leave moment left_since faults sound x (brick_of blocks new st_now) (F x.state)
+      (A x.state) calls result) view
+      (subst (λ (a : StateOf Version). Changes tells seen may_leave moment left_since faults sound (brick_of blocks old st)
+      (brick_of blocks new st_now) a (A (resolved (cached old.shape.block blocks) st)) calls result) after
+      (subst (λ (x : Bool). Changes tells seen may_leave moment left_since faults sound (brick_of blocks old st) (brick_of blocks new st_now)
+      (resolved (cached old.shape.block blocks) next) x calls result) add tried))
 
-  pub told_refused : (only_now : (disk : D) (image : List ℕ) → left_since disk (moment disk) image → may_leave disk image) (blocks : BTreeMap ℕ (List ℕ)) (zero_block : List ℕ) (old : Held D) (index : Index) (b : Brick D) (F : StateOf Version → StateOf Version) (A : StateOf Version → Bool) (adds : Bool) (calls : ℕ) (fault : StoreFault)
-      → brick_of blocks old (state_of index) ≡ b → adds ≡ A (resolved (cached old.shape.block blocks) (state_of index)) → Standing tells seen may_leave old index blocks zero_block
+  pub told_refused : (only_now : (disk : D) (image : List ℕ) → left_since disk (moment disk) image → may_leave disk image)
+      (blocks : BTreeMap ℕ (List ℕ)) (zero_block : List ℕ) (old : Held D) (index : Index) (b : Brick D) (F : StateOf Version → StateOf Version)
+      (A : StateOf Version → Bool) (adds : Bool) (calls : ℕ) (fault : StoreFault)
+      → brick_of blocks old (state_of index) ≡ b → adds ≡ A (resolved (cached old.shape.block blocks) (state_of index))
+      → Standing tells seen may_leave old index blocks zero_block
       → IsRefused old.halted adds (indexes.limits_of index).records (live (state_of index)) (Err fault)
       → Changes tells seen may_leave moment left_since faults sound b b (F b.state) (A b.state) calls (Err fault)
   told_refused only_now blocks zero_block old index b F A adds calls fault view add standing is =
       let st = state_of index in
       subst (λ (x : Brick D). Changes tells seen may_leave moment left_since faults sound x x (F x.state) (A x.state) calls (Err fault)) view
-      (subst (λ (x : Bool). Changes tells seen may_leave moment left_since faults sound (brick_of blocks old st) (brick_of blocks old st) (F (resolved (cached old.shape.block blocks) st)) x calls (Err fault)) add
+      (subst (λ (x : Bool). Changes tells seen may_leave moment left_since faults sound (brick_of blocks old st) (brick_of blocks old st)
+      (F (resolved (cached old.shape.block blocks) st)) x calls (Err fault)) add
       (changes_refused only_now blocks zero_block old index (F (resolved (cached old.shape.block blocks) st)) adds calls fault standing is))

@@ -18,14 +18,16 @@ most_few (forms.Kept (Order group view stripe stamp)) = omega arith
 most_few (forms.Logged logged) = omega arith
 
 -- room was made, and then a frame was appended
-pub append_counted : (fits room : Type 0) (calls a b c : ℕ) → (room → fits) → MakesRoomCalls fits 0 a b → c ≡ b + calls → MakesRoomCalls room calls a c
+pub append_counted : (fits room : Type 0) (calls a b c : ℕ) → (room → fits) → MakesRoomCalls fits 0 a b → c ≡ b + calls
+    → MakesRoomCalls room calls a c
 append_counted fits room calls a b c has first second = record {
   made = ⊎_elim (λ none. inl (omega (arith, none, second))) (λ seven. inr (omega (arith, seven, second))) first.made;
   at_once = λ here. omega (arith, first.at_once (has here), second);
 }
 
 -- a change was made
-pub change_counted : (r : Result (Unit {0}) StoreFault) (room : Type 0) (calls a b : ℕ) → OnOk r (MakesRoomCalls room calls a b) → OnOk r (MakesCalls calls a b)
+pub change_counted : (r : Result (Unit {0}) StoreFault) (room : Type 0) (calls a b : ℕ) → OnOk r (MakesRoomCalls room calls a b)
+    → OnOk r (MakesCalls calls a b)
 change_counted (Ok u) room calls a b h = h.made
 change_counted (Err e) room calls a b h = tt
 

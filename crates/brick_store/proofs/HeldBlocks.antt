@@ -18,19 +18,23 @@ some_same : {X : Type 0} {a b : X} → Some a ≡ Some b → a ≡ b
 some_same h = cc
 
 -- one block more
-pub read_more : (tells : Type 0) (shape : Shape) (size : ℕ) (content : List ℕ) (old new : BTreeMap ℕ (List ℕ)) (k : ℕ) (v : List ℕ) → ((q : ℕ) → get nat_cmp new q ≡ cond (is_at (nat_cmp k) q) (Some v) (get nat_cmp old q))
+pub read_more : (tells : Type 0) (shape : Shape) (size : ℕ) (content : List ℕ) (old new : BTreeMap ℕ (List ℕ)) (k : ℕ) (v : List ℕ)
+    → ((q : ℕ) → get nat_cmp new q ≡ cond (is_at (nat_cmp k) q) (Some v) (get nat_cmp old q))
     → IsReadFrom tells shape size content k v → AreRead tells shape size content old → AreRead tells shape size content new
 read_more tells shape size content old new k v updates here all slot bytes found = by (nat_cmp k slot) refl (sym (updates slot) ∙ found)
   where
-    by : (r : Ordering) → nat_cmp k slot ≡ r → cond (is_eq r) (Some v) (get nat_cmp old slot) ≡ Some bytes → IsReadFrom tells shape size content slot bytes
+    by : (r : Ordering) → nat_cmp k slot ≡ r → cond (is_eq r) (Some v) (get nat_cmp old slot) ≡ Some bytes
+        → IsReadFrom tells shape size content slot bytes
     by Less at is = all slot bytes is
     by Greater at is = all slot bytes is
     by Equal at is =
-        let there : IsReadFrom tells shape size content slot v = subst (λ (n : ℕ). IsReadFrom tells shape size content n v) (exact_unsigned k slot at) here in
+        let there : IsReadFrom tells shape size content slot v = subst (λ (n : ℕ). IsReadFrom tells shape size content n v)
+        (exact_unsigned k slot at) here in
         subst (λ (b : List ℕ). IsReadFrom tells shape size content slot b) (some_same is) there
 
 -- none is held yet
-pub none_read : (tells : Type 0) (shape : Shape) (size : ℕ) (content : List ℕ) (blocks : BTreeMap ℕ (List ℕ)) → blocks.entries ≡ [] → AreRead tells shape size content blocks
+pub none_read : (tells : Type 0) (shape : Shape) (size : ℕ) (content : List ℕ) (blocks : BTreeMap ℕ (List ℕ)) → blocks.entries ≡ []
+    → AreRead tells shape size content blocks
 none_read tells shape size content blocks none slot bytes found = absurd (none_some (sym (nothing_at blocks.entries none) ∙ found))
   where
     none_some : None ≡ Some bytes → ⊥
@@ -48,13 +52,17 @@ all_step : {X : Type 0} (P Q : X → Type 0) (xs : List X) → ((x : X) → P x 
 all_step P Q [] step all = tt
 all_step P Q (x ∷ xs) step all = (step x all.0, all_step P Q xs step all.1)
 
-pub held_more : (old new : BTreeMap ℕ (List ℕ)) (slots : List ℕ) (i slot : ℕ) → i < length slots → slot ≡ get_or slots i 0 → ((other : ℕ) → IsHeld old other → IsHeld new other) → IsHeld new slot
+pub held_more : (old new : BTreeMap ℕ (List ℕ)) (slots : List ℕ) (i slot : ℕ) → i < length slots → slot ≡ get_or slots i 0
+    → ((other : ℕ) → IsHeld old other → IsHeld new other) → IsHeld new slot
     → AllByRecursion (IsHeld old) (take i slots) → AllByRecursion (IsHeld new) (take (i + 1) slots)
 held_more old new slots i slot within is others here all =
-    let more : take (i + 1) slots ≡ take i slots ++ slot ∷ [] = rw add-one (take-suc slots i 0 within) ∙ ap (λ (x : ℕ). take i slots ++ x ∷ []) (sym is) in
-    subst (λ (xs : List ℕ). AllByRecursion (IsHeld new) xs) (sym more) (all_push (IsHeld new) (take i slots) slot (all_step (IsHeld old) (IsHeld new) (take i slots) others all) here)
+    let more : take (i + 1) slots ≡ take i slots ++ slot ∷ [] = rw add-one (take-suc slots i 0 within) ∙ ap (λ (x : ℕ). take i slots ++ x ∷ [])
+    (sym is) in
+    subst (λ (xs : List ℕ). AllByRecursion (IsHeld new) xs) (sym more)
+    (all_push (IsHeld new) (take i slots) slot (all_step (IsHeld old) (IsHeld new) (take i slots) others all) here)
 
-pub all_held : (blocks : BTreeMap ℕ (List ℕ)) (slots : List ℕ) (i : ℕ) → length slots ≤ i → AllByRecursion (IsHeld blocks) (take i slots) → AllByRecursion (IsHeld blocks) slots
+pub all_held : (blocks : BTreeMap ℕ (List ℕ)) (slots : List ℕ) (i : ℕ) → length slots ≤ i → AllByRecursion (IsHeld blocks) (take i slots)
+    → AllByRecursion (IsHeld blocks) slots
 all_held blocks slots i past all = subst (λ (xs : List ℕ). AllByRecursion (IsHeld blocks) xs) (take_all i slots past) all
 
 -- what holds of each slot holds of one of them
@@ -81,11 +89,19 @@ pub same_self : {D : Type 0} (held : Held D) → IsSame held held
 same_self held = record { shape = refl; frames = refl; closed = refl; size = refl }
 
 pub same_both : {D : Type 0} (a b c : Held D) → IsSame a b → IsSame b c → IsSame a c
-same_both a b c first second = record { shape = second.shape ∙ first.shape; frames = second.frames ∙ first.frames; closed = second.closed ∙ first.closed; size = second.size ∙ first.size }
+same_both a b c first second = record {
+  shape = second.shape ∙ first.shape;
+  frames = second.frames ∙ first.frames;
+  closed = second.closed
+      ∙ first.closed;
+  size = second.size ∙ first.size;
+}
 
 -- what was read from this file was read from that one, where they are the same
-pub read_moved : (tells : Type 0) (shape shape_then : Shape) (size size_then : ℕ) (content content_then : List ℕ) (old new : BTreeMap ℕ (List ℕ)) → shape ≡ shape_then → size ≡ size_then → content ≡ content_then
-    → (AreRead tells shape size content old → AreRead tells shape size content new) → AreRead tells shape_then size_then content_then old → AreRead tells shape_then size_then content_then new
+pub read_moved : (tells : Type 0) (shape shape_then : Shape) (size size_then : ℕ) (content content_then : List ℕ) (old new : BTreeMap ℕ (List ℕ))
+    → shape ≡ shape_then → size ≡ size_then → content ≡ content_then
+    → (AreRead tells shape size content old → AreRead tells shape size content new) → AreRead tells shape_then size_then content_then old
+    → AreRead tells shape_then size_then content_then new
 read_moved tells shape shape_then size size_then content content_then old new p q r step =
     subst (λ (c : List ℕ). AreRead tells shape_then size_then c old → AreRead tells shape_then size_then c new) r
     (subst (λ (n : ℕ). AreRead tells shape_then n content old → AreRead tells shape_then n content new) q

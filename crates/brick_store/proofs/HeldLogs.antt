@@ -25,7 +25,8 @@ use Rattle.brick_store.specs.Logs.{held, held_version, start_held, log_held, IsH
 some_last : {X : Type 0} (ys : List X) (x : X) (xs : List X) → last (ys ++ x ∷ xs) ≡ Some (get_or (x ∷ xs) (length xs) x)
 some_last ys x xs =
     let at : length (ys ++ x ∷ xs) - 1 ≡ length ys + length xs = omega (arith, length-append ys (x ∷ xs)) in
-    rw at (slice_get-get_or (ys ++ x ∷ xs) (length ys + length xs) x (omega (arith, length-append ys (x ∷ xs))) ∙ ap Some (get_or-append-add ys (x ∷ xs) (length xs) x))
+    rw at (slice_get-get_or (ys ++ x ∷ xs) (length ys + length xs) x (omega (arith, length-append ys (x ∷ xs)))
+    ∙ ap Some (get_or-append-add ys (x ∷ xs) (length xs) x))
 
 -- the last of two lists, one after the other
 pub last-append : {X : Type 0} (ys xs : List X) → last (ys ++ xs) ≡ option_or (last xs) (last ys)
@@ -67,7 +68,8 @@ module _ (zero : List ℕ) (blocks : BTreeMap ℕ (List ℕ)) (from_start : Bool
   pub newest_start : last added ≡ None → newest start ≡ newest log
   newest_start none = sym (newest-held ∙ ap (λ (o : Option Entry). option_or (option_map made o) (newest start)) none)
 
-  below-held : (bound : Stamp) → below bound log ≡ option_or (option_map made (last (filter (λ e. stamp_below e.stamp bound) added))) (below bound start)
+  below-held : (bound : Stamp) → below bound log ≡ option_or (option_map made (last (filter (λ e. stamp_below e.stamp bound) added)))
+      (below bound start)
   below-held bound =
       ap (λ (vs : List Version). newest vs) (filter-append (is_below bound) start (map made added))
       ∙ last-append (filter (is_below bound) start) (filter (is_below bound) (map made added))
@@ -80,36 +82,46 @@ module _ (zero : List ℕ) (blocks : BTreeMap ℕ (List ℕ)) (from_start : Bool
   pub below_start : (bound : Stamp) → last (filter (λ e. stamp_below e.stamp bound) added) ≡ None → below bound start ≡ below bound log
   below_start bound none = sym (below-held bound ∙ ap (λ (o : Option Entry). option_or (option_map made o) (below bound start)) none)
 
-  at-held : (t : Stamp) → option_map block_of (find (has_stamp t) log) ≡ option_or (option_map block_of (find (has_stamp t) start)) (option_map (λ e. held zero blocks e.slot) (find (λ e. stamp_same e.stamp t) added))
+  at-held : (t : Stamp) → option_map block_of (find (has_stamp t) log) ≡ option_or (option_map block_of (find (has_stamp t) start))
+      (option_map (λ e. held zero blocks e.slot) (find (λ e. stamp_same e.stamp t) added))
   at-held t =
-      ap (option_map block_of) (find-append (has_stamp t) start (map made added) ∙ ap (λ (o : Option Version). option_or (find (has_stamp t) start) o) (find-map made (has_stamp t) added))
+      ap (option_map block_of) (find-append (has_stamp t) start (map made added) ∙ ap (λ (o : Option Version). option_or (find (has_stamp t) start) o)
+      (find-map made (has_stamp t) added))
       ∙ blocks_or (find (has_stamp t) start) (find (λ e. stamp_same e.stamp t) added)
     where
-      blocks_or : (under : Option Version) (found : Option Entry) → option_map block_of (option_or under (option_map made found)) ≡ option_or (option_map block_of under) (option_map (λ e. held zero blocks e.slot) found)
+      blocks_or : (under : Option Version) (found : Option Entry) → option_map block_of (option_or under (option_map made found)) ≡ option_or
+          (option_map block_of under) (option_map (λ e. held zero blocks e.slot) found)
       blocks_or None None = refl
       blocks_or None (Some e) = refl
       blocks_or (Some v) found = refl
 
-  pub at_start : (t : Stamp) (block : List ℕ) → Some block ≡ option_map block_of (find (has_stamp t) start) → Some block ≡ option_map block_of (find (has_stamp t) log)
-  at_start t block is = sym (at-held t ∙ ap (λ (o : Option (List ℕ)). option_or o (option_map (λ e. held zero blocks e.slot) (find (λ e. stamp_same e.stamp t) added))) (sym is))
+  pub at_start : (t : Stamp) (block : List ℕ) → Some block ≡ option_map block_of (find (has_stamp t) start) → Some block ≡ option_map block_of
+      (find (has_stamp t) log)
+  at_start t block is = sym (at-held t ∙ ap (λ (o : Option (List ℕ)). option_or o
+      (option_map (λ e. held zero blocks e.slot) (find (λ e. stamp_same e.stamp t) added))) (sym is))
 
-  pub at_added : (t : Stamp) (found : Option Entry) → None ≡ option_map block_of (find (has_stamp t) start) → found ≡ find (λ e. stamp_same e.stamp t) added
+  pub at_added : (t : Stamp) (found : Option Entry) → None ≡ option_map block_of (find (has_stamp t) start)
+      → found ≡ find (λ e. stamp_same e.stamp t) added
       → option_map (λ e. held zero blocks e.slot) found ≡ option_map block_of (find (has_stamp t) log)
   at_added t found none is =
       ap (option_map (λ e. held zero blocks e.slot)) is
-      ∙ sym (at-held t ∙ ap (λ (o : Option (List ℕ)). option_or o (option_map (λ e. held zero blocks e.slot) (find (λ e. stamp_same e.stamp t) added))) (sym none))
+      ∙ sym (at-held t ∙ ap (λ (o : Option (List ℕ)). option_or o
+      (option_map (λ e. held zero blocks e.slot) (find (λ e. stamp_same e.stamp t) added))) (sym none))
 
   -- what is found is held
 
-  pub below_is_held : (bound : Stamp) (e : Entry) → AllHeld blocks added → last (filter (λ e. stamp_below e.stamp bound) added) ≡ Some e → IsHeld blocks e.slot
+  pub below_is_held : (bound : Stamp) (e : Entry) → AllHeld blocks added → last (filter (λ e. stamp_below e.stamp bound) added) ≡ Some e
+      → IsHeld blocks e.slot
   below_is_held bound e all found =
-      all_last (λ (v : Entry). IsHeld blocks v.slot) (filter (λ v. stamp_below v.stamp bound) added) e (all_filter (λ (v : Entry). IsHeld blocks v.slot) (λ v. stamp_below v.stamp bound) added all) found
+      all_last (λ (v : Entry). IsHeld blocks v.slot) (filter (λ v. stamp_below v.stamp bound) added) e
+      (all_filter (λ (v : Entry). IsHeld blocks v.slot) (λ v. stamp_below v.stamp bound) added all) found
 
   pub found_is_held : (t : Stamp) (e : Entry) → AllHeld blocks added → find (λ e. stamp_same e.stamp t) added ≡ Some e → IsHeld blocks e.slot
   found_is_held t e all found = all_found (λ (v : Entry). IsHeld blocks v.slot) (λ v. stamp_same v.stamp t) added e all found
 
 -- what lies in memory is held
-pub cached_held : (size : ℕ) (blocks : BTreeMap ℕ (List ℕ)) (added : List Entry) → AllByRecursion (λ e. IsCached size blocks e.slot) added → AllHeld blocks added
+pub cached_held : (size : ℕ) (blocks : BTreeMap ℕ (List ℕ)) (added : List Entry) → AllByRecursion (λ e. IsCached size blocks e.slot) added
+    → AllHeld blocks added
 cached_held size blocks [] all = tt
 cached_held size blocks (e ∷ added) all = (by all.0, cached_held size blocks added all.1)
   where
@@ -118,8 +130,10 @@ cached_held size blocks (e ∷ added) all = (by all.0, cached_held size blocks a
     by (inr there) = inr (subst (λ (o : Option (List ℕ)). IsSome o) (sym there.1) refl)
 
 -- what is held of a stripe is what is seen of it
-pub log_seen : (size : ℕ) (zero : List ℕ) (blocks : BTreeMap ℕ (List ℕ)) (st : StateOf Entry) (p : Place) (from_start : Bool) (added : List Entry) → zero ≡ replicate size 0
-    → (stripe_at st p).from_start ≡ from_start → (stripe_at st p).added ≡ added → log_held zero blocks from_start added ≡ log_at size (resolved (cached size blocks) st) p
+pub log_seen : (size : ℕ) (zero : List ℕ) (blocks : BTreeMap ℕ (List ℕ)) (st : StateOf Entry) (p : Place) (from_start : Bool) (added : List Entry)
+    → zero ≡ replicate size 0
+    → (stripe_at st p).from_start ≡ from_start → (stripe_at st p).added ≡ added → log_held zero blocks from_start added ≡ log_at size
+    (resolved (cached size blocks) st) p
 log_seen size zero blocks st p from_start added zero_is from_is added_is =
     ap (λ (z : List ℕ). log_held z blocks from_start added) zero_is
     ∙ ap (λ (b : Bool). log_held (replicate size 0) blocks b added) (sym from_is)

@@ -33,7 +33,8 @@ abbrev Above : Version → Version → Type 0
 Above v w = IsTrue (stamp_below v.stamp w.stamp)
 
 -- what rises over an entry is above it
-all_above : (block : ℕ → List ℕ) (limits : Limits) (t : Stamp) (u : Entry) (entries : List Entry) → ((e : Entry) → stamp_below u.stamp e.stamp ≡ true → stamp_below t e.stamp ≡ true)
+all_above : (block : ℕ → List ℕ) (limits : Limits) (t : Stamp) (u : Entry) (entries : List Entry)
+    → ((e : Entry) → stamp_below u.stamp e.stamp ≡ true → stamp_below t e.stamp ≡ true)
     → Rises limits (Some u) entries → AllByRecursion (λ v. stamp_below t v.stamp ≡ true) (map (version_of block) entries)
 all_above block limits t u [] over rises = tt
 all_above block limits t u (e ∷ entries) over rises =
@@ -43,15 +44,18 @@ all_above block limits t u (e ∷ entries) over rises =
 rising_nothing : IsRising []
 rising_nothing = λ i j d lt within. absurd (omega arith)
 
-rising_entries : (block : ℕ → List ℕ) (limits : Limits) (under : Option Entry) (entries : List Entry) → Rises limits under entries → IsRising (map (version_of block) entries)
+rising_entries : (block : ℕ → List ℕ) (limits : Limits) (under : Option Entry) (entries : List Entry) → Rises limits under entries
+    → IsRising (map (version_of block) entries)
 rising_entries block limits under [] rises = rising_nothing
 rising_entries block limits under (e ∷ entries) rises =
     AllPairs-cons Above (version_of block e) (map (version_of block) entries)
-    (All-from_recursion (λ (v : Version). Above (version_of block e) v) (map (version_of block) entries) (all_above block limits e.stamp e entries (λ x above. above) rises.1.1))
+    (All-from_recursion (λ (v : Version). Above (version_of block e) v) (map (version_of block) entries)
+    (all_above block limits e.stamp e entries (λ x above. above) rises.1.1))
     (rising_entries block limits (Some e) entries rises.1.1)
 
 -- and with the version that a stripe begins with
-rising_log : (size : ℕ) (block : ℕ → List ℕ) (limits : Limits) (order : Stamp) (from : Bool) (entries : List Entry) → Rises limits (start_of from) entries
+rising_log : (size : ℕ) (block : ℕ → List ℕ) (limits : Limits) (order : Stamp) (from : Bool) (entries : List Entry)
+    → Rises limits (start_of from) entries
     → IsRising (log_of size (resolved_stripe block (record { order = order; from_start = from; added = entries })))
 rising_log size block limits order false entries rises = rising_entries block limits None entries rises
 rising_log size block limits order true entries rises =
@@ -64,7 +68,8 @@ rising_log size block limits order true entries rises =
 pub kept_ordered : (size : ℕ) (block : ℕ → List ℕ) (limits : Limits) (st : StateOf Entry) → IsKeptState limits st → IsOrdered size (resolved block st)
 unfolding resolved
 kept_ordered size block limits st kept = record {
-  sorted = subst (λ (places : List Place). IsStrictlySortedBy place_cmp places) (sym (keys_of-map_values (resolved_stripe block) st.stripes)) kept.sorted;
+  sorted = subst (λ (places : List Place). IsStrictlySortedBy place_cmp places)
+      (sym (keys_of-map_values (resolved_stripe block) st.stripes)) kept.sorted;
   rising = λ p.
       let s = stripe_at st p in
       subst (λ (t : StripeOf Version). IsRising (log_of size t)) (sym (stripe_at-resolved block st p))
@@ -72,10 +77,14 @@ kept_ordered size block limits st kept = record {
 }
 
 -- a crash leaves only what opens as what an open store keeps
-pub standing_leaves : {D : Type 0} (tells : Type 0) (seen : D → List ℕ) (may_leave : D → List ℕ → Type 0) (blocks : BTreeMap ℕ (List ℕ)) (zero_block : List ℕ) (store : Held D) (index : Index)
-    → Standing tells seen may_leave store index blocks zero_block → tells → store.halted ≡ false → LeavesState store.shape (resolved (cached store.shape.block blocks) (state_of index)) (may_leave store.disk)
+pub standing_leaves : {D : Type 0} (tells : Type 0) (seen : D → List ℕ) (may_leave : D → List ℕ → Type 0) (blocks : BTreeMap ℕ (List ℕ))
+    (zero_block : List ℕ) (store : Held D) (index : Index)
+    → Standing tells seen may_leave store index blocks zero_block → tells → store.halted ≡ false
+    → LeavesState store.shape (resolved (cached store.shape.block blocks) (state_of index)) (may_leave store.disk)
 standing_leaves {D} tells seen may_leave blocks zero_block store index standing told runs image left =
     let was = standing.on_disk told runs in
-    let opens : OpensAs store.shape store.frames true (seen store.disk) = subst (λ (b : Bool). OpensAs store.shape store.frames b (seen store.disk)) was.closed was.shows.opens in
+    let opens : OpensAs store.shape store.frames true (seen store.disk) = subst
+    (λ (b : Bool). OpensAs store.shape store.frames b (seen store.disk)) was.closed was.shows.opens in
     subst (λ (x : List ℕ). StandsFor store.shape (resolved (cached store.shape.block blocks) (state_of index)) x) (sym (was.durable.only image left))
-    (stands_for store.shape blocks (state_of index) (seen store.disk) (record { frames = store.frames; opens = opens; leads = standing.indexed.leads }) was.stored)
+    (stands_for store.shape blocks (state_of index) (seen store.disk)
+    (record { frames = store.frames; opens = opens; leads = standing.indexed.leads }) was.stored)

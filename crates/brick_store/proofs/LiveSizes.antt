@@ -44,13 +44,21 @@ groups_most g [] = omega arith
 groups_most g (group ∷ groups) =
     let views = view_records g group.known in
     let ballots = ballot_records g (learnt_number group.known) group.ballots in
-    omega (arith, most_of-append (views ++ ballots) (groups_records (suc g) groups), most_of-append views ballots, view_most g group.known, ballots_most g (learnt_number group.known) group.ballots, groups_most (suc g) groups)
+    omega (
+      arith,
+      most_of-append (views ++ ballots) (groups_records (suc g) groups),
+      most_of-append views ballots,
+      view_most g group.known,
+      ballots_most g (learnt_number group.known) group.ballots,
+      groups_most (suc g) groups,
+    )
 
 view_named : (g : ℕ) (known : Option (View × Bool)) → KnownHasMembers known → AllByRecursion RecordHasMembers (view_records g known)
 view_named g None named = tt
 view_named g (Some known) named = (named, tt)
 
-ballots_named : (g v : ℕ) (ballots : Option (Ballot × Option (Ballot × List BrickId))) → BallotsHaveMembers ballots → AllByRecursion RecordHasMembers (ballot_records g v ballots)
+ballots_named : (g v : ℕ) (ballots : Option (Ballot × Option (Ballot × List BrickId))) → BallotsHaveMembers ballots → AllByRecursion RecordHasMembers
+    (ballot_records g v ballots)
 ballots_named g v None named = tt
 ballots_named g v (Some b) named = (named, tt)
 
@@ -61,7 +69,8 @@ groups_named g (group ∷ groups) named =
     let views = view_records g group.known in
     let ballots = ballot_records g (learnt_number group.known) group.ballots in
     all_append RecordHasMembers (views ++ ballots) (groups_records (suc g) groups)
-    (all_append RecordHasMembers views ballots (view_named g group.known named.0.0) (ballots_named g (learnt_number group.known) group.ballots named.0.1))
+    (all_append RecordHasMembers views ballots (view_named g group.known named.0.0)
+    (ballots_named g (learnt_number group.known) group.ballots named.0.1))
     (groups_named (suc g) groups named.1)
 
 -- ---- stripes
@@ -78,7 +87,13 @@ order_most p t false = omega arith
 
 stripe_most : (p : Place) (s : StripeOf Entry) → most_of (stripe_records p s) ≤ 41 * weight s
 stripe_most p s =
-    omega (arith, most_of-append (order_records p s.order) (version_records p (start_of s.from_start) s.added), order_most p s.order (stamp_same s.order first_stamp), versions_most p (start_of s.from_start) s.added)
+    omega (
+      arith,
+      most_of-append (order_records p s.order) (version_records p (start_of s.from_start) s.added),
+      order_most p s.order
+          (stamp_same s.order first_stamp),
+      versions_most p (start_of s.from_start) s.added,
+    )
 
 stripes_most : (stripes : List (Place × StripeOf Entry)) → most_of (stripes_records stripes) ≤ 41 * live_in stripes
 unfolding stripes_records most_of
@@ -101,14 +116,25 @@ unfolding stripes_records
 stripes_named [] = tt
 stripes_named (e ∷ stripes) =
     all_append RecordHasMembers (stripe_records e.0 e.1) (stripes_records stripes)
-    (all_append RecordHasMembers (order_records e.0 e.1.order) (version_records e.0 (start_of e.1.from_start) e.1.added) (order_named e.0 e.1.order (stamp_same e.1.order first_stamp)) (versions_named e.0 (start_of e.1.from_start) e.1.added))
+    (all_append RecordHasMembers (order_records e.0 e.1.order) (version_records e.0 (start_of e.1.from_start) e.1.added)
+    (order_named e.0 e.1.order (stamp_same e.1.order first_stamp)) (versions_named e.0 (start_of e.1.from_start) e.1.added))
     (stripes_named stripes)
 
 -- ---- all of it
 
 pub live_most : (st : StateOf Entry) → length st.groups ≡ 64 → most_of (live_records st) ≤ 15690 + 41 * live st
 unfolding most_of
-live_most st all = omega (arith, most_of-append (groups_records 0 st.groups) (stripes_records st.stripes), groups_most 0 st.groups, stripes_most st.stripes, all)
+live_most st all = omega (
+  arith,
+  most_of-append (groups_records 0 st.groups) (stripes_records st.stripes),
+  groups_most 0 st.groups,
+  stripes_most st.stripes,
+  all,
+)
 
 pub live_named : (st : StateOf Entry) → AllByRecursion GroupHasMembers st.groups → AllByRecursion RecordHasMembers (live_records st)
-live_named st named = (tt, all_append RecordHasMembers (groups_records 0 st.groups) (stripes_records st.stripes) (groups_named 0 st.groups named) (stripes_named st.stripes))
+live_named st named = (
+  tt,
+  all_append RecordHasMembers (groups_records 0 st.groups) (stripes_records st.stripes) (groups_named 0 st.groups named)
+      (stripes_named st.stripes),
+)

@@ -31,29 +31,37 @@ use Rattle.brick_store.specs.Openings.{IsHeld, AreRead, IsInside, IsLoaded}
 -- ---- a file that has a frame has all slots
 
 no_bytes : (shape : Shape) (half : Half) (image : List ℕ) → length image ≤ half_at shape half → half_bytes shape half image ≡ []
-no_bytes shape half image short = nil_from_length (half_bytes shape half image) (omega (arith, length-take (half_size shape) (drop (half_at shape half) image), length-drop (half_at shape half) image))
+no_bytes shape half image short = nil_from_length (half_bytes shape half image)
+    (omega (arith, length-take (half_size shape) (drop (half_at shape half) image), length-drop (half_at shape half) image))
 
 no_frames : (bytes : List ℕ) → bytes ≡ [] → frames_of bytes ≡ []
 unfolding frames_in
 no_frames bytes none = ap frames_of none
 
-pub past_half : (shape : Shape) (frame : Frame) (frames : List Frame) (closed : Bool) (image : List ℕ) → OpensAs shape (frame ∷ frames) closed image → slot_at shape shape.records < length image
+pub past_half : (shape : Shape) (frame : Frame) (frames : List Frame) (closed : Bool) (image : List ℕ) → OpensAs shape (frame ∷ frames) closed image
+    → slot_at shape shape.records < length image
 past_half shape frame frames closed image opens = by opens.half (cases_lt (half_at shape opens.half) (length image))
   where
     none_some : [] ≡ frame ∷ frames → ⊥
     none_some h = cc
 
-    by : (half : Half) → (half_at shape opens.half < length image) ⊎ (length image ≤ half_at shape opens.half) → slot_at shape shape.records < length image
+    by : (half : Half) → (half_at shape opens.half < length image) ⊎ (length image ≤ half_at shape opens.half)
+        → slot_at shape shape.records < length image
     by half (inl long) = at opens.half long
       where
         at : (h : Half) → half_at shape h < length image → slot_at shape shape.records < length image
         at A lt = lt
         at B lt = omega arith
-    by half (inr short) = absurd (none_some (sym (no_frames (half_bytes shape opens.half image) (no_bytes shape opens.half image short)) ∙ opens.listed))
+    by half (inr short) = absurd (none_some (sym (no_frames (half_bytes shape opens.half image) (no_bytes shape opens.half image short))
+        ∙ opens.listed))
 
-pub all_inside : (shape : Shape) (size : ℕ) (slots : List ℕ) → slot_at shape shape.records < size → AllByRecursion (λ slot. is_slot (limits_of shape) slot ≡ true) slots → AllByRecursion (IsInside shape size) slots
+pub all_inside : (shape : Shape) (size : ℕ) (slots : List ℕ) → slot_at shape shape.records < size
+    → AllByRecursion (λ slot. is_slot (limits_of shape) slot ≡ true) slots → AllByRecursion (IsInside shape size) slots
 all_inside shape size [] long all = tt
-all_inside shape size (slot ∷ slots) long all = (one (or_cases (eqb slot 4294967295) (ltb slot shape.records) all.0), all_inside shape size slots long all.1)
+all_inside shape size (slot ∷ slots) long all = (
+  one (or_cases (eqb slot 4294967295) (ltb slot shape.records) all.0),
+  all_inside shape size slots long all.1,
+)
   where
     one : ((eqb slot 4294967295 ≡ true) ⊎ (ltb slot shape.records ≡ true)) → IsInside shape size slot
     one (inl zero_block) = inl zero_block
@@ -63,7 +71,8 @@ all_inside shape size (slot ∷ slots) long all = (one (or_cases (eqb slot 42949
         has lt = record { is_slot = lt; inside = omega (arith, slot_before_half shape A slot lt, long) }
 
 -- so no slot that a version names is past the end of the file
-pub none_outside : {D : Type 0} (seen : D → List ℕ) (held : Held D) (st : StateOf Entry) → Shows seen held → IsKeptState (limits_of held.shape) st → folded (limits_of held.shape) (records_of held.frames) empty ≡ st
+pub none_outside : {D : Type 0} (seen : D → List ℕ) (held : Held D) (st : StateOf Entry) → Shows seen held → IsKeptState (limits_of held.shape) st
+    → folded (limits_of held.shape) (records_of held.frames) empty ≡ st
     → AllByRecursion (IsInside held.shape held.size) (slots_of st)
 unfolding slots_in records_of folded
 none_outside seen held st shows kept found = by held.frames refl
@@ -73,13 +82,16 @@ none_outside seen held st shows kept found = by held.frames refl
         let nothing : empty ≡ st = ap (λ (fs : List Frame). folded (limits_of held.shape) (records_of fs) empty) (sym none) ∙ found in
         subst (λ (s : StateOf Entry). AllByRecursion (IsInside held.shape held.size) (slots_of s)) nothing tt
     by (frame ∷ frames) some =
-        let opens : OpensAs held.shape (frame ∷ frames) held.closed (seen held.disk) = subst (λ (fs : List Frame). OpensAs held.shape fs held.closed (seen held.disk)) some shows.opens in
-        let long : slot_at held.shape held.shape.records < held.size = omega (arith, past_half held.shape frame frames held.closed (seen held.disk) opens, shows.size) in
+        let opens : OpensAs held.shape (frame ∷ frames) held.closed (seen held.disk) = subst
+        (λ (fs : List Frame). OpensAs held.shape fs held.closed (seen held.disk)) some shows.opens in
+        let long : slot_at held.shape held.shape.records < held.size = omega
+        (arith, past_half held.shape frame frames held.closed (seen held.disk) opens, shows.size) in
         all_inside held.shape held.size (slots_of st) long (kept_slots (limits_of held.shape) st kept)
 
 -- ---- what is held is cached
 
-module _ (tells : Type 0) (shape : Shape) (size : ℕ) (content : List ℕ) (blocks : BTreeMap ℕ (List ℕ)) (read : AreRead tells shape size content blocks) where
+module _ (tells : Type 0) (shape : Shape) (size : ℕ) (content : List ℕ) (blocks : BTreeMap ℕ (List ℕ))
+    (read : AreRead tells shape size content blocks) where
   held_cached : (slot : ℕ) → IsHeld blocks slot → IsCached shape.block blocks slot
   held_cached slot (inl zero_block) = inl zero_block
   held_cached slot (inr some) = by (get nat_cmp blocks slot) refl some
@@ -92,12 +104,15 @@ module _ (tells : Type 0) (shape : Shape) (size : ℕ) (content : List ℕ) (blo
   held_stored told long slot (inl zero_block) = inl zero_block
   held_stored told long slot (inr some) = by (get nat_cmp blocks slot) refl some (eqb slot 4294967295) refl
     where
-      by : (found : Option (List ℕ)) → get nat_cmp blocks slot ≡ found → IsSome found → (zero_block : Bool) → eqb slot 4294967295 ≡ zero_block → IsStored shape blocks content slot
+      by : (found : Option (List ℕ)) → get nat_cmp blocks slot ≡ found → IsSome found → (zero_block : Bool) → eqb slot 4294967295 ≡ zero_block
+          → IsStored shape blocks content slot
       by None at is zero_block which = absurd cc
       by (Some bytes) at is true which = inl which
       by (Some bytes) at is false which =
           let here = read slot bytes at in
-          let in_memory : cached shape.block blocks slot ≡ bytes = ap (λ (b : Bool). cond b (replicate shape.block 0) (unwrap_or (get nat_cmp blocks slot) [])) which ∙ ap (λ (o : Option (List ℕ)). unwrap_or o []) at in
+          let in_memory : cached shape.block blocks slot ≡ bytes = ap
+          (λ (b : Bool). cond b (replicate shape.block 0) (unwrap_or (get nat_cmp blocks slot) [])) which
+          ∙ ap (λ (o : Option (List ℕ)). unwrap_or o []) at in
           inr (subst (λ (n : ℕ). HasSlot shape n slot) (sym long) here.has, sym (here.told told) ∙ sym in_memory)
 
   all_step : (P Q : ℕ → Type 0) (xs : List ℕ) → ((x : ℕ) → P x → Q x) → AllByRecursion P xs → AllByRecursion Q xs
@@ -105,26 +120,33 @@ module _ (tells : Type 0) (shape : Shape) (size : ℕ) (content : List ℕ) (blo
   all_step P Q (x ∷ xs) step all = (step x all.0, all_step P Q xs step all.1)
 
   pub all_cached : (st : StateOf Entry) → AllByRecursion (IsHeld blocks) (slots_of st) → AllSlots (IsCached shape.block blocks) st
-  all_cached st all = each_slot (IsCached shape.block blocks) st.stripes (all_step (IsHeld blocks) (IsCached shape.block blocks) (slots_of st) held_cached all)
+  all_cached st all = each_slot (IsCached shape.block blocks) st.stripes
+      (all_step (IsHeld blocks) (IsCached shape.block blocks) (slots_of st) held_cached all)
 
-  pub all_stored : tells → length content ≡ size → (st : StateOf Entry) → AllByRecursion (IsHeld blocks) (slots_of st) → AllSlots (IsStored shape blocks content) st
-  all_stored told long st all = each_slot (IsStored shape blocks content) st.stripes (all_step (IsHeld blocks) (IsStored shape blocks content) (slots_of st) (held_stored told long) all)
+  pub all_stored : tells → length content ≡ size → (st : StateOf Entry) → AllByRecursion (IsHeld blocks) (slots_of st)
+      → AllSlots (IsStored shape blocks content) st
+  all_stored told long st all = each_slot (IsStored shape blocks content) st.stripes
+      (all_step (IsHeld blocks) (IsStored shape blocks content) (slots_of st) (held_stored told long) all)
 
 -- ---- all of it
 
 limits_same : (records : ℕ) (shape : Shape) → records ≡ shape.records → limits_for records ≡ limits_of shape
 limits_same records shape is = ap limits_for is
 
-module _ {D : Type 0} (tells : Type 0) (seen : D → List ℕ) (held : Held D) (records : ℕ) (limits : Limits) (st : StateOf Entry) (is : records ≡ held.shape.records)
+module _ {D : Type 0} (tells : Type 0) (seen : D → List ℕ) (held : Held D) (records : ℕ) (limits : Limits) (st : StateOf Entry)
+    (is : records ≡ held.shape.records)
     (state : st ≡ folded (limits_for records) (records_of held.frames) empty) where
   pub found_in_shape : folded (limits_of held.shape) (records_of held.frames) empty ≡ st
   found_in_shape = ap (λ (l : Limits). folded l (records_of held.frames) empty) (sym (limits_same records held.shape is)) ∙ sym state
 
   pub kept_in_shape : IsKeptState (limits_of held.shape) st
-  kept_in_shape = subst (λ (s : StateOf Entry). IsKeptState (limits_of held.shape) s) found_in_shape (folded_keeps (limits_of held.shape) (records_of held.frames) empty (empty_kept (limits_of held.shape)))
+  kept_in_shape = subst (λ (s : StateOf Entry). IsKeptState (limits_of held.shape) s) found_in_shape
+      (folded_keeps (limits_of held.shape) (records_of held.frames) empty (empty_kept (limits_of held.shape)))
 
-  pub loaded_from : (whole : Bool) (blocks : BTreeMap ℕ (List ℕ)) (slots : List ℕ) → limits ≡ limits_for records → (whole ≡ true → Leads (limits_for records) held.frames empty st) → AllByRecursion GroupHasMembers st.groups
-      → slots ≡ slots_of st → AllByRecursion (IsHeld blocks) slots → AreRead tells held.shape held.size (seen held.disk) blocks → (tells → Shows seen held) → st.boot < 2 ^ 32 - 1
+  pub loaded_from : (whole : Bool) (blocks : BTreeMap ℕ (List ℕ)) (slots : List ℕ) → limits ≡ limits_for records
+      → (whole ≡ true → Leads (limits_for records) held.frames empty st) → AllByRecursion GroupHasMembers st.groups
+      → slots ≡ slots_of st → AllByRecursion (IsHeld blocks) slots → AreRead tells held.shape held.size (seen held.disk) blocks
+      → (tells → Shows seen held) → st.boot < 2 ^ 32 - 1
       → IsLoaded tells held.shape held.frames (seen held.disk) limits st whole blocks
   loaded_from whole blocks slots limits_are leads members slots_are all read shows boots =
       let here : AllByRecursion (IsHeld blocks) (slots_of st) = subst (λ (xs : List ℕ). AllByRecursion (IsHeld blocks) xs) slots_are all in
@@ -141,4 +163,5 @@ module _ {D : Type 0} (tells : Type 0) (seen : D → List ℕ) (held : Held D) (
 
   -- no slot is past the end of the file
   pub inside_from : (slots : List ℕ) → slots ≡ slots_of st → Shows seen held → AllByRecursion (IsInside held.shape held.size) slots
-  inside_from slots slots_are shows = subst (λ (xs : List ℕ). AllByRecursion (IsInside held.shape held.size) xs) (sym slots_are) (none_outside seen held st shows kept_in_shape found_in_shape)
+  inside_from slots slots_are shows = subst (λ (xs : List ℕ). AllByRecursion (IsInside held.shape held.size) xs) (sym slots_are)
+      (none_outside seen held st shows kept_in_shape found_in_shape)

@@ -30,28 +30,35 @@ use Rattle.brick_store.proofs.Starting.{then_allowed}
 -- ---- images
 
 -- An image that stands for a state is read as that state, and its list did not end early.
-finds : (shape : Shape) (st : StateOf Version) (content : List ℕ) (frames : List Frame) (closed : Bool) → OpensAs shape frames closed content → StandsFor shape st content → (closed ≡ true) × (state_in shape frames content ≡ st)
+finds : (shape : Shape) (st : StateOf Version) (content : List ℕ) (frames : List Frame) (closed : Bool) → OpensAs shape frames closed content
+    → StandsFor shape st content → (closed ≡ true) × (state_in shape frames content ≡ st)
 finds shape st content frames closed opens stands =
     let once = opens_once shape content frames stands.frames closed true opens stands.opens in
     (once.1, ap (λ (fs : List Frame). state_in shape fs content) once.0 ∙ stands.state)
 
 -- what lies in a slot that is kept is what lay there
-kept_at : (shape : Shape) (content image : List ℕ) → KeepsSlots shape None content image → (slot : ℕ) → IsInside shape (length content) slot → block_at shape image slot ≡ block_at shape content slot
+kept_at : (shape : Shape) (content image : List ℕ) → KeepsSlots shape None content image → (slot : ℕ) → IsInside shape (length content) slot
+    → block_at shape image slot ≡ block_at shape content slot
 kept_at shape content image kept slot (inl zero_block) = rw zero_block refl
-kept_at shape content image kept slot (inr has) = ap (λ (bytes : List ℕ). cond (eqb slot 4294967295) (replicate shape.block 0) bytes) (kept.same slot has tt)
+kept_at shape content image kept slot (inr has) = ap (λ (bytes : List ℕ). cond (eqb slot 4294967295) (replicate shape.block 0) bytes)
+    (kept.same slot has tt)
 
 -- An image of the same slots and of frames of this state stands for what is read of the content.
-kept_stands : (shape : Shape) (st : StateOf Entry) (content image : List ℕ) → AllSlots (IsInside shape (length content)) st → IsKeptIn shape st content image → StandsFor shape (resolved (block_at shape content) st) image
+kept_stands : (shape : Shape) (st : StateOf Entry) (content image : List ℕ) → AllSlots (IsInside shape (length content)) st
+    → IsKeptIn shape st content image → StandsFor shape (resolved (block_at shape content) st) image
 kept_stands shape st content image inside kept = record {
   frames = kept.frames;
   opens = kept.opens;
   state =
       ap (resolved (block_at shape image)) kept.state
-      ∙ resolved_same (block_at shape image) (block_at shape content) st (slots_imply (IsInside shape (length content)) (λ slot. block_at shape image slot ≡ block_at shape content slot) (kept_at shape content image kept.slots) st inside);
+      ∙ resolved_same (block_at shape image) (block_at shape content) st
+      (slots_imply (IsInside shape (length content)) (λ slot. block_at shape image slot ≡ block_at shape content slot)
+      (kept_at shape content image kept.slots) st inside);
 }
 
 -- a state read with its blocks, counted
-counted_seen : (block : ℕ → List ℕ) (st : StateOf Entry) → resolved block (booted (st.boot + 1) st) ≡ booted ((resolved block st).boot + 1) (resolved block st)
+counted_seen : (block : ℕ → List ℕ) (st : StateOf Entry) → resolved block (booted (st.boot + 1) st) ≡ booted ((resolved block st).boot + 1)
+    (resolved block st)
 counted_seen block st = booted-resolved block (st.boot + 1) st ∙ ap (λ (n : ℕ). booted (n + 1) (resolved block st)) (sym (boot-resolved block st))
 
 -- ---- the store that was read
@@ -67,24 +74,31 @@ module _ {D : Type 0} (seen : D → List ℕ) (held : Held D) (shows : Shows see
       let st = found_in held.shape held.frames in
       let kept = folded_keeps (limits_of held.shape) (records_of held.frames) empty (empty_kept (limits_of held.shape)) in
       let here : AllByRecursion (IsInside held.shape held.size) (slots_of st) = none_outside seen held st shows kept refl in
-      let long : AllByRecursion (IsInside held.shape (length (seen held.disk))) (slots_of st) = subst (λ (n : ℕ). AllByRecursion (IsInside held.shape n) (slots_of st)) (sym shows.size) here in
+      let long : AllByRecursion (IsInside held.shape (length (seen held.disk))) (slots_of st) = subst
+      (λ (n : ℕ). AllByRecursion (IsInside held.shape n) (slots_of st)) (sym shows.size) here in
       each_slot (IsInside held.shape (length (seen held.disk))) st.stripes long
 
   -- An opening finds it: what is in memory is that state, counted.
-  pub found_counted : (blocks : BTreeMap ℕ (List ℕ)) (size : ℕ) (now : StateOf Entry) → size ≡ held.shape.block → AllSlots (IsStored held.shape blocks (seen held.disk)) (found_in held.shape held.frames)
-      → now ≡ booted ((found_in held.shape held.frames).boot + 1) (found_in held.shape held.frames) → resolved (cached size blocks) now ≡ booted (found.boot + 1) found
+  pub found_counted : (blocks : BTreeMap ℕ (List ℕ)) (size : ℕ) (now : StateOf Entry) → size ≡ held.shape.block
+      → AllSlots (IsStored held.shape blocks (seen held.disk)) (found_in held.shape held.frames)
+      → now ≡ booted ((found_in held.shape held.frames).boot + 1) (found_in held.shape held.frames) → resolved (cached size blocks) now ≡ booted
+      (found.boot + 1) found
   found_counted blocks size now size_is stored is =
       let st = found_in held.shape held.frames in
       let on_disk = block_at held.shape (seen held.disk) in
       let in_memory = cached held.shape.block blocks in
       let same : resolved on_disk st ≡ resolved in_memory st =
-      resolved_same on_disk in_memory st (slots_imply (IsStored held.shape blocks (seen held.disk)) (λ slot. on_disk slot ≡ in_memory slot) (stored_same held.shape blocks (seen held.disk)) st stored) in
-      ap (λ (n : ℕ). resolved (cached n blocks) now) size_is ∙ ap (resolved in_memory) is ∙ counted_seen in_memory st ∙ ap (λ (x : StateOf Version). booted (x.boot + 1) x) (sym same)
+      resolved_same on_disk in_memory st (slots_imply (IsStored held.shape blocks (seen held.disk)) (λ slot. on_disk slot ≡ in_memory slot)
+      (stored_same held.shape blocks (seen held.disk)) st stored) in
+      ap (λ (n : ℕ). resolved (cached n blocks) now) size_is ∙ ap (resolved in_memory) is ∙ counted_seen in_memory st
+      ∙ ap (λ (x : StateOf Version). booted (x.boot + 1) x) (sym same)
 
   -- where the disk held a store of this state
   pub state_counted : (content : List ℕ) → seen held.disk ≡ content → (st : StateOf Version) → StandsFor held.shape st content
-      → (blocks : BTreeMap ℕ (List ℕ)) (size : ℕ) (now : StateOf Entry) → size ≡ held.shape.block → AllSlots (IsStored held.shape blocks (seen held.disk)) (found_in held.shape held.frames)
-      → now ≡ booted ((found_in held.shape held.frames).boot + 1) (found_in held.shape held.frames) → resolved (cached size blocks) now ≡ booted (st.boot + 1) st
+      → (blocks : BTreeMap ℕ (List ℕ)) (size : ℕ) (now : StateOf Entry) → size ≡ held.shape.block
+      → AllSlots (IsStored held.shape blocks (seen held.disk)) (found_in held.shape held.frames)
+      → now ≡ booted ((found_in held.shape held.frames).boot + 1) (found_in held.shape held.frames) → resolved (cached size blocks) now ≡ booted
+      (st.boot + 1) st
   state_counted content content_is st stands blocks size now size_is stored is =
       let here : StandsFor held.shape st (seen held.disk) = subst (λ (x : List ℕ). StandsFor held.shape st x) (sym content_is) stands in
       found_counted blocks size now size_is stored is
@@ -92,21 +106,26 @@ module _ {D : Type 0} (seen : D → List ℕ) (held : Held D) (shows : Shows see
 
   -- the disk held a store, and this state was found
   is_found : (content : List ℕ) → seen held.disk ≡ content → IsFound held.shape found content
-  is_found content content_is = subst (λ (x : List ℕ). IsFound held.shape found x) content_is (record { frames = held.frames; closed = held.closed; opens = shows.opens; state = refl })
+  is_found content content_is = subst (λ (x : List ℕ). IsFound held.shape found x) content_is
+      (record { frames = held.frames; closed = held.closed; opens = shows.opens; state = refl })
 
   -- with this count of openings
   found_boot : found.boot ≡ (found_in held.shape held.frames).boot
   found_boot = boot-resolved (block_at held.shape (seen held.disk)) (found_in held.shape held.frames)
 
-  pub found_there : (content : List ℕ) → seen held.disk ≡ content → (blocks : BTreeMap ℕ (List ℕ)) (size : ℕ) (now : StateOf Entry) → size ≡ held.shape.block
-      → AllSlots (IsStored held.shape blocks (seen held.disk)) (found_in held.shape held.frames) → now ≡ booted ((found_in held.shape held.frames).boot + 1) (found_in held.shape held.frames)
+  pub found_there : (content : List ℕ) → seen held.disk ≡ content → (blocks : BTreeMap ℕ (List ℕ)) (size : ℕ) (now : StateOf Entry)
+      → size ≡ held.shape.block
+      → AllSlots (IsStored held.shape blocks (seen held.disk)) (found_in held.shape held.frames)
+      → now ≡ booted ((found_in held.shape held.frames).boot + 1) (found_in held.shape held.frames)
       → (found_in held.shape held.frames).boot < 4294967295
-      → (st : StateOf Version) × IsFound held.shape st content × (st.boot < 4294967295) × (resolved (cached size blocks) now ≡ booted (st.boot + 1) st)
+      → (st : StateOf Version) × IsFound held.shape st content × (st.boot < 4294967295)
+      × (resolved (cached size blocks) now ≡ booted (st.boot + 1) st)
   found_there content content_is blocks size now size_is stored is few =
       (found, is_found content content_is, omega (arith, few, found_boot), found_counted blocks size now size_is stored is)
 
   -- a store that is worn
-  pub worn_there : (content : List ℕ) → seen held.disk ≡ content → (found_in held.shape held.frames).boot ≡ 4294967295 → (st : StateOf Version) × IsFound held.shape st content × (st.boot ≡ 4294967295)
+  pub worn_there : (content : List ℕ) → seen held.disk ≡ content → (found_in held.shape held.frames).boot ≡ 4294967295 → (st : StateOf Version)
+      × IsFound held.shape st content × (st.boot ≡ 4294967295)
   worn_there content content_is worn = (found, is_found content content_is, found_boot ∙ worn)
 
   -- the list did not end early where the disk held a store
@@ -115,49 +134,66 @@ module _ {D : Type 0} (seen : D → List ℕ) (held : Held D) (shows : Shows see
 
   -- an image of a moment of the opening stands for the state, counted or not
   either_stands : (st : StateOf Version) → StandsFor held.shape st (seen held.disk) → (image : List ℕ)
-      → IsKeptInEither held.shape (found_in held.shape held.frames) (booted ((found_in held.shape held.frames).boot + 1) (found_in held.shape held.frames)) (seen held.disk) image
+      → IsKeptInEither held.shape (found_in held.shape held.frames)
+      (booted ((found_in held.shape held.frames).boot + 1) (found_in held.shape held.frames)) (seen held.disk) image
       → StandsForEither held.shape st (booted (st.boot + 1) st) image
   either_stands st stands image (inl before) =
-      inl (subst (λ (x : StateOf Version). StandsFor held.shape x image) (finds held.shape st (seen held.disk) held.frames held.closed shows.opens stands).1
+      inl (subst (λ (x : StateOf Version). StandsFor held.shape x image)
+      (finds held.shape st (seen held.disk) held.frames held.closed shows.opens stands).1
       (kept_stands held.shape (found_in held.shape held.frames) (seen held.disk) image all_inside_file before))
   either_stands st stands image (inr after) =
       let old = found_in held.shape held.frames in
-      let here : StandsFor held.shape (resolved (block_at held.shape (seen held.disk)) (booted (old.boot + 1) old)) image = kept_stands held.shape (booted (old.boot + 1) old) (seen held.disk) image all_inside_file after in
+      let here : StandsFor held.shape (resolved (block_at held.shape (seen held.disk)) (booted (old.boot + 1) old)) image = kept_stands held.shape
+      (booted (old.boot + 1) old) (seen held.disk) image all_inside_file after in
       inr (subst (λ (x : StateOf Version). StandsFor held.shape x image)
-      (counted_seen (block_at held.shape (seen held.disk)) old ∙ ap (λ (x : StateOf Version). booted (x.boot + 1) x) (finds held.shape st (seen held.disk) held.frames held.closed shows.opens stands).1) here)
+      (counted_seen (block_at held.shape (seen held.disk)) old ∙ ap (λ (x : StateOf Version). booted (x.boot + 1) x)
+      (finds held.shape st (seen held.disk) held.frames held.closed shows.opens stands).1) here)
 
 -- ---- moments
 
-module _ {D : Type 0} (seen : D → List ℕ) (may_leave : D → List ℕ → Type 0) (moment : D → ℕ) (left_since : D → ℕ → List ℕ → Type 0) (only_now : (disk : D) (image : List ℕ) → left_since disk (moment disk) image → may_leave disk image)
+module _ {D : Type 0} (seen : D → List ℕ) (may_leave : D → List ℕ → Type 0) (moment : D → ℕ) (left_since : D → ℕ → List ℕ → Type 0)
+    (only_now : (disk : D) (image : List ℕ) → left_since disk (moment disk) image → may_leave disk image)
     (disk new : D) (held : Held D) (shows : Shows seen held) (untouched : IsUntouched seen may_leave moment left_since disk held.disk) where
   -- At each moment of an opening the image is one that the disk allowed before, or it stands for the state, counted or not.
   pub opening_moments : (held.closed ≡ true → LeavesOnly moment left_since held.disk new (IsAllowedOr (may_leave held.disk)
-      (IsKeptInEither held.shape (found_in held.shape held.frames) (booted ((found_in held.shape held.frames).boot + 1) (found_in held.shape held.frames)) (seen held.disk))))
-      → (st : StateOf Version) → StandsFor held.shape st (seen disk) → LeavesOnly moment left_since disk new (IsAllowedOr (may_leave disk) (StandsForEither held.shape st (booted (st.boot + 1) st)))
+      (IsKeptInEither held.shape (found_in held.shape held.frames)
+      (booted ((found_in held.shape held.frames).boot + 1) (found_in held.shape held.frames)) (seen held.disk))))
+      → (st : StateOf Version) → StandsFor held.shape st (seen disk) → LeavesOnly moment left_since disk new
+      (IsAllowedOr (may_leave disk) (StandsForEither held.shape st (booted (st.boot + 1) st)))
   opening_moments run st stands =
       let old = found_in held.shape held.frames in
       let either = IsKeptInEither held.shape old (booted (old.boot + 1) old) in
       let here : StandsFor held.shape st (seen held.disk) = subst (λ (x : List ℕ). StandsFor held.shape st x) (sym untouched.content) stands in
-      widened moment left_since disk new (IsAllowedOr (may_leave disk) (either (seen disk))) (IsAllowedOr (may_leave disk) (StandsForEither held.shape st (booted (st.boot + 1) st)))
-      (λ image at. ⊎_elim (λ had. inl had) (λ now. inr (either_stands seen held shows st here image (subst (λ (x : List ℕ). either x image) (sym untouched.content) now))) at)
+      widened moment left_since disk new (IsAllowedOr (may_leave disk) (either (seen disk)))
+      (IsAllowedOr (may_leave disk) (StandsForEither held.shape st (booted (st.boot + 1) st)))
+      (λ image at. ⊎_elim (λ had. inl had) (λ now. inr
+      (either_stands seen held shows st here image (subst (λ (x : List ℕ). either x image) (sym untouched.content) now))) at)
       (then_allowed seen may_leave moment left_since only_now disk held.disk new either untouched (run (closed_there seen held shows st here)))
 
   -- where each image that the disk allowed stands for the state, each image does
-  pub synced_moments : (seen_is_left : may_leave disk (seen disk)) → (held.closed ≡ true → LeavesOnly moment left_since held.disk new (IsAllowedOr (may_leave held.disk)
-      (IsKeptInEither held.shape (found_in held.shape held.frames) (booted ((found_in held.shape held.frames).boot + 1) (found_in held.shape held.frames)) (seen held.disk))))
-      → (st : StateOf Version) → LeavesState held.shape st (may_leave disk) → LeavesOnly moment left_since disk new (StandsForEither held.shape st (booted (st.boot + 1) st))
+  pub synced_moments : (seen_is_left : may_leave disk (seen disk))
+      → (held.closed ≡ true → LeavesOnly moment left_since held.disk new (IsAllowedOr (may_leave held.disk)
+      (IsKeptInEither held.shape (found_in held.shape held.frames)
+      (booted ((found_in held.shape held.frames).boot + 1) (found_in held.shape held.frames)) (seen held.disk))))
+      → (st : StateOf Version) → LeavesState held.shape st (may_leave disk) → LeavesOnly moment left_since disk new
+      (StandsForEither held.shape st (booted (st.boot + 1) st))
   synced_moments seen_is_left run st stands =
       let either = StandsForEither held.shape st (booted (st.boot + 1) st) in
-      widened moment left_since disk new (IsAllowedOr (may_leave disk) either) either (λ image at. ⊎_elim (λ had. inl (stands image had)) (λ now. now) at)
+      widened moment left_since disk new (IsAllowedOr (may_leave disk) either) either
+      (λ image at. ⊎_elim (λ had. inl (stands image had)) (λ now. now) at)
       (opening_moments run st (stands (seen disk) seen_is_left))
 
 -- ---- afterwards
 
 -- A crash leaves what stands for the state of an open store.
-pub standing_leaves : {D : Type 0} (tells : Type 0) (seen : D → List ℕ) (may_leave : D → List ℕ → Type 0) (held : Held D) (index : Index) (blocks : BTreeMap ℕ (List ℕ)) (zero_block : List ℕ)
-    → Standing tells seen may_leave held index blocks zero_block → tells → held.halted ≡ false → LeavesState held.shape (resolved (cached held.shape.block blocks) (state_of index)) (may_leave held.disk)
+pub standing_leaves : {D : Type 0} (tells : Type 0) (seen : D → List ℕ) (may_leave : D → List ℕ → Type 0) (held : Held D) (index : Index)
+    (blocks : BTreeMap ℕ (List ℕ)) (zero_block : List ℕ)
+    → Standing tells seen may_leave held index blocks zero_block → tells → held.halted ≡ false
+    → LeavesState held.shape (resolved (cached held.shape.block blocks) (state_of index)) (may_leave held.disk)
 standing_leaves tells seen may_leave held index blocks zero_block standing told runs image left =
     let was = standing.on_disk told runs in
-    let opens : OpensAs held.shape held.frames true (seen held.disk) = subst (λ (b : Bool). OpensAs held.shape held.frames b (seen held.disk)) was.closed was.shows.opens in
+    let opens : OpensAs held.shape held.frames true (seen held.disk) = subst
+    (λ (b : Bool). OpensAs held.shape held.frames b (seen held.disk)) was.closed was.shows.opens in
     subst (λ (x : List ℕ). StandsFor held.shape (resolved (cached held.shape.block blocks) (state_of index)) x) (sym (was.durable.only image left))
-    (stands_for held.shape blocks (state_of index) (seen held.disk) (record { frames = held.frames; opens = opens; leads = standing.indexed.leads }) was.stored)
+    (stands_for held.shape blocks (state_of index) (seen held.disk)
+    (record { frames = held.frames; opens = opens; leads = standing.indexed.leads }) was.stored)

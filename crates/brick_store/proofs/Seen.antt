@@ -14,7 +14,8 @@ pub group_seen : (block : ℕ → List ℕ) (st : StateOf Entry) (g : ℕ) → g
 group_seen block st g = ap (λ (groups : List Group). slice_index_or groups g no_group) (sym (groups-resolved block st))
 
 -- nothing is kept of a group from 64 on
-pub none_above : (block : ℕ → List ℕ) (limits : Limits) (st : StateOf Entry) → IsKeptState limits st → (k : ℕ) → 64 ≤ k → (group_at (resolved block st) k).known ≡ None
+pub none_above : (block : ℕ → List ℕ) (limits : Limits) (st : StateOf Entry) → IsKeptState limits st → (k : ℕ) → 64 ≤ k
+    → (group_at (resolved block st) k).known ≡ None
 unfolding resolved
 none_above block limits st is k high =
     let past : length st.groups ≤ k = omega (arith, is.all_groups) in

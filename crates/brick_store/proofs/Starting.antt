@@ -38,7 +38,8 @@ unfolding applied changed
 counted limits n st = refl
 
 -- frames that lead to a state are its
-kept_leads : (shape : Shape) (st : StateOf Entry) (a b image : List ℕ) → KeepsSlots shape None a b → KeepsSlots shape None b image → LeadsTo shape st image → IsKeptIn shape st a image
+kept_leads : (shape : Shape) (st : StateOf Entry) (a b image : List ℕ) → KeepsSlots shape None a b → KeepsSlots shape None b image
+    → LeadsTo shape st image → IsKeptIn shape st a image
 kept_leads shape st a b image first second leads = record {
   frames = leads.frames;
   opens = leads.opens;
@@ -46,41 +47,52 @@ kept_leads shape st a b image first second leads = record {
   slots = slots_then shape None a b image first second;
 }
 
-moment_kept : (shape : Shape) (st next : StateOf Entry) (a b image : List ℕ) → KeepsSlots shape None a b → IsMoment shape None st next b image → IsKeptInEither shape st next a image
+moment_kept : (shape : Shape) (st next : StateOf Entry) (a b image : List ℕ) → KeepsSlots shape None a b → IsMoment shape None st next b image
+    → IsKeptInEither shape st next a image
 moment_kept shape st next a b image first moment = by moment.opens
   where
     by : LeadsTo shape st image ⊎ (LeadsTo shape next image × Unit {0}) → IsKeptInEither shape st next a image
     by (inl before) = inl (kept_leads shape st a b image first moment.slots before)
     by (inr after) = inr (kept_leads shape next a b image first moment.slots after.0)
 
-module _ {D : Type 0} (moment : D → ℕ) (left_since : D → ℕ → List ℕ → Type 0) (allowed : List ℕ → Type 0) (shape : Shape) (st next : StateOf Entry) (content : List ℕ) where
+module _ {D : Type 0} (moment : D → ℕ) (left_since : D → ℕ → List ℕ → Type 0) (allowed : List ℕ → Type 0) (shape : Shape) (st next : StateOf Entry)
+    (content : List ℕ) where
   -- the disk was synced, and the list is the one that it was or one of the same state
-  pub settled_moments : (old new : D) → LeavesOnly moment left_since old new (IsAllowedOr allowed (IsKeptIn shape st content)) → LeavesOnly moment left_since old new (IsAllowedOr allowed (IsKeptInEither shape st next content))
-  settled_moments old new run = widened moment left_since old new (IsAllowedOr allowed (IsKeptIn shape st content)) (IsAllowedOr allowed (IsKeptInEither shape st next content)) wider run
+  pub settled_moments : (old new : D) → LeavesOnly moment left_since old new (IsAllowedOr allowed (IsKeptIn shape st content))
+      → LeavesOnly moment left_since old new (IsAllowedOr allowed (IsKeptInEither shape st next content))
+  settled_moments old new run = widened moment left_since old new (IsAllowedOr allowed (IsKeptIn shape st content))
+      (IsAllowedOr allowed (IsKeptInEither shape st next content)) wider run
     where
-      wider : (image : List ℕ) → IsAllowedOr allowed (IsKeptIn shape st content) image → IsAllowedOr allowed (IsKeptInEither shape st next content) image
+      wider : (image : List ℕ) → IsAllowedOr allowed (IsKeptIn shape st content) image
+          → IsAllowedOr allowed (IsKeptInEither shape st next content) image
       wider image (inl had) = inl had
       wider image (inr now) = inr (inl now)
 
   -- and then the opening was counted
-  pub counted_moments : (old mid new : D) (later : List ℕ) → KeepsSlots shape None content later → LeavesOnly moment left_since old mid (IsAllowedOr allowed (IsKeptIn shape st content)) → LeavesOnly moment left_since mid new (IsMoment shape None st next later)
+  pub counted_moments : (old mid new : D) (later : List ℕ) → KeepsSlots shape None content later → LeavesOnly moment left_since old mid
+      (IsAllowedOr allowed (IsKeptIn shape st content)) → LeavesOnly moment left_since mid new (IsMoment shape None st next later)
       → LeavesOnly moment left_since old new (IsAllowedOr allowed (IsKeptInEither shape st next content))
   counted_moments old mid new later slots first second =
       joined moment left_since old mid new (IsAllowedOr allowed (IsKeptInEither shape st next content)) (settled_moments old mid first)
-      (widened moment left_since mid new (IsMoment shape None st next later) (IsAllowedOr allowed (IsKeptInEither shape st next content)) (λ image at. inr (moment_kept shape st next content later image slots at)) second)
+      (widened moment left_since mid new (IsMoment shape None st next later) (IsAllowedOr allowed (IsKeptInEither shape st next content))
+      (λ image at. inr (moment_kept shape st next content later image slots at)) second)
 
 -- ---- reading comes first
 
-module _ {D : Type 0} (seen : D → List ℕ) (may_leave : D → List ℕ → Type 0) (moment : D → ℕ) (left_since : D → ℕ → List ℕ → Type 0) (only_now : (disk : D) (image : List ℕ) → left_since disk (moment disk) image → may_leave disk image) where
+module _ {D : Type 0} (seen : D → List ℕ) (may_leave : D → List ℕ → Type 0) (moment : D → ℕ) (left_since : D → ℕ → List ℕ → Type 0)
+    (only_now : (disk : D) (image : List ℕ) → left_since disk (moment disk) image → may_leave disk image) where
   -- a disk that was left alone
-  pub still_allowed : (old mid : D) (P : List ℕ → Type 0) → IsUntouched seen may_leave moment left_since old mid → LeavesOnly moment left_since old mid (IsAllowedOr (may_leave old) P)
+  pub still_allowed : (old mid : D) (P : List ℕ → Type 0) → IsUntouched seen may_leave moment left_since old mid
+      → LeavesOnly moment left_since old mid (IsAllowedOr (may_leave old) P)
   still_allowed old mid P untouched =
-      goes_on moment left_since old old mid (IsAllowedOr (may_leave old) P) (may_leave mid) (started moment left_since old (IsAllowedOr (may_leave old) P) (λ image left. inl (only_now old image left))) untouched.time
+      goes_on moment left_since old old mid (IsAllowedOr (may_leave old) P) (may_leave mid)
+      (started moment left_since old (IsAllowedOr (may_leave old) P) (λ image left. inl (only_now old image left))) untouched.time
       (λ image left. inl (untouched.crash image left))
 
   -- and then was not
   pub then_allowed : (old mid new : D) (Q : List ℕ → List ℕ → Type 0) → IsUntouched seen may_leave moment left_since old mid
-      → LeavesOnly moment left_since mid new (IsAllowedOr (may_leave mid) (Q (seen mid))) → LeavesOnly moment left_since old new (IsAllowedOr (may_leave old) (Q (seen old)))
+      → LeavesOnly moment left_since mid new (IsAllowedOr (may_leave mid) (Q (seen mid))) → LeavesOnly moment left_since old new
+      (IsAllowedOr (may_leave old) (Q (seen old)))
   then_allowed old mid new Q untouched run =
       joined moment left_since old mid new (IsAllowedOr (may_leave old) (Q (seen old))) (still_allowed old mid (Q (seen old)) untouched)
       (widened moment left_since mid new (IsAllowedOr (may_leave mid) (Q (seen mid))) (IsAllowedOr (may_leave old) (Q (seen old))) wider run)
@@ -91,10 +103,14 @@ module _ {D : Type 0} (seen : D → List ℕ) (may_leave : D → List ℕ → Ty
 
 -- ---- a store that stands
 
-module _ {D : Type 0} (tells : Type 0) (seen : D → List ℕ) (may_leave : D → List ℕ → Type 0) (moment : D → ℕ) (left_since : D → ℕ → List ℕ → Type 0) where
-  pub standing_from : (new : Held D) (index : Index) (blocks : BTreeMap ℕ (List ℕ)) (zero_block : List ℕ) (shape : Shape) (frames : List Frame) (content : List ℕ) (limits : Limits) (st : StateOf Entry) (whole : Bool)
-      → new.shape ≡ shape → IsShape shape → IsLoaded tells shape frames content limits st whole blocks → zero_block ≡ replicate shape.block 0 → indexes.limits_of index ≡ limits → state_of index ≡ booted (st.boot + 1) st
-      → Leads (limits_of shape) new.frames empty (state_of index) → (tells → IsSettled tells seen may_leave moment left_since new) → (tells → KeepsSlots shape None content (seen new.disk))
+module _ {D : Type 0} (tells : Type 0) (seen : D → List ℕ) (may_leave : D → List ℕ → Type 0) (moment : D → ℕ)
+    (left_since : D → ℕ → List ℕ → Type 0) where
+  pub standing_from : (new : Held D) (index : Index) (blocks : BTreeMap ℕ (List ℕ)) (zero_block : List ℕ) (shape : Shape) (frames : List Frame)
+      (content : List ℕ) (limits : Limits) (st : StateOf Entry) (whole : Bool)
+      → new.shape ≡ shape → IsShape shape → IsLoaded tells shape frames content limits st whole blocks → zero_block ≡ replicate shape.block 0
+      → indexes.limits_of index ≡ limits → state_of index ≡ booted (st.boot + 1) st
+      → Leads (limits_of shape) new.frames empty (state_of index) → (tells → IsSettled tells seen may_leave moment left_since new)
+      → (tells → KeepsSlots shape None content (seen new.disk))
       → Standing tells seen may_leave new index blocks zero_block
   standing_from new index blocks zero_block shape frames content limits st whole is shape_ok loaded zero_is index_limits now leads settled slots =
       let to : shape ≡ new.shape = sym is in
@@ -104,10 +120,12 @@ module _ {D : Type 0} (tells : Type 0) (seen : D → List ℕ) (may_leave : D �
         indexed = record {
           limits_are = index_limits ∙ loaded.limits_are ∙ ap limits_of to;
           leads = subst (λ (s : Shape). Leads (limits_of s) new.frames empty (state_of index)) to leads;
-          kept = subst (λ (s : Shape). IsKeptState (limits_of s) (state_of index)) to (subst (λ (x : StateOf Entry). IsKeptState (limits_of shape) x) back (boot_kept (limits_of shape) (st.boot + 1) st loaded.kept));
+          kept = subst (λ (s : Shape). IsKeptState (limits_of s) (state_of index)) to
+              (subst (λ (x : StateOf Entry). IsKeptState (limits_of shape) x) back (boot_kept (limits_of shape) (st.boot + 1) st loaded.kept));
           members = subst (λ (x : StateOf Entry). AllByRecursion GroupHasMembers x.groups) back loaded.members;
         };
-        cached_all = subst (λ (s : Shape). AllSlots (IsCached s.block blocks) (state_of index)) to (subst (λ (x : StateOf Entry). AllSlots (IsCached shape.block blocks) x) back loaded.held);
+        cached_all = subst (λ (s : Shape). AllSlots (IsCached s.block blocks) (state_of index)) to
+            (subst (λ (x : StateOf Entry). AllSlots (IsCached shape.block blocks) x) back loaded.held);
         zero_is = zero_is ∙ ap (λ (s : Shape). replicate s.block 0) to;
         on_disk = λ told runs. record {
           durable = (settled told).durable;
@@ -115,6 +133,7 @@ module _ {D : Type 0} (tells : Type 0) (seen : D → List ℕ) (may_leave : D �
           closed = (settled told).closed;
           stored = subst (λ (s : Shape). AllSlots (IsStored s blocks (seen new.disk)) (state_of index)) to
               (subst (λ (x : StateOf Entry). AllSlots (IsStored shape blocks (seen new.disk)) x) back
-              (slots_imply (IsStored shape blocks content) (IsStored shape blocks (seen new.disk)) (λ slot stored. stored_still shape None blocks content (seen new.disk) (slots told) slot tt stored) st (loaded.stored told)));
+              (slots_imply (IsStored shape blocks content) (IsStored shape blocks (seen new.disk))
+              (λ slot stored. stored_still shape None blocks content (seen new.disk) (slots told) slot tt stored) st (loaded.stored told)));
         };
       }

@@ -27,11 +27,24 @@ use Rattle.brick_store.specs.Steps.{changed, IsMoment, IsSettled, IsMade, Step, 
 -- ---- frames and what they lead to
 
 -- one frame more
-pub leads_more : (limits : Limits) (frames : List Frame) (frame : Frame) (r : Record) (old st next : StateOf Entry) → Leads limits frames old st → record_of frame ≡ Some r → applied limits r st ≡ Some next
+pub leads_more : (limits : Limits) (frames : List Frame) (frame : Frame) (r : Record) (old st next : StateOf Entry) → Leads limits frames old st
+    → record_of frame ≡ Some r → applied limits r st ≡ Some next
     → Leads limits (frames ++ frame ∷ []) old next
 unfolding Leads
-leads_more limits [] frame r old st next leads is can = (r, is, next, subst (λ (s : StateOf Entry). applied limits r s ≡ Some next) (sym leads) can, refl)
-leads_more limits (first ∷ frames) frame r old st next leads is can = (leads.0, leads.1, leads.2, leads.3, leads_more limits frames frame r leads.2 st next leads.4 is can)
+leads_more limits [] frame r old st next leads is can = (
+  r,
+  is,
+  next,
+  subst (λ (s : StateOf Entry). applied limits r s ≡ Some next) (sym leads) can,
+  refl,
+)
+leads_more limits (first ∷ frames) frame r old st next leads is can = (
+  leads.0,
+  leads.1,
+  leads.2,
+  leads.3,
+  leads_more limits frames frame r leads.2 st next leads.4 is can,
+)
 
 -- what a record that can be makes of a state
 pub changed_is : (limits : Limits) (r : Record) (st : StateOf Entry) → IsSome (applied limits r st) → applied limits r st ≡ Some (changed limits r st)
@@ -42,13 +55,16 @@ changed_is limits r st can = by (applied limits r st) can
     by None h = absurd cc
     by (Some next) h = refl
 
-pub leads_changed : (limits shaped : Limits) (frames : List Frame) (frame : Frame) (r : Record) (st : StateOf Entry) → limits ≡ shaped → Leads shaped frames empty st → record_of frame ≡ Some r → IsSome (applied limits r st)
+pub leads_changed : (limits shaped : Limits) (frames : List Frame) (frame : Frame) (r : Record) (st : StateOf Entry) → limits ≡ shaped
+    → Leads shaped frames empty st → record_of frame ≡ Some r → IsSome (applied limits r st)
     → Leads shaped (frames ++ frame ∷ []) empty (changed limits r st)
 leads_changed limits shaped frames frame r st same leads is can =
-    leads_more shaped frames frame r empty st (changed limits r st) leads is (subst (λ (l : Limits). applied l r st ≡ Some (changed limits r st)) same (changed_is limits r st can))
+    leads_more shaped frames frame r empty st (changed limits r st) leads is (subst (λ (l : Limits). applied l r st ≡ Some (changed limits r st)) same
+    (changed_is limits r st can))
 
 -- the frames of records that lead to a state lead there
-pub leads_from_records : (limits : Limits) (frames : List Frame) (rs : List Record) (old st : StateOf Entry) → map record_of frames ≡ map Some rs → records.Leads limits rs old st → Leads limits frames old st
+pub leads_from_records : (limits : Limits) (frames : List Frame) (rs : List Record) (old st : StateOf Entry) → map record_of frames ≡ map Some rs
+    → records.Leads limits rs old st → Leads limits frames old st
 unfolding Leads records.Leads
 leads_from_records limits [] [] old st same leads = leads
 leads_from_records limits [] (r ∷ rs) old st same leads = absurd cc
@@ -68,10 +84,12 @@ pub slots_same : (shape : Shape) (put : Option (ℕ × List ℕ)) (content image
 slots_same shape put content image is =
     subst (λ (x : List ℕ). KeepsSlots shape put content x) (sym is) (record { size = omega arith; same = λ slot has free. refl })
 
-pub slots_then : (shape : Shape) (put : Option (ℕ × List ℕ)) (a b c : List ℕ) → KeepsSlots shape None a b → KeepsSlots shape put b c → KeepsSlots shape put a c
+pub slots_then : (shape : Shape) (put : Option (ℕ × List ℕ)) (a b c : List ℕ) → KeepsSlots shape None a b → KeepsSlots shape put b c
+    → KeepsSlots shape put a c
 slots_then shape put a b c first second = record {
   size = omega (arith, first.size, second.size);
-  same = λ slot has free. second.same slot (record { is_slot = has.is_slot; inside = omega (arith, has.inside, first.size) }) free ∙ first.same slot has tt;
+  same = λ slot has free. second.same slot (record { is_slot = has.is_slot; inside = omega (arith, has.inside, first.size) }) free
+      ∙ first.same slot has tt;
 }
 
 pub slots_wider : (shape : Shape) (put : Option (ℕ × List ℕ)) (a b : List ℕ) → KeepsSlots shape None a b → KeepsSlots shape put a b
@@ -80,27 +98,37 @@ slots_wider shape put a b kept = record { size = kept.size; same = λ slot has f
 -- ---- moments
 
 -- at a moment of an append or a rewrite
-pub moment_from : (shape : Shape) (put : Option (ℕ × List ℕ)) (frames after_frames : List Frame) (before after : StateOf Entry) (content image : List ℕ)
-    → Leads (limits_of shape) frames empty before → Leads (limits_of shape) after_frames empty after → IsBeforeOrAfter shape frames after_frames put content image → IsMoment shape put before after content image
+pub moment_from : (shape : Shape) (put : Option (ℕ × List ℕ)) (frames after_frames : List Frame) (before after : StateOf Entry)
+    (content image : List ℕ)
+    → Leads (limits_of shape) frames empty before → Leads (limits_of shape) after_frames empty after
+    → IsBeforeOrAfter shape frames after_frames put content image → IsMoment shape put before after content image
 moment_from shape put frames after_frames before after content image leads leads_after is = record {
-  opens = ⊎_elim (λ opens. inl (record { frames = frames; opens = opens; leads = leads })) (λ made. inr (record { frames = after_frames; opens = made.0; leads = leads_after }, made.1)) is.opens;
+  opens = ⊎_elim (λ opens. inl (record { frames = frames; opens = opens; leads = leads }))
+      (λ made. inr (record { frames = after_frames; opens = made.0; leads = leads_after }, made.1)) is.opens;
   slots = is.slots;
 }
 
 -- nothing has happened yet
 pub moment_before : (shape : Shape) (put : Option (ℕ × List ℕ)) (frames : List Frame) (before after : StateOf Entry) (content image : List ℕ)
-    → Leads (limits_of shape) frames empty before → OpensAs shape frames true content → image ≡ content → IsMoment shape put before after content image
+    → Leads (limits_of shape) frames empty before → OpensAs shape frames true content → image ≡ content
+    → IsMoment shape put before after content image
 moment_before shape put frames before after content image leads opens is = record {
   opens = inl (record { frames = frames; opens = subst (λ (x : List ℕ). OpensAs shape frames true x) (sym is) opens; leads = leads });
   slots = slots_same shape put content image is;
 }
 
 -- a rewrite comes before the change
-pub moment_then : (shape : Shape) (put : Option (ℕ × List ℕ)) (before after : StateOf Entry) (a b image : List ℕ) → KeepsSlots shape None a b → IsMoment shape put before after b image → IsMoment shape put before after a image
+pub moment_then : (shape : Shape) (put : Option (ℕ × List ℕ)) (before after : StateOf Entry) (a b image : List ℕ) → KeepsSlots shape None a b
+    → IsMoment shape put before after b image → IsMoment shape put before after a image
 moment_then shape put before after a b image kept is = record { opens = is.opens; slots = slots_then shape put a b image kept is.slots }
 
-pub moment_wider : (shape : Shape) (put : Option (ℕ × List ℕ)) (before after : StateOf Entry) (content image : List ℕ) → IsMoment shape None before before content image → IsMoment shape put before after content image
-moment_wider shape put before after content image is = record { opens = ⊎_elim (λ here. inl here) (λ here. inl here.0) is.opens; slots = slots_wider shape put content image is.slots }
+pub moment_wider : (shape : Shape) (put : Option (ℕ × List ℕ)) (before after : StateOf Entry) (content image : List ℕ)
+    → IsMoment shape None before before content image → IsMoment shape put before after content image
+moment_wider shape put before after content image is = record {
+  opens = ⊎_elim (λ here. inl here)
+      (λ here. inl here.0) is.opens;
+  slots = slots_wider shape put content image is.slots;
+}
 
 -- ---- steps
 
@@ -115,8 +143,10 @@ memory_refused frames.Halted is = absurd cc
 memory_refused frames.NotAStore is = absurd cc
 
 -- room for more is room for less
-pub room_less : {D : Type 0} (has_room : D → ℕ → ℕ → ℕ → Type 0) (for_less : (disk : D) (calls bytes end fewer less nearer : ℕ) → fewer ≤ calls → less ≤ bytes → nearer ≤ end → has_room disk calls bytes end → has_room disk fewer less nearer)
-    → (s : Held D) (calls bytes line listed body fewer less shorter some small : ℕ) → fewer ≤ calls → less ≤ bytes → shorter ≤ line → some ≤ listed → small ≤ body
+pub room_less : {D : Type 0} (has_room : D → ℕ → ℕ → ℕ → Type 0) (for_less : (disk : D) (calls bytes end fewer less nearer : ℕ) → fewer ≤ calls
+    → less ≤ bytes → nearer ≤ end → has_room disk calls bytes end → has_room disk fewer less nearer)
+    → (s : Held D) (calls bytes line listed body fewer less shorter some small : ℕ) → fewer ≤ calls → less ≤ bytes → shorter ≤ line → some ≤ listed
+    → small ≤ body
     → HasRoom has_room s calls bytes line listed body → HasRoom has_room s fewer less shorter some small
 room_less has_room for_less s calls bytes line listed body fewer less shorter some small a b c d e room = record {
   disk = for_less s.disk calls bytes (store_end s.shape) fewer less (store_end s.shape) a b (omega arith) room.disk;
@@ -125,34 +155,43 @@ room_less has_room for_less s calls bytes line listed body fewer less shorter so
   spare = omega (arith, e, room.spare);
 }
 
-module _ {D : Type 0} (tells : Type 0) (seen : D → List ℕ) (may_leave : D → List ℕ → Type 0) (moment : D → ℕ) (left_since : D → ℕ → List ℕ → Type 0) where
+module _ {D : Type 0} (tells : Type 0) (seen : D → List ℕ) (may_leave : D → List ℕ → Type 0) (moment : D → ℕ)
+    (left_since : D → ℕ → List ℕ → Type 0) where
   -- at each moment of a call that left the disk alone
-  pub idle_moments : (only_now : (disk : D) (image : List ℕ) → left_since disk (moment disk) image → may_leave disk image) (put : Option (ℕ × List ℕ)) (before after : StateOf Entry) (old : Held D) (new : D)
+  pub idle_moments : (only_now : (disk : D) (image : List ℕ) → left_since disk (moment disk) image → may_leave disk image) (put : Option (ℕ × List ℕ))
+      (before after : StateOf Entry) (old : Held D) (new : D)
       → MayStep tells seen may_leave moment left_since before old → IsUntouched seen may_leave moment left_since old.disk new → tells
       → LeavesOnly moment left_since old.disk new (IsMoment old.shape put before after (seen old.disk))
   idle_moments only_now put before after old new may untouched told =
       let P : List ℕ → Type 0 = IsMoment old.shape put before after (seen old.disk) in
       let settled = may.settled told in
-      let opens : OpensAs old.shape old.frames true (seen old.disk) = subst (λ (b : Bool). OpensAs old.shape old.frames b (seen old.disk)) settled.closed settled.shows.opens in
-      let here : (image : List ℕ) → may_leave old.disk image → P image = λ image left. moment_before old.shape put old.frames before after (seen old.disk) image may.leads opens (settled.durable.only image left) in
-      goes_on moment left_since old.disk old.disk new P (may_leave new) (started moment left_since old.disk P (λ image left. here image (only_now old.disk image left))) untouched.time
+      let opens : OpensAs old.shape old.frames true (seen old.disk) = subst
+      (λ (b : Bool). OpensAs old.shape old.frames b (seen old.disk)) settled.closed settled.shows.opens in
+      let here : (image : List ℕ) → may_leave old.disk image → P image = λ image left. moment_before old.shape put old.frames before after
+      (seen old.disk) image may.leads opens (settled.durable.only image left) in
+      goes_on moment left_since old.disk old.disk new P (may_leave new)
+      (started moment left_since old.disk P (λ image left. here image (only_now old.disk image left))) untouched.time
       (λ image left. here image (untouched.crash image left))
 
   -- at each moment of an append or a rewrite
   pub call_moments : (put : Option (ℕ × List ℕ)) (before after : StateOf Entry) (listed : List Frame) (old : Held D) (new : D)
       → MayStep tells seen may_leave moment left_since before old → Leads (limits_of old.shape) listed empty after
-      → (IsDurable tells seen may_leave old → old.closed ≡ true → LeavesOnly moment left_since old.disk new (IsBeforeOrAfter old.shape old.frames listed put (seen old.disk)))
+      → (IsDurable tells seen may_leave old → old.closed ≡ true → LeavesOnly moment left_since old.disk new
+      (IsBeforeOrAfter old.shape old.frames listed put (seen old.disk)))
       → tells → LeavesOnly moment left_since old.disk new (IsMoment old.shape put before after (seen old.disk))
   call_moments put before after listed old new may leads run told =
       let settled = may.settled told in
-      widened moment left_since old.disk new (IsBeforeOrAfter old.shape old.frames listed put (seen old.disk)) (IsMoment old.shape put before after (seen old.disk))
-      (λ image is. moment_from old.shape put old.frames listed before after (seen old.disk) image may.leads leads is) (run settled.durable settled.closed)
+      widened moment left_since old.disk new (IsBeforeOrAfter old.shape old.frames listed put (seen old.disk))
+      (IsMoment old.shape put before after (seen old.disk))
+      (λ image is. moment_from old.shape put old.frames listed before after (seen old.disk) image may.leads leads is)
+      (run settled.durable settled.closed)
 
   -- a call that made the change
   pub call_made : (put : Option (ℕ × List ℕ)) (before after : StateOf Entry) (listed : List Frame) (old new : Held D)
       → MayStep tells seen may_leave moment left_since before old → Leads (limits_of old.shape) listed empty after → HasNow listed old new
       → (tells → IsAfter old.shape listed put (seen old.disk) (seen new.disk)) → (tells → IsDurable tells seen may_leave new)
-      → (IsDurable tells seen may_leave old → old.closed ≡ true → LeavesOnly moment left_since old.disk new.disk (IsBeforeOrAfter old.shape old.frames listed put (seen old.disk)))
+      → (IsDurable tells seen may_leave old → old.closed ≡ true → LeavesOnly moment left_since old.disk new.disk
+      (IsBeforeOrAfter old.shape old.frames listed put (seen old.disk)))
       → IsRead tells seen new → new.halted ≡ old.halted → Step tells seen may_leave moment left_since put before after old new (Ok tt)
   call_made put before after listed old new may leads has is_after durable run read halts = record {
     shape = has.shape;
@@ -175,14 +214,16 @@ module _ {D : Type 0} (tells : Type 0) (seen : D → List ℕ) (may_leave : D �
       → MayStep tells seen may_leave moment left_since before old → IsSame old new
       → (tells → LeavesOnly moment left_since old.disk new.disk (IsMoment old.shape put before after (seen old.disk)))
       → (refused fault ≡ refused frames.NoMemory → IsUntouched seen may_leave moment left_since old.disk new.disk)
-      → IsRead tells seen new → held.IsAnswer {T = Unit {0}} old.halted new.halted (Err fault) → Step tells seen may_leave moment left_since put before after old new (Err (fault_of fault))
+      → IsRead tells seen new → held.IsAnswer {T = Unit {0}} old.halted new.halted (Err fault)
+      → Step tells seen may_leave moment left_since put before after old new (Err (fault_of fault))
   call_refused put before after old new fault may same run no_memory read answer = record {
     shape = same.shape;
     made = tt;
     not_made = subst (λ (fs : List Frame). Leads (limits_of old.shape) fs empty before) (sym same.frames) may.leads;
     moments = run;
     stands = tt;
-    only = causes fault (λ is. runs_on (answer.only_then (ap (refused {E = FrameFault}) is))) (λ is. answer.a_store (ap (refused {E = FrameFault}) is));
+    only = causes fault (λ is. runs_on (answer.only_then (ap (refused {E = FrameFault}) is)))
+        (λ is. answer.a_store (ap (refused {E = FrameFault}) is));
     no_memory = λ is. (no_memory (ap (refused {E = FrameFault}) (memory_refused fault is)), same);
     shows = read;
     halts = answer.halts ∙ ap (λ b. held.halted_after {T = Unit {0}} b (Err fault)) may.runs ∙ halts_same fault;
@@ -194,7 +235,8 @@ module _ {D : Type 0} (tells : Type 0) (seen : D → List ℕ) (may_leave : D �
           differ : true ≡ false → ⊥
           differ e = cc
 
-      causes : (f : FrameFault) → (f ≡ frames.Halted → ⊥) → (f ≡ frames.NotAStore → ⊥) → (refused (fault_of f) ≡ refused Disk) ⊎ (refused (fault_of f) ≡ refused NoMemory)
+      causes : (f : FrameFault) → (f ≡ frames.Halted → ⊥) → (f ≡ frames.NotAStore → ⊥) → (refused (fault_of f) ≡ refused Disk)
+          ⊎ (refused (fault_of f) ≡ refused NoMemory)
       causes frames.Disk a b = inl refl
       causes frames.NoMemory a b = inr refl
       causes frames.Halted a b = absurd (a refl)
@@ -207,8 +249,10 @@ module _ {D : Type 0} (tells : Type 0) (seen : D → List ℕ) (may_leave : D �
       halts_same frames.NotAStore = refl
 
   -- a call that left the disk alone and the list as it was
-  pub idle_made : (only_now : (disk : D) (image : List ℕ) → left_since disk (moment disk) image → may_leave disk image) (before : StateOf Entry) (old new : Held D)
-      → MayStep tells seen may_leave moment left_since before old → IsSame old new → IsUntouched seen may_leave moment left_since old.disk new.disk → IsRead tells seen new → new.halted ≡ old.halted
+  pub idle_made : (only_now : (disk : D) (image : List ℕ) → left_since disk (moment disk) image → may_leave disk image) (before : StateOf Entry)
+      (old new : Held D)
+      → MayStep tells seen may_leave moment left_since before old → IsSame old new → IsUntouched seen may_leave moment left_since old.disk new.disk
+      → IsRead tells seen new → new.halted ≡ old.halted
       → Step tells seen may_leave moment left_since None before before old new (Ok tt)
   idle_made only_now before old new may same untouched read halts = record {
     shape = same.shape;
@@ -220,7 +264,12 @@ module _ {D : Type 0} (tells : Type 0) (seen : D → List ℕ) (may_leave : D �
         let runs : new.halted ≡ false = halts ∙ may.runs in
         record {
           settled = record {
-            durable = record { told = told; runs = runs; only = λ image left. settled.durable.only image (untouched.crash image left) ∙ sym untouched.content };
+            durable = record {
+              told = told;
+              runs = runs;
+              only = λ image left. settled.durable.only image (untouched.crash image left)
+                  ∙ sym untouched.content;
+            };
             shows = read told runs;
             closed = same.closed ∙ settled.closed;
           };
@@ -234,7 +283,8 @@ module _ {D : Type 0} (tells : Type 0) (seen : D → List ℕ) (may_leave : D �
   }
 
   -- what a store may do after a step that was made
-  pub may_go_on : (before after : StateOf Entry) (put : Option (ℕ × List ℕ)) (old new : Held D) → Step tells seen may_leave moment left_since put before after old new (Ok tt) → MayStep tells seen may_leave moment left_since after new
+  pub may_go_on : (before after : StateOf Entry) (put : Option (ℕ × List ℕ)) (old new : Held D)
+      → Step tells seen may_leave moment left_since put before after old new (Ok tt) → MayStep tells seen may_leave moment left_since after new
   may_go_on before after put old new step = record {
     runs = step.halts;
     leads = subst (λ (s : Shape). Leads (limits_of s) new.frames empty after) (sym step.shape) step.made;
@@ -243,7 +293,8 @@ module _ {D : Type 0} (tells : Type 0) (seen : D → List ℕ) (may_leave : D �
 
   -- A step that keeps the state, and then another one. That one is refused memory only where the first did nothing.
   pub steps_both : (put : Option (ℕ × List ℕ)) (before after : StateOf Entry) (old mid new : Held D) (result : Result (Unit {0}) StoreFault)
-      → Step tells seen may_leave moment left_since None before before old mid (Ok tt) → Step tells seen may_leave moment left_since put before after mid new result
+      → Step tells seen may_leave moment left_since None before before old mid (Ok tt)
+      → Step tells seen may_leave moment left_since put before after mid new result
       → (result ≡ Err NoMemory → IsUntouched seen may_leave moment left_since old.disk new.disk × IsSame old new)
       → Step tells seen may_leave moment left_since put before after old new result
   steps_both put before after old mid new result first second idle =
@@ -255,11 +306,16 @@ module _ {D : Type 0} (tells : Type 0) (seen : D → List ℕ) (may_leave : D �
         moments = λ told.
             let P : List ℕ → Type 0 = IsMoment old.shape put before after (seen old.disk) in
             let kept : KeepsSlots old.shape None (seen old.disk) (seen mid.disk) = (first.stands told).slots in
-            let later = subst (λ (s : Shape). LeavesOnly moment left_since mid.disk new.disk (IsMoment s put before after (seen mid.disk))) at (second.moments told) in
+            let later = subst (λ (s : Shape). LeavesOnly moment left_since mid.disk new.disk (IsMoment s put before after (seen mid.disk))) at
+            (second.moments told) in
             joined moment left_since old.disk mid.disk new.disk P
-            (widened moment left_since old.disk mid.disk (IsMoment old.shape None before before (seen old.disk)) P (λ image. moment_wider old.shape put before after (seen old.disk) image) (first.moments told))
-            (widened moment left_since mid.disk new.disk (IsMoment old.shape put before after (seen mid.disk)) P (λ image. moment_then old.shape put before after (seen old.disk) (seen mid.disk) image kept) later);
-        stands = on_ok result (λ told. (first.stands told).slots) (subst (λ (s : Shape). OnOk result (tells → IsSettled tells seen may_leave moment left_since new × (StandsIn s put (seen new.disk) × KeepsSlots s put (seen mid.disk) (seen new.disk)))) at (parts result second.stands));
+            (widened moment left_since old.disk mid.disk (IsMoment old.shape None before before (seen old.disk)) P
+            (λ image. moment_wider old.shape put before after (seen old.disk) image) (first.moments told))
+            (widened moment left_since mid.disk new.disk (IsMoment old.shape put before after (seen mid.disk)) P
+            (λ image. moment_then old.shape put before after (seen old.disk) (seen mid.disk) image kept) later);
+        stands = on_ok result (λ told. (first.stands told).slots)
+            (subst (λ (s : Shape). OnOk result (tells → IsSettled tells seen may_leave moment left_since new
+            × (StandsIn s put (seen new.disk) × KeepsSlots s put (seen mid.disk) (seen new.disk)))) at (parts result second.stands));
         only = second.only;
         no_memory = idle;
         shows = second.shows;
@@ -267,24 +323,33 @@ module _ {D : Type 0} (tells : Type 0) (seen : D → List ℕ) (may_leave : D �
       }
     where
       parts : (r : Result (Unit {0}) StoreFault) → OnOk r (tells → IsMade tells seen may_leave moment left_since put mid new)
-          → OnOk r (tells → IsSettled tells seen may_leave moment left_since new × (StandsIn mid.shape put (seen new.disk) × KeepsSlots mid.shape put (seen mid.disk) (seen new.disk)))
+          → OnOk r (tells → IsSettled tells seen may_leave moment left_since new
+          × (StandsIn mid.shape put (seen new.disk) × KeepsSlots mid.shape put (seen mid.disk) (seen new.disk)))
       parts (Ok u) h = λ told. ((h told).settled, ((h told).stands, (h told).slots))
       parts (Err e) h = tt
 
       on_ok : (r : Result (Unit {0}) StoreFault) → (tells → KeepsSlots old.shape None (seen old.disk) (seen mid.disk))
-          → OnOk r (tells → IsSettled tells seen may_leave moment left_since new × (StandsIn old.shape put (seen new.disk) × KeepsSlots old.shape put (seen mid.disk) (seen new.disk)))
+          → OnOk r (tells → IsSettled tells seen may_leave moment left_since new
+          × (StandsIn old.shape put (seen new.disk) × KeepsSlots old.shape put (seen mid.disk) (seen new.disk)))
           → OnOk r (tells → IsMade tells seen may_leave moment left_since put old new)
-      on_ok (Ok u) kept h = λ told. record { settled = (h told).0; stands = (h told).1.0; slots = slots_then old.shape put (seen old.disk) (seen mid.disk) (seen new.disk) (kept told) (h told).1.1 }
+      on_ok (Ok u) kept h = λ told. record {
+        settled = (h told).0;
+        stands = (h told).1.0;
+        slots = slots_then old.shape put (seen old.disk)
+            (seen mid.disk) (seen new.disk) (kept told) (h told).1.1;
+      }
       on_ok (Err e) kept h = tt
 
   -- a step that keeps the state was not made, and so the change was not
   pub step_stopped : (put : Option (ℕ × List ℕ)) (before after : StateOf Entry) (old new : Held D) (fault : StoreFault)
-      → Step tells seen may_leave moment left_since None before before old new (Err fault) → Step tells seen may_leave moment left_since put before after old new (Err fault)
+      → Step tells seen may_leave moment left_since None before before old new (Err fault)
+      → Step tells seen may_leave moment left_since put before after old new (Err fault)
   step_stopped put before after old new fault step = record {
     shape = step.shape;
     made = tt;
     not_made = step.not_made;
-    moments = λ told. widened moment left_since old.disk new.disk (IsMoment old.shape None before before (seen old.disk)) (IsMoment old.shape put before after (seen old.disk))
+    moments = λ told. widened moment left_since old.disk new.disk (IsMoment old.shape None before before (seen old.disk))
+        (IsMoment old.shape put before after (seen old.disk))
         (λ image. moment_wider old.shape put before after (seen old.disk) image) (step.moments told);
     stands = tt;
     only = step.only;
@@ -294,7 +359,8 @@ module _ {D : Type 0} (tells : Type 0) (seen : D → List ℕ) (may_leave : D �
   }
 
   -- where a first call did nothing, or made room for the second, the two were refused memory only where nothing changed
-  pub nothing_changed : (put : Option (ℕ × List ℕ)) (before after : StateOf Entry) (old mid new : Held D) (result : Result (Unit {0}) StoreFault) (Room : Type 0)
+  pub nothing_changed : (put : Option (ℕ × List ℕ)) (before after : StateOf Entry) (old mid new : Held D) (result : Result (Unit {0}) StoreFault)
+      (Room : Type 0)
       → Step tells seen may_leave moment left_since put before after mid new result → (mid ≡ old) ⊎ Room → (Room → result ≡ Err NoMemory → ⊥)
       → result ≡ Err NoMemory → IsUntouched seen may_leave moment left_since old.disk new.disk × IsSame old new
   nothing_changed put before after old mid new result Room step (inl same) never is =

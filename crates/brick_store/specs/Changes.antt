@@ -11,7 +11,8 @@ use Rattle.brick_store.specs.Images.{StandsForEither, LeavesState}
 
 -- The call makes a change to this state, or refuses; `adds` says whether the change adds a live record, and `calls` how many
 -- calls of `write_at` and `sync` it makes.
-pub record Changes {D : Type 0} (tells : Type 0) (seen : D → List ℕ) (may_leave : D → List ℕ → Type 0) (moment : D → ℕ) (left_since : D → ℕ → List ℕ → Type 0) (faults : D → ℕ) (sound : D → Type 0)
+pub record Changes {D : Type 0} (tells : Type 0) (seen : D → List ℕ) (may_leave : D → List ℕ → Type 0) (moment : D → ℕ)
+    (left_since : D → ℕ → List ℕ → Type 0) (faults : D → ℕ) (sound : D → Type 0)
     (old new : Brick D) (after : StateOf Version) (adds : Bool) (calls : ℕ) (result : Result (Unit {0}) StoreFault) : Type 0 where
   pub ok : OnOk result (Keeps after old new)
   pub refused : OnErr result (Keeps old.state old new)

@@ -36,7 +36,8 @@ pub record IsReadFrom (tells : Type 0) (shape : Shape) (size : ℕ) (content : L
   pub told : tells → bytes ≡ block_in shape slot content
 
 abbrev pub AreRead : Type 0 → Shape → ℕ → List ℕ → BTreeMap ℕ (List ℕ) → Type 0
-AreRead tells shape size content blocks = (slot : ℕ) (bytes : List ℕ) → get nat_cmp blocks slot ≡ Some bytes → IsReadFrom tells shape size content slot bytes
+AreRead tells shape size content blocks = (slot : ℕ) (bytes : List ℕ) → get nat_cmp blocks slot ≡ Some bytes
+    → IsReadFrom tells shape size content slot bytes
 
 -- the slot is that of the zero block, or one of the file's
 abbrev pub IsInside : Shape → ℕ → ℕ → Type 0
@@ -54,7 +55,8 @@ abbrev pub IsAllowedOr : (List ℕ → Type 0) → (List ℕ → Type 0) → Lis
 IsAllowedOr allowed P image = allowed image ⊎ P image
 
 -- What an opening read: the index is what is made of the frames, and the blocks of its versions are in memory.
-pub record IsLoaded (tells : Type 0) (shape : Shape) (frames : List Frame) (content : List ℕ) (limits : Limits) (st : StateOf Entry) (whole : Bool) (blocks : BTreeMap ℕ (List ℕ)) : Type 0 where
+pub record IsLoaded (tells : Type 0) (shape : Shape) (frames : List Frame) (content : List ℕ) (limits : Limits) (st : StateOf Entry) (whole : Bool)
+    (blocks : BTreeMap ℕ (List ℕ)) : Type 0 where
   pub limits_are : limits ≡ limits_of shape
   pub found : folded (limits_of shape) (records_of frames) empty ≡ st
   pub leads : whole ≡ true → Leads (limits_of shape) frames empty st

@@ -64,14 +64,16 @@ pub record IsIndexed (shape : Shape) (frames : List Frame) (limits : Limits) (st
 
 -- While the store is not halted, a crash leaves what a read gives, which opens as the frames, and the blocks that are held in
 -- memory lie in their slots.
-pub record IsOnDisk {D : Type 0} (tells : Type 0) (seen : D → List ℕ) (may_leave : D → List ℕ → Type 0) (blocks : BTreeMap ℕ (List ℕ)) (frames : Held D) (st : StateOf Entry) : Type 0 where
+pub record IsOnDisk {D : Type 0} (tells : Type 0) (seen : D → List ℕ) (may_leave : D → List ℕ → Type 0) (blocks : BTreeMap ℕ (List ℕ))
+    (frames : Held D) (st : StateOf Entry) : Type 0 where
   pub durable : IsDurable tells seen may_leave frames
   pub shows : Shows seen frames
   pub closed : frames.closed ≡ true
   pub stored : AllSlots (IsStored frames.shape blocks (seen frames.disk)) st
 
 -- A store between two calls: its frames, its index, and in memory the blocks of at least all versions.
-pub record Standing {D : Type 0} (tells : Type 0) (seen : D → List ℕ) (may_leave : D → List ℕ → Type 0) (frames : Held D) (index : Index) (blocks : BTreeMap ℕ (List ℕ)) (zero_block : List ℕ) : Type 0 where
+pub record Standing {D : Type 0} (tells : Type 0) (seen : D → List ℕ) (may_leave : D → List ℕ → Type 0) (frames : Held D) (index : Index)
+    (blocks : BTreeMap ℕ (List ℕ)) (zero_block : List ℕ) : Type 0 where
   pub limits : IsShape frames.shape
   pub indexed : IsIndexed frames.shape frames.frames (indexes.limits_of index) (state_of index)
   pub cached_all : AllSlots (IsCached frames.shape.block blocks) (state_of index)

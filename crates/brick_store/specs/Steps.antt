@@ -38,7 +38,8 @@ pub record IsMoment (shape : Shape) (put : Option (ℕ × List ℕ)) (before aft
   pub opens : LeadsTo shape before image ⊎ (LeadsTo shape after image × StandsIn shape put image)
   pub slots : KeepsSlots shape put content image
 
-module _ {D : Type 0} (tells : Type 0) (seen : D → List ℕ) (may_leave : D → List ℕ → Type 0) (moment : D → ℕ) (left_since : D → ℕ → List ℕ → Type 0) where
+module _ {D : Type 0} (tells : Type 0) (seen : D → List ℕ) (may_leave : D → List ℕ → Type 0) (moment : D → ℕ)
+    (left_since : D → ℕ → List ℕ → Type 0) where
   -- a crash leaves what a read gives, which opens as the frames
   pub record IsSettled (frames : Held D) : Type 0 where
     pub durable : IsDurable tells seen may_leave frames

@@ -35,7 +35,8 @@ fn read_block<D: Disk>(
     ensures not_halted { result ≢ Err StoreFault.Halted }
     ensures not_full { (n : ℕ) → result ≢ Err (StoreFault.Full n) }
     ensures not_worn { result ≢ Err StoreFault.Worn }
-    ensures cause { Kept (D.faults frames.old.disk) (D.faults frames.new.disk) (D.sound frames.old.disk) (D.sound frames.new.disk) (result ≡ Err StoreFault.Disk) }
+    ensures cause { Kept (D.faults frames.old.disk) (D.faults frames.new.disk) (D.sound frames.old.disk) (D.sound frames.new.disk)
+        (result ≡ Err StoreFault.Disk) }
 {
     if !frames.has_slot(slot) {
         return Err(StoreFault::NotAStore);
@@ -57,7 +58,8 @@ fn hold_block<D: Disk>(
     requires runs { frames.old.halted ≡ false }
     ensures held { OnOk result (IsHeld blocks.new slot) }
     ensures others { OnOk result ((other : ℕ) → IsHeld blocks.old other → IsHeld blocks.new other) }
-    ensures read { OnOk result (AreRead D.tells frames.old.shape frames.old.size (D.seen frames.old.disk) blocks.old → AreRead D.tells frames.old.shape frames.old.size (D.seen frames.old.disk) blocks.new) }
+    ensures read { OnOk result (AreRead D.tells frames.old.shape frames.old.size (D.seen frames.old.disk) blocks.old
+        → AreRead D.tells frames.old.shape frames.old.size (D.seen frames.old.disk) blocks.new) }
     ensures same { IsSame frames.old frames.new }
     ensures untouched { IsUntouched D.seen D.may_leave D.moment D.left_since frames.old.disk frames.new.disk }
     ensures still_runs { IsOk result → frames.new.halted ≡ false }
@@ -65,7 +67,8 @@ fn hold_block<D: Disk>(
     ensures not_halted { result ≢ Err StoreFault.Halted }
     ensures not_full { (n : ℕ) → result ≢ Err (StoreFault.Full n) }
     ensures not_worn { result ≢ Err StoreFault.Worn }
-    ensures cause { Kept (D.faults frames.old.disk) (D.faults frames.new.disk) (D.sound frames.old.disk) (D.sound frames.new.disk) (result ≡ Err StoreFault.Disk) }
+    ensures cause { Kept (D.faults frames.old.disk) (D.faults frames.new.disk) (D.sound frames.old.disk) (D.sound frames.new.disk)
+        (result ≡ Err StoreFault.Disk) }
 {
     if slot == ZERO_SLOT || blocks.contains_key(&slot) {
         return Ok(());
@@ -93,7 +96,8 @@ pub(crate) fn read_blocks<D: Disk>(
     ensures not_halted { result ≢ Err StoreFault.Halted }
     ensures not_full { (n : ℕ) → result ≢ Err (StoreFault.Full n) }
     ensures not_worn { result ≢ Err StoreFault.Worn }
-    ensures cause { Kept (D.faults frames.old.disk) (D.faults frames.new.disk) (D.sound frames.old.disk) (D.sound frames.new.disk) (result ≡ Err StoreFault.Disk) }
+    ensures cause { Kept (D.faults frames.old.disk) (D.faults frames.new.disk) (D.sound frames.old.disk) (D.sound frames.new.disk)
+        (result ≡ Err StoreFault.Disk) }
 {
     let mut blocks = BTreeMap::new(alloc);
     for slot in slots {

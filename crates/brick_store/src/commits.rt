@@ -36,7 +36,8 @@ fn rewrite<D: Disk>(
     ensures fits { OnOk result (Fits frames.new.shape frames.new.frames body) }
     ensures room { OnOk result (HasAppendRoom D.has_room frames.new body) }
     ensures counted { D.tells → OnOk result (D.moment frames.new.disk ≡ D.moment frames.old.disk + 7) }
-    ensures cause { Kept (D.faults frames.old.disk) (D.faults frames.new.disk) (D.sound frames.old.disk) (D.sound frames.new.disk) (result ≡ Err StoreFault.Disk) }
+    ensures cause { Kept (D.faults frames.old.disk) (D.faults frames.new.disk) (D.sound frames.old.disk) (D.sound frames.new.disk)
+        (result ≡ Err StoreFault.Disk) }
 {
     let live = live_frames(alloc, index)?;
     frames.reserve(&live, body)?;
@@ -58,8 +59,10 @@ fn make_room<D: Disk>(
     ensures step { Step D.tells D.seen D.may_leave D.moment D.left_since None (state_of index.now) (state_of index.now) frames.old frames.new result }
     ensures fits { OnOk result (Fits frames.new.shape frames.new.frames body) }
     ensures room { OnOk result ((frames.new ≡ frames.old) ⊎ HasAppendRoom D.has_room frames.new body) }
-    ensures counted { D.tells → OnOk result (MakesRoomCalls (Fits frames.old.shape frames.old.frames body) 0 (D.moment frames.old.disk) (D.moment frames.new.disk)) }
-    ensures cause { Kept (D.faults frames.old.disk) (D.faults frames.new.disk) (D.sound frames.old.disk) (D.sound frames.new.disk) (result ≡ Err StoreFault.Disk) }
+    ensures counted { D.tells → OnOk result (MakesRoomCalls (Fits frames.old.shape frames.old.frames body) 0 (D.moment frames.old.disk)
+        (D.moment frames.new.disk)) }
+    ensures cause { Kept (D.faults frames.old.disk) (D.faults frames.new.disk) (D.sound frames.old.disk) (D.sound frames.new.disk)
+        (result ≡ Err StoreFault.Disk) }
 {
     if frames.fits(body) {
         return Ok(());
@@ -79,9 +82,12 @@ fn append_record<D: Disk>(
     requires indexed { IsIndexed frames.old.shape frames.old.frames (limits_of index.now) (state_of index.now) }
     requires members { RecordHasMembers item.now }
     requires can { IsSome (applied (limits_of index.now) item.now (state_of index.now)) }
-    ensures step { Step D.tells D.seen D.may_leave D.moment D.left_since None (state_of index.now) (changed (limits_of index.now) item.now (state_of index.now)) frames.old frames.new result }
-    ensures counted { D.tells → OnOk result (MakesRoomCalls (HasFrameRoom frames.old.shape frames.old.frames) 4 (D.moment frames.old.disk) (D.moment frames.new.disk)) }
-    ensures cause { Kept (D.faults frames.old.disk) (D.faults frames.new.disk) (D.sound frames.old.disk) (D.sound frames.new.disk) (result ≡ Err StoreFault.Disk) }
+    ensures step { Step D.tells D.seen D.may_leave D.moment D.left_since None (state_of index.now)
+        (changed (limits_of index.now) item.now (state_of index.now)) frames.old frames.new result }
+    ensures counted { D.tells → OnOk result (MakesRoomCalls (HasFrameRoom frames.old.shape frames.old.frames) 4 (D.moment frames.old.disk)
+        (D.moment frames.new.disk)) }
+    ensures cause { Kept (D.faults frames.old.disk) (D.faults frames.new.disk) (D.sound frames.old.disk) (D.sound frames.new.disk)
+        (result ≡ Err StoreFault.Disk) }
 {
     let frame = frame_of(alloc, item)?;
     make_room(alloc, frames, index, frame.body.len())?;
@@ -125,9 +131,12 @@ fn append_version<D: Disk>(
     requires can { IsSome (applied (limits_of index.now) item.now (state_of index.now)) }
     requires slot { slot < frames.old.shape.records }
     requires block { length block.now ≡ frames.old.shape.block }
-    ensures step { Step D.tells D.seen D.may_leave D.moment D.left_since (Some (slot, block.now)) (state_of index.now) (changed (limits_of index.now) item.now (state_of index.now)) frames.old frames.new result }
-    ensures counted { D.tells → OnOk result (MakesRoomCalls (HasFrameRoom frames.old.shape frames.old.frames) 5 (D.moment frames.old.disk) (D.moment frames.new.disk)) }
-    ensures cause { Kept (D.faults frames.old.disk) (D.faults frames.new.disk) (D.sound frames.old.disk) (D.sound frames.new.disk) (result ≡ Err StoreFault.Disk) }
+    ensures step { Step D.tells D.seen D.may_leave D.moment D.left_since (Some (slot, block.now)) (state_of index.now)
+        (changed (limits_of index.now) item.now (state_of index.now)) frames.old frames.new result }
+    ensures counted { D.tells → OnOk result (MakesRoomCalls (HasFrameRoom frames.old.shape frames.old.frames) 5 (D.moment frames.old.disk)
+        (D.moment frames.new.disk)) }
+    ensures cause { Kept (D.faults frames.old.disk) (D.faults frames.new.disk) (D.sound frames.old.disk) (D.sound frames.new.disk)
+        (result ≡ Err StoreFault.Disk) }
 {
     let frame = frame_of(alloc, item)?;
     make_room(alloc, frames, index, frame.body.len())?;
@@ -151,12 +160,15 @@ pub fn commit<D: Disk>(
     requires indexed { IsIndexed frames.old.shape frames.old.frames (limits_of index.old) (state_of index.old) }
     requires members { RecordHasMembers item.now }
     requires can { IsSome (applied (limits_of index.old) item.now (state_of index.old)) }
-    ensures step { Step D.tells D.seen D.may_leave D.moment D.left_since None (state_of index.old) (changed (limits_of index.old) item.now (state_of index.old)) frames.old frames.new result }
+    ensures step { Step D.tells D.seen D.may_leave D.moment D.left_since None (state_of index.old)
+        (changed (limits_of index.old) item.now (state_of index.old)) frames.old frames.new result }
     ensures made { OnOk result (state_of index.new ≡ changed (limits_of index.old) item.now (state_of index.old)) }
     ensures not_made { OnErr result (state_of index.new ≡ state_of index.old) }
     ensures limits { limits_of index.new ≡ limits_of index.old }
-    ensures counted { D.tells → OnOk result (MakesRoomCalls (HasFrameRoom frames.old.shape frames.old.frames) 4 (D.moment frames.old.disk) (D.moment frames.new.disk)) }
-    ensures cause { Kept (D.faults frames.old.disk) (D.faults frames.new.disk) (D.sound frames.old.disk) (D.sound frames.new.disk) (result ≡ Err StoreFault.Disk) }
+    ensures counted { D.tells → OnOk result (MakesRoomCalls (HasFrameRoom frames.old.shape frames.old.frames) 4 (D.moment frames.old.disk)
+        (D.moment frames.new.disk)) }
+    ensures cause { Kept (D.faults frames.old.disk) (D.faults frames.new.disk) (D.sound frames.old.disk) (D.sound frames.new.disk)
+        (result ≡ Err StoreFault.Disk) }
 {
     reserve(index, item)?;
     append_record(alloc, frames, index, item)?;
@@ -184,12 +196,15 @@ pub fn commit_with<D: Disk>(
     requires can { IsSome (applied (limits_of index.old) item.now (state_of index.old)) }
     requires slot { slot < frames.old.shape.records }
     requires block { length block.now ≡ frames.old.shape.block }
-    ensures step { Step D.tells D.seen D.may_leave D.moment D.left_since (Some (slot, block.now)) (state_of index.old) (changed (limits_of index.old) item.now (state_of index.old)) frames.old frames.new result }
+    ensures step { Step D.tells D.seen D.may_leave D.moment D.left_since (Some (slot, block.now)) (state_of index.old)
+        (changed (limits_of index.old) item.now (state_of index.old)) frames.old frames.new result }
     ensures made { OnOk result (state_of index.new ≡ changed (limits_of index.old) item.now (state_of index.old)) }
     ensures not_made { OnErr result (state_of index.new ≡ state_of index.old) }
     ensures limits { limits_of index.new ≡ limits_of index.old }
-    ensures counted { D.tells → OnOk result (MakesRoomCalls (HasFrameRoom frames.old.shape frames.old.frames) 5 (D.moment frames.old.disk) (D.moment frames.new.disk)) }
-    ensures cause { Kept (D.faults frames.old.disk) (D.faults frames.new.disk) (D.sound frames.old.disk) (D.sound frames.new.disk) (result ≡ Err StoreFault.Disk) }
+    ensures counted { D.tells → OnOk result (MakesRoomCalls (HasFrameRoom frames.old.shape frames.old.frames) 5 (D.moment frames.old.disk)
+        (D.moment frames.new.disk)) }
+    ensures cause { Kept (D.faults frames.old.disk) (D.faults frames.new.disk) (D.sound frames.old.disk) (D.sound frames.new.disk)
+        (result ≡ Err StoreFault.Disk) }
 {
     reserve(index, item)?;
     append_version(alloc, frames, index, item, slot, block)?;

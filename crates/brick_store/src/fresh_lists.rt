@@ -44,13 +44,15 @@ fn renew<D: Disk>(
     ensures may { OnOk result (MayStep D.tells D.seen D.may_leave D.moment D.left_since (state_of index.now) frames.new) }
     ensures shape { frames.new.shape ≡ frames.old.shape }
     ensures slots { D.tells → OnOk result (KeepsSlots frames.old.shape None (D.seen frames.old.disk) (D.seen frames.new.disk)) }
-    ensures moments { D.tells → frames.old.closed ≡ true → LeavesOnly D.moment D.left_since frames.old.disk frames.new.disk (IsAllowedOr (D.may_leave frames.old.disk) (IsKeptIn frames.old.shape (state_of index.now) (D.seen frames.old.disk))) }
+    ensures moments { D.tells → frames.old.closed ≡ true → LeavesOnly D.moment D.left_since frames.old.disk frames.new.disk
+        (IsAllowedOr (D.may_leave frames.old.disk) (IsKeptIn frames.old.shape (state_of index.now) (D.seen frames.old.disk))) }
     ensures only { OnErr result ((result ≡ Err StoreFault.Disk) ⊎ (result ≡ Err StoreFault.NoMemory)) }
     ensures no_memory { result ≡ Err StoreFault.NoMemory → IsUntouched D.seen D.may_leave D.moment D.left_since frames.old.disk frames.new.disk }
     ensures fits { OnOk result (Fits frames.new.shape frames.new.frames body) }
     ensures room { OnOk result (HasAppendRoom D.has_room frames.new body) }
     ensures counted { D.tells → OnOk result (D.moment frames.new.disk ≡ D.moment frames.old.disk + 8) }
-    ensures cause { Kept (D.faults frames.old.disk) (D.faults frames.new.disk) (D.sound frames.old.disk) (D.sound frames.new.disk) (result ≡ Err StoreFault.Disk) }
+    ensures cause { Kept (D.faults frames.old.disk) (D.faults frames.new.disk) (D.sound frames.old.disk) (D.sound frames.new.disk)
+        (result ≡ Err StoreFault.Disk) }
 {
     let live = live_frames(alloc, index)?;
     frames.reserve(&live, body)?;
@@ -81,13 +83,16 @@ pub fn settle<D: Disk>(
     ensures may { OnOk result (MayStep D.tells D.seen D.may_leave D.moment D.left_since (state_of index.now) frames.new) }
     ensures shape { frames.new.shape ≡ frames.old.shape }
     ensures slots { D.tells → OnOk result (KeepsSlots frames.old.shape None (D.seen frames.old.disk) (D.seen frames.new.disk)) }
-    ensures moments { D.tells → frames.old.closed ≡ true → LeavesOnly D.moment D.left_since frames.old.disk frames.new.disk (IsAllowedOr (D.may_leave frames.old.disk) (IsKeptIn frames.old.shape (state_of index.now) (D.seen frames.old.disk))) }
+    ensures moments { D.tells → frames.old.closed ≡ true → LeavesOnly D.moment D.left_since frames.old.disk frames.new.disk
+        (IsAllowedOr (D.may_leave frames.old.disk) (IsKeptIn frames.old.shape (state_of index.now) (D.seen frames.old.disk))) }
     ensures only { OnErr result ((result ≡ Err StoreFault.Disk) ⊎ (result ≡ Err StoreFault.NoMemory)) }
     ensures no_memory { result ≡ Err StoreFault.NoMemory → IsUntouched D.seen D.may_leave D.moment D.left_since frames.old.disk frames.new.disk }
     ensures fits { OnOk result (Fits frames.new.shape frames.new.frames body) }
     ensures room { OnOk result (HasAppendRoom D.has_room frames.new body) }
-    ensures counted { D.tells → OnOk result ((D.moment frames.new.disk ≡ D.moment frames.old.disk + 1) ⊎ (D.moment frames.new.disk ≡ D.moment frames.old.disk + 8)) }
-    ensures cause { Kept (D.faults frames.old.disk) (D.faults frames.new.disk) (D.sound frames.old.disk) (D.sound frames.new.disk) (result ≡ Err StoreFault.Disk) }
+    ensures counted { D.tells → OnOk result ((D.moment frames.new.disk ≡ D.moment frames.old.disk + 1)
+        ⊎ (D.moment frames.new.disk ≡ D.moment frames.old.disk + 8)) }
+    ensures cause { Kept (D.faults frames.old.disk) (D.faults frames.new.disk) (D.sound frames.old.disk) (D.sound frames.new.disk)
+        (result ≡ Err StoreFault.Disk) }
 {
     if whole && frames.is_closed() && frames.fits(body) {
         frames.reserve(&[], body)?;

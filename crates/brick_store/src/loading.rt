@@ -39,7 +39,8 @@ pub(crate) fn load<D: Disk>(
     requires records { records ≡ frames.old.shape.records }
     requires runs { frames.old.halted ≡ false }
     requires read { IsRead D.tells D.seen frames.old }
-    ensures loaded { IfOk result (λ made. IsLoaded D.tells frames.old.shape frames.old.frames (D.seen frames.old.disk) (indexes.limits_of made.folded.index) (state_of made.folded.index) made.folded.whole made.blocks) }
+    ensures loaded { IfOk result (λ made. IsLoaded D.tells frames.old.shape frames.old.frames (D.seen frames.old.disk)
+        (indexes.limits_of made.folded.index) (state_of made.folded.index) made.folded.whole made.blocks) }
     ensures same { IsSame frames.old frames.new }
     ensures untouched { IsUntouched D.seen D.may_leave D.moment D.left_since frames.old.disk frames.new.disk }
     ensures still_runs { IsOk result → frames.new.halted ≡ false }
@@ -47,7 +48,8 @@ pub(crate) fn load<D: Disk>(
     ensures not_halted { result ≢ Err StoreFault.Halted }
     ensures not_full { (n : ℕ) → result ≢ Err (StoreFault.Full n) }
     ensures no_slot { D.tells → result ≢ Err StoreFault.NotAStore }
-    ensures cause { Kept (D.faults frames.old.disk) (D.faults frames.new.disk) (D.sound frames.old.disk) (D.sound frames.new.disk) (result ≡ Err StoreFault.Disk) }
+    ensures cause { Kept (D.faults frames.old.disk) (D.faults frames.new.disk) (D.sound frames.old.disk) (D.sound frames.new.disk)
+        (result ≡ Err StoreFault.Disk) }
 {
     let folded = fold(alloc, frames.frames(), records)?;
     if folded.index.boot() == 4294967295 {

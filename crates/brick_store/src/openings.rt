@@ -35,21 +35,30 @@ pub fn open_store<D: Disk>(
     requires records_range { (1 ≤ records) × (records ≤ 1048576) }
     ensures shape { IfOk result (λ store. store.shape ≡ shape_of me.0 block records) }
     ensures runs { IfOk result (λ store. store.halted ≡ false) }
-    ensures state { IfOk result (λ store. D.tells → (st : StateOf Version) → StandsFor (shape_of me.0 block records) st (D.seen disk) → store.state ≡ booted (st.boot + 1) st) }
+    ensures state { IfOk result (λ store. D.tells → (st : StateOf Version) → StandsFor (shape_of me.0 block records) st (D.seen disk)
+        → store.state ≡ booted (st.boot + 1) st) }
     // There was a store that was not worn, and it is the one that was counted.
-    ensures found { IfOk result (λ store. D.tells → (st : StateOf Version) × IsFound (shape_of me.0 block records) st (D.seen disk) × (st.boot < 2 ^ 32 - 1) × (store.state ≡ booted (st.boot + 1) st)) }
+    ensures found { IfOk result (λ store. D.tells → (st : StateOf Version) × IsFound (shape_of me.0 block records) st (D.seen disk)
+        × (st.boot < 2 ^ 32 - 1) × (store.state ≡ booted (st.boot + 1) st)) }
     ensures durable { IfOk result (λ store. D.tells → LeavesState store.shape store.state (D.may_leave store.disk)) }
     // At each moment each image is one that the disk allowed before, or opens as the state before or after.
-    ensures moments { IfOk result (λ store. D.tells → (st : StateOf Version) → StandsFor (shape_of me.0 block records) st (D.seen disk) → LeavesOnly D.moment D.left_since disk store.disk (IsAllowedOr (D.may_leave disk) (StandsForEither (shape_of me.0 block records) st (booted (st.boot + 1) st)))) }
-    ensures moments_err { IfErr result (λ e. D.tells → (st : StateOf Version) → StandsFor (shape_of me.0 block records) st (D.seen disk) → LeavesOnly D.moment D.left_since disk e.1 (IsAllowedOr (D.may_leave disk) (StandsForEither (shape_of me.0 block records) st (booted (st.boot + 1) st)))) }
+    ensures moments { IfOk result (λ store. D.tells → (st : StateOf Version) → StandsFor (shape_of me.0 block records) st (D.seen disk)
+        → LeavesOnly D.moment D.left_since disk store.disk
+        (IsAllowedOr (D.may_leave disk) (StandsForEither (shape_of me.0 block records) st (booted (st.boot + 1) st)))) }
+    ensures moments_err { IfErr result (λ e. D.tells → (st : StateOf Version) → StandsFor (shape_of me.0 block records) st (D.seen disk)
+        → LeavesOnly D.moment D.left_since disk e.1 (IsAllowedOr (D.may_leave disk)
+        (StandsForEither (shape_of me.0 block records) st (booted (st.boot + 1) st)))) }
     // Where all that it allowed opens as the state before, all opens as one of the two.
-    ensures any_moment { IfOk result (λ store. D.tells → (st : StateOf Version) → LeavesState (shape_of me.0 block records) st (D.may_leave disk) → LeavesOnly D.moment D.left_since disk store.disk (StandsForEither (shape_of me.0 block records) st (booted (st.boot + 1) st))) }
-    ensures any_moment_err { IfErr result (λ e. D.tells → (st : StateOf Version) → LeavesState (shape_of me.0 block records) st (D.may_leave disk) → LeavesOnly D.moment D.left_since disk e.1 (StandsForEither (shape_of me.0 block records) st (booted (st.boot + 1) st))) }
+    ensures any_moment { IfOk result (λ store. D.tells → (st : StateOf Version) → LeavesState (shape_of me.0 block records) st (D.may_leave disk)
+        → LeavesOnly D.moment D.left_since disk store.disk (StandsForEither (shape_of me.0 block records) st (booted (st.boot + 1) st))) }
+    ensures any_moment_err { IfErr result (λ e. D.tells → (st : StateOf Version) → LeavesState (shape_of me.0 block records) st (D.may_leave disk)
+        → LeavesOnly D.moment D.left_since disk e.1 (StandsForEither (shape_of me.0 block records) st (booted (st.boot + 1) st))) }
     // So many calls of `write_at` and `sync`, or seven more where the list of frames was rewritten first.
     ensures counted { IfOk result (λ store. D.tells → MakesCalls 5 (D.moment disk) (D.moment store.disk)) }
     ensures not_a_store { IfErr result (λ e. e.0 ≡ StoreFault.NotAStore → D.tells → IsNoStore (shape_of me.0 block records) (D.seen disk)) }
     // There was a store, and it was opened as often as it can be.
-    ensures worn { IfErr result (λ e. e.0 ≡ StoreFault.Worn → D.tells → (st : StateOf Version) × IsFound (shape_of me.0 block records) st (D.seen disk) × (st.boot ≡ 2 ^ 32 - 1)) }
+    ensures worn { IfErr result (λ e. e.0 ≡ StoreFault.Worn → D.tells → (st : StateOf Version) × IsFound (shape_of me.0 block records) st
+        (D.seen disk) × (st.boot ≡ 2 ^ 32 - 1)) }
     // Each fault but Disk comes before the disk is changed.
     ensures unchanged { IfErr result (λ e. e.0 ≢ StoreFault.Disk → IsUntouched D.seen D.may_leave D.moment D.left_since disk e.1) }
     // No other fault is answered.

@@ -43,7 +43,8 @@ fn take_frame(index: &mut Index, frame: &Frame) -> Result<bool, NoMem>
     ensures limits { limits_of index.new ≡ limits_of index.old }
     ensures taken { result ≡ Ok true → IsTaken (limits_of index.old) frame.now (state_of index.old) (state_of index.new) }
     ensures ended { result ≡ Ok false → EndsBefore (limits_of index.old) frame.now (state_of index.old) (state_of index.new) }
-    ensures members { IsOk result → AllByRecursion GroupHasMembers (state_of index.old).groups → AllByRecursion GroupHasMembers (state_of index.new).groups }
+    ensures members { IsOk result → AllByRecursion GroupHasMembers (state_of index.old).groups → AllByRecursion GroupHasMembers
+        (state_of index.new).groups }
 {
     match read_record(frame) {
         Some(record) => index.apply(&record),

@@ -43,12 +43,14 @@ fn append_count<D: Disk>(
     requires ready { IsReady index.old item.now }
     requires fits { Fits frames.old.shape frames.old.frames (length frame.now.body) }
     requires room { HasAppendRoom D.has_room frames.old (length frame.now.body) }
-    ensures step { Step D.tells D.seen D.may_leave D.moment D.left_since None (state_of index.old) (changed (indexes.limits_of index.old) item.now (state_of index.old)) frames.old frames.new result }
+    ensures step { Step D.tells D.seen D.may_leave D.moment D.left_since None (state_of index.old)
+        (changed (indexes.limits_of index.old) item.now (state_of index.old)) frames.old frames.new result }
     ensures made { OnOk result (state_of index.new ≡ changed (indexes.limits_of index.old) item.now (state_of index.old)) }
     ensures limits { indexes.limits_of index.new ≡ indexes.limits_of index.old }
     ensures no_memory { result ≢ Err StoreFault.NoMemory }
     ensures counted { D.tells → OnOk result (D.moment frames.new.disk ≡ D.moment frames.old.disk + 4) }
-    ensures cause { disks.Kept (D.faults frames.old.disk) (D.faults frames.new.disk) (D.sound frames.old.disk) (D.sound frames.new.disk) (result ≡ Err StoreFault.Disk) }
+    ensures cause { disks.Kept (D.faults frames.old.disk) (D.faults frames.new.disk) (D.sound frames.old.disk) (D.sound frames.new.disk)
+        (result ≡ Err StoreFault.Disk) }
 {
     frames.append(frame.kind, frame.body.as_slice())?;
     apply(index, item);
@@ -80,11 +82,14 @@ pub fn start<D: Disk>(
     ensures runs { OnOk result (frames.new.halted ≡ false) }
     ensures settled { D.tells → OnOk result (IsSettled D.tells D.seen D.may_leave D.moment D.left_since frames.new) }
     ensures slots { D.tells → OnOk result (KeepsSlots frames.old.shape None (D.seen frames.old.disk) (D.seen frames.new.disk)) }
-    ensures moments { D.tells → frames.old.closed ≡ true → LeavesOnly D.moment D.left_since frames.old.disk frames.new.disk (IsAllowedOr (D.may_leave frames.old.disk) (IsKeptInEither frames.old.shape (state_of index.old) (booted ((state_of index.old).boot + 1) (state_of index.old)) (D.seen frames.old.disk))) }
+    ensures moments { D.tells → frames.old.closed ≡ true → LeavesOnly D.moment D.left_since frames.old.disk frames.new.disk
+        (IsAllowedOr (D.may_leave frames.old.disk) (IsKeptInEither frames.old.shape (state_of index.old)
+        (booted ((state_of index.old).boot + 1) (state_of index.old)) (D.seen frames.old.disk))) }
     ensures only { OnErr result ((result ≡ Err StoreFault.Disk) ⊎ (result ≡ Err StoreFault.NoMemory)) }
     ensures no_memory { result ≡ Err StoreFault.NoMemory → IsUntouched D.seen D.may_leave D.moment D.left_since frames.old.disk frames.new.disk }
     ensures counted { D.tells → OnOk result (MakesCalls 5 (D.moment frames.old.disk) (D.moment frames.new.disk)) }
-    ensures cause { disks.Kept (D.faults frames.old.disk) (D.faults frames.new.disk) (D.sound frames.old.disk) (D.sound frames.new.disk) (result ≡ Err StoreFault.Disk) }
+    ensures cause { disks.Kept (D.faults frames.old.disk) (D.faults frames.new.disk) (D.sound frames.old.disk) (D.sound frames.new.disk)
+        (result ≡ Err StoreFault.Disk) }
 {
     let item = Record::Kept(Kept::Boot(index.boot() + 1));
     let frame = frame_of(alloc, &item)?;

@@ -43,7 +43,13 @@ impl<D: Disk> Model for BrickStore<D> {
 
     ghost Value = { Brick D };
 
-    ghost view = { λ s. record { disk = s.frames.disk; shape = s.frames.shape; state = resolved (cached s.frames.shape.block s.blocks) (state_of s.index); halted = s.frames.halted } };
+    ghost view = { λ s. record {
+      disk = s.frames.disk;
+      shape = s.frames.shape;
+      state = resolved (cached s.frames.shape.block s.blocks)
+          (state_of s.index);
+      halted = s.frames.halted;
+    } };
 
     ghost use Rattle.brick_store.specs.Standing.{Standing};
 
@@ -64,7 +70,9 @@ impl<D: Disk> BrickStore<D> {
     ) -> Result<(), StoreFault>
         requires group { group.0 < 64 }
         requires view { IsServed (group_at self.old.state group.0) view.0 }
-        ensures { Changes D.tells D.seen D.may_leave D.moment D.left_since D.faults D.sound self.old self.new (ordered (place group view stripe) stamp self.old.state) (adds_stamp stamp (stripe_at self.old.state (place group view stripe)).order) 4 result }
+        ensures { Changes D.tells D.seen D.may_leave D.moment D.left_since D.faults D.sound self.old self.new
+            (ordered (place group view stripe) stamp self.old.state)
+            (adds_stamp stamp (stripe_at self.old.state (place group view stripe)).order) 4 result }
     {
         let place = (group.0, view.0, stripe.0);
         let adds = adds_stamp(stamp, self.index.order(place));
@@ -90,7 +98,8 @@ impl<D: Disk> BrickStore<D> {
     ) -> Result<(), StoreFault>
         requires group { group.0 < 64 }
         requires view { view.0 ≡ learnt_of (group_at self.old.state group.0) }
-        ensures { Changes D.tells D.seen D.may_leave D.moment D.left_since D.faults D.sound self.old self.new (balloted group.0 promised (accepted_of (group_at self.old.state group.0)) self.old.state) false 4 result }
+        ensures { Changes D.tells D.seen D.may_leave D.moment D.left_since D.faults D.sound self.old self.new
+            (balloted group.0 promised (accepted_of (group_at self.old.state group.0)) self.old.state) false 4 result }
     {
         let accepted = accepted_of(self.index.group(group.0));
         let item = Record::Kept(Kept::Ballots {
@@ -117,7 +126,8 @@ impl<D: Disk> BrickStore<D> {
         requires group { group.0 < 64 }
         requires view { view.0 ≡ learnt_of (group_at self.old.state group.0) }
         requires members { 1 ≤ length members }
-        ensures { Changes D.tells D.seen D.may_leave D.moment D.left_since D.faults D.sound self.old self.new (balloted group.0 ballot (Some (ballot, members)) self.old.state) false 4 result }
+        ensures { Changes D.tells D.seen D.may_leave D.moment D.left_since D.faults D.sound self.old self.new
+            (balloted group.0 ballot (Some (ballot, members)) self.old.state) false 4 result }
     {
         let item = Record::Kept(Kept::Ballots {
             group,
@@ -138,7 +148,8 @@ impl<D: Disk> BrickStore<D> {
         requires group { group.0 < 64 }
         requires above { learnt_of (group_at self.old.state group.0) < view.number.0 }
         requires members { (1 ≤ length view.members) × (1 ≤ length view.prior) }
-        ensures { Changes D.tells D.seen D.may_leave D.moment D.left_since D.faults D.sound self.old self.new (viewed group.0 view false self.old.state) false 4 result }
+        ensures { Changes D.tells D.seen D.may_leave D.moment D.left_since D.faults D.sound self.old self.new
+            (viewed group.0 view false self.old.state) false 4 result }
     {
         let item = Record::Kept(Kept::View {
             group,
@@ -157,7 +168,8 @@ impl<D: Disk> BrickStore<D> {
         requires group { group.0 < 64 }
         requires view { view.0 ≡ learnt_of (group_at self.old.state group.0) }
         requires learnt { IsSome (group_at self.old.state group.0).known }
-        ensures { Changes D.tells D.seen D.may_leave D.moment D.left_since D.faults D.sound self.old self.new (all_synced group.0 self.old.state) false 4 result }
+        ensures { Changes D.tells D.seen D.may_leave D.moment D.left_since D.faults D.sound self.old self.new
+            (all_synced group.0 self.old.state) false 4 result }
     {
         let _ = view;
         let item = Record::Kept(Kept::View {
@@ -183,7 +195,8 @@ impl<D: Disk> BrickStore<D> {
         requires group { group.0 < 64 }
         requires view { IsServed (group_at self.old.state group.0) view.0 }
         requires held { HasStamp stamp (log_at self.old.shape.block self.old.state (place group view stripe)) }
-        ensures { Changes D.tells D.seen D.may_leave D.moment D.left_since D.faults D.sound self.old self.new (collected version_stamp (place group view stripe) stamp self.old.state) false 4 result }
+        ensures { Changes D.tells D.seen D.may_leave D.moment D.left_since D.faults D.sound self.old self.new
+            (collected version_stamp (place group view stripe) stamp self.old.state) false 4 result }
     {
         let item = Record::Logged(Logged {
             group,
@@ -212,7 +225,8 @@ impl<D: Disk> BrickStore<D> {
         requires view { IsServed (group_at self.old.state group.0) view.0 }
         requires above { IsNext stamp (log_at self.old.shape.block self.old.state (place group view stripe)) block }
         requires block { ForSome block (λ bytes. length bytes ≡ self.old.shape.block) }
-        ensures { Changes D.tells D.seen D.may_leave D.moment D.left_since D.faults D.sound self.old self.new (with_version self.old.shape.block (place group view stripe) stamp block self.old.state) true (version_calls block) result }
+        ensures { Changes D.tells D.seen D.may_leave D.moment D.left_since D.faults D.sound self.old self.new
+            (with_version self.old.shape.block (place group view stripe) stamp block self.old.state) true (version_calls block) result }
     {
         match block {
             Some(bytes) => self.add_block(group, view, stripe, stamp, bytes),
@@ -230,7 +244,8 @@ impl<D: Disk> BrickStore<D> {
     ) -> Result<(), StoreFault>
         requires group { group.0 < 64 }
         requires above { IsNext stamp (log_at self.old.shape.block self.old.state (place group view stripe)) None }
-        ensures { Changes D.tells D.seen D.may_leave D.moment D.left_since D.faults D.sound self.old self.new (with_version self.old.shape.block (place group view stripe) stamp None self.old.state) true 4 result }
+        ensures { Changes D.tells D.seen D.may_leave D.moment D.left_since D.faults D.sound self.old self.new
+            (with_version self.old.shape.block (place group view stripe) stamp None self.old.state) true 4 result }
     {
         let item = Record::Logged(Logged {
             group,
@@ -255,7 +270,8 @@ impl<D: Disk> BrickStore<D> {
         requires group { group.0 < 64 }
         requires above { IsNext stamp (log_at self.old.shape.block self.old.state (place group view stripe)) (Some block) }
         requires block { length block ≡ self.old.shape.block }
-        ensures { Changes D.tells D.seen D.may_leave D.moment D.left_since D.faults D.sound self.old self.new (with_version self.old.shape.block (place group view stripe) stamp (Some block) self.old.state) true 5 result }
+        ensures { Changes D.tells D.seen D.may_leave D.moment D.left_since D.faults D.sound self.old self.new
+            (with_version self.old.shape.block (place group view stripe) stamp (Some block) self.old.state) true 5 result }
     {
         ready(&self.frames, &self.index, true)?;
         let slot = hold_new(self.alloc, &self.index, &mut self.blocks, &block)?;

@@ -42,19 +42,25 @@ pub(crate) fn take_up<D: Disk>(
     requires runs { frames.old.halted ≡ false }
     requires read { IsRead D.tells D.seen frames.old }
     ensures standing { IfOk result (λ made. Standing D.tells D.seen D.may_leave frames.new made.index made.blocks made.zero) }
-    ensures state { IfOk result (λ made. state_of made.index ≡ booted ((found_in frames.old.shape frames.old.frames).boot + 1) (found_in frames.old.shape frames.old.frames)) }
-    ensures stored { D.tells → IfOk result (λ made. AllSlots (IsStored frames.old.shape made.blocks (D.seen frames.old.disk)) (found_in frames.old.shape frames.old.frames)) }
+    ensures state { IfOk result (λ made. state_of made.index ≡ booted ((found_in frames.old.shape frames.old.frames).boot + 1)
+        (found_in frames.old.shape frames.old.frames)) }
+    ensures stored { D.tells → IfOk result (λ made. AllSlots (IsStored frames.old.shape made.blocks (D.seen frames.old.disk))
+        (found_in frames.old.shape frames.old.frames)) }
     ensures still_runs { IsOk result → frames.new.halted ≡ false }
     ensures shape { frames.new.shape ≡ frames.old.shape }
-    ensures moments { D.tells → frames.old.closed ≡ true → LeavesOnly D.moment D.left_since frames.old.disk frames.new.disk (IsAllowedOr (D.may_leave frames.old.disk) (IsKeptInEither frames.old.shape (found_in frames.old.shape frames.old.frames) (booted ((found_in frames.old.shape frames.old.frames).boot + 1) (found_in frames.old.shape frames.old.frames)) (D.seen frames.old.disk))) }
+    ensures moments { D.tells → frames.old.closed ≡ true → LeavesOnly D.moment D.left_since frames.old.disk frames.new.disk
+        (IsAllowedOr (D.may_leave frames.old.disk) (IsKeptInEither frames.old.shape (found_in frames.old.shape frames.old.frames)
+        (booted ((found_in frames.old.shape frames.old.frames).boot + 1) (found_in frames.old.shape frames.old.frames)) (D.seen frames.old.disk))) }
     ensures boots { IsOk result → (found_in frames.old.shape frames.old.frames).boot < 2 ^ 32 - 1 }
     ensures worn { result ≡ Err StoreFault.Worn → (found_in frames.old.shape frames.old.frames).boot ≡ 2 ^ 32 - 1 }
-    ensures unchanged { IfErr result (λ fault. fault ≢ StoreFault.Disk → IsUntouched D.seen D.may_leave D.moment D.left_since frames.old.disk frames.new.disk) }
+    ensures unchanged { IfErr result (λ fault. fault ≢ StoreFault.Disk
+        → IsUntouched D.seen D.may_leave D.moment D.left_since frames.old.disk frames.new.disk) }
     ensures not_halted { result ≢ Err StoreFault.Halted }
     ensures not_full { (n : ℕ) → result ≢ Err (StoreFault.Full n) }
     ensures a_store { D.tells → result ≢ Err StoreFault.NotAStore }
     ensures counted { D.tells → IsOk result → MakesCalls 5 (D.moment frames.old.disk) (D.moment frames.new.disk) }
-    ensures cause { Kept (D.faults frames.old.disk) (D.faults frames.new.disk) (D.sound frames.old.disk) (D.sound frames.new.disk) (result ≡ Err StoreFault.Disk) }
+    ensures cause { Kept (D.faults frames.old.disk) (D.faults frames.new.disk) (D.sound frames.old.disk) (D.sound frames.new.disk)
+        (result ≡ Err StoreFault.Disk) }
 {
     let zero = Bytes::from_vec(vec![in alloc; 0u8; block as usize]?);
     let loaded = load(alloc, frames, block, records)?;

@@ -14,11 +14,14 @@ loop-slot-preserved g c =
     let so_far = c.loop-slot.invariant in
     let here = c.in_ok-hold_block.ensures in
     record {
-      held = held_more c.loop-slot.blocks c.hold_block.new.blocks c.args.slots.now c.loop-slot.slot-index (get_or c.args.slots.now c.loop-slot.slot-index 0) c.loop-slot-test.true refl here.others here.held so_far.held;
-      read = read_moved d.tells now.shape first.shape now.size first.size (d.seen now.disk) (d.seen first.disk) c.loop-slot.blocks c.hold_block.new.blocks so_far.same.shape so_far.same.size so_far.untouched.content here.read so_far.read;
+      held = held_more c.loop-slot.blocks c.hold_block.new.blocks c.args.slots.now c.loop-slot.slot-index
+          (get_or c.args.slots.now c.loop-slot.slot-index 0) c.loop-slot-test.true refl here.others here.held so_far.held;
+      read = read_moved d.tells now.shape first.shape now.size first.size (d.seen now.disk)
+          (d.seen first.disk) c.loop-slot.blocks c.hold_block.new.blocks so_far.same.shape so_far.same.size so_far.untouched.content here.read so_far.read;
       same = same_both first now next so_far.same here.same;
       untouched = untouched_both d.seen d.may_leave d.moment d.left_since g.met.D.Disk.counts_now first.disk now.disk next.disk so_far.untouched here.untouched;
       runs = here.still_runs refl;
-      cause = kept_both (d.faults first.disk) (d.faults now.disk) (d.faults next.disk) (d.sound first.disk) (d.sound now.disk) (d.sound next.disk) ⊥ ⊥ so_far.cause
+      cause = kept_both (d.faults first.disk) (d.faults now.disk) (d.faults next.disk) (d.sound first.disk) (d.sound now.disk)
+          (d.sound next.disk) ⊥ ⊥ so_far.cause
           (record { later = here.cause.later; rose = λ never. absurd never; stays = here.cause.stays; never = λ sound never. never });
     }

@@ -31,17 +31,22 @@ returns-in_err-append-clause-step g c =
     let call = c.in_err-append.ensures in
     let first = c.in_ok-make_room.ensures.step in
     let may = may_go_on d.tells d.seen d.may_leave d.moment d.left_since st st None old mid first in
-    let read = subst (λ (b : List ℕ). record_of (frame_of frame.kind b) ≡ Some c.args.item.now) (sym c.as_slice.ensures.value) c.in_ok-frame.ensures.read in
+    let read = subst (λ (b : List ℕ). record_of (frame_of frame.kind b) ≡ Some c.args.item.now)
+    (sym c.as_slice.ensures.value) c.in_ok-frame.ensures.read in
     let limits = subst (λ (s : Shape). limits_of index ≡ images.limits_of s) (sym first.shape) c.requires.indexed.limits_are in
-    let leads = leads_changed (limits_of index) (images.limits_of mid.shape) mid.frames (frame_of frame.kind bytes) c.args.item.now st limits may.leads read c.requires.can in
-    let run = call_moments d.tells d.seen d.may_leave d.moment d.left_since None st next (mid.frames ++ frame_of frame.kind bytes ∷ []) mid new.disk may leads call.any_moment in
+    let leads = leads_changed (limits_of index) (images.limits_of mid.shape) mid.frames
+    (frame_of frame.kind bytes) c.args.item.now st limits may.leads read c.requires.can in
+    let run = call_moments d.tells d.seen d.may_leave d.moment d.left_since None st next
+    (mid.frames ++ frame_of frame.kind bytes ∷ []) mid new.disk may leads call.any_moment in
     let second = call_refused d.tells d.seen d.may_leave d.moment d.left_since None st next mid new f may call.refused run call.no_memory call.read call.answer in
     let len : c.len.result ≡ length bytes = c.len.ensures ∙ sym (ap length c.as_slice.ensures.value) in
     let never = λ (room : HasAppendRoom d.has_room mid c.len.result) (is : refused (fault_of f) ≡ refused NoMemory).
-    call.room (room_less d.has_room g.met.D.Disk.room_for_less mid _ _ _ _ _ _ _ _ _ _ (omega arith) (omega (arith, len)) (omega (arith, len)) (omega arith) (omega (arith, len)) room) (ap (refused {E = FrameFault}) (memory_refused f is)) in
+    call.room (room_less d.has_room g.met.D.Disk.room_for_less mid _ _ _ _ _ _ _ _ _ _ (omega arith) (omega (arith, len)) (omega (arith, len))
+    (omega arith) (omega (arith, len)) room) (ap (refused {E = FrameFault}) (memory_refused f is)) in
     let p = err_from_is_err_and c.from_residual-in_err-append.result c.from_residual-in_err-append.ensures.1 in
     rw (p.1, p.2) (steps_both d.tells d.seen d.may_leave d.moment d.left_since None st next old mid new (Err (fault_of f)) first second
-    (nothing_changed d.tells d.seen d.may_leave d.moment d.left_since None st next old mid new (Err (fault_of f)) (HasAppendRoom d.has_room mid c.len.result) second c.in_ok-make_room.ensures.room never))
+    (nothing_changed d.tells d.seen d.may_leave d.moment d.left_since None st next old mid new (Err (fault_of f))
+    (HasAppendRoom d.has_room mid c.len.result) second c.in_ok-make_room.ensures.room never))
 
 pub returns-clause-step : goal.returns-clause-step
 returns-clause-step g c =
@@ -57,15 +62,20 @@ returns-clause-step g c =
     let call = c.in_ok-append.ensures in
     let first = c.in_ok-make_room.ensures.step in
     let may = may_go_on d.tells d.seen d.may_leave d.moment d.left_since st st None old mid first in
-    let read = subst (λ (b : List ℕ). record_of (frame_of frame.kind b) ≡ Some c.args.item.now) (sym c.as_slice.ensures.value) c.in_ok-frame.ensures.read in
+    let read = subst (λ (b : List ℕ). record_of (frame_of frame.kind b) ≡ Some c.args.item.now)
+    (sym c.as_slice.ensures.value) c.in_ok-frame.ensures.read in
     let limits = subst (λ (s : Shape). limits_of index ≡ images.limits_of s) (sym first.shape) c.requires.indexed.limits_are in
-    let leads = leads_changed (limits_of index) (images.limits_of mid.shape) mid.frames (frame_of frame.kind bytes) c.args.item.now st limits may.leads read c.requires.can in
-    let second = call_made d.tells d.seen d.may_leave d.moment d.left_since None st next (mid.frames ++ frame_of frame.kind bytes ∷ []) mid new may leads call.ok call.after call.durable call.any_moment call.read call.answer.halts in
+    let leads = leads_changed (limits_of index) (images.limits_of mid.shape) mid.frames
+    (frame_of frame.kind bytes) c.args.item.now st limits may.leads read c.requires.can in
+    let second = call_made d.tells d.seen d.may_leave d.moment d.left_since None st next
+    (mid.frames ++ frame_of frame.kind bytes ∷ []) mid new may leads call.ok call.after call.durable call.any_moment call.read call.answer.halts in
     steps_both d.tells d.seen d.may_leave d.moment d.left_since None st next old mid new (Ok tt) first second (λ bad. absurd cc)
 
 pub returns-clause-counted : goal.returns-clause-counted
 returns-clause-counted g c = λ told.
     let moment = g.D.Disk.moment in
     let old = c.args.frames.now in
-    append_counted (Fits old.shape old.frames c.len.result) (HasFrameRoom old.shape old.frames) 4 (moment old.disk) (moment c.make_room.new.frames.disk) (moment c.append.new.self.disk)
-    (λ room. omega (arith, room, c.len.ensures, c.in_ok-frame.ensures.size, most_few c.args.item.now)) (c.in_ok-make_room.ensures.counted told) (c.in_ok-append.ensures.counted told)
+    append_counted (Fits old.shape old.frames c.len.result) (HasFrameRoom old.shape old.frames) 4 (moment old.disk)
+    (moment c.make_room.new.frames.disk) (moment c.append.new.self.disk)
+    (λ room. omega (arith, room, c.len.ensures, c.in_ok-frame.ensures.size, most_few c.args.item.now)) (c.in_ok-make_room.ensures.counted told)
+    (c.in_ok-append.ensures.counted told)

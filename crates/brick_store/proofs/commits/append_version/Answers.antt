@@ -33,14 +33,17 @@ returns-in_err-append_with-clause-step g c =
     let read = c.in_ok-frame.ensures.read in
     let limits = subst (λ (s : Shape). limits_of index ≡ images.limits_of s) (sym first.shape) c.requires.indexed.limits_are in
     let leads = leads_changed (limits_of index) (images.limits_of mid.shape) mid.frames frame c.args.item.now st limits may.leads read c.requires.can in
-    let run = call_moments d.tells d.seen d.may_leave d.moment d.left_since put st next (mid.frames ++ frame ∷ []) mid new.disk may leads call.any_moment in
+    let run = call_moments d.tells d.seen d.may_leave d.moment d.left_since put st next
+    (mid.frames ++ frame ∷ []) mid new.disk may leads call.any_moment in
     let second = call_refused d.tells d.seen d.may_leave d.moment d.left_since put st next mid new f may call.refused run call.no_memory call.read call.answer in
     let len : c.len.result ≡ length frame.body = c.len.ensures in
     let never = λ (room : HasAppendRoom d.has_room mid c.len.result) (is : refused (fault_of f) ≡ refused NoMemory).
-    call.room (room_less d.has_room g.met.D.Disk.room_for_less mid _ _ _ _ _ _ _ _ _ _ (omega arith) (omega (arith, len)) (omega (arith, len)) (omega arith) (omega (arith, len)) room) (ap (refused {E = FrameFault}) (memory_refused f is)) in
+    call.room (room_less d.has_room g.met.D.Disk.room_for_less mid _ _ _ _ _ _ _ _ _ _ (omega arith) (omega (arith, len)) (omega (arith, len))
+    (omega arith) (omega (arith, len)) room) (ap (refused {E = FrameFault}) (memory_refused f is)) in
     let p = err_from_is_err_and c.from_residual-in_err-append_with.result c.from_residual-in_err-append_with.ensures.1 in
     rw (p.1, p.2) (steps_both d.tells d.seen d.may_leave d.moment d.left_since put st next old mid new (Err (fault_of f)) first second
-    (nothing_changed d.tells d.seen d.may_leave d.moment d.left_since put st next old mid new (Err (fault_of f)) (HasAppendRoom d.has_room mid c.len.result) second c.in_ok-make_room.ensures.room never))
+    (nothing_changed d.tells d.seen d.may_leave d.moment d.left_since put st next old mid new (Err (fault_of f))
+    (HasAppendRoom d.has_room mid c.len.result) second c.in_ok-make_room.ensures.room never))
 
 pub returns-clause-step : goal.returns-clause-step
 returns-clause-step g c =
@@ -59,7 +62,8 @@ returns-clause-step g c =
     let read = c.in_ok-frame.ensures.read in
     let limits = subst (λ (s : Shape). limits_of index ≡ images.limits_of s) (sym first.shape) c.requires.indexed.limits_are in
     let leads = leads_changed (limits_of index) (images.limits_of mid.shape) mid.frames frame c.args.item.now st limits may.leads read c.requires.can in
-    let second = call_made d.tells d.seen d.may_leave d.moment d.left_since put st next (mid.frames ++ frame ∷ []) mid new may leads call.ok call.after call.durable call.any_moment call.read call.answer.halts in
+    let second = call_made d.tells d.seen d.may_leave d.moment d.left_since put st next
+    (mid.frames ++ frame ∷ []) mid new may leads call.ok call.after call.durable call.any_moment call.read call.answer.halts in
     steps_both d.tells d.seen d.may_leave d.moment d.left_since put st next old mid new (Ok tt) first second (λ bad. absurd cc)
 
 pub returns-in_err-make_room-clause-step : goal.returns-in_err-make_room-clause-step
@@ -68,11 +72,14 @@ returns-in_err-make_room-clause-step g c =
     let index = c.args.index.now in
     let st = state_of index in
     let p = err_from_is_err_and c.from_residual-in_err-make_room.result c.from_residual-in_err-make_room.ensures.1 in
-    rw (p.1, p.2) (step_stopped d.tells d.seen d.may_leave d.moment d.left_since (Some (c.args.slot, c.args.block.now)) st (changed (limits_of index) c.args.item.now st) c.args.frames.now c.make_room.new.frames c.in_err-make_room.field-0.0 c.in_err-make_room.ensures.step)
+    rw (p.1, p.2) (step_stopped d.tells d.seen d.may_leave d.moment d.left_since (Some (c.args.slot, c.args.block.now)) st
+    (changed (limits_of index) c.args.item.now st) c.args.frames.now c.make_room.new.frames c.in_err-make_room.field-0.0 c.in_err-make_room.ensures.step)
 
 pub returns-clause-counted : goal.returns-clause-counted
 returns-clause-counted g c = λ told.
     let moment = g.D.Disk.moment in
     let old = c.args.frames.now in
-    append_counted (Fits old.shape old.frames c.len.result) (HasFrameRoom old.shape old.frames) 5 (moment old.disk) (moment c.make_room.new.frames.disk) (moment c.append_with.new.self.disk)
-    (λ room. omega (arith, room, c.len.ensures, c.in_ok-frame.ensures.size, most_few c.args.item.now)) (c.in_ok-make_room.ensures.counted told) (c.in_ok-append_with.ensures.counted told)
+    append_counted (Fits old.shape old.frames c.len.result) (HasFrameRoom old.shape old.frames) 5 (moment old.disk)
+    (moment c.make_room.new.frames.disk) (moment c.append_with.new.self.disk)
+    (λ room. omega (arith, room, c.len.ensures, c.in_ok-frame.ensures.size, most_few c.args.item.now)) (c.in_ok-make_room.ensures.counted told)
+    (c.in_ok-append_with.ensures.counted told)

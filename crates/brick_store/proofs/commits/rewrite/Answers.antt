@@ -26,7 +26,8 @@ returns-in_err-reserve-clause-step g c =
     let call = c.in_err-reserve.ensures in
     let run = idle_moments d.tells d.seen d.may_leave d.moment d.left_since g.met.D.Disk.only_now None st st old new.disk c.requires.may call.untouched in
     let p = err_from_is_err_and c.from_residual-in_err-reserve.result c.from_residual-in_err-reserve.ensures.1 in
-    rw (p.1, p.2) (call_refused d.tells d.seen d.may_leave d.moment d.left_since None st st old new f c.requires.may call.same run (λ is. call.untouched) call.read call.answer)
+    rw (p.1, p.2) (call_refused d.tells d.seen d.may_leave d.moment d.left_since None st st old new f c.requires.may call.same run
+    (λ is. call.untouched) call.read call.answer)
 
 pub returns-in_err-rewrite-clause-step : goal.returns-in_err-rewrite-clause-step
 returns-in_err-rewrite-clause-step g c =
@@ -43,12 +44,15 @@ returns-in_err-rewrite-clause-step g c =
     let first = idle_made d.tells d.seen d.may_leave d.moment d.left_since g.met.D.Disk.only_now st old mid c.requires.may made.same made.untouched made.read made.answer.halts in
     let may = may_go_on d.tells d.seen d.may_leave d.moment d.left_since st st None old mid first in
     let kept = subst (λ (s : Shape). IsKeptState (images.limits_of s) st) (sym first.shape) c.requires.indexed.kept in
-    let leads = leads_from_records (images.limits_of mid.shape) live (live_records st) empty st c.in_ok-live.ensures.read (records_lead (images.limits_of mid.shape) st kept) in
+    let leads = leads_from_records (images.limits_of mid.shape) live (live_records st) empty st c.in_ok-live.ensures.read
+    (records_lead (images.limits_of mid.shape) st kept) in
     let run = call_moments d.tells d.seen d.may_leave d.moment d.left_since None st st live mid new.disk may leads call.any_moment in
     let second = call_refused d.tells d.seen d.may_leave d.moment d.left_since None st st mid new f may call.refused run call.no_memory call.read call.answer in
     let are : c.deref.result.now ≡ live = c.deref.ensures.value in
     let never = λ (is : refused (fault_of f) ≡ refused NoMemory).
-    absurd (call.room (room_less d.has_room g.met.D.Disk.room_for_less mid _ _ _ _ _ _ _ _ _ _ (omega arith) (omega (arith, ap size_of are)) (omega (arith, ap size_of are)) (omega (arith, ap length are)) (omega arith) made.room) (ap (refused {E = FrameFault}) (memory_refused f is))) in
+    absurd (call.room (room_less d.has_room g.met.D.Disk.room_for_less mid _ _ _ _ _ _ _ _ _ _ (omega arith) (omega (arith, ap size_of are))
+    (omega (arith, ap size_of are)) (omega (arith, ap length are)) (omega arith) made.room)
+    (ap (refused {E = FrameFault}) (memory_refused f is))) in
     let p = err_from_is_err_and c.from_residual-in_err-rewrite.result c.from_residual-in_err-rewrite.ensures.1 in
     rw (p.1, p.2) (steps_both d.tells d.seen d.may_leave d.moment d.left_since None st st old mid new (Err (fault_of f)) first second never)
 
@@ -66,7 +70,8 @@ returns-clause-step g c =
     let first = idle_made d.tells d.seen d.may_leave d.moment d.left_since g.met.D.Disk.only_now st old mid c.requires.may made.same made.untouched made.read made.answer.halts in
     let may = may_go_on d.tells d.seen d.may_leave d.moment d.left_since st st None old mid first in
     let kept = subst (λ (s : Shape). IsKeptState (images.limits_of s) st) (sym first.shape) c.requires.indexed.kept in
-    let leads = leads_from_records (images.limits_of mid.shape) live (live_records st) empty st c.in_ok-live.ensures.read (records_lead (images.limits_of mid.shape) st kept) in
+    let leads = leads_from_records (images.limits_of mid.shape) live (live_records st) empty st c.in_ok-live.ensures.read
+    (records_lead (images.limits_of mid.shape) st kept) in
     let second = call_made d.tells d.seen d.may_leave d.moment d.left_since None st st live mid new may leads call.ok call.after call.durable call.any_moment call.read call.answer.halts in
     steps_both d.tells d.seen d.may_leave d.moment d.left_since None st st old mid new (Ok tt) first second (λ bad. absurd cc)
 
@@ -83,11 +88,13 @@ returns-clause-room g c =
     let count = ap length are in
     let bytes = mid.shape.block + c.args.body + 7 in
     let before : HasRoom d.has_room mid (6 + 7) (bytes + (size_of live + 34)) (c.args.body + 6) (length live + 1) c.args.body =
-    room_less d.has_room g.met.D.Disk.room_for_less mid _ _ _ _ _ _ _ _ _ _ (omega arith) (omega (arith, size, ap (λ (s : Shape). s.block) made.same.shape)) (omega arith) (omega (arith, count)) (omega arith) made.room in
+    room_less d.has_room g.met.D.Disk.room_for_less mid _ _ _ _ _ _ _ _ _ _ (omega arith)
+    (omega (arith, size, ap (λ (s : Shape). s.block) made.same.shape)) (omega arith) (omega (arith, count)) (omega arith) made.room in
     let after = call.left 6 bytes (c.args.body + 6) (length live + 1) c.args.body before in
     let shape = ap (λ (s : Shape). s.block) call.ok.shape in
     let listed = ap length call.ok.frames in
-    room_less d.has_room g.met.D.Disk.room_for_less new _ _ _ _ _ _ _ _ _ _ (omega arith) (omega (arith, shape)) (omega arith) (omega (arith, listed)) (omega arith) after
+    room_less d.has_room g.met.D.Disk.room_for_less new _ _ _ _ _ _ _ _ _ _ (omega arith) (omega (arith, shape)) (omega arith) (omega (arith, listed))
+    (omega arith) after
 
 pub returns-clause-counted : goal.returns-clause-counted
 returns-clause-counted g c = λ told. omega (arith, c.in_ok-reserve.ensures.untouched.clock, c.in_ok-rewrite.ensures.counted told)

@@ -41,7 +41,9 @@ returns-in_err-rewrite-clause-no_memory g c =
     let are : c.deref.result.now ≡ c.in_ok-live.live.items = c.deref.ensures.value in
     let p = err_from_is_err_and c.from_residual-in_err-rewrite.result c.from_residual-in_err-rewrite.ensures.1 in
     let never = λ (is : refused (fault_of f) ≡ refused NoMemory).
-    absurd (c.in_err-rewrite.ensures.room (room_less d.has_room g.met.D.Disk.room_for_less held _ _ _ _ _ _ _ _ _ _ (omega arith) (omega (arith, ap size_of are)) (omega (arith, ap size_of are)) (omega (arith, ap length are)) (omega arith) (synced.left 12 _ _ _ _ made.room)) (ap (refused {E = FrameFault}) (memory_refused f is))) in
+    absurd (c.in_err-rewrite.ensures.room (room_less d.has_room g.met.D.Disk.room_for_less held _ _ _ _ _ _ _ _ _ _ (omega arith)
+    (omega (arith, ap size_of are)) (omega (arith, ap size_of are)) (omega (arith, ap length are)) (omega arith)
+    (synced.left 12 _ _ _ _ made.room)) (ap (refused {E = FrameFault}) (memory_refused f is))) in
     rw (p.1, p.2) never
 
 pub returns-clause-moments : goal.returns-clause-moments
@@ -63,8 +65,10 @@ returns-clause-may g c =
     let st = state_of c.args.index.now in
     let here = c.in_ok-rewrite.ensures in
     let shape : new.shape ≡ old.shape = here.ok.shape ∙ c.in_ok-sync.ensures.same.shape ∙ c.in_ok-reserve.ensures.same.shape in
-    let leads : Leads (limits_of old.shape) c.in_ok-live.live.items empty st = live_lead (limits_of old.shape) c.in_ok-live.live.items st c.requires.kept c.in_ok-live.ensures.read in
-    let listed : Leads (limits_of old.shape) new.frames empty st = subst (λ (xs : List Frame). Leads (limits_of old.shape) xs empty st) (sym here.ok.frames) leads in
+    let leads : Leads (limits_of old.shape) c.in_ok-live.live.items empty st = live_lead
+    (limits_of old.shape) c.in_ok-live.live.items st c.requires.kept c.in_ok-live.ensures.read in
+    let listed : Leads (limits_of old.shape) new.frames empty st = subst (λ (xs : List Frame). Leads (limits_of old.shape) xs empty st)
+    (sym here.ok.frames) leads in
     let runs : new.halted ≡ false = here.answer.halts ∙ c.in_ok-sync.ensures.answer.halts ∙ c.in_ok-reserve.ensures.answer.halts ∙ c.requires.runs in
     record {
       runs = runs;
@@ -87,7 +91,15 @@ returns-clause-room g c =
     let block = λ (a b : Shape) (same : a ≡ b). ap (λ (s : Shape). s.block) same in
     let bytes = mid.shape.block + c.args.body + 7 in
     let before : HasRoom d.has_room mid (5 + 7) (bytes + (size_of live + 34)) (c.args.body + 6) (length live + 1) c.args.body =
-    room_less d.has_room g.met.D.Disk.room_for_less mid _ _ _ _ _ _ _ _ _ _ (omega arith) (omega (arith, size, block mid.shape c.reserve.new.self.shape synced.same.shape, block c.reserve.new.self.shape c.args.frames.now.shape made.same.shape)) (omega arith) (omega (arith, count)) (omega arith) (synced.left 12 _ _ _ _ made.room) in
+    room_less d.has_room g.met.D.Disk.room_for_less mid _ _ _ _ _ _ _ _ _ _ (omega arith)
+    (omega (
+      arith,
+      size,
+      block mid.shape c.reserve.new.self.shape synced.same.shape,
+      block c.reserve.new.self.shape c.args.frames.now.shape made.same.shape,
+    )) (omega arith) (omega (arith, count)) (omega arith)
+    (synced.left 12 _ _ _ _ made.room) in
     let after = call.left 5 bytes (c.args.body + 6) (length live + 1) c.args.body before in
     let listed = ap length call.ok.frames in
-    room_less d.has_room g.met.D.Disk.room_for_less new _ _ _ _ _ _ _ _ _ _ (omega arith) (omega (arith, block new.shape mid.shape call.ok.shape)) (omega arith) (omega (arith, listed)) (omega arith) after
+    room_less d.has_room g.met.D.Disk.room_for_less new _ _ _ _ _ _ _ _ _ _ (omega arith) (omega (arith, block new.shape mid.shape call.ok.shape))
+    (omega arith) (omega (arith, listed)) (omega arith) after

@@ -14,4 +14,5 @@ returns-then-fits-clause-room g c =
     let call = c.in_ok-sync.ensures in
     let block : new.shape.block ≡ old.shape.block = ap (λ (s : Shape). s.block) (call.same.shape ∙ made.same.shape) in
     let listed : length new.frames ≡ length old.frames = ap length (call.same.frames ∙ made.same.frames) in
-    room_less d.has_room g.met.D.Disk.room_for_less new _ _ _ _ _ _ _ _ _ _ (omega arith) (omega (arith, block)) (omega arith) (omega (arith, listed)) (omega arith) (call.left 12 _ _ _ _ made.room)
+    room_less d.has_room g.met.D.Disk.room_for_less new _ _ _ _ _ _ _ _ _ _ (omega arith) (omega (arith, block)) (omega arith) (omega (arith, listed))
+    (omega arith) (call.left 12 _ _ _ _ made.room)

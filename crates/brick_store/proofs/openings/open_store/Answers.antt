@@ -20,8 +20,10 @@ returns-in-Ok-take_up-clause-state g c = λ told.
     let made = c.in-Ok-take_up.ensures in
     let taken = c.in-Ok-take_up.taken in
     let size = c.take_up.new.frames.shape.block in
-    subst (λ (s : Shape). (st : StateOf Version) → StandsFor s st (d.seen c.args.disk) → resolved (cached size taken.blocks) (state_of taken.index) ≡ booted (st.boot + 1) st) here.shape
-    (λ st stands. state_counted d.seen held (here.read told here.runs) (d.seen c.args.disk) here.untouched.content st stands taken.blocks size (state_of taken.index) (ap (λ (s : Shape). s.block) made.shape) (made.stored told) made.state)
+    subst (λ (s : Shape). (st : StateOf Version) → StandsFor s st (d.seen c.args.disk) → resolved (cached size taken.blocks)
+    (state_of taken.index) ≡ booted (st.boot + 1) st) here.shape
+    (λ st stands. state_counted d.seen held (here.read told here.runs) (d.seen c.args.disk) here.untouched.content st stands taken.blocks size
+    (state_of taken.index) (ap (λ (s : Shape). s.block) made.shape) (made.stored told) made.state)
 
 pub returns-in-Ok-take_up-clause-found : goal.returns-in-Ok-take_up-clause-found
 returns-in-Ok-take_up-clause-found g c = λ told.
@@ -31,8 +33,10 @@ returns-in-Ok-take_up-clause-found g c = λ told.
     let made = c.in-Ok-take_up.ensures in
     let taken = c.in-Ok-take_up.taken in
     let size = c.take_up.new.frames.shape.block in
-    subst (λ (s : Shape). (st : StateOf Version) × IsFound s st (d.seen c.args.disk) × (st.boot < 4294967295) × (resolved (cached size taken.blocks) (state_of taken.index) ≡ booted (st.boot + 1) st)) here.shape
-    (found_there d.seen held (here.read told here.runs) (d.seen c.args.disk) here.untouched.content taken.blocks size (state_of taken.index) (ap (λ (s : Shape). s.block) made.shape) (made.stored told) made.state (made.boots refl))
+    subst (λ (s : Shape). (st : StateOf Version) × IsFound s st (d.seen c.args.disk) × (st.boot < 4294967295)
+    × (resolved (cached size taken.blocks) (state_of taken.index) ≡ booted (st.boot + 1) st)) here.shape
+    (found_there d.seen held (here.read told here.runs) (d.seen c.args.disk) here.untouched.content taken.blocks size (state_of taken.index)
+    (ap (λ (s : Shape). s.block) made.shape) (made.stored told) made.state (made.boots refl))
 
 pub returns-in-Ok-take_up-clause-durable : goal.returns-in-Ok-take_up-clause-durable
 returns-in-Ok-take_up-clause-durable g c = λ told.
@@ -47,8 +51,10 @@ returns-in-Ok-take_up-clause-moments g c = λ told.
     let held = c.in-Ok.frames in
     let here = c.in-Ok.ensures in
     let new = c.take_up.new.frames.disk in
-    subst (λ (s : Shape). (st : StateOf Version) → StandsFor s st (d.seen c.args.disk) → LeavesOnly d.moment d.left_since c.args.disk new (IsAllowedOr (d.may_leave c.args.disk) (StandsForEither s st (booted (st.boot + 1) st)))) here.shape
-    (opening_moments d.seen d.may_leave d.moment d.left_since g.met.D.Disk.only_now c.args.disk new held (here.read told here.runs) here.untouched (c.in-Ok-take_up.ensures.moments told))
+    subst (λ (s : Shape). (st : StateOf Version) → StandsFor s st (d.seen c.args.disk) → LeavesOnly d.moment d.left_since c.args.disk new
+    (IsAllowedOr (d.may_leave c.args.disk) (StandsForEither s st (booted (st.boot + 1) st)))) here.shape
+    (opening_moments d.seen d.may_leave d.moment d.left_since g.met.D.Disk.only_now c.args.disk new held (here.read told here.runs) here.untouched
+    (c.in-Ok-take_up.ensures.moments told))
 
 pub returns-in-Ok-take_up-clause-any_moment : goal.returns-in-Ok-take_up-clause-any_moment
 returns-in-Ok-take_up-clause-any_moment g c = λ told.
@@ -56,8 +62,10 @@ returns-in-Ok-take_up-clause-any_moment g c = λ told.
     let held = c.in-Ok.frames in
     let here = c.in-Ok.ensures in
     let new = c.take_up.new.frames.disk in
-    subst (λ (s : Shape). (st : StateOf Version) → LeavesState s st (d.may_leave c.args.disk) → LeavesOnly d.moment d.left_since c.args.disk new (StandsForEither s st (booted (st.boot + 1) st))) here.shape
-    (synced_moments d.seen d.may_leave d.moment d.left_since g.met.D.Disk.only_now c.args.disk new held (here.read told here.runs) here.untouched (g.met.D.Disk.seen_is_left c.args.disk) (c.in-Ok-take_up.ensures.moments told))
+    subst (λ (s : Shape). (st : StateOf Version) → LeavesState s st (d.may_leave c.args.disk) → LeavesOnly d.moment d.left_since c.args.disk new
+    (StandsForEither s st (booted (st.boot + 1) st))) here.shape
+    (synced_moments d.seen d.may_leave d.moment d.left_since g.met.D.Disk.only_now c.args.disk new held (here.read told here.runs) here.untouched
+    (g.met.D.Disk.seen_is_left c.args.disk) (c.in-Ok-take_up.ensures.moments told))
 
 pub returns-in-Err-take_up-clause-moments_err : goal.returns-in-Err-take_up-clause-moments_err
 returns-in-Err-take_up-clause-moments_err g c = λ told.
@@ -67,9 +75,13 @@ returns-in-Err-take_up-clause-moments_err g c = λ told.
     let new = c.take_up.new.frames.disk in
     let shape = shape_of c.args.me.0 c.args.block c.args.records in
     let back : new ≡ c.into_disk.result = sym c.into_disk.ensures in
-    subst (λ (last : g.row.D.Denot). (st : StateOf Version) → StandsFor shape st (d.seen c.args.disk) → LeavesOnly d.moment d.left_since c.args.disk last (IsAllowedOr (d.may_leave c.args.disk) (StandsForEither shape st (booted (st.boot + 1) st)))) back
-    (subst (λ (s : Shape). (st : StateOf Version) → StandsFor s st (d.seen c.args.disk) → LeavesOnly d.moment d.left_since c.args.disk new (IsAllowedOr (d.may_leave c.args.disk) (StandsForEither s st (booted (st.boot + 1) st)))) here.shape
-    (opening_moments d.seen d.may_leave d.moment d.left_since g.met.D.Disk.only_now c.args.disk new held (here.read told here.runs) here.untouched (c.in-Err-take_up.ensures.moments told)))
+    subst (λ (last : g.row.D.Denot). (st : StateOf Version) → StandsFor shape st (d.seen c.args.disk)
+    → LeavesOnly d.moment d.left_since c.args.disk last
+    (IsAllowedOr (d.may_leave c.args.disk) (StandsForEither shape st (booted (st.boot + 1) st)))) back
+    (subst (λ (s : Shape). (st : StateOf Version) → StandsFor s st (d.seen c.args.disk) → LeavesOnly d.moment d.left_since c.args.disk new
+    (IsAllowedOr (d.may_leave c.args.disk) (StandsForEither s st (booted (st.boot + 1) st)))) here.shape
+    (opening_moments d.seen d.may_leave d.moment d.left_since g.met.D.Disk.only_now c.args.disk new held (here.read told here.runs) here.untouched
+    (c.in-Err-take_up.ensures.moments told)))
 
 pub returns-in-Err-take_up-clause-any_moment_err : goal.returns-in-Err-take_up-clause-any_moment_err
 returns-in-Err-take_up-clause-any_moment_err g c = λ told.
@@ -79,9 +91,12 @@ returns-in-Err-take_up-clause-any_moment_err g c = λ told.
     let new = c.take_up.new.frames.disk in
     let shape = shape_of c.args.me.0 c.args.block c.args.records in
     let back : new ≡ c.into_disk.result = sym c.into_disk.ensures in
-    subst (λ (last : g.row.D.Denot). (st : StateOf Version) → LeavesState shape st (d.may_leave c.args.disk) → LeavesOnly d.moment d.left_since c.args.disk last (StandsForEither shape st (booted (st.boot + 1) st))) back
-    (subst (λ (s : Shape). (st : StateOf Version) → LeavesState s st (d.may_leave c.args.disk) → LeavesOnly d.moment d.left_since c.args.disk new (StandsForEither s st (booted (st.boot + 1) st))) here.shape
-    (synced_moments d.seen d.may_leave d.moment d.left_since g.met.D.Disk.only_now c.args.disk new held (here.read told here.runs) here.untouched (g.met.D.Disk.seen_is_left c.args.disk) (c.in-Err-take_up.ensures.moments told)))
+    subst (λ (last : g.row.D.Denot). (st : StateOf Version) → LeavesState shape st (d.may_leave c.args.disk)
+    → LeavesOnly d.moment d.left_since c.args.disk last (StandsForEither shape st (booted (st.boot + 1) st))) back
+    (subst (λ (s : Shape). (st : StateOf Version) → LeavesState s st (d.may_leave c.args.disk) → LeavesOnly d.moment d.left_since c.args.disk new
+    (StandsForEither s st (booted (st.boot + 1) st))) here.shape
+    (synced_moments d.seen d.may_leave d.moment d.left_since g.met.D.Disk.only_now c.args.disk new held (here.read told here.runs) here.untouched
+    (g.met.D.Disk.seen_is_left c.args.disk) (c.in-Err-take_up.ensures.moments told)))
 
 pub returns-in-Err-take_up-clause-worn : goal.returns-in-Err-take_up-clause-worn
 returns-in-Err-take_up-clause-worn g c = λ is told.

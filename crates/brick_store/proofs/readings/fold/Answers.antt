@@ -19,21 +19,29 @@ loop-frame-init c = record {
 
 pub returns-then-not-branch-clause-state : goal.returns-then-not-branch-clause-state
 returns-then-not-branch-clause-state c =
-    ended_at (limits_for c.args.records) c.args.frames.now c.loop-frame.frame-index c.frame-item.result empty (state_of c.loop-frame.index) (state_of c.take_frame.new.index) c.loop-frame-test.true c.frame-item.is
+    ended_at (limits_for c.args.records) c.args.frames.now c.loop-frame.frame-index c.frame-item.result empty (state_of c.loop-frame.index)
+    (state_of c.take_frame.new.index) c.loop-frame-test.true c.frame-item.is
     c.loop-frame.invariant.leads
-    (subst (λ (limits : Limits). EndsBefore limits c.frame-item.result (state_of c.loop-frame.index) (state_of c.take_frame.new.index)) c.loop-frame.invariant.limits (c.take_frame.ensures.ended (c.in_ok-take_frame.was ∙ ap Ok c.if-not-branch.true)))
+    (subst (λ (limits : Limits). EndsBefore limits c.frame-item.result (state_of c.loop-frame.index)
+    (state_of c.take_frame.new.index)) c.loop-frame.invariant.limits
+    (c.take_frame.ensures.ended (c.in_ok-take_frame.was ∙ ap Ok c.if-not-branch.true)))
 
 pub loop-frame-preserved : goal.loop-frame-preserved
 loop-frame-preserved c = record {
   limits = c.take_frame.ensures.limits ∙ c.loop-frame.invariant.limits;
-  leads = taken_more (limits_for c.args.records) c.args.frames.now c.loop-frame.frame-index c.frame-item.result empty (state_of c.loop-frame.index) (state_of c.take_frame.new.index) c.loop-frame-test.true c.frame-item.is
+  leads = taken_more (limits_for c.args.records) c.args.frames.now c.loop-frame.frame-index c.frame-item.result empty (state_of c.loop-frame.index)
+      (state_of c.take_frame.new.index) c.loop-frame-test.true c.frame-item.is
       c.loop-frame.invariant.leads
-      (subst (λ (limits : Limits). IsTaken limits c.frame-item.result (state_of c.loop-frame.index) (state_of c.take_frame.new.index)) c.loop-frame.invariant.limits (c.take_frame.ensures.taken (c.in_ok-take_frame.was ∙ ap Ok c.if-not-branch.false)));
+      (subst (λ (limits : Limits). IsTaken limits c.frame-item.result (state_of c.loop-frame.index)
+      (state_of c.take_frame.new.index)) c.loop-frame.invariant.limits
+      (c.take_frame.ensures.taken (c.in_ok-take_frame.was ∙ ap Ok c.if-not-branch.false)));
   members = c.take_frame.ensures.members (subst IsOk (sym c.in_ok-take_frame.was) refl) c.loop-frame.invariant.members;
 }
 
 pub returns-clause-state : goal.returns-clause-state
-returns-clause-state c = leads_all (limits_for c.args.records) c.args.frames.now c.loop-frame.frame-index empty (state_of c.loop-frame.index) c.loop-frame-test.false c.loop-frame.invariant.leads
+returns-clause-state c = leads_all (limits_for c.args.records) c.args.frames.now c.loop-frame.frame-index empty
+    (state_of c.loop-frame.index) c.loop-frame-test.false c.loop-frame.invariant.leads
 
 pub returns-clause-whole : goal.returns-clause-whole
-returns-clause-whole c = λ whole. all_taken (limits_for c.args.records) c.args.frames.now c.loop-frame.frame-index empty (state_of c.loop-frame.index) c.loop-frame-test.false c.loop-frame.invariant.leads
+returns-clause-whole c = λ whole. all_taken (limits_for c.args.records) c.args.frames.now c.loop-frame.frame-index empty
+    (state_of c.loop-frame.index) c.loop-frame-test.false c.loop-frame.invariant.leads

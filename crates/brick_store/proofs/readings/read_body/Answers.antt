@@ -7,7 +7,8 @@ use Rattle.brick_store.proofs.readings.read_body.Goals as goal
 pub returns-in-Some-clause-found : goal.returns-in-Some-clause-found
 returns-in-Some-clause-found c =
     let bytes : IsBytes c.args.body.now = λ i. omega (arith, c.type_inv.body i) in
-    kept_first c.args.kind c.args.body.now c.in-Some.kept (kept_is c.args.kind c.args.body.now (Some c.in-Some.kept) bytes c.in-Some.ensures.found c.in-Some.ensures.only)
+    kept_first c.args.kind c.args.body.now c.in-Some.kept
+    (kept_is c.args.kind c.args.body.now (Some c.in-Some.kept) bytes c.in-Some.ensures.found c.in-Some.ensures.only)
 
 pub returns-in-Some-clause-members : goal.returns-in-Some-clause-members
 returns-in-Some-clause-members c = has_members c.in-Some.kept c.in-Some.ensures.found.fits

@@ -16,12 +16,14 @@ returns-in-Some-clause-ended c = λ no.
     let answers = subst (λ (r : Result Bool NoMem). IfOk r (λ taken. Answers (state_of c.apply.new.self) next taken)) no c.apply.ensures.answer in
     record {
       same = c.apply.ensures.refused no;
-      ends = λ rest. ends_refused limits c.args.frame.now c.in-Some.record rest old (sym c.in-Some.ensures.found) (refused_none (state_of c.apply.new.self) next answers);
+      ends = λ rest. ends_refused limits c.args.frame.now c.in-Some.record rest old (sym c.in-Some.ensures.found)
+          (refused_none (state_of c.apply.new.self) next answers);
     }
 
 pub returns-in-Some-clause-members : goal.returns-in-Some-clause-members
 returns-in-Some-clause-members c = λ ok all.
-    answered_members (limits_of c.args.index.now) c.in-Some.record (state_of c.args.index.now) (state_of c.apply.new.self) c.apply.result ok c.apply.ensures.answer c.apply.ensures.refused c.in-Some.ensures.members all
+    answered_members (limits_of c.args.index.now) c.in-Some.record (state_of c.args.index.now)
+    (state_of c.apply.new.self) c.apply.result ok c.apply.ensures.answer c.apply.ensures.refused c.in-Some.ensures.members all
 
 pub returns-in-None-clause-ended : goal.returns-in-None-clause-ended
 returns-in-None-clause-ended c = λ no. record {

@@ -10,7 +10,8 @@ use Rattle.brick_store.proofs.rewrites.frame_of.Goals as goal
 pub returns-in_ok-body-in-Kept-clause-read : goal.returns-in_ok-body-in-Kept-clause-read
 returns-in_ok-body-in-Kept-clause-read c =
     let body = c.in_ok-body-in-Kept.field-0 in
-    kept_read c.kind.result body c.in-Kept.kept (subst (λ (k : ℕ). Spells k body c.in-Kept.kept) (sym c.kind.ensures) c.in_ok-body-in-Kept.ensures) ∙ ap Some (sym c.in-Kept.is)
+    kept_read c.kind.result body c.in-Kept.kept (subst (λ (k : ℕ). Spells k body c.in-Kept.kept) (sym c.kind.ensures) c.in_ok-body-in-Kept.ensures)
+    ∙ ap Some (sym c.in-Kept.is)
 
 pub returns-in_ok-body-in-Kept-clause-size : goal.returns-in_ok-body-in-Kept-clause-size
 returns-in_ok-body-in-Kept-clause-size c =
@@ -22,7 +23,8 @@ pub returns-in_ok-body-in-Logged-clause-read : goal.returns-in_ok-body-in-Logged
 returns-in_ok-body-in-Logged-clause-read c =
     let body = c.in_ok-body-in-Logged.field-0 in
     let kind = c.kind-in-Logged in
-    logged_read kind.result body c.in-Logged.logged kind.ensures (subst (λ (k : ℕ). SpellsLogged k body c.in-Logged.logged) (sym kind.ensures) c.in_ok-body-in-Logged.ensures) ∙ ap Some (sym c.in-Logged.is)
+    logged_read kind.result body c.in-Logged.logged kind.ensures
+    (subst (λ (k : ℕ). SpellsLogged k body c.in-Logged.logged) (sym kind.ensures) c.in_ok-body-in-Logged.ensures) ∙ ap Some (sym c.in-Logged.is)
 
 pub returns-in_ok-body-in-Logged-clause-size : goal.returns-in_ok-body-in-Logged-clause-size
 returns-in_ok-body-in-Logged-clause-size c =

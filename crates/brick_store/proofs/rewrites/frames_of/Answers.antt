@@ -47,6 +47,15 @@ loop-item-preserved c =
           ∙ ap (λ (o : Option Record). map record_of done ++ o ∷ rest) c.in_ok-frame.ensures.read
           ∙ ap (λ (xs : List Record). map record_of done ++ map Some xs) (sym left)
           ∙ c.loop-item.invariant.read;
-      size = omega (arith, ap size_of pushed, size_of-append done (frame ∷ []), c.in_ok-frame.ensures.size, ap most_of left, most_cons r (drop (k + 1) rs), c.loop-item.invariant.size);
+      size = omega (
+        arith,
+        ap size_of pushed,
+        size_of-append done (frame ∷ []),
+        c.in_ok-frame.ensures.size,
+        ap most_of left,
+        most_cons r
+            (drop (k + 1) rs),
+        c.loop-item.invariant.size,
+      );
       members = all.1;
     }

@@ -28,4 +28,5 @@ returns-clause-size c =
 pub frames_of-requires : goal.frames_of-requires
 frames_of-requires c =
     let st = state_of c.args.index.now in
-    subst (λ (rs : List Record). AllByRecursion RecordHasMembers rs) (sym (c.deref.ensures.value ∙ c.in_ok-records.ensures)) (live_named st c.requires.members)
+    subst (λ (rs : List Record). AllByRecursion RecordHasMembers rs) (sym (c.deref.ensures.value ∙ c.in_ok-records.ensures))
+    (live_named st c.requires.members)

@@ -26,8 +26,10 @@ returns-in_err-append-clause-step g c =
     let call = c.in_err-append.ensures in
     let may = c.requires.may in
     let read = subst (λ (b : List ℕ). record_of (frame_of frame.kind b) ≡ Some c.args.item.now) (sym c.as_slice.ensures.value) c.requires.read in
-    let leads = leads_changed (limits_of index) (images.limits_of old.shape) old.frames (frame_of frame.kind bytes) c.args.item.now st c.requires.limits may.leads read c.requires.can in
-    let run = call_moments d.tells d.seen d.may_leave d.moment d.left_since None st next (old.frames ++ frame_of frame.kind bytes ∷ []) old new.disk may leads call.any_moment in
+    let leads = leads_changed (limits_of index) (images.limits_of old.shape) old.frames
+    (frame_of frame.kind bytes) c.args.item.now st c.requires.limits may.leads read c.requires.can in
+    let run = call_moments d.tells d.seen d.may_leave d.moment d.left_since None st next
+    (old.frames ++ frame_of frame.kind bytes ∷ []) old new.disk may leads call.any_moment in
     let p = err_from_is_err_and c.from_residual.result c.from_residual.ensures.1 in
     rw (p.1, p.2) (call_refused d.tells d.seen d.may_leave d.moment d.left_since None st next old new f may call.refused run call.no_memory call.read call.answer)
 
@@ -39,7 +41,8 @@ returns-in_err-append-clause-no_memory g c =
     let len = ap length c.as_slice.ensures.value in
     let p = err_from_is_err_and c.from_residual.result c.from_residual.ensures.1 in
     let never = λ (is : refused (fault_of f) ≡ refused NoMemory).
-    c.in_err-append.ensures.room (room_less d.has_room g.met.D.Disk.room_for_less old _ _ _ _ _ _ _ _ _ _ (omega arith) (omega (arith, len)) (omega (arith, len)) (omega arith) (omega (arith, len)) c.requires.room) (ap (refused {E = FrameFault}) (memory_refused f is)) in
+    c.in_err-append.ensures.room (room_less d.has_room g.met.D.Disk.room_for_less old _ _ _ _ _ _ _ _ _ _ (omega arith) (omega (arith, len))
+    (omega (arith, len)) (omega arith) (omega (arith, len)) c.requires.room) (ap (refused {E = FrameFault}) (memory_refused f is)) in
     rw (p.1, p.2) never
 
 pub returns-clause-step : goal.returns-clause-step
@@ -55,5 +58,7 @@ returns-clause-step g c =
     let call = c.in_ok-append.ensures in
     let may = c.requires.may in
     let read = subst (λ (b : List ℕ). record_of (frame_of frame.kind b) ≡ Some c.args.item.now) (sym c.as_slice.ensures.value) c.requires.read in
-    let leads = leads_changed (limits_of index) (images.limits_of old.shape) old.frames (frame_of frame.kind bytes) c.args.item.now st c.requires.limits may.leads read c.requires.can in
-    call_made d.tells d.seen d.may_leave d.moment d.left_since None st next (old.frames ++ frame_of frame.kind bytes ∷ []) old new may leads call.ok call.after call.durable call.any_moment call.read call.answer.halts
+    let leads = leads_changed (limits_of index) (images.limits_of old.shape) old.frames
+    (frame_of frame.kind bytes) c.args.item.now st c.requires.limits may.leads read c.requires.can in
+    call_made d.tells d.seen d.may_leave d.moment d.left_since None st next
+    (old.frames ++ frame_of frame.kind bytes ∷ []) old new may leads call.ok call.after call.durable call.any_moment call.read call.answer.halts

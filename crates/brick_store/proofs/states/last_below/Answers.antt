@@ -11,4 +11,5 @@ pub returns : goal.returns
 returns c =
     let entries = c.args.entries.now in
     let below = λ (e : Entry). stamp_below e.stamp c.args.bound in
-    c.copied.ensures ∙ find_from_yields_List below _ _ c.find-found.result c.find-found.ensures.ran (YieldsList-from_rev_slice entries cc) (λ x b q k. search (rules, tests)) ∙ find_from_end below entries
+    c.copied.ensures ∙ find_from_yields_List below _ _ c.find-found.result c.find-found.ensures.ran (YieldsList-from_rev_slice entries cc)
+    (λ x b q k. search (rules, tests)) ∙ find_from_end below entries

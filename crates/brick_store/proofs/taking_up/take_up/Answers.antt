@@ -24,9 +24,13 @@ returns-in_err-start-clause-moments g c = λ told closed.
     let st = state_of c.in_ok-loaded.loaded.folded.index in
     let found = found_in old.shape old.frames in
     let run = c.start.ensures.moments told (c.load.ensures.same.closed ∙ closed) in
-    let moved = subst (λ (s : Shape). LeavesOnly d.moment d.left_since mid.disk new.disk (IsAllowedOr (d.may_leave mid.disk) (IsKeptInEither s st (booted (st.boot + 1) st) (d.seen mid.disk)))) c.load.ensures.same.shape run in
-    let first = subst (λ (x : StateOf Entry). LeavesOnly d.moment d.left_since mid.disk new.disk (IsAllowedOr (d.may_leave mid.disk) (IsKeptInEither old.shape x (booted (x.boot + 1) x) (d.seen mid.disk)))) (sym c.in_ok-loaded.ensures.loaded.found) moved in
-    then_allowed d.seen d.may_leave d.moment d.left_since g.met.D.Disk.only_now old.disk mid.disk new.disk (IsKeptInEither old.shape found (booted (found.boot + 1) found)) c.load.ensures.untouched first
+    let moved = subst (λ (s : Shape). LeavesOnly d.moment d.left_since mid.disk new.disk
+    (IsAllowedOr (d.may_leave mid.disk) (IsKeptInEither s st (booted (st.boot + 1) st) (d.seen mid.disk)))) c.load.ensures.same.shape run in
+    let first = subst (λ (x : StateOf Entry). LeavesOnly d.moment d.left_since mid.disk new.disk
+    (IsAllowedOr (d.may_leave mid.disk) (IsKeptInEither old.shape x (booted (x.boot + 1) x) (d.seen mid.disk))))
+    (sym c.in_ok-loaded.ensures.loaded.found) moved in
+    then_allowed d.seen d.may_leave d.moment d.left_since g.met.D.Disk.only_now old.disk mid.disk new.disk
+    (IsKeptInEither old.shape found (booted (found.boot + 1) found)) c.load.ensures.untouched first
 
 pub returns-clause-moments : goal.returns-clause-moments
 returns-clause-moments g c = λ told closed.
@@ -37,9 +41,13 @@ returns-clause-moments g c = λ told closed.
     let st = state_of c.in_ok-loaded.loaded.folded.index in
     let found = found_in old.shape old.frames in
     let run = c.start.ensures.moments told (c.load.ensures.same.closed ∙ closed) in
-    let moved = subst (λ (s : Shape). LeavesOnly d.moment d.left_since mid.disk new.disk (IsAllowedOr (d.may_leave mid.disk) (IsKeptInEither s st (booted (st.boot + 1) st) (d.seen mid.disk)))) c.load.ensures.same.shape run in
-    let first = subst (λ (x : StateOf Entry). LeavesOnly d.moment d.left_since mid.disk new.disk (IsAllowedOr (d.may_leave mid.disk) (IsKeptInEither old.shape x (booted (x.boot + 1) x) (d.seen mid.disk)))) (sym c.in_ok-loaded.ensures.loaded.found) moved in
-    then_allowed d.seen d.may_leave d.moment d.left_since g.met.D.Disk.only_now old.disk mid.disk new.disk (IsKeptInEither old.shape found (booted (found.boot + 1) found)) c.load.ensures.untouched first
+    let moved = subst (λ (s : Shape). LeavesOnly d.moment d.left_since mid.disk new.disk
+    (IsAllowedOr (d.may_leave mid.disk) (IsKeptInEither s st (booted (st.boot + 1) st) (d.seen mid.disk)))) c.load.ensures.same.shape run in
+    let first = subst (λ (x : StateOf Entry). LeavesOnly d.moment d.left_since mid.disk new.disk
+    (IsAllowedOr (d.may_leave mid.disk) (IsKeptInEither old.shape x (booted (x.boot + 1) x) (d.seen mid.disk))))
+    (sym c.in_ok-loaded.ensures.loaded.found) moved in
+    then_allowed d.seen d.may_leave d.moment d.left_since g.met.D.Disk.only_now old.disk mid.disk new.disk
+    (IsKeptInEither old.shape found (booted (found.boot + 1) found)) c.load.ensures.untouched first
 
 pub returns-clause-standing : goal.returns-clause-standing
 returns-clause-standing g c =
@@ -54,11 +62,17 @@ returns-clause-standing g c =
     standing_from d.tells d.seen d.may_leave d.moment d.left_since new c.start.new.index c.in_ok-loaded.loaded.blocks c.from_vec-zero.result old.shape old.frames (d.seen old.disk) (indexes.limits_of index) (state_of index) c.in_ok-loaded.loaded.folded.whole
     (c.start.ensures.shape ∙ shape) c.requires.shape c.in_ok-loaded.ensures.loaded zero_is c.start.ensures.limits here.made
     (subst (λ (s : Shape). Leads (limits_of s) new.frames empty (state_of c.start.new.index)) shape here.leads) here.settled
-    (λ told. subst (λ (x : List ℕ). KeepsSlots old.shape None x (d.seen new.disk)) c.load.ensures.untouched.content (subst (λ (s : Shape). KeepsSlots s None (d.seen mid.disk) (d.seen new.disk)) shape (here.slots told)))
+    (λ told. subst (λ (x : List ℕ). KeepsSlots old.shape None x (d.seen new.disk)) c.load.ensures.untouched.content
+    (subst (λ (s : Shape). KeepsSlots s None (d.seen mid.disk) (d.seen new.disk)) shape (here.slots told)))
 
 pub returns-clause-stored : goal.returns-clause-stored
 returns-clause-stored g c = λ told.
-    subst (λ (x : StateOf Entry). AllSlots (IsStored c.args.frames.now.shape c.in_ok-loaded.loaded.blocks (g.D.Disk.seen c.args.frames.now.disk)) x) (sym c.in_ok-loaded.ensures.loaded.found) (c.in_ok-loaded.ensures.loaded.stored told)
+    subst (λ (x : StateOf Entry). AllSlots (IsStored c.args.frames.now.shape c.in_ok-loaded.loaded.blocks (g.D.Disk.seen c.args.frames.now.disk)) x)
+    (sym c.in_ok-loaded.ensures.loaded.found) (c.in_ok-loaded.ensures.loaded.stored told)
 
 pub returns-clause-boots : goal.returns-clause-boots
-returns-clause-boots g c = λ ok. omega (arith, c.in_ok-loaded.ensures.loaded.boots, ap (λ (x : StateOf Entry). x.boot) c.in_ok-loaded.ensures.loaded.found)
+returns-clause-boots g c = λ ok. omega (
+  arith,
+  c.in_ok-loaded.ensures.loaded.boots,
+  ap (λ (x : StateOf Entry). x.boot) c.in_ok-loaded.ensures.loaded.found,
+)

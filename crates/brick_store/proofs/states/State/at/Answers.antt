@@ -10,12 +10,14 @@ use Rattle.brick_store.proofs.states.State.at.Goals as goal
 pub block_in-requires : goal.block_in-requires
 block_in-requires c =
     let x = c.self.inside in
-    found_is_held x.zero.now x.blocks.now x.from_start x.added.now c.args.stamp c.in-Some-find_at.entry c.self.invariant (sym c.find_at.ensures ∙ c.in-Some-find_at.is)
+    found_is_held x.zero.now x.blocks.now x.from_start x.added.now c.args.stamp c.in-Some-find_at.entry c.self.invariant
+    (sym c.find_at.ensures ∙ c.in-Some-find_at.is)
 
 pub returns-in-Some : goal.returns-in-Some
 returns-in-Some c =
     let x = c.self.inside in
-    at_start x.zero.now x.blocks.now x.from_start x.added.now c.args.stamp c.in-Some.block.now c.in-Some.ensures ∙ ap (λ (s : StripeLog). option_map block_of (find (has_stamp c.args.stamp) s.log)) c.self.view_is
+    at_start x.zero.now x.blocks.now x.from_start x.added.now c.args.stamp c.in-Some.block.now c.in-Some.ensures
+    ∙ ap (λ (s : StripeLog). option_map block_of (find (has_stamp c.args.stamp) s.log)) c.self.view_is
 
 pub returns-in-None : goal.returns-in-None
 returns-in-None c =
@@ -27,5 +29,6 @@ pub returns-in-Some-find_at : goal.returns-in-Some-find_at
 returns-in-Some-find_at c =
     let x = c.self.inside in
     ap (λ (b : List ℕ). Some b) c.block_in.ensures
-    ∙ at_added x.zero.now x.blocks.now x.from_start x.added.now c.args.stamp (Some c.in-Some-find_at.entry) c.in_default.ensures (sym c.in-Some-find_at.is ∙ c.find_at.ensures)
+    ∙ at_added x.zero.now x.blocks.now x.from_start x.added.now c.args.stamp (Some c.in-Some-find_at.entry) c.in_default.ensures
+    (sym c.in-Some-find_at.is ∙ c.find_at.ensures)
     ∙ ap (λ (s : StripeLog). option_map block_of (find (has_stamp c.args.stamp) s.log)) c.self.view_is

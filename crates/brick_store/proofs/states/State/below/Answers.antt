@@ -8,7 +8,8 @@ use Rattle.brick_store.proofs.states.State.below.Goals as goal
 pub block_in-requires : goal.block_in-requires
 block_in-requires c =
     let x = c.self.inside in
-    below_is_held x.zero.now x.blocks.now x.from_start x.added.now c.args.bound c.in-Some.entry c.self.invariant (sym c.last_below.ensures ∙ c.in-Some.is)
+    below_is_held x.zero.now x.blocks.now x.from_start x.added.now c.args.bound c.in-Some.entry c.self.invariant
+    (sym c.last_below.ensures ∙ c.in-Some.is)
 
 pub returns-in-Some : goal.returns-in-Some
 returns-in-Some c =

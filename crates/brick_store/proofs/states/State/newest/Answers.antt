@@ -16,4 +16,5 @@ returns-in-Some c =
 pub returns-in-None : goal.returns-in-None
 returns-in-None c =
     let x = c.self.inside in
-    c.start_of.ensures ∙ newest_start x.zero.now x.blocks.now x.from_start x.added.now (sym c.last_of.ensures ∙ c.in-None.is) ∙ ap (λ (s : StripeLog). newest s.log) c.self.view_is
+    c.start_of.ensures ∙ newest_start x.zero.now x.blocks.now x.from_start x.added.now (sym c.last_of.ensures ∙ c.in-None.is)
+    ∙ ap (λ (s : StripeLog). newest s.log) c.self.view_is

@@ -15,7 +15,8 @@ pub commit-requires-clause-can : goal.commit-requires-clause-can
 commit-requires-clause-can g c =
     let x = c.self.inside in
     let st = state_of x.index in
-    can_from _ _ _ _ (ballots_applied (limits_of x.index) c.args.group c.args.view c.args.ballot (Some (c.args.ballot, c.args.members)) st c.requires.group)
+    can_from _ _ _ _ (ballots_applied (limits_of x.index) c.args.group c.args.view c.args.ballot
+    (Some (c.args.ballot, c.args.members)) st c.requires.group)
 
 pub invariant_of-self : goal.invariant_of-self
 invariant_of-self g c =
@@ -23,9 +24,11 @@ invariant_of-self g c =
     let x = c.self.inside in
     let st = state_of x.index in
     standing_plain d.tells d.seen d.may_leave d.moment d.left_since d.faults d.sound x.blocks x.zero x.frames c.commit.new.frames x.index c.commit.new.index
-    (forms.Kept (Ballots c.args.group c.args.view c.args.ballot (Some (c.args.ballot, c.args.members)))) (balloted c.args.group.0 c.args.ballot (Some (c.args.ballot, c.args.members)) st) c.commit.result c.self.invariant c.in_ok-ready.ensures.runs
+    (forms.Kept (Ballots c.args.group c.args.view c.args.ballot (Some (c.args.ballot, c.args.members))))
+    (balloted c.args.group.0 c.args.ballot (Some (c.args.ballot, c.args.members)) st) c.commit.result c.self.invariant c.in_ok-ready.ensures.runs
     (ballots_applied (limits_of x.index) c.args.group c.args.view c.args.ballot (Some (c.args.ballot, c.args.members)) st c.requires.group)
-    (λ P zero all. all) (members_balloted c.args.group.0 c.args.ballot (Some (c.args.ballot, c.args.members)) st c.requires.members c.self.invariant.indexed.members) c.commit.ensures.limits c.commit.ensures.step c.commit.ensures.made c.commit.ensures.not_made
+    (λ P zero all. all) (members_balloted c.args.group.0 c.args.ballot
+    (Some (c.args.ballot, c.args.members)) st c.requires.members c.self.invariant.indexed.members) c.commit.ensures.limits c.commit.ensures.step c.commit.ensures.made c.commit.ensures.not_made
 
 pub returns : goal.returns
 returns g c =
@@ -33,11 +36,17 @@ returns g c =
     let x = c.self.inside in
     let st = state_of x.index in
     let tried = changes_plain d.tells d.seen d.may_leave d.moment d.left_since d.faults d.sound x.blocks x.zero x.frames c.commit.new.frames x.index
-    (forms.Kept (Ballots c.args.group c.args.view c.args.ballot (Some (c.args.ballot, c.args.members)))) (state_of c.commit.new.index) (balloted c.args.group.0 c.args.ballot (Some (c.args.ballot, c.args.members)) st) false c.commit.result c.self.invariant c.in_ok-ready.ensures.runs c.in_ok-ready.ensures.free
+    (forms.Kept (Ballots c.args.group c.args.view c.args.ballot (Some (c.args.ballot, c.args.members)))) (state_of c.commit.new.index)
+    (balloted c.args.group.0 c.args.ballot (Some (
+      c.args.ballot,
+      c.args.members,
+    )) st) false c.commit.result c.self.invariant c.in_ok-ready.ensures.runs c.in_ok-ready.ensures.free
     (ballots_applied (limits_of x.index) c.args.group c.args.view c.args.ballot (Some (c.args.ballot, c.args.members)) st c.requires.group)
     (λ P zero all. all) c.commit.ensures.step c.commit.ensures.made c.commit.ensures.not_made c.commit.ensures.cause c.commit.ensures.counted in
-    told_of d.tells d.seen d.may_leave d.moment d.left_since d.faults d.sound x.blocks x.frames c.commit.new.frames st (state_of c.commit.new.index) (balloted c.args.group.0 c.args.ballot (Some (c.args.ballot, c.args.members)) st) c.args.self.now
-    (λ s. balloted c.args.group.0 c.args.ballot (Some (c.args.ballot, c.args.members)) s) (λ s. false) false 4 c.commit.result c.self.view_is (balloted-resolved (cached x.frames.shape.block x.blocks) c.args.group.0 c.args.ballot (Some (c.args.ballot, c.args.members)) st) refl tried
+    told_of d.tells d.seen d.may_leave d.moment d.left_since d.faults d.sound x.blocks x.frames c.commit.new.frames st (state_of c.commit.new.index)
+    (balloted c.args.group.0 c.args.ballot (Some (c.args.ballot, c.args.members)) st) c.args.self.now
+    (λ s. balloted c.args.group.0 c.args.ballot (Some (c.args.ballot, c.args.members)) s) (λ s. false) false 4 c.commit.result c.self.view_is
+    (balloted-resolved (cached x.frames.shape.block x.blocks) c.args.group.0 c.args.ballot (Some (c.args.ballot, c.args.members)) st) refl tried
 
 pub returns-in_err-ready : goal.returns-in_err-ready
 returns-in_err-ready g c =
@@ -46,4 +55,5 @@ returns-in_err-ready g c =
     let f = c.in_err-ready.field-0.0 in
     let q = err_from_is_err_and c.from_residual.result c.from_residual.ensures.1 in
     rw (q.1, q.2) (told_refused d.tells d.seen d.may_leave d.moment d.left_since d.faults d.sound g.met.D.Disk.only_now x.blocks x.zero x.frames x.index c.args.self.now
-    (λ s. balloted c.args.group.0 c.args.ballot (Some (c.args.ballot, c.args.members)) s) (λ s. false) false 4 f c.self.view_is refl c.self.invariant c.in_err-ready.ensures.refused)
+    (λ s. balloted c.args.group.0 c.args.ballot (Some (c.args.ballot, c.args.members)) s)
+    (λ s. false) false 4 f c.self.view_is refl c.self.invariant c.in_err-ready.ensures.refused)

@@ -11,4 +11,5 @@ pub returns : goal.returns
 returns g c =
     let x = c.self.inside in
     let block = cached x.frames.shape.block x.blocks in
-    c.accepted_of.ensures ∙ ap accepted_of (c.group.ensures ∙ (group_seen block (state_of x.index) c.args.group.0 ∙ ap (λ (b : Brick g.row.D.Denot). group_at b.state c.args.group.0) c.self.view_is))
+    c.accepted_of.ensures ∙ ap accepted_of (c.group.ensures
+    ∙ (group_seen block (state_of x.index) c.args.group.0 ∙ ap (λ (b : Brick g.row.D.Denot). group_at b.state c.args.group.0) c.self.view_is))

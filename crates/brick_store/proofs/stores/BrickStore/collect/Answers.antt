@@ -23,7 +23,8 @@ commit-requires-clause-can g c =
     let p = place c.args.group c.args.view c.args.stripe in
     let held : has_version c.args.stamp (stripe_at st p) ≡ true =
     held_of x.frames.shape.block (cached x.frames.shape.block x.blocks) c.args.stamp (stripe_at st p)
-    (subst (λ (s : StripeOf Version). HasStamp c.args.stamp (log_of x.frames.shape.block s)) (stripe_at-resolved (cached x.frames.shape.block x.blocks) st p)
+    (subst (λ (s : StripeOf Version). HasStamp c.args.stamp (log_of x.frames.shape.block s))
+    (stripe_at-resolved (cached x.frames.shape.block x.blocks) st p)
     (subst (λ (b : Brick g.row.D.Denot). HasStamp c.args.stamp (log_at b.shape.block b.state p)) (sym c.self.view_is) c.requires.held)) in
     can_from _ _ _ _ (collect_applied (limits_of x.index) c.args.group c.args.view c.args.stripe c.args.stamp st c.requires.group held)
 
@@ -35,12 +36,15 @@ invariant_of-self g c =
     let p = place c.args.group c.args.view c.args.stripe in
     let held : has_version c.args.stamp (stripe_at st p) ≡ true =
     held_of x.frames.shape.block (cached x.frames.shape.block x.blocks) c.args.stamp (stripe_at st p)
-    (subst (λ (s : StripeOf Version). HasStamp c.args.stamp (log_of x.frames.shape.block s)) (stripe_at-resolved (cached x.frames.shape.block x.blocks) st p)
+    (subst (λ (s : StripeOf Version). HasStamp c.args.stamp (log_of x.frames.shape.block s))
+    (stripe_at-resolved (cached x.frames.shape.block x.blocks) st p)
     (subst (λ (b : Brick g.row.D.Denot). HasStamp c.args.stamp (log_at b.shape.block b.state p)) (sym c.self.view_is) c.requires.held)) in
     standing_plain d.tells d.seen d.may_leave d.moment d.left_since d.faults d.sound x.blocks x.zero x.frames c.commit.new.frames x.index c.commit.new.index
-    (forms.Logged (record { group = c.args.group; view = c.args.view; stripe = c.args.stripe; stamp = c.args.stamp; change = Collect })) (collected stamp_of p c.args.stamp st) c.commit.result c.self.invariant c.in_ok-ready.ensures.runs
+    (forms.Logged (record { group = c.args.group; view = c.args.view; stripe = c.args.stripe; stamp = c.args.stamp; change = Collect }))
+    (collected stamp_of p c.args.stamp st) c.commit.result c.self.invariant c.in_ok-ready.ensures.runs
     (collect_applied (limits_of x.index) c.args.group c.args.view c.args.stripe c.args.stamp st c.requires.group held)
-    (λ P zero all. slots_collected P p c.args.stamp st all) (c.self.invariant.indexed.members) c.commit.ensures.limits c.commit.ensures.step c.commit.ensures.made c.commit.ensures.not_made
+    (λ P zero all. slots_collected P p c.args.stamp st all)
+    (c.self.invariant.indexed.members) c.commit.ensures.limits c.commit.ensures.step c.commit.ensures.made c.commit.ensures.not_made
 
 pub returns : goal.returns
 returns g c =
@@ -50,14 +54,18 @@ returns g c =
     let p = place c.args.group c.args.view c.args.stripe in
     let held : has_version c.args.stamp (stripe_at st p) ≡ true =
     held_of x.frames.shape.block (cached x.frames.shape.block x.blocks) c.args.stamp (stripe_at st p)
-    (subst (λ (s : StripeOf Version). HasStamp c.args.stamp (log_of x.frames.shape.block s)) (stripe_at-resolved (cached x.frames.shape.block x.blocks) st p)
+    (subst (λ (s : StripeOf Version). HasStamp c.args.stamp (log_of x.frames.shape.block s))
+    (stripe_at-resolved (cached x.frames.shape.block x.blocks) st p)
     (subst (λ (b : Brick g.row.D.Denot). HasStamp c.args.stamp (log_at b.shape.block b.state p)) (sym c.self.view_is) c.requires.held)) in
     let tried = changes_plain d.tells d.seen d.may_leave d.moment d.left_since d.faults d.sound x.blocks x.zero x.frames c.commit.new.frames x.index
-    (forms.Logged (record { group = c.args.group; view = c.args.view; stripe = c.args.stripe; stamp = c.args.stamp; change = Collect })) (state_of c.commit.new.index) (collected stamp_of p c.args.stamp st) false c.commit.result c.self.invariant c.in_ok-ready.ensures.runs c.in_ok-ready.ensures.free
+    (forms.Logged (record { group = c.args.group; view = c.args.view; stripe = c.args.stripe; stamp = c.args.stamp; change = Collect }))
+    (state_of c.commit.new.index) (collected stamp_of p c.args.stamp st) false c.commit.result c.self.invariant c.in_ok-ready.ensures.runs c.in_ok-ready.ensures.free
     (collect_applied (limits_of x.index) c.args.group c.args.view c.args.stripe c.args.stamp st c.requires.group held)
     (λ P zero all. slots_collected P p c.args.stamp st all) c.commit.ensures.step c.commit.ensures.made c.commit.ensures.not_made c.commit.ensures.cause c.commit.ensures.counted in
-    told_of d.tells d.seen d.may_leave d.moment d.left_since d.faults d.sound x.blocks x.frames c.commit.new.frames st (state_of c.commit.new.index) (collected stamp_of p c.args.stamp st) c.args.self.now
-    (λ s. collected version_stamp (place c.args.group c.args.view c.args.stripe) c.args.stamp s) (λ s. false) false 4 c.commit.result c.self.view_is (collected-resolved (cached x.frames.shape.block x.blocks) p c.args.stamp st) refl tried
+    told_of d.tells d.seen d.may_leave d.moment d.left_since d.faults d.sound x.blocks x.frames c.commit.new.frames st (state_of c.commit.new.index)
+    (collected stamp_of p c.args.stamp st) c.args.self.now
+    (λ s. collected version_stamp (place c.args.group c.args.view c.args.stripe) c.args.stamp s) (λ s. false) false 4 c.commit.result c.self.view_is
+    (collected-resolved (cached x.frames.shape.block x.blocks) p c.args.stamp st) refl tried
 
 pub returns-in_err-ready : goal.returns-in_err-ready
 returns-in_err-ready g c =
@@ -66,4 +74,5 @@ returns-in_err-ready g c =
     let f = c.in_err-ready.field-0.0 in
     let q = err_from_is_err_and c.from_residual.result c.from_residual.ensures.1 in
     rw (q.1, q.2) (told_refused d.tells d.seen d.may_leave d.moment d.left_since d.faults d.sound g.met.D.Disk.only_now x.blocks x.zero x.frames x.index c.args.self.now
-    (λ s. collected version_stamp (place c.args.group c.args.view c.args.stripe) c.args.stamp s) (λ s. false) false 4 f c.self.view_is refl c.self.invariant c.in_err-ready.ensures.refused)
+    (λ s. collected version_stamp (place c.args.group c.args.view c.args.stripe) c.args.stamp s)
+    (λ s. false) false 4 f c.self.view_is refl c.self.invariant c.in_err-ready.ensures.refused)

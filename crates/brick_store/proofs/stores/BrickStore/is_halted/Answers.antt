@@ -18,4 +18,5 @@ pub returns-clause-ordered : goal.returns-clause-ordered
 returns-clause-ordered g c =
     let x = c.self.inside in
     subst (λ (b : Brick g.row.D.Denot). IsOrdered b.shape.block b.state) c.self.view_is
-    (kept_ordered x.frames.shape.block (cached x.frames.shape.block x.blocks) (limits_of x.frames.shape) (state_of x.index) c.self.invariant.indexed.kept)
+    (kept_ordered x.frames.shape.block (cached x.frames.shape.block x.blocks) (limits_of x.frames.shape)
+    (state_of x.index) c.self.invariant.indexed.kept)

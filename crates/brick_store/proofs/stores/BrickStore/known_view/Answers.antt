@@ -13,7 +13,9 @@ pub returns-clause-value : goal.returns-clause-value
 returns-clause-value g c =
     let x = c.self.inside in
     let block = cached x.frames.shape.block x.blocks in
-    c.known_of.ensures ∙ ap (λ (group : Group). group.known) (c.group.ensures ∙ (group_seen block (state_of x.index) c.args.group.0 ∙ ap (λ (b : Brick g.row.D.Denot). group_at b.state c.args.group.0) c.self.view_is))
+    c.known_of.ensures ∙ ap (λ (group : Group). group.known)
+    (c.group.ensures ∙ (group_seen block (state_of x.index) c.args.group.0
+    ∙ ap (λ (b : Brick g.row.D.Denot). group_at b.state c.args.group.0) c.self.view_is))
 
 pub returns-clause-none : goal.returns-clause-none
 returns-clause-none g c =

@@ -22,8 +22,10 @@ commit-requires-clause-can g c =
     let x = c.self.inside in
     let st = state_of x.index in
     let known : learnt_number (group_at st c.args.group.0).known < c.args.view.number.0 =
-    subst (λ (gs : List Group). learnt_number (slice_index_or gs c.args.group.0 no_group).known < c.args.view.number.0) (groups-resolved (cached x.frames.shape.block x.blocks) st)
-    (subst (λ (b : Brick g.row.D.Denot). learnt_number (group_at b.state c.args.group.0).known < c.args.view.number.0) (sym c.self.view_is) c.requires.above) in
+    subst (λ (gs : List Group). learnt_number (slice_index_or gs c.args.group.0 no_group).known < c.args.view.number.0)
+    (groups-resolved (cached x.frames.shape.block x.blocks) st)
+    (subst (λ (b : Brick g.row.D.Denot). learnt_number (group_at b.state c.args.group.0).known < c.args.view.number.0)
+    (sym c.self.view_is) c.requires.above) in
     let above = above_learnt (images.limits_of x.frames.shape) c.args.group.0 c.args.view.number.0 st c.self.invariant.indexed.kept known in
     can_from _ _ _ _ (view_applied (limits_of x.index) c.args.group c.args.view false st c.requires.group above)
 
@@ -33,13 +35,17 @@ invariant_of-self g c =
     let x = c.self.inside in
     let st = state_of x.index in
     let known : learnt_number (group_at st c.args.group.0).known < c.args.view.number.0 =
-    subst (λ (gs : List Group). learnt_number (slice_index_or gs c.args.group.0 no_group).known < c.args.view.number.0) (groups-resolved (cached x.frames.shape.block x.blocks) st)
-    (subst (λ (b : Brick g.row.D.Denot). learnt_number (group_at b.state c.args.group.0).known < c.args.view.number.0) (sym c.self.view_is) c.requires.above) in
+    subst (λ (gs : List Group). learnt_number (slice_index_or gs c.args.group.0 no_group).known < c.args.view.number.0)
+    (groups-resolved (cached x.frames.shape.block x.blocks) st)
+    (subst (λ (b : Brick g.row.D.Denot). learnt_number (group_at b.state c.args.group.0).known < c.args.view.number.0)
+    (sym c.self.view_is) c.requires.above) in
     let above = above_learnt (images.limits_of x.frames.shape) c.args.group.0 c.args.view.number.0 st c.self.invariant.indexed.kept known in
     standing_plain d.tells d.seen d.may_leave d.moment d.left_since d.faults d.sound x.blocks x.zero x.frames c.commit.new.frames x.index c.commit.new.index
-    (forms.Kept (kinds.View c.args.group c.args.view false)) (viewed c.args.group.0 c.args.view false st) c.commit.result c.self.invariant c.in_ok-ready.ensures.runs
+    (forms.Kept (kinds.View c.args.group c.args.view false))
+    (viewed c.args.group.0 c.args.view false st) c.commit.result c.self.invariant c.in_ok-ready.ensures.runs
     (view_applied (limits_of x.index) c.args.group c.args.view false st c.requires.group above)
-    (λ P zero all. slots_viewed P c.args.group.0 c.args.view false st all) (members_viewed c.args.group.0 c.args.view false st c.requires.members.0 c.requires.members.1 c.self.invariant.indexed.members) c.commit.ensures.limits c.commit.ensures.step c.commit.ensures.made c.commit.ensures.not_made
+    (λ P zero all. slots_viewed P c.args.group.0 c.args.view false st all)
+    (members_viewed c.args.group.0 c.args.view false st c.requires.members.0 c.requires.members.1 c.self.invariant.indexed.members) c.commit.ensures.limits c.commit.ensures.step c.commit.ensures.made c.commit.ensures.not_made
 
 pub returns : goal.returns
 returns g c =
@@ -47,15 +53,20 @@ returns g c =
     let x = c.self.inside in
     let st = state_of x.index in
     let known : learnt_number (group_at st c.args.group.0).known < c.args.view.number.0 =
-    subst (λ (gs : List Group). learnt_number (slice_index_or gs c.args.group.0 no_group).known < c.args.view.number.0) (groups-resolved (cached x.frames.shape.block x.blocks) st)
-    (subst (λ (b : Brick g.row.D.Denot). learnt_number (group_at b.state c.args.group.0).known < c.args.view.number.0) (sym c.self.view_is) c.requires.above) in
+    subst (λ (gs : List Group). learnt_number (slice_index_or gs c.args.group.0 no_group).known < c.args.view.number.0)
+    (groups-resolved (cached x.frames.shape.block x.blocks) st)
+    (subst (λ (b : Brick g.row.D.Denot). learnt_number (group_at b.state c.args.group.0).known < c.args.view.number.0)
+    (sym c.self.view_is) c.requires.above) in
     let above = above_learnt (images.limits_of x.frames.shape) c.args.group.0 c.args.view.number.0 st c.self.invariant.indexed.kept known in
     let tried = changes_plain d.tells d.seen d.may_leave d.moment d.left_since d.faults d.sound x.blocks x.zero x.frames c.commit.new.frames x.index
-    (forms.Kept (kinds.View c.args.group c.args.view false)) (state_of c.commit.new.index) (viewed c.args.group.0 c.args.view false st) false c.commit.result c.self.invariant c.in_ok-ready.ensures.runs c.in_ok-ready.ensures.free
+    (forms.Kept (kinds.View c.args.group c.args.view false)) (state_of c.commit.new.index)
+    (viewed c.args.group.0 c.args.view false st) false c.commit.result c.self.invariant c.in_ok-ready.ensures.runs c.in_ok-ready.ensures.free
     (view_applied (limits_of x.index) c.args.group c.args.view false st c.requires.group above)
     (λ P zero all. slots_viewed P c.args.group.0 c.args.view false st all) c.commit.ensures.step c.commit.ensures.made c.commit.ensures.not_made c.commit.ensures.cause c.commit.ensures.counted in
-    told_of d.tells d.seen d.may_leave d.moment d.left_since d.faults d.sound x.blocks x.frames c.commit.new.frames st (state_of c.commit.new.index) (viewed c.args.group.0 c.args.view false st) c.args.self.now
-    (λ s. viewed c.args.group.0 c.args.view false s) (λ s. false) false 4 c.commit.result c.self.view_is (viewed-resolved (cached x.frames.shape.block x.blocks) c.args.group.0 c.args.view false st) refl tried
+    told_of d.tells d.seen d.may_leave d.moment d.left_since d.faults d.sound x.blocks x.frames c.commit.new.frames st (state_of c.commit.new.index)
+    (viewed c.args.group.0 c.args.view false st) c.args.self.now
+    (λ s. viewed c.args.group.0 c.args.view false s) (λ s. false) false 4 c.commit.result c.self.view_is
+    (viewed-resolved (cached x.frames.shape.block x.blocks) c.args.group.0 c.args.view false st) refl tried
 
 pub returns-in_err-ready : goal.returns-in_err-ready
 returns-in_err-ready g c =

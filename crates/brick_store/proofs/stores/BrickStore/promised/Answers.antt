@@ -14,7 +14,8 @@ pub returns : goal.returns
 returns g c =
     let x = c.self.inside in
     let block = cached x.frames.shape.block x.blocks in
-    c.promised_of.ensures ∙ ap promised (c.group.ensures ∙ (group_seen block (state_of x.index) c.args.group.0 ∙ ap (λ (b : Brick g.row.D.Denot). group_at b.state c.args.group.0) c.self.view_is))
+    c.promised_of.ensures ∙ ap promised (c.group.ensures
+    ∙ (group_seen block (state_of x.index) c.args.group.0 ∙ ap (λ (b : Brick g.row.D.Denot). group_at b.state c.args.group.0) c.self.view_is))
   where
     promised : Group → Option Ballot
     promised group = option_map (λ kept. kept.0) group.ballots

@@ -14,4 +14,5 @@ returns g c =
     let x = c.self.inside in
     let block = cached x.frames.shape.block x.blocks in
     subst (λ (group : Group). IsTrue c.is_served.result ↔ IsServed group c.args.view.0)
-    (c.group.ensures ∙ (group_seen block (state_of x.index) c.args.group.0 ∙ ap (λ (b : Brick g.row.D.Denot). group_at b.state c.args.group.0) c.self.view_is)) c.is_served.ensures
+    (c.group.ensures ∙ (group_seen block (state_of x.index) c.args.group.0
+    ∙ ap (λ (b : Brick g.row.D.Denot). group_at b.state c.args.group.0) c.self.view_is)) c.is_served.ensures

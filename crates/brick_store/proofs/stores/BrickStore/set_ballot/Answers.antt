@@ -20,14 +20,16 @@ pub commit-requires-clause-can : goal.commit-requires-clause-can
 commit-requires-clause-can g c =
     let x = c.self.inside in
     let st = state_of x.index in
-    let acc : c.accepted_of-accepted.result ≡ accepted_of (group_at st c.args.group.0) = c.accepted_of-accepted.ensures ∙ ap accepted_of c.group.ensures in
+    let acc : c.accepted_of-accepted.result ≡ accepted_of (group_at st c.args.group.0) = c.accepted_of-accepted.ensures
+    ∙ ap accepted_of c.group.ensures in
     can_from _ _ _ _ (ballots_applied (limits_of x.index) c.args.group c.args.view c.args.promised c.accepted_of-accepted.result st c.requires.group)
 
 pub commit-requires-clause-members : goal.commit-requires-clause-members
 commit-requires-clause-members g c =
     let x = c.self.inside in
     let st = state_of x.index in
-    let acc : c.accepted_of-accepted.result ≡ accepted_of (group_at st c.args.group.0) = c.accepted_of-accepted.ensures ∙ ap accepted_of c.group.ensures in
+    let acc : c.accepted_of-accepted.result ≡ accepted_of (group_at st c.args.group.0) = c.accepted_of-accepted.ensures
+    ∙ ap accepted_of c.group.ensures in
     subst AcceptedHasMembers (sym acc) (accepted_members c.args.group.0 st c.self.invariant.indexed.members)
 
 pub invariant_of-self : goal.invariant_of-self
@@ -35,24 +37,34 @@ invariant_of-self g c =
     let d = g.D.Disk in
     let x = c.self.inside in
     let st = state_of x.index in
-    let acc : c.accepted_of-accepted.result ≡ accepted_of (group_at st c.args.group.0) = c.accepted_of-accepted.ensures ∙ ap accepted_of c.group.ensures in
+    let acc : c.accepted_of-accepted.result ≡ accepted_of (group_at st c.args.group.0) = c.accepted_of-accepted.ensures
+    ∙ ap accepted_of c.group.ensures in
     standing_plain d.tells d.seen d.may_leave d.moment d.left_since d.faults d.sound x.blocks x.zero x.frames c.commit.new.frames x.index c.commit.new.index
-    (forms.Kept (Ballots c.args.group c.args.view c.args.promised c.accepted_of-accepted.result)) (balloted c.args.group.0 c.args.promised c.accepted_of-accepted.result st) c.commit.result c.self.invariant c.in_ok-ready.ensures.runs
+    (forms.Kept (Ballots c.args.group c.args.view c.args.promised c.accepted_of-accepted.result))
+    (balloted c.args.group.0 c.args.promised c.accepted_of-accepted.result st) c.commit.result c.self.invariant c.in_ok-ready.ensures.runs
     (ballots_applied (limits_of x.index) c.args.group c.args.view c.args.promised c.accepted_of-accepted.result st c.requires.group)
-    (λ P zero all. all) (members_balloted c.args.group.0 c.args.promised c.accepted_of-accepted.result st (subst AcceptedHasMembers (sym acc) (accepted_members c.args.group.0 st c.self.invariant.indexed.members)) c.self.invariant.indexed.members) c.commit.ensures.limits c.commit.ensures.step c.commit.ensures.made c.commit.ensures.not_made
+    (λ P zero all. all) (members_balloted c.args.group.0 c.args.promised c.accepted_of-accepted.result st
+    (subst AcceptedHasMembers (sym acc) (accepted_members c.args.group.0 st c.self.invariant.indexed.members)) c.self.invariant.indexed.members) c.commit.ensures.limits c.commit.ensures.step c.commit.ensures.made c.commit.ensures.not_made
 
 pub returns : goal.returns
 returns g c =
     let d = g.D.Disk in
     let x = c.self.inside in
     let st = state_of x.index in
-    let acc : c.accepted_of-accepted.result ≡ accepted_of (group_at st c.args.group.0) = c.accepted_of-accepted.ensures ∙ ap accepted_of c.group.ensures in
+    let acc : c.accepted_of-accepted.result ≡ accepted_of (group_at st c.args.group.0) = c.accepted_of-accepted.ensures
+    ∙ ap accepted_of c.group.ensures in
     let tried = changes_plain d.tells d.seen d.may_leave d.moment d.left_since d.faults d.sound x.blocks x.zero x.frames c.commit.new.frames x.index
-    (forms.Kept (Ballots c.args.group c.args.view c.args.promised c.accepted_of-accepted.result)) (state_of c.commit.new.index) (balloted c.args.group.0 c.args.promised c.accepted_of-accepted.result st) false c.commit.result c.self.invariant c.in_ok-ready.ensures.runs c.in_ok-ready.ensures.free
+    (forms.Kept (Ballots c.args.group c.args.view c.args.promised c.accepted_of-accepted.result)) (state_of c.commit.new.index)
+    (balloted c.args.group.0 c.args.promised c.accepted_of-accepted.result st) false c.commit.result c.self.invariant c.in_ok-ready.ensures.runs c.in_ok-ready.ensures.free
     (ballots_applied (limits_of x.index) c.args.group c.args.view c.args.promised c.accepted_of-accepted.result st c.requires.group)
     (λ P zero all. all) c.commit.ensures.step c.commit.ensures.made c.commit.ensures.not_made c.commit.ensures.cause c.commit.ensures.counted in
-    told_of d.tells d.seen d.may_leave d.moment d.left_since d.faults d.sound x.blocks x.frames c.commit.new.frames st (state_of c.commit.new.index) (balloted c.args.group.0 c.args.promised c.accepted_of-accepted.result st) c.args.self.now
-    (λ s. balloted c.args.group.0 c.args.promised (accepted_of (group_at s c.args.group.0)) s) (λ s. false) false 4 c.commit.result c.self.view_is (balloted-resolved (cached x.frames.shape.block x.blocks) c.args.group.0 c.args.promised c.accepted_of-accepted.result st ∙ ap (λ (a : Option (Ballot × List BrickId)). balloted c.args.group.0 c.args.promised a (resolved (cached x.frames.shape.block x.blocks) st)) (acc ∙ ap (λ (gs : List Group). accepted_of (slice_index_or gs c.args.group.0 no_group)) (sym (groups-resolved (cached x.frames.shape.block x.blocks) st)))) refl tried
+    told_of d.tells d.seen d.may_leave d.moment d.left_since d.faults d.sound x.blocks x.frames c.commit.new.frames st (state_of c.commit.new.index)
+    (balloted c.args.group.0 c.args.promised c.accepted_of-accepted.result st) c.args.self.now
+    (λ s. balloted c.args.group.0 c.args.promised (accepted_of (group_at s c.args.group.0)) s) (λ s. false) false 4 c.commit.result c.self.view_is
+    (balloted-resolved (cached x.frames.shape.block x.blocks) c.args.group.0 c.args.promised c.accepted_of-accepted.result st
+    ∙ ap (λ (a : Option (Ballot × List BrickId)). balloted c.args.group.0 c.args.promised a (resolved (cached x.frames.shape.block x.blocks) st))
+    (acc ∙ ap (λ (gs : List Group). accepted_of (slice_index_or gs c.args.group.0 no_group))
+    (sym (groups-resolved (cached x.frames.shape.block x.blocks) st)))) refl tried
 
 pub returns-in_err-ready : goal.returns-in_err-ready
 returns-in_err-ready g c =
@@ -61,4 +73,5 @@ returns-in_err-ready g c =
     let f = c.in_err-ready.field-0.0 in
     let q = err_from_is_err_and c.from_residual.result c.from_residual.ensures.1 in
     rw (q.1, q.2) (told_refused d.tells d.seen d.may_leave d.moment d.left_since d.faults d.sound g.met.D.Disk.only_now x.blocks x.zero x.frames x.index c.args.self.now
-    (λ s. balloted c.args.group.0 c.args.promised (accepted_of (group_at s c.args.group.0)) s) (λ s. false) false 4 f c.self.view_is refl c.self.invariant c.in_err-ready.ensures.refused)
+    (λ s. balloted c.args.group.0 c.args.promised (accepted_of (group_at s c.args.group.0)) s)
+    (λ s. false) false 4 f c.self.view_is refl c.self.invariant c.in_err-ready.ensures.refused)

@@ -26,7 +26,8 @@ returns-in-Some-clause-order g c =
     let x = c.self.inside in
     let st = state_of x.index in
     let p = place c.args.group c.args.view c.args.stripe in
-    sym (ap (λ (s : StripeOf Entry). s.order) c.in-Some.ensures.some) ∙ order_seen (cached x.frames.shape.block x.blocks) st p ∙ ap (λ (b : Brick g.row.D.Denot). (stripe_at b.state p).order) c.self.view_is
+    sym (ap (λ (s : StripeOf Entry). s.order) c.in-Some.ensures.some) ∙ order_seen (cached x.frames.shape.block x.blocks) st p
+    ∙ ap (λ (b : Brick g.row.D.Denot). (stripe_at b.state p).order) c.self.view_is
 
 pub returns-in-Some-clause-log : goal.returns-in-Some-clause-log
 returns-in-Some-clause-log g c =
@@ -34,7 +35,8 @@ returns-in-Some-clause-log g c =
     let st = state_of x.index in
     let p = place c.args.group c.args.view c.args.stripe in
     log_seen x.frames.shape.block x.zero x.blocks st p c.in-Some.kept.now.from_start c.as_slice.result.now c.self.invariant.zero_is
-    (ap (λ (s : StripeOf Entry). s.from_start) c.in-Some.ensures.some) (ap (λ (s : StripeOf Entry). s.added) c.in-Some.ensures.some ∙ sym c.as_slice.ensures.value)
+    (ap (λ (s : StripeOf Entry). s.from_start) c.in-Some.ensures.some) (ap (λ (s : StripeOf Entry). s.added) c.in-Some.ensures.some
+    ∙ sym c.as_slice.ensures.value)
     ∙ ap (λ (b : Brick g.row.D.Denot). log_at b.shape.block b.state p) c.self.view_is
 
 pub returns-in-None-clause-order : goal.returns-in-None-clause-order
@@ -42,7 +44,8 @@ returns-in-None-clause-order g c =
     let x = c.self.inside in
     let st = state_of x.index in
     let p = place c.args.group c.args.view c.args.stripe in
-    sym (ap (λ (s : StripeOf Entry). s.order) c.in-None.ensures.none) ∙ order_seen (cached x.frames.shape.block x.blocks) st p ∙ ap (λ (b : Brick g.row.D.Denot). (stripe_at b.state p).order) c.self.view_is
+    sym (ap (λ (s : StripeOf Entry). s.order) c.in-None.ensures.none) ∙ order_seen (cached x.frames.shape.block x.blocks) st p
+    ∙ ap (λ (b : Brick g.row.D.Denot). (stripe_at b.state p).order) c.self.view_is
 
 pub returns-in-None-clause-log : goal.returns-in-None-clause-log
 returns-in-None-clause-log g c =

@@ -52,9 +52,11 @@ invariant_of-self g c =
     let is : learnt_view (group_at st c.args.group.0) ≡ Some c.learnt_view.result = ap learnt_view (sym c.group.ensures) ∙ c.learnt_view.ensures in
     let sound = learnt_view_is (images.limits_of x.frames.shape) c.args.group.0 st c.learnt_view.result is c.self.invariant.indexed.kept c.self.invariant.indexed.members in
     standing_plain d.tells d.seen d.may_leave d.moment d.left_since d.faults d.sound x.blocks x.zero x.frames c.commit.new.frames x.index c.commit.new.index
-    (forms.Kept (kinds.View c.args.group c.learnt_view.result true)) (viewed c.args.group.0 c.learnt_view.result true st) c.commit.result c.self.invariant c.in_ok-ready.ensures.runs
+    (forms.Kept (kinds.View c.args.group c.learnt_view.result true))
+    (viewed c.args.group.0 c.learnt_view.result true st) c.commit.result c.self.invariant c.in_ok-ready.ensures.runs
     (view_applied (limits_of x.index) c.args.group c.learnt_view.result true st c.requires.group sound.0)
-    (λ P zero all. slots_viewed P c.args.group.0 c.learnt_view.result true st all) (members_viewed c.args.group.0 c.learnt_view.result true st sound.1.0 sound.1.1 c.self.invariant.indexed.members) c.commit.ensures.limits c.commit.ensures.step c.commit.ensures.made c.commit.ensures.not_made
+    (λ P zero all. slots_viewed P c.args.group.0 c.learnt_view.result true st all)
+    (members_viewed c.args.group.0 c.learnt_view.result true st sound.1.0 sound.1.1 c.self.invariant.indexed.members) c.commit.ensures.limits c.commit.ensures.step c.commit.ensures.made c.commit.ensures.not_made
 
 pub returns : goal.returns
 returns g c =
@@ -64,11 +66,17 @@ returns g c =
     let is : learnt_view (group_at st c.args.group.0) ≡ Some c.learnt_view.result = ap learnt_view (sym c.group.ensures) ∙ c.learnt_view.ensures in
     let sound = learnt_view_is (images.limits_of x.frames.shape) c.args.group.0 st c.learnt_view.result is c.self.invariant.indexed.kept c.self.invariant.indexed.members in
     let tried = changes_plain d.tells d.seen d.may_leave d.moment d.left_since d.faults d.sound x.blocks x.zero x.frames c.commit.new.frames x.index
-    (forms.Kept (kinds.View c.args.group c.learnt_view.result true)) (state_of c.commit.new.index) (viewed c.args.group.0 c.learnt_view.result true st) false c.commit.result c.self.invariant c.in_ok-ready.ensures.runs c.in_ok-ready.ensures.free
+    (forms.Kept (kinds.View c.args.group c.learnt_view.result true)) (state_of c.commit.new.index)
+    (viewed c.args.group.0 c.learnt_view.result true st) false c.commit.result c.self.invariant c.in_ok-ready.ensures.runs c.in_ok-ready.ensures.free
     (view_applied (limits_of x.index) c.args.group c.learnt_view.result true st c.requires.group sound.0)
     (λ P zero all. slots_viewed P c.args.group.0 c.learnt_view.result true st all) c.commit.ensures.step c.commit.ensures.made c.commit.ensures.not_made c.commit.ensures.cause c.commit.ensures.counted in
-    told_of d.tells d.seen d.may_leave d.moment d.left_since d.faults d.sound x.blocks x.frames c.commit.new.frames st (state_of c.commit.new.index) (viewed c.args.group.0 c.learnt_view.result true st) c.args.self.now
-    (λ s. all_synced c.args.group.0 s) (λ s. false) false 4 c.commit.result c.self.view_is (viewed-resolved (cached x.frames.shape.block x.blocks) c.args.group.0 c.learnt_view.result true st ∙ ap (λ (o : Option View). synced_to o c.args.group.0 (resolved (cached x.frames.shape.block x.blocks) st)) (sym (ap (λ (gs : List Group). learnt_view (slice_index_or gs c.args.group.0 no_group)) (groups-resolved (cached x.frames.shape.block x.blocks) st) ∙ is))) refl tried
+    told_of d.tells d.seen d.may_leave d.moment d.left_since d.faults d.sound x.blocks x.frames c.commit.new.frames st (state_of c.commit.new.index)
+    (viewed c.args.group.0 c.learnt_view.result true st) c.args.self.now
+    (λ s. all_synced c.args.group.0 s) (λ s. false) false 4 c.commit.result c.self.view_is
+    (viewed-resolved (cached x.frames.shape.block x.blocks) c.args.group.0 c.learnt_view.result true st
+    ∙ ap (λ (o : Option View). synced_to o c.args.group.0 (resolved (cached x.frames.shape.block x.blocks) st))
+    (sym (ap (λ (gs : List Group). learnt_view (slice_index_or gs c.args.group.0 no_group))
+    (groups-resolved (cached x.frames.shape.block x.blocks) st) ∙ is))) refl tried
 
 pub returns-in_err-ready : goal.returns-in_err-ready
 returns-in_err-ready g c =

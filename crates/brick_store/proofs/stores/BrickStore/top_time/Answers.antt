@@ -10,4 +10,5 @@ use Rattle.brick_store.proofs.stores.BrickStore.top_time.Goals as goal
 pub returns : goal.returns
 returns g c =
     let x = c.self.inside in
-    c.top_time.ensures ∙ sym (top_time-resolved (cached x.frames.shape.block x.blocks) (state_of x.index)) ∙ ap (λ (b : Brick g.row.D.Denot). top_time version_stamp b.state) c.self.view_is
+    c.top_time.ensures ∙ sym (top_time-resolved (cached x.frames.shape.block x.blocks) (state_of x.index))
+    ∙ ap (λ (b : Brick g.row.D.Denot). top_time version_stamp b.state) c.self.view_is
