@@ -10,7 +10,8 @@ use Rattle.brick_state.specs.Maps.{AnswersAt}
 use Rattle.brick_state.specs.Indexes.{Answers}
 
 -- of a log's change only the number of slots counts
-pub log_changed-slots : (limits : Limits) (full : Bool) (change : LogChange) (t : Stamp) (s : StripeOf Entry) → log_changed (slot_limits limits.slots) full change t s ≡ log_changed limits full change t s
+pub log_changed-slots : (limits : Limits) (full : Bool) (change : LogChange) (t : Stamp) (s : StripeOf Entry)
+    → log_changed (slot_limits limits.slots) full change t s ≡ log_changed limits full change t s
 unfolding log_changed
 log_changed-slots limits full Same t s = refl
 log_changed-slots limits full Collect t s = refl
@@ -27,11 +28,13 @@ placed_answer p st new None answer h = h.0
 placed_answer p st new (Some s) answer h = (h.0, ap (with_stripes st) h.1)
 
 -- a change that can't be leaves the stripes as they were
-pub placed_refused : (p : Place) (old new : List (Place × StripeOf Entry)) (changed : Option (StripeOf Entry)) (answer : Bool) → AnswersAt p old new changed answer → answer ≡ false → new ≡ old
+pub placed_refused : (p : Place) (old new : List (Place × StripeOf Entry)) (changed : Option (StripeOf Entry)) (answer : Bool)
+    → AnswersAt p old new changed answer → answer ≡ false → new ≡ old
 placed_refused p old new None answer h refused = h.1
 placed_refused p old new (Some s) answer h refused = absurd cc
 
 -- a test that held
-pub tested : (b : Bool) (now : StateOf Entry) (next : Option (StateOf Entry)) (answer : Bool) → b ≡ true → Answers now next answer → Answers now (cond b next None) answer
+pub tested : (b : Bool) (now : StateOf Entry) (next : Option (StateOf Entry)) (answer : Bool) → b ≡ true → Answers now next answer
+    → Answers now (cond b next None) answer
 tested true now next answer is h = h
 tested false now next answer is h = absurd cc

@@ -13,7 +13,13 @@ use Rattle.brick_state.specs.Slots.{slot_of, slots_in, IsFree, marked}
 pub slots_few : (stripes : List (Place × StripeOf Entry)) → length (slots_in stripes) ≤ live_in stripes
 unfolding slots_in
 slots_few [] = omega arith
-slots_few (e ∷ stripes) = omega (arith, slots_few stripes, length-append (map slot_of e.1.added) (slots_in stripes), length-map e.1.added slot_of, sum_by-cons weight e.1 (values_of stripes))
+slots_few (e ∷ stripes) = omega (
+  arith,
+  slots_few stripes,
+  length-append (map slot_of e.1.added) (slots_in stripes),
+  length-map e.1.added slot_of,
+  sum_by-cons weight e.1 (values_of stripes),
+)
 
 -- flags that are not set
 abbrev unset : List Bool → ℕ
@@ -80,7 +86,8 @@ unused_of flags (slot ∷ used) k h = (other, unused_of (set flags slot true) us
     differ e = cc
 
     other : slot ≡ k → ⊥
-    other is = differ (sym (marked_keeps (set flags slot true) used k (subst (λ (n : ℕ). get_or (set flags slot true) n true ≡ true) is (set_here flags slot))) ∙ h)
+    other is = differ (sym (marked_keeps (set flags slot true) used k (subst (λ (n : ℕ). get_or (set flags slot true) n true ≡ true) is
+        (set_here flags slot))) ∙ h)
 
 -- only the flags of used slots are set
 set_only : (flags : List Bool) (i k : ℕ) → get_or (set flags i true) k false ≡ true → (i ≡ k) ⊎ (get_or flags k false ≡ true)
@@ -94,7 +101,8 @@ set_only (b ∷ flags) (suc i) (suc k) h = ⊎_elim (λ e. inl (ap suc e)) (λ e
 used_of : (flags : List Bool) (used : List ℕ) (k : ℕ) → get_or (marked flags used) k false ≡ true → (get_or flags k false ≡ true) ⊎ Contains used k
 unfolding marked
 used_of flags [] k h = inl h
-used_of flags (slot ∷ used) k h = ⊎_elim (λ set. ⊎_elim (λ is. inr (0, omega arith, is)) (λ was. inl was) (set_only flags slot k set)) (λ more. inr (suc more.0, omega (arith, more.1), more.2)) (used_of (set flags slot true) used k h)
+used_of flags (slot ∷ used) k h = ⊎_elim (λ set. ⊎_elim (λ is. inr (0, omega arith, is)) (λ was. inl was) (set_only flags slot k set))
+    (λ more. inr (suc more.0, omega (arith, more.1), more.2)) (used_of (set flags slot true) used k h)
 
 none_set : (n k : ℕ) → get_or (replicate n false) k false ≡ false
 none_set zero zero = refl
@@ -159,7 +167,8 @@ some_free slots used few h = by (ltb p (length flags)) refl h
         omega (arith, none, few, marked_few (replicate slots false) used, unset_all slots)
 
 -- slots marked one by one
-pub mark_step : (flags : List Bool) (used : List ℕ) (i : ℕ) → i < length used → marked (set flags (get_or used i 0) true) (drop (suc i) used) ≡ marked flags (drop i used)
+pub mark_step : (flags : List Bool) (used : List ℕ) (i : ℕ) → i < length used → marked (set flags (get_or used i 0) true)
+    (drop (suc i) used) ≡ marked flags (drop i used)
 unfolding marked
 mark_step flags [] i lt = absurd (omega (arith, lt))
 mark_step flags (slot ∷ used) zero lt = refl

@@ -26,14 +26,17 @@ unfolding greatest
 first_time p s h = ap (stripe_time stamp_of) (is_first-true p (stripe_of s) h)
 
 -- what is not seen keeps no time
-pub time-listed : (entries : List (Place × Stripe)) → greatest (stripe_time stamp_of) (values_of (listed entries)) ≡ greatest (λ s. stripe_time stamp_of (stripe_of s)) (values_of entries)
+pub time-listed : (entries : List (Place × Stripe)) → greatest (stripe_time stamp_of) (values_of (listed entries)) ≡ greatest
+    (λ s. stripe_time stamp_of (stripe_of s)) (values_of entries)
 unfolding listed greatest
 time-listed [] = refl
 time-listed (e ∷ entries) = by (is_first e.0 (stripe_of e.1)) refl (time-listed entries)
   where
     by : (b : Bool) → is_first e.0 (stripe_of e.1) ≡ b
-        → greatest (stripe_time stamp_of) (values_of (filter is_listed (map seen_entry entries))) ≡ greatest (λ s. stripe_time stamp_of (stripe_of s)) (values_of entries)
-        → greatest (stripe_time stamp_of) (values_of (cond (not b) (seen_entry e ∷ filter is_listed (map seen_entry entries)) (filter is_listed (map seen_entry entries))))
+        → greatest (stripe_time stamp_of) (values_of (filter is_listed (map seen_entry entries))) ≡ greatest (λ s. stripe_time stamp_of (stripe_of s))
+        (values_of entries)
+        → greatest (stripe_time stamp_of) (values_of (cond (not b) (seen_entry e ∷ filter is_listed (map seen_entry entries))
+        (filter is_listed (map seen_entry entries))))
         ≡ max (stripe_time stamp_of (stripe_of e.1)) (greatest (λ s. stripe_time stamp_of (stripe_of s)) (values_of entries))
     by true at h = h ∙ omega (arith, first_time e.0 e.1 at)
     by false at h = ap (max (stripe_time stamp_of (stripe_of e.1))) h

@@ -34,14 +34,16 @@ pub stripe_last : (p : Place) (s : StripeOf Entry) (done : Stripes) → IsPast p
 stripe_last p s done past = by (is_first p s) refl
   where
     by : (b : Bool) → is_first p s ≡ b → stripe_in (cond b done (done ++ (p, s) ∷ [])) p ≡ s
-    by true at = ap (λ (found : Option (StripeOf Entry)). unwrap_or found (first_stripe p)) (lookup_above place_total p done past) ∙ sym (is_first-true p s at)
+    by true at = ap (λ (found : Option (StripeOf Entry)). unwrap_or found (first_stripe p)) (lookup_above place_total p done past)
+        ∙ sym (is_first-true p s at)
     by false at = ap (λ (found : Option (StripeOf Entry)). unwrap_or found (first_stripe p)) (lookup_last place_total p s done past)
 
 -- another one in its place
 pub put_last : (p : Place) (s next : StripeOf Entry) (done : Stripes) → IsPast p done → put p next (with_last p s done) ≡ with_last p next done
 put_last p s next done past = by (is_first p s) (is_first p next)
   where
-    by : (b d : Bool) → cond d (remove_entry (is_at (place_cmp p)) (cond b done (done ++ (p, s) ∷ []))) (insert_entry place_cmp (cond b done (done ++ (p, s) ∷ [])) p next) ≡ cond d done (done ++ (p, next) ∷ [])
+    by : (b d : Bool) → cond d (remove_entry (is_at (place_cmp p)) (cond b done (done ++ (p, s) ∷ [])))
+        (insert_entry place_cmp (cond b done (done ++ (p, s) ∷ [])) p next) ≡ cond d done (done ++ (p, next) ∷ [])
     by true true = remove_above place_total p done past
     by true false = insert_last place_total p next done past
     by false true = remove_last place_total p s done past
@@ -59,7 +61,8 @@ live_last p s done = by (is_first p s) refl
     by false at = ap (sum_by weight) (map-append (λ (e : Place × StripeOf Entry). e.1) done ((p, s) ∷ [])) ∙ one
 
 -- a change of its log that can be
-pub changed_last : (limits : Limits) (n : ℕ) (groups : List Group) (p : Place) (s next : StripeOf Entry) (done : Stripes) (under : Option Entry) (e : Entry) → p.0 < 64 → IsPast p done
+pub changed_last : (limits : Limits) (n : ℕ) (groups : List Group) (p : Place) (s next : StripeOf Entry) (done : Stripes) (under : Option Entry)
+    (e : Entry) → p.0 < 64 → IsPast p done
     → live_in done + weight s < limits.records → log_changed limits false (version_change under e) e.stamp s ≡ Some next
     → applied limits (version_record p under e) (parts n groups (with_last p s done)) ≡ Some (parts n groups (with_last p next done))
 unfolding applied
@@ -68,7 +71,9 @@ changed_last limits n groups p s next done under e group past room change =
     let here : stripe_at st p ≡ s = stripe_last p s done past in
     let free : is_full limits st ≡ false = lt-leb _ _ (omega (arith, live_last p s done, room)) in
     let changed : log_changed limits (is_full limits st) (version_change under e) e.stamp (stripe_at st p) ≡ Some next
-    = ap (λ (b : Bool). log_changed limits b (version_change under e) e.stamp (stripe_at st p)) free ∙ ap (log_changed limits false (version_change under e) e.stamp) here ∙ change in
-    ap (λ (b : Bool). cond b (placed p st (log_changed limits (is_full limits st) (version_change under e) e.stamp (stripe_at st p))) None) (lt-ltb p.0 64 group)
+    = ap (λ (b : Bool). log_changed limits b (version_change under e) e.stamp (stripe_at st p)) free
+    ∙ ap (log_changed limits false (version_change under e) e.stamp) here ∙ change in
+    ap (λ (b : Bool). cond b (placed p st (log_changed limits (is_full limits st) (version_change under e) e.stamp (stripe_at st p))) None)
+    (lt-ltb p.0 64 group)
     ∙ ap (placed p st) changed
     ∙ ap (λ (stripes : Stripes). Some (parts n groups stripes)) (put_last p s next done past)

@@ -16,7 +16,8 @@ none_first : (p : Place) → stripe_records p (first_stripe p) ≡ []
 unfolding version_records
 none_first p = rw (stamp_same_refl first_stamp) refl
 
-pub stripes_step : (p : Place) (s : Stripe) (rest : List (Place × Stripe)) → stripes_records (listed ((p, s) ∷ rest)) ≡ stripe_records p (stripe_of s) ++ stripes_records (listed rest)
+pub stripes_step : (p : Place) (s : Stripe) (rest : List (Place × Stripe)) → stripes_records (listed ((p, s) ∷ rest)) ≡ stripe_records p
+    (stripe_of s) ++ stripes_records (listed rest)
 unfolding listed stripes_records
 stripes_step p s rest = by (is_first p (stripe_of s)) refl
   where
@@ -24,7 +25,8 @@ stripes_step p s rest = by (is_first p (stripe_of s)) refl
     nothing at = ap (stripe_records p) (is_first-true p (stripe_of s) at) ∙ none_first p
 
     by : (b : Bool) → is_first p (stripe_of s) ≡ b
-        → stripes_records (cond (not b) ((p, stripe_of s) ∷ listed rest) (listed rest)) ≡ stripe_records p (stripe_of s) ++ stripes_records (listed rest)
+        → stripes_records (cond (not b) ((p, stripe_of s) ∷ listed rest) (listed rest)) ≡ stripe_records p (stripe_of s) ++ stripes_records
+        (listed rest)
     by true at = sym (ap (λ records. records ++ stripes_records (listed rest)) (nothing at))
     by false at = refl
 
@@ -46,10 +48,12 @@ groups_none g = refl
 
 -- and the versions of a stripe
 pub versions_step : (p : Place) (under : Option Entry) (k n : ℕ) (entries : List Entry) (none : Entry) → n ≡ suc k → k < length entries
-    → version_records p under (drop k entries) ≡ version_record p under (get_or entries k none) ∷ version_records p (Some (get_or entries k none)) (drop n entries)
+    → version_records p under (drop k entries) ≡ version_record p under (get_or entries k none) ∷ version_records p (Some (get_or entries k none))
+    (drop n entries)
 unfolding version_records
 versions_step p under k n entries none next within =
-    subst (λ (m : ℕ). version_records p under (drop k entries) ≡ version_record p under (get_or entries k none) ∷ version_records p (Some (get_or entries k none)) (drop m entries)) (sym next)
+    subst (λ (m : ℕ). version_records p under (drop k entries) ≡ version_record p under (get_or entries k none) ∷ version_records p
+    (Some (get_or entries k none)) (drop m entries)) (sym next)
     (ap (version_records p under) (drop-cons entries k none within))
 
 pub versions_none : (p : Place) (under : Option Entry) → version_records p under [] ≡ []

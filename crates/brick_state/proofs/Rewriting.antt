@@ -10,7 +10,8 @@ unfoldable pub Leads : Limits → List Record → StateOf Entry → StateOf Entr
 Leads limits [] old new = old ≡ new
 Leads limits (r ∷ rs) old new = (mid : StateOf Entry) × (applied limits r old ≡ Some mid) × Leads limits rs mid new
 
-pub leads_append : (limits : Limits) (xs ys : List Record) (a b c : StateOf Entry) → Leads limits xs a b → Leads limits ys b c → Leads limits (xs ++ ys) a c
+pub leads_append : (limits : Limits) (xs ys : List Record) (a b c : StateOf Entry) → Leads limits xs a b → Leads limits ys b c
+    → Leads limits (xs ++ ys) a c
 unfolding Leads
 leads_append limits [] ys a b c first second = subst (λ (s : StateOf Entry). Leads limits ys s c) (sym first) second
 leads_append limits (x ∷ xs) ys a b c first second = (first.0, first.1, leads_append limits xs ys first.0 b c first.2 second)

@@ -23,7 +23,8 @@ pub record IsSound (limits : Limits) (p : Place) (s : StripeOf Entry) : Type 0 w
   pub no_start : s.from_start ≡ false → s.added ≡ [] → eqb p.1 1 ≡ false
   pub rises : Rises limits (start_of s.from_start) s.added
 
-pub kept_from_sound : (limits : Limits) (p : Place) (s : StripeOf Entry) → p.0 < 64 → IsSound limits p s → is_first p s ≡ false → IsKeptStripe limits p s
+pub kept_from_sound : (limits : Limits) (p : Place) (s : StripeOf Entry) → p.0 < 64 → IsSound limits p s → is_first p s ≡ false
+    → IsKeptStripe limits p s
 kept_from_sound limits p s group sound changed = record { group = group; changed = changed; start = sound.start; no_start = sound.no_start; rises = sound.rises }
 
 sound_from_kept : (limits : Limits) (p : Place) (s : StripeOf Entry) → IsKeptStripe limits p s → IsSound limits p s
@@ -33,11 +34,13 @@ rises_nothing : (limits : Limits) (under : Option Entry) → Rises limits under 
 rises_nothing limits under = tt
 
 -- the stripe at a place is sound
-pub sound_at : (limits : Limits) (p : Place) (stripes : List (Place × StripeOf Entry)) → AllByRecursion (λ e. IsKeptStripe limits e.0 e.1) stripes → IsSound limits p (stripe_in stripes p)
+pub sound_at : (limits : Limits) (p : Place) (stripes : List (Place × StripeOf Entry)) → AllByRecursion (λ e. IsKeptStripe limits e.0 e.1) stripes
+    → IsSound limits p (stripe_in stripes p)
 sound_at limits p [] all = record { start = λ h. h; no_start = λ h none. h; rises = rises_nothing limits (start_of (eqb p.1 1)) }
 sound_at limits p (e ∷ stripes) all = by (place_cmp p e.0) refl (sound_at limits p stripes all.1)
   where
-    by : (r : Ordering) → place_cmp p e.0 ≡ r → IsSound limits p (stripe_in stripes p) → IsSound limits p (unwrap_or (cond (is_eq r) (Some e.1) (lookup (is_at (place_cmp p)) stripes)) (first_stripe p))
+    by : (r : Ordering) → place_cmp p e.0 ≡ r → IsSound limits p (stripe_in stripes p)
+        → IsSound limits p (unwrap_or (cond (is_eq r) (Some e.1) (lookup (is_at (place_cmp p)) stripes)) (first_stripe p))
     by Less at rest = rest
     by Greater at rest = rest
     by Equal at rest = subst (λ (q : Place). IsSound limits q e.1) (sym (place_exact p e.0 at)) (sound_from_kept limits e.0 e.1 all.0)
@@ -47,7 +50,8 @@ abbrev pub newest_of : Option Entry → List Entry → Option Entry
 newest_of under [] = under
 newest_of under (e ∷ entries) = newest_of (Some e) entries
 
-rises_push : (limits : Limits) (under : Option Entry) (entries : List Entry) (e : Entry) → Rises limits under entries → IsAbove (newest_of under entries) e → is_slot limits e.slot ≡ true → Rises limits under (entries ++ e ∷ [])
+rises_push : (limits : Limits) (under : Option Entry) (entries : List Entry) (e : Entry) → Rises limits under entries
+    → IsAbove (newest_of under entries) e → is_slot limits e.slot ≡ true → Rises limits under (entries ++ e ∷ [])
 rises_push limits under [] e rises above slot = (above, (slot, tt))
 rises_push limits under (x ∷ entries) e rises above slot = (rises.0, (rises.1.0, rises_push limits (Some x) entries e rises.1.1 above slot))
 
@@ -61,13 +65,16 @@ newest_is x (y ∷ entries) = last_cons x y entries ∙ newest_is y entries
 pub newest_entry_is : (s : StripeOf Entry) → newest_entry s ≡ newest_of (start_of s.from_start) s.added
 newest_entry_is s = by s.from_start s.added
   where
-    by : (from : Bool) (added : List Entry) → last (cond from (record { stamp = first_stamp; slot = 4294967295 } ∷ []) [] ++ added) ≡ newest_of (start_of from) added
+    by : (from : Bool) (added : List Entry) → last (cond from (record { stamp = first_stamp; slot = 4294967295 } ∷ []) [] ++ added) ≡ newest_of
+        (start_of from) added
     by true added = newest_is (record { stamp = first_stamp; slot = 4294967295 }) added
     by false [] = refl
     by false (e ∷ added) = newest_is e added
 
 -- the slot of the newest version is one of the store's
-pub newest_slot : (limits : Limits) (under : Option Entry) (entries : List Entry) (u : Entry) → ((v : Entry) → under ≡ Some v → is_slot limits v.slot ≡ true) → Rises limits under entries → newest_of under entries ≡ Some u → is_slot limits u.slot ≡ true
+pub newest_slot : (limits : Limits) (under : Option Entry) (entries : List Entry) (u : Entry)
+    → ((v : Entry) → under ≡ Some v → is_slot limits v.slot ≡ true) → Rises limits under entries → newest_of under entries ≡ Some u
+    → is_slot limits u.slot ≡ true
 newest_slot limits under [] u below rises is = below u is
 newest_slot limits under (e ∷ entries) u below rises is =
     newest_slot limits (Some e) entries u (λ v same. subst (λ (x : Entry). is_slot limits x.slot ≡ true) (some_same same) rises.1.0) rises.1.1 is
@@ -83,7 +90,8 @@ start_slot limits true v same = subst (λ (x : Entry). is_slot limits x.slot ≡
 start_slot limits false v same = absurd cc
 
 -- a version above the newest, in a slot of the store
-pub added_sound : (limits : Limits) (p : Place) (s : StripeOf Entry) (e : Entry) → IsSound limits p s → IsAbove (newest_entry s) e → is_slot limits e.slot ≡ true → IsSound limits p (with_added e s)
+pub added_sound : (limits : Limits) (p : Place) (s : StripeOf Entry) (e : Entry) → IsSound limits p s → IsAbove (newest_entry s) e
+    → is_slot limits e.slot ≡ true → IsSound limits p (with_added e s)
 added_sound limits p s e sound above slot = record {
   start = sound.start;
   no_start = λ from none. absurd (not_nothing s.added e none);

@@ -28,7 +28,8 @@ use Rattle.brick_state.proofs.Listings.{map_values-filter, filter-filter, filter
 
 -- places are in a total order, and equal places are the same
 pub place_total : IsTotalOrder place_cmp
-place_total = then_total (then_total (on_total (λ (t : Place). t.0) nat_cmp_total) (on_total (λ (t : Place). t.1) nat_cmp_total)) (on_total (λ (t : Place). t.2) nat_cmp_total)
+place_total = then_total (then_total (on_total (λ (t : Place). t.0) nat_cmp_total) (on_total (λ (t : Place). t.1) nat_cmp_total))
+    (on_total (λ (t : Place). t.2) nat_cmp_total)
 
 both_equal : (r s : Ordering) → ordering_then r s ≡ Equal → (r ≡ Equal) × (s ≡ Equal)
 both_equal Less s h = absurd cc
@@ -48,7 +49,8 @@ place_exact x y h =
     same g h v w s t p q r = cc
 
 -- a stripe that nothing happened to is the first one
-pub stripe_is : {E : Type 0} (s : StripeOf E) (order : Stamp) (from : Bool) (added : List E) → s.order ≡ order → s.from_start ≡ from → s.added ≡ added → s ≡ record { order = order; from_start = from; added = added }
+pub stripe_is : {E : Type 0} (s : StripeOf E) (order : Stamp) (from : Bool) (added : List E) → s.order ≡ order → s.from_start ≡ from → s.added ≡ added
+    → s ≡ record { order = order; from_start = from; added = added }
 stripe_is {E} s order from added p q r =
     ap (λ (t : Stamp). record { order = t; from_start = s.from_start; added = s.added }) p
     ∙ ap (λ (t : Bool). record { order = order; from_start = t; added = s.added }) q
@@ -66,9 +68,11 @@ alike_refl false = refl
 
 pub is_first-true : {E : Type 0} (p : Place) (s : StripeOf E) → is_first p s ≡ true → s ≡ first_stripe p
 is_first-true p s h =
-    let a = and_parts (stamp_same s.order first_stamp) ((eqb (length s.added) 0) && ((s.from_start && (eqb p.1 1)) || (not s.from_start && not (eqb p.1 1)))) h in
+    let a = and_parts (stamp_same s.order first_stamp)
+    ((eqb (length s.added) 0) && ((s.from_start && (eqb p.1 1)) || (not s.from_start && not (eqb p.1 1)))) h in
     let b = and_parts (eqb (length s.added) 0) ((s.from_start && (eqb p.1 1)) || (not s.from_start && not (eqb p.1 1))) a.1 in
-    stripe_is s first_stamp (eqb p.1 1) [] (stamp_same_true s.order first_stamp a.0) (alike s.from_start (eqb p.1 1) b.1) (nil_from_length s.added (eqb-true _ _ b.0))
+    stripe_is s first_stamp (eqb p.1 1) [] (stamp_same_true s.order first_stamp a.0) (alike s.from_start (eqb p.1 1) b.1)
+    (nil_from_length s.added (eqb-true _ _ b.0))
 
 pub is_first-first : (E : Type 0) (p : Place) → is_first {E = E} p (first_stripe p) ≡ true
 is_first-first E p = rw (stamp_same_refl first_stamp, alike_refl (eqb p.1 1)) refl
@@ -81,14 +85,16 @@ module _ (entries : List (Place × Stripe)) (sorted : IsStrictlySortedBy place_c
   seen_sorted : IsStrictlySortedBy place_cmp (keys_of seen)
   seen_sorted = rw (keys_of-map_values stripe_of entries) sorted
 
-  seen_at : (p : Place) (found : Option Stripe) → lookup (is_at (place_cmp p)) entries ≡ found → lookup (is_at (place_cmp p)) seen ≡ option_map stripe_of found
+  seen_at : (p : Place) (found : Option Stripe) → lookup (is_at (place_cmp p)) entries ≡ found
+      → lookup (is_at (place_cmp p)) seen ≡ option_map stripe_of found
   seen_at p found at = lookup-map_values stripe_of (is_at (place_cmp p)) entries ∙ ap (option_map stripe_of) at
 
   -- what the map has is what a clause sees
   pub found_at : (p : Place) (s : Stripe) → lookup (is_at (place_cmp p)) entries ≡ Some s → stripe_in (listed entries) p ≡ stripe_of s
   unfolding listed
   found_at p s at =
-      ap (λ (found : Option (StripeOf Entry)). unwrap_or found (first_stripe p)) (lookup-filter place_total place_exact is_listed p (stripe_of s) seen seen_sorted (seen_at p (Some s) at))
+      ap (λ (found : Option (StripeOf Entry)). unwrap_or found (first_stripe p))
+      (lookup-filter place_total place_exact is_listed p (stripe_of s) seen seen_sorted (seen_at p (Some s) at))
       ∙ by (is_first p (stripe_of s)) refl
     where
       by : (b : Bool) → is_first p (stripe_of s) ≡ b → unwrap_or (cond (not b) (Some (stripe_of s)) None) (first_stripe p) ≡ stripe_of s
@@ -98,26 +104,32 @@ module _ (entries : List (Place × Stripe)) (sorted : IsStrictlySortedBy place_c
   -- where it has nothing, nothing happened
   pub not_found_at : (p : Place) → lookup (is_at (place_cmp p)) entries ≡ None → stripe_in (listed entries) p ≡ first_stripe p
   unfolding listed
-  not_found_at p at = ap (λ (found : Option (StripeOf Entry)). unwrap_or found (first_stripe p)) (lookup-filter-none (is_at (place_cmp p)) is_listed seen (seen_at p None at))
+  not_found_at p at = ap (λ (found : Option (StripeOf Entry)). unwrap_or found (first_stripe p))
+      (lookup-filter-none (is_at (place_cmp p)) is_listed seen (seen_at p None at))
 
   -- a stripe written in the map
-  pub written_at : (p : Place) (s new : Stripe) → lookup (is_at (place_cmp p)) entries ≡ Some s → listed (set_value (is_at (place_cmp p)) entries new) ≡ put p (stripe_of new) (listed entries)
+  pub written_at : (p : Place) (s new : Stripe) → lookup (is_at (place_cmp p)) entries ≡ Some s
+      → listed (set_value (is_at (place_cmp p)) entries new) ≡ put p (stripe_of new) (listed entries)
   unfolding listed
   written_at p s new at =
       ap (filter is_listed) (map_values-set_value stripe_of (is_at (place_cmp p)) entries new)
-      ∙ filter-set_value place_total place_exact is_listed p (stripe_of new) seen seen_sorted (subst (λ (found : Option (StripeOf Entry)). IsSome found) (sym (seen_at p (Some s) at)) refl)
+      ∙ filter-set_value place_total place_exact is_listed p (stripe_of new) seen seen_sorted
+      (subst (λ (found : Option (StripeOf Entry)). IsSome found) (sym (seen_at p (Some s) at)) refl)
       ∙ turned (is_first p (stripe_of new))
     where
-      turned : (b : Bool) → cond (not b) (insert_entry place_cmp (filter is_listed seen) p (stripe_of new)) (remove_entry (is_at (place_cmp p)) (filter is_listed seen))
+      turned : (b : Bool) → cond (not b) (insert_entry place_cmp (filter is_listed seen) p (stripe_of new))
+          (remove_entry (is_at (place_cmp p)) (filter is_listed seen))
           ≡ cond b (remove_entry (is_at (place_cmp p)) (filter is_listed seen)) (insert_entry place_cmp (filter is_listed seen) p (stripe_of new))
       turned true = refl
       turned false = refl
 
 -- a stripe that nothing happened to is not seen
-pub first_unseen : (entries : List (Place × Stripe)) (p : Place) (s : Stripe) → lookup (is_at (place_cmp p)) entries ≡ None → stripe_of s ≡ first_stripe p → listed (insert_entry place_cmp entries p s) ≡ listed entries
+pub first_unseen : (entries : List (Place × Stripe)) (p : Place) (s : Stripe) → lookup (is_at (place_cmp p)) entries ≡ None
+    → stripe_of s ≡ first_stripe p → listed (insert_entry place_cmp entries p s) ≡ listed entries
 unfolding listed
 first_unseen entries p s none first =
-    let at : lookup (is_at (place_cmp p)) (map seen_entry entries) ≡ None = lookup-map_values stripe_of (is_at (place_cmp p)) entries ∙ ap (option_map stripe_of) none in
+    let at : lookup (is_at (place_cmp p)) (map seen_entry entries) ≡ None = lookup-map_values stripe_of (is_at (place_cmp p)) entries
+    ∙ ap (option_map stripe_of) none in
     let out : is_first p (stripe_of s) ≡ true = ap (is_first p) first ∙ is_first-first Entry p in
     ap (filter is_listed) (map_values-insert_entry stripe_of place_cmp entries p s)
     ∙ filter-insert_left_out place_cmp is_listed p (stripe_of s) (map seen_entry entries) at (ap not out)
@@ -133,32 +145,39 @@ pushed items new entry (Ok u) len capacity is full room = is
 pushed items new entry (Err e) len capacity is full room = absurd (omega arith)
 
 -- what a look-up by reference finds
-pub found_in : (entries : List (Place × Stripe)) → IsStrictlySortedBy place_cmp (keys_of entries) → (p : Place) (found : Option (Bor Stripe)) → lookup (is_at (place_cmp p)) entries ≡ option_copied found
+pub found_in : (entries : List (Place × Stripe)) → IsStrictlySortedBy place_cmp (keys_of entries) → (p : Place) (found : Option (Bor Stripe))
+    → lookup (is_at (place_cmp p)) entries ≡ option_copied found
     → IfSome found (λ s. stripe_in (listed entries) p ≡ stripe_of s.now)
 found_in entries sorted p None at = tt
 found_in entries sorted p (Some s) at = found_at entries sorted p s.now at
 
-pub not_found_in : (entries : List (Place × Stripe)) → IsStrictlySortedBy place_cmp (keys_of entries) → (p : Place) (found : Option (Bor Stripe)) → lookup (is_at (place_cmp p)) entries ≡ option_copied found
+pub not_found_in : (entries : List (Place × Stripe)) → IsStrictlySortedBy place_cmp (keys_of entries) → (p : Place) (found : Option (Bor Stripe))
+    → lookup (is_at (place_cmp p)) entries ≡ option_copied found
     → IfNone found (stripe_in (listed entries) p ≡ first_stripe p)
 not_found_in entries sorted p None at = not_found_at entries sorted p at
 not_found_in entries sorted p (Some s) at = tt
 
 -- a filter by the places
-pub listed-filter : (keep : Place → Bool) (entries : List (Place × Stripe)) → listed (filter (λ e. keep e.0) entries) ≡ filter (λ e. keep e.0) (listed entries)
+pub listed-filter : (keep : Place → Bool) (entries : List (Place × Stripe)) → listed (filter (λ e. keep e.0) entries) ≡ filter (λ e. keep e.0)
+    (listed entries)
 unfolding listed
-listed-filter keep entries = ap (filter is_listed) (map_values-filter stripe_of keep entries) ∙ filter-filter is_listed (λ (e : Place × StripeOf Entry). keep e.0) (map seen_entry entries)
+listed-filter keep entries = ap (filter is_listed) (map_values-filter stripe_of keep entries)
+    ∙ filter-filter is_listed (λ (e : Place × StripeOf Entry). keep e.0) (map seen_entry entries)
 
 -- a stripe written in the place of one that says the same
-pub rewritten_same : (entries : List (Place × Stripe)) (p : Place) (s new : Stripe) → lookup (is_at (place_cmp p)) entries ≡ Some s → stripe_of new ≡ stripe_of s → listed (set_value (is_at (place_cmp p)) entries new) ≡ listed entries
+pub rewritten_same : (entries : List (Place × Stripe)) (p : Place) (s new : Stripe) → lookup (is_at (place_cmp p)) entries ≡ Some s
+    → stripe_of new ≡ stripe_of s → listed (set_value (is_at (place_cmp p)) entries new) ≡ listed entries
 unfolding listed
 rewritten_same entries p s new at same =
-    let found : lookup (is_at (place_cmp p)) (map seen_entry entries) ≡ Some (stripe_of s) = lookup-map_values stripe_of (is_at (place_cmp p)) entries ∙ ap (option_map stripe_of) at in
+    let found : lookup (is_at (place_cmp p)) (map seen_entry entries) ≡ Some (stripe_of s) = lookup-map_values stripe_of (is_at (place_cmp p)) entries
+    ∙ ap (option_map stripe_of) at in
     ap (filter is_listed) (map_values-set_value stripe_of (is_at (place_cmp p)) entries new
     ∙ ap (set_value (is_at (place_cmp p)) (map seen_entry entries)) same
     ∙ set_value_same (is_at (place_cmp p)) (map seen_entry entries) (stripe_of s) found)
 
 -- stripes with the same parts say the same
-pub same_versions : (s new : Stripe) → new.order ≡ s.order → new.from_start ≡ s.from_start → new.added.items ≡ s.added.items → stripe_of new ≡ stripe_of s
+pub same_versions : (s new : Stripe) → new.order ≡ s.order → new.from_start ≡ s.from_start → new.added.items ≡ s.added.items
+    → stripe_of new ≡ stripe_of s
 same_versions s new order from items = stripe_is (stripe_of new) s.order s.from_start s.added.items order from items
 
 -- what a test says is not there
@@ -175,9 +194,11 @@ weight_first p s h = ap weight (is_first-true p s h) ∙ rw (stamp_same_refl fir
 pub live-listed : (entries : List (Place × Stripe)) → live_in (listed entries) ≡ sum_by (λ s. weight (stripe_of s)) (values_of entries)
 unfolding listed
 live-listed [] = refl
-live-listed (e ∷ entries) = by (is_first e.0 (stripe_of e.1)) refl (live-listed entries) ∙ sym (sum_by-cons (λ s. weight (stripe_of s)) e.1 (values_of entries))
+live-listed (e ∷ entries) = by (is_first e.0 (stripe_of e.1)) refl (live-listed entries)
+    ∙ sym (sum_by-cons (λ s. weight (stripe_of s)) e.1 (values_of entries))
   where
-    by : (b : Bool) → is_first e.0 (stripe_of e.1) ≡ b → live_in (filter is_listed (map seen_entry entries)) ≡ sum_by (λ s. weight (stripe_of s)) (values_of entries)
+    by : (b : Bool) → is_first e.0 (stripe_of e.1) ≡ b → live_in (filter is_listed (map seen_entry entries)) ≡ sum_by (λ s. weight (stripe_of s))
+        (values_of entries)
         → live_in (cond (not b) (seen_entry e ∷ filter is_listed (map seen_entry entries)) (filter is_listed (map seen_entry entries)))
         ≡ weight (stripe_of e.1) + sum_by (λ s. weight (stripe_of s)) (values_of entries)
     by true at h = h ∙ omega (arith, weight_first e.0 (stripe_of e.1) at)

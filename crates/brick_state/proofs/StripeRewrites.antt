@@ -30,7 +30,8 @@ grown (Some under) e s = with_added e s
 newest_grown : (under : Option Entry) (e : Entry) (s : StripeOf Entry) → newest_entry (grown under e s) ≡ Some e
 newest_grown None e s = refl
 newest_grown (Some u) e s =
-    ap last (sym (append_assoc (cond s.from_start (record { stamp = first_stamp; slot = 4294967295 } ∷ []) []) s.added (e ∷ []))) ∙ last_push (cond s.from_start (record { stamp = first_stamp; slot = 4294967295 } ∷ []) [] ++ s.added) e
+    ap last (sym (append_assoc (cond s.from_start (record { stamp = first_stamp; slot = 4294967295 } ∷ []) []) s.added (e ∷ [])))
+    ∙ last_push (cond s.from_start (record { stamp = first_stamp; slot = 4294967295 } ∷ []) [] ++ s.added) e
 
 -- the version below is the newest
 abbrev UnderIs : Option Entry → StripeOf Entry → Type 0
@@ -38,7 +39,8 @@ UnderIs None s = Unit {0}
 UnderIs (Some under) s = newest_entry s ≡ Some under
 
 -- the change that a version's record tells can be
-change_is : (limits : Limits) (under : Option Entry) (e : Entry) (s : StripeOf Entry) → is_slot limits e.slot ≡ true → UnderIs under s → IsAbove under e
+change_is : (limits : Limits) (under : Option Entry) (e : Entry) (s : StripeOf Entry) → is_slot limits e.slot ≡ true → UnderIs under s
+    → IsAbove under e
     → log_changed limits false (version_change under e) e.stamp s ≡ Some (grown under e s)
 unfolding log_changed
 change_is limits None e s slot below above = rw slot (by (eqb (length s.added) 0))
@@ -54,7 +56,8 @@ change_is limits (Some u) e s slot below above = by (eqb u.slot e.slot) refl
         ∙ ap (λ (b : Bool). cond b (Some (with_added (entry e.stamp u.slot) s)) None) above
         ∙ ap (λ (k : ℕ). Some (with_added (entry e.stamp k) s)) at
 
-    own : cond (is_slot limits e.slot) (cond (false || not (is_above (newest_entry s) e.stamp)) None (Some (with_added e s))) None ≡ Some (with_added e s)
+    own : cond (is_slot limits e.slot) (cond (false || not (is_above (newest_entry s) e.stamp)) None (Some (with_added e s))) None ≡ Some
+        (with_added e s)
     own =
         ap (λ (b : Bool). cond b (cond (false || not (is_above (newest_entry s) e.stamp)) None (Some (with_added e s))) None) slot
         ∙ ap (λ (found : Option Entry). cond (false || not (is_above found e.stamp)) None (Some (with_added e s))) below
@@ -69,9 +72,11 @@ abbrev grow : Option Entry → StripeOf Entry → List Entry → StripeOf Entry
 grow under s [] = s
 grow under s (e ∷ entries) = grow (Some e) (grown under e s) entries
 
-grow_some : (u : Entry) (s : StripeOf Entry) (entries : List Entry) → grow (Some u) s entries ≡ record { order = s.order; from_start = s.from_start; added = s.added ++ entries }
+grow_some : (u : Entry) (s : StripeOf Entry) (entries : List Entry)
+    → grow (Some u) s entries ≡ record { order = s.order; from_start = s.from_start; added = s.added ++ entries }
 grow_some u s [] = stripe_is s s.order s.from_start (s.added ++ []) refl refl (sym (append-nil s.added))
-grow_some u s (e ∷ entries) = grow_some e (with_added e s) entries ∙ ap (λ (xs : List Entry). record { order = s.order; from_start = s.from_start; added = xs }) (append_assoc s.added (e ∷ []) entries)
+grow_some u s (e ∷ entries) = grow_some e (with_added e s) entries
+    ∙ ap (λ (xs : List Entry). record { order = s.order; from_start = s.from_start; added = xs }) (append_assoc s.added (e ∷ []) entries)
 
 weight_grown : (under : Option Entry) (e : Entry) (s : StripeOf Entry) → weight (grown under e s) ≤ weight s + 1
 weight_grown None e s = omega arith
@@ -79,14 +84,16 @@ weight_grown (Some u) e s = omega (arith, length-append s.added (e ∷ []))
 
 -- the records of the versions bring them back
 versions_lead : (limits : Limits) (n : ℕ) (groups : List Group) (p : Place) (done : Stripes) → p.0 < 64 → IsPast p done
-    → (under : Option Entry) (s : StripeOf Entry) (entries : List Entry) → UnderIs under s → Rises limits under entries → live_in done + weight s + length entries ≤ limits.records
+    → (under : Option Entry) (s : StripeOf Entry) (entries : List Entry) → UnderIs under s → Rises limits under entries
+    → live_in done + weight s + length entries ≤ limits.records
     → Leads limits (version_records p under entries) (parts n groups (with_last p s done)) (parts n groups (with_last p (grow under s entries) done))
 unfolding version_records Leads
 versions_lead limits n groups p done group past under s [] below rises room = refl
 versions_lead limits n groups p done group past under s (e ∷ entries) below rises room = (
   parts n groups (with_last p (grown under e s) done),
   changed_last limits n groups p s (grown under e s) done under e group past (omega arith) (change_is limits under e s rises.1.0 below rises.0),
-  versions_lead limits n groups p done group past (Some e) (grown under e s) entries (newest_grown under e s) rises.1.1 (omega (arith, weight_grown under e s)),
+  versions_lead limits n groups p done group past (Some e) (grown under e s) entries (newest_grown under e s) rises.1.1
+      (omega (arith, weight_grown under e s)),
 )
 
 -- a stripe that has an order stamp alone
@@ -97,7 +104,8 @@ nothing_last : (p : Place) (done : Stripes) → with_last p (first_stripe p) don
 nothing_last p done = ap (λ (b : Bool). cond b done (done ++ (p, first_stripe p) ∷ [])) (is_first-first Entry p)
 
 -- the record of the order stamp brings it back
-order_lead : (limits : Limits) (n : ℕ) (groups : List Group) (p : Place) (t : Stamp) (done : Stripes) → p.0 < 64 → IsPast p done → (stamp_same t first_stamp ≡ false → live_in done < limits.records)
+order_lead : (limits : Limits) (n : ℕ) (groups : List Group) (p : Place) (t : Stamp) (done : Stripes) → p.0 < 64 → IsPast p done
+    → (stamp_same t first_stamp ≡ false → live_in done < limits.records)
     → Leads limits (order_records p t) (parts n groups done) (parts n groups (with_last p (with_stamp p t) done))
 unfolding applied Leads
 order_lead limits n groups p t done group past room = by (stamp_same t first_stamp) refl
@@ -112,7 +120,8 @@ order_lead limits n groups p t done group past room = by (stamp_same t first_sta
     no_more true x y = refl
     no_more false x y = refl
 
-    one : stamp_same t first_stamp ≡ false → applied limits (order_record p t) (parts n groups done) ≡ Some (parts n groups (with_last p (with_stamp p t) done))
+    one : stamp_same t first_stamp ≡ false → applied limits (order_record p t) (parts n groups done) ≡ Some
+        (parts n groups (with_last p (with_stamp p t) done))
     one other =
         let st = parts n groups done in
         let free : is_full limits st ≡ false = lt-leb _ _ (room other) in
@@ -122,12 +131,15 @@ order_lead limits n groups p t done group past room = by (stamp_same t first_sta
         ∙ ap (λ (s : StripeOf Entry). Some (parts n groups (put p (with_order t s) done))) there
         ∙ ap (λ (stripes : Stripes). Some (parts n groups stripes)) placed_at
 
-    by : (b : Bool) → stamp_same t first_stamp ≡ b → Leads limits (cond b [] (order_record p t ∷ [])) (parts n groups done) (parts n groups (with_last p (with_stamp p t) done))
-    by true at = ap (parts n groups) (sym (nothing_last p done) ∙ ap (λ (x : Stamp). with_last p (with_stamp p x) done) (sym (stamp_same_true t first_stamp at)))
+    by : (b : Bool) → stamp_same t first_stamp ≡ b → Leads limits (cond b [] (order_record p t ∷ [])) (parts n groups done)
+        (parts n groups (with_last p (with_stamp p t) done))
+    by true at = ap (parts n groups) (sym (nothing_last p done) ∙ ap (λ (x : Stamp). with_last p (with_stamp p x) done)
+        (sym (stamp_same_true t first_stamp at)))
     by false at = leads_one limits (order_record p t) (parts n groups done) (parts n groups (with_last p (with_stamp p t) done)) (one at)
 
 -- all that is written of a stripe brings it back
-grow_all : (limits : Limits) (p : Place) (s : StripeOf Entry) → IsKeptStripe limits p s → grow (start_of s.from_start) (with_stamp p s.order) s.added ≡ s
+grow_all : (limits : Limits) (p : Place) (s : StripeOf Entry) → IsKeptStripe limits p s
+    → grow (start_of s.from_start) (with_stamp p s.order) s.added ≡ s
 grow_all limits p s kept = by s.from_start s.added refl refl
   where
     by : (from : Bool) (added : List Entry) → s.from_start ≡ from → s.added ≡ added → grow (start_of from) (with_stamp p s.order) added ≡ s
@@ -152,12 +164,15 @@ room_for_order s live records room other =
     let w : weight s ≡ 1 + length s.added = ap (λ (b : Bool). cond b 0 1 + length s.added) other in
     omega arith
 
-pub stripe_lead : (limits : Limits) (n : ℕ) (groups : List Group) (p : Place) (s : StripeOf Entry) (done : Stripes) → IsKeptStripe limits p s → IsPast p done → live_in done + weight s ≤ limits.records
+pub stripe_lead : (limits : Limits) (n : ℕ) (groups : List Group) (p : Place) (s : StripeOf Entry) (done : Stripes) → IsKeptStripe limits p s
+    → IsPast p done → live_in done + weight s ≤ limits.records
     → Leads limits (stripe_records p s) (parts n groups done) (parts n groups (done ++ (p, s) ∷ []))
 stripe_lead limits n groups p s done kept past room =
     let first = order_lead limits n groups p s.order done kept.group past (room_for_order s (live_in done) limits.records room) in
-    let rest = versions_lead limits n groups p done kept.group past (start_of s.from_start) (with_stamp p s.order) s.added (start_under limits p s kept) kept.rises (omega (arith, weight_stamp p s)) in
+    let rest = versions_lead limits n groups p done kept.group past (start_of s.from_start) (with_stamp p s.order) s.added
+    (start_under limits p s kept) kept.rises (omega (arith, weight_stamp p s)) in
     let both = leads_append limits (order_records p s.order) (version_records p (start_of s.from_start) s.added) _ _ _ first rest in
     let end : with_last p (grow (start_of s.from_start) (with_stamp p s.order) s.added) done ≡ done ++ (p, s) ∷ []
-    = ap (λ (x : StripeOf Entry). with_last p x done) (grow_all limits p s kept) ∙ ap (λ (b : Bool). cond b done (done ++ (p, s) ∷ [])) kept.changed in
+    = ap (λ (x : StripeOf Entry). with_last p x done) (grow_all limits p s kept)
+    ∙ ap (λ (b : Bool). cond b done (done ++ (p, s) ∷ [])) kept.changed in
     subst (λ (stripes : Stripes). Leads limits (stripe_records p s) (parts n groups done) (parts n groups stripes)) end both

@@ -182,7 +182,8 @@ impl Index {
     }
 
     fn set_view(&mut self, group: u32, view: &View, synced: bool) -> bool
-        ensures answer { Answers (state_of self.new) (if nat_lt group 64 && nat_le 2 view.now.number.0 then Some (viewed group view.now synced (state_of self.old)) else None) result }
+        ensures answer { Answers (state_of self.new) (if nat_lt group 64 && nat_le 2 view.now.number.0 then Some
+            (viewed group view.now synced (state_of self.old)) else None) result }
         ensures refused { result ≡ false → state_of self.new ≡ state_of self.old }
         ensures limits { limits_of self.new ≡ limits_of self.old }
     {
@@ -206,7 +207,8 @@ impl Index {
         promised: Ballot,
         accepted: &Option<(Ballot, Members)>,
     ) -> bool
-        ensures answer { Answers (state_of self.new) (if nat_lt group 64 then Some (balloted group promised accepted.now (state_of self.old)) else None) result }
+        ensures answer { Answers (state_of self.new) (if nat_lt group 64 then Some
+            (balloted group promised accepted.now (state_of self.old)) else None) result }
         ensures refused { result ≡ false → state_of self.new ≡ state_of self.old }
         ensures limits { limits_of self.new ≡ limits_of self.old }
     {
@@ -219,7 +221,9 @@ impl Index {
     }
 
     fn set_order(&mut self, place: Place, stamp: Stamp) -> Result<bool, NoMem>
-        ensures answer { IfOk result (Answers (state_of self.new) (if nat_lt place.0 64 then (if adds_order stamp (stripe_at (state_of self.old) place) && is_full (limits_of self.old) (state_of self.old) then None else Some (ordered place stamp (state_of self.old))) else None)) }
+        ensures answer { IfOk result (Answers (state_of self.new)
+            (if nat_lt place.0 64 then (if adds_order stamp (stripe_at (state_of self.old) place) && is_full (limits_of self.old)
+            (state_of self.old) then None else Some (ordered place stamp (state_of self.old))) else None)) }
         ensures refused { result ≡ Ok false → state_of self.new ≡ state_of self.old }
         ensures err { OnErr result (state_of self.new ≡ state_of self.old) }
         ensures limits { limits_of self.new ≡ limits_of self.old }
@@ -248,7 +252,10 @@ impl Index {
     }
 
     fn change_log(&mut self, logged: &Logged) -> Result<bool, NoMem>
-        ensures answer { IfOk result (Answers (state_of self.new) (if nat_lt logged.now.group.0 64 then placed (place logged.now.group logged.now.view logged.now.stripe) (state_of self.old) (log_changed (limits_of self.old) (is_full (limits_of self.old) (state_of self.old)) logged.now.change logged.now.stamp (stripe_at (state_of self.old) (place logged.now.group logged.now.view logged.now.stripe))) else None)) }
+        ensures answer { IfOk result (Answers (state_of self.new)
+            (if nat_lt logged.now.group.0 64 then placed (place logged.now.group logged.now.view logged.now.stripe) (state_of self.old)
+            (log_changed (limits_of self.old) (is_full (limits_of self.old) (state_of self.old)) logged.now.change logged.now.stamp
+            (stripe_at (state_of self.old) (place logged.now.group logged.now.view logged.now.stripe))) else None)) }
         ensures refused { result ≡ Ok false → state_of self.new ≡ state_of self.old }
         ensures err { OnErr result (state_of self.new ≡ state_of self.old) }
         ensures limits { limits_of self.new ≡ limits_of self.old }

@@ -133,7 +133,8 @@ pub fn set_bottom(stripes: &mut BTreeMap<Place, Stripe>, place: Place, entry: En
 /// Drops the versions below a stamp.
 pub fn collect(stripes: &mut BTreeMap<Place, Stripe>, place: Place, stamp: Stamp)
     requires { HasRoom stripes.old place }
-    ensures { listed stripes.new.entries ≡ put place (with_collected stamp_of stamp (stripe_in (listed stripes.old.entries) place)) (listed stripes.old.entries) }
+    ensures { listed stripes.new.entries ≡ put place (with_collected stamp_of stamp (stripe_in (listed stripes.old.entries) place))
+        (listed stripes.old.entries) }
 {
     if let Some(stripe) = stripes.get_mut(&place) {
         stripe.from_start = stripe.from_start && !Stamp::FIRST.is_below(stamp);
@@ -167,7 +168,8 @@ pub fn change_log(
     full: bool,
 ) -> bool
     requires { HasRoom stripes.old place }
-    ensures answer { AnswersAt place (listed stripes.old.entries) (listed stripes.new.entries) (log_changed (slot_limits slots) full change stamp (stripe_in (listed stripes.old.entries) place)) result }
+    ensures answer { AnswersAt place (listed stripes.old.entries) (listed stripes.new.entries)
+        (log_changed (slot_limits slots) full change stamp (stripe_in (listed stripes.old.entries) place)) result }
 {
     match change {
         LogChange::Same => add_same(stripes, place, stamp, full),
@@ -197,7 +199,9 @@ fn newest(stripes: &BTreeMap<Place, Stripe>, place: Place) -> Option<Entry>
 
 fn add_same(stripes: &mut BTreeMap<Place, Stripe>, place: Place, stamp: Stamp, full: bool) -> bool
     requires { HasRoom stripes.old place }
-    ensures { AnswersAt place (listed stripes.old.entries) (listed stripes.new.entries) (if full then None else same_added (newest_entry (stripe_in (listed stripes.old.entries) place)) stamp (stripe_in (listed stripes.old.entries) place)) result }
+    ensures { AnswersAt place (listed stripes.old.entries) (listed stripes.new.entries)
+        (if full then None else same_added (newest_entry (stripe_in (listed stripes.old.entries) place)) stamp
+        (stripe_in (listed stripes.old.entries) place)) result }
 {
     if full {
         return false;
@@ -220,7 +224,9 @@ fn add_same(stripes: &mut BTreeMap<Place, Stripe>, place: Place, stamp: Stamp, f
 
 fn add_above(stripes: &mut BTreeMap<Place, Stripe>, place: Place, entry: Entry, full: bool) -> bool
     requires { HasRoom stripes.old place }
-    ensures { AnswersAt place (listed stripes.old.entries) (listed stripes.new.entries) (if full || not (is_above (newest_entry (stripe_in (listed stripes.old.entries) place)) entry.stamp) then None else Some (with_added entry (stripe_in (listed stripes.old.entries) place))) result }
+    ensures { AnswersAt place (listed stripes.old.entries) (listed stripes.new.entries)
+        (if full || not (is_above (newest_entry (stripe_in (listed stripes.old.entries) place)) entry.stamp) then None else Some
+        (with_added entry (stripe_in (listed stripes.old.entries) place))) result }
 {
     if full {
         return false;
@@ -236,7 +242,9 @@ fn add_above(stripes: &mut BTreeMap<Place, Stripe>, place: Place, entry: Entry, 
 
 fn add_bottom(stripes: &mut BTreeMap<Place, Stripe>, place: Place, entry: Entry, full: bool) -> bool
     requires { HasRoom stripes.old place }
-    ensures { AnswersAt place (listed stripes.old.entries) (listed stripes.new.entries) (if (length (stripe_in (listed stripes.old.entries) place).added == 0) && full then None else Some (with_bottom entry (stripe_in (listed stripes.old.entries) place))) result }
+    ensures { AnswersAt place (listed stripes.old.entries) (listed stripes.new.entries)
+        (if (length (stripe_in (listed stripes.old.entries) place).added == 0) && full then None else Some
+        (with_bottom entry (stripe_in (listed stripes.old.entries) place))) result }
 {
     let count = match find(stripes, place) {
         Some(stripe) => stripe.added.len(),
@@ -251,7 +259,9 @@ fn add_bottom(stripes: &mut BTreeMap<Place, Stripe>, place: Place, entry: Entry,
 
 fn collect_held(stripes: &mut BTreeMap<Place, Stripe>, place: Place, stamp: Stamp) -> bool
     requires { HasRoom stripes.old place }
-    ensures { AnswersAt place (listed stripes.old.entries) (listed stripes.new.entries) (if has_version stamp (stripe_in (listed stripes.old.entries) place) then Some (with_collected stamp_of stamp (stripe_in (listed stripes.old.entries) place)) else None) result }
+    ensures { AnswersAt place (listed stripes.old.entries) (listed stripes.new.entries)
+        (if has_version stamp (stripe_in (listed stripes.old.entries) place) then Some
+        (with_collected stamp_of stamp (stripe_in (listed stripes.old.entries) place)) else None) result }
 {
     let held = match find(stripes, place) {
         Some(stripe) => stripe.has(stamp),

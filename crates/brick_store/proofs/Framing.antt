@@ -154,5 +154,6 @@ logged_length r =
     omega (
       arith,
       two_less (number_bytes w32 r.group.0)
-          (number_bytes w32 r.view.0 ++ (number_bytes w32 r.stripe.0 ++ (stamp_bytes r.stamp ++ change_bytes r.change))) 4 31 (n32 r.group.0) numbered,
+          (number_bytes w32 r.view.0 ++ (number_bytes w32 r.stripe.0 ++ (stamp_bytes r.stamp ++ change_bytes r.change))) 4 31
+          (n32 r.group.0) numbered,
     )

@@ -49,7 +49,8 @@ all_but_last counted x = rw length-append (search (rules, take_at))
 
 heard_reply : (fresh : Option Stamp) (op : Operation) (from : BrickId) (call : Call) (reply : Reply) (seat : Option ℕ)
     → counts_at op.block op.group op.state from.0 call reply ≡ seat
-    → Heard fresh op (heard_at op from (messages.Reply call reply) seat) (on_reply op.block (block_code op.block) op.group fresh op.state from call reply) (is_some seat)
+    → Heard fresh op (heard_at op from (messages.Reply call reply) seat)
+    (on_reply op.block (block_code op.block) op.group fresh op.state from call reply) (is_some seat)
 unfolding on_reply
 heard_reply fresh op from call reply None is =
     record {
@@ -67,7 +68,8 @@ heard_reply fresh op from call reply (Some seat) is =
     record {
       ignored = λ none. absurd (false≢true (sym none));
       heard = λ some. ap (counted_at (block_code op.block) op.group fresh op.state from reply) is
-          ∙ not_full (nat_lt (length after.state.counted) (quorum_of op.group)) (Waits after.state) (decided (block_code op.block) op.group.m fresh after.state);
+          ∙ not_full (nat_lt (length after.state.counted) (quorum_of op.group)) (Waits after.state)
+          (decided (block_code op.block) op.group.m fresh after.state);
       unchanged = λ none. absurd (false≢true (sym none));
       uncounted = λ some. ap (λ (counted : List Counted). with_state op (record op.state { counted = counted })) (all_but_last op.state.counted _);
       stays = record { block = refl; group = refl; ask = refl };
@@ -106,7 +108,10 @@ decided_with fresh op from message full some is =
 
 -- once its reply is taken back, nothing has changed
 pub taken_back : (op : Operation) (from : BrickId) (message : Message) → counts op from message ≡ true
-    → with_state (heard op from message) (record (heard op from message).state { counted = take (length (heard op from message).state.counted - 1) (heard op from message).state.counted }) ≡ op
+    → with_state (heard op from message) (record (heard op from message).state {
+      counted = take (length (heard op from message).state.counted - 1)
+          (heard op from message).state.counted;
+    }) ≡ op
 taken_back op from message some = (heard_message None op from message).uncounted some
 
 -- a message changes neither what is asked nor the call
@@ -150,8 +155,10 @@ answers_ignored fresh before from message mid after answered heard_is none waits
     }
 
 -- with a reply that counts, but no quorum, it waits
-pub answers_waiting : (fresh : Option Stamp) (before : Operation) (from : BrickId) (message : Message) (mid after : Operation) (answered : Answer) (full : Bool)
-    → mid ≡ heard before from message → counts before from message ≡ true → full ≡ is_full mid → full ≡ false → answered ≡ Wait → after ≡ telling mid mid.state None
+pub answers_waiting : (fresh : Option Stamp) (before : Operation) (from : BrickId) (message : Message) (mid after : Operation) (answered : Answer)
+    (full : Bool)
+    → mid ≡ heard before from message → counts before from message ≡ true → full ≡ is_full mid → full ≡ false → answered ≡ Wait
+    → after ≡ telling mid mid.state None
     → Answers fresh before from message answered after
 answers_waiting fresh before from message mid after answered full heard_is some full_is few waits is =
     let machine : decided_on fresh before from message ≡ Waits mid.state =
@@ -168,7 +175,8 @@ answers_waiting fresh before from message mid after answered full heard_is some 
     }
 
 -- with a quorum it answers what the machine decides
-pub answers_decided : (fresh : Option Stamp) (before : Operation) (from : BrickId) (message : Message) (mid after : Operation) (answered : Answer) (full : Bool)
+pub answers_decided : (fresh : Option Stamp) (before : Operation) (from : BrickId) (message : Message) (mid after : Operation) (answered : Answer)
+    (full : Bool)
     → mid ≡ heard before from message → counts before from message ≡ true → full ≡ is_full mid → full ≡ true
     → decision after answered ≡ decided (block_code mid.block) mid.group.m fresh mid.state → SendsPhase after answered
     → after.note ≡ note_told mid.state.call (decided (block_code mid.block) mid.group.m fresh mid.state) → StaysAsked mid after
@@ -183,6 +191,7 @@ answers_decided fresh before from message mid after answered full heard_is some 
       decided = machine ∙ sym next ∙ sym (ap (λ (b : Bool). cond b (decision after answered) Ignores) some);
       ignored = λ none. absurd (false≢true (sym none ∙ some));
       sent = sent;
-      told = told ∙ ap (λ (c : Call). note_told c (decided (block_code mid.block) mid.group.m fresh mid.state)) call ∙ sym (ap (note_told before.state.call) machine);
+      told = told ∙ ap (λ (c : Call). note_told c (decided (block_code mid.block) mid.group.m fresh mid.state)) call
+          ∙ sym (ap (note_told before.state.call) machine);
       stays = heard_then before from message mid after heard_is stays;
     }

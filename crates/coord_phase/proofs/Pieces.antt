@@ -69,7 +69,8 @@ take-blocks_of size (suc n) (piece ∷ pieces) long =
 
 -- a block that a counted reply tells has the length of a block
 found_long : (block : ℕ) (t v : Stamp) (phase : Phase) (seat : ℕ) (brick : BrickId) (reply : Reply)
-    → answers_phase block t phase reply ≡ true → finds v (record { seat = seat; brick = brick; reply = reply }) ≡ true → length (found_bytes reply) ≡ block
+    → answers_phase block t phase reply ≡ true → finds v (record { seat = seat; brick = brick; reply = reply }) ≡ true
+    → length (found_bytes reply) ≡ block
 found_long block t v Looks seat brick (replies.Found order (Some version)) answers found = eqb-true (length version.block) block answers
 found_long block t v Orders seat brick (replies.Found order (Some version)) answers found = absurd (false≢true answers)
 found_long block t v Recovers seat brick (replies.Found order (Some version)) answers found = absurd (false≢true answers)
@@ -165,14 +166,17 @@ seats_at-apart : (counted : List Counted) (h i : ℕ) → are_apart counted ≡ 
 seats_at-apart [] h i apart first second other same = omega (arith, first)
 seats_at-apart (c ∷ counted) zero zero apart first second other same = other refl
 seats_at-apart (c ∷ counted) zero (suc i) apart first second other same =
-    seat_at-other c.seat counted i (not-true (has_seat c.seat counted) (and_parts (not (has_seat c.seat counted)) (are_apart counted) apart).0) (omega (arith, second)) (sym same)
+    seat_at-other c.seat counted i (not-true (has_seat c.seat counted) (and_parts (not (has_seat c.seat counted)) (are_apart counted) apart).0)
+    (omega (arith, second)) (sym same)
 seats_at-apart (c ∷ counted) (suc h) zero apart first second other same =
-    seat_at-other c.seat counted h (not-true (has_seat c.seat counted) (and_parts (not (has_seat c.seat counted)) (are_apart counted) apart).0) (omega (arith, first)) same
+    seat_at-other c.seat counted h (not-true (has_seat c.seat counted) (and_parts (not (has_seat c.seat counted)) (are_apart counted) apart).0)
+    (omega (arith, first)) same
 seats_at-apart (c ∷ counted) (suc h) (suc i) apart first second other same =
     seats_at-apart counted h i (and_parts (not (has_seat c.seat counted)) (are_apart counted) apart).1 (omega (arith, first)) (omega (arith, second))
     (λ e. other (ap suc e)) same
 
-below_limit : (n : ℕ) (counted : List Counted) → n ≤ 32 → list_all (λ c. nat_lt c.seat n) counted ≡ true → list_all (λ c. nat_lt c.seat 32) counted ≡ true
+below_limit : (n : ℕ) (counted : List Counted) → n ≤ 32 → list_all (λ c. nat_lt c.seat n) counted ≡ true
+    → list_all (λ c. nat_lt c.seat 32) counted ≡ true
 below_limit n [] few all = refl
 below_limit n (c ∷ counted) few all =
     let parts = and_parts (nat_lt c.seat n) (list_all (λ c. nat_lt c.seat n) counted) all in
@@ -205,7 +209,8 @@ pub record GiveBack (m block : ℕ) (pieces : List Piece) (seats blocks : List �
   pub first : AreFirst m block pieces (take m seats) (take (m * block) blocks)
 
 -- so do those of a version that m counted replies tell
-pub give_back : (block : ℕ) (group : Group) (c : Coordinator) (v : Stamp) (m : ℕ) (seats blocks : List ℕ) → IsInPhase block group c → length group.members ≤ 32
+pub give_back : (block : ℕ) (group : Group) (c : Coordinator) (v : Stamp) (m : ℕ) (seats blocks : List ℕ) → IsInPhase block group c
+    → length group.members ≤ 32
     → m ≤ length (pieces_at v c.counted) → seats ≡ seats_of (pieces_at v c.counted) → blocks ≡ blocks_of (pieces_at v c.counted)
     → GiveBack m block (pieces_at v c.counted) seats blocks
 give_back block group c v m seats blocks is few enough seats_are blocks_are =
@@ -215,7 +220,8 @@ give_back block group c v m seats blocks is few enough seats_are blocks_are =
     let below = below_limit (length group.members) (take m found) few (all-take _ m found (all-filter _ (finds v) c.counted is.seats)) in
     let apart = apart-take m found (apart-filter (finds v) c.counted is.apart) in
     let count : length (take m found) ≡ m = length-take_first m found (omega (arith, enough, length-pieces_of found)) in
-    let firsts : take m seats ≡ seats_of (pieces_of (take m found)) = ap (take m) seats_are ∙ take-seats_of m pieces ∙ ap seats_of (take-pieces_of m found) in
+    let firsts : take m seats ≡ seats_of (pieces_of (take m found)) = ap (take m) seats_are ∙ take-seats_of m pieces
+    ∙ ap seats_of (take-pieces_of m found) in
     let whole : length blocks ≡ length pieces * block = ap length blocks_are ∙ length-blocks_of block pieces long in
     let room : m * block ≤ length blocks = omega (arith, whole, mul-le-mul_right block enough) in
     record {
@@ -230,7 +236,8 @@ give_back block group c v m seats blocks is few enough seats_are blocks_are =
     }
 
 -- a content that is given back has m blocks
-length-blocks : (size : ℕ) (f : ℕ → List ℕ) (places : List ℕ) → ((j : ℕ) → length (f j) ≡ size) → length (concat (map f places)) ≡ length places * size
+length-blocks : (size : ℕ) (f : ℕ → List ℕ) (places : List ℕ) → ((j : ℕ) → length (f j) ≡ size)
+    → length (concat (map f places)) ≡ length places * size
 length-blocks size f [] each = omega arith
 length-blocks size f (j ∷ places) each =
     let rest = length-blocks size f places each in

@@ -37,7 +37,8 @@ apart-take (suc n) (c ∷ counted) apart =
     (ap not (seat-take c.seat n counted (not-true (has_seat c.seat counted) parts.0))) (apart-take n counted parts.1)
 
 -- the first n replies of a phase are such
-pub fewer_replies : (block : ℕ) (group : Group) (c : Coordinator) (n : ℕ) → IsInPhase block group c → IsInPhase block group (record c { counted = take n c.counted })
+pub fewer_replies : (block : ℕ) (group : Group) (c : Coordinator) (n : ℕ) → IsInPhase block group c
+    → IsInPhase block group (record c { counted = take n c.counted })
 fewer_replies block group c n is =
     record {
       long = is.long;
@@ -53,13 +54,15 @@ all-more p [] x all here = and_from (p x) true here refl
 all-more p (y ∷ xs) x all here =
     let parts = and_parts (p y) (list_all p xs) all in and_from (p y) (list_all p (xs ++ (x ∷ []))) parts.0 (all-more p xs x parts.1 here)
 
-seat-more : (seat : ℕ) (counted : List Counted) (x : Counted) → has_seat seat counted ≡ false → nat_eq x.seat seat ≡ false → has_seat seat (counted ++ (x ∷ [])) ≡ false
+seat-more : (seat : ℕ) (counted : List Counted) (x : Counted) → has_seat seat counted ≡ false → nat_eq x.seat seat ≡ false
+    → has_seat seat (counted ++ (x ∷ [])) ≡ false
 seat-more seat [] x none other = or_from (nat_eq x.seat seat) false other refl
 seat-more seat (c ∷ counted) x none other =
     let parts = or_parts (nat_eq c.seat seat) (has_seat seat counted) none in
     or_from (nat_eq c.seat seat) (has_seat seat (counted ++ (x ∷ []))) parts.0 (seat-more seat counted x parts.1 other)
 
-apart-more : (counted : List Counted) (x : Counted) → are_apart counted ≡ true → has_seat x.seat counted ≡ false → are_apart (counted ++ (x ∷ [])) ≡ true
+apart-more : (counted : List Counted) (x : Counted) → are_apart counted ≡ true → has_seat x.seat counted ≡ false
+    → are_apart (counted ++ (x ∷ [])) ≡ true
 apart-more [] x apart none = refl
 apart-more (c ∷ counted) x apart none =
     let parts = and_parts (not (has_seat c.seat counted)) (are_apart counted) apart in

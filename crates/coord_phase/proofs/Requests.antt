@@ -36,7 +36,8 @@ same_requests : (counted : List Counted) (call : Call) (asked other : ℕ → Re
 same_requests counted call asked other seat [] same = refl
 same_requests counted call asked other seat (member ∷ members) same =
     let rest = same_requests counted call asked other (seat + 1) members same in
-    ap (λ (r : Request). cond (has_seat seat counted) (to_silent counted call asked (seat + 1) members) ((member, messages.Request call r) ∷ to_silent counted call asked (seat + 1) members)) (same seat)
+    ap (λ (r : Request). cond (has_seat seat counted) (to_silent counted call asked (seat + 1) members)
+    ((member, messages.Request call r) ∷ to_silent counted call asked (seat + 1) members)) (same seat)
     ∙ ap (λ sent. cond (has_seat seat counted) sent ((member, messages.Request call (other seat)) ∷ sent)) rest
 
 -- so a stage's messages are the phase's
@@ -50,18 +51,23 @@ pub all_asked : (me : BrickId) (call : Call) (asked : ℕ → Request) (seat : �
     → packets_from me (to_silent [] call asked seat members) ≡ to_members me call asked seat members
 all_asked me call asked seat [] = refl
 all_asked me call asked seat (member ∷ members) =
-    ap (λ packets. record { from = me; to = member; message = messages.Request call (asked seat) } ∷ packets) (all_asked me call asked (seat + 1) members)
+    ap (λ packets. record { from = me; to = member; message = messages.Request call (asked seat) } ∷ packets)
+    (all_asked me call asked (seat + 1) members)
 
 -- a member with a counted reply is passed
-pub silent_passed : (sent : List (BrickId × Message)) (counted : List Counted) (call : Call) (asked : ℕ → Request) (seat : ℕ) (members : List BrickId) (all : List (BrickId × Message))
+pub silent_passed : (sent : List (BrickId × Message)) (counted : List Counted) (call : Call) (asked : ℕ → Request) (seat : ℕ) (members : List BrickId)
+    (all : List (BrickId × Message))
     → seat < length members → has_seat seat counted ≡ true → sent ++ to_silent counted call asked seat (drop seat members) ≡ all
     → sent ++ to_silent counted call asked (seat + 1) (drop (seat + 1) members) ≡ all
 silent_passed sent counted call asked seat members all within has so_far =
     let nobody : BrickId = record { 0 = 0 } in
-    let here : to_silent counted call asked seat (drop seat members) ≡ to_silent counted call asked seat (get_or members seat nobody ∷ drop (seat + 1) members)
+    let here : to_silent counted call asked seat (drop seat members) ≡ to_silent counted call asked seat
+    (get_or members seat nobody ∷ drop (seat + 1) members)
     = at_drop_more (to_silent counted call asked seat) members seat nobody within in
-    let passed : to_silent counted call asked seat (get_or members seat nobody ∷ drop (seat + 1) members) ≡ to_silent counted call asked (seat + 1) (drop (seat + 1) members)
-    = ap (λ (b : Bool). cond b (to_silent counted call asked (seat + 1) (drop (seat + 1) members)) ((get_or members seat nobody, messages.Request call (asked seat)) ∷ to_silent counted call asked (seat + 1) (drop (seat + 1) members))) has in
+    let passed : to_silent counted call asked seat (get_or members seat nobody ∷ drop (seat + 1) members) ≡ to_silent counted call asked (seat + 1)
+    (drop (seat + 1) members)
+    = ap (λ (b : Bool). cond b (to_silent counted call asked (seat + 1) (drop (seat + 1) members))
+    ((get_or members seat nobody, messages.Request call (asked seat)) ∷ to_silent counted call asked (seat + 1) (drop (seat + 1) members))) has in
     ap (λ rest. sent ++ rest) (sym (here ∙ passed)) ∙ so_far
 
 -- a phase that begins sends its stage's messages
@@ -71,5 +77,6 @@ pub begun_messages : (block : ℕ) (group : Group) (c : Coordinator) (sent : Lis
 begun_messages block group c sent content counted is same none =
     is
     ∙ ap (λ (z : List ℕ). to_silent [] c.call (stage_request (block_code block) group.m (stage_of c) z) 0 group.members) same
-    ∙ ap (λ (z : List Counted). to_silent z c.call (stage_request (block_code block) group.m (stage_of c) (stored_content c)) 0 group.members) (sym none)
+    ∙ ap (λ (z : List Counted). to_silent z c.call (stage_request (block_code block) group.m (stage_of c) (stored_content c)) 0 group.members)
+    (sym none)
     ∙ asked_by_stage block group (record c { counted = counted })

@@ -97,7 +97,8 @@ decided_on fresh op from (Message.Reply call reply) =
 decided_on fresh op from message = machine.Ignores
 
 -- An operation that heard a message answers, holds and tells what the machine decides: after a message that does not count it waits, as it was.
-pub record Answers (fresh : Option Stamp) (before : Operation) (from : BrickId) (message : Message) (answered : Next) (after : Operation) : Type 0 where
+pub record Answers (fresh : Option Stamp) (before : Operation) (from : BrickId) (message : Message) (answered : Next)
+    (after : Operation) : Type 0 where
   pub decided : decided_on fresh before from message ≡ (if counts before from message then decision after answered else machine.Ignores)
   pub ignored : counts before from message ≡ false → IsWait answered × (after.state ≡ before.state)
   pub sent : SendsPhase after answered

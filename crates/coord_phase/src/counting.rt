@@ -122,7 +122,10 @@ impl Operation {
 
     /// Forgets the last reply that counted.
     pub fn uncount(&mut self)
-        ensures { self.new ≡ with_state self.old (record self.old.state { counted = take (length self.old.state.counted - 1) self.old.state.counted }) }
+        ensures { self.new ≡ with_state self.old (record self.old.state {
+          counted = take
+              (length self.old.state.counted - 1) self.old.state.counted;
+        }) }
     {
         let count = self.counted.len();
         self.counted.truncate(count.saturating_sub(1));

@@ -59,7 +59,8 @@ pub(crate) fn messages(
     counted: &[Counted],
 ) -> Result<Messages, NoMem>
     requires { StoresBlocks block group.now.m content.now stage.phase }
-    ensures { IfOk result (λ messages. messages.items ≡ to_silent counted.now stage.call (stage_request (block_code block) group.now.m stage content.now) 0 group.now.members) }
+    ensures { IfOk result (λ messages. messages.items ≡ to_silent counted.now stage.call
+        (stage_request (block_code block) group.now.m stage content.now) 0 group.now.members) }
 {
     let mut messages = Vec::new(alloc);
     for (seat, member) in group.members().as_slice().iter().enumerate() {

@@ -54,7 +54,8 @@ impl Model for Operation {
       made = op.made;
     } };
 
-    ghost invariant = { λ op. IsInPhase op.block op.group (record { ask = op.ask; stamp = op.stage.stamp; round = op.stage.round; base = op.base; content = op.content; call = op.stage.call; phase = op.stage.phase; counted = op.counted.items }) };
+    ghost invariant = { λ op. IsInPhase op.block op.group
+        (record { ask = op.ask; stamp = op.stage.stamp; round = op.stage.round; base = op.base; content = op.content; call = op.stage.call; phase = op.stage.phase; counted = op.counted.items }) };
 }
 
 /// A group of these members, within the limits of a quorum.
@@ -135,7 +136,8 @@ impl Operation {
     ) -> Operation
         requires limits { IsWithinLimits (group_in_view layout.now view.now.members ask.group.0).m (length view.now.members) }
         requires length { has_length (group_in_view layout.now view.now.members ask.group.0).m layout.now.block ask.op ≡ true }
-        requires content { StoresBlocks layout.now.block (group_in_view layout.now view.now.members ask.group.0).m (stored_by ask.op content) stage.phase }
+        requires content { StoresBlocks layout.now.block (group_in_view layout.now view.now.members ask.group.0).m
+            (stored_by ask.op content) stage.phase }
         ensures { result ≡ record {
           block = layout.now.block;
           group = group_in_view layout.now view.now.members ask.group.0;

@@ -112,7 +112,8 @@ impl Operation {
     pub fn restore(&mut self, alloc: Global, base: Stamp, content: Bytes) -> Result<Messages, NoMem>
         requires phase { self.old.state.call.phase < 2 ^ 32 - 1 }
         requires content { length (stored_by self.old.state.ask.op content) ≡ self.old.group.m * self.old.block }
-        ensures state { OnOk result (self.new ≡ telling self.old (restoring self.old.state base content) (Some (note_of (restoring self.old.state base content)))) }
+        ensures state { OnOk result (self.new ≡ telling self.old (restoring self.old.state base content)
+            (Some (note_of (restoring self.old.state base content)))) }
         ensures messages { IfOk result (λ messages. messages.items ≡ phase_messages self.new) }
         ensures err { OnErr result (self.new ≡ self.old) }
     {
@@ -192,7 +193,8 @@ impl Operation {
     /// Ends the operation with the version that it stored, unless a member told a later stamp. Where memory runs out nothing has
     /// changed.
     pub fn end_store(&mut self, alloc: Global) -> Result<Next, NoMem>
-        ensures next { IfOk result (λ next. decision self.new next ≡ unless_refused (greatest_refuser self.old.state.counted) (Ends (answer_of self.old.state.ask.op self.old.state.content) None (Some self.old.state.stamp))) }
+        ensures next { IfOk result (λ next. decision self.new next ≡ unless_refused (greatest_refuser self.old.state.counted)
+            (Ends (answer_of self.old.state.ask.op self.old.state.content) None (Some self.old.state.stamp))) }
         ensures sent { IfOk result (λ next. SendsPhase self.new next) }
         ensures never { IfOk result NeverRecovers }
         ensures told { OnOk result (self.new.note ≡ None) }

@@ -96,4 +96,5 @@ nothing_told_at_end call (Some r) answer stored = refl
 pub nothing_told_again : (call : Call) (fresh : Option Stamp) (c : Coordinator) (r : Refuser) → note_told call (ordered_again fresh c r) ≡ None
 nothing_told_again call None c r = refl
 nothing_told_again call (Some t) c r =
-    cond_both (nat_lt c.round machine.most_rounds) (machine.Sends (reordering c t)) (aborted_by r) (λ (next : machine.Next). note_told call next ≡ None) (λ _. refl) (λ _. refl)
+    cond_both (nat_lt c.round machine.most_rounds) (machine.Sends (reordering c t)) (aborted_by r)
+    (λ (next : machine.Next). note_told call next ≡ None) (λ _. refl) (λ _. refl)

@@ -60,7 +60,8 @@ impl Recovery {
         requires limits { IsWithinLimits (group_in_view layout.now view.members ask.group.0).m (length view.members) }
         requires phase { 1 ≤ phase }
         requires length { has_length (group_in_view layout.now view.members ask.group.0).m layout.now.block ask.op ≡ true }
-        requires content { StoresBlocks layout.now.block (group_in_view layout.now view.members ask.group.0).m (stored_by ask.op (turn_content turn)) (turn_phase turn) }
+        requires content { StoresBlocks layout.now.block (group_in_view layout.now view.members ask.group.0).m (stored_by ask.op (turn_content turn))
+            (turn_phase turn) }
         ensures op { IfOk result (λ begun. begun.0 ≡ begun_op layout.now view call phase ask stamp turn) }
         ensures send { IfOk result (λ begun. IsSend begun.1) }
         ensures sent { IfOk result (λ begun. SendsPhase begun.0 begun.1) }
@@ -133,10 +134,12 @@ impl Recovery {
     /// the greatest version below it. Where they tell none, forgets them, and waits for more. After want of memory nothing has changed.
     fn read_back(&mut self) -> Result<Next, NoMem>
         requires phase { self.old.state.call.phase < 2 ^ 32 - 1 }
-        ensures next { IfOk result (λ next. decision self.new next ≡ read_back (block_code self.old.block) self.old.group.m self.old.state (greatest_found self.old.state.counted)) }
+        ensures next { IfOk result (λ next. decision self.new next ≡ read_back (block_code self.old.block) self.old.group.m self.old.state
+            (greatest_found self.old.state.counted)) }
         ensures sent { IfOk result (λ next. SendsPhase self.new next) }
         ensures never { IfOk result NeverRecovers }
-        ensures told { OnOk result (self.new.note ≡ note_told self.old.state.call (read_back (block_code self.old.block) self.old.group.m self.old.state (greatest_found self.old.state.counted))) }
+        ensures told { OnOk result (self.new.note ≡ note_told self.old.state.call
+            (read_back (block_code self.old.block) self.old.group.m self.old.state (greatest_found self.old.state.counted))) }
         ensures stays { OnOk result (StaysAsked self.old self.new) }
         ensures err { OnErr result (self.new ≡ self.old) }
     {
@@ -161,7 +164,8 @@ impl Recovery {
         ensures next { IfOk result (λ next. decision self.new next ≡ decided (block_code self.old.block) self.old.group.m fresh self.old.state) }
         ensures sent { IfOk result (λ next. SendsPhase self.new next) }
         ensures never { IfOk result NeverRecovers }
-        ensures told { OnOk result (self.new.note ≡ note_told self.old.state.call (decided (block_code self.old.block) self.old.group.m fresh self.old.state)) }
+        ensures told { OnOk result (self.new.note ≡ note_told self.old.state.call
+            (decided (block_code self.old.block) self.old.group.m fresh self.old.state)) }
         ensures stays { OnOk result (StaysAsked self.old self.new) }
         ensures err { OnErr result (self.new ≡ self.old) }
     {

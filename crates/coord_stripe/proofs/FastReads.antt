@@ -12,7 +12,8 @@ use Rattle.protocol.specs.Coordinators.{tells, all_tell, finds, pieces_of, piece
 use Rattle.coord_phase.proofs.Pieces.{length-pieces_of}
 
 -- a reply that tells it as the newest tells it
-tells_found : (v : Stamp) (seat : ℕ) (brick : BrickId) (reply : Reply) → tells v reply ≡ true → finds v (record { seat = seat; brick = brick; reply = reply }) ≡ true
+tells_found : (v : Stamp) (seat : ℕ) (brick : BrickId) (reply : Reply) → tells v reply ≡ true
+    → finds v (record { seat = seat; brick = brick; reply = reply }) ≡ true
 tells_found v seat brick (replies.Found order (Some version)) told = (and_parts (stamp_same version.stamp v) (not (stamp_below v order)) told).0
 tells_found v seat brick reply told = absurd (false≢true told)
 

@@ -151,9 +151,11 @@ impl StripeOp {
     fn end_look(&mut self) -> Result<Next, NoMem>
         requires phase { self.old.state.phase ≡ Looks }
         requires enough { self.old.group.m ≤ length self.old.state.counted }
-        ensures next { IfOk result (λ next. decision self.new next ≡ answered_fast (block_code self.old.block) self.old.group.m self.old.state (fast_version self.old.state.counted)) }
+        ensures next { IfOk result (λ next. decision self.new next ≡ answered_fast (block_code self.old.block) self.old.group.m self.old.state
+            (fast_version self.old.state.counted)) }
         ensures sent { IfOk result (λ next. SendsPhase self.new next) }
-        ensures told { OnOk result (self.new.note ≡ note_told self.old.state.call (answered_fast (block_code self.old.block) self.old.group.m self.old.state (fast_version self.old.state.counted))) }
+        ensures told { OnOk result (self.new.note ≡ note_told self.old.state.call
+            (answered_fast (block_code self.old.block) self.old.group.m self.old.state (fast_version self.old.state.counted))) }
         ensures stays { OnOk result (StaysAsked self.old self.new) }
         ensures err { OnErr result (self.new ≡ self.old) }
     {
@@ -168,9 +170,11 @@ impl StripeOp {
     fn end_order(&mut self, fresh: Option<Stamp>) -> Result<Next, NoMem>
         requires phase { self.old.state.phase ≡ Orders }
         requires few { self.old.state.call.phase < 2 ^ 32 - 1 }
-        ensures next { IfOk result (λ next. decision self.new next ≡ once_ordered fresh self.old.state (greatest_refuser self.old.state.counted) (Makes (in_phase self.old.state Stores))) }
+        ensures next { IfOk result (λ next. decision self.new next ≡ once_ordered fresh self.old.state (greatest_refuser self.old.state.counted)
+            (Makes (in_phase self.old.state Stores))) }
         ensures sent { IfOk result (λ next. SendsPhase self.new next) }
-        ensures told { OnOk result (self.new.note ≡ note_told self.old.state.call (once_ordered fresh self.old.state (greatest_refuser self.old.state.counted) (Makes (in_phase self.old.state Stores)))) }
+        ensures told { OnOk result (self.new.note ≡ note_told self.old.state.call
+            (once_ordered fresh self.old.state (greatest_refuser self.old.state.counted) (Makes (in_phase self.old.state Stores)))) }
         ensures stays { OnOk result (StaysAsked self.old self.new) }
         ensures err { OnErr result (self.new ≡ self.old) }
     {
@@ -188,7 +192,8 @@ impl StripeOp {
         requires few { self.old.state.call.phase < 2 ^ 32 - 1 }
         ensures next { IfOk result (λ next. decision self.new next ≡ decided (block_code self.old.block) self.old.group.m fresh self.old.state) }
         ensures sent { IfOk result (λ next. SendsPhase self.new next) }
-        ensures told { OnOk result (self.new.note ≡ note_told self.old.state.call (decided (block_code self.old.block) self.old.group.m fresh self.old.state)) }
+        ensures told { OnOk result (self.new.note ≡ note_told self.old.state.call
+            (decided (block_code self.old.block) self.old.group.m fresh self.old.state)) }
         ensures stays { OnOk result (StaysAsked self.old self.new) }
         ensures err { OnErr result (self.new ≡ self.old) }
     {

@@ -79,7 +79,8 @@ stamp_is a = refl
 
 -- equal fields make equal stamps
 pub stamp_of_fields : (a b : Stamp) → a.view.0 ≡ b.view.0 → a.time ≡ b.time → a.brick.0 ≡ b.brick.0 → a.boot ≡ b.boot → a ≡ b
-stamp_of_fields a b v t k o = stamp_is a ∙ (let e : stamp_of a.view.0 a.time a.brick.0 a.boot ≡ stamp_of b.view.0 b.time b.brick.0 b.boot = cc in e) ∙ sym (stamp_is b)
+stamp_of_fields a b v t k o = stamp_is a ∙ (let e : stamp_of a.view.0 a.time a.brick.0 a.boot ≡ stamp_of b.view.0 b.time b.brick.0 b.boot = cc in e)
+    ∙ sym (stamp_is b)
 
 -- stamps that test the same are equal
 pub stamp_same_true : (a b : Stamp) → stamp_same a b ≡ true → a ≡ b

@@ -11,7 +11,8 @@ use Rattle.fab_disk.specs.Settled.{rolled_back, is_uncertain}
 use Rattle.fab_disk.specs.Medium.{IsWrittenOver}
 
 -- one write more tears what might have been left before
-pub write_crash : (at n : ℕ) (old new : List Past) (content after : List ℕ) → IsWrittenOver at n old new content after → (image : List ℕ) → IsImage new after image
+pub write_crash : (at n : ℕ) (old new : List Past) (content after : List ℕ) → IsWrittenOver at n old new content after → (image : List ℕ)
+    → IsImage new after image
     → (before : List ℕ) × IsImage old content before × Torn at n before image
 write_crash at n old new content after over image left =
     let torn : IsImage (wrote over.change ∷ old) after image = subst (λ (p : List Past). IsImage p after image) over.remembered left in
@@ -21,15 +22,19 @@ write_crash at n old new content after over image left =
 pub rolled_back_is_image : (past : List Past) (content : List ℕ) → IsImage past content (rolled_back past content)
 rolled_back_is_image [] content = refl
 rolled_back_is_image (synced ∷ older) content = refl
-rolled_back_is_image (wrote w ∷ older) content =
-    (rolled_back older (undone w content), rolled_back_is_image older (undone w content), record { kept = λ i lt out. refl; no_shorter = omega arith; no_longer = omega arith })
+rolled_back_is_image (wrote w ∷ older) content = (
+  rolled_back older (undone w content),
+  rolled_back_is_image older (undone w content),
+  record { kept = λ i lt out. refl; no_shorter = omega arith; no_longer = omega arith },
+)
 
 -- the bytes are those of the content at each place that is certain
 pub record IsSameWhereCertain (past : List Past) (content image : List ℕ) : Type 0 where
   pub size : length image ≡ length content
   pub certain : (i : ℕ) → i < length content → is_uncertain past (length content) i ≡ false → get_or image i 0 ≡ get_or content i 0
 
-same_if_certain : (content image : List ℕ) → length image ≡ length content → ((i : ℕ) → i < length content → nat_le (length content) i ≡ false → get_or image i 0 ≡ get_or content i 0) → image ≡ content
+same_if_certain : (content image : List ℕ) → length image ≡ length content → ((i : ℕ) → i < length content → nat_le (length content) i ≡ false
+    → get_or image i 0 ≡ get_or content i 0) → image ≡ content
 same_if_certain content image size certain =
     same_number_lists image content size (λ i lt. let within : i < length content = omega arith in certain i within (below (length content) i within))
   where
@@ -37,11 +42,13 @@ same_if_certain content image size certain =
     below n i lt = grind (arith, nat_tests)
 
 -- so too before a write
-certain_before : (w : Change) (older : List Past) (content image : List ℕ) → IsPlaced w (length content) → IsSameWhereCertain (wrote w ∷ older) content image
+certain_before : (w : Change) (older : List Past) (content image : List ℕ) → IsPlaced w (length content)
+    → IsSameWhereCertain (wrote w ∷ older) content image
     → IsSameWhereCertain older (undone w content) (undone w image)
 certain_before w older content image placed same =
     let size = length-undone w content placed.within placed.no_shorter in
-    let image_size : length (undone w image) ≡ w.length_before = length-undone w image (omega (arith, same.size, placed.within)) (omega (arith, same.size, placed.no_shorter)) in
+    let image_size : length (undone w image) ≡ w.length_before = length-undone w image (omega (arith, same.size, placed.within))
+    (omega (arith, same.size, placed.no_shorter)) in
     record {
       size = image_size ∙ sym size;
       certain = λ i lt is. place i (omega arith) (subst (λ (n : ℕ). is_uncertain older n i ≡ false) size is);
@@ -51,7 +58,8 @@ certain_before w older content image placed same =
     outside i (inl low) = grind (arith, nat_tests)
     outside i (inr high) = grind (arith, nat_tests)
 
-    stays : (i : ℕ) → i < w.length_before → (i < w.at) ⊎ (w.at + w.len ≤ i) → is_uncertain older w.length_before i ≡ false → get_or image i 0 ≡ get_or content i 0
+    stays : (i : ℕ) → i < w.length_before → (i < w.at) ⊎ (w.at + w.len ≤ i) → is_uncertain older w.length_before i ≡ false
+        → get_or image i 0 ≡ get_or content i 0
     stays i lt out is =
         same.certain i (omega (arith, placed.no_shorter)) (ap (λ (t : Bool). t || is_uncertain older w.length_before i) (outside i out) ∙ is)
 
@@ -67,12 +75,14 @@ certain_before w older content image placed same =
         ]
 
 -- any bytes at the places that are uncertain may be left
-pub drawn_is_image : (past : List Past) (content image : List ℕ) → Fits past (length content) → IsSameWhereCertain past content image → IsImage past content image
+pub drawn_is_image : (past : List Past) (content image : List ℕ) → Fits past (length content) → IsSameWhereCertain past content image
+    → IsImage past content image
 drawn_is_image [] content image fits same = same_if_certain content image same.size same.certain
 drawn_is_image (synced ∷ older) content image fits same = same_if_certain content image same.size same.certain
 drawn_is_image (wrote w ∷ older) content image fits same =
     let size = length-undone w content fits.0.within fits.0.no_shorter in (
       undone w image,
-      drawn_is_image older (undone w content) (undone w image) (subst (Fits older) (sym size) fits.1) (certain_before w older content image fits.0 same),
+      drawn_is_image older (undone w content) (undone w image) (subst (Fits older) (sym size) fits.1)
+          (certain_before w older content image fits.0 same),
       torn_undone w image (subst (IsPlaced w) (sym same.size) fits.0),
     )

@@ -4,7 +4,8 @@ use Rattle.fab_disk.specs.Disk.{Elapses, LeavesOnly, Kept, Rose}
 
 module _ {D : Type 0} (moment : D → ℕ) (left_since : D → ℕ → List ℕ → Type 0) where
   -- before the first call
-  pub started : (old : D) (P : List ℕ → Type 0) → ((image : List ℕ) → left_since old (moment old) image → P image) → LeavesOnly moment left_since old old P
+  pub started : (old : D) (P : List ℕ → Type 0) → ((image : List ℕ) → left_since old (moment old) image → P image)
+      → LeavesOnly moment left_since old old P
   started old P here = record { later = omega arith; each = here; before = λ t image le left. inl left }
 
   -- one call more, after which a crash leaves what has P
@@ -14,11 +15,13 @@ module _ {D : Type 0} (moment : D → ℕ) (left_since : D → ℕ → List ℕ 
   goes_on old mid new P may_leave so_far time here = record {
     later = omega (arith, so_far.later, time.later);
     each = λ image left. ⊎_elim (so_far.each image) (here image) (time.nothing_else (moment old) image so_far.later left);
-    before = λ t image le left. ⊎_elim (so_far.before t image le) (λ now. inr (here image now)) (time.nothing_else t image (omega (arith, le, so_far.later)) left);
+    before = λ t image le left. ⊎_elim (so_far.before t image le) (λ now. inr (here image now))
+        (time.nothing_else t image (omega (arith, le, so_far.later)) left);
   }
 
   -- one run after another
-  pub joined : (old mid new : D) (P : List ℕ → Type 0) → LeavesOnly moment left_since old mid P → LeavesOnly moment left_since mid new P → LeavesOnly moment left_since old new P
+  pub joined : (old mid new : D) (P : List ℕ → Type 0) → LeavesOnly moment left_since old mid P → LeavesOnly moment left_since mid new P
+      → LeavesOnly moment left_since old new P
   joined old mid new P first second = record {
     later = omega (arith, first.later, second.later);
     each = λ image left. ⊎_elim (first.each image) (λ now. now) (second.before (moment old) image first.later left);
@@ -26,7 +29,8 @@ module _ {D : Type 0} (moment : D → ℕ) (left_since : D → ℕ → List ℕ 
   }
 
   -- what has P has Q
-  pub widened : (old new : D) (P Q : List ℕ → Type 0) → ((image : List ℕ) → P image → Q image) → LeavesOnly moment left_since old new P → LeavesOnly moment left_since old new Q
+  pub widened : (old new : D) (P Q : List ℕ → Type 0) → ((image : List ℕ) → P image → Q image) → LeavesOnly moment left_since old new P
+      → LeavesOnly moment left_since old new Q
   widened old new P Q wider run = record {
     later = run.later;
     each = λ image left. wider image (run.each image left);

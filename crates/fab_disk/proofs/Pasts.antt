@@ -16,7 +16,8 @@ pub past_wrote : (steps : List Step) (w : Overwrite) (saved before : List ℕ) �
 past_wrote steps w saved before kept =
     let seam : length saved ≡ length (saved ++ before) - w.kept = omega (arith, length-append saved before) in
     ap (λ (s : List Step). past_of s (saved ++ before)) (reverse-append steps (Wrote w ∷ []))
-    ∙ ap (λ (b : List ℕ). wrote (change_of w b) ∷ past_of (reverse steps) (take (length (saved ++ before) - w.kept) (saved ++ before))) (drop_at saved before _ seam)
+    ∙ ap (λ (b : List ℕ). wrote (change_of w b) ∷ past_of (reverse steps) (take (length (saved ++ before) - w.kept) (saved ++ before)))
+    (drop_at saved before _ seam)
     ∙ ap (λ (b : List ℕ). wrote (change_of w before) ∷ past_of (reverse steps) b) (take_at saved before _ seam)
 
 -- one sync more

@@ -21,7 +21,8 @@ same_places (Wrote w ∷ steps) a b size i =
 
 -- what a newer write adds
 pub uncertain_wrote : (steps : List Step) (w : Overwrite) (size i : ℕ)
-    → is_uncertain (past_of (reverse (steps ++ Wrote w ∷ [])) []) size i ≡ (in_range w i || is_uncertain (past_of (reverse steps) []) w.length_before i)
+    → is_uncertain (past_of (reverse (steps ++ Wrote w ∷ [])) []) size i ≡
+    (in_range w i || is_uncertain (past_of (reverse steps) []) w.length_before i)
 uncertain_wrote steps w size i =
     ap (λ (s : List Step). is_uncertain (past_of s []) size i) (reverse-append steps (Wrote w ∷ []))
     ∙ ap (λ (t : Bool). in_range w i || t) (same_places (reverse steps) (take (0 - w.kept) []) [] w.length_before i)

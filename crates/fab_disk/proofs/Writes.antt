@@ -28,16 +28,24 @@ written_none at [] old none = refl
 written_none at (byte ∷ bytes) old none = absurd (omega arith)
 
 -- each byte outside, after an overlay
-overlaid_get : (at : ℕ) (bytes whole : List ℕ) (i : ℕ) → at + length bytes ≤ length whole → IsOutside at (length bytes) i → get_or (overlaid at bytes whole) i 0 ≡ get_or whole i 0
+overlaid_get : (at : ℕ) (bytes whole : List ℕ) (i : ℕ) → at + length bytes ≤ length whole → IsOutside at (length bytes) i
+    → get_or (overlaid at bytes whole) i 0 ≡ get_or whole i 0
 overlaid_get at bytes whole i fits (inl below) = grind (arith, places)
 overlaid_get at bytes whole i fits (inr above) = grind (arith, places)
 
 overlaid_torn : (at : ℕ) (bytes old whole : List ℕ) → whole ≡ padded (at + length bytes) old → Torn at (length bytes) old (overlaid at bytes whole)
 overlaid_torn at bytes old whole is =
-    let size : length whole ≡ length old + (at + length bytes - length old) = omega (arith, ap length is, length-append old (replicate (at + length bytes - length old) 0), length-replicate {A = ℕ} (at + length bytes - length old) 0) in
+    let size : length whole ≡ length old + (at + length bytes - length old) = omega (
+      arith,
+      ap length is,
+      length-append old (replicate (at + length bytes - length old) 0),
+      length-replicate {A = ℕ}
+          (at + length bytes - length old) 0,
+    ) in
     let long : length (overlaid at bytes whole) ≡ length whole = grind (arith, places) in
     record {
-      kept = λ i lt out. overlaid_get at bytes whole i (omega arith) out ∙ ap (λ (l : List ℕ). get_or l i 0) is ∙ get_or_append_left old (replicate (at + length bytes - length old) 0) 0 i lt;
+      kept = λ i lt out. overlaid_get at bytes whole i (omega arith) out ∙ ap (λ (l : List ℕ). get_or l i 0) is
+          ∙ get_or_append_left old (replicate (at + length bytes - length old) 0) 0 i lt;
       no_shorter = omega arith;
       no_longer = omega arith;
     }
@@ -65,7 +73,8 @@ undone_back at n old new w torn starts stood size =
         ∙ get_or-drop (min at (length old)) old (k - w.at) 0
         ∙ ap (λ (i : ℕ). get_or old i 0) (let same : min at (length old) + (k - w.at) ≡ k = omega arith in same)
 
-    place : (k : ℕ) → k < length old → w.at + length w.before ≤ length new → length w.before ≡ min (at + n) (length old) - min at (length old) → get_or (undone w new) k 0 ≡ get_or old k 0
+    place : (k : ℕ) → k < length old → w.at + length w.before ≤ length new → length w.before ≡ min (at + n) (length old) - min at (length old)
+        → get_or (undone w new) k 0 ≡ get_or old k 0
     place k lt fits kept = elim (cases_lt k w.at) [
       | inl below ↦ undone_below w new k fits (omega arith) below ∙ torn.kept k lt (inl (omega arith))
       | inr high ↦ elim (cases_lt k (w.at + length w.before)) [
@@ -88,7 +97,8 @@ is_placed at n old new w torn starts len stood size =
     }
 
 -- what tears the range that is remembered tears the range that was written
-pub same_range : (at size : ℕ) (bytes old : List ℕ) (before image : List ℕ) → size ≡ length (written at bytes old) → Torn (min at size) (length bytes) before image → Torn at (length bytes) before image
+pub same_range : (at size : ℕ) (bytes old : List ℕ) (before image : List ℕ) → size ≡ length (written at bytes old)
+    → Torn (min at size) (length bytes) before image → Torn at (length bytes) before image
 same_range at size [] old before image is torn = record {
   kept = λ i lt out. torn.kept i lt (elim (cases_lt i (min at size)) [ inl low ↦ inl low | inr high ↦ inr (omega arith) ]);
   no_shorter = torn.no_shorter;

@@ -39,7 +39,8 @@ pub record Elapses (before now : ℕ) (past since : ℕ → List ℕ → Type 0)
   pub keeps : (t : ℕ) (image : List ℕ) → t ≤ before → past t image → since t image
 
 -- What is stored, what a crash leaves and the clock are as before.
-pub record IsUntouched {D : Type 0} (seen : D → List ℕ) (may_leave : D → List ℕ → Type 0) (moment : D → ℕ) (left_since : D → ℕ → List ℕ → Type 0) (old new : D) : Type 0 where
+pub record IsUntouched {D : Type 0} (seen : D → List ℕ) (may_leave : D → List ℕ → Type 0) (moment : D → ℕ) (left_since : D → ℕ → List ℕ → Type 0)
+    (old new : D) : Type 0 where
   pub content : seen new ≡ seen old
   pub crash : (image : List ℕ) → may_leave new image → may_leave old image
   pub clock : moment new ≡ moment old

@@ -39,7 +39,8 @@ pub struct Medium {
     pub steps: Vec<Step>,
     // What stood in the written ranges before, one after the other.
     pub saved: Vec<u8>,
-    ghost fits: { Fits (past_of (reverse steps.items) saved.items) (length content.items) } by { Fits-prop (past_of (reverse steps.items) saved.items) (length content.items) },
+    ghost fits: { Fits (past_of (reverse steps.items) saved.items) (length content.items) } by { Fits-prop (past_of (reverse steps.items) saved.items)
+        (length content.items) },
 }
 
 impl Medium {
@@ -112,7 +113,8 @@ impl Medium {
     // Forgets the past, where nothing that was written may still be lost.
     pub fn forget(&mut self)
         ensures content { self.new.content.items ≡ self.old.content.items }
-        ensures crash { (image : List ℕ) → IsImage (past self.new) self.new.content.items image → IsImage (past self.old) self.old.content.items image }
+        ensures crash { (image : List ℕ) → IsImage (past self.new) self.new.content.items image
+            → IsImage (past self.old) self.old.content.items image }
         ensures room { KeepsRoom (HasRoom self.old) (HasRoom self.new) }
     {
         if let Some((Step::Wrote(_), _)) = self.steps.split_last() {

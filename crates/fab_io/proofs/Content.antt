@@ -31,7 +31,8 @@ AppendsFront-after a b c bs cs p (k, within, q) =
     (length bs + k, omega (arith, length-append bs cs), subst (Appends a c) (sym (take-append-add bs cs k)) (Appends-trans a b c bs (take k cs) p q))
 
 -- bytes read behind a buffer that is part of what is left
-pub prepend_known-filled : (start old new : Option (List ℕ)) (seen buffer more : List ℕ) → Consumes start (prepend_known buffer old) seen → Consumes old new more
+pub prepend_known-filled : (start old new : Option (List ℕ)) (seen buffer more : List ℕ) → Consumes start (prepend_known buffer old) seen
+    → Consumes old new more
     → Consumes start (prepend_known (buffer ++ more) new) seen
 prepend_known-filled None old new seen buffer more p q = tt
 prepend_known-filled (Some x) None new seen buffer more p q = absurd p

@@ -17,7 +17,8 @@ Written-none a piece = ([], refl, Appends-nil a)
 pub Written-more : (a b c : Option (List ℕ)) (piece rest : List ℕ) (n : ℕ) → Written a b piece rest → Appends b c (take n rest)
     → Written a c piece (take (length rest - n) (drop n rest))
 Written-more a b c piece rest n (done, split, p) q =
-    let parts : rest ≡ take n rest ++ take (length rest - n) (drop n rest) = sym (take-append-drop n rest) ∙ ap (λ l. take n rest ++ l) (sym (take_rest rest n)) in (
+    let parts : rest ≡ take n rest ++ take (length rest - n) (drop n rest) = sym (take-append-drop n rest)
+    ∙ ap (λ l. take n rest ++ l) (sym (take_rest rest n)) in (
       done ++ take n rest,
       split ∙ ap (λ l. done ++ l) parts ∙ sym (append_assoc done (take n rest) (take (length rest - n) (drop n rest))),
       Appends-trans a b c done (take n rest) p q,

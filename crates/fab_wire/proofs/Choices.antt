@@ -63,7 +63,8 @@ checked_err (Some at) x here left e = absurd cc
 
 tag_field : {X : Type 0} (rows : ℕ → Option (Reads X)) (n : ℕ) (at : Reads X) → rows n ≡ Some at → n < 256 ^ 1
     → IsField (HasRow rows) (λ (k : ℕ). exactly k ∷ []) (tag_at rows)
-tag_field {X} rows n at is lt = single_field (HasRow rows) (λ (k : ℕ). exactly k) (tag_at rows) n (record { at = at; is = is }) (lt, (omega arith, omega arith))
+tag_field {X} rows n at is lt = single_field (HasRow rows) (λ (k : ℕ). exactly k) (tag_at rows) n (record { at = at; is = is })
+    (lt, (omega arith, omega arith))
     (λ bytes k rest isb e.
     let a = bind_ok (number_at 1 bytes) (λ x. checked (rows x.0) x (length bytes)) (k, rest) e in
     let held = checked_ok (rows a.0.0) a.0 (k, rest) (length bytes) a.2 in
@@ -99,7 +100,8 @@ assoc (Ok x) f g = refl
 assoc (Err left) f g = refl
 
 -- two readers that always give the same
-same_reading : {X : Type 0} {Is : X → Type 0} {parts : X → List Field} (a b : Reads X) → ((bytes : List ℕ) → a bytes ≡ b bytes) → IsField Is parts a → IsField Is parts b
+same_reading : {X : Type 0} {Is : X → Type 0} {parts : X → List Field} (a b : Reads X) → ((bytes : List ℕ) → a bytes ≡ b bytes) → IsField Is parts a
+    → IsField Is parts b
 same_reading {X} {Is} {parts} a b same field = record {
   example = field.example;
   example_is = field.example_is;
@@ -112,19 +114,24 @@ same_reading {X} {Is} {parts} a b same field = record {
 }
 
 pub rows_field : {X : Type 0} {number : X → ℕ} {parts : X → List Field} {rows : ℕ → Option (Reads X)} → Rows number parts rows
-    → (n : ℕ) (at : Reads X) → rows n ≡ Some at → n < 256 ^ 1 → IsField (λ (x : X). HasRow rows (number x)) (λ (x : X). exactly (number x) ∷ parts x) (choice_at rows)
+    → (n : ℕ) (at : Reads X) → rows n ≡ Some at → n < 256 ^ 1 → IsField (λ (x : X). HasRow rows (number x)) (λ (x : X). exactly (number x) ∷ parts x)
+    (choice_at rows)
 rows_field {X} {number} {parts} {rows} known n at is lt =
-    let following : (k : ℕ) → HasRow rows k → AllFit (exactly k ∷ []) → IsField (λ (x : X). (number x ≡ k) × Unit {0}) parts (λ bytes. row_at (rows k) 0 bytes)
+    let following : (k : ℕ) → HasRow rows k → AllFit (exactly k ∷ []) → IsField (λ (x : X). (number x ≡ k) × Unit {0}) parts
+    (λ bytes. row_at (rows k) 0 bytes)
     = λ k has fits.
     same_field (λ (x : X). (number x ≡ k) × Unit {0}) (λ x e. (e, tt)) (λ x e fits. e.0)
     (same_reading has.at (λ bytes. row_at (rows k) 0 bytes) (λ bytes. ap (λ o. row_at o 0 bytes) (sym has.is)) (known.at_row k has.at has.is)) in
-    let both : IsField (λ (x : X). HasRow rows (number x) × Unit {0}) (λ (x : X). exactly (number x) ∷ parts x) (λ bytes. tag_at rows bytes >>= λ r. row_at (rows r.0) 0 r.1)
+    let both : IsField (λ (x : X). HasRow rows (number x) × Unit {0}) (λ (x : X). exactly (number x) ∷ parts x)
+    (λ bytes. tag_at rows bytes >>= λ r. row_at (rows r.0) 0 r.1)
     = bind_field {Iz = λ (x : X). Unit {0}} number {pz = parts} {az = λ k bytes. row_at (rows k) 0 bytes} (tag_field rows n at is lt) following in
     same_field (λ (x : X). HasRow rows (number x)) (λ x is. is.0) (λ x is fits. (is, tt))
     (same_reading (λ bytes. tag_at rows bytes >>= λ r. row_at (rows r.0) 0 r.1) (choice_at rows)
-    (λ bytes. assoc (number_at 1 bytes) (λ x. checked (rows x.0) x (length bytes)) (λ r. row_at (rows r.0) 0 r.1) ∙ choice_same rows (length bytes) (number_at 1 bytes)) both)
+    (λ bytes. assoc (number_at 1 bytes) (λ x. checked (rows x.0) x (length bytes)) (λ r. row_at (rows r.0) 0 r.1) ∙ choice_same rows (length bytes)
+    (number_at 1 bytes)) both)
 
 -- where each value has a row
 pub choice_field : {X : Type 0} {number : X → ℕ} {parts : X → List Field} {rows : ℕ → Option (Reads X)} → Rows number parts rows
-    → (n : ℕ) (at : Reads X) → rows n ≡ Some at → n < 256 ^ 1 → ((x : X) → HasRow rows (number x)) → IsPlain (λ (x : X). exactly (number x) ∷ parts x) (choice_at rows)
+    → (n : ℕ) (at : Reads X) → rows n ≡ Some at → n < 256 ^ 1 → ((x : X) → HasRow rows (number x)) → IsPlain (λ (x : X). exactly (number x) ∷ parts x)
+    (choice_at rows)
 choice_field {X} known n at is lt covers = same_field (λ (x : X). Unit {0}) (λ x is. tt) (λ x u fits. covers x) (rows_field known n at is lt)

@@ -79,9 +79,11 @@ find_data (Refused refusal) e = absurd (omega (arith, refusal_large refusal))
 
 data_law : IsField (λ (a : ClientAnswer). status_of a ≡ 0) answer_parts data_at
 unfolding data_at status_of answer_parts
-data_law = made_field (λ (a : ClientAnswer). status_of a ≡ 0) answer_parts (λ (p : List ℕ). Ended (Data p)) (λ p u. refl) (λ p u. refl) find_data stripe_law
+data_law = made_field (λ (a : ClientAnswer). status_of a ≡ 0) answer_parts (λ (p : List ℕ). Ended (Data p)) (λ p u. refl)
+    (λ p u. refl) find_data stripe_law
 
-find_later_answer : (a : ClientAnswer) → status_of a ≡ 2 → IsMade (λ (p : BrickId × Stamp). Unit {0}) (λ (p : BrickId × Stamp). Ended (Aborted (causes.Later p.0 p.1))) a
+find_later_answer : (a : ClientAnswer) → status_of a ≡ 2 → IsMade (λ (p : BrickId × Stamp). Unit {0})
+    (λ (p : BrickId × Stamp). Ended (Aborted (causes.Later p.0 p.1))) a
 unfolding status_of
 find_later_answer (Ended (Aborted (causes.Later brick stamp))) e = record { from = (brick, stamp); is = tt; same = refl }
 find_later_answer (Refused refusal) e = absurd (omega (arith, refusal_large refusal))
@@ -89,7 +91,8 @@ find_later_answer a e = absurd (omega arith)
 
 later_answer_law : IsField (λ (a : ClientAnswer). status_of a ≡ 2) answer_parts later_answer_at
 unfolding later_answer_at status_of answer_parts
-later_answer_law = made_field (λ (a : ClientAnswer). status_of a ≡ 2) answer_parts (λ (p : BrickId × Stamp). Ended (Aborted (causes.Later p.0 p.1))) (λ p u. refl) (λ p u. refl) find_later_answer (plain_pair brick_law stamp_law)
+later_answer_law = made_field (λ (a : ClientAnswer). status_of a ≡ 2) answer_parts (λ (p : BrickId × Stamp). Ended (Aborted (causes.Later p.0 p.1)))
+    (λ p u. refl) (λ p u. refl) find_later_answer (plain_pair brick_law stamp_law)
 
 find_gone : (a : ClientAnswer) → status_of a ≡ 3 → IsMade (λ (p : BrickId). Unit {0}) (λ (p : BrickId). Ended (Aborted (causes.Gone p))) a
 unfolding status_of
@@ -99,9 +102,11 @@ find_gone a e = absurd (omega arith)
 
 gone_law : IsField (λ (a : ClientAnswer). status_of a ≡ 3) answer_parts gone_at
 unfolding gone_at status_of answer_parts
-gone_law = made_field (λ (a : ClientAnswer). status_of a ≡ 3) answer_parts (λ (p : BrickId). Ended (Aborted (causes.Gone p))) (λ p u. refl) (λ p u. refl) find_gone brick_law
+gone_law = made_field (λ (a : ClientAnswer). status_of a ≡ 3) answer_parts (λ (p : BrickId). Ended (Aborted (causes.Gone p))) (λ p u. refl)
+    (λ p u. refl) find_gone brick_law
 
-find_full_answer : (a : ClientAnswer) → status_of a ≡ 4 → IsMade (λ (p : BrickId × ℕ). Unit {0}) (λ (p : BrickId × ℕ). Ended (Aborted (causes.Full p.0 p.1))) a
+find_full_answer : (a : ClientAnswer) → status_of a ≡ 4 → IsMade (λ (p : BrickId × ℕ). Unit {0})
+    (λ (p : BrickId × ℕ). Ended (Aborted (causes.Full p.0 p.1))) a
 unfolding status_of
 find_full_answer (Ended (Aborted (causes.Full brick live))) e = record { from = (brick, live); is = tt; same = refl }
 find_full_answer (Refused refusal) e = absurd (omega (arith, refusal_large refusal))
@@ -109,9 +114,11 @@ find_full_answer a e = absurd (omega arith)
 
 full_answer_law : IsField (λ (a : ClientAnswer). status_of a ≡ 4) answer_parts full_answer_at
 unfolding full_answer_at status_of answer_parts
-full_answer_law = made_field (λ (a : ClientAnswer). status_of a ≡ 4) answer_parts (λ (p : BrickId × ℕ). Ended (Aborted (causes.Full p.0 p.1))) (λ p u. refl) (λ p u. refl) find_full_answer (plain_pair brick_law field32)
+full_answer_law = made_field (λ (a : ClientAnswer). status_of a ≡ 4) answer_parts (λ (p : BrickId × ℕ). Ended (Aborted (causes.Full p.0 p.1)))
+    (λ p u. refl) (λ p u. refl) find_full_answer (plain_pair brick_law field32)
 
-find_moved_answer : (a : ClientAnswer) → status_of a ≡ 5 → IsMade (λ (p : BrickId × ViewNo). Unit {0}) (λ (p : BrickId × ViewNo). Ended (Aborted (causes.Moved p.0 p.1))) a
+find_moved_answer : (a : ClientAnswer) → status_of a ≡ 5 → IsMade (λ (p : BrickId × ViewNo). Unit {0})
+    (λ (p : BrickId × ViewNo). Ended (Aborted (causes.Moved p.0 p.1))) a
 unfolding status_of
 find_moved_answer (Ended (Aborted (causes.Moved brick view))) e = record { from = (brick, view); is = tt; same = refl }
 find_moved_answer (Refused refusal) e = absurd (omega (arith, refusal_large refusal))
@@ -119,12 +126,14 @@ find_moved_answer a e = absurd (omega arith)
 
 moved_answer_law : IsField (λ (a : ClientAnswer). status_of a ≡ 5) answer_parts moved_answer_at
 unfolding moved_answer_at status_of answer_parts
-moved_answer_law = made_field (λ (a : ClientAnswer). status_of a ≡ 5) answer_parts (λ (p : BrickId × ViewNo). Ended (Aborted (causes.Moved p.0 p.1))) (λ p u. refl) (λ p u. refl) find_moved_answer (plain_pair brick_law view_law)
+moved_answer_law = made_field (λ (a : ClientAnswer). status_of a ≡ 5) answer_parts (λ (p : BrickId × ViewNo). Ended (Aborted (causes.Moved p.0 p.1)))
+    (λ p u. refl) (λ p u. refl) find_moved_answer (plain_pair brick_law view_law)
 
 -- an answer with its status alone
 bare_law : (k : ℕ) (answer : ClientAnswer) → status_of answer ≡ k → answer_parts answer ≡ [] → ((a : ClientAnswer) → status_of a ≡ k → answer ≡ a)
     → IsField (λ (a : ClientAnswer). status_of a ≡ k) answer_parts (bare_at answer)
-bare_law k answer status none is = made_field (λ (a : ClientAnswer). status_of a ≡ k) answer_parts (λ (u : Unit {0}). answer) (λ u v. status) (λ u v. none)
+bare_law k answer status none is = made_field (λ (a : ClientAnswer). status_of a ≡ k) answer_parts (λ (u : Unit {0}). answer) (λ u v. status)
+    (λ u v. none)
     (λ a e. record { from = tt; is = tt; same = is a e }) nothing_field
 
 is_done : (a : ClientAnswer) → status_of a ≡ 1 → Ended Done ≡ a
@@ -161,7 +170,11 @@ refused_law r = bare_law (refusal_status r) (Refused r) refl refl (is_refused r)
 
 answer_table : Rows status_of answer_parts answer_rows
 unfolding answer_rows refusal_status
-answer_table = with_row 0 data_law (with_row 1 done_law (with_row 2 later_answer_law (with_row 3 gone_law (with_row 4 full_answer_law (with_row 5 moved_answer_law (with_row 16 (refused_law NoStripe) (with_row 17 (refused_law NoBlock) (with_row 18 (refused_law Length) (with_row 19 (refused_law Busy) (with_row 20 (refused_law Spent) without_rows))))))))))
+answer_table = with_row 0 data_law (with_row 1 done_law
+    (with_row 2 later_answer_law (with_row 3 gone_law
+    (with_row 4 full_answer_law (with_row 5 moved_answer_law
+    (with_row 16 (refused_law NoStripe) (with_row 17 (refused_law NoBlock)
+    (with_row 18 (refused_law Length) (with_row 19 (refused_law Busy) (with_row 20 (refused_law Spent) without_rows))))))))))
 
 -- an answer with a row is spelled by its status and its parts
 answer_same : (a : ClientAnswer) → HasRow answer_rows (status_of a) → exactly (status_of a) ∷ answer_parts a ≡ answer_fields a
@@ -208,7 +221,8 @@ answer_law =
 -- ---- messages
 
 find_client : (m : Message) → kind_of m ≡ 64 → IsMade (λ (p : ℕ × (GroupId × (StripeNo × (ClientOp × (ℕ × List ℕ))))). Unit {0})
-    (λ (p : ℕ × (GroupId × (StripeNo × (ClientOp × (ℕ × List ℕ))))). Client (record { id = p.0; group = p.1.0; stripe = p.1.1.0; op = p.1.1.1.0; block = p.1.1.1.1.0; bytes = p.1.1.1.1.1 })) m
+    (λ (p : ℕ × (GroupId × (StripeNo × (ClientOp × (ℕ × List ℕ))))). Client
+    (record { id = p.0; group = p.1.0; stripe = p.1.1.0; op = p.1.1.1.0; block = p.1.1.1.1.0; bytes = p.1.1.1.1.1 })) m
 unfolding kind_of
 find_client (Client ask) e = record { from = (ask.id, (ask.group, (ask.stripe, (ask.op, (ask.block, ask.bytes))))); is = tt; same = refl }
 find_client (messages.Request call r) e = absurd (omega (arith, request_small r))
@@ -220,7 +234,8 @@ find_client (ClientReply id answer) e = absurd (omega arith)
 client_law : IsField (λ (m : Message). kind_of m ≡ 64) body_fields client_at
 unfolding client_at kind_of body_fields
 client_law = made_field (λ (m : Message). kind_of m ≡ 64) body_fields
-    (λ (p : ℕ × (GroupId × (StripeNo × (ClientOp × (ℕ × List ℕ))))). Client (record { id = p.0; group = p.1.0; stripe = p.1.1.0; op = p.1.1.1.0; block = p.1.1.1.1.0; bytes = p.1.1.1.1.1 }))
+    (λ (p : ℕ × (GroupId × (StripeNo × (ClientOp × (ℕ × List ℕ))))). Client
+    (record { id = p.0; group = p.1.0; stripe = p.1.1.0; op = p.1.1.1.0; block = p.1.1.1.1.0; bytes = p.1.1.1.1.1 }))
     (λ p u. refl) (λ p u. refl) find_client
     (plain_pair field64 (plain_pair group_law (plain_pair stripe_number_law (plain_pair op_law (plain_pair field8 stripe_law)))))
 

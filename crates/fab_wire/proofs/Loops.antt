@@ -22,7 +22,8 @@ regroup front brick (Ok x) = ap (λ (bricks : List BrickId). Ok (bricks, x.1)) (
 regroup front brick (Err left) = refl
 
 -- one brick more
-pub goes_on : (front : List BrickId) (count i : ℕ) (bytes : List ℕ) (brick : BrickId) (after : List ℕ) (total : Result (List BrickId × List ℕ) ℕ) → i < count
+pub goes_on : (front : List BrickId) (count i : ℕ) (bytes : List ℕ) (brick : BrickId) (after : List ℕ) (total : Result (List BrickId × List ℕ) ℕ)
+    → i < count
     → brick_at bytes ≡ Ok (brick, after) → with_front front (times_at brick_at (count - i) bytes) ≡ total
     → with_front (front ++ brick ∷ []) (times_at brick_at (count - (i + 1)) after) ≡ total
 unfolding times_at
@@ -33,7 +34,8 @@ goes_on front count i bytes brick after total lt h so_far =
     sym one ∙ so_far
 
 -- no brick where one is due
-pub ends : (fault : ReadFault) (front : List BrickId) (count i : ℕ) (bytes : List ℕ) (total : Result (List BrickId × List ℕ) ℕ) → i < count → Fails fault (brick_at bytes)
+pub ends : (fault : ReadFault) (front : List BrickId) (count i : ℕ) (bytes : List ℕ) (total : Result (List BrickId × List ℕ) ℕ) → i < count
+    → Fails fault (brick_at bytes)
     → with_front front (times_at brick_at (count - i) bytes) ≡ total → Fails fault total
 unfolding times_at
 ends faults.NoMemory front count i bytes total lt h so_far = tt
@@ -48,5 +50,6 @@ pub is_done : (front : List BrickId) (count i : ℕ) (bytes : List ℕ) (total :
 unfolding times_at
 is_done front count i bytes total le so_far =
     let k : count - i ≡ 0 = omega arith in
-    let one : with_front front (times_at brick_at (count - i) bytes) ≡ Ok (front, bytes) = rw k (ap (λ (bricks : List BrickId). Ok (bricks, bytes)) (append-nil front)) in
+    let one : with_front front (times_at brick_at (count - i) bytes) ≡ Ok (front, bytes) = rw k
+    (ap (λ (bricks : List BrickId). Ok (bricks, bytes)) (append-nil front)) in
     sym so_far ∙ one

@@ -93,13 +93,15 @@ order_law : IsField (λ (m : Message). kind_of m ≡ 2) body_fields order_at
 unfolding order_at
 order_law = request_law 2 (λ (p : Stamp). requests.Order p) (omega arith) (λ p. refl) (λ p. refl) find_order stamp_law
 
-find_order_read : (r : Request) → (request_row r).0 ≡ 3 → IsMade (λ (p : Stamp × (Look × Want)). Unit {0}) (λ (p : Stamp × (Look × Want)). requests.OrderRead p.0 p.1.0 p.1.1) r
+find_order_read : (r : Request) → (request_row r).0 ≡ 3 → IsMade (λ (p : Stamp × (Look × Want)). Unit {0})
+    (λ (p : Stamp × (Look × Want)). requests.OrderRead p.0 p.1.0 p.1.1) r
 find_order_read (requests.OrderRead stamp look want) e = record { from = (stamp, (look, want)); is = tt; same = refl }
 find_order_read r e = absurd (omega arith)
 
 order_read_law : IsField (λ (m : Message). kind_of m ≡ 3) body_fields order_read_at
 unfolding order_read_at
-order_read_law = request_law 3 (λ (p : Stamp × (Look × Want)). requests.OrderRead p.0 p.1.0 p.1.1) (omega arith) (λ p. refl) (λ p. refl) find_order_read (plain_pair stamp_law (plain_pair look_law want_law))
+order_read_law = request_law 3 (λ (p : Stamp × (Look × Want)). requests.OrderRead p.0 p.1.0 p.1.1) (omega arith) (λ p. refl)
+    (λ p. refl) find_order_read (plain_pair stamp_law (plain_pair look_law want_law))
 
 find_write : (r : Request) → (request_row r).0 ≡ 4 → IsMade (λ (p : Stamp × List ℕ). Unit {0}) (λ (p : Stamp × List ℕ). requests.Write p.0 p.1) r
 find_write (requests.Write stamp block) e = record { from = (stamp, block); is = tt; same = refl }
@@ -107,15 +109,18 @@ find_write r e = absurd (omega arith)
 
 write_law : IsField (λ (m : Message). kind_of m ≡ 4) body_fields write_at
 unfolding write_at
-write_law = request_law 4 (λ (p : Stamp × List ℕ). requests.Write p.0 p.1) (omega arith) (λ p. refl) (λ p. refl) find_write (plain_pair stamp_law block_law)
+write_law = request_law 4 (λ (p : Stamp × List ℕ). requests.Write p.0 p.1) (omega arith) (λ p. refl) (λ p. refl) find_write
+    (plain_pair stamp_law block_law)
 
-find_modify : (r : Request) → (request_row r).0 ≡ 5 → IsMade (λ (p : Stamp × (Stamp × (ℕ × List ℕ))). Unit {0}) (λ (p : Stamp × (Stamp × (ℕ × List ℕ))). requests.Modify p.0 p.1.0 p.1.1.0 p.1.1.1) r
+find_modify : (r : Request) → (request_row r).0 ≡ 5 → IsMade (λ (p : Stamp × (Stamp × (ℕ × List ℕ))). Unit {0})
+    (λ (p : Stamp × (Stamp × (ℕ × List ℕ))). requests.Modify p.0 p.1.0 p.1.1.0 p.1.1.1) r
 find_modify (requests.Modify stamp base data_block delta) e = record { from = (stamp, (base, (data_block, delta))); is = tt; same = refl }
 find_modify r e = absurd (omega arith)
 
 modify_law : IsField (λ (m : Message). kind_of m ≡ 5) body_fields modify_at
 unfolding modify_at
-modify_law = request_law 5 (λ (p : Stamp × (Stamp × (ℕ × List ℕ))). requests.Modify p.0 p.1.0 p.1.1.0 p.1.1.1) (omega arith) (λ p. refl) (λ p. refl) find_modify (plain_pair stamp_law (plain_pair stamp_law (plain_pair (limited8 0 15 (omega arith) (omega arith)) block_law)))
+modify_law = request_law 5 (λ (p : Stamp × (Stamp × (ℕ × List ℕ))). requests.Modify p.0 p.1.0 p.1.1.0 p.1.1.1) (omega arith) (λ p. refl)
+    (λ p. refl) find_modify (plain_pair stamp_law (plain_pair stamp_law (plain_pair (limited8 0 15 (omega arith) (omega arith)) block_law)))
 
 find_collect : (r : Request) → (request_row r).0 ≡ 6 → IsMade (λ (p : Stamp). Unit {0}) (λ (p : Stamp). requests.Collect p) r
 find_collect (requests.Collect stamp) e = record { from = stamp; is = tt; same = refl }
@@ -141,13 +146,15 @@ prepare_law : IsField (λ (m : Message). kind_of m ≡ 8) body_fields prepare_at
 unfolding prepare_at
 prepare_law = request_law 8 (λ (p : Ballot). requests.Prepare p) (omega arith) (λ p. refl) (λ p. refl) find_prepare ballot_law
 
-find_accept : (r : Request) → (request_row r).0 ≡ 9 → IsMade (λ (p : Ballot × List BrickId). Unit {0}) (λ (p : Ballot × List BrickId). requests.Accept p.0 p.1) r
+find_accept : (r : Request) → (request_row r).0 ≡ 9 → IsMade (λ (p : Ballot × List BrickId). Unit {0})
+    (λ (p : Ballot × List BrickId). requests.Accept p.0 p.1) r
 find_accept (requests.Accept ballot members) e = record { from = (ballot, members); is = tt; same = refl }
 find_accept r e = absurd (omega arith)
 
 accept_law : IsField (λ (m : Message). kind_of m ≡ 9) body_fields accept_at
 unfolding accept_at
-accept_law = request_law 9 (λ (p : Ballot × List BrickId). requests.Accept p.0 p.1) (omega arith) (λ p. refl) (λ p. refl) find_accept (plain_pair ballot_law members_law)
+accept_law = request_law 9 (λ (p : Ballot × List BrickId). requests.Accept p.0 p.1) (omega arith) (λ p. refl) (λ p. refl) find_accept
+    (plain_pair ballot_law members_law)
 
 -- ---- views
 
@@ -183,7 +190,10 @@ synced_law = made_field (λ (m : Message). kind_of m ≡ 11) body_fields (λ (p 
 
 pub request_table : Rows kind_of body_fields request_rows
 unfolding request_rows
-request_table = with_row 1 read_law (with_row 2 order_law (with_row 3 order_read_law (with_row 4 write_law (with_row 5 modify_law (with_row 6 collect_law (with_row 7 old_read_law (with_row 8 prepare_law (with_row 9 accept_law (with_row 10 learn_law (with_row 11 synced_law without_rows))))))))))
+request_table = with_row 1 read_law (with_row 2 order_law
+    (with_row 3 order_read_law (with_row 4 write_law
+    (with_row 5 modify_law (with_row 6 collect_law
+    (with_row 7 old_read_law (with_row 8 prepare_law (with_row 9 accept_law (with_row 10 learn_law (with_row 11 synced_law without_rows))))))))))
 
 -- ---- replies
 
@@ -205,7 +215,8 @@ reply_law : {X : Type 0} {parts : X → List Field} {at : Reads X} (k : ℕ) (ma
 unfolding kind_of body_fields
 reply_law {X} {parts} k made low high kind same find law =
     made_field (λ (m : Message). kind_of m ≡ k) body_fields (λ (p : Call × X). messages.Reply p.0 (made p.1))
-    (λ p is. kind p.1) (λ p is. ap (λ (fs : List Field). call_fields p.0 ++ fs) (same p.1)) (find_reply k made low high find) (plain_pair call_law law)
+    (λ p is. kind p.1) (λ p is. ap (λ (fs : List Field). call_fields p.0 ++ fs) (same p.1)) (find_reply k made low high find)
+    (plain_pair call_law law)
 
 -- a reply with no fields but the call
 find_plain : (k : ℕ) (reply : Reply) → 32 ≤ k → k < 64 → ((r : Reply) → (reply_row r).0 ≡ k → reply ≡ r)
@@ -218,20 +229,23 @@ find_plain k reply low high is (Synced group view) e = absurd (omega arith)
 find_plain k reply low high is (Client ask) e = absurd (omega arith)
 find_plain k reply low high is (ClientReply id answer) e = absurd (omega arith)
 
-plain_law : (k : ℕ) (reply : Reply) → 32 ≤ k → k < 64 → (reply_row reply).0 ≡ k → (reply_row reply).1 ≡ [] → ((r : Reply) → (reply_row r).0 ≡ k → reply ≡ r)
+plain_law : (k : ℕ) (reply : Reply) → 32 ≤ k → k < 64 → (reply_row reply).0 ≡ k → (reply_row reply).1 ≡ []
+    → ((r : Reply) → (reply_row r).0 ≡ k → reply ≡ r)
     → IsField (λ (m : Message). kind_of m ≡ k) body_fields (plain_at reply)
 unfolding kind_of body_fields
 plain_law k reply low high kind none is =
     made_field (λ (m : Message). kind_of m ≡ k) body_fields (λ (c : Call). messages.Reply c reply)
     (λ c u. kind) (λ c u. ap (λ (fs : List Field). call_fields c ++ fs) none ∙ append-nil (call_fields c)) (find_plain k reply low high is) call_law
 
-find_found : (r : Reply) → (reply_row r).0 ≡ 32 → IsMade (λ (p : Stamp × Option Version). Unit {0}) (λ (p : Stamp × Option Version). replies.Found p.0 p.1) r
+find_found : (r : Reply) → (reply_row r).0 ≡ 32 → IsMade (λ (p : Stamp × Option Version). Unit {0})
+    (λ (p : Stamp × Option Version). replies.Found p.0 p.1) r
 find_found (replies.Found order newest) e = record { from = (order, newest); is = tt; same = refl }
 find_found r e = absurd (omega arith)
 
 found_law : IsField (λ (m : Message). kind_of m ≡ 32) body_fields found_at
 unfolding found_at
-found_law = reply_law 32 (λ (p : Stamp × Option Version). replies.Found p.0 p.1) (omega arith) (omega arith) (λ p. refl) (λ p. refl) find_found (plain_pair stamp_law (option_law version_law))
+found_law = reply_law 32 (λ (p : Stamp × Option Version). replies.Found p.0 p.1) (omega arith) (omega arith) (λ p. refl) (λ p. refl) find_found
+    (plain_pair stamp_law (option_law version_law))
 
 is_ordered : (r : Reply) → (reply_row r).0 ≡ 33 → replies.Ordered ≡ r
 is_ordered replies.Ordered e = refl
@@ -247,7 +261,8 @@ find_ordered_read r e = absurd (omega arith)
 
 ordered_read_law : IsField (λ (m : Message). kind_of m ≡ 34) body_fields ordered_read_at
 unfolding ordered_read_at
-ordered_read_law = reply_law 34 (λ (p : Option Version). replies.OrderedRead p) (omega arith) (omega arith) (λ p. refl) (λ p. refl) find_ordered_read (option_law version_law)
+ordered_read_law = reply_law 34 (λ (p : Option Version). replies.OrderedRead p) (omega arith) (omega arith) (λ p. refl) (λ p. refl) find_ordered_read
+    (option_law version_law)
 
 is_stored : (r : Reply) → (reply_row r).0 ≡ 35 → replies.Stored ≡ r
 is_stored replies.Stored e = refl
@@ -263,7 +278,8 @@ find_behind r e = absurd (omega arith)
 
 behind_law : IsField (λ (m : Message). kind_of m ≡ 36) body_fields behind_at
 unfolding behind_at
-behind_law = reply_law 36 (λ (p : Option Stamp). replies.Behind p) (omega arith) (omega arith) (λ p. refl) (λ p. refl) find_behind (option_law stamp_law)
+behind_law = reply_law 36 (λ (p : Option Stamp). replies.Behind p) (omega arith) (omega arith) (λ p. refl) (λ p. refl) find_behind
+    (option_law stamp_law)
 
 find_later : (r : Reply) → (reply_row r).0 ≡ 37 → IsMade (λ (p : Stamp). Unit {0}) (λ (p : Stamp). replies.Later p) r
 find_later (replies.Later stamp) e = record { from = stamp; is = tt; same = refl }
@@ -281,13 +297,15 @@ full_law : IsField (λ (m : Message). kind_of m ≡ 38) body_fields full_at
 unfolding full_at
 full_law = reply_law 38 (λ (p : ℕ). replies.Full p) (omega arith) (omega arith) (λ p. refl) (λ p. refl) find_full field32
 
-find_moved : (r : Reply) → (reply_row r).0 ≡ 39 → IsMade (λ (p : ViewNo × Option Lineage). Unit {0}) (λ (p : ViewNo × Option Lineage). replies.Moved p.0 p.1) r
+find_moved : (r : Reply) → (reply_row r).0 ≡ 39 → IsMade (λ (p : ViewNo × Option Lineage). Unit {0})
+    (λ (p : ViewNo × Option Lineage). replies.Moved p.0 p.1) r
 find_moved (replies.Moved view lineage) e = record { from = (view, lineage); is = tt; same = refl }
 find_moved r e = absurd (omega arith)
 
 moved_law : IsField (λ (m : Message). kind_of m ≡ 39) body_fields moved_at
 unfolding moved_at
-moved_law = reply_law 39 (λ (p : ViewNo × Option Lineage). replies.Moved p.0 p.1) (omega arith) (omega arith) (λ p. refl) (λ p. refl) find_moved (plain_pair view_law (option_law lineage_law))
+moved_law = reply_law 39 (λ (p : ViewNo × Option Lineage). replies.Moved p.0 p.1) (omega arith) (omega arith) (λ p. refl) (λ p. refl) find_moved
+    (plain_pair view_law (option_law lineage_law))
 
 find_old : (r : Reply) → (reply_row r).0 ≡ 40 → IsMade (λ (p : Option Version). Unit {0}) (λ (p : Option Version). replies.Old p) r
 find_old (replies.Old found) e = record { from = found; is = tt; same = refl }
@@ -311,7 +329,8 @@ find_promise r e = absurd (omega arith)
 
 promise_law : IsField (λ (m : Message). kind_of m ≡ 42) body_fields promise_at
 unfolding promise_at
-promise_law = reply_law 42 (λ (p : Option Choice). replies.Promise p) (omega arith) (omega arith) (λ p. refl) (λ p. refl) find_promise (option_law choice_law)
+promise_law = reply_law 42 (λ (p : Option Choice). replies.Promise p) (omega arith) (omega arith) (λ p. refl) (λ p. refl) find_promise
+    (option_law choice_law)
 
 is_accepted_reply : (r : Reply) → (reply_row r).0 ≡ 43 → replies.Accepted ≡ r
 is_accepted_reply replies.Accepted e = refl
@@ -339,4 +358,9 @@ not_synced_law = plain_law 45 replies.NotSynced (omega arith) (omega arith) refl
 
 pub reply_table : Rows kind_of body_fields reply_rows
 unfolding reply_rows
-reply_table = with_row 32 found_law (with_row 33 ordered_law (with_row 34 ordered_read_law (with_row 35 stored_law (with_row 36 behind_law (with_row 37 later_law (with_row 38 full_law (with_row 39 moved_law (with_row 40 old_law (with_row 41 retired_law (with_row 42 promise_law (with_row 43 accepted_reply_law (with_row 44 outbid_law (with_row 45 not_synced_law without_rows)))))))))))))
+reply_table = with_row 32 found_law (with_row 33 ordered_law
+    (with_row 34 ordered_read_law (with_row 35 stored_law
+    (with_row 36 behind_law (with_row 37 later_law
+    (with_row 38 full_law (with_row 39 moved_law (with_row 40 old_law
+    (with_row 41 retired_law (with_row 42 promise_law
+    (with_row 43 accepted_reply_law (with_row 44 outbid_law (with_row 45 not_synced_law without_rows)))))))))))))

@@ -61,7 +61,8 @@ request_limits : (r : Request) → AllFit (request_row r).1 → RequestFits r
 request_limits (requests.Read want) fits = want_limits want fits
 request_limits (requests.Order stamp) fits = tt
 request_limits (requests.OrderRead stamp look want) fits =
-    want_limits want (AllFit-back (look_fields look) (want_fields want) (AllFit-back (stamp_fields stamp) (look_fields look ++ want_fields want) fits))
+    want_limits want (AllFit-back (look_fields look) (want_fields want)
+    (AllFit-back (stamp_fields stamp) (look_fields look ++ want_fields want) fits))
 request_limits (requests.Write stamp block) fits = block_limits block (AllFit-back (stamp_fields stamp) (block_fields block) fits)
 request_limits (requests.Modify stamp base data_block delta) fits =
     let last = AllFit-back (stamp_fields base) (Limited 1 0 15 data_block ∷ block_fields delta)

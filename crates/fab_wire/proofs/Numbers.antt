@@ -63,8 +63,10 @@ number_takes size is bytes n rest fits e =
     let n-is : big_number size (take size bytes) ≡ n = ap (λ (p : ℕ × List ℕ). p.0) same in
     let rest-is : drop size bytes ≡ rest = ap (λ (p : ℕ × List ℕ). p.1) same in
     let front_fits = IsBytes-take size bytes fits in
-    let front : number_bytes size n ≡ take size bytes = ap (number_bytes size) (sym n-is) ∙ is.back (take size bytes) (omega (arith, length-take size bytes)) front_fits in (
-      sym (take-append-drop size bytes) ∙ ap (λ (t : List ℕ). t ++ drop size bytes) (sym front) ∙ ap (λ (t : List ℕ). number_bytes size n ++ t) rest-is,
+    let front : number_bytes size n ≡ take size bytes = ap (number_bytes size) (sym n-is)
+    ∙ is.back (take size bytes) (omega (arith, length-take size bytes)) front_fits in (
+      sym (take-append-drop size bytes) ∙ ap (λ (t : List ℕ). t ++ drop size bytes) (sym front)
+          ∙ ap (λ (t : List ℕ). number_bytes size n ++ t) rest-is,
       subst (λ (k : ℕ). k < 256 ^ size) n-is (big_from-lt 0 size (take size bytes) front_fits),
       subst IsBytes rest-is (IsBytes-drop size bytes fits),
     )
@@ -74,7 +76,8 @@ unfolding number_at number_bytes
 number_again size n rest lt =
     let len = length-bytes_high_first size n in
     let long : ltb (length (number_bytes size n ++ rest)) size ≡ false = le-ltb _ _ (omega (arith, length-append (number_bytes size n) rest)) in
-    let value : big_number size (number_bytes size n) ≡ n = ap (big_number size) (sym (append-nil (number_bytes size n))) ∙ big_number-reads_back size n [] lt in
+    let value : big_number size (number_bytes size n) ≡ n = ap (big_number size) (sym (append-nil (number_bytes size n)))
+    ∙ big_number-reads_back size n [] lt in
     rw (long, take_at (number_bytes size n) rest size len, drop_at (number_bytes size n) rest size len, value) refl
 
 pub number_fails : (size : ℕ) (bytes : List ℕ) (left : ℕ) → number_at size bytes ≡ Err left → left ≡ length bytes
@@ -84,8 +87,17 @@ number_fails size bytes left e = guard_err (ltb (length bytes) size) (length byt
 number_field : (size : ℕ) → IsSize size → 0 < 256 ^ size → IsPlain (λ (n : ℕ). Number size n ∷ []) (number_at size)
 number_field size is some = single_field (λ (n : ℕ). Unit {0}) (λ (n : ℕ). Number size n) (number_at size) 0 tt some
     (λ bytes n rest isb e.
-    let took = number_takes size is bytes n rest isb e in
-    (tt, record { parts = took.0 ∙ ap (λ (t : List ℕ). t ++ rest) (sym (append-nil (number_bytes size n))); fits = (took.1, tt); rest_fits = took.2 }))
+    let took = number_takes size is bytes n rest isb e in (
+      tt,
+      record {
+        parts = took.0 ∙ ap (λ (t : List ℕ). t ++ rest) (sym (append-nil (number_bytes size n)));
+        fits = (
+          took.1,
+          tt,
+        );
+        rest_fits = took.2;
+      },
+    ))
     (λ n rest u lt. number_again size n rest lt)
     (number_fails size)
 
@@ -103,7 +115,8 @@ field64 = number_field 8 size8 (omega arith)
 
 -- ---- numbers with limits
 
-limited_takes : (size : ℕ) → IsSize size → (least most : ℕ) (bytes : List ℕ) (n : ℕ) (rest : List ℕ) → IsBytes bytes → limited_at size least most bytes ≡ Ok (n, rest)
+limited_takes : (size : ℕ) → IsSize size → (least most : ℕ) (bytes : List ℕ) (n : ℕ) (rest : List ℕ) → IsBytes bytes
+    → limited_at size least most bytes ≡ Ok (n, rest)
     → Takes bytes (Limited size least most n ∷ []) rest
 limited_takes size is least most bytes n rest isb e =
     let a = bind_ok (number_at size bytes) (λ x. cond (leb least x.0 && leb x.0 most) (Ok x) (Err (length bytes))) (n, rest) e in
@@ -117,9 +130,11 @@ limited_takes size is least most bytes n rest isb e =
     } in
     subst (λ (p : ℕ × List ℕ). Takes bytes (Limited size least most p.0 ∷ []) p.1) (ok_is a.0 (n, rest) held.1) whole
 
-limited_again : (size least most n : ℕ) (rest : List ℕ) → Fits (Limited size least most n) → limited_at size least most (number_bytes size n ++ rest) ≡ Ok (n, rest)
+limited_again : (size least most n : ℕ) (rest : List ℕ) → Fits (Limited size least most n)
+    → limited_at size least most (number_bytes size n ++ rest) ≡ Ok (n, rest)
 limited_again size least most n rest fits =
-    ap (λ (r : Result (ℕ × List ℕ) ℕ). r >>= λ x. cond (leb least x.0 && leb x.0 most) (Ok x) (Err (length (number_bytes size n ++ rest)))) (number_again size n rest fits.0)
+    ap (λ (r : Result (ℕ × List ℕ) ℕ). r >>= λ x. cond (leb least x.0 && leb x.0 most) (Ok x) (Err (length (number_bytes size n ++ rest))))
+    (number_again size n rest fits.0)
     ∙ rw (and_from (leb least n) (leb n most) (le-leb least n fits.1.0) (le-leb n most fits.1.1)) refl
 
 limited_fails : (size least most : ℕ) (bytes : List ℕ) (left : ℕ) → limited_at size least most bytes ≡ Err left → left ≡ length bytes
@@ -129,8 +144,10 @@ limited_fails size least most bytes left e =
       | inr w ↦ held_err (leb least w.0.0 && leb w.0.0 most) (length bytes) w.0 left w.2
     ]
 
-limited_field : (size : ℕ) → IsSize size → (least most : ℕ) → least ≤ most → least < 256 ^ size → IsPlain (λ (n : ℕ). Limited size least most n ∷ []) (limited_at size least most)
-limited_field size is least most le some = single_field (λ (n : ℕ). Unit {0}) (λ (n : ℕ). Limited size least most n) (limited_at size least most) least tt (some, (omega arith, le))
+limited_field : (size : ℕ) → IsSize size → (least most : ℕ) → least ≤ most → least < 256 ^ size → IsPlain (λ (n : ℕ). Limited size least most n ∷ [])
+    (limited_at size least most)
+limited_field size is least most le some = single_field (λ (n : ℕ). Unit {0}) (λ (n : ℕ). Limited size least most n)
+    (limited_at size least most) least tt (some, (omega arith, le))
     (λ bytes n rest isb e. (tt, limited_takes size is least most bytes n rest isb e))
     (λ n rest u fits. limited_again size least most n rest fits)
     (limited_fails size least most)
@@ -146,7 +163,8 @@ limited32 = limited_field 4 size4
 
 -- ---- numbers that have one value alone
 
-exactly_takes : (size : ℕ) → IsSize size → (value : ℕ) (bytes : List ℕ) (u : Unit {0}) (rest : List ℕ) → IsBytes bytes → exactly_at size value bytes ≡ Ok (u, rest)
+exactly_takes : (size : ℕ) → IsSize size → (value : ℕ) (bytes : List ℕ) (u : Unit {0}) (rest : List ℕ) → IsBytes bytes
+    → exactly_at size value bytes ≡ Ok (u, rest)
     → Takes bytes (Limited size value value value ∷ []) rest
 exactly_takes size is value bytes u rest isb e =
     let a = bind_ok (number_at size bytes) (λ x. cond (eqb x.0 value) (Ok (tt, x.1)) (Err (length bytes))) (u, rest) e in
@@ -163,7 +181,8 @@ exactly_takes size is value bytes u rest isb e =
 
 exactly_again : (size value : ℕ) (rest : List ℕ) → value < 256 ^ size → exactly_at size value (number_bytes size value ++ rest) ≡ Ok (tt, rest)
 exactly_again size value rest lt =
-    ap (λ (r : Result (ℕ × List ℕ) ℕ). r >>= λ x. cond (eqb x.0 value) (Ok (tt, x.1)) (Err (length (number_bytes size value ++ rest)))) (number_again size value rest lt)
+    ap (λ (r : Result (ℕ × List ℕ) ℕ). r >>= λ x. cond (eqb x.0 value) (Ok (tt, x.1)) (Err (length (number_bytes size value ++ rest))))
+    (number_again size value rest lt)
     ∙ rw (eq-eqb value value refl) refl
 
 exactly_fails : (size value : ℕ) (bytes : List ℕ) (left : ℕ) → exactly_at size value bytes ≡ Err left → left ≡ length bytes
@@ -173,8 +192,10 @@ exactly_fails size value bytes left e =
       | inr w ↦ held_err (eqb w.0.0 value) (length bytes) (tt, w.0.1) left w.2
     ]
 
-exactly_field : (size : ℕ) → IsSize size → (value : ℕ) → value < 256 ^ size → IsPlain (λ (u : Unit {0}). Limited size value value value ∷ []) (exactly_at size value)
-exactly_field size is value some = single_field (λ (u : Unit {0}). Unit {0}) (λ (u : Unit {0}). Limited size value value value) (exactly_at size value) tt tt (some, (omega arith, omega arith))
+exactly_field : (size : ℕ) → IsSize size → (value : ℕ) → value < 256 ^ size → IsPlain (λ (u : Unit {0}). Limited size value value value ∷ [])
+    (exactly_at size value)
+exactly_field size is value some = single_field (λ (u : Unit {0}). Unit {0}) (λ (u : Unit {0}). Limited size value value value)
+    (exactly_at size value) tt tt (some, (omega arith, omega arith))
     (λ bytes u rest isb e. (tt, exactly_takes size is value bytes u rest isb e))
     (λ u rest v fits. exactly_again size value rest fits.0)
     (exactly_fails size value)
@@ -198,7 +219,8 @@ length-zeros (suc n) = ap suc (length-zeros n)
 
 pub raw_field : (count : ℕ) → IsField (λ (bytes : List ℕ). length bytes ≡ count) (λ (bytes : List ℕ). Raw bytes ∷ []) (raw_at count)
 unfolding raw_at
-raw_field count = single_field (λ (bytes : List ℕ). length bytes ≡ count) (λ (bytes : List ℕ). Raw bytes) (raw_at count) (zeros count) (length-zeros count) tt
+raw_field count = single_field (λ (bytes : List ℕ). length bytes ≡ count) (λ (bytes : List ℕ). Raw bytes) (raw_at count) (zeros count)
+    (length-zeros count) tt
     (λ bytes x rest isb e.
     let g = guard_past (ltb (length bytes) count) (length bytes) (Ok (take count bytes, drop count bytes)) (x, rest) e in
     let same = ok_is (take count bytes, drop count bytes) (x, rest) g.1 in

@@ -56,8 +56,10 @@ unfolding stripe_number_at
 stripe_number_law = plain_made (λ (s : StripeNo). u32 s.0 ∷ []) made_stripe (λ (s : StripeNo). s.0) (λ s. refl) (λ n. refl) field32
 
 -- a count, and so much
-counted : {X : Type 0} {part : ℕ → Field} {parts : List X → List Field} {tag : Reads ℕ} {at : ℕ → Reads (List X)} → IsPlain (λ (n : ℕ). part n ∷ []) tag
-    → ((n : ℕ) → IsField (λ (xs : List X). length xs ≡ n) parts (at n)) → IsPlain (λ (xs : List X). part (length xs) ∷ parts xs) (λ bytes. tag bytes >>= λ n. at n.0 n.1)
+counted : {X : Type 0} {part : ℕ → Field} {parts : List X → List Field} {tag : Reads ℕ} {at : ℕ → Reads (List X)}
+    → IsPlain (λ (n : ℕ). part n ∷ []) tag
+    → ((n : ℕ) → IsField (λ (xs : List X). length xs ≡ n) parts (at n)) → IsPlain (λ (xs : List X). part (length xs) ∷ parts xs)
+    (λ bytes. tag bytes >>= λ n. at n.0 n.1)
 counted {X} {part} {parts} {tag} {at} first second =
     same_field (λ (xs : List X). Unit {0}) (λ xs is. tt) (λ xs u fits. (tt, tt))
     (bind_field {Iz = λ (xs : List X). Unit {0}} (λ (xs : List X). length xs) {pz = parts} {az = at} first
@@ -111,7 +113,8 @@ unfolding option_number option_parts
 option_law {X} {parts} {at} law =
     same_parts (option_fields parts) (λ o u. option_same parts o)
     (choice_field {number = option_number} {parts = option_parts parts}
-    (with_row 0 (made_field (λ (o : Option X). option_number o ≡ 0) (option_parts parts) made_none (λ u is. refl) (λ u is. refl) is_none nothing_field)
+    (with_row 0 (made_field (λ (o : Option X). option_number o ≡ 0) (option_parts parts) made_none (λ u is. refl)
+    (λ u is. refl) is_none nothing_field)
     (with_row 1 (made_field (λ (o : Option X). option_number o ≡ 1) (option_parts parts) made_some (λ x is. refl) (λ x is. refl) is_some law)
     without_rows))
     0 (as_at made_none nothing_at) refl (omega arith) (option_rows law))
@@ -126,7 +129,8 @@ choice_law = plain_made choice_fields made_choice (λ (c : Choice). (c.ballot, c
 
 pub lineage_law : IsPlain lineage_fields lineage_at
 unfolding lineage_at lineage_fields
-lineage_law = plain_made lineage_fields made_lineage (λ (l : Lineage). (l.members, l.prior)) (λ l. refl) (λ p. refl) (plain_pair members_law members_law)
+lineage_law = plain_made lineage_fields made_lineage (λ (l : Lineage). (l.members, l.prior)) (λ l. refl) (λ p. refl)
+    (plain_pair members_law members_law)
 
 -- ---- which seats, which entry, which operation
 
@@ -214,7 +218,8 @@ unfolding want_part want_fields
 want_same (Seat seat) = refl
 want_same All = refl
 
-want_takes : (bytes : List ℕ) (w : Want) (rest : List ℕ) → IsBytes bytes → want_at bytes ≡ Ok (w, rest) → (Unit {0}) × Takes bytes (want_part w ∷ []) rest
+want_takes : (bytes : List ℕ) (w : Want) (rest : List ℕ) → IsBytes bytes → want_at bytes ≡ Ok (w, rest) → (Unit {0})
+    × Takes bytes (want_part w ∷ []) rest
 unfolding want_at want_part
 want_takes bytes w rest isb e =
     let a = bind_ok (number_at 1 bytes) (λ x. want_is x (length bytes)) (w, rest) e in
@@ -222,13 +227,30 @@ want_takes bytes w rest isb e =
     elim (chosen (ltb a.0.0 32) (Ok (Seat a.0.0, a.0.1)) (cond (eqb a.0.0 255) (Ok (All, a.0.1)) (Err (length bytes))) (Ok (w, rest)) a.2) [
       | inl c ↦
           let lt : a.0.0 < 32 = ltb-true _ _ c.0 in
-          let whole : Takes bytes (want_part (Seat a.0.0) ∷ []) a.0.1 = record { parts = took.parts; fits = ((took.fits.0, (omega arith, omega arith)), tt); rest_fits = took.rest_fits } in
+          let whole : Takes bytes (want_part (Seat a.0.0) ∷ []) a.0.1 = record {
+            parts = took.parts;
+            fits = (
+              (
+                took.fits.0,
+                (omega arith, omega arith),
+              ),
+              tt,
+            );
+            rest_fits = took.rest_fits;
+          } in
           (tt, subst (λ (p : Want × List ℕ). Takes bytes (want_part p.0 ∷ []) p.1) (ok_is (Seat a.0.0, a.0.1) (w, rest) c.1) whole)
       | inr c ↦
           let held = guard_held (eqb a.0.0 255) (length bytes) (Ok (All, a.0.1)) (w, rest) c.1 in
           let last : a.0.0 ≡ 255 = eqb-true _ _ held.0 in
           let parts : bytes ≡ spelled (exactly 255 ∷ []) ++ a.0.1 = subst (λ (n : ℕ). bytes ≡ spelled (Number 1 n ∷ []) ++ a.0.1) last took.parts in
-          let whole : Takes bytes (want_part All ∷ []) a.0.1 = record { parts = parts; fits = ((omega arith, (omega arith, omega arith)), tt); rest_fits = took.rest_fits } in
+          let whole : Takes bytes (want_part All ∷ []) a.0.1 = record {
+            parts = parts;
+            fits = (
+              (omega arith, (omega arith, omega arith)),
+              tt,
+            );
+            rest_fits = took.rest_fits;
+          } in
           (tt, subst (λ (p : Want × List ℕ). Takes bytes (want_part p.0 ∷ []) p.1) (ok_is (All, a.0.1) (w, rest) held.1) whole)
     ]
 

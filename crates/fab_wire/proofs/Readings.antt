@@ -80,7 +80,8 @@ bind_ok (Ok x) f y e = (x, refl, e)
 bind_ok (Err left) f y e = absurd cc
 
 -- the step that failed
-pub bind_err : {A B : Type 0} (r : Result A ℕ) (f : A → Result B ℕ) (left : ℕ) → (r >>= f) ≡ Err left → (r ≡ Err left) ⊎ ((x : A) × (r ≡ Ok x) × (f x ≡ Err left))
+pub bind_err : {A B : Type 0} (r : Result A ℕ) (f : A → Result B ℕ) (left : ℕ) → (r >>= f) ≡ Err left → (r ≡ Err left)
+    ⊎ ((x : A) × (r ≡ Ok x) × (f x ≡ Err left))
 bind_err (Ok x) f left e = inr (x, refl, e)
 bind_err (Err other) f left e = inl (let same : other ≡ left = cc in ap (λ (n : ℕ). Err n) same)
 
@@ -150,7 +151,8 @@ abbrev pub IsPlain : {X : Type 0} → (X → List Field) → Reads X → Type 0
 IsPlain parts at = IsField (λ x. Unit {0}) parts at
 
 -- the same of the values that another fact names
-pub same_field : {X : Type 0} {I : X → Type 0} (J : X → Type 0) {parts : X → List Field} {at : Reads X} → ((x : X) → I x → J x) → ((x : X) → J x → AllFit (parts x) → I x)
+pub same_field : {X : Type 0} {I : X → Type 0} (J : X → Type 0) {parts : X → List Field} {at : Reads X} → ((x : X) → I x → J x)
+    → ((x : X) → J x → AllFit (parts x) → I x)
     → IsField I parts at → IsField J parts at
 same_field {X} {I} J {parts} {at} forth back field = record {
   example = field.example;
@@ -164,18 +166,26 @@ same_field {X} {I} J {parts} {at} forth back field = record {
   furthest = λ bytes x front rest tail isb is fits fields are. field.furthest bytes x front rest tail isb (back x is fits) fits fields are;
 }
 
-pub no_more : {X : Type 0} {Is : X → Type 0} {parts : X → List Field} {at : Reads X} → IsField Is parts at → (bytes : List ℕ) → IsBytes bytes → left_of (at bytes) ≤ length bytes
-no_more {X} {Is} {parts} {at} field bytes isb = field.furthest bytes field.example [] (parts field.example) bytes isb field.example_is field.example_fits refl refl
+pub no_more : {X : Type 0} {Is : X → Type 0} {parts : X → List Field} {at : Reads X} → IsField Is parts at → (bytes : List ℕ) → IsBytes bytes
+    → left_of (at bytes) ≤ length bytes
+no_more {X} {Is} {parts} {at} field bytes isb = field.furthest bytes field.example []
+    (parts field.example) bytes isb field.example_is field.example_fits refl refl
 
 -- the same of another spelling, which is equal
-pub same_parts : {X : Type 0} {I : X → Type 0} {p : X → List Field} {at : Reads X} (q : X → List Field) → ((x : X) → I x → p x ≡ q x) → IsField I p at → IsField I q at
+pub same_parts : {X : Type 0} {I : X → Type 0} {p : X → List Field} {at : Reads X} (q : X → List Field) → ((x : X) → I x → p x ≡ q x) → IsField I p at
+    → IsField I q at
 same_parts {X} {I} {p} {at} q same field = record {
   example = field.example;
   example_is = field.example_is;
   example_fits = subst (λ (fs : List Field). AllFit fs) (same field.example field.example_is) field.example_fits;
-  takes = λ bytes x rest isb e. let took = field.takes bytes x rest isb e in (took.0, subst (λ (fs : List Field). Takes bytes fs rest) (same x took.0) took.1);
+  takes = λ bytes x rest isb e. let took = field.takes bytes x rest isb e in (
+    took.0,
+    subst (λ (fs : List Field). Takes bytes fs rest)
+        (same x took.0) took.1,
+  );
   again = λ x rest is fits.
-      ap (λ (fs : List Field). at (spelled fs ++ rest)) (sym (same x is)) ∙ field.again x rest is (subst (λ (fs : List Field). AllFit fs) (sym (same x is)) fits);
+      ap (λ (fs : List Field). at (spelled fs ++ rest)) (sym (same x is))
+      ∙ field.again x rest is (subst (λ (fs : List Field). AllFit fs) (sym (same x is)) fits);
   stops = λ bytes left isb e.
       let s = field.stops bytes left isb e in
       record {
@@ -195,7 +205,8 @@ same_parts {X} {I} {p} {at} q same field = record {
 
 -- ---- a field that depends on the one before
 
-bind_takes : {X Z : Type 0} {Ix : X → Type 0} {px : X → List Field} {ax : Reads X} {Iz : Z → Type 0} (key : Z → X) {pz : Z → List Field} {az : X → Reads Z} → IsField Ix px ax
+bind_takes : {X Z : Type 0} {Ix : X → Type 0} {px : X → List Field} {ax : Reads X} {Iz : Z → Type 0} (key : Z → X) {pz : Z → List Field} {az : X
+    → Reads Z} → IsField Ix px ax
     → ((x : X) → Ix x → AllFit (px x) → IsField (λ (z : Z). (key z ≡ x) × Iz z) pz (az x)) → (bytes : List ℕ) (z : Z) (rest : List ℕ) → IsBytes bytes
     → (ax bytes >>= λ r. az r.0 r.1) ≡ Ok (z, rest) → (Ix (key z) × Iz z) × Takes bytes (px (key z) ++ pz z) rest
 bind_takes {X} {Z} {Ix} {px} {ax} {Iz} key {pz} {az} first second bytes z rest isb e =
@@ -205,7 +216,8 @@ bind_takes {X} {Z} {Ix} {px} {ax} {Iz} key {pz} {az} first second bytes z rest i
     let k : a.0.0 ≡ key z = sym two.0.0 in
     ((subst Ix k one.0, two.0.1), Takes-then bytes (px (key z)) a.0.1 (pz z) rest (subst (λ (x : X). Takes bytes (px x) a.0.1) k one.1) two.1)
 
-bind_stops : {X Z : Type 0} {Ix : X → Type 0} {px : X → List Field} {ax : Reads X} {Iz : Z → Type 0} (key : Z → X) {pz : Z → List Field} {az : X → Reads Z} → IsField Ix px ax
+bind_stops : {X Z : Type 0} {Ix : X → Type 0} {px : X → List Field} {ax : Reads X} {Iz : Z → Type 0} (key : Z → X) {pz : Z → List Field} {az : X
+    → Reads Z} → IsField Ix px ax
     → ((x : X) → Ix x → AllFit (px x) → IsField (λ (z : Z). (key z ≡ x) × Iz z) pz (az x)) → (bytes : List ℕ) (left : ℕ) → IsBytes bytes
     → (ax bytes >>= λ r. az r.0 r.1) ≡ Err left → Reaches (λ (z : Z). Ix (key z) × Iz z) (λ (z : Z). px (key z) ++ pz z) bytes left
 bind_stops {X} {Z} {Ix} {px} {ax} {Iz} key {pz} {az} first second bytes left isb e =
@@ -245,26 +257,33 @@ bind_stops {X} {Z} {Ix} {px} {ax} {Iz} key {pz} {az} first second bytes left isb
           }
     ]
 
-bind_furthest : {X Z : Type 0} {Ix : X → Type 0} {px : X → List Field} {ax : Reads X} {Iz : Z → Type 0} (key : Z → X) {pz : Z → List Field} {az : X → Reads Z} → IsField Ix px ax
-    → ((x : X) → Ix x → AllFit (px x) → IsField (λ (z : Z). (key z ≡ x) × Iz z) pz (az x)) → (bytes : List ℕ) (z : Z) (front back : List Field) (tail : List ℕ) → IsBytes bytes
-    → Ix (key z) × Iz z → AllFit (px (key z) ++ pz z) → px (key z) ++ pz z ≡ front ++ back → bytes ≡ spelled front ++ tail → left_of (ax bytes >>= λ r. az r.0 r.1) ≤ length tail
+bind_furthest : {X Z : Type 0} {Ix : X → Type 0} {px : X → List Field} {ax : Reads X} {Iz : Z → Type 0} (key : Z → X) {pz : Z → List Field} {az : X
+    → Reads Z} → IsField Ix px ax
+    → ((x : X) → Ix x → AllFit (px x) → IsField (λ (z : Z). (key z ≡ x) × Iz z) pz (az x)) → (bytes : List ℕ) (z : Z) (front back : List Field)
+    (tail : List ℕ) → IsBytes bytes
+    → Ix (key z) × Iz z → AllFit (px (key z) ++ pz z) → px (key z) ++ pz z ≡ front ++ back → bytes ≡ spelled front ++ tail
+    → left_of (ax bytes >>= λ r. az r.0 r.1) ≤ length tail
 bind_furthest {X} {Z} {Ix} {px} {ax} {Iz} key {pz} {az} first second bytes z front back tail isb is fits fields are =
     elim (two_cuts (px (key z)) (pz z) front back fields) [
       | inl w ↦
-          let one : left_of (ax bytes) ≤ length tail = first.furthest bytes (key z) front w.between tail isb is.0 (AllFit-front (px (key z)) (pz z) fits) w.a_is are in
+          let one : left_of (ax bytes) ≤ length tail = first.furthest bytes (key z) front w.between tail isb is.0
+          (AllFit-front (px (key z)) (pz z) fits) w.a_is are in
           let two : left_of (ax bytes >>= λ r. az r.0 r.1) ≤ left_of (ax bytes) = then_left (ax bytes) (λ r. az r.0 r.1)
           (λ r e. let took = first.takes bytes r.0 r.1 isb e in no_more (second r.0 took.0 took.1.fits) r.1 took.1.rest_fits) in
           omega (arith, one, two)
       | inr w ↦
           let middle : List ℕ = spelled w.between ++ tail in
-          let parts : bytes ≡ spelled (px (key z)) ++ middle = are ∙ ap (λ (fs : List Field). spelled fs ++ tail) w.c_is ∙ spelled_then (px (key z)) w.between tail in
+          let parts : bytes ≡ spelled (px (key z)) ++ middle = are ∙ ap (λ (fs : List Field). spelled fs ++ tail) w.c_is
+          ∙ spelled_then (px (key z)) w.between tail in
           let read : ax bytes ≡ Ok (key z, middle) = ap ax parts ∙ first.again (key z) middle is.0 (AllFit-front (px (key z)) (pz z) fits) in
           let took = first.takes bytes (key z) middle isb read in
-          let rest = (second (key z) is.0 took.1.fits).furthest middle z w.between back tail took.1.rest_fits (refl, is.1) (AllFit-back (px (key z)) (pz z) fits) w.b_is refl in
+          let rest = (second (key z) is.0 took.1.fits).furthest middle z w.between back tail took.1.rest_fits (refl, is.1)
+          (AllFit-back (px (key z)) (pz z) fits) w.b_is refl in
           subst (λ (r : Result (X × List ℕ) ℕ). left_of (r >>= λ x. az x.0 x.1) ≤ length tail) (sym read) rest
     ]
 
-pub bind_field : {X Z : Type 0} {Ix : X → Type 0} {px : X → List Field} {ax : Reads X} {Iz : Z → Type 0} (key : Z → X) {pz : Z → List Field} {az : X → Reads Z} → IsField Ix px ax
+pub bind_field : {X Z : Type 0} {Ix : X → Type 0} {px : X → List Field} {ax : Reads X} {Iz : Z → Type 0} (key : Z → X) {pz : Z → List Field} {az : X
+    → Reads Z} → IsField Ix px ax
     → ((x : X) → Ix x → AllFit (px x) → IsField (λ (z : Z). (key z ≡ x) × Iz z) pz (az x))
     → IsField (λ (z : Z). Ix (key z) × Iz z) (λ (z : Z). px (key z) ++ pz z) (λ (bytes : List ℕ). ax bytes >>= λ r. az r.0 r.1)
 bind_field {X} {Z} {Ix} {px} {ax} {Iz} key {pz} {az} first second =
@@ -273,12 +292,15 @@ bind_field {X} {Z} {Ix} {px} {ax} {Iz} key {pz} {az} first second =
     record {
       example = field.example;
       example_is = (subst Ix k first.example_is, field.example_is.1);
-      example_fits = AllFit-append (px (key field.example)) (pz field.example) (subst (λ (x : X). AllFit (px x)) k first.example_fits) field.example_fits;
+      example_fits = AllFit-append (px (key field.example)) (pz field.example)
+          (subst (λ (x : X). AllFit (px x)) k first.example_fits) field.example_fits;
       takes = bind_takes key first second;
       again = λ z rest is fits.
           let fits_x = AllFit-front (px (key z)) (pz z) fits in
-          let read : ax (spelled (px (key z)) ++ (spelled (pz z) ++ rest)) ≡ Ok (key z, spelled (pz z) ++ rest) = first.again (key z) (spelled (pz z) ++ rest) is.0 fits_x in
-          let next : az (key z) (spelled (pz z) ++ rest) ≡ Ok (z, rest) = (second (key z) is.0 fits_x).again z rest (refl, is.1) (AllFit-back (px (key z)) (pz z) fits) in
+          let read : ax (spelled (px (key z)) ++ (spelled (pz z) ++ rest)) ≡ Ok (key z, spelled (pz z) ++ rest) = first.again (key z)
+          (spelled (pz z) ++ rest) is.0 fits_x in
+          let next : az (key z) (spelled (pz z) ++ rest) ≡ Ok (z, rest) = (second (key z) is.0 fits_x).again z rest (refl, is.1)
+          (AllFit-back (px (key z)) (pz z) fits) in
           ap (λ (bytes : List ℕ). ax bytes >>= λ r. az r.0 r.1) (spelled_then (px (key z)) (pz z) rest)
           ∙ ap (λ (r : Result (X × List ℕ) ℕ). r >>= λ x. az x.0 x.1) read ∙ next;
       stops = bind_stops key first second;
@@ -319,12 +341,14 @@ made_field {X} {Y} {Ix} {px} {ax} Iy py made is_made parts_made find field = rec
   takes = λ bytes y rest isb e.
       let read = made_is made ax bytes y rest e in
       let took = field.takes bytes read.0 rest isb read.2 in
-      let made_took : Takes bytes (py (made read.0)) rest = subst (λ (fs : List Field). Takes bytes fs rest) (sym (parts_made read.0 took.0)) took.1 in
+      let made_took : Takes bytes (py (made read.0)) rest = subst (λ (fs : List Field). Takes bytes fs rest)
+      (sym (parts_made read.0 took.0)) took.1 in
       (subst Iy read.1 (is_made read.0 took.0), subst (λ (z : Y). Takes bytes (py z) rest) read.1 made_took);
   again = λ y rest is fits.
       let found = find y is in
       let parts : py y ≡ px found.from = ap py (sym found.same) ∙ parts_made found.from found.is in
-      let read : ax (spelled (px found.from) ++ rest) ≡ Ok (found.from, rest) = field.again found.from rest found.is (subst (λ (fs : List Field). AllFit fs) parts fits) in
+      let read : ax (spelled (px found.from) ++ rest) ≡ Ok (found.from, rest) = field.again found.from rest found.is
+      (subst (λ (fs : List Field). AllFit fs) parts fits) in
       ap (λ (fs : List Field). as_at made ax (spelled fs ++ rest)) parts
       ∙ ap (λ (r : Result (X × List ℕ) ℕ). r >>= λ x. Ok (made x.0, x.1)) read
       ∙ ap (λ (z : Y). Ok (z, rest)) found.same;
@@ -344,7 +368,8 @@ made_field {X} {Y} {Ix} {px} {ax} Iy py made is_made parts_made find field = rec
   furthest = λ bytes y front back tail isb is fits fields are.
       let found = find y is in
       let parts : py y ≡ px found.from = ap py (sym found.same) ∙ parts_made found.from found.is in
-      let within = field.furthest bytes found.from front back tail isb found.is (subst (λ (fs : List Field). AllFit fs) parts fits) (sym parts ∙ fields) are in
+      let within = field.furthest bytes found.from front back tail isb found.is (subst (λ (fs : List Field). AllFit fs) parts fits)
+      (sym parts ∙ fields) are in
       subst (λ (n : ℕ). n ≤ length tail) (sym (made_left made (ax bytes))) within;
 }
 
@@ -352,7 +377,8 @@ made_field {X} {Y} {Ix} {px} {ax} Iy py made is_made parts_made find field = rec
 pub pair_field : {X Y : Type 0} {Ix : X → Type 0} {Iy : Y → Type 0} {px : X → List Field} {py : Y → List Field} {ax : Reads X} {ay : Reads Y}
     → IsField Ix px ax → IsField Iy py ay → IsField (λ (p : X × Y). Ix p.0 × Iy p.1) (λ (p : X × Y). px p.0 ++ py p.1) (then_at ax ay)
 pair_field {X} {Y} {Ix} {Iy} {px} {py} {ax} {ay} first second =
-    bind_field {Z = X × Y} {Iz = λ (p : X × Y). Iy p.1} (λ (p : X × Y). p.0) {pz = λ (p : X × Y). py p.1} {az = λ (x : X). as_at (λ (y : Y). (x, y)) ay} first
+    bind_field {Z = X × Y} {Iz = λ (p : X × Y). Iy p.1} (λ (p : X × Y). p.0) {pz = λ (p : X × Y). py p.1} {az = λ (x : X). as_at
+    (λ (y : Y). (x, y)) ay} first
     (λ x ix fits. made_field (λ (p : X × Y). (p.0 ≡ x) × Iy p.1) (λ (p : X × Y). py p.1) (λ (y : Y). (x, y))
     (λ y iy. (refl, iy)) (λ y iy. refl)
     (λ p is. record { from = p.1; is = is.1; same = ap (λ (z : X). let pair : X × Y = (z, p.1) in pair) (sym is.0) }) second)
@@ -429,7 +455,8 @@ single_field {X} Is part at example example_is example_fits takes again fails = 
             let whole : bytes ≡ tail = are ∙ ap (λ (fs : List Field). spelled fs ++ tail) e in
             subst (λ (b : List ℕ). left_of (at bytes) ≤ length b) whole (single_left Is part at bytes takes fails isb)
         | inr e ↦
-            let parts : bytes ≡ bytes_of (part x) ++ tail = are ∙ ap (λ (fs : List Field). spelled fs ++ tail) e ∙ ap (λ (t : List ℕ). t ++ tail) (append-nil (bytes_of (part x))) in
+            let parts : bytes ≡ bytes_of (part x) ++ tail = are ∙ ap (λ (fs : List Field). spelled fs ++ tail) e ∙ ap (λ (t : List ℕ). t ++ tail)
+            (append-nil (bytes_of (part x))) in
             let read : at bytes ≡ Ok (x, tail) = ap at parts ∙ again x tail is fits.0 in
             subst (λ (r : Result (X × List ℕ) ℕ). left_of r ≤ length tail) (sym read) (omega arith)
       ];
@@ -441,7 +468,8 @@ no_values : {X : Type 0} (xs : List X) → length xs ≡ 0 → IsMade (λ (u : U
 no_values [] e = record { from = tt; is = tt; same = refl }
 no_values (x ∷ xs) e = absurd (omega arith)
 
-some_values : {X : Type 0} (n : ℕ) (xs : List X) → length xs ≡ suc n → IsMade (λ (p : X × List X). (Unit {0}) × (length p.1 ≡ n)) (λ (p : X × List X). p.0 ∷ p.1) xs
+some_values : {X : Type 0} (n : ℕ) (xs : List X) → length xs ≡ suc n → IsMade (λ (p : X × List X). (Unit {0}) × (length p.1 ≡ n))
+    (λ (p : X × List X). p.0 ∷ p.1) xs
 some_values n [] e = absurd (omega arith)
 some_values n (x ∷ xs) e = record { from = (x, xs); is = (tt, omega arith); same = refl }
 

@@ -35,7 +35,8 @@ number_sized size = record {
       ];
 }
 
-then_sized : {X Y : Type 0} {m n : ℕ} {first : Reads X} {second : Reads Y} → IsSized m first → IsSized n second → IsSized (m + n) (then_at first second)
+then_sized : {X Y : Type 0} {m n : ℕ} {first : Reads X} {second : Reads Y} → IsSized m first → IsSized n second
+    → IsSized (m + n) (then_at first second)
 then_sized {X} {Y} {m} {n} {first} {second} one two = record {
   read = λ bytes p e.
       let a = bind_ok (first bytes) (λ x. second x.1 >>= λ y. Ok ((x.0, y.0), y.1)) p e in
@@ -67,7 +68,8 @@ as_sized {X} {Y} {n} {at} made sized = record {
 
 pub call_sized : IsSized 28 call_at
 unfolding call_at
-call_sized = as_sized made_call (then_sized (number_sized 4) (then_sized (number_sized 8) (then_sized (number_sized 4) (then_sized (number_sized 4) (then_sized (number_sized 4) (number_sized 4))))))
+call_sized = as_sized made_call (then_sized (number_sized 4)
+    (then_sized (number_sized 8) (then_sized (number_sized 4) (then_sized (number_sized 4) (then_sized (number_sized 4) (number_sized 4))))))
 
 pub stamp_sized : IsSized 18 stamp_at
 unfolding stamp_at
@@ -79,7 +81,8 @@ ballot_sized = as_sized made_ballot (then_sized (number_sized 4) (then_sized (nu
 
 -- ---- at a place
 
-pub found_at : {X : Type 0} {parts : X → List Field} {reads : Reads X} → IsPlain parts reads → (bytes : List ℕ) (at : ℕ) (x : X) (rest : List ℕ) → IsBytes bytes → at ≤ length bytes
+pub found_at : {X : Type 0} {parts : X → List Field} {reads : Reads X} → IsPlain parts reads → (bytes : List ℕ) (at : ℕ) (x : X) (rest : List ℕ)
+    → IsBytes bytes → at ≤ length bytes
     → reads (drop at bytes) ≡ Ok (x, rest) → IsAt bytes at (parts x)
 found_at law bytes at x rest isb within e =
     let took = (law.takes (drop at bytes) x rest (IsBytes-drop at bytes isb) e).1 in
@@ -91,7 +94,8 @@ found_at law bytes at x rest isb within e =
       at_is = omega (arith, length-take at bytes);
     }
 
-pub ends_within : {X : Type 0} {size : ℕ} {reads : Reads X} → IsSized size reads → (bytes : List ℕ) (at : ℕ) (x : X) (rest : List ℕ) → at ≤ length bytes
+pub ends_within : {X : Type 0} {size : ℕ} {reads : Reads X} → IsSized size reads → (bytes : List ℕ) (at : ℕ) (x : X) (rest : List ℕ)
+    → at ≤ length bytes
     → reads (drop at bytes) ≡ Ok (x, rest) → at + size ≤ length bytes
 ends_within sized bytes at x rest within e = omega (arith, sized.read (drop at bytes) (x, rest) e, length-drop at bytes)
 

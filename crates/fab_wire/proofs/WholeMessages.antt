@@ -68,7 +68,8 @@ message_law : IsPlain fields_of message_at
 unfolding message_at fields_of
 message_law =
     plain_made fields_of (λ (p : (Unit {0}) × ((Unit {0}) × Message)). p.1.1) (λ (m : Message). (tt, (tt, m))) (λ m. refl) (λ p. refl)
-    (plain_pair (exactly32 fabw (omega arith)) (plain_pair (exactly8 1 (omega arith)) (choice_field kind_table 1 read_at first_kind (omega arith) has_kind)))
+    (plain_pair (exactly32 fabw (omega arith)) (plain_pair (exactly8 1 (omega arith))
+    (choice_field kind_table 1 read_at first_kind (omega arith) has_kind)))
 
 -- ---- which message the bytes spell
 
@@ -80,14 +81,16 @@ read_spells bytes m isb e =
     let held = guard_held (eqb (length a.0.1) 0) (length a.0.1) (Ok a.0.0) m a.2 in
     let took = (message_law.takes bytes a.0.0 a.0.1 isb a.1).1 in
     let nothing : a.0.1 ≡ [] = nil_from_length a.0.1 (eqb-true _ _ held.0) in
-    let whole : bytes ≡ spelled (fields_of a.0.0) = took.parts ∙ ap (λ (rest : List ℕ). spelled (fields_of a.0.0) ++ rest) nothing ∙ append-nil (spelled (fields_of a.0.0)) in
+    let whole : bytes ≡ spelled (fields_of a.0.0) = took.parts ∙ ap (λ (rest : List ℕ). spelled (fields_of a.0.0) ++ rest) nothing
+    ∙ append-nil (spelled (fields_of a.0.0)) in
     subst (λ (k : Message). Spells bytes k) (ok_is a.0.0 m held.1) (record { fits = took.fits; bytes_are = whole })
 
 -- what is spelled so is read
 pub spells_read : (bytes : List ℕ) (m : Message) → Spells bytes m → datagram_of bytes ≡ Ok m
 unfolding datagram_of
 spells_read bytes m spells =
-    let again : message_at bytes ≡ Ok (m, []) = ap message_at (spells.bytes_are ∙ sym (append-nil (spelled (fields_of m)))) ∙ message_law.again m [] tt spells.fits in
+    let again : message_at bytes ≡ Ok (m, []) = ap message_at (spells.bytes_are ∙ sym (append-nil (spelled (fields_of m))))
+    ∙ message_law.again m [] tt spells.fits in
     ap (λ (r : Result (Message × List ℕ) ℕ). r >>= λ x. cond (eqb (length x.1) 0) (Ok x.0) (Err (length x.1))) again
 
 -- no bytes spell two messages
@@ -109,7 +112,8 @@ pub left_within : (bytes : List ℕ) (left : ℕ) → IsBytes bytes → datagram
 left_within bytes left isb e = omega (arith, no_more message_law bytes isb, stops_there bytes left e)
 
 -- so many fields of a message are there
-begins_at : (bytes : List ℕ) (left at : ℕ) → IsBytes bytes → left_of (message_at bytes) ≡ left → at + left ≡ length bytes → (m : Message) × Begins bytes m at
+begins_at : (bytes : List ℕ) (left at : ℕ) → IsBytes bytes → left_of (message_at bytes) ≡ left → at + left ≡ length bytes → (m : Message)
+    × Begins bytes m at
 begins_at bytes left at isb stops sum =
     elim (result_cases (message_at bytes)) [
       | inl w ↦

@@ -12,7 +12,8 @@ pub ruleset joined = (common_steps, spelled-append, AllFit-append)
 -- one brick more
 bricks_more : (bricks : List BrickId) (i : ℕ) (d : BrickId) → i < length bricks
     → map brick_field (take (i + 1) bricks) ≡ map brick_field (take i bricks) ++ brick_field (get_or bricks i d) ∷ []
-bricks_more bricks i d lt = ap (λ (bs : List BrickId). map brick_field bs) (take_more bricks i d lt) ∙ map-append brick_field (take i bricks) (get_or bricks i d ∷ [])
+bricks_more bricks i d lt = ap (λ (bs : List BrickId). map brick_field bs) (take_more bricks i d lt) ∙ map-append brick_field (take i bricks)
+    (get_or bricks i d ∷ [])
 
 -- one brick more is written
 pub one_written : (old count now new : List ℕ) (bricks : List BrickId) (i : ℕ) (d : BrickId) → i < length bricks
@@ -28,7 +29,9 @@ one_written old count now new bricks i d lt before one =
     ∙ ap (λ (t : List ℕ). old ++ t) (append_assoc count (spelled front) brick ∙ ap (λ (t : List ℕ). count ++ t) more)
 
 -- one brick more fits
-pub one_fits : (bricks : List BrickId) (i : ℕ) (d : BrickId) → i < length bricks → AllFit (map brick_field (take i bricks)) → (get_or bricks i d).0 < 256 ^ 2
+pub one_fits : (bricks : List BrickId) (i : ℕ) (d : BrickId) → i < length bricks → AllFit (map brick_field (take i bricks))
+    → (get_or bricks i d).0 < 256 ^ 2
     → AllFit (map brick_field (take (i + 1) bricks))
 one_fits bricks i d lt before one =
-    subst (λ (fs : List Field). AllFit fs) (sym (bricks_more bricks i d lt)) (AllFit-append (map brick_field (take i bricks)) (brick_field (get_or bricks i d) ∷ []) before (one, tt))
+    subst (λ (fs : List Field). AllFit fs) (sym (bricks_more bricks i d lt))
+    (AllFit-append (map brick_field (take i bricks)) (brick_field (get_or bricks i d) ∷ []) before (one, tt))

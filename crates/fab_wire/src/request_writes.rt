@@ -66,7 +66,8 @@ fn put_modify(
 ) -> Result<(), NoMem>
     requires seat { data_block ≤ 15 }
     requires room { BlockFits delta.now }
-    ensures bytes { OnOk result (out.new.items ≡ out.old.items ++ spelled (stamp_fields stamp ++ (stamp_fields base ++ (Limited 1 0 15 data_block ∷ block_fields delta.now)))) }
+    ensures bytes { OnOk result (out.new.items ≡ out.old.items ++ spelled
+        (stamp_fields stamp ++ (stamp_fields base ++ (Limited 1 0 15 data_block ∷ block_fields delta.now)))) }
     ensures fits { OnOk result (AllFit (stamp_fields stamp ++ (stamp_fields base ++ (Limited 1 0 15 data_block ∷ block_fields delta.now)))) }
 {
     put_stamp(out, stamp)?;

@@ -23,7 +23,8 @@ pub length-line : (frame : Frame) → length (line_of frame) ≡ length frame.bo
 length-line frame = omega (arith, length-append (frame_rest frame) (0 ∷ []))
 
 -- the frames' bytes, an open gate and the rest of a frame are the bytes of one frame more
-pub stands_more : (at p : ℕ) (frames : List Frame) (frame : Frame) (image : List ℕ) → p ≡ at + size_of frames → p + 1 + length (line_of frame) ≤ length image
+pub stands_more : (at p : ℕ) (frames : List Frame) (frame : Frame) (image : List ℕ) → p ≡ at + size_of frames
+    → p + 1 + length (line_of frame) ≤ length image
     → part at (size_of frames) image ≡ spelled frames → get_or image p 0 ≡ 165 → part (p + 1) (length (line_of frame)) image ≡ line_of frame
     → part at (size_of (frames ++ frame ∷ [])) image ≡ spelled (frames ++ frame ∷ [])
 stands_more at p frames frame image is fits stands gate line =
@@ -45,7 +46,8 @@ stands_more at p frames frame image is fits stands gate line =
 
 -- behind the frame a closed gate stands
 pub ends_more : (shape : Shape) (half : Half) (p : ℕ) (frames : List Frame) (frame : Frame) (image : List ℕ) → p ≡ half_at shape half + size_of frames
-    → p + 1 + length (line_of frame) ≤ length image → Fits shape frames (length frame.body) → part (p + 1) (length (line_of frame)) image ≡ line_of frame
+    → p + 1 + length (line_of frame) ≤ length image → Fits shape frames (length frame.body)
+    → part (p + 1) (length (line_of frame)) image ≡ line_of frame
     → EndsClosed shape half (frames ++ frame ∷ []) image
 ends_more shape half p frames frame image is fits within line =
     let n = length (frame_rest frame) in
@@ -53,7 +55,8 @@ ends_more shape half p frames frame image is fits within line =
     let size = size_of-append frames (frame ∷ []) in
     let place : half_at shape half + size_of (frames ++ frame ∷ []) ≡ p + 1 + n = omega (arith, size) in
     let gate : get_or image (p + 1 + n) 0 ≡ 0 =
-    sym (part_get (p + 1) (length (line_of frame)) image n (omega (arith, long))) ∙ ap (λ (l : List ℕ). get_or l n 0) line ∙ last (frame_rest frame) n refl in
+    sym (part_get (p + 1) (length (line_of frame)) image n (omega (arith, long))) ∙ ap (λ (l : List ℕ). get_or l n 0) line
+    ∙ last (frame_rest frame) n refl in
     record {
       within_half = omega (arith, size);
       within_file = omega (arith, place, long);
@@ -112,7 +115,8 @@ stands_any : (shape : Shape) (half : Half) (frames : List Frame) (old new : List
     → part (half_at shape half) (size_of frames) old ≡ spelled frames → part (half_at shape half) (size_of frames) new ≡ spelled frames
 stands_any shape half [] old new from k torn clear stands = refl
 stands_any shape half (f ∷ frames) old new from k torn clear stands =
-    let size : length (part (half_at shape half) (size_of (f ∷ frames)) old) ≡ size_of (f ∷ frames) = ap length stands ∙ length-spelled (f ∷ frames) in
+    let size : length (part (half_at shape half) (size_of (f ∷ frames)) old) ≡ size_of (f ∷ frames) = ap length stands
+    ∙ length-spelled (f ∷ frames) in
     part_kept from k old new (half_at shape half) (size_of (f ∷ frames)) torn (within (size_of (f ∷ frames)) (omega arith) size) clear ∙ stands
   where
     within : (n : ℕ) → 0 < n → length (part (half_at shape half) n old) ≡ n → half_at shape half + n ≤ length old
@@ -121,16 +125,21 @@ stands_any shape half (f ∷ frames) old new from k torn clear stands =
         simp_length : (n : ℕ) → length (part (half_at shape half) n old) ≤ length old - half_at shape half
         simp_length n = grind (arith, places)
 
-pub rooted_kept : (shape : Shape) (half : Half) (number : ℕ) (other_shut : Bool) (frames : List Frame) (old new : List ℕ) (from k : ℕ) → Torn from k old new → 64 ≤ from
-    → IsClear from k (half_at shape half) (size_of frames) → Rooted shape half number other_shut frames old → Rooted shape half number other_shut frames new
+pub rooted_kept : (shape : Shape) (half : Half) (number : ℕ) (other_shut : Bool) (frames : List Frame) (old new : List ℕ) (from k : ℕ)
+    → Torn from k old new → 64 ≤ from
+    → IsClear from k (half_at shape half) (size_of frames) → Rooted shape half number other_shut frames old
+    → Rooted shape half number other_shut frames new
 rooted_kept shape half number other_shut frames old new from k torn behind clear rooted =
     let longer : 64 ≤ length new = omega (arith, rooted.whole, torn.no_shorter) in
-    let same = part_kept from k old new (header_at half) 25 torn (omega (arith, header_within half, rooted.whole)) (below (omega (arith, header_within half))) in
-    let gate = byte_kept from k old new (header_at (other half)) torn (omega (arith, header_within (other half), rooted.whole)) (below (omega (arith, header_within (other half)))) in
+    let same = part_kept from k old new (header_at half) 25 torn (omega (arith, header_within half, rooted.whole))
+    (below (omega (arith, header_within half))) in
+    let gate = byte_kept from k old new (header_at (other half)) torn (omega (arith, header_within (other half), rooted.whole))
+    (below (omega (arith, header_within (other half)))) in
     record {
       whole = longer;
       in_force = in_force_kept shape half old new rooted.whole longer same
-          (λ other_open. part_kept from k old new (header_at (other half)) 25 torn (omega (arith, header_within (other half), rooted.whole)) (below (omega (arith, header_within (other half)))))
+          (λ other_open. part_kept from k old new (header_at (other half)) 25 torn (omega (arith, header_within (other half), rooted.whole))
+          (below (omega (arith, header_within (other half)))))
           rooted.in_force;
       generation = generation_kept shape half old new rooted.whole longer same ∙ rooted.generation;
       stands = stands_any shape half frames old new from k torn clear rooted.stands;
@@ -139,15 +148,18 @@ rooted_kept shape half number other_shut frames old new from k torn behind clear
     }
 
 -- An append, from a content S in which these frames stand: p is the place of their gate.
-module _ (shape : Shape) (half : Half) (frames : List Frame) (frame : Frame) (p : ℕ) (limits : IsShape shape) (place : p ≡ half_at shape half + size_of frames)
+module _ (shape : Shape) (half : Half) (frames : List Frame) (frame : Frame) (p : ℕ) (limits : IsShape shape)
+    (place : p ≡ half_at shape half + size_of frames)
     (fits : Fits shape frames (length frame.body)) where
   behind : 64 ≤ p
   behind = omega (arith, place, half_behind shape half)
 
   -- while the frame is written behind the closed gate, the frames are as they were
-  pub index_staged : (content image : List ℕ) → Index shape half frames content → Torn (p + 1) (length (line_of frame)) content image → Index shape half frames image
+  pub index_staged : (content image : List ℕ) → Index shape half frames content → Torn (p + 1) (length (line_of frame)) content image
+      → Index shape half frames image
   index_staged content image index torn =
-      index_kept shape half frames content image (p + 1) (length (line_of frame)) torn (omega (arith, behind)) (below (omega (arith, place))) (below (omega (arith, place))) index
+      index_kept shape half frames content image (p + 1) (length (line_of frame)) torn (omega (arith, behind)) (below (omega (arith, place)))
+      (below (omega (arith, place))) index
 
   -- while the gate is opened, the frame is there or it is not
   pub index_gated : (content image : List ℕ) → Index shape half frames content → Torn p 1 (written (p + 1) (line_of frame) content) image
@@ -159,15 +171,19 @@ module _ (shape : Shape) (half : Half) (frames : List Frame) (frame : Frame) (p 
       let here : Index shape half frames staged = index_staged content staged index (written_torn (p + 1) (line_of frame) content) in
       let in_force : InForce shape half image =
       in_force_kept shape half staged image here.whole (omega (arith, here.whole, torn.no_shorter))
-      (part_kept p 1 staged image (header_at half) 25 torn (omega (arith, header_within half, here.whole)) (below (omega (arith, header_within half, behind))))
-      (λ other_open. part_kept p 1 staged image (header_at (other half)) 25 torn (omega (arith, header_within (other half), here.whole)) (below (omega (arith, header_within (other half), behind))))
+      (part_kept p 1 staged image (header_at half) 25 torn (omega (arith, header_within half, here.whole))
+      (below (omega (arith, header_within half, behind))))
+      (λ other_open. part_kept p 1 staged image (header_at (other half)) 25 torn (omega (arith, header_within (other half), here.whole))
+      (below (omega (arith, header_within (other half), behind))))
       here.in_force in
       let stands : part (half_at shape half) (size_of frames) image ≡ spelled frames =
-      part_kept p 1 staged image (half_at shape half) (size_of frames) torn (omega (arith, place, here.ends.within_file)) (below (omega (arith, place))) ∙ here.stands in
+      part_kept p 1 staged image (half_at shape half) (size_of frames) torn (omega (arith, place, here.ends.within_file))
+      (below (omega (arith, place))) ∙ here.stands in
       let whole : 64 ≤ length image = omega (arith, here.whole, torn.no_shorter) in
       let long : p + 1 + length (line_of frame) ≤ length image = omega (arith, size, torn.no_shorter) in
       let line : part (p + 1) (length (line_of frame)) image ≡ line_of frame =
-      part_kept p 1 staged image (p + 1) (length (line_of frame)) torn (omega (arith, size)) (above (omega arith)) ∙ part_written (p + 1) (line_of frame) content in
+      part_kept p 1 staged image (p + 1) (length (line_of frame)) torn (omega (arith, size)) (above (omega arith))
+      ∙ part_written (p + 1) (line_of frame) content in
       elim (cases_eq (get_or image p 0) 165) [
         | inl is_open ↦ inr (record {
           whole = whole;
@@ -199,11 +215,13 @@ module _ (shape : Shape) (half : Half) (frames : List Frame) (frame : Frame) (p 
       let some = length-line frame in
       let size = length-written (p + 1) (line_of frame) content (omega (arith, some)) in
       let torn = written_torn p (165 ∷ []) staged in
-      let here = rooted_kept shape half number other_shut frames content staged (p + 1) (length (line_of frame)) (written_torn (p + 1) (line_of frame) content) (omega (arith, behind)) (below (omega (arith, place))) rooted in
+      let here = rooted_kept shape half number other_shut frames content staged (p + 1) (length (line_of frame))
+      (written_torn (p + 1) (line_of frame) content) (omega (arith, behind)) (below (omega (arith, place))) rooted in
       let now = rooted_kept shape half number other_shut frames staged image p 1 torn behind (below (omega (arith, place))) here in
       let long : p + 1 + length (line_of frame) ≤ length image = omega (arith, size, torn.no_shorter) in
       let line : part (p + 1) (length (line_of frame)) image ≡ line_of frame =
-      part_kept p 1 staged image (p + 1) (length (line_of frame)) torn (omega (arith, size)) (above (omega arith)) ∙ part_written (p + 1) (line_of frame) content in
+      part_kept p 1 staged image (p + 1) (length (line_of frame)) torn (omega (arith, size)) (above (omega arith))
+      ∙ part_written (p + 1) (line_of frame) content in
       let same : p ≡ p + 0 = omega arith in
       let gate : get_or image p 0 ≡ 165 = ap (λ (i : ℕ). get_or image i 0) same ∙ written_get p (165 ∷ []) staged 0 (omega arith) in
       let more : Rooted shape half number other_shut (frames ++ frame ∷ []) image = record {

@@ -22,14 +22,16 @@ pub laid_opens : (shape : Shape) (half : Half) (number : ℕ) (other_shut : Bool
 laid_opens shape half number other_shut frames closed image laid =
     record { half = half; in_force = laid.in_force; listed = laid.listed; ended = laid.ended; not_ended = laid.not_ended }
 
-module _ (shape : Shape) (half : Half) (frames : List Frame) (frame : Frame) (p : ℕ) (limits : IsShape shape) (place : p ≡ half_at shape half + size_of frames)
+module _ (shape : Shape) (half : Half) (frames : List Frame) (frame : Frame) (p : ℕ) (limits : IsShape shape)
+    (place : p ≡ half_at shape half + size_of frames)
     (fits : Fits shape frames (length frame.body)) (put : Option (ℕ × List ℕ)) (content : List ℕ) where
   -- before the gate is opened
   pub moment_before : (d image : List ℕ) → Index shape half frames d → KeepsSlots shape put content d → Torn (p + 1) (length (line_of frame)) d image
       → IsBeforeOrAfter shape frames (frames ++ frame ∷ []) put content image
   moment_before d image index slots torn = record {
     opens = inl (index_opens shape half frames image limits (index_staged shape half frames frame p limits place fits d image index torn));
-    slots = slots_kept shape put content d image (p + 1) (length (line_of frame)) torn (λ slot is other. clear_behind shape half (p + 1) (length (line_of frame)) slot (omega (arith, place)) is) slots;
+    slots = slots_kept shape put content d image (p + 1) (length (line_of frame)) torn
+        (λ slot is other. clear_behind shape half (p + 1) (length (line_of frame)) slot (omega (arith, place)) is) slots;
   }
 
   -- while it is opened
@@ -38,45 +40,60 @@ module _ (shape : Shape) (half : Half) (frames : List Frame) (frame : Frame) (p 
   moment_gated staged image index slots stands torn =
       let behind = written (p + 1) (line_of frame) staged in
       let torn_behind = written_torn (p + 1) (line_of frame) staged in
-      let slots_behind = slots_kept shape put content staged behind (p + 1) (length (line_of frame)) torn_behind (λ slot is other. clear_behind shape half (p + 1) (length (line_of frame)) slot (omega (arith, place)) is) slots in
-      let stands_now = stands_behind shape half put behind image p 1 torn (omega (arith, place)) (stands_behind shape half put staged behind (p + 1) (length (line_of frame)) torn_behind (omega (arith, place)) stands) in
+      let slots_behind = slots_kept shape put content staged behind (p + 1) (length (line_of frame)) torn_behind
+      (λ slot is other. clear_behind shape half (p + 1) (length (line_of frame)) slot (omega (arith, place)) is) slots in
+      let stands_now = stands_behind shape half put behind image p 1 torn (omega (arith, place))
+      (stands_behind shape half put staged behind (p + 1) (length (line_of frame)) torn_behind (omega (arith, place)) stands) in
       record {
         opens = elim (index_gated shape half frames frame p limits place fits staged image index torn) [
           | inl before ↦ inl (index_opens shape half frames image limits before)
           | inr after ↦ inr (index_opens shape half (frames ++ frame ∷ []) image limits after, stands_now)
         ];
-        slots = slots_kept shape put content behind image p 1 torn (λ slot is other. clear_behind shape half p 1 slot (omega (arith, place)) is) slots_behind;
+        slots = slots_kept shape put content behind image p 1 torn
+            (λ slot is other. clear_behind shape half p 1 slot (omega (arith, place)) is) slots_behind;
       }
 
   -- and afterwards
-  pub after_append : (number : ℕ) (other_shut : Bool) (staged : List ℕ) → Rooted shape half number other_shut frames staged → KeepsSlots shape put content staged → StandsIn shape put staged
+  pub after_append : (number : ℕ) (other_shut : Bool) (staged : List ℕ) → Rooted shape half number other_shut frames staged
+      → KeepsSlots shape put content staged → StandsIn shape put staged
       → IsAfter shape (frames ++ frame ∷ []) put content (appended shape half frames frame p limits place fits staged)
   after_append number other_shut staged rooted slots stands =
       let behind = written (p + 1) (line_of frame) staged in
       let image = appended shape half frames frame p limits place fits staged in
       let torn_behind = written_torn (p + 1) (line_of frame) staged in
       let torn = written_torn p (165 ∷ []) behind in
-      let slots_behind = slots_kept shape put content staged behind (p + 1) (length (line_of frame)) torn_behind (λ slot is other. clear_behind shape half (p + 1) (length (line_of frame)) slot (omega (arith, place)) is) slots in
+      let slots_behind = slots_kept shape put content staged behind (p + 1) (length (line_of frame)) torn_behind
+      (λ slot is other. clear_behind shape half (p + 1) (length (line_of frame)) slot (omega (arith, place)) is) slots in
       record {
-        opens = laid_opens shape half number other_shut (frames ++ frame ∷ []) true image (appended_laid shape half frames frame p limits place fits number other_shut staged rooted);
-        stands = stands_behind shape half put behind image p 1 torn (omega (arith, place)) (stands_behind shape half put staged behind (p + 1) (length (line_of frame)) torn_behind (omega (arith, place)) stands);
-        slots = slots_kept shape put content behind image p 1 torn (λ slot is other. clear_behind shape half p 1 slot (omega (arith, place)) is) slots_behind;
+        opens = laid_opens shape half number other_shut (frames ++ frame ∷ []) true image
+            (appended_laid shape half frames frame p limits place fits number other_shut staged rooted);
+        stands = stands_behind shape half put behind image p 1 torn (omega (arith, place))
+            (stands_behind shape half put staged behind (p + 1) (length (line_of frame)) torn_behind (omega (arith, place)) stands);
+        slots = slots_kept shape put content behind image p 1 torn
+            (λ slot is other. clear_behind shape half p 1 slot (omega (arith, place)) is) slots_behind;
       }
 
 -- an append without a block
-module _ (shape : Shape) (half : Half) (frames : List Frame) (frame : Frame) (p : ℕ) (limits : IsShape shape) (place : p ≡ half_at shape half + size_of frames)
+module _ (shape : Shape) (half : Half) (frames : List Frame) (frame : Frame) (p : ℕ) (limits : IsShape shape)
+    (place : p ≡ half_at shape half + size_of frames)
     (fits : Fits shape frames (length frame.body)) (content : List ℕ) where
-  pub append_moment : (image : List ℕ) → Index shape half frames content → IsGated (p + 1) (line_of frame) p content image → IsBeforeOrAfter shape frames (frames ++ frame ∷ []) None content image
-  append_moment image index (inl torn) = moment_before shape half frames frame p limits place fits None content content image index (slots_same shape None content) torn
-  append_moment image index (inr torn) = moment_gated shape half frames frame p limits place fits None content content image index (slots_same shape None content) tt torn
+  pub append_moment : (image : List ℕ) → Index shape half frames content → IsGated (p + 1) (line_of frame) p content image
+      → IsBeforeOrAfter shape frames (frames ++ frame ∷ []) None content image
+  append_moment image index (inl torn) = moment_before shape half frames frame p limits place fits None content content image index
+      (slots_same shape None content) torn
+  append_moment image index (inr torn) = moment_gated shape half frames frame p limits place fits None content content image index
+      (slots_same shape None content) tt torn
 
   pub append_after : (number : ℕ) (other_shut : Bool) → Rooted shape half number other_shut frames content
       → IsAfter shape (frames ++ frame ∷ []) None content (appended shape half frames frame p limits place fits content)
-  append_after number other_shut rooted = after_append shape half frames frame p limits place fits None content number other_shut content rooted (slots_same shape None content) tt
+  append_after number other_shut rooted = after_append shape half frames frame p limits place fits None content number other_shut content rooted
+      (slots_same shape None content) tt
 
 -- an append with a block
-module _ (shape : Shape) (half : Half) (frames : List Frame) (frame : Frame) (p : ℕ) (limits : IsShape shape) (place : p ≡ half_at shape half + size_of frames)
-    (fits : Fits shape frames (length frame.body)) (content : List ℕ) (slot : ℕ) (block : List ℕ) (is_slot : slot < shape.records) (whole : length block ≡ shape.block) where
+module _ (shape : Shape) (half : Half) (frames : List Frame) (frame : Frame) (p : ℕ) (limits : IsShape shape)
+    (place : p ≡ half_at shape half + size_of frames)
+    (fits : Fits shape frames (length frame.body)) (content : List ℕ) (slot : ℕ) (block : List ℕ) (is_slot : slot < shape.records)
+    (whole : length block ≡ shape.block) where
   abbrev put : Option (ℕ × List ℕ)
   put = Some (slot, block)
 
@@ -85,36 +102,45 @@ module _ (shape : Shape) (half : Half) (frames : List Frame) (frame : Frame) (p 
 
   slots_put : (image : List ℕ) → Torn (slot_at shape slot) (length block) content image → KeepsSlots shape put content image
   slots_put image torn =
-      slots_kept shape put content content image (slot_at shape slot) shape.block (subst (λ (n : ℕ). Torn (slot_at shape slot) n content image) whole torn)
+      slots_kept shape put content content image (slot_at shape slot) shape.block
+      (subst (λ (n : ℕ). Torn (slot_at shape slot) n content image) whole torn)
       (λ s is other. clear_slot shape slot s other) (slots_same shape put content)
 
-  index_put : (image : List ℕ) → Index shape half frames content → Torn (slot_at shape slot) (length block) content image → Index shape half frames image
+  index_put : (image : List ℕ) → Index shape half frames content → Torn (slot_at shape slot) (length block) content image
+      → Index shape half frames image
   index_put image index torn =
-      index_kept shape half frames content image (slot_at shape slot) (length block) torn (omega arith) (above apart) (above (omega (arith, apart))) index
+      index_kept shape half frames content image (slot_at shape slot) (length block) torn (omega arith) (above apart)
+      (above (omega (arith, apart))) index
 
   stands_put : StandsIn shape put (written (slot_at shape slot) block content)
   stands_put =
       let size = length-written (slot_at shape slot) block content (omega (arith, whole, limits.some_bytes)) in (
         record { is_slot = is_slot; inside = omega (arith, size, whole) },
-        subst (λ (n : ℕ). part (slot_at shape slot) n (written (slot_at shape slot) block content) ≡ block) whole (part_written (slot_at shape slot) block content),
+        subst (λ (n : ℕ). part (slot_at shape slot) n (written (slot_at shape slot) block content) ≡ block) whole
+            (part_written (slot_at shape slot) block content),
       )
 
   pub put_moment : (image : List ℕ) → Index shape half frames content → IsBothGated (slot_at shape slot) block (p + 1) (line_of frame) p content image
       → IsBeforeOrAfter shape frames (frames ++ frame ∷ []) put content image
   put_moment image index (inl staged) =
-      moment_before shape half frames frame p limits place fits put content staged.between image (index_put staged.between index staged.first) (slots_put staged.between staged.first) staged.second
+      moment_before shape half frames frame p limits place fits put content staged.between image (index_put staged.between index staged.first)
+      (slots_put staged.between staged.first) staged.second
   put_moment image index (inr torn) =
       let now = written (slot_at shape slot) block content in
       let torn_put = written_torn (slot_at shape slot) block content in
-      moment_gated shape half frames frame p limits place fits put content now image (index_put now index torn_put) (slots_put now torn_put) stands_put torn
+      moment_gated shape half frames frame p limits place fits put content now image (index_put now index torn_put)
+      (slots_put now torn_put) stands_put torn
 
-  pub rooted_put : (number : ℕ) (other_shut : Bool) → Rooted shape half number other_shut frames content → Rooted shape half number other_shut frames (written (slot_at shape slot) block content)
+  pub rooted_put : (number : ℕ) (other_shut : Bool) → Rooted shape half number other_shut frames content → Rooted shape half number other_shut frames
+      (written (slot_at shape slot) block content)
   rooted_put number other_shut rooted =
       rooted_kept shape half number other_shut frames content (written (slot_at shape slot) block content) (slot_at shape slot) (length block)
       (written_torn (slot_at shape slot) block content) (omega arith) (above apart) rooted
 
   pub put_after : (number : ℕ) (other_shut : Bool) → Rooted shape half number other_shut frames content
-      → IsAfter shape (frames ++ frame ∷ []) put content (appended shape half frames frame p limits place fits (written (slot_at shape slot) block content))
+      → IsAfter shape (frames ++ frame ∷ []) put content
+      (appended shape half frames frame p limits place fits (written (slot_at shape slot) block content))
   put_after number other_shut rooted =
-      after_append shape half frames frame p limits place fits put content number other_shut (written (slot_at shape slot) block content) (rooted_put number other_shut rooted)
+      after_append shape half frames frame p limits place fits put content number other_shut (written (slot_at shape slot) block content)
+      (rooted_put number other_shut rooted)
       (slots_put (written (slot_at shape slot) block content) (written_torn (slot_at shape slot) block content)) stands_put

@@ -47,11 +47,13 @@ abbrev pub Invariant : {D : Type 0} → Type 0 → (D → List ℕ) → Held D �
 Invariant tells seen s half number other_shut =
     tells → s.halted ≡ false → Laid s.shape half number other_shut s.frames s.closed (seen s.disk) × (length (seen s.disk) ≡ s.size)
 
-module _ {D : Type 0} (tells : Type 0) (seen : D → List ℕ) (may_leave : D → List ℕ → Type 0) (moment : D → ℕ) (left_since : D → ℕ → List ℕ → Type 0) where
+module _ {D : Type 0} (tells : Type 0) (seen : D → List ℕ) (may_leave : D → List ℕ → Type 0) (moment : D → ℕ)
+    (left_since : D → ℕ → List ℕ → Type 0) where
   -- what a call promises of each moment until a later disk
   abbrev pub Moments : (List Frame → List Frame) → Option (ℕ × List ℕ) → D → Held D → Type 0
   Moments after put new s =
-      IsDurable tells seen may_leave s → s.closed ≡ true → LeavesOnly moment left_since s.disk new (IsBeforeOrAfter s.shape s.frames (after s.frames) put (seen s.disk))
+      IsDurable tells seen may_leave s → s.closed ≡ true → LeavesOnly moment left_since s.disk new
+      (IsBeforeOrAfter s.shape s.frames (after s.frames) put (seen s.disk))
 
   -- and of the content after it
   abbrev pub After : (List Frame → List Frame) → Option (ℕ × List ℕ) → D → Held D → Type 0
@@ -59,7 +61,8 @@ module _ {D : Type 0} (tells : Type 0) (seen : D → List ℕ) (may_leave : D �
 
   module _ (only_now : (disk : D) (image : List ℕ) → left_since disk (moment disk) image → may_leave disk image) where
     -- a call that left the disk alone
-    pub moments_untouched : (s : Held D) (half : Half) (number : ℕ) (other_shut : Bool) (after : List Frame → List Frame) (put : Option (ℕ × List ℕ)) (new : D)
+    pub moments_untouched : (s : Held D) (half : Half) (number : ℕ) (other_shut : Bool) (after : List Frame → List Frame) (put : Option (ℕ × List ℕ))
+        (new : D)
         → Invariant tells seen s half number other_shut → IsUntouched seen may_leave moment left_since s.disk new → Moments after put new s
     moments_untouched s half number other_shut after put new inv untouched durable closed =
         let P : List ℕ → Type 0 = IsBeforeOrAfter s.shape s.frames (after s.frames) put (seen s.disk) in
@@ -68,7 +71,8 @@ module _ {D : Type 0} (tells : Type 0) (seen : D → List ℕ) (may_leave : D �
         (laid_opens s.shape half number other_shut s.frames s.closed (seen s.disk) (inv durable.told durable.runs).0) in
         let here : (image : List ℕ) → may_leave s.disk image → P image =
         λ image left. before_is s.shape s.frames (after s.frames) put (seen s.disk) image opens (durable.only image left) in
-        goes_on moment left_since s.disk s.disk new P (may_leave new) (started moment left_since s.disk P (λ image left. here image (only_now s.disk image left))) untouched.time
+        goes_on moment left_since s.disk s.disk new P (may_leave new)
+        (started moment left_since s.disk P (λ image left. here image (only_now s.disk image left))) untouched.time
         (λ image left. here image (untouched.crash image left))
 
     -- a call that did not even look at it
@@ -79,13 +83,16 @@ module _ {D : Type 0} (tells : Type 0) (seen : D → List ℕ) (may_leave : D �
         let opens : OpensAs s.shape s.frames true (seen s.disk) =
         subst (λ (b : Bool). OpensAs s.shape s.frames b (seen s.disk)) closed
         (laid_opens s.shape half number other_shut s.frames s.closed (seen s.disk) (inv durable.told durable.runs).0) in
-        started moment left_since s.disk P (λ image left. before_is s.shape s.frames (after s.frames) put (seen s.disk) image opens (durable.only image (only_now s.disk image left)))
+        started moment left_since s.disk P (λ image left. before_is s.shape s.frames (after s.frames) put (seen s.disk) image opens
+        (durable.only image (only_now s.disk image left)))
 
     -- a run that began once room was made
-    pub moments_run : (s : Held D) (half : Half) (number : ℕ) (other_shut : Bool) (after : List Frame → List Frame) (put : Option (ℕ × List ℕ)) (mid new : D) (Q : List ℕ → List ℕ → Type 0)
+    pub moments_run : (s : Held D) (half : Half) (number : ℕ) (other_shut : Bool) (after : List Frame → List Frame) (put : Option (ℕ × List ℕ))
+        (mid new : D) (Q : List ℕ → List ℕ → Type 0)
         → Invariant tells seen s half number other_shut → IsUntouched seen may_leave moment left_since s.disk mid
         → (tells → Only (seen mid) (may_leave mid) → LeavesOnly moment left_since mid new (Q (seen mid)))
-        → (tells → s.halted ≡ false → s.closed ≡ true → (image : List ℕ) → Q (seen s.disk) image → IsBeforeOrAfter s.shape s.frames (after s.frames) put (seen s.disk) image)
+        → (tells → s.halted ≡ false → s.closed ≡ true → (image : List ℕ) → Q (seen s.disk) image → IsBeforeOrAfter s.shape s.frames
+        (after s.frames) put (seen s.disk) image)
         → Moments after put new s
     moments_run s half number other_shut after put mid new Q inv untouched run means durable closed =
         let P : List ℕ → Type 0 = IsBeforeOrAfter s.shape s.frames (after s.frames) put (seen s.disk) in
@@ -101,11 +108,13 @@ index_now shape half number other_shut frames closed content laid is =
     index_of shape half number other_shut frames content (rooted_of shape half number other_shut frames closed content laid) (laid.ended is)
 
 -- how long the content is after an append
-pub appended_size : (p : ℕ) (line content : List ℕ) → 0 < length line → length (written p (165 ∷ []) (written (p + 1) line content)) ≡ max (length content) (p + 1 + length line)
+pub appended_size : (p : ℕ) (line content : List ℕ) → 0 < length line → length (written p (165 ∷ []) (written (p + 1) line content)) ≡ max
+    (length content) (p + 1 + length line)
 appended_size p line content some =
     omega (arith, length-written (p + 1) line content some, length-written p (165 ∷ []) (written (p + 1) line content) (omega arith))
 
-module _ {D : Type 0} (tells : Type 0) (seen : D → List ℕ) (may_leave : D → List ℕ → Type 0) (moment : D → ℕ) (left_since : D → ℕ → List ℕ → Type 0) where
+module _ {D : Type 0} (tells : Type 0) (seen : D → List ℕ) (may_leave : D → List ℕ → Type 0) (moment : D → ℕ)
+    (left_since : D → ℕ → List ℕ → Type 0) where
   -- what is known of a store that is about to be changed: its numbers, what it keeps true of its disk, that nothing was done
   -- yet but to make room, and where the gate after its list stands
   pub record Ready (half : Half) (number : ℕ) (other_shut : Bool) (used : ℕ) (mid : D) (p : ℕ) (s : Held D) : Type 0 where
@@ -127,13 +136,15 @@ module _ {D : Type 0} (tells : Type 0) (seen : D → List ℕ) (may_leave : D �
         → (tells → Only (seen mid) (may_leave mid) → LeavesOnly moment left_since mid new (IsGated (p + 1) line p (seen mid)))
         → Moments tells seen may_leave moment left_since (λ fs. fs ++ frame ∷ []) None new s
     append_moments only_now run =
-        moments_run tells seen may_leave moment left_since only_now s half number other_shut (λ fs. fs ++ frame ∷ []) None mid new (λ c. IsGated (p + 1) line p c) ready.invariant ready.untouched run
+        moments_run tells seen may_leave moment left_since only_now s half number other_shut (λ fs. fs ++ frame ∷ []) None mid new
+        (λ c. IsGated (p + 1) line p c) ready.invariant ready.untouched run
         (λ told runs closed image gated.
         append_moment s.shape half s.frames frame p ready.counted.limits gate_is fits (seen s.disk) image
         (index_now s.shape half number other_shut s.frames s.closed (seen s.disk) (ready.invariant told runs).0 closed)
         (subst (λ (l : List ℕ). IsGated (p + 1) l p (seen s.disk) image) line_is gated))
 
-    content_is : tells → seen new ≡ written p (165 ∷ []) (written (p + 1) line (seen mid)) → seen new ≡ written p (165 ∷ []) (written (p + 1) (line_of frame) (seen s.disk))
+    content_is : tells → seen new ≡ written p (165 ∷ []) (written (p + 1) line (seen mid)) → seen new ≡ written p (165 ∷ [])
+        (written (p + 1) (line_of frame) (seen s.disk))
     content_is told is = is ∙ ap (λ (c : List ℕ). written p (165 ∷ []) (written (p + 1) line c)) ready.untouched.content
         ∙ ap (λ (l : List ℕ). written p (165 ∷ []) (written (p + 1) l (seen s.disk))) line_is
 
@@ -166,7 +177,8 @@ module _ {D : Type 0} (tells : Type 0) (seen : D → List ℕ) (may_leave : D �
     -- an append with a block
     module _ (slot : ℕ) (block : List ℕ) (is_slot : slot < s.shape.records) (whole : length block ≡ s.shape.block) where
       pub put_moments : ((disk : D) (image : List ℕ) → left_since disk (moment disk) image → may_leave disk image)
-          → (tells → Only (seen mid) (may_leave mid) → LeavesOnly moment left_since mid new (IsBothGated (slot_at s.shape slot) block (p + 1) line p (seen mid)))
+          → (tells → Only (seen mid) (may_leave mid) → LeavesOnly moment left_since mid new
+          (IsBothGated (slot_at s.shape slot) block (p + 1) line p (seen mid)))
           → Moments tells seen may_leave moment left_since (λ fs. fs ++ frame ∷ []) (Some (slot, block)) new s
       put_moments only_now run =
           moments_run tells seen may_leave moment left_since only_now s half number other_shut (λ fs. fs ++ frame ∷ []) (Some (slot, block)) mid new
@@ -181,7 +193,8 @@ module _ {D : Type 0} (tells : Type 0) (seen : D → List ℕ) (may_leave : D �
 
       put_is : tells → seen new ≡ written p (165 ∷ []) (both_written (slot_at s.shape slot) block (p + 1) line (seen mid))
           → seen new ≡ written p (165 ∷ []) (written (p + 1) (line_of frame) (written (slot_at s.shape slot) block (seen s.disk)))
-      put_is told is = is ∙ ap (λ (c : List ℕ). written p (165 ∷ []) (written (p + 1) line (written (slot_at s.shape slot) block c))) ready.untouched.content
+      put_is told is = is ∙ ap (λ (c : List ℕ). written p (165 ∷ [])
+          (written (p + 1) line (written (slot_at s.shape slot) block c))) ready.untouched.content
           ∙ ap (λ (l : List ℕ). written p (165 ∷ []) (written (p + 1) l (written (slot_at s.shape slot) block (seen s.disk)))) line_is
 
       pub put_done : s.halted ≡ false → (tells → seen new ≡ written p (165 ∷ []) (both_written (slot_at s.shape slot) block (p + 1) line (seen mid)))
@@ -191,13 +204,15 @@ module _ {D : Type 0} (tells : Type 0) (seen : D → List ℕ) (may_leave : D �
           (put_after s.shape half s.frames frame p ready.counted.limits gate_is fits (seen s.disk) slot block is_slot whole number other_shut
           (rooted_of s.shape half number other_shut s.frames s.closed (seen s.disk) (ready.invariant told runs).0))
 
-      pub put_laid : s.halted ≡ false → (tells → seen new ≡ written p (165 ∷ []) (both_written (slot_at s.shape slot) block (p + 1) line (seen mid))) → tells
+      pub put_laid : s.halted ≡ false → (tells → seen new ≡ written p (165 ∷ []) (both_written (slot_at s.shape slot) block (p + 1) line (seen mid)))
+          → tells
           → Laid s.shape half number other_shut (s.frames ++ frame ∷ []) true (seen new) × (length (seen new) ≡ max s.size (p + 1 + length line))
       put_laid runs is told =
           let here = ready.invariant told runs in
           let before = length-written (slot_at s.shape slot) block (seen mid) (omega (arith, whole, ready.counted.limits.some_bytes)) in (
             subst (λ (c : List ℕ). Laid s.shape half number other_shut (s.frames ++ frame ∷ []) true c) (sym (put_is told (is told)))
-                (appended_laid s.shape half s.frames frame p ready.counted.limits gate_is fits number other_shut (written (slot_at s.shape slot) block (seen s.disk))
+                (appended_laid s.shape half s.frames frame p ready.counted.limits gate_is fits number other_shut
+                (written (slot_at s.shape slot) block (seen s.disk))
                 (rooted_put s.shape half s.frames frame p ready.counted.limits gate_is fits (seen s.disk) slot block is_slot whole number other_shut
                 (rooted_of s.shape half number other_shut s.frames s.closed (seen s.disk) here.0))),
             omega (
@@ -214,15 +229,21 @@ module _ {D : Type 0} (tells : Type 0) (seen : D → List ℕ) (may_leave : D �
           )
 
   -- a rewrite
-  module _ (s : Held D) (half : Half) (number : ℕ) (other_shut : Bool) (used : ℕ) (mid new : D) (fs : List Frame) (gate at : ℕ) (shut rest line : List ℕ)
-      (counted : IsCounted s.shape s.frames used) (inv : Invariant tells seen s half number other_shut) (untouched : IsUntouched seen may_leave moment left_since s.disk mid)
-      (fits : size_of fs + 1 ≤ half_size s.shape) (small : number < 2 ^ 64) (gate_is : gate ≡ header_at (other half)) (at_is : at ≡ half_at s.shape (other half))
+  module _ (s : Held D) (half : Half) (number : ℕ) (other_shut : Bool) (used : ℕ) (mid new : D) (fs : List Frame) (gate at : ℕ)
+      (shut rest line : List ℕ)
+      (counted : IsCounted s.shape s.frames used) (inv : Invariant tells seen s half number other_shut)
+      (untouched : IsUntouched seen may_leave moment left_since s.disk mid)
+      (fits : size_of fs + 1 ≤ half_size s.shape) (small : number < 2 ^ 64) (gate_is : gate ≡ header_at (other half))
+      (at_is : at ≡ half_at s.shape (other half))
       (shut_is : shut ≡ closing other_shut) (rest_is : rest ≡ header_rest s.shape (next_of number)) (line_is : line ≡ closed_list fs) where
     as_written : (content image : List ℕ) → IsRewritten gate shut rest at line content image
-        → IsRewritten (header_at (other half)) (closing other_shut) (header_rest s.shape (next_of number)) (half_at s.shape (other half)) (closed_list fs) content image
+        → IsRewritten (header_at (other half)) (closing other_shut) (header_rest s.shape (next_of number)) (half_at s.shape (other half))
+        (closed_list fs) content image
     as_written content image q =
-        subst (λ (x : List ℕ). IsRewritten (header_at (other half)) (closing other_shut) (header_rest s.shape (next_of number)) (half_at s.shape (other half)) x content image) line_is
-        (subst (λ (x : ℕ). IsRewritten (header_at (other half)) (closing other_shut) (header_rest s.shape (next_of number)) x line content image) at_is
+        subst (λ (x : List ℕ). IsRewritten (header_at (other half)) (closing other_shut) (header_rest s.shape (next_of number))
+        (half_at s.shape (other half)) x content image) line_is
+        (subst (λ (x : ℕ). IsRewritten (header_at (other half)) (closing other_shut)
+        (header_rest s.shape (next_of number)) x line content image) at_is
         (subst (λ (x : List ℕ). IsRewritten (header_at (other half)) (closing other_shut) x at line content image) rest_is
         (subst (λ (x : List ℕ). IsRewritten (header_at (other half)) x rest at line content image) shut_is
         (subst (λ (x : ℕ). IsRewritten x shut rest at line content image) gate_is q))))
@@ -231,7 +252,8 @@ module _ {D : Type 0} (tells : Type 0) (seen : D → List ℕ) (may_leave : D �
     rooted_now told runs = rooted_of s.shape half number other_shut s.frames s.closed (seen s.disk) (inv told runs).0
 
     rewrite_means : (told : tells) (runs : s.halted ≡ false) → s.closed ≡ true → (image : List ℕ)
-        → IsRewritten (header_at (other half)) (closing other_shut) (header_rest s.shape (next_of number)) (half_at s.shape (other half)) (closed_list fs) (seen s.disk) image
+        → IsRewritten (header_at (other half)) (closing other_shut) (header_rest s.shape (next_of number)) (half_at s.shape (other half))
+        (closed_list fs) (seen s.disk) image
         → IsBeforeOrAfter s.shape s.frames fs None (seen s.disk) image
     rewrite_means told runs closed image (inl first) =
         rewrite_first s.shape half number other_shut s.frames fs (seen s.disk) counted.limits small fits (rooted_now told runs)
@@ -244,22 +266,33 @@ module _ {D : Type 0} (tells : Type 0) (seen : D → List ℕ) (may_leave : D �
         → (tells → Only (seen mid) (may_leave mid) → LeavesOnly moment left_since mid new (IsRewritten gate shut rest at line (seen mid)))
         → Moments tells seen may_leave moment left_since (λ old. fs) None new s
     rewrite_moments only_now run =
-        moments_run tells seen may_leave moment left_since only_now s half number other_shut (λ old. fs) None mid new (λ c. IsRewritten gate shut rest at line c) inv untouched run
+        moments_run tells seen may_leave moment left_since only_now s half number other_shut (λ old. fs) None mid new
+        (λ c. IsRewritten gate shut rest at line c) inv untouched run
         (λ told runs closed image q. rewrite_means told runs closed image (as_written (seen s.disk) image q))
 
     abbrev content_after : List ℕ → List ℕ
-    content_after content = written (header_at (other half)) (165 ∷ []) (both_written (header_at (other half) + 1) (header_rest s.shape (next_of number)) (half_at s.shape (other half)) (closed_list fs) (written (header_at (other half)) (closing other_shut) content))
+    content_after content = written (header_at (other half)) (165 ∷ [])
+        (both_written (header_at (other half) + 1) (header_rest s.shape (next_of number)) (half_at s.shape (other half)) (closed_list fs)
+        (written (header_at (other half)) (closing other_shut) content))
 
-    is_content : seen new ≡ written gate (165 ∷ []) (both_written (gate + 1) rest at line (written gate shut (seen mid))) → seen new ≡ content_after (seen s.disk)
+    is_content : seen new ≡ written gate (165 ∷ []) (both_written (gate + 1) rest at line (written gate shut (seen mid)))
+        → seen new ≡ content_after (seen s.disk)
     is_content is =
         is ∙ ap (λ (c : List ℕ). written gate (165 ∷ []) (both_written (gate + 1) rest at line (written gate shut c))) untouched.content
         ∙ ap (λ (x : ℕ). written x (165 ∷ []) (both_written (x + 1) rest at line (written x shut (seen s.disk)))) gate_is
-        ∙ ap (λ (x : List ℕ). written (header_at (other half)) (165 ∷ []) (both_written (header_at (other half) + 1) rest at line (written (header_at (other half)) x (seen s.disk)))) shut_is
-        ∙ ap (λ (x : List ℕ). written (header_at (other half)) (165 ∷ []) (both_written (header_at (other half) + 1) x at line (written (header_at (other half)) (closing other_shut) (seen s.disk)))) rest_is
-        ∙ ap (λ (x : ℕ). written (header_at (other half)) (165 ∷ []) (both_written (header_at (other half) + 1) (header_rest s.shape (next_of number)) x line (written (header_at (other half)) (closing other_shut) (seen s.disk)))) at_is
-        ∙ ap (λ (x : List ℕ). written (header_at (other half)) (165 ∷ []) (both_written (header_at (other half) + 1) (header_rest s.shape (next_of number)) (half_at s.shape (other half)) x (written (header_at (other half)) (closing other_shut) (seen s.disk)))) line_is
+        ∙ ap (λ (x : List ℕ). written (header_at (other half)) (165 ∷ [])
+        (both_written (header_at (other half) + 1) rest at line (written (header_at (other half)) x (seen s.disk)))) shut_is
+        ∙ ap (λ (x : List ℕ). written (header_at (other half)) (165 ∷ [])
+        (both_written (header_at (other half) + 1) x at line (written (header_at (other half)) (closing other_shut) (seen s.disk)))) rest_is
+        ∙ ap (λ (x : ℕ). written (header_at (other half)) (165 ∷ [])
+        (both_written (header_at (other half) + 1) (header_rest s.shape (next_of number)) x line
+        (written (header_at (other half)) (closing other_shut) (seen s.disk)))) at_is
+        ∙ ap (λ (x : List ℕ). written (header_at (other half)) (165 ∷ [])
+        (both_written (header_at (other half) + 1) (header_rest s.shape (next_of number)) (half_at s.shape (other half)) x
+        (written (header_at (other half)) (closing other_shut) (seen s.disk)))) line_is
 
-    pub rewrite_done : s.halted ≡ false → (tells → seen new ≡ written gate (165 ∷ []) (both_written (gate + 1) rest at line (written gate shut (seen mid))))
+    pub rewrite_done : s.halted ≡ false → (tells → seen new ≡ written gate (165 ∷ [])
+        (both_written (gate + 1) rest at line (written gate shut (seen mid))))
         → After tells seen may_leave moment left_since (λ old. fs) None new s
     rewrite_done runs is told =
         subst (λ (c : List ℕ). IsAfter s.shape fs None (seen s.disk) c) (sym (is_content (is told)))
@@ -269,7 +302,8 @@ module _ {D : Type 0} (tells : Type 0) (seen : D → List ℕ) (may_leave : D �
     size_shut true content whole = refl
     size_shut false content whole = omega (arith, length-written (header_at (other half)) (0 ∷ []) content (omega arith), header_within (other half))
 
-    pub rewrite_laid : s.halted ≡ false → (tells → seen new ≡ written gate (165 ∷ []) (both_written (gate + 1) rest at line (written gate shut (seen mid)))) → tells
+    pub rewrite_laid : s.halted ≡ false → (tells → seen new ≡ written gate (165 ∷ [])
+        (both_written (gate + 1) rest at line (written gate shut (seen mid)))) → tells
         → Laid s.shape (other half) (next_of number) false fs true (seen new) × (length (seen new) ≡ max s.size (at + length line))
     rewrite_laid runs is told =
         let here = inv told runs in
@@ -284,7 +318,19 @@ module _ {D : Type 0} (tells : Type 0) (seen : D → List ℕ) (may_leave : D �
         let fourth = length-written (header_at (other half)) (165 ∷ []) (written (half_at s.shape (other half)) list rest_content) (omega arith) in (
           subst (λ (c : List ℕ). Laid s.shape (other half) (next_of number) false fs true c) (sym (is_content (is told)))
               (rewritten_laid s.shape half number other_shut s.frames fs (seen s.disk) counted.limits small fits rooted),
-          omega (arith, ap length (is_content (is told)), first, second, third, fourth, here.1, header_within (other half), rooted.whole, at_is, ap length line_is),
+          omega (
+            arith,
+            ap length (is_content (is told)),
+            first,
+            second,
+            third,
+            fourth,
+            here.1,
+            header_within (other half),
+            rooted.whole,
+            at_is,
+            ap length line_is,
+          ),
         )
 
     pub rewrite_counted : IsCounted s.shape fs (length line - 1)

@@ -41,7 +41,8 @@ module _ (shape : Shape) (limits : IsShape shape) (content : List ℕ) where
   pair_last : part 1 63 (formatted shape content) ≡ header_rest shape 1 ++ (0 ∷ header_rest shape 0)
   pair_last =
       part_kept 0 1 (both_written 0 (shut_pair shape) (half_at shape A) (0 ∷ []) content) (formatted shape content) 1 63
-      (written_torn 0 (165 ∷ []) (both_written 0 (shut_pair shape) (half_at shape A) (0 ∷ []) content)) (omega (arith, size_second)) (above (omega arith))
+      (written_torn 0 (165 ∷ []) (both_written 0 (shut_pair shape) (half_at shape A) (0 ∷ []) content)) (omega (arith, size_second))
+      (above (omega arith))
       ∙ pair_second
 
   rest_last : part 1 31 (formatted shape content) ≡ header_rest shape 1
@@ -56,7 +57,8 @@ module _ (shape : Shape) (limits : IsShape shape) (content : List ℕ) where
   list_last : get_or (formatted shape content) (half_at shape A + 0) 0 ≡ 0
   list_last =
       byte_kept 0 1 (both_written 0 (shut_pair shape) (half_at shape A) (0 ∷ []) content) (formatted shape content) (half_at shape A + 0)
-      (written_torn 0 (165 ∷ []) (both_written 0 (shut_pair shape) (half_at shape A) (0 ∷ []) content)) (omega (arith, size_second)) (above (omega arith))
+      (written_torn 0 (165 ∷ []) (both_written 0 (shut_pair shape) (half_at shape A) (0 ∷ []) content)) (omega (arith, size_second))
+      (above (omega arith))
       ∙ written_get (half_at shape A) (0 ∷ []) (written 0 (shut_pair shape) content) 0 (omega arith)
 
   -- it opens as a store with no frames

@@ -28,7 +28,8 @@ shut_is_not_open shape half image shut is = shut (gate_of_open shape half image 
 
 -- the parts of a header that are looked at are those of its first 25 bytes
 front_of : (half : Half) (image : List ℕ) → 64 ≤ length image → part 0 17 (part (header_at half) 25 image) ≡ part (header_at half) 17 image
-front_of half image whole = part_of_part (header_at half) 25 0 17 (header_at half) image (omega arith) (omega (arith, header_within half)) (omega arith)
+front_of half image whole = part_of_part (header_at half) 25 0 17 (header_at half) image (omega arith) (omega (arith, header_within half))
+    (omega arith)
 
 number_of : (half : Half) (image : List ℕ) → 64 ≤ length image → part 17 8 (part (header_at half) 25 image) ≡ part (header_at half + 17) 8 image
 number_of half image whole = part_of_part (header_at half) 25 17 8 (header_at half + 17) image (omega arith) (omega (arith, header_within half)) refl
@@ -37,10 +38,18 @@ module _ (shape : Shape) (half : Half) (old new : List ℕ) (whole_old : 64 ≤ 
     (same : part (header_at half) 25 new ≡ part (header_at half) 25 old) where
   -- a header with the same bytes is as open, and of the same generation
   pub open_kept : IsOpen shape half old → IsOpen shape half new
-  open_kept is = record { whole = whole_new; front = sym (front_of half new whole_new) ∙ ap (part 0 17) same ∙ front_of half old whole_old ∙ is.front }
+  open_kept is = record {
+    whole = whole_new;
+    front = sym (front_of half new whole_new) ∙ ap (part 0 17) same ∙ front_of half old whole_old
+        ∙ is.front;
+  }
 
   pub open_back : IsOpen shape half new → IsOpen shape half old
-  open_back is = record { whole = whole_old; front = sym (front_of half old whole_old) ∙ ap (part 0 17) (sym same) ∙ front_of half new whole_new ∙ is.front }
+  open_back is = record {
+    whole = whole_old;
+    front = sym (front_of half old whole_old) ∙ ap (part 0 17) (sym same) ∙ front_of half new whole_new
+        ∙ is.front;
+  }
 
   pub generation_kept : generation_at half new ≡ generation_at half old
   generation_kept = ap (from_be_bytes w64) (sym (number_of half new whole_new) ∙ ap (part 17 8) same ∙ number_of half old whole_old)
@@ -63,7 +72,8 @@ in_force_kept shape B old new whole_old whole_new same same_other (is, later) = 
   λ first.
       let same_first = same_other first in
       subst (λ (g : ℕ). IsLater (generation_at A new) g) (sym (generation_kept shape B old new whole_old whole_new same))
-      (subst (λ (g : ℕ). IsLater g (generation_at B old)) (sym (generation_kept shape A old new whole_old whole_new same_first)) (later (open_back shape A old new whole_old whole_new same_first first))),
+      (subst (λ (g : ℕ). IsLater g (generation_at B old)) (sym (generation_kept shape A old new whole_old whole_new same_first))
+      (later (open_back shape A old new whole_old whole_new same_first first))),
 )
 
 -- an open gate before the rest of a header
@@ -90,7 +100,8 @@ module _ (shape : Shape) (half : Half) (number : ℕ) (image : List ℕ) (whole 
       ap (from_be_bytes w64) bytes ∙ from_be_bytes-to_be_bytes_8 number small
     where
       number_bytes : part 16 8 (header_rest shape number) ≡ to_be_bytes w64 number
-      number_bytes = ap (take 8) (drop_at (identity shape) (to_be_bytes w64 number ++ replicate 7 0) 16 refl) ∙ take_at (to_be_bytes w64 number) (replicate 7 0) 8 refl
+      number_bytes = ap (take 8) (drop_at (identity shape) (to_be_bytes w64 number ++ replicate 7 0) 16 refl) ∙ take_at (to_be_bytes w64 number)
+          (replicate 7 0) 8 refl
 
 -- the generation after another is later, and the other is not
 pub next_is_later : (g : ℕ) → g < 2 ^ 64 → IsLater g ((g + 1) % 2 ^ 64)

@@ -45,10 +45,12 @@ half_split at size n image within inside =
     ∙ ap (λ (g : ℕ). part at n image ++ g ∷ drop (n + 1) (part at size image)) gate
   where
     take_twice : (n m : ℕ) (l : List ℕ) → n ≤ m → take n (take m l) ≡ take n l
-    take_twice n m l le = same_number_lists (take n (take m l)) (take n l) (omega (arith, length-take n (take m l), length-take m l, length-take n l)) (λ k lt. grind (arith, places))
+    take_twice n m l le = same_number_lists (take n (take m l)) (take n l) (omega (arith, length-take n (take m l), length-take m l, length-take n l))
+        (λ k lt. grind (arith, places))
 
 -- what is read of a half with a closed gate after its frames
-pub listed_closed : (shape : Shape) (half : Half) (frames : List Frame) (image : List ℕ) → IsShape shape → part (half_at shape half) (size_of frames) image ≡ spelled frames
+pub listed_closed : (shape : Shape) (half : Half) (frames : List Frame) (image : List ℕ) → IsShape shape
+    → part (half_at shape half) (size_of frames) image ≡ spelled frames
     → EndsClosed shape half frames image → frames_of (half_bytes shape half image) ≡ frames
 listed_closed shape half frames image limits stands ends =
     let at = half_at shape half in
@@ -59,7 +61,8 @@ listed_closed shape half frames image limits stands ends =
     let small = half_small shape limits in
     ap frames_of split ∙ frames_of-spelled frames gate rest (omega (arith, ends.within_half)) ends.shut
 
-pub index_opens : (shape : Shape) (half : Half) (frames : List Frame) (image : List ℕ) → IsShape shape → Index shape half frames image → OpensAs shape frames true image
+pub index_opens : (shape : Shape) (half : Half) (frames : List Frame) (image : List ℕ) → IsShape shape → Index shape half frames image
+    → OpensAs shape frames true image
 index_opens shape half frames image limits index = record {
   half = half;
   in_force = index.in_force;
@@ -80,16 +83,19 @@ ends_kept shape half frames old new from k torn clear ends = record {
 pub stands_kept : (shape : Shape) (half : Half) (frames : List Frame) (old new : List ℕ) (from k : ℕ) → Torn from k old new
     → IsClear from k (half_at shape half) (size_of frames) → half_at shape half + size_of frames ≤ length old
     → part (half_at shape half) (size_of frames) old ≡ spelled frames → part (half_at shape half) (size_of frames) new ≡ spelled frames
-stands_kept shape half frames old new from k torn clear fits stands = part_kept from k old new (half_at shape half) (size_of frames) torn fits clear ∙ stands
+stands_kept shape half frames old new from k torn clear fits stands = part_kept from k old new (half_at shape half) (size_of frames) torn fits clear
+    ∙ stands
 
 -- a write behind the headers, and behind or before the list
 pub index_kept : (shape : Shape) (half : Half) (frames : List Frame) (old new : List ℕ) (from k : ℕ) → Torn from k old new → 64 ≤ from
-    → IsClear from k (half_at shape half) (size_of frames) → IsClear from k (half_at shape half + size_of frames) 1 → Index shape half frames old → Index shape half frames new
+    → IsClear from k (half_at shape half) (size_of frames) → IsClear from k (half_at shape half + size_of frames) 1 → Index shape half frames old
+    → Index shape half frames new
 index_kept shape half frames old new from k torn behind clear clear_gate index = record {
   whole = omega (arith, index.whole, torn.no_shorter);
   in_force = in_force_kept shape half old new index.whole (omega (arith, index.whole, torn.no_shorter))
       (part_kept from k old new (header_at half) 25 torn (omega (arith, header_within half, index.whole)) (below (omega (arith, header_within half))))
-      (λ other_open. part_kept from k old new (header_at (other half)) 25 torn (omega (arith, header_within (other half), index.whole)) (below (omega (arith, header_within (other half)))))
+      (λ other_open. part_kept from k old new (header_at (other half)) 25 torn (omega (arith, header_within (other half), index.whole))
+      (below (omega (arith, header_within (other half)))))
       index.in_force;
   stands = stands_kept shape half frames old new from k torn clear (omega (arith, index.ends.within_file)) index.stands;
   ends = ends_kept shape half frames old new from k torn clear_gate index.ends;
@@ -105,7 +111,8 @@ index_kept_header shape half frames old new from k torn low high same_other inde
   in_force = in_force_kept shape half old new index.whole (omega (arith, index.whole, torn.no_shorter))
       (part_kept from k old new (header_at half) 25 torn (omega (arith, header_within half, index.whole)) (apart half low high))
       same_other index.in_force;
-  stands = stands_kept shape half frames old new from k torn (above (omega (arith, high, header_within (other half), half_behind shape half))) (omega (arith, index.ends.within_file)) index.stands;
+  stands = stands_kept shape half frames old new from k torn (above (omega (arith, high, header_within (other half), half_behind shape half)))
+      (omega (arith, index.ends.within_file)) index.stands;
   ends = ends_kept shape half frames old new from k torn (above (omega (arith, high, header_within (other half), half_behind shape half))) index.ends;
 }
   where

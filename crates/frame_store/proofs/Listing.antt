@@ -19,7 +19,8 @@ size_of-append (f ∷ a) b = omega (arith, size_of-append a b)
 
 pub spelled-append : (a b : List Frame) → spelled (a ++ b) ≡ spelled a ++ spelled b
 spelled-append [] b = refl
-spelled-append (f ∷ a) b = ap (λ (l : List ℕ). 165 ∷ l) (ap (λ (l : List ℕ). frame_rest f ++ l) (spelled-append a b) ∙ sym (append_assoc (frame_rest f) (spelled a) (spelled b)))
+spelled-append (f ∷ a) b = ap (λ (l : List ℕ). 165 ∷ l) (ap (λ (l : List ℕ). frame_rest f ++ l) (spelled-append a b)
+    ∙ sym (append_assoc (frame_rest f) (spelled a) (spelled b)))
 
 -- each frame takes some bytes
 pub length_le-size_of : (frames : List Frame) → length frames ≤ size_of frames
@@ -51,13 +52,15 @@ unfolding frame_at
 frame_at-nil = refl
 
 -- frames and a gate that is not open are read as these frames
-pub frames_in-spelled : (n : ℕ) (frames : List Frame) (gate : ℕ) (rest : List ℕ) → length frames ≤ n → size_of frames < 2 ^ 32 → gate ≢ 165 → frames_in n (spelled frames ++ gate ∷ rest) ≡ frames
+pub frames_in-spelled : (n : ℕ) (frames : List Frame) (gate : ℕ) (rest : List ℕ) → length frames ≤ n → size_of frames < 2 ^ 32 → gate ≢ 165
+    → frames_in n (spelled frames ++ gate ∷ rest) ≡ frames
 unfolding frames_in
 frames_in-spelled zero [] gate rest enough short shut = refl
 frames_in-spelled (suc n) [] gate rest enough short shut = ap (λ (x : Option (Frame × List ℕ)). onto x (frames_in n)) (frame_at-shut gate rest shut)
 frames_in-spelled zero (f ∷ frames) gate rest enough short shut = absurd (omega arith)
 frames_in-spelled (suc n) (f ∷ frames) gate rest enough short shut =
-    let split : spelled (f ∷ frames) ++ gate ∷ rest ≡ 165 ∷ (frame_rest f ++ (spelled frames ++ gate ∷ rest)) = ap (λ (l : List ℕ). 165 ∷ l) (append_assoc (frame_rest f) (spelled frames) (gate ∷ rest)) in
+    let split : spelled (f ∷ frames) ++ gate ∷ rest ≡ 165 ∷ (frame_rest f ++ (spelled frames ++ gate ∷ rest)) = ap (λ (l : List ℕ). 165 ∷ l)
+    (append_assoc (frame_rest f) (spelled frames) (gate ∷ rest)) in
     ap (λ (l : List ℕ). onto (frame_at l) (frames_in n)) split
     ∙ ap (λ (x : Option (Frame × List ℕ)). onto x (frames_in n)) (frame_at-spelled f (spelled frames ++ gate ∷ rest) (omega arith))
     ∙ ap (λ (l : List Frame). f ∷ l) (frames_in-spelled n frames gate rest (omega arith) (omega arith) shut)
@@ -85,7 +88,8 @@ turns_enough (suc m) zero [] le_m le_n = ap (λ (x : Option (Frame × List ℕ))
 turns_enough (suc m) zero (b ∷ bytes) le_m le_n = absurd (omega arith)
 turns_enough (suc m) (suc n) bytes le_m le_n = each (frame_at bytes) refl (λ rest rest_m rest_n. turns_enough m n rest rest_m rest_n)
   where
-    each : (x : Option (Frame × List ℕ)) → frame_at bytes ≡ x → ((rest : List ℕ) → length rest ≤ m → length rest ≤ n → frames_in m rest ≡ frames_in n rest)
+    each : (x : Option (Frame × List ℕ)) → frame_at bytes ≡ x
+        → ((rest : List ℕ) → length rest ≤ m → length rest ≤ n → frames_in m rest ≡ frames_in n rest)
         → onto x (frames_in m) ≡ onto x (frames_in n)
     each None is again = refl
     each (Some found) is again =
@@ -107,7 +111,8 @@ frames_of-none [] is = refl
 frames_of-none (b ∷ bytes) is = ap (λ (x : Option (Frame × List ℕ)). onto x (frames_in (length bytes))) is
 
 -- frames and a gate that is not open, in as many turns as there are bytes
-pub frames_of-spelled : (frames : List Frame) (gate : ℕ) (rest : List ℕ) → size_of frames < 2 ^ 32 → gate ≢ 165 → frames_of (spelled frames ++ gate ∷ rest) ≡ frames
+pub frames_of-spelled : (frames : List Frame) (gate : ℕ) (rest : List ℕ) → size_of frames < 2 ^ 32 → gate ≢ 165
+    → frames_of (spelled frames ++ gate ∷ rest) ≡ frames
 frames_of-spelled frames gate rest short shut =
     let long = length-append (spelled frames) (gate ∷ rest) in
     let enough : length frames ≤ length (spelled frames ++ gate ∷ rest) = omega (arith, length-spelled frames, length_le-size_of frames) in

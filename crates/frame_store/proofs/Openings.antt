@@ -18,7 +18,8 @@ use Rattle.frame_store.proofs.Headers.{header_within, in_force_kept, generation_
 -- calls that changed nothing, one after the other
 pub untouched_both : {D : Type 0} (seen : D → List ℕ) (may_leave : D → List ℕ → Type 0) (moment : D → ℕ) (left_since : D → ℕ → List ℕ → Type 0)
     → ((disk : D) (t : ℕ) (image : List ℕ) → t ≤ moment disk → may_leave disk image → left_since disk t image) → (a b c : D)
-    → IsUntouched seen may_leave moment left_since a b → IsUntouched seen may_leave moment left_since b c → IsUntouched seen may_leave moment left_since a c
+    → IsUntouched seen may_leave moment left_since a b → IsUntouched seen may_leave moment left_since b c
+    → IsUntouched seen may_leave moment left_since a c
 untouched_both seen may_leave moment left_since counts a b c first second = record {
   content = second.content ∙ first.content;
   crash = λ image left. first.crash image (second.crash image left);
@@ -26,14 +27,16 @@ untouched_both seen may_leave moment left_since counts a b c first second = reco
   time = record {
     later = omega (arith, first.time.later, second.time.later);
     nothing_else = λ t image le since.
-        ⊎_elim (λ past. inl (⊎_elim (λ had. had) (λ now. counts a t image le (first.crash image now)) (first.time.nothing_else t image le past))) (λ now. inr now)
+        ⊎_elim (λ past. inl (⊎_elim (λ had. had) (λ now. counts a t image le (first.crash image now)) (first.time.nothing_else t image le past)))
+        (λ now. inr now)
         (second.time.nothing_else t image (omega (arith, le, first.time.later)) since);
     keeps = λ t image le past. second.time.keeps t image (omega (arith, le, first.time.later)) (first.time.keeps t image le past);
   };
 }
 
 take_twice : (n m : ℕ) (l : List ℕ) → n ≤ m → take n (take m l) ≡ take n l
-take_twice n m l le = same_number_lists (take n (take m l)) (take n l) (omega (arith, length-take n (take m l), length-take m l, length-take n l)) (λ k lt. grind (arith, places))
+take_twice n m l le = same_number_lists (take n (take m l)) (take n l) (omega (arith, length-take n (take m l), length-take m l, length-take n l))
+    (λ k lt. grind (arith, places))
 
 -- The headers alone tell which half an image is read by.
 module _ (shape : Shape) (image headers : List ℕ) (whole : 64 ≤ length image) (are : headers ≡ part 0 64 image) where
@@ -42,7 +45,8 @@ module _ (shape : Shape) (image headers : List ℕ) (whole : 64 ≤ length image
 
   same : (half : Half) → part (header_at half) 25 image ≡ part (header_at half) 25 headers
   same half =
-      sym (ap (part (header_at half) 25) are ∙ part_of_part 0 64 (header_at half) 25 (header_at half) image (omega (arith, header_within half)) (omega arith) (omega arith))
+      sym (ap (part (header_at half) 25) are ∙ part_of_part 0 64 (header_at half) 25 (header_at half) image (omega (arith, header_within half))
+      (omega arith) (omega arith))
 
   pub headers_in_force : (half : Half) → InForce shape half headers → InForce shape half image
   headers_in_force half is = in_force_kept shape half headers image (omega (arith, size)) whole (same half) (λ other_open. same (other half)) is
@@ -56,7 +60,8 @@ module _ (shape : Shape) (image headers : List ℕ) (whole : 64 ≤ length image
   gate_same : (half : Half) → get_or headers (header_at half) 0 ≡ get_or image (header_at half) 0
   gate_same half =
       let here : 0 + header_at half ≡ header_at half = omega arith in
-      ap (λ (l : List ℕ). get_or l (header_at half) 0) are ∙ part_get 0 64 image (header_at half) (omega (arith, header_within half)) ∙ ap (λ (i : ℕ). get_or image i 0) here
+      ap (λ (l : List ℕ). get_or l (header_at half) 0) are ∙ part_get 0 64 image (header_at half) (omega (arith, header_within half))
+      ∙ ap (λ (i : ℕ). get_or image i 0) here
 
   -- a store that was read is laid in the image
   pub read_laid : (half : Half) (number : ℕ) (frames : List Frame) (bytes : List ℕ) (used : ℕ) (other_shut closed : Bool)
@@ -67,12 +72,14 @@ module _ (shape : Shape) (image headers : List ℕ) (whole : 64 ≤ length image
       → Laid shape half number other_shut frames closed image
   read_laid half number frames bytes used other_shut closed in_force generation bytes_are listed stands within used_is shut_is shut_then shut_only =
       let long : length bytes ≡ min (half_size shape) (length image - half_at shape half) =
-      ap length bytes_are ∙ length-take (half_size shape) (drop (half_at shape half) image) ∙ ap (min (half_size shape)) (length-drop (half_at shape half) image) in
+      ap length bytes_are ∙ length-take (half_size shape) (drop (half_at shape half) image)
+      ∙ ap (min (half_size shape)) (length-drop (half_at shape half) image) in
       record {
         in_force = headers_in_force half in_force;
         generation = generation_kept shape half headers image (omega (arith, size)) whole (same half) ∙ generation;
         listed = ap frames_of (sym bytes_are) ∙ sym listed;
-        stands = sym (take_twice (size_of frames) (half_size shape) (drop (half_at shape half) image) (omega (arith, within, long))) ∙ ap (take (size_of frames)) (sym bytes_are) ∙ stands;
+        stands = sym (take_twice (size_of frames) (half_size shape) (drop (half_at shape half) image) (omega (arith, within, long)))
+            ∙ ap (take (size_of frames)) (sym bytes_are) ∙ stands;
         shut = λ is is_open. shut_gate (get_or headers (header_at (other half)) 0) (sym shut_is ∙ is) (gate_same (other half) ∙ is_open);
         unshut = λ is. sym (gate_same (other half)) ∙ open_gate (get_or headers (header_at (other half)) 0) (sym shut_is ∙ is);
         ended = λ is.
@@ -97,23 +104,32 @@ module _ (shape : Shape) (image headers : List ℕ) (whole : 64 ≤ length image
       gate_at : used < half_size shape → get_or bytes used 0 ≡ get_or image (half_at shape half + size_of frames) 0
       gate_at lt =
           let here : half_at shape half + used ≡ half_at shape half + size_of frames = omega (arith, used_is) in
-          ap (λ (l : List ℕ). get_or l used 0) bytes_are ∙ part_get (half_at shape half) (half_size shape) image used lt ∙ ap (λ (i : ℕ). get_or image i 0) here
+          ap (λ (l : List ℕ). get_or l used 0) bytes_are ∙ part_get (half_at shape half) (half_size shape) image used lt
+          ∙ ap (λ (i : ℕ). get_or image i 0) here
 
 -- An image opens in one way at most.
-pub opens_once : (shape : Shape) (image : List ℕ) (f g : List Frame) (b c : Bool) → OpensAs shape f b image → OpensAs shape g c image → (f ≡ g) × (b ≡ c)
+pub opens_once : (shape : Shape) (image : List ℕ) (f g : List Frame) (b c : Bool) → OpensAs shape f b image → OpensAs shape g c image → (f ≡ g)
+    × (b ≡ c)
 opens_once shape image f g b c first second = at first.half second.half first.in_force second.in_force first.listed second.listed first.ended second.ended first.not_ended second.not_ended
   where
     agree : (h : Half) → frames_of (half_bytes shape h image) ≡ f → frames_of (half_bytes shape h image) ≡ g
-        → (b ≡ true → EndsClosed shape h f image) → (c ≡ true → EndsClosed shape h g image) → (EndsClosed shape h f image → b ≡ true) → (EndsClosed shape h g image → c ≡ true) → (f ≡ g) × (b ≡ c)
-    agree h lf lg ef eg nf ng = (sym lf ∙ lg, bools b c (λ is. ng (subst (λ (l : List Frame). EndsClosed shape h l image) (sym lf ∙ lg) (ef is))) (λ is. nf (subst (λ (l : List Frame). EndsClosed shape h l image) (sym lg ∙ lf) (eg is))))
+        → (b ≡ true → EndsClosed shape h f image) → (c ≡ true → EndsClosed shape h g image) → (EndsClosed shape h f image → b ≡ true)
+        → (EndsClosed shape h g image → c ≡ true) → (f ≡ g) × (b ≡ c)
+    agree h lf lg ef eg nf ng = (
+      sym lf ∙ lg,
+      bools b c (λ is. ng (subst (λ (l : List Frame). EndsClosed shape h l image) (sym lf ∙ lg) (ef is)))
+          (λ is. nf (subst (λ (l : List Frame). EndsClosed shape h l image) (sym lg ∙ lf) (eg is))),
+    )
       where
         bools : (x y : Bool) → (x ≡ true → y ≡ true) → (y ≡ true → x ≡ true) → x ≡ y
         bools true y to from = sym (to refl)
         bools false true to from = from refl
         bools false false to from = refl
 
-    at : (h k : Half) → InForce shape h image → InForce shape k image → frames_of (half_bytes shape h image) ≡ f → frames_of (half_bytes shape k image) ≡ g
-        → (b ≡ true → EndsClosed shape h f image) → (c ≡ true → EndsClosed shape k g image) → (EndsClosed shape h f image → b ≡ true) → (EndsClosed shape k g image → c ≡ true) → (f ≡ g) × (b ≡ c)
+    at : (h k : Half) → InForce shape h image → InForce shape k image → frames_of (half_bytes shape h image) ≡ f
+        → frames_of (half_bytes shape k image) ≡ g
+        → (b ≡ true → EndsClosed shape h f image) → (c ≡ true → EndsClosed shape k g image) → (EndsClosed shape h f image → b ≡ true)
+        → (EndsClosed shape k g image → c ≡ true) → (f ≡ g) × (b ≡ c)
     at A A x y lf lg ef eg nf ng = agree A lf lg ef eg nf ng
     at B B x y lf lg ef eg nf ng = agree B lf lg ef eg nf ng
     at A B x y lf lg ef eg nf ng = absurd (x.1 y.0 (y.1 x.0))

@@ -17,13 +17,15 @@ pub length-part : (at n : ℕ) (image : List ℕ) → at + n ≤ length image �
 length-part at n image fits = grind (arith, places)
 
 -- two contents have the same part where they have the same bytes there
-pub same_part : (at n : ℕ) (old new : List ℕ) → at + n ≤ length old → at + n ≤ length new → ((i : ℕ) → at ≤ i → i < at + n → get_or new i 0 ≡ get_or old i 0)
+pub same_part : (at n : ℕ) (old new : List ℕ) → at + n ≤ length old → at + n ≤ length new
+    → ((i : ℕ) → at ≤ i → i < at + n → get_or new i 0 ≡ get_or old i 0)
     → part at n new ≡ part at n old
 same_part at n old new fits fits_new same =
     let len = length-part at n old fits in
     let len_new = length-part at n new fits_new in
     same_number_lists (part at n new) (part at n old) (len_new ∙ sym len)
-    (λ k lt. part_get at n new k (omega (arith, len_new)) ∙ same (at + k) (omega arith) (omega (arith, len_new)) ∙ sym (part_get at n old k (omega (arith, len_new))))
+    (λ k lt. part_get at n new k (omega (arith, len_new)) ∙ same (at + k) (omega arith) (omega (arith, len_new))
+    ∙ sym (part_get at n old k (omega (arith, len_new))))
 
 -- the n bytes from at on lie outside the k bytes from from on
 pub data IsClear (from k at n : ℕ) : Type 0 where
@@ -37,12 +39,14 @@ outside from k at n i (above le) low high = inr (omega arith)
 outside from k at n i (unwritten nothing) low high = elim (cases_lt i from) [ inl lt ↦ inl lt | inr ge ↦ inr (omega arith) ]
 
 -- a part outside a write is as it was, whatever the write was torn to
-pub part_kept : (from k : ℕ) (old new : List ℕ) (at n : ℕ) → Torn from k old new → at + n ≤ length old → IsClear from k at n → part at n new ≡ part at n old
+pub part_kept : (from k : ℕ) (old new : List ℕ) (at n : ℕ) → Torn from k old new → at + n ≤ length old → IsClear from k at n
+    → part at n new ≡ part at n old
 part_kept from k old new at n torn fits clear =
     same_part at n old new fits (omega (arith, torn.no_shorter)) (λ i low high. torn.kept i (omega arith) (outside from k at n i clear low high))
 
 -- so is a byte
-pub byte_kept : (from k : ℕ) (old new : List ℕ) (at : ℕ) → Torn from k old new → at < length old → IsClear from k at 1 → get_or new at 0 ≡ get_or old at 0
+pub byte_kept : (from k : ℕ) (old new : List ℕ) (at : ℕ) → Torn from k old new → at < length old → IsClear from k at 1
+    → get_or new at 0 ≡ get_or old at 0
 byte_kept from k old new at torn fits clear = torn.kept at fits (outside from k at 1 at clear (omega arith) (omega arith))
 
 -- how long a content is after a write
@@ -51,7 +55,8 @@ length-written at bytes old some =
     let is = ap length (written_some at bytes old some) in
     let size = length-append old (replicate (at + length bytes - length old) 0) in
     let zeros = length-replicate {A = ℕ} (at + length bytes - length old) 0 in
-    let over : length (overlaid at bytes (padded (at + length bytes) old)) ≡ length (padded (at + length bytes) old) = overlaid_long (padded (at + length bytes) old) (omega arith) in
+    let over : length (overlaid at bytes (padded (at + length bytes) old)) ≡ length (padded (at + length bytes) old) = overlaid_long
+    (padded (at + length bytes) old) (omega arith) in
     omega (arith, is, size, zeros, over)
   where
     overlaid_long : (whole : List ℕ) → at + length bytes ≤ length whole → length (overlaid at bytes whole) ≡ length whole
@@ -74,22 +79,26 @@ part_written at (byte ∷ bytes) old =
     let size = length-written at (byte ∷ bytes) old (omega arith) in
     let len = length-part at (length (byte ∷ bytes)) (written at (byte ∷ bytes) old) (omega (arith, size)) in
     same_number_lists (part at (length (byte ∷ bytes)) (written at (byte ∷ bytes) old)) (byte ∷ bytes) len
-    (λ k lt. part_get at (length (byte ∷ bytes)) (written at (byte ∷ bytes) old) k (omega (arith, len)) ∙ written_get at (byte ∷ bytes) old k (omega (arith, len)))
+    (λ k lt. part_get at (length (byte ∷ bytes)) (written at (byte ∷ bytes) old) k (omega (arith, len)) ∙ written_get at (byte ∷ bytes) old k
+    (omega (arith, len)))
 
 -- a part of a part
-pub part_of_part : (at n from k to : ℕ) (image : List ℕ) → from + k ≤ n → at + n ≤ length image → to ≡ at + from → part from k (part at n image) ≡ part to k image
+pub part_of_part : (at n from k to : ℕ) (image : List ℕ) → from + k ≤ n → at + n ≤ length image → to ≡ at + from
+    → part from k (part at n image) ≡ part to k image
 part_of_part at n from k to image within fits is =
     let len = length-part at n image fits in
     let inner = length-part from k (part at n image) (omega (arith, len)) in
     let outer = length-part to k image (omega arith) in
     same_number_lists (part from k (part at n image)) (part to k image) (inner ∙ sym outer)
-    (λ i lt. part_get from k (part at n image) i (omega (arith, inner)) ∙ part_get at n image (from + i) (omega (arith, inner)) ∙ index i ∙ sym (part_get to k image i (omega (arith, inner))))
+    (λ i lt. part_get from k (part at n image) i (omega (arith, inner)) ∙ part_get at n image (from + i) (omega (arith, inner)) ∙ index i
+    ∙ sym (part_get to k image i (omega (arith, inner))))
   where
     index : (i : ℕ) → get_or image (at + (from + i)) 0 ≡ get_or image (to + i) 0
     index i = let same : at + (from + i) ≡ to + i = omega arith in ap (λ (j : ℕ). get_or image j 0) same
 
 -- two parts side by side
-pub part_join : (at n k to : ℕ) (image : List ℕ) → at + n + k ≤ length image → to ≡ at + n → part at (n + k) image ≡ part at n image ++ part to k image
+pub part_join : (at n k to : ℕ) (image : List ℕ) → at + n + k ≤ length image → to ≡ at + n
+    → part at (n + k) image ≡ part at n image ++ part to k image
 part_join at n k to image fits is =
     let whole = length-part at (n + k) image (omega arith) in
     let left = length-part at n image (omega arith) in

@@ -9,7 +9,8 @@ pub torn_same : (at n : ℕ) (content : List ℕ) → Torn at n content content
 torn_same at n content = record { kept = λ i lt out. refl; no_shorter = omega arith; no_longer = omega arith }
 
 -- a write after which a crash leaves the one content torn
-pub torn_from : (at n : ℕ) (content : List ℕ) (old new : List ℕ → Type 0) → Only content old → Follows (Torn at n) old new → (image : List ℕ) → new image → Torn at n content image
+pub torn_from : (at n : ℕ) (content : List ℕ) (old new : List ℕ → Type 0) → Only content old → Follows (Torn at n) old new → (image : List ℕ)
+    → new image → Torn at n content image
 torn_from at n content old new only follows image left =
     let from = follows image left in
     subst (λ (d : List ℕ). Torn at n d image) (only from.0 from.1) from.2
@@ -17,12 +18,15 @@ torn_from at n content old new only follows image left =
 module _ {D : Type 0} (may_leave : D → List ℕ → Type 0) (moment : D → ℕ) (left_since : D → ℕ → List ℕ → Type 0)
     (only_now : (disk : D) (image : List ℕ) → left_since disk (moment disk) image → may_leave disk image) where
   -- before the first call, where the one content has P
-  pub begun : (disk : D) (content : List ℕ) (P : List ℕ → Type 0) → Only content (may_leave disk) → P content → LeavesOnly moment left_since disk disk P
+  pub begun : (disk : D) (content : List ℕ) (P : List ℕ → Type 0) → Only content (may_leave disk) → P content
+      → LeavesOnly moment left_since disk disk P
   begun disk content P only here = started moment left_since disk P (λ image left. subst P (sym (only image (only_now disk image left))) here)
 
   -- a write and a sync
-  pub write_then_sync : (old mid new : D) (content : List ℕ) (at n : ℕ) → Only content (may_leave old) → Follows (Torn at n) (may_leave old) (may_leave mid)
-      → Elapses (moment old) (moment mid) (left_since old) (left_since mid) (may_leave mid) → ((image : List ℕ) → may_leave new image → may_leave mid image)
+  pub write_then_sync : (old mid new : D) (content : List ℕ) (at n : ℕ) → Only content (may_leave old) → Follows (Torn at n) (may_leave old)
+      (may_leave mid)
+      → Elapses (moment old) (moment mid) (left_since old) (left_since mid) (may_leave mid)
+      → ((image : List ℕ) → may_leave new image → may_leave mid image)
       → Elapses (moment mid) (moment new) (left_since mid) (left_since new) (may_leave new) → LeavesOnly moment left_since old new (Torn at n content)
   write_then_sync old mid new content at n only follows time fewer later =
       let P : List ℕ → Type 0 = Torn at n content in
@@ -31,32 +35,46 @@ module _ {D : Type 0} (may_leave : D → List ℕ → Type 0) (moment : D → �
       goes_on moment left_since old mid new P (may_leave new) written later (λ image left. first image (fewer image left))
 
   -- the first of two writes
-  pub write_first : (old mid : D) (content : List ℕ) (from n at k : ℕ) → Only content (may_leave old) → Follows (Torn from n) (may_leave old) (may_leave mid)
-      → Elapses (moment old) (moment mid) (left_since old) (left_since mid) (may_leave mid) → LeavesOnly moment left_since old mid (IsStaged from n at k content)
+  pub write_first : (old mid : D) (content : List ℕ) (from n at k : ℕ) → Only content (may_leave old) → Follows (Torn from n) (may_leave old)
+      (may_leave mid)
+      → Elapses (moment old) (moment mid) (left_since old) (left_since mid) (may_leave mid) → LeavesOnly moment left_since old mid
+      (IsStaged from n at k content)
   write_first old mid content from n at k only follows time =
       let P : List ℕ → Type 0 = IsStaged from n at k content in
       let none = torn_same from n content in
       let first = begun old content P only (record { between = content; first = none; second = torn_same at k content }) in
       goes_on moment left_since old old mid P (may_leave mid) first time
-      (λ image left. record { between = image; first = torn_from from n content (may_leave old) (may_leave mid) only follows image left; second = torn_same at k image })
+      (λ image left. record {
+        between = image;
+        first = torn_from from n content (may_leave old)
+            (may_leave mid) only follows image left;
+        second = torn_same at k image;
+      })
 
   -- what both of them leave
-  pub staged_now : (old mid new : D) (content : List ℕ) (from n at k : ℕ) → Only content (may_leave old) → Follows (Torn from n) (may_leave old) (may_leave mid)
+  pub staged_now : (old mid new : D) (content : List ℕ) (from n at k : ℕ) → Only content (may_leave old) → Follows (Torn from n) (may_leave old)
+      (may_leave mid)
       → Follows (Torn at k) (may_leave mid) (may_leave new) → (image : List ℕ) → may_leave new image → IsStaged from n at k content image
   staged_now old mid new content from n at k only follows follows_then image left =
       let came = follows_then image left in
       record { between = came.0; first = torn_from from n content (may_leave old) (may_leave mid) only follows came.0 came.1; second = came.2 }
 
   -- two writes
-  pub write_twice : (old mid new : D) (content : List ℕ) (from n at k : ℕ) → Only content (may_leave old) → Follows (Torn from n) (may_leave old) (may_leave mid)
+  pub write_twice : (old mid new : D) (content : List ℕ) (from n at k : ℕ) → Only content (may_leave old) → Follows (Torn from n) (may_leave old)
+      (may_leave mid)
       → Elapses (moment old) (moment mid) (left_since old) (left_since mid) (may_leave mid) → Follows (Torn at k) (may_leave mid) (may_leave new)
-      → Elapses (moment mid) (moment new) (left_since mid) (left_since new) (may_leave new) → LeavesOnly moment left_since old new (IsStaged from n at k content)
+      → Elapses (moment mid) (moment new) (left_since mid) (left_since new) (may_leave new) → LeavesOnly moment left_since old new
+      (IsStaged from n at k content)
   write_twice old mid new content from n at k only follows time follows_then later =
-      goes_on moment left_since old mid new (IsStaged from n at k content) (may_leave new) (write_first old mid content from n at k only follows time) later
+      goes_on moment left_since old mid new (IsStaged from n at k content) (may_leave new)
+      (write_first old mid content from n at k only follows time) later
       (staged_now old mid new content from n at k only follows follows_then)
 
   -- and a sync, which leaves no more
-  pub then_sync : (old mid new : D) (P : List ℕ → Type 0) → LeavesOnly moment left_since old mid P → ((image : List ℕ) → may_leave mid image → P image)
-      → ((image : List ℕ) → may_leave new image → may_leave mid image) → Elapses (moment mid) (moment new) (left_since mid) (left_since new) (may_leave new)
+  pub then_sync : (old mid new : D) (P : List ℕ → Type 0) → LeavesOnly moment left_since old mid P
+      → ((image : List ℕ) → may_leave mid image → P image)
+      → ((image : List ℕ) → may_leave new image → may_leave mid image) → Elapses (moment mid) (moment new) (left_since mid) (left_since new)
+      (may_leave new)
       → LeavesOnly moment left_since old new P
-  then_sync old mid new P so_far now fewer later = goes_on moment left_since old mid new P (may_leave new) so_far later (λ image left. now image (fewer image left))
+  then_sync old mid new P so_far now fewer later = goes_on moment left_since old mid new P (may_leave new) so_far later
+      (λ image left. now image (fewer image left))

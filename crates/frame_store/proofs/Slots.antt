@@ -33,11 +33,13 @@ pub slots_kept : (shape : Shape) (put : Option (ℕ × List ℕ)) (content old n
 slots_kept shape put content old new from k torn clear kept = record {
   size = omega (arith, kept.size, torn.no_shorter);
   same = λ slot has other.
-      part_kept from k old new (slot_at shape slot) shape.block torn (omega (arith, has.inside, kept.size)) (clear slot has.is_slot other) ∙ kept.same slot has other;
+      part_kept from k old new (slot_at shape slot) shape.block torn (omega (arith, has.inside, kept.size)) (clear slot has.is_slot other)
+      ∙ kept.same slot has other;
 }
 
 -- a write in or behind the halves, one in the headers, and one in the slot that a block is put in
-pub clear_behind : (shape : Shape) (half : Half) (from k slot : ℕ) → half_at shape half ≤ from → slot < shape.records → IsClear from k (slot_at shape slot) shape.block
+pub clear_behind : (shape : Shape) (half : Half) (from k slot : ℕ) → half_at shape half ≤ from → slot < shape.records
+    → IsClear from k (slot_at shape slot) shape.block
 clear_behind shape half from k slot behind is = below (omega (arith, slot_before_half shape half slot is))
 
 pub clear_header : (shape : Shape) (from k slot : ℕ) → from + k ≤ 64 → IsClear from k (slot_at shape slot) shape.block
@@ -50,7 +52,8 @@ clear_slot shape put slot differs = elim (cases_lt slot put) [
 ]
 
 -- the block that was put in its slot stays there, where a write leaves that slot alone
-pub put_kept : (shape : Shape) (slot : ℕ) (block old new : List ℕ) (from k : ℕ) → Torn from k old new → IsClear from k (slot_at shape slot) shape.block
+pub put_kept : (shape : Shape) (slot : ℕ) (block old new : List ℕ) (from k : ℕ) → Torn from k old new
+    → IsClear from k (slot_at shape slot) shape.block
     → StandsIn shape (Some (slot, block)) old → StandsIn shape (Some (slot, block)) new
 put_kept shape slot block old new from k torn clear (has, stands) = (
   record { is_slot = has.is_slot; inside = omega (arith, has.inside, torn.no_shorter) },
@@ -58,7 +61,8 @@ put_kept shape slot block old new from k torn clear (has, stands) = (
 )
 
 -- a write behind the halves' beginning keeps what is put in a slot
-pub stands_behind : (shape : Shape) (half : Half) (put : Option (ℕ × List ℕ)) (old new : List ℕ) (from k : ℕ) → Torn from k old new → half_at shape half ≤ from
+pub stands_behind : (shape : Shape) (half : Half) (put : Option (ℕ × List ℕ)) (old new : List ℕ) (from k : ℕ) → Torn from k old new
+    → half_at shape half ≤ from
     → StandsIn shape put old → StandsIn shape put new
 stands_behind shape half None old new from k torn behind stands = tt
 stands_behind shape half (Some (slot, block)) old new from k torn behind (has, stands) =

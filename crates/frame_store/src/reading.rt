@@ -208,7 +208,8 @@ pub(crate) fn read_store<D: Disk>(
 ) -> Result<Found, FrameFault>
     requires limits { IsShape shape }
     ensures counted { IfOk result (λ found. IsCounted shape found.frames.items found.used) }
-    ensures laid { D.tells → IfOk result (λ found. Laid shape found.half found.generation found.other_shut found.frames.items found.closed (D.seen disk.old)) }
+    ensures laid { D.tells → IfOk result (λ found. Laid shape found.half found.generation found.other_shut found.frames.items found.closed
+        (D.seen disk.old)) }
     ensures size { D.tells → IfOk result (λ found. length (D.seen disk.old) ≡ found.size) }
     ensures none { D.tells → result ≡ Err FrameFault.NotAStore → IsNoStore shape (D.seen disk.old) }
     ensures not_halted { result ≢ Err FrameFault.Halted }

@@ -33,7 +33,8 @@ pub(crate) fn stage<D: Disk>(
     ensures room { KeepsRoom (D.has_room disk.old) (D.has_room disk.new) }
     ensures plan { KeepsPlan (D.fails_in disk.old) (D.fails_in disk.new) }
     ensures cause { Kept (D.faults disk.old) (D.faults disk.new) (D.sound disk.old) (D.sound disk.new) (result ≡ Err FrameFault.Disk) }
-    ensures enough { D.has_room disk.old calls (block + (length frame.now.body + 7)) end → length frame.now.body + 6 ≤ vec_capacity line.old → vec_len frames.old + 1 ≤ vec_capacity frames.old → IsOk result }
+    ensures enough { D.has_room disk.old calls (block + (length frame.now.body + 7)) end → length frame.now.body + 6 ≤ vec_capacity line.old
+        → vec_len frames.old + 1 ≤ vec_capacity frames.old → IsOk result }
 {
     let bytes = block + (frame.body.len() + 7);
     reserve(disk, calls, bytes, end)?;
@@ -63,7 +64,8 @@ pub(crate) fn stage_list<D: Disk>(
     ensures room { KeepsRoom (D.has_room disk.old) (D.has_room disk.new) }
     ensures plan { KeepsPlan (D.fails_in disk.old) (D.fails_in disk.new) }
     ensures cause { Kept (D.faults disk.old) (D.faults disk.new) (D.sound disk.old) (D.sound disk.new) (result ≡ Err FrameFault.Disk) }
-    ensures enough { D.has_room disk.old 7 (size_of frames.now + 34) end → size_of frames.now + 1 ≤ vec_capacity line.old → length frames.now ≤ vec_capacity listed.old → IsOk result }
+    ensures enough { D.has_room disk.old 7 (size_of frames.now + 34) end → size_of frames.now + 1 ≤ vec_capacity line.old
+        → length frames.now ≤ vec_capacity listed.old → IsOk result }
 {
     let bytes = size_of(frames) as usize + 34;
     reserve(disk, 7, bytes, end)?;

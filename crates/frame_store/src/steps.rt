@@ -38,7 +38,8 @@ fn write<D: Disk>(disk: &mut D, at: u64, bytes: &[u8]) -> Result<(), FrameFault>
     ensures crash { Follows (Torn at (length bytes.now)) (D.may_leave disk.old) (D.may_leave disk.new) }
     ensures time { Elapses (D.moment disk.old) (D.moment disk.new) (D.left_since disk.old) (D.left_since disk.new) (D.may_leave disk.new) }
     ensures counted { D.tells → OnOk result (D.moment disk.new ≡ D.moment disk.old + 1) }
-    ensures left { OnOk result ((calls room end : ℕ) → at + length bytes.now ≤ end → D.has_room disk.old (calls + 1) (room + length bytes.now) end → D.has_room disk.new calls room end) }
+    ensures left { OnOk result ((calls room end : ℕ) → at + length bytes.now ≤ end → D.has_room disk.old (calls + 1) (room + length bytes.now) end
+        → D.has_room disk.new calls room end) }
     ensures plan { OnOk result (RunsPlan 1 (D.fails_in disk.old) (D.fails_in disk.new)) }
     ensures only { IsOkUnless result FrameFault.Disk }
     ensures cause { Kept (D.faults disk.old) (D.faults disk.new) (D.sound disk.old) (D.sound disk.new) (result ≡ Err FrameFault.Disk) }
@@ -74,9 +75,11 @@ pub(crate) fn write_synced<D: Disk>(disk: &mut D, at: u64, bytes: &[u8]) -> Resu
     requires room { D.has_room disk.old 2 (length bytes.now) (at + length bytes.now) }
     ensures written { D.tells → OnOk result (D.seen disk.new ≡ written at bytes.now (D.seen disk.old)) }
     ensures durable { D.tells → OnOk result (Only (D.seen disk.new) (D.may_leave disk.new)) }
-    ensures moments { Only (D.seen disk.old) (D.may_leave disk.old) → LeavesOnly D.moment D.left_since disk.old disk.new (Torn at (length bytes.now) (D.seen disk.old)) }
+    ensures moments { Only (D.seen disk.old) (D.may_leave disk.old) → LeavesOnly D.moment D.left_since disk.old disk.new
+        (Torn at (length bytes.now) (D.seen disk.old)) }
     ensures counted { D.tells → OnOk result (D.moment disk.new ≡ D.moment disk.old + 2) }
-    ensures left { OnOk result ((calls room end : ℕ) → at + length bytes.now ≤ end → D.has_room disk.old (calls + 2) (room + length bytes.now) end → D.has_room disk.new calls room end) }
+    ensures left { OnOk result ((calls room end : ℕ) → at + length bytes.now ≤ end → D.has_room disk.old (calls + 2) (room + length bytes.now) end
+        → D.has_room disk.new calls room end) }
     ensures plan { OnOk result (RunsPlan 2 (D.fails_in disk.old) (D.fails_in disk.new)) }
     ensures only { IsOkUnless result FrameFault.Disk }
     ensures cause { Kept (D.faults disk.old) (D.faults disk.new) (D.sound disk.old) (D.sound disk.new) (result ≡ Err FrameFault.Disk) }
@@ -97,9 +100,11 @@ pub(crate) fn write_gated<D: Disk>(
     requires room { D.has_room disk.old 4 (length bytes.now + 1) (at + length bytes.now) }
     ensures written { D.tells → OnOk result (D.seen disk.new ≡ written gate (165 ∷ []) (written at bytes.now (D.seen disk.old))) }
     ensures durable { D.tells → OnOk result (Only (D.seen disk.new) (D.may_leave disk.new)) }
-    ensures moments { D.tells → Only (D.seen disk.old) (D.may_leave disk.old) → LeavesOnly D.moment D.left_since disk.old disk.new (IsGated at bytes.now gate (D.seen disk.old)) }
+    ensures moments { D.tells → Only (D.seen disk.old) (D.may_leave disk.old) → LeavesOnly D.moment D.left_since disk.old disk.new
+        (IsGated at bytes.now gate (D.seen disk.old)) }
     ensures counted { D.tells → OnOk result (D.moment disk.new ≡ D.moment disk.old + 4) }
-    ensures left { OnOk result ((calls room end : ℕ) → at + length bytes.now ≤ end → D.has_room disk.old (calls + 4) (room + (length bytes.now + 1)) end → D.has_room disk.new calls room end) }
+    ensures left { OnOk result ((calls room end : ℕ) → at + length bytes.now ≤ end → D.has_room disk.old (calls + 4)
+        (room + (length bytes.now + 1)) end → D.has_room disk.new calls room end) }
     ensures plan { OnOk result (RunsPlan 4 (D.fails_in disk.old) (D.fails_in disk.new)) }
     ensures only { IsOkUnless result FrameFault.Disk }
     ensures cause { Kept (D.faults disk.old) (D.faults disk.new) (D.sound disk.old) (D.sound disk.new) (result ≡ Err FrameFault.Disk) }
@@ -121,9 +126,11 @@ fn write_both_synced<D: Disk>(
     requires room { D.has_room disk.old 3 (length first.now + length second.now) (at + length second.now) }
     ensures written { D.tells → OnOk result (D.seen disk.new ≡ both_written from first.now at second.now (D.seen disk.old)) }
     ensures durable { D.tells → OnOk result (Only (D.seen disk.new) (D.may_leave disk.new)) }
-    ensures moments { Only (D.seen disk.old) (D.may_leave disk.old) → LeavesOnly D.moment D.left_since disk.old disk.new (IsStaged from (length first.now) at (length second.now) (D.seen disk.old)) }
+    ensures moments { Only (D.seen disk.old) (D.may_leave disk.old) → LeavesOnly D.moment D.left_since disk.old disk.new
+        (IsStaged from (length first.now) at (length second.now) (D.seen disk.old)) }
     ensures counted { D.tells → OnOk result (D.moment disk.new ≡ D.moment disk.old + 3) }
-    ensures left { OnOk result ((calls room end : ℕ) → at + length second.now ≤ end → D.has_room disk.old (calls + 3) (room + (length first.now + length second.now)) end → D.has_room disk.new calls room end) }
+    ensures left { OnOk result ((calls room end : ℕ) → at + length second.now ≤ end → D.has_room disk.old (calls + 3)
+        (room + (length first.now + length second.now)) end → D.has_room disk.new calls room end) }
     ensures plan { OnOk result (RunsPlan 3 (D.fails_in disk.old) (D.fails_in disk.new)) }
     ensures only { IsOkUnless result FrameFault.Disk }
     ensures cause { Kept (D.faults disk.old) (D.faults disk.new) (D.sound disk.old) (D.sound disk.new) (result ≡ Err FrameFault.Disk) }
@@ -146,11 +153,14 @@ pub(crate) fn write_both_gated<D: Disk>(
     requires first { from + length first.now ≤ at + length second.now }
     requires gate { gate + 1 ≤ at + length second.now }
     requires room { D.has_room disk.old 5 (length first.now + length second.now + 1) (at + length second.now) }
-    ensures written { D.tells → OnOk result (D.seen disk.new ≡ written gate (165 ∷ []) (both_written from first.now at second.now (D.seen disk.old))) }
+    ensures written { D.tells → OnOk result (D.seen disk.new ≡ written gate (165 ∷ [])
+        (both_written from first.now at second.now (D.seen disk.old))) }
     ensures durable { D.tells → OnOk result (Only (D.seen disk.new) (D.may_leave disk.new)) }
-    ensures moments { D.tells → Only (D.seen disk.old) (D.may_leave disk.old) → LeavesOnly D.moment D.left_since disk.old disk.new (IsBothGated from first.now at second.now gate (D.seen disk.old)) }
+    ensures moments { D.tells → Only (D.seen disk.old) (D.may_leave disk.old) → LeavesOnly D.moment D.left_since disk.old disk.new
+        (IsBothGated from first.now at second.now gate (D.seen disk.old)) }
     ensures counted { D.tells → OnOk result (D.moment disk.new ≡ D.moment disk.old + 5) }
-    ensures left { OnOk result ((calls room end : ℕ) → at + length second.now ≤ end → D.has_room disk.old (calls + 5) (room + (length first.now + length second.now + 1)) end → D.has_room disk.new calls room end) }
+    ensures left { OnOk result ((calls room end : ℕ) → at + length second.now ≤ end → D.has_room disk.old (calls + 5)
+        (room + (length first.now + length second.now + 1)) end → D.has_room disk.new calls room end) }
     ensures plan { OnOk result (RunsPlan 5 (D.fails_in disk.old) (D.fails_in disk.new)) }
     ensures only { IsOkUnless result FrameFault.Disk }
     ensures cause { Kept (D.faults disk.old) (D.faults disk.new) (D.sound disk.old) (D.sound disk.new) (result ≡ Err FrameFault.Disk) }
@@ -172,11 +182,14 @@ pub(crate) fn rewrite_gated<D: Disk>(
     requires shut { gate + length shut.now ≤ at + length list.now }
     requires rest { gate + 1 + length rest.now ≤ at + length list.now }
     requires room { D.has_room disk.old 7 (length shut.now + (length rest.now + length list.now + 1)) (at + length list.now) }
-    ensures written { D.tells → OnOk result (D.seen disk.new ≡ written gate (165 ∷ []) (both_written (gate + 1) rest.now at list.now (written gate shut.now (D.seen disk.old)))) }
+    ensures written { D.tells → OnOk result (D.seen disk.new ≡ written gate (165 ∷ [])
+        (both_written (gate + 1) rest.now at list.now (written gate shut.now (D.seen disk.old)))) }
     ensures durable { D.tells → OnOk result (Only (D.seen disk.new) (D.may_leave disk.new)) }
-    ensures moments { D.tells → Only (D.seen disk.old) (D.may_leave disk.old) → LeavesOnly D.moment D.left_since disk.old disk.new (IsRewritten gate shut.now rest.now at list.now (D.seen disk.old)) }
+    ensures moments { D.tells → Only (D.seen disk.old) (D.may_leave disk.old) → LeavesOnly D.moment D.left_since disk.old disk.new
+        (IsRewritten gate shut.now rest.now at list.now (D.seen disk.old)) }
     ensures counted { D.tells → OnOk result (D.moment disk.new ≡ D.moment disk.old + 7) }
-    ensures left { OnOk result ((calls room end : ℕ) → at + length list.now ≤ end → D.has_room disk.old (calls + 7) (room + (length shut.now + (length rest.now + length list.now + 1))) end → D.has_room disk.new calls room end) }
+    ensures left { OnOk result ((calls room end : ℕ) → at + length list.now ≤ end → D.has_room disk.old (calls + 7)
+        (room + (length shut.now + (length rest.now + length list.now + 1))) end → D.has_room disk.new calls room end) }
     ensures plan { OnOk result (RunsPlan 7 (D.fails_in disk.old) (D.fails_in disk.new)) }
     ensures only { IsOkUnless result FrameFault.Disk }
     ensures cause { Kept (D.faults disk.old) (D.faults disk.new) (D.sound disk.old) (D.sound disk.new) (result ≡ Err FrameFault.Disk) }

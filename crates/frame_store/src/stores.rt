@@ -52,7 +52,8 @@ impl<D: Disk> Model for FrameStore<D> {
     ghost use Rattle.frame_store.specs.Laid.{Laid, IsCounted};
 
     ghost invariant = { λ s. IsCounted s.shape s.frames.items s.used
-        × (D.tells → s.halted ≡ false → Laid s.shape s.half s.generation s.other_shut s.frames.items s.closed (D.seen s.disk) × (length (D.seen s.disk) ≡ s.size)) };
+        × (D.tells → s.halted ≡ false → Laid s.shape s.half s.generation s.other_shut s.frames.items s.closed (D.seen s.disk)
+        × (length (D.seen s.disk) ≡ s.size)) };
 }
 
 /// Makes an empty store of these blocks and slots for a brick, in the place of whatever the disk holds. It makes five calls of
@@ -193,7 +194,8 @@ impl<D: Disk> FrameStore<D> {
         ensures plan { KeepsPlan (D.fails_in self.old.disk) (D.fails_in self.new.disk) }
         ensures answer { IsAnswer self.old.halted self.new.halted result }
         ensures no_call { result ≡ Err FrameFault.Halted → self.new ≡ self.old }
-        ensures cause { Kept (D.faults self.old.disk) (D.faults self.new.disk) (D.sound self.old.disk) (D.sound self.new.disk) (result ≡ Err FrameFault.Disk) }
+        ensures cause { Kept (D.faults self.old.disk) (D.faults self.new.disk) (D.sound self.old.disk) (D.sound self.new.disk)
+            (result ≡ Err FrameFault.Disk) }
         ensures read { IsRead D.tells D.seen self.new }
     {
         if self.halted {
@@ -216,10 +218,13 @@ impl<D: Disk> FrameStore<D> {
     pub fn append(&mut self, kind: u8, body: &[u8]) -> Result<(), FrameFault>
         requires fits { Fits self.old.shape self.old.frames (length body.now) }
         // After Ok each image opens as the new list.
-        ensures after { D.tells → OnOk result (IsAfter self.old.shape (self.old.frames ++ frame_of kind body.now ∷ []) None (D.seen self.old.disk) (D.seen self.new.disk)) }
+        ensures after { D.tells → OnOk result (IsAfter self.old.shape (self.old.frames ++ frame_of kind body.now ∷ []) None (D.seen self.old.disk)
+            (D.seen self.new.disk)) }
         ensures durable { D.tells → OnOk result (IsDurable D.tells D.seen D.may_leave self.new) }
         // At each moment of the call each image opens as the list before it or as the one after it.
-        ensures any_moment { IsDurable D.tells D.seen D.may_leave self.old → self.old.closed ≡ true → LeavesOnly D.moment D.left_since self.old.disk self.new.disk (IsBeforeOrAfter self.old.shape self.old.frames (self.old.frames ++ frame_of kind body.now ∷ []) None (D.seen self.old.disk)) }
+        ensures any_moment { IsDurable D.tells D.seen D.may_leave self.old → self.old.closed ≡ true
+            → LeavesOnly D.moment D.left_since self.old.disk self.new.disk
+            (IsBeforeOrAfter self.old.shape self.old.frames (self.old.frames ++ frame_of kind body.now ∷ []) None (D.seen self.old.disk)) }
         ensures ok { OnOk result (HasNow (self.old.frames ++ frame_of kind body.now ∷ []) self.old self.new) }
         ensures counted { D.tells → OnOk result (D.moment self.new.disk ≡ D.moment self.old.disk + 4) }
         ensures plan { OnOk result (RunsPlan 4 (D.fails_in self.old.disk) (D.fails_in self.new.disk)) }
@@ -227,10 +232,12 @@ impl<D: Disk> FrameStore<D> {
         ensures refused { OnErr result (IsSame self.old self.new) }
         ensures no_memory { result ≡ Err FrameFault.NoMemory → IsUntouched D.seen D.may_leave D.moment D.left_since self.old.disk self.new.disk }
         ensures no_call { result ≡ Err FrameFault.Halted → self.new ≡ self.old }
-        ensures cause { Kept (D.faults self.old.disk) (D.faults self.new.disk) (D.sound self.old.disk) (D.sound self.new.disk) (result ≡ Err FrameFault.Disk) }
+        ensures cause { Kept (D.faults self.old.disk) (D.faults self.new.disk) (D.sound self.old.disk) (D.sound self.new.disk)
+            (result ≡ Err FrameFault.Disk) }
         ensures read { IsRead D.tells D.seen self.new }
         // Within what `reserve` made, memory is not refused.
-        ensures room { HasRoom D.has_room self.old 4 (length body.now + 7) (length body.now + 6) (length self.old.frames + 1) (length body.now) → result ≢ Err FrameFault.NoMemory }
+        ensures room { HasRoom D.has_room self.old 4 (length body.now + 7) (length body.now + 6) (length self.old.frames + 1) (length body.now)
+            → result ≢ Err FrameFault.NoMemory }
     {
         if self.halted {
             return Err(FrameFault::Halted);
@@ -244,10 +251,13 @@ impl<D: Disk> FrameStore<D> {
         requires runs { self.old.halted ≡ false }
         requires fits { Fits self.old.shape self.old.frames (length frame.body) }
         // After Ok each image opens as the new list.
-        ensures after { D.tells → OnOk result (IsAfter self.old.shape (self.old.frames ++ frame ∷ []) None (D.seen self.old.disk) (D.seen self.new.disk)) }
+        ensures after { D.tells → OnOk result (IsAfter self.old.shape (self.old.frames ++ frame ∷ []) None (D.seen self.old.disk)
+            (D.seen self.new.disk)) }
         ensures durable { D.tells → OnOk result (IsDurable D.tells D.seen D.may_leave self.new) }
         // At each moment of the call each image opens as the list before it or as the one after it.
-        ensures any_moment { IsDurable D.tells D.seen D.may_leave self.old → self.old.closed ≡ true → LeavesOnly D.moment D.left_since self.old.disk self.new.disk (IsBeforeOrAfter self.old.shape self.old.frames (self.old.frames ++ frame ∷ []) None (D.seen self.old.disk)) }
+        ensures any_moment { IsDurable D.tells D.seen D.may_leave self.old → self.old.closed ≡ true
+            → LeavesOnly D.moment D.left_since self.old.disk self.new.disk
+            (IsBeforeOrAfter self.old.shape self.old.frames (self.old.frames ++ frame ∷ []) None (D.seen self.old.disk)) }
         ensures ok { OnOk result (HasNow (self.old.frames ++ frame ∷ []) self.old self.new) }
         ensures counted { D.tells → OnOk result (D.moment self.new.disk ≡ D.moment self.old.disk + 4) }
         ensures plan { OnOk result (RunsPlan 4 (D.fails_in self.old.disk) (D.fails_in self.new.disk)) }
@@ -255,9 +265,11 @@ impl<D: Disk> FrameStore<D> {
         ensures refused { OnErr result (IsSame self.old self.new) }
         ensures no_memory { result ≡ Err FrameFault.NoMemory → IsUntouched D.seen D.may_leave D.moment D.left_since self.old.disk self.new.disk }
         ensures no_call { result ≡ Err FrameFault.Halted → self.new ≡ self.old }
-        ensures cause { Kept (D.faults self.old.disk) (D.faults self.new.disk) (D.sound self.old.disk) (D.sound self.new.disk) (result ≡ Err FrameFault.Disk) }
+        ensures cause { Kept (D.faults self.old.disk) (D.faults self.new.disk) (D.sound self.old.disk) (D.sound self.new.disk)
+            (result ≡ Err FrameFault.Disk) }
         ensures read { IsRead D.tells D.seen self.new }
-        ensures room { HasRoom D.has_room self.old 4 (length frame.body + 7) (length frame.body + 6) (length self.old.frames + 1) 0 → result ≢ Err FrameFault.NoMemory }
+        ensures room { HasRoom D.has_room self.old 4 (length frame.body + 7) (length frame.body + 6) (length self.old.frames + 1) 0
+            → result ≢ Err FrameFault.NoMemory }
     {
         let end = self.shape.end();
         stage(
@@ -296,10 +308,13 @@ impl<D: Disk> FrameStore<D> {
         requires slot { slot < self.old.shape.records }
         requires block { length block.now ≡ self.old.shape.block }
         // After Ok each image opens as the new list.
-        ensures after { D.tells → OnOk result (IsAfter self.old.shape (self.old.frames ++ frame ∷ []) (Some (slot, block.now)) (D.seen self.old.disk) (D.seen self.new.disk)) }
+        ensures after { D.tells → OnOk result (IsAfter self.old.shape (self.old.frames ++ frame ∷ []) (Some (slot, block.now)) (D.seen self.old.disk)
+            (D.seen self.new.disk)) }
         ensures durable { D.tells → OnOk result (IsDurable D.tells D.seen D.may_leave self.new) }
         // At each moment of the call each image opens as the list before it or as the one after it.
-        ensures any_moment { IsDurable D.tells D.seen D.may_leave self.old → self.old.closed ≡ true → LeavesOnly D.moment D.left_since self.old.disk self.new.disk (IsBeforeOrAfter self.old.shape self.old.frames (self.old.frames ++ frame ∷ []) (Some (slot, block.now)) (D.seen self.old.disk)) }
+        ensures any_moment { IsDurable D.tells D.seen D.may_leave self.old → self.old.closed ≡ true
+            → LeavesOnly D.moment D.left_since self.old.disk self.new.disk
+            (IsBeforeOrAfter self.old.shape self.old.frames (self.old.frames ++ frame ∷ []) (Some (slot, block.now)) (D.seen self.old.disk)) }
         ensures ok { OnOk result (HasNow (self.old.frames ++ frame ∷ []) self.old self.new) }
         ensures counted { D.tells → OnOk result (D.moment self.new.disk ≡ D.moment self.old.disk + 5) }
         ensures plan { OnOk result (RunsPlan 5 (D.fails_in self.old.disk) (D.fails_in self.new.disk)) }
@@ -307,10 +322,12 @@ impl<D: Disk> FrameStore<D> {
         ensures refused { OnErr result (IsSame self.old self.new) }
         ensures no_memory { result ≡ Err FrameFault.NoMemory → IsUntouched D.seen D.may_leave D.moment D.left_since self.old.disk self.new.disk }
         ensures no_call { result ≡ Err FrameFault.Halted → self.new ≡ self.old }
-        ensures cause { Kept (D.faults self.old.disk) (D.faults self.new.disk) (D.sound self.old.disk) (D.sound self.new.disk) (result ≡ Err FrameFault.Disk) }
+        ensures cause { Kept (D.faults self.old.disk) (D.faults self.new.disk) (D.sound self.old.disk) (D.sound self.new.disk)
+            (result ≡ Err FrameFault.Disk) }
         ensures read { IsRead D.tells D.seen self.new }
         // Within what `reserve` made, memory is not refused.
-        ensures room { HasRoom D.has_room self.old 5 (self.old.shape.block + (length frame.body + 7)) (length frame.body + 6) (length self.old.frames + 1) 0 → result ≢ Err FrameFault.NoMemory }
+        ensures room { HasRoom D.has_room self.old 5 (self.old.shape.block + (length frame.body + 7)) (length frame.body + 6)
+            (length self.old.frames + 1) 0 → result ≢ Err FrameFault.NoMemory }
     {
         if self.halted {
             return Err(FrameFault::Halted);
@@ -353,7 +370,9 @@ impl<D: Disk> FrameStore<D> {
         ensures after { D.tells → OnOk result (IsAfter self.old.shape (frames.items) None (D.seen self.old.disk) (D.seen self.new.disk)) }
         ensures durable { D.tells → OnOk result (IsDurable D.tells D.seen D.may_leave self.new) }
         // At each moment of the call each image opens as the list before it or as the one after it.
-        ensures any_moment { IsDurable D.tells D.seen D.may_leave self.old → self.old.closed ≡ true → LeavesOnly D.moment D.left_since self.old.disk self.new.disk (IsBeforeOrAfter self.old.shape self.old.frames (frames.items) None (D.seen self.old.disk)) }
+        ensures any_moment { IsDurable D.tells D.seen D.may_leave self.old → self.old.closed ≡ true
+            → LeavesOnly D.moment D.left_since self.old.disk self.new.disk (IsBeforeOrAfter self.old.shape self.old.frames (frames.items) None
+            (D.seen self.old.disk)) }
         ensures ok { OnOk result (HasNow (frames.items) self.old self.new) }
         ensures counted { D.tells → OnOk result (D.moment self.new.disk ≡ D.moment self.old.disk + 7) }
         ensures plan { OnOk result (RunsPlan 7 (D.fails_in self.old.disk) (D.fails_in self.new.disk)) }
@@ -361,11 +380,14 @@ impl<D: Disk> FrameStore<D> {
         ensures refused { OnErr result (IsSame self.old self.new) }
         ensures no_memory { result ≡ Err FrameFault.NoMemory → IsUntouched D.seen D.may_leave D.moment D.left_since self.old.disk self.new.disk }
         ensures no_call { result ≡ Err FrameFault.Halted → self.new ≡ self.old }
-        ensures cause { Kept (D.faults self.old.disk) (D.faults self.new.disk) (D.sound self.old.disk) (D.sound self.new.disk) (result ≡ Err FrameFault.Disk) }
+        ensures cause { Kept (D.faults self.old.disk) (D.faults self.new.disk) (D.sound self.old.disk) (D.sound self.new.disk)
+            (result ≡ Err FrameFault.Disk) }
         ensures read { IsRead D.tells D.seen self.new }
         // Within what `reserve` made, memory is not refused, and what was made beyond this call is left.
-        ensures room { HasRoom D.has_room self.old 7 (size_of frames.items + 34) (size_of frames.items + 1) (length frames.items) 0 → result ≢ Err FrameFault.NoMemory }
-        ensures left { OnOk result ((calls bytes written listed body : ℕ) → HasRoom D.has_room self.old (calls + 7) (bytes + (size_of frames.items + 34)) written listed body → HasRoom D.has_room self.new calls bytes written listed body) }
+        ensures room { HasRoom D.has_room self.old 7 (size_of frames.items + 34) (size_of frames.items + 1) (length frames.items) 0
+            → result ≢ Err FrameFault.NoMemory }
+        ensures left { OnOk result ((calls bytes written listed body : ℕ) → HasRoom D.has_room self.old (calls + 7)
+            (bytes + (size_of frames.items + 34)) written listed body → HasRoom D.has_room self.new calls bytes written listed body) }
     {
         if self.halted {
             return Err(FrameFault::Halted);
@@ -416,9 +438,11 @@ impl<D: Disk> FrameStore<D> {
         ensures plan { KeepsPlan (D.fails_in self.old.disk) (D.fails_in self.new.disk) }
         ensures answer { IsAnswer self.old.halted self.new.halted result }
         ensures no_call { result ≡ Err FrameFault.Halted → self.new ≡ self.old }
-        ensures cause { Kept (D.faults self.old.disk) (D.faults self.new.disk) (D.sound self.old.disk) (D.sound self.new.disk) (result ≡ Err FrameFault.Disk) }
+        ensures cause { Kept (D.faults self.old.disk) (D.faults self.new.disk) (D.sound self.old.disk) (D.sound self.new.disk)
+            (result ≡ Err FrameFault.Disk) }
         ensures read { IsRead D.tells D.seen self.new }
-        ensures room { OnOk result (HasRoom D.has_room self.new 13 (size_of frames.now + 34 + (self.old.shape.block + body + 7)) (max (size_of frames.now + 1) (body + 6)) (max (length self.old.frames + 1) (length frames.now + 1)) body) }
+        ensures room { OnOk result (HasRoom D.has_room self.new 13 (size_of frames.now + 34 + (self.old.shape.block + body + 7))
+            (max (size_of frames.now + 1) (body + 6)) (max (length self.old.frames + 1) (length frames.now + 1)) body) }
     {
         if self.halted {
             return Err(FrameFault::Halted);
@@ -449,17 +473,21 @@ impl<D: Disk> FrameStore<D> {
         ensures same { IsSame self.old self.new }
         ensures content { D.seen self.new.disk ≡ D.seen self.old.disk }
         ensures crash { (image : List ℕ) → D.may_leave self.new.disk image → D.may_leave self.old.disk image }
-        ensures time { Elapses (D.moment self.old.disk) (D.moment self.new.disk) (D.left_since self.old.disk) (D.left_since self.new.disk) (D.may_leave self.new.disk) }
+        ensures time { Elapses (D.moment self.old.disk) (D.moment self.new.disk) (D.left_since self.old.disk) (D.left_since self.new.disk)
+            (D.may_leave self.new.disk) }
         ensures counted { D.tells → OnOk result (D.moment self.new.disk ≡ D.moment self.old.disk + 1) }
         ensures plan { OnOk result (RunsPlan 1 (D.fails_in self.old.disk) (D.fails_in self.new.disk)) }
         ensures answer { IsAnswer self.old.halted self.new.halted result }
         ensures no_memory { result ≡ Err FrameFault.NoMemory → IsUntouched D.seen D.may_leave D.moment D.left_since self.old.disk self.new.disk }
         ensures no_call { result ≡ Err FrameFault.Halted → self.new ≡ self.old }
-        ensures cause { Kept (D.faults self.old.disk) (D.faults self.new.disk) (D.sound self.old.disk) (D.sound self.new.disk) (result ≡ Err FrameFault.Disk) }
+        ensures cause { Kept (D.faults self.old.disk) (D.faults self.new.disk) (D.sound self.old.disk) (D.sound self.new.disk)
+            (result ≡ Err FrameFault.Disk) }
         ensures read { IsRead D.tells D.seen self.new }
         // Within what `reserve` made, memory is not refused, and what was made beyond this call is left.
-        ensures room { (calls bytes written listed body : ℕ) → HasRoom D.has_room self.old (calls + 1) bytes written listed body → result ≢ Err FrameFault.NoMemory }
-        ensures left { OnOk result ((calls bytes written listed body : ℕ) → HasRoom D.has_room self.old (calls + 1) bytes written listed body → HasRoom D.has_room self.new calls bytes written listed body) }
+        ensures room { (calls bytes written listed body : ℕ) → HasRoom D.has_room self.old (calls + 1) bytes written listed body
+            → result ≢ Err FrameFault.NoMemory }
+        ensures left { OnOk result ((calls bytes written listed body : ℕ) → HasRoom D.has_room self.old (calls + 1) bytes written listed body
+            → HasRoom D.has_room self.new calls bytes written listed body) }
     {
         if self.halted {
             return Err(FrameFault::Halted);

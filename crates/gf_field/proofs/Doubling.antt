@@ -14,7 +14,8 @@ double a = bit_xor (a % 128 * 2) (a / 128 % 2 * 29)
 -- the sums of two pairs, with the inner two exchanged
 pub xor_exchange : (a b c d : ℕ) → bit_xor (bit_xor a b) (bit_xor c d) ≡ bit_xor (bit_xor a c) (bit_xor b d)
 xor_exchange a b c d =
-    xor_assoc a b (bit_xor c d) ∙ ap (bit_xor a) (sym (xor_assoc b c d) ∙ ap (λ y. bit_xor y d) (xor_comm b c) ∙ xor_assoc c b d) ∙ sym (xor_assoc a c (bit_xor b d))
+    xor_assoc a b (bit_xor c d) ∙ ap (bit_xor a) (sym (xor_assoc b c d) ∙ ap (λ y. bit_xor y d) (xor_comm b c) ∙ xor_assoc c b d)
+    ∙ sym (xor_assoc a c (bit_xor b d))
 
 -- a bit times 29 is linear
 bit_times : (a b : ℕ) → a < 2 → b < 2 → bit_xor a b * 29 ≡ bit_xor (a * 29) (b * 29)
@@ -36,7 +37,8 @@ unfolding double
 double-xor a b =
     let low : bit_xor a b % 128 * 2 ≡ bit_xor (a % 128 * 2) (b % 128 * 2) = ap (λ y. y * 2) (xor_mod a b 7) ∙ xor_twice (a % 128) (b % 128) in
     let high : bit_xor a b / 128 % 2 * 29 ≡ bit_xor (a / 128 % 2 * 29) (b / 128 % 2 * 29) =
-    ap (λ y. y % 2 * 29) (xor_shr a b 7) ∙ ap (λ y. y * 29) (xor_mod (a / 128) (b / 128) 1) ∙ bit_times (a / 128 % 2) (b / 128 % 2) (omega arith) (omega arith) in
+    ap (λ y. y % 2 * 29) (xor_shr a b 7) ∙ ap (λ y. y * 29) (xor_mod (a / 128) (b / 128) 1) ∙ bit_times (a / 128 % 2) (b / 128 % 2) (omega arith)
+    (omega arith) in
     (λ i. bit_xor (low i) (high i)) ∙ xor_exchange (a % 128 * 2) (b % 128 * 2) (a / 128 % 2 * 29) (b / 128 % 2 * 29)
 
 -- a double is a byte
@@ -103,7 +105,8 @@ pub number_of-times_x : (r : List Bool) → number_of (times_x r) ≡ double (nu
 unfolding times_x double number_of
 number_of-times_x r =
     let low : number_of (take 7 r) * 2 + 0 ≡ number_of r % 128 * 2 = add-zero (number_of (take 7 r) * 2) ∙ ap (λ y. y * 2) (number_of-take 7 r) in
-    let high : number_of (cond (get_or r 7 false) reduced_x8 []) ≡ number_of r / 128 % 2 * 29 = number_of-reduced (get_or r 7 false) ∙ ap (λ y. y * 29) (number_of-bit 7 r) in
+    let high : number_of (cond (get_or r 7 false) reduced_x8 []) ≡ number_of r / 128 % 2 * 29 = number_of-reduced (get_or r 7 false)
+    ∙ ap (λ y. y * 29) (number_of-bit 7 r) in
     number_of-sum (false ∷ take 7 r) (cond (get_or r 7 false) reduced_x8 []) ∙ (λ i. bit_xor (low i) (high i))
 
 -- a constant is its one bit
@@ -303,7 +306,8 @@ pub bits_of-xor : (n a b : ℕ) → bits_of n (bit_xor a b) ≡ bits_sum (bits_o
 unfolding bits_of bits_sum
 bits_of-xor zero a b = refl
 bits_of-xor (suc n) a b =
-    (λ i. (ap (λ y. eqb y 1) (xor_mod a b 1) ∙ odd-sum (a % 2) (b % 2) (omega arith) (omega arith)) i ∷ (ap (bits_of n) (xor_shr a b 1) ∙ bits_of-xor n (a / 2) (b / 2)) i)
+    (λ i. (ap (λ y. eqb y 1) (xor_mod a b 1) ∙ odd-sum (a % 2) (b % 2) (omega arith) (omega arith)) i ∷ (ap (bits_of n) (xor_shr a b 1)
+    ∙ bits_of-xor n (a / 2) (b / 2)) i)
 
 -- the n lowest bits are those of the remainder by 2^n
 pub bits_of-mod : (n a : ℕ) → bits_of n (a % 2 ^ n) ≡ bits_of n a
@@ -316,13 +320,15 @@ bits_of-mod (suc n) a =
     (λ i. eqb (odd i) 1 ∷ (ap (bits_of n) half ∙ bits_of-mod n (a / 2)) i)
 
 -- what a bit takes may be added to the product first
-chosen-next : (t : Bool) (product power rest : ℕ) → bit_xor product (bit_xor (cond t power 0) rest) ≡ bit_xor (cond t (bit_xor product power) product) rest
+chosen-next : (t : Bool) (product power rest : ℕ) → bit_xor product (bit_xor (cond t power 0) rest) ≡ bit_xor
+    (cond t (bit_xor product power) product) rest
 chosen-next true product power rest = sym (xor_assoc product power rest)
 chosen-next false product power rest = refl
 
 -- a step of a sum of doublings: the next bit chooses a power, and the next power is its double
 pub times_step : (k n product power : ℕ)
-    → bit_xor product (times (bits_of (suc k) n) power) ≡ bit_xor (cond (eqb (n % 2) 1) (bit_xor product power) product) (times (bits_of k (n / 2)) (double power))
+    → bit_xor product (times (bits_of (suc k) n) power) ≡ bit_xor (cond (eqb (n % 2) 1) (bit_xor product power) product)
+    (times (bits_of k (n / 2)) (double power))
 unfolding times bits_of
 times_step k n product power =
     ap (λ y. bit_xor product (bit_xor (cond (eqb (n % 2) 1) power 0) y)) (sym (times-double (bits_of k (n / 2)) power))

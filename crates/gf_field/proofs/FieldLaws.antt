@@ -54,7 +54,8 @@ same_linear f g lf lg (suc n) basis a small =
       | inr above ↦
           let rest : a - 2 ^ n < 2 ^ n = omega (arith, pow-suc 2 n) in
           let once : 1 * 2 ^ n ≡ 2 ^ n = omega arith in
-          let sum : bit_xor (2 ^ n) (a - 2 ^ n) ≡ 1 * 2 ^ n + (a - 2 ^ n) = sym (ap (λ y. bit_xor y (a - 2 ^ n)) once) ∙ xor_shifted 1 n (a - 2 ^ n) rest in
+          let sum : bit_xor (2 ^ n) (a - 2 ^ n) ≡ 1 * 2 ^ n + (a - 2 ^ n) = sym (ap (λ y. bit_xor y (a - 2 ^ n)) once)
+          ∙ xor_shifted 1 n (a - 2 ^ n) rest in
           let parts : a ≡ bit_xor (2 ^ n) (a - 2 ^ n) = omega arith in
           ap f parts ∙ lf.sums (2 ^ n) (a - 2 ^ n)
           ∙ (λ i. bit_xor (basis n (omega arith) i) (same_linear f g lf lg n (λ i h. basis i (omega arith)) (a - 2 ^ n) rest i))
@@ -74,7 +75,8 @@ all_powers_commute = refl
 powers_commute_at : (i j : ℕ) → i < 8 → j < 8 → field_mul (2 ^ i) (2 ^ j) ≡ field_mul (2 ^ j) (2 ^ i)
 unfolding powers_commute
 powers_commute_at i j hi hj =
-    let row : agree_below (powers_commute i) (λ _. true) 8 ≡ true = agree_below_at (λ i. agree_below (powers_commute i) (λ _. true) 8) (λ _. true) 8 i all_powers_commute hi in
+    let row : agree_below (powers_commute i) (λ _. true) 8 ≡ true = agree_below_at (λ i. agree_below (powers_commute i) (λ _. true) 8)
+    (λ _. true) 8 i all_powers_commute hi in
     eqb-true _ _ (agree_below_at (powers_commute i) (λ _. true) 8 j row hj)
 
 -- a product is linear in its first factor
@@ -89,7 +91,8 @@ linear_right a = record { sums = λ x y. field_mul-xor_right a x y }
 bytes_commute : (a b : ℕ) → a < 256 → b < 256 → field_mul a b ≡ field_mul b a
 bytes_commute a b ha hb =
     same_linear (λ a. field_mul a b) (λ a. field_mul b a) (linear_left b) (linear_right b) 8
-    (λ i hi. same_linear (λ b. field_mul (2 ^ i) b) (λ b. field_mul b (2 ^ i)) (linear_right (2 ^ i)) (linear_left (2 ^ i)) 8 (λ j hj. powers_commute_at i j hi hj) b hb) a ha
+    (λ i hi. same_linear (λ b. field_mul (2 ^ i) b) (λ b. field_mul b (2 ^ i)) (linear_right (2 ^ i)) (linear_left (2 ^ i)) 8
+    (λ j hj. powers_commute_at i j hi hj) b hb) a ha
 
 -- products commute
 pub field_mul-comm : (a b : ℕ) → field_mul a b ≡ field_mul b a

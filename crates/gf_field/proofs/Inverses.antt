@@ -18,7 +18,8 @@ all_have_inverses = refl
 pub field_mul-inverse_of : (a : ℕ) → a < 256 → a ≢ 0 → field_mul a (inverse_of a) ≡ 1
 unfolding has_inverse
 field_mul-inverse_of a small nonzero =
-    elim (or_cases (eqb a 0) (eqb (field_mul a (inverse_of a)) 1) (agree_below_at has_inverse (λ _. true) 256 a all_have_inverses small)) as (λ _. field_mul a (inverse_of a) ≡ 1) [
+    elim (or_cases (eqb a 0) (eqb (field_mul a (inverse_of a)) 1) (agree_below_at has_inverse (λ _. true) 256 a all_have_inverses small)) as
+    (λ _. field_mul a (inverse_of a) ≡ 1) [
       | inl is_zero ↦ absurd (nonzero (eqb-true a 0 is_zero))
       | inr is_one ↦ eqb-true (field_mul a (inverse_of a)) 1 is_one
     ]
@@ -26,7 +27,8 @@ field_mul-inverse_of a small nonzero =
 -- a nonzero byte may be cancelled
 pub cancel_left : (a b : ℕ) → a < 256 → a ≢ 0 → b < 256 → field_mul (inverse_of a) (field_mul a b) ≡ b
 cancel_left a b ha nonzero hb =
-    sym (field_mul-assoc (inverse_of a) a b) ∙ ap (λ y. field_mul y b) (field_mul-comm (inverse_of a) a ∙ field_mul-inverse_of a ha nonzero) ∙ field_mul-one_left b hb
+    sym (field_mul-assoc (inverse_of a) a b) ∙ ap (λ y. field_mul y b) (field_mul-comm (inverse_of a) a ∙ field_mul-inverse_of a ha nonzero)
+    ∙ field_mul-one_left b hb
 
 -- a product that is 0 has a factor that is 0
 pub zero_from_product : (a b : ℕ) → a < 256 → a ≢ 0 → b < 256 → field_mul a b ≡ 0 → b ≡ 0
@@ -37,7 +39,8 @@ zero_from_product a b ha nonzero hb none =
 times_squares-lt : (n square product : ℕ) → product < 256 → times_squares n square product < 256
 unfolding times_squares
 times_squares-lt zero square product h = h
-times_squares-lt (suc n) square product h = times_squares-lt n (field_mul square square) (field_mul product (field_mul square square)) (field_mul-lt product (field_mul square square))
+times_squares-lt (suc n) square product h = times_squares-lt n (field_mul square square) (field_mul product (field_mul square square))
+    (field_mul-lt product (field_mul square square))
 
 -- an inverse is a byte
 pub inverse_of-lt : (a : ℕ) → inverse_of a < 256

@@ -48,7 +48,8 @@ length_after zero point j h = absurd (omega arith)
 length_after (suc i) point j h =
     elim (cases_eq i j) as (λ _. length (cond (eqb i j) (factor_polynomial i point j) (with_root (point i) (factor_polynomial i point j))) ≡ suc i) [
       | inl same ↦
-          ap (λ t. length (cond t (factor_polynomial i point j) (with_root (point i) (factor_polynomial i point j)))) (eq-eqb i j same) ∙ length_before i point j (omega arith)
+          ap (λ t. length (cond t (factor_polynomial i point j) (with_root (point i) (factor_polynomial i point j)))) (eq-eqb i j same)
+          ∙ length_before i point j (omega arith)
       | inr other ↦
           ap (λ t. length (cond t (factor_polynomial i point j) (with_root (point i) (factor_polynomial i point j)))) (ne_eqb i j other)
           ∙ length-with_root (point i) (factor_polynomial i point j) ∙ ap suc (length_after i point j (omega arith))
@@ -75,9 +76,11 @@ factors_at_other : (n : ℕ) (point : ℕ → ℕ) (j i : ℕ) → i < n → i �
 unfolding factors
 factors_at_other zero point j i h other = absurd (omega arith)
 factors_at_other (suc k) point j i h other =
-    elim (cases_eq i k) as (λ _. cond (eqb k j) (factors k point j (point i)) (field_mul (factors k point j (point i)) (bit_xor (point i) (point k))) ≡ 0) [
+    elim (cases_eq i k) as (λ _. cond (eqb k j) (factors k point j (point i))
+    (field_mul (factors k point j (point i)) (bit_xor (point i) (point k))) ≡ 0) [
       | inl last ↦
-          ap (λ t. cond t (factors k point j (point i)) (field_mul (factors k point j (point i)) (bit_xor (point i) (point k)))) (ne_eqb k j (λ e. other (last ∙ e)))
+          ap (λ t. cond t (factors k point j (point i)) (field_mul (factors k point j (point i)) (bit_xor (point i) (point k))))
+          (ne_eqb k j (λ e. other (last ∙ e)))
           ∙ ap (λ y. field_mul (factors k point j (point i)) (bit_xor (point i) (point y))) (sym last)
           ∙ ap (field_mul (factors k point j (point i))) (xor_self (point i)) ∙ field_mul-zero_right (factors k point j (point i))
       | inr before ↦
@@ -92,12 +95,15 @@ factors_at_own m (suc k) point j d hn hj e =
     elim (cases_eq k j) as (λ _. ⊥) [
       | inl same ↦
           factors_at_own m k point j d (omega arith) hj
-          (sym (ap (λ t. cond t (factors k point j (point j)) (field_mul (factors k point j (point j)) (bit_xor (point j) (point k)))) (eq-eqb k j same)) ∙ e)
+          (sym (ap (λ t. cond t (factors k point j (point j)) (field_mul (factors k point j (point j)) (bit_xor (point j) (point k))))
+          (eq-eqb k j same)) ∙ e)
       | inr other ↦
           let none : field_mul (factors k point j (point j)) (bit_xor (point j) (point k)) ≡ 0 =
-          sym (ap (λ t. cond t (factors k point j (point j)) (field_mul (factors k point j (point j)) (bit_xor (point j) (point k)))) (ne_eqb k j other)) ∙ e in
+          sym (ap (λ t. cond t (factors k point j (point j)) (field_mul (factors k point j (point j)) (bit_xor (point j) (point k))))
+          (ne_eqb k j other)) ∙ e in
           let equal : bit_xor (point j) (point k) ≡ 0 =
-          zero_from_product (factors k point j (point j)) (bit_xor (point j) (point k)) (factors-lt k point j (point j)) (factors_at_own m k point j d (omega arith) hj)
+          zero_from_product (factors k point j (point j)) (bit_xor (point j) (point k)) (factors-lt k point j (point j))
+          (factors_at_own m k point j d (omega arith) hj)
           (xor_lt 8 (point j) (point k) (d.bytes j hj) (d.bytes k (omega arith))) none in
           d.apart j k hj (omega arith) (λ e. other (sym e)) (same_from_xor (point j) (point k) equal)
     ]
@@ -132,7 +138,8 @@ weight_at_own m point j d h =
 pub weight_at_other : (m : ℕ) (point : ℕ → ℕ) (j i : ℕ) → i < m → i ≢ j → weight_of m point j (point i) ≡ 0
 unfolding weight_of
 weight_at_other m point j i h other =
-    ap (λ y. field_mul y (inverse_of (factors m point j (point j)))) (factors_at_other m point j i h other) ∙ field_mul-zero_left (inverse_of (factors m point j (point j)))
+    ap (λ y. field_mul y (inverse_of (factors m point j (point j)))) (factors_at_other m point j i h other)
+    ∙ field_mul-zero_left (inverse_of (factors m point j (point j)))
 
 -- it is 1 at point j and 0 at the others
 pub lagrange_IsOneAt : (m : ℕ) (point : ℕ → ℕ) (j : ℕ) → AreDistinct m point → j < m → IsOneAt m point j (lagrange m point j)

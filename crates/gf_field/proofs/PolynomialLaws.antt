@@ -63,7 +63,8 @@ unfolding value scaled
 value-scaled c [] x = sym (field_mul-zero_right c)
 value-scaled c (a ∷ p) x =
     ap (λ y. bit_xor (field_mul c a) (field_mul x y)) (value-scaled c p x)
-    ∙ ap (bit_xor (field_mul c a)) (sym (field_mul-assoc x c (value p x)) ∙ ap (λ y. field_mul y (value p x)) (field_mul-comm x c) ∙ field_mul-assoc c x (value p x))
+    ∙ ap (bit_xor (field_mul c a)) (sym (field_mul-assoc x c (value p x)) ∙ ap (λ y. field_mul y (value p x)) (field_mul-comm x c)
+    ∙ field_mul-assoc c x (value p x))
     ∙ sym (field_mul-xor_right c a (field_mul x (value p x)))
 
 -- it is as long

@@ -32,15 +32,18 @@ value-quotient : (p : List ℕ) (r x : ℕ) → value p x ≡ bit_xor (field_mul
 unfolding value quotient
 value-quotient [] r x = sym (xor_zero_r _ ∙ field_mul-zero_right (bit_xor x r))
 value-quotient (c ∷ []) r x =
-    ap (bit_xor c) (field_mul-zero_right x ∙ sym (field_mul-zero_right r)) ∙ sym (ap (λ y. bit_xor y (bit_xor c (field_mul r 0))) (field_mul-zero_right (bit_xor x r)))
+    ap (bit_xor c) (field_mul-zero_right x ∙ sym (field_mul-zero_right r))
+    ∙ sym (ap (λ y. bit_xor y (bit_xor c (field_mul r 0))) (field_mul-zero_right (bit_xor x r)))
 value-quotient (c ∷ d ∷ p) r x =
     let at_r = value (d ∷ p) r in
     let rest = value (quotient (d ∷ p) r) x in
     let lower : value (d ∷ p) x ≡ bit_xor (field_mul (bit_xor x r) rest) at_r = value-quotient (d ∷ p) r x in
     let left : field_mul x (value (d ∷ p) x) ≡ bit_xor (field_mul x (field_mul (bit_xor x r) rest)) (field_mul x at_r) =
     ap (field_mul x) lower ∙ field_mul-xor_right x (field_mul (bit_xor x r) rest) at_r in
-    let right : field_mul (bit_xor x r) (bit_xor at_r (field_mul x rest)) ≡ bit_xor (bit_xor (field_mul x at_r) (field_mul r at_r)) (field_mul x (field_mul (bit_xor x r) rest)) =
-    field_mul-xor_right (bit_xor x r) at_r (field_mul x rest) ∙ (λ i. bit_xor (field_mul-xor_left x r at_r i) (mul_exchange (bit_xor x r) x rest i)) in
+    let right : field_mul (bit_xor x r) (bit_xor at_r (field_mul x rest)) ≡ bit_xor (bit_xor (field_mul x at_r) (field_mul r at_r))
+    (field_mul x (field_mul (bit_xor x r) rest)) =
+    field_mul-xor_right (bit_xor x r) at_r (field_mul x rest)
+    ∙ (λ i. bit_xor (field_mul-xor_left x r at_r i) (mul_exchange (bit_xor x r) x rest i)) in
     ap (bit_xor c) left ∙ sym (regroup (field_mul x at_r) (field_mul r at_r) (field_mul x (field_mul (bit_xor x r) rest)) c)
     ∙ sym (ap (λ y. bit_xor y (bit_xor c (field_mul r at_r))) right)
 
@@ -78,7 +81,8 @@ root_of_quotient : (p : List ℕ) (r x : ℕ) → x < 256 → r < 256 → x ≢ 
 root_of_quotient p r x hx hr apart bytes at_r at_x =
     let none : field_mul (bit_xor x r) (value (quotient p r) x) ≡ 0 =
     sym (value-quotient p r x ∙ ap (bit_xor (field_mul (bit_xor x r) (value (quotient p r) x))) at_r ∙ xor_zero_r _) ∙ at_x in
-    zero_from_product (bit_xor x r) (value (quotient p r) x) (xor_lt 8 x r hx hr) (λ e. apart (same_from_xor x r e)) (value-lt (quotient p r) x (bytes-quotient p r bytes)) none
+    zero_from_product (bit_xor x r) (value (quotient p r) x) (xor_lt 8 x r hx hr) (λ e. apart (same_from_xor x r e))
+    (value-lt (quotient p r) x (bytes-quotient p r bytes)) none
 
 -- the first of different points are different
 pub fewer_distinct : (m : ℕ) (point : ℕ → ℕ) → AreDistinct (suc m) point → AreDistinct m point
@@ -88,15 +92,18 @@ fewer_distinct m point d = record {
 }
 
 -- a polynomial of m coefficients that is 0 at m points is 0
-pub zero_from_roots : (m : ℕ) (point : ℕ → ℕ) → AreDistinct m point → (p : List ℕ) → length p ≡ m → AreBytes p → ((i : ℕ) → i < m → value p (point i) ≡ 0) → All (λ c. c ≡ 0) p
+pub zero_from_roots : (m : ℕ) (point : ℕ → ℕ) → AreDistinct m point → (p : List ℕ) → length p ≡ m → AreBytes p
+    → ((i : ℕ) → i < m → value p (point i) ≡ 0) → All (λ c. c ≡ 0) p
 zero_from_roots m point d [] long bytes roots = All-nil (λ c. c ≡ 0)
 zero_from_roots zero point d (c ∷ p) long bytes roots = absurd (omega arith)
 zero_from_roots (suc m) point d (c ∷ p) long bytes roots =
     let q_bytes : AreBytes (quotient (c ∷ p) (point m)) = bytes-quotient (c ∷ p) (point m) bytes in
     let at_r = roots m (omega arith) in
     let q_roots : (i : ℕ) → i < m → value (quotient (c ∷ p) (point m)) (point i) ≡ 0 = λ i h.
-    root_of_quotient (c ∷ p) (point m) (point i) (d.bytes i (omega arith)) (d.bytes m (omega arith)) (d.apart i m (omega arith) (omega arith) (λ e. omega arith)) bytes at_r (roots i (omega arith)) in
-    all_zero (c ∷ p) (point m) (zero_from_roots m point (fewer_distinct m point d) (quotient (c ∷ p) (point m)) (length-quotient c p (point m) ∙ omega arith) q_bytes q_roots) at_r
+    root_of_quotient (c ∷ p) (point m) (point i) (d.bytes i (omega arith)) (d.bytes m (omega arith))
+    (d.apart i m (omega arith) (omega arith) (λ e. omega arith)) bytes at_r (roots i (omega arith)) in
+    all_zero (c ∷ p) (point m) (zero_from_roots m point (fewer_distinct m point d) (quotient (c ∷ p) (point m))
+    (length-quotient c p (point m) ∙ omega arith) q_bytes q_roots) at_r
 
 -- two polynomials whose sum is zero are equal
 same_from_zero : (p q : List ℕ) → length p ≡ length q → All (λ c. c ≡ 0) (sum_of p q) → p ≡ q
@@ -109,7 +116,8 @@ same_from_zero (a ∷ p) (b ∷ q) long none =
     (λ i. first i ∷ same_from_zero p q (omega arith) (All-tail (λ c. c ≡ 0) (bit_xor a b) (sum_of p q) none) i)
 
 -- two polynomials of degree below m that agree at m points are equal
-pub same_polynomial : (m : ℕ) (point : ℕ → ℕ) → AreDistinct m point → (p q : List ℕ) → HasDegreeBelow m p → HasDegreeBelow m q → ((i : ℕ) → i < m → value p (point i) ≡ value q (point i)) → p ≡ q
+pub same_polynomial : (m : ℕ) (point : ℕ → ℕ) → AreDistinct m point → (p q : List ℕ) → HasDegreeBelow m p → HasDegreeBelow m q
+    → ((i : ℕ) → i < m → value p (point i) ≡ value q (point i)) → p ≡ q
 same_polynomial m point d p q hp hq agree =
     same_from_zero p q (hp.count ∙ sym hq.count)
     (zero_from_roots m point d (sum_of p q) (length-sum_of p q ∙ omega (arith, hp.count, hq.count)) (bytes-sum_of p q hp.bytes hq.bytes)

@@ -57,7 +57,8 @@ abbrev numbered : ℕ → BrickId
 numbered n = record { 0 = n }
 
 -- the first element and the others, where all are there
-taken : {A : Type 0} (first : Option A) (rest : Option (List A)) (xs : List A) → option_and_then (λ x. option_map (λ more. x ∷ more) rest) first ≡ Some xs
+taken : {A : Type 0} (first : Option A) (rest : Option (List A)) (xs : List A)
+    → option_and_then (λ x. option_map (λ more. x ∷ more) rest) first ≡ Some xs
     → (x : A) × (more : List A) × (first ≡ Some x) × (rest ≡ Some more) × (xs ≡ x ∷ more)
 taken None rest xs is = let never : None ≡ Some xs = is in cc
 taken (Some x) None xs is = let never : None ≡ Some xs = is in cc
@@ -137,7 +138,8 @@ members_are m bricks table members is =
     let (numbers, read, rest) =
     passed (ok_or (option_and_then integers_in (array_at table keys.GroupMembers)) (no_field keys.GroupMembers))
     (λ (numbers : List ℤ). ok_or (option_and_then (seats_in m) (bricks_in bricks numbers)) (Limit keys.GroupMembers)) members is in
-    seated m bricks numbers (bricks_in bricks numbers) members refl (there (option_and_then (seats_in m) (bricks_in bricks numbers)) (Limit keys.GroupMembers) members rest)
+    seated m bricks numbers (bricks_in bricks numbers) members refl (there (option_and_then (seats_in m) (bricks_in bricks numbers))
+    (Limit keys.GroupMembers) members rest)
 
 -- the number of data blocks is within its limits, and a stripe's data too
 blocks_are : (block : ℕ) (table : Members) (m : ℕ) → blocks_at block table ≡ Ok m → (1 ≤ m) × (m ≤ 16) × (m * block ≤ 32768)
@@ -146,7 +148,8 @@ blocks_are block table m is =
     let range = within_range keys.GroupM 1 16 (integer_at table keys.GroupM) n read in
     fits (nat_le (n * block) 32768) n m refl range (there (blocks_in block n) (Limit keys.GroupM) m rest)
   where
-    fits : (b : Bool) (n m : ℕ) → nat_le (n * block) 32768 ≡ b → (1 ≤ n) × (n ≤ 16) → cond b (Some n) None ≡ Some m → (1 ≤ m) × (m ≤ 16) × (m * block ≤ 32768)
+    fits : (b : Bool) (n m : ℕ) → nat_le (n * block) 32768 ≡ b → (1 ≤ n) × (n ≤ 16) → cond b (Some n) None ≡ Some m → (1 ≤ m) × (m ≤ 16)
+        × (m * block ≤ 32768)
     fits true n m small range same =
         let e : Some n ≡ Some m = same in
         let n_is : n ≡ m = cc in
@@ -180,7 +183,8 @@ record AreGroups (block bricks : ℕ) (tables : List Members) (groups : List Gro
   count : length groups ≡ length tables
   each : (g : ℕ) (group : Group) → slice_get groups g ≡ Some group → IsGroup block bricks group
 
-groups_are : (block bricks : ℕ) (tables : List Members) (groups : List Group) → groups_in block bricks tables ≡ Ok groups → AreGroups block bricks tables groups
+groups_are : (block bricks : ℕ) (tables : List Members) (groups : List Group) → groups_in block bricks tables ≡ Ok groups
+    → AreGroups block bricks tables groups
 groups_are block bricks [] groups is =
     let same : Ok [] ≡ Ok groups = is in
     let empty : [] ≡ groups = cc in
@@ -196,7 +200,8 @@ groups_are block bricks (table ∷ tables) groups is =
       each = either first more (group_is block bricks table first first_read) rest.each;
     })
   where
-    either : (first : Group) (more : List Group) → IsGroup block bricks first → ((g : ℕ) (group : Group) → slice_get more g ≡ Some group → IsGroup block bricks group)
+    either : (first : Group) (more : List Group) → IsGroup block bricks first
+        → ((g : ℕ) (group : Group) → slice_get more g ≡ Some group → IsGroup block bricks group)
         → (g : ℕ) (group : Group) → slice_get (first ∷ more) g ≡ Some group → IsGroup block bricks group
     either first more here rest zero group found =
         let same : Some first ≡ Some group = found in

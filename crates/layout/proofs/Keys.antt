@@ -27,20 +27,23 @@ IsBelow text None = Unit {0}
 IsBelow text (Some best) = slice_cmp nat_cmp best text ≡ Greater
 
 -- the lesser of two texts above one is above it
-below_lesser : (text next : List ℕ) (best : Option (List ℕ)) → slice_cmp nat_cmp next text ≡ Greater → IsBelow text best → IsBelow text (Some (lesser next best))
+below_lesser : (text next : List ℕ) (best : Option (List ℕ)) → slice_cmp nat_cmp next text ≡ Greater → IsBelow text best
+    → IsBelow text (Some (lesser next best))
 below_lesser text next None above below = above
 below_lesser text next (Some best) above below =
     elim (is_lt (slice_cmp nat_cmp best next)) as (λ b. slice_cmp nat_cmp (cond b best next) text ≡ Greater) [ true ↦ below | false ↦ above ]
 
 -- a text below some keys is below the least of them that is not known
-below_least : (known : List Key) (text : List ℕ) (keys : List (String Global)) → AllByRecursion (λ key. slice_cmp nat_cmp text (string_bytes key) ≡ Less) keys
+below_least : (known : List Key) (text : List ℕ) (keys : List (String Global))
+    → AllByRecursion (λ key. slice_cmp nat_cmp text (string_bytes key) ≡ Less) keys
     → IsBelow text (least_other known (texts_of keys))
 below_least known text [] above = tt
 below_least known text (key ∷ keys) above =
     let rest : IsBelow text (least_other known (texts_of keys)) = below_least known text keys above.1 in
     let here : slice_cmp nat_cmp (string_bytes key) text ≡ Greater =
     nat_list_cmp_total.antisymm (string_bytes key) text ∙ ap ordering_reverse above.0 in
-    elim (is_known known (string_bytes key)) as (λ b. IsBelow text (cond b (least_other known (texts_of keys)) (Some (lesser (string_bytes key) (least_other known (texts_of keys)))))) [
+    elim (is_known known (string_bytes key)) as (λ b. IsBelow text
+    (cond b (least_other known (texts_of keys)) (Some (lesser (string_bytes key) (least_other known (texts_of keys)))))) [
       | true ↦ rest
       | false ↦ below_lesser text (string_bytes key) (least_other known (texts_of keys)) here rest
     ]
@@ -58,7 +61,8 @@ least_other-first known key keys sorted other =
     rw other (ap (λ (text : List ℕ). Some text) (lesser-below (string_bytes key) _ (below_least known (string_bytes key) keys sorted.0)))
 
 -- what follows the first key ascends
-pub sorted_rest : (key : String Global) (keys : List (String Global)) → IsStrictlySortedBy string_cmp (key ∷ keys) → IsStrictlySortedBy string_cmp keys
+pub sorted_rest : (key : String Global) (keys : List (String Global)) → IsStrictlySortedBy string_cmp (key ∷ keys)
+    → IsStrictlySortedBy string_cmp keys
 sorted_rest key keys sorted = sorted_tail string_cmp key keys sorted
 
 -- a known key is passed over

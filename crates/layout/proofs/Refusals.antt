@@ -61,7 +61,8 @@ group_checks : (block bricks : ℕ) (table : Members) → ChecksTable (group_in 
 group_checks block bricks table =
     then_checks (blocks_at block table) _ (blocks_checks block table) (λ (m : ℕ).
     then_checks (members_at m bricks table) _ (members_checks m bricks table) (λ members.
-    then_checks (number_at table keys.GroupStripes 1 65536) _ (within_checks keys.GroupStripes 1 65536 (integer_at table keys.GroupStripes)) (λ (stripes : ℕ).
+    then_checks (number_at table keys.GroupStripes 1 65536) _ (within_checks keys.GroupStripes 1 65536 (integer_at table keys.GroupStripes))
+    (λ (stripes : ℕ).
     then_checks (no_other OtherOfGroup group_keys table) _ (key_checks OtherOfGroup (least_other group_keys (keys_of table))) (λ known. tt))))
 
 groups_checks : (block bricks : ℕ) (tables : List Members) → ChecksTable (groups_in block bricks tables)
@@ -108,8 +109,10 @@ never_memory text = by_document (document_of text)
     by_document (Some table) same = fault_of_table table NoMemory same
 
 -- the reading of a table does not say that the text is no document
-pub never_toml : (table : Members) (r : Result Description LayoutFault) → IfErr r (λ (fault : LayoutFault). fault ≢ NoMemory → description_in table ≡ Err fault)
+pub never_toml : (table : Members) (r : Result Description LayoutFault)
+    → IfErr r (λ (fault : LayoutFault). fault ≢ NoMemory → description_in table ≡ Err fault)
     → r ≡ Err Toml → ⊥
 never_toml table r refused is =
-    let read = subst (λ (x : Result Description LayoutFault). IfErr x (λ (fault : LayoutFault). fault ≢ NoMemory → description_in table ≡ Err fault)) is refused in
+    let read = subst (λ (x : Result Description LayoutFault). IfErr x (λ (fault : LayoutFault). fault ≢ NoMemory
+    → description_in table ≡ Err fault)) is refused in
     fault_of_table table Toml (read (λ (same : Toml ≡ NoMemory). cc))

@@ -7,7 +7,8 @@ use Rattle.protocol.specs.Settings.{Group, Layout, group_of}
 use Rattle.layout.specs.Limits.{IsLayout}
 
 -- each group is within the limits of a quorum
-pub limits_of : (layout : Layout) → IsLayout layout → (g : ℕ) (group : Group) → group_of layout g ≡ Some group → IsWithinLimits group.m (length group.members)
+pub limits_of : (layout : Layout) → IsLayout layout → (g : ℕ) (group : Group) → group_of layout g ≡ Some group
+    → IsWithinLimits group.m (length group.members)
 limits_of layout is g group found = (is.each g group found).limits
 
 -- the members of each group are distinct bricks

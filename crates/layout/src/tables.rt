@@ -210,7 +210,8 @@ fn other_key<'a>(table: &'a Table, known: &[Key]) -> Option<&'a str>
 
 // The tables of a list, if it has nothing else.
 fn tables_in(alloc: Global, array: &Array) -> Result<Option<Vec<&Table>>, NoMem>
-    ensures { IfOk result (λ tables. option_map (λ tables. map (λ table. table_view table.now) tables.items) tables ≡ tables_in (array_view array.now)) }
+    ensures { IfOk result (λ tables. option_map (λ tables. map (λ table. table_view table.now) tables.items) tables ≡ tables_in
+        (array_view array.now)) }
 {
     let mut tables = Vec::new(alloc);
     for value in array {

@@ -45,7 +45,8 @@ at_known (Some x) (Some y) old P k h = subst P k (h y refl)
 
 -- a line is taken that is the first, whatever stands behind the bytes that were read
 passes : (start now : Option (List ℕ)) (old new line : List ℕ) → Keeps start (prepend_known old now)
-    → ((more : List ℕ) → now ≡ Some more → raw_lines (old ++ more) ≡ line ∷ raw_lines (new ++ more)) → Passes start (prepend_known new now) (line ∷ [])
+    → ((more : List ℕ) → now ≡ Some more → raw_lines (old ++ more) ≡ line ∷ raw_lines (new ++ more)) → Passes start (prepend_known new now)
+    (line ∷ [])
 passes None now old new line k h = tt
 passes (Some x) None old new line k h = absurd k
 passes (Some x) (Some y) old new line k h = ap raw_lines (sym k) ∙ h y refl
@@ -58,7 +59,13 @@ says_found limit at start now old new (Whole line) k found (is, left, short) =
 says_found limit at start now old new Long k found (same, over) = (
   subst (λ l. Keeps start (prepend_known l now)) (sym same) k,
   at_known start now old (BeginsLong limit) k
-      (λ more _. (take (at + 1) old, raw_lines (drop (at + 1) old ++ more), first_taken at old (drop (at + 1) old) more (take (at + 1) old) found refl refl, over)),
+      (λ more _. (
+        take (at + 1) old,
+        raw_lines (drop (at + 1) old ++ more),
+        first_taken at old (drop (at + 1) old) more
+            (take (at + 1) old) found refl refl,
+        over,
+      )),
 )
 says_found limit at start now old new Ended k found t = absurd t
 
@@ -81,7 +88,13 @@ says_last limit start now old new (Whole line) k none end (some, is, left, short
     (short, passes start now old new line k (λ more e. last_taken old new more line none some is left (subst IsAtEnd e end)))
 says_last limit start now old new Long k none end (some, same, over) = (
   subst (λ l. Keeps start (prepend_known l now)) (sym same) k,
-  at_known start now old (BeginsLong limit) k (λ more e. (old, [], last_taken old [] more old none some refl refl (subst IsAtEnd e end) ∙ ap (λ l. old ∷ raw_lines l) (subst IsAtEnd e end), over)),
+  at_known start now old (BeginsLong limit) k (λ more e. (
+    old,
+    [],
+    last_taken old [] more old none some refl refl (subst IsAtEnd e end)
+        ∙ ap (λ l. old ∷ raw_lines l) (subst IsAtEnd e end),
+    over,
+  )),
 )
 says_last limit start now old new Ended k none end (empty, left) = (
   prepend_known-end start now old k empty end,

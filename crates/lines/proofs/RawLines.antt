@@ -73,7 +73,8 @@ stripped l =
 
 pub content_length : (line : List ℕ) → length line ≤ length (content line) + 2
 content_length line =
-    cond_both (is_line_feed (slice_index line (length line - 1))) (strip_carriage_return (take (length line - 1) line)) line (λ (x : List ℕ). length line ≤ length x + 2)
+    cond_both (is_line_feed (slice_index line (length line - 1))) (strip_carriage_return (take (length line - 1) line)) line
+    (λ (x : List ℕ). length line ≤ length x + 2)
     (λ e. omega (arith, stripped (take (length line - 1) line), length-take (length line - 1) line)) (λ e. omega arith)
 
 -- the lines in a row are the input

@@ -17,7 +17,8 @@ ReadsSchedule-line None b c layout lines line h next = tt
 ReadsSchedule-line (Some x) None c layout lines line h next = absurd h
 ReadsSchedule-line (Some x) (Some y) None layout lines line h next = absurd next
 ReadsSchedule-line (Some x) (Some y) (Some z) layout lines line h next =
-    h ∙ ap (λ l. parted layout (lines ++ map content l)) next ∙ ap (parted layout) (sym (append_assoc lines (content line ∷ []) (map content (raw_lines z))))
+    h ∙ ap (λ l. parted layout (lines ++ map content l)) next
+    ∙ ap (parted layout) (sym (append_assoc lines (content line ∷ []) (map content (raw_lines z))))
 
 -- a call took nothing
 pub ReadsSchedule-kept : (a b c : Option (List ℕ)) (layout : List ℕ) (lines : List (List ℕ)) → ReadsSchedule a b layout lines → Keeps b c

@@ -37,7 +37,8 @@ all_silent : (me : BrickId) (call : Call) (request : ℕ → Request) (seat : �
     → packets_from me (to_silent [] call request seat members) ≡ to_members me call request seat members
 all_silent me call request seat [] = refl
 all_silent me call request seat (member ∷ members) =
-    ap (λ packets. record { from = me; to = member; message = Message.Request call (request seat) } ∷ packets) (all_silent me call request (seat + 1) members)
+    ap (λ packets. record { from = me; to = member; message = Message.Request call (request seat) } ∷ packets)
+    (all_silent me call request (seat + 1) members)
 
 -- so are those of a phase in which no reply counts yet
 pub phase_sent : (layout : Layout) (op : Operation) (me : BrickId) → op.block ≡ layout.block → op.state.counted ≡ []
@@ -64,7 +65,8 @@ told-begins a b (Descends bound) c = refl
 told-begins a b Stores c = refl
 
 -- what follows from what a message lets an operation decide
-pub decided_follows : (fresh : Option Stamp) (op : Operation) (from : BrickId) (message : Message) → Follows op.state (decided_on fresh op from message)
+pub decided_follows : (fresh : Option Stamp) (op : Operation) (from : BrickId) (message : Message)
+    → Follows op.state (decided_on fresh op from message)
 decided_follows fresh op from (Message.Request call request) = tt
 decided_follows fresh op from (Message.Reply call reply) = on_reply_follows op.block (block_code op.block) op.group fresh op.state from call reply
 decided_follows fresh op from (Message.Learn group view) = tt
@@ -99,8 +101,11 @@ module _ (fresh : Option Stamp) (before : Operation) (from : BrickId) (message :
       → (machine.Waits after.state ≡ or_waits before.state (decided_on fresh before from message)) × Stays before.state after.state
   waits_by after is true e =
       let decided : decided_on fresh before from message ≡ machine.Waits after.state =
-      is.decided ∙ chosen (counts before from message) (machine.Waits after.state) machine.Ignores e in
-      (ap (or_waits before.state) (sym decided), subst (λ (next : machine.Next). Follows before.state next) decided (decided_follows fresh before from message))
+      is.decided ∙ chosen (counts before from message) (machine.Waits after.state) machine.Ignores e in (
+        ap (or_waits before.state) (sym decided),
+        subst (λ (next : machine.Next). Follows before.state next) decided
+            (decided_follows fresh before from message),
+      )
   waits_by after is false e =
       let same : after.state ≡ before.state = (is.ignored e).1 in
       let decided : decided_on fresh before from message ≡ machine.Ignores =
@@ -123,7 +128,8 @@ next_call call ask is =
     λ i. record { boot = call.boot; seq = call.seq; phase = call.phase + 1; group = (is i).group; view = (is i).view; stripe = (is i).stripe }
 
 -- an operation that stays what it is, in a call of the first view, is of its layout
-pub of_layout_after : (layout : Layout) (before after : Operation) → IsOfLayout layout before → StaysAsked before after → IsCall after.state.call before.state.ask
+pub of_layout_after : (layout : Layout) (before after : Operation) → IsOfLayout layout before → StaysAsked before after
+    → IsCall after.state.call before.state.ask
     → IsOfLayout layout after
 of_layout_after layout before after is stays call =
     record {
@@ -165,7 +171,8 @@ pub recovers_so : (turn : Turn) (c : Coordinator) (after : Operation) → Follow
 recovers_so Turn.Order c after follows was = (refl, recovers_first c after.state follows was, follows.0.call)
 recovers_so (Turn.Down bound) c after follows was = absurd (by_kind (follows.1 was))
   where
-    by_kind : (Descends bound ≡ Recovers) × IsFirst (in_phase after.state (Descends bound)) ⊎ IsNoRecovery (Descends bound) (in_phase after.state (Descends bound)) → ⊥
+    by_kind : (Descends bound ≡ Recovers) × IsFirst (in_phase after.state (Descends bound)) ⊎ IsNoRecovery (Descends bound)
+        (in_phase after.state (Descends bound)) → ⊥
     by_kind (inl first) = let wrong : Descends bound ≡ Recovers = first.0 in cc
     by_kind (inr none) = none
 recovers_so (Turn.Store base content) c after follows was = let wrong : Some base ≡ None = (follows.1 was).0 in cc
@@ -206,7 +213,8 @@ pub record IsAsked (fresh : Option Stamp) (before : Operation) (from : BrickId) 
   pub decided : machine.Sends (in_phase after.state Recovers) ≡ or_waits before.state (decided_on fresh before from message)
 
 pub recovery_is_asked : (fresh : Option Stamp) (before : Operation) (from : BrickId) (message : Message) (turn : Turn) (after : Operation)
-    → IsNoRecovery before.state.phase before.state → Answers fresh before from message (Recover turn) after → IsAsked fresh before from message turn after
+    → IsNoRecovery before.state.phase before.state → Answers fresh before from message (Recover turn) after
+    → IsAsked fresh before from message turn after
 recovery_is_asked fresh before from message turn after kind answers =
     let decided : decided_on fresh before from message ≡ decision after (Recover turn) =
     decided_if_busy fresh before from message (Recover turn) after (λ wrong. wrong) answers in

@@ -26,7 +26,8 @@ use Rattle.node.proofs.Answered.{IsCall, next_call, of_layout_after, phase_sent,
 module _ (layout : Layout) (before after : phased.Operation) (is : IsOfLayout layout before) (stays : StaysAsked before after) where
   -- one that waits asks by the same call
   waits_of_layout : Stays before.state after.state → IsOfLayout layout after
-  waits_of_layout waits = of_layout_after layout before after is stays (subst (λ (call : Call). IsCall call before.state.ask) (sym waits.call) is.call)
+  waits_of_layout waits = of_layout_after layout before after is stays
+      (subst (λ (call : Call). IsCall call before.state.ask) (sym waits.call) is.call)
 
   -- one that begins a phase asks by the call's next
   begins_of_layout : Begins before.state after.state → IsOfLayout layout after
@@ -50,14 +51,16 @@ module _ (layout : Layout) (before after : phased.Operation) (is : IsOfLayout la
         seq = ap (λ (call : Call). call.seq) waits.call;
       }
 
-  module _ (follows : Follows before.state (begins_in after.state.phase after.state)) (messages : List (BrickId × Message)) (sent : messages ≡ phase_messages after) where
+  module _ (follows : Follows before.state (begins_in after.state.phase after.state)) (messages : List (BrickId × Message))
+      (sent : messages ≡ phase_messages after) where
     begins : Begins before.state after.state
     begins = (begins_so after.state.phase before.state after.state follows).0
 
     sends : (me : BrickId) → packets_from me messages ≡ phase_packets (coding layout) after.group me after.state
     sends me = ap (packets_from me) sent ∙ phase_sent layout after me (stays.block ∙ is.block) begins.counted
 
-    pub begins_on_stripe : IsNoRecovery before.state.phase before.state → is_of_stripe after.state.phase ≡ true → BeginsPhase layout (Stripe before) (Stripe after) messages
+    pub begins_on_stripe : IsNoRecovery before.state.phase before.state → is_of_stripe after.state.phase ≡ true → BeginsPhase layout (Stripe before)
+        (Stripe after) messages
     begins_on_stripe kind stripe =
         record {
           goes_on = record {
@@ -92,7 +95,8 @@ count_of_phase layout op messages sends =
     let me : BrickId = record { 0 = 0 } in
     sym (length-map messages (λ (sent : BrickId × Message). record { from = me; to = sent.0; message = sent.1 }))
     ∙ ap length (sends me)
-    ∙ length-to_members me (coordinator_of op).call (request_of (block_code layout.block) (shown_of op).group.m (coordinator_of op)) 0 (shown_of op).group.members
+    ∙ length-to_members me (coordinator_of op).call (request_of (block_code layout.block) (shown_of op).group.m (coordinator_of op)) 0
+    (shown_of op).group.members
 
 -- so they are few
 pub few_messages : (layout : Layout) (before : Operation) (decision : Decision) → length (shown_of before).group.members ≤ 32

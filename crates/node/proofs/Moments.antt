@@ -18,9 +18,11 @@ module _ {D : Type 0} (moment : D → ℕ) (left_since : D → ℕ → List ℕ 
         before = λ t image early left. or_more (more image) (is.before t image early left);
       }
 
-  module _ (may_leave : D → List ℕ → Type 0) (only_now : (disk : D) (image : List ℕ) → left_since disk (moment disk) image → may_leave disk image) where
+  module _ (may_leave : D → List ℕ → Type 0) (only_now : (disk : D) (image : List ℕ) → left_since disk (moment disk) image
+      → may_leave disk image) where
     -- where nothing was done, a crash leaves what it might have left before
-    pub leaves_still : (disk : D) (P : List ℕ → Type 0) → ((image : List ℕ) → may_leave disk image → P image) → LeavesOnly moment left_since disk disk P
+    pub leaves_still : (disk : D) (P : List ℕ → Type 0) → ((image : List ℕ) → may_leave disk image → P image)
+        → LeavesOnly moment left_since disk disk P
     leaves_still disk P all =
         record { later = omega arith; each = λ image left. all image (only_now disk image left); before = λ t image early left. inl left }
 

@@ -34,7 +34,8 @@ Follows c (Makes d) = Begins c d × (IsNoRecovery c.phase c → (d.base ≡ None
 Follows c (Ends answer seen stored) = Unit {0}
 
 -- the coordinator with these replies counted may be of the kind that it is with those
-with_counted : (ask : Ask) (stamp : Stamp) (round : ℕ) (base : Option Stamp) (content : List ℕ) (call : Call) (counted more : List Counted) (phase : Phase)
+with_counted : (ask : Ask) (stamp : Stamp) (round : ℕ) (base : Option Stamp) (content : List ℕ) (call : Call) (counted more : List Counted)
+    (phase : Phase)
     → IsNoRecovery phase (record { ask = ask; stamp = stamp; round = round; base = base; content = content; call = call; phase = phase; counted = counted })
     → IsNoRecovery phase (record { ask = ask; stamp = stamp; round = round; base = base; content = content; call = call; phase = phase; counted = more })
 with_counted ask stamp round base content call counted more Looks is = record { round = is.round; base = is.base; content = is.content }
@@ -61,16 +62,19 @@ module _ (ask : Ask) (stamp : Stamp) (round : ℕ) (base : Option Stamp) (conten
   again : (fresh : Option Stamp) (r : Refuser) → Follows (before Orders) (ordered_again fresh (after Orders) r)
   again None r = tt
   again (Some t) r =
-      cond_both (nat_lt round most_rounds) _ _ (λ next. Follows (before Orders) next) (λ left. (record { call = refl; counted = refl }, λ is. inr is)) (λ last. tt)
+      cond_both (nat_lt round most_rounds) _ _ (λ next. Follows (before Orders) next) (λ left. (record { call = refl; counted = refl }, λ is. inr is))
+      (λ last. tt)
 
-  orders : (fresh : Option Stamp) (r : Option Refuser) → Follows (before Orders) (once_ordered fresh (after Orders) r (Makes (in_phase (after Orders) Stores)))
+  orders : (fresh : Option Stamp) (r : Option Refuser)
+      → Follows (before Orders) (once_ordered fresh (after Orders) r (Makes (in_phase (after Orders) Stores)))
   orders fresh None = (record { call = refl; counted = refl }, λ is. (is, tt))
   orders fresh (Some r) = again fresh r
 
   again_recovering : (fresh : Option Stamp) (r : Refuser) → Follows (before Recovers) (ordered_again fresh (after Recovers) r)
   again_recovering None r = tt
   again_recovering (Some t) r =
-      cond_both (nat_lt round most_rounds) _ _ (λ next. Follows (before Recovers) next) (λ left. (record { call = refl; counted = refl }, λ is. absurd is)) (λ last. tt)
+      cond_both (nat_lt round most_rounds) _ _ (λ next. Follows (before Recovers) next)
+      (λ left. (record { call = refl; counted = refl }, λ is. absurd is)) (λ last. tt)
 
   reads_back : (code : Code) (m : ℕ) (phase : Phase) → (IsNoRecovery phase (before phase) → ⊥) → (v : Option Stamp)
       → Follows (before phase) (read_back code m (after phase) v)
@@ -94,7 +98,8 @@ module _ (ask : Ask) (stamp : Stamp) (round : ℕ) (base : Option Stamp) (conten
   stores None = tt
   stores (Some r) = tt
 
-  unless_full : (told : Option FullMember) (phase : Phase) (next : Next) → Follows (before phase) next → Follows (before phase) (unless_told_full told next)
+  unless_full : (told : Option FullMember) (phase : Phase) (next : Next) → Follows (before phase) next
+      → Follows (before phase) (unless_told_full told next)
   unless_full None phase next is = is
   unless_full (Some f) phase next is = tt
 
@@ -106,18 +111,22 @@ module _ (ask : Ask) (stamp : Stamp) (round : ℕ) (base : Option Stamp) (conten
   decides code m fresh (Descends bound) = unless_full (lowest_full more) (Descends bound) _ (descends code m bound (greatest_refuser more))
   decides code m fresh Stores = unless_full (lowest_full more) Stores _ (stores (greatest_refuser more))
 
-  once_full_follows : (code : Code) (group : Group) (fresh : Option Stamp) (phase : Phase) → Follows (before phase) (once_full code group fresh (after phase))
+  once_full_follows : (code : Code) (group : Group) (fresh : Option Stamp) (phase : Phase)
+      → Follows (before phase) (once_full code group fresh (after phase))
   once_full_follows code group fresh phase =
-      cond_both (nat_lt (length more) (quorum_of group)) _ _ (λ next. Follows (before phase) next) (λ few. waits phase) (λ enough. decides code group.m fresh phase)
+      cond_both (nat_lt (length more) (quorum_of group)) _ _ (λ next. Follows (before phase) next) (λ few. waits phase)
+      (λ enough. decides code group.m fresh phase)
 
 counted_follows : (code : Code) (group : Group) (fresh : Option Stamp) (c : Coordinator) (from : BrickId) (reply : Reply) (seat : Option ℕ)
     → Follows c (counted_at code group fresh c from reply seat)
 counted_follows code group fresh c from reply None = tt
 counted_follows code group fresh c from reply (Some seat) =
-    once_full_follows c.ask c.stamp c.round c.base c.content c.call c.counted (c.counted ++ (record { seat = seat; brick = from; reply = reply } ∷ [])) code group fresh c.phase
+    once_full_follows c.ask c.stamp c.round c.base c.content c.call c.counted
+    (c.counted ++ (record { seat = seat; brick = from; reply = reply } ∷ [])) code group fresh c.phase
 
 -- what follows from what a coordinator does with a reply
-pub on_reply_follows : (block : ℕ) (code : Code) (group : Group) (fresh : Option Stamp) (c : Coordinator) (from : BrickId) (call : Call) (reply : Reply)
+pub on_reply_follows : (block : ℕ) (code : Code) (group : Group) (fresh : Option Stamp) (c : Coordinator) (from : BrickId) (call : Call)
+    (reply : Reply)
     → Follows c (on_reply block code group fresh c from call reply)
 unfolding on_reply
 on_reply_follows block code group fresh c from call reply = counted_follows code group fresh c from reply (counts_at block group c from.0 call reply)

@@ -20,14 +20,16 @@ put_held f k v i false held e = refl
 waits_is : (layout : Layout) (group : Group) (me : BrickId) (node : Node) (known : ℕ) (c : Coordinator) (next : Next) → node.calls c.call.seq ≡ Some c
     → carried_out (coding layout) group me node known c next ≡ carried_out (coding layout) group me node known c (or_waits c next)
 waits_is layout group me node known c Ignores held =
-    ap no_step (same_states _ _ refl refl refl refl refl (λ g s. refl) (λ k. put_held node.calls c.call.seq (Some c) k (nat_eq k c.call.seq) held refl))
+    ap no_step (same_states _ _ refl refl refl refl refl (λ g s. refl)
+    (λ k. put_held node.calls c.call.seq (Some c) k (nat_eq k c.call.seq) held refl))
 waits_is layout group me node known c (Waits d) held = refl
 waits_is layout group me node known c (Sends d) held = refl
 waits_is layout group me node known c (Makes d) held = refl
 waits_is layout group me node known c (Ends answer seen stored) held = refl
 
 -- what a brick does with a reply to an open operation of a group
-pub replied_is : (layout : Layout) (group : Group) (me : BrickId) (now : ℕ) (from : BrickId) (node : Node) (call : Call) (reply : Reply) (c : Coordinator)
+pub replied_is : (layout : Layout) (group : Group) (me : BrickId) (now : ℕ) (from : BrickId) (node : Node) (call : Call) (reply : Reply)
+    (c : Coordinator)
     → node.calls call.seq ≡ Some c → c.call.seq ≡ call.seq → group_of layout c.ask.group.0 ≡ Some group
     → (let known = known_after node.known reply in
     replied (coding layout) me now from node call reply

@@ -18,8 +18,10 @@ use Rattle.node.specs.Operations.{coordinator_of, IsOfLayout}
 use Rattle.node.proofs.Ticks.{of_value, by_key}
 
 -- one message more, or none, is one packet more, or none
-one_packet : (me to : BrickId) (message : Message) (b : Bool) (messages : List (BrickId × Message)) (packets : List Packet) → packets_from me messages ≡ packets
-    → packets_from me (if b then messages else ((to, message) ∷ messages)) ≡ (if b then packets else (record { from = me; to = to; message = message } ∷ packets))
+one_packet : (me to : BrickId) (message : Message) (b : Bool) (messages : List (BrickId × Message)) (packets : List Packet)
+    → packets_from me messages ≡ packets
+    → packets_from me (if b then messages else ((to, message) ∷ messages)) ≡
+    (if b then packets else (record { from = me; to = to; message = message } ∷ packets))
 one_packet me to message true messages packets e = e
 one_packet me to message false messages packets e = ap (λ rest. record { from = me; to = to; message = message } ∷ rest) e
 
@@ -42,7 +44,8 @@ pub few_silent : (counted : List Counted) (call : Call) (request : ℕ → Reque
     → length (to_silent counted call request seat members) ≤ length members
 few_silent counted call request seat [] = omega arith
 few_silent counted call request seat (member ∷ members) =
-    let more = one_more (member, Message.Request call (request seat)) (has_seat seat counted) (to_silent counted call request (seat + 1) members) (length members)
+    let more = one_more (member, Message.Request call (request seat)) (has_seat seat counted) (to_silent counted call request (seat + 1) members)
+    (length members)
     (few_silent counted call request (seat + 1) members) in
     omega arith
 
@@ -67,7 +70,8 @@ resent_of setting me None = refl
 resent_of setting me (Some op) = refl
 
 -- its messages are few where its members are
-pub few_again : (op : phased.Operation) (messages : List (BrickId × Message)) → messages ≡ phase_messages op → length op.group.members ≤ 32 → length messages ≤ 32
+pub few_again : (op : phased.Operation) (messages : List (BrickId × Message)) → messages ≡ phase_messages op → length op.group.members ≤ 32
+    → length messages ≤ 32
 few_again op messages sent small =
     let count = few_silent op.state.counted op.state.call (request_of (block_code op.block) op.group.m op.state) 0 op.group.members in
     let same : length messages ≡ length (phase_messages op) = ap length sent in

@@ -55,12 +55,14 @@ module _ (layout : Layout) (me : BrickId) (node : Node) (first : List ℕ) (show
 
   -- so at each moment of an opening
   pub opening_shows : {D : Type 0} (moment : D → ℕ) (left_since : D → ℕ → List ℕ → Type 0) (allowed : List ℕ → Type 0) (old new : D)
-      → LeavesOnly moment left_since old new (IsAllowedOr allowed (StandsForEither (shape_at layout me) shows.st (booted (shows.st.boot + 1) shows.st)))
+      → LeavesOnly moment left_since old new (IsAllowedOr allowed
+      (StandsForEither (shape_at layout me) shows.st (booted (shows.st.boot + 1) shows.st)))
       → LeavesOnly moment left_since old new (IsAllowedOr allowed (ShowsEither layout me node (reopened node)))
   opening_shows moment left_since allowed old new is = leaves_more moment left_since old new _ _ (allowed_shows allowed) is
 
 -- what was allowed shows the brick
-or_shown : (layout : Layout) (me : BrickId) (before after : Node) (allowed : List ℕ → Type 0) → LeavesBrick layout me before allowed → (image : List ℕ)
+or_shown : (layout : Layout) (me : BrickId) (before after : Node) (allowed : List ℕ → Type 0) → LeavesBrick layout me before allowed
+    → (image : List ℕ)
     → IsAllowedOr allowed (ShowsEither layout me before after) image → ShowsEither layout me before after image
 or_shown layout me before after allowed all image (inl is) = inl (all image is)
 or_shown layout me before after allowed all image (inr either) = either

@@ -23,8 +23,10 @@ module _ {D : Type 0} (layout : Layout) (before after : OpenCalls) (store : Bric
       let parts = parts_in layout.block store.state in
       subst (λ (s : Node). BeginsAs s (invoked (coding layout) before.me now (state_of (running layout before store)) ask) begun)
       (sym (seen_so layout after store (stays ∙ boot)))
-      (subst (λ (s : Node). BeginsAs (state_with parts after) (invoked (coding layout) before.me now s ask) begun) (sym (seen_so layout before store boot))
-      (subst (λ (g : Option Group). BeginsAs (state_with parts after) (began (coding layout) before.me now (state_with parts before) ask g) begun) (sym found)
+      (subst (λ (s : Node). BeginsAs (state_with parts after) (invoked (coding layout) before.me now s ask) begun)
+      (sym (seen_so layout before store boot))
+      (subst (λ (g : Option Group). BeginsAs (state_with parts after) (began (coding layout) before.me now (state_with parts before) ask g) begun)
+      (sym found)
       (begins parts)))
 
   -- a step of the open calls is the brick's

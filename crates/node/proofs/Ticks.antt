@@ -48,7 +48,8 @@ at_low a n (e ∷ es) k rises low =
     at_other e es k apart ∙ at_low e.0 n es k rises.2 (omega arith)
 
 -- keys in order rise
-rises_from : {X : Type 0} (a n : ℕ) (es : List (ℕ × X)) → IsStrictlySortedBy nat_cmp (keys_of es) → AllByRecursion (λ k. nat_cmp a k ≡ Less) (keys_of es)
+rises_from : {X : Type 0} (a n : ℕ) (es : List (ℕ × X)) → IsStrictlySortedBy nat_cmp (keys_of es) → AllByRecursion (λ k. nat_cmp a k ≡ Less)
+    (keys_of es)
     → AllByRecursion (λ k. k ≤ n) (keys_of es) → Rises a n es
 rises_from a n [] sorted low high = tt
 rises_from a n (e ∷ es) sorted low high =
@@ -122,7 +123,8 @@ values_step f F n c a e es rises gives rest true same =
 values_step f F n c a e es rises gives rest false apart =
     let first = rises.0 in
     let later : a + 1 < e.0 = grind (arith, nat_tests) in
-    let here : F (a + 1) ≡ [] = gives (a + 1) (omega arith) ∙ ap (of_value f) (at_low (a + 1) n (e ∷ es) (a + 1) (later, rises.1, rises.2) (omega arith)) in
+    let here : F (a + 1) ≡ [] = gives (a + 1) (omega arith)
+    ∙ ap (of_value f) (at_low (a + 1) n (e ∷ es) (a + 1) (later, rises.1, rises.2) (omega arith)) in
     rest (e ∷ es) (later, rises.1, rises.2) (λ k over. gives k (omega arith)) ∙ ap (λ front. front ++ above F (a + 1) c) (sym here)
 
 -- values in order of their keys, all among the c above a, give what the keys give

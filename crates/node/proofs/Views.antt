@@ -26,7 +26,8 @@ map_length f [] = refl
 map_length f (e ∷ es) = ap (λ n. suc n) (map_length f es)
 
 -- a value among others, seen through a function
-map_lookup : {X Y : Type 0} (f : X → Y) (test : ℕ → Bool) (es : List (ℕ × X)) → lookup test (map (λ e. (e.0, f e.1)) es) ≡ option_map f (lookup test es)
+map_lookup : {X Y : Type 0} (f : X → Y) (test : ℕ → Bool) (es : List (ℕ × X)) → lookup test (map (λ e. (e.0, f e.1)) es) ≡ option_map f
+    (lookup test es)
 map_lookup f test [] = refl
 map_lookup f test (e ∷ es) =
     ap (λ o. cond (test e.0) (Some (f e.1)) o) (map_lookup f test es) ∙ sym (map_cond f (test e.0) (Some e.1) (lookup test es))
@@ -70,6 +71,7 @@ shows_so layout me node store image shape kept stands =
     record { st = store.state; stands = subst (λ (s : Shape). StandsFor s store.state image) shape stands; parts = kept.parts; first = kept.first }
 
 -- so does all that a crash leaves
-pub leaves_so : {D : Type 0} (layout : Layout) (me : BrickId) (node : Node) (store : Brick D) (left : List ℕ → Type 0) → store.shape ≡ shape_at layout me
+pub leaves_so : {D : Type 0} (layout : Layout) (me : BrickId) (node : Node) (store : Brick D) (left : List ℕ → Type 0)
+    → store.shape ≡ shape_at layout me
     → IsKept layout.block store.state node → LeavesState store.shape store.state left → LeavesBrick layout me node left
 leaves_so layout me node store left shape kept leaves = λ image is. shows_so layout me node store image shape kept (leaves image is)

@@ -53,7 +53,8 @@ pub record BeginsPhase (layout : Layout) (before after : Operation) (messages : 
   pub sends : SendsPhase layout after messages
 
 -- a version is made: it has this stamp, and this base
-pub record MakesVersion (layout : Layout) (before after : Operation) (messages : List (BrickId × Message)) (stamp : Stamp) (base : Option Stamp) : Type 0 where
+pub record MakesVersion (layout : Layout) (before after : Operation) (messages : List (BrickId × Message)) (stamp : Stamp)
+    (base : Option Stamp) : Type 0 where
   pub begins : BeginsPhase layout before after messages
   pub stamp_is : stamp ≡ (coordinator_of after).stamp
   pub base_is : base ≡ (coordinator_of after).base

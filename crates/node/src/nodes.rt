@@ -69,22 +69,33 @@ impl<D: Disk> Node<D> {
         ensures layout { IfOk result (λ node. node.layout ≡ layout) }
         ensures me { IfOk result (λ node. node.me ≡ me) }
         ensures runs { IfOk result (λ node. node.brick.halted ≡ false) }
-        ensures state { IfOk result (λ node. D.tells → (before : machine.Node) → ImageShows layout me before (D.seen disk) → state_of node ≡ restarted 1 before) }
+        ensures state { IfOk result (λ node. D.tells → (before : machine.Node) → ImageShows layout me before (D.seen disk)
+            → state_of node ≡ restarted 1 before) }
         // There was a store that was not worn, and it is the one that was counted.
-        ensures found { IfOk result (λ node. D.tells → (st : StateOf Version) × IsFound (shape_at layout me) st (D.seen disk) × (st.boot < 2 ^ 32 - 1) × (node.brick.state ≡ booted (st.boot + 1) st)) }
+        ensures found { IfOk result (λ node. D.tells → (st : StateOf Version) × IsFound (shape_at layout me) st (D.seen disk) × (st.boot < 2 ^ 32 - 1)
+            × (node.brick.state ≡ booted (st.boot + 1) st)) }
         ensures seen { IfOk result (λ node. D.tells → ImageShows layout me (state_of node) (D.seen node.brick.disk)) }
         ensures durable { IfOk result (λ node. D.tells → LeavesBrick layout me (state_of node) (D.may_leave node.brick.disk)) }
         // At each moment each image is one that the disk allowed before, or shows the brick as it was, or opened once more.
-        ensures moments { IfOk result (λ node. D.tells → (before : machine.Node) → ImageShows layout me before (D.seen disk) → LeavesOnly D.moment D.left_since disk node.brick.disk (IsAllowedOr (D.may_leave disk) (ShowsEither layout me before (reopened before)))) }
-        ensures moments_err { IfErr result (λ e. D.tells → (before : machine.Node) → ImageShows layout me before (D.seen disk) → LeavesOnly D.moment D.left_since disk e.1 (IsAllowedOr (D.may_leave disk) (ShowsEither layout me before (reopened before)))) }
+        ensures moments { IfOk result (λ node. D.tells → (before : machine.Node) → ImageShows layout me before (D.seen disk)
+            → LeavesOnly D.moment D.left_since disk node.brick.disk
+            (IsAllowedOr (D.may_leave disk) (ShowsEither layout me before (reopened before)))) }
+        ensures moments_err { IfErr result (λ e. D.tells → (before : machine.Node) → ImageShows layout me before (D.seen disk)
+            → LeavesOnly D.moment D.left_since disk e.1 (IsAllowedOr (D.may_leave disk) (ShowsEither layout me before (reopened before)))) }
         // Where all that it allowed shows the brick, all shows one of the two.
-        ensures any_moment { IfOk result (λ node. D.tells → (before : machine.Node) → LeavesBrick layout me before (D.may_leave disk) → LeavesOnly D.moment D.left_since disk node.brick.disk (ShowsEither layout me before (reopened before))) }
-        ensures any_moment_err { IfErr result (λ e. D.tells → (before : machine.Node) → LeavesBrick layout me before (D.may_leave disk) → LeavesOnly D.moment D.left_since disk e.1 (ShowsEither layout me before (reopened before))) }
+        ensures any_moment { IfOk result (λ node. D.tells → (before : machine.Node) → LeavesBrick layout me before (D.may_leave disk)
+            → LeavesOnly D.moment D.left_since disk node.brick.disk (ShowsEither layout me before (reopened before))) }
+        ensures any_moment_err { IfErr result (λ e. D.tells → (before : machine.Node) → LeavesBrick layout me before (D.may_leave disk)
+            → LeavesOnly D.moment D.left_since disk e.1 (ShowsEither layout me before (reopened before))) }
         // There is no store, and nothing has changed; or its store has learnt a later view.
-        ensures not_a_store { IfErr result (λ e. e.0 ≡ StoreFault.NotAStore → D.tells → (IsNoStore (shape_at layout me) (D.seen disk) × IsUntouched D.seen D.may_leave D.moment D.left_since disk e.1) ⊎ ((st : StateOf Version) × IsFound (shape_at layout me) st (D.seen disk) × (IsFirstView st → ⊥))) }
+        ensures not_a_store { IfErr result (λ e. e.0 ≡ StoreFault.NotAStore → D.tells
+            → (IsNoStore (shape_at layout me) (D.seen disk) × IsUntouched D.seen D.may_leave D.moment D.left_since disk e.1)
+            ⊎ ((st : StateOf Version) × IsFound (shape_at layout me) st (D.seen disk) × (IsFirstView st → ⊥))) }
         // There was a store, and it was opened as often as it can be.
-        ensures worn { IfErr result (λ e. e.0 ≡ StoreFault.Worn → D.tells → (st : StateOf Version) × IsFound (shape_at layout me) st (D.seen disk) × (st.boot ≡ 2 ^ 32 - 1)) }
-        ensures unchanged { IfErr result (λ e. (e.0 ≡ StoreFault.Worn) ⊎ (e.0 ≡ StoreFault.NoMemory) → IsUntouched D.seen D.may_leave D.moment D.left_since disk e.1) }
+        ensures worn { IfErr result (λ e. e.0 ≡ StoreFault.Worn → D.tells → (st : StateOf Version) × IsFound (shape_at layout me) st (D.seen disk)
+            × (st.boot ≡ 2 ^ 32 - 1)) }
+        ensures unchanged { IfErr result (λ e. (e.0 ≡ StoreFault.Worn) ⊎ (e.0 ≡ StoreFault.NoMemory)
+            → IsUntouched D.seen D.may_leave D.moment D.left_since disk e.1) }
         // No other fault is answered.
         ensures not_halted { IfErr result (λ e. e.0 ≢ StoreFault.Halted) }
         ensures not_full { IfErr result (λ e. (n : ℕ) → e.0 ≢ StoreFault.Full n) }
@@ -175,13 +186,17 @@ impl<D: Disk> Node<D> {
         // After it a crash leaves only what shows the brick as it is now.
         ensures durable { D.tells → OnOk result (LeavesBrick self.old.layout self.old.me (state_of self.new) (D.may_leave self.new.brick.disk)) }
         // At each moment of the call each image shows the brick as it was, or with what the request makes it keep.
-        ensures moments { D.tells → self.old.brick.halted ≡ false → LeavesOnly D.moment D.left_since self.old.brick.disk self.new.brick.disk (ShowsEither self.old.layout self.old.me (state_of self.old) (absorbed (coding self.old.layout) self.old.me (state_of self.old) packet.now)) }
+        ensures moments { D.tells → self.old.brick.halted ≡ false → LeavesOnly D.moment D.left_since self.old.brick.disk self.new.brick.disk
+            (ShowsEither self.old.layout self.old.me (state_of self.old)
+            (absorbed (coding self.old.layout) self.old.me (state_of self.old) packet.now)) }
         ensures halted { self.old.brick.halted ≡ true → result ≡ Err NodeFault.Halted }
         ensures only_halted { result ≡ Err NodeFault.Halted → self.old.brick.halted ≡ true }
         ensures halts { self.new.brick.halted ≡ halted_after self.old.brick.halted result }
         ensures not_refused { (reason : Refusal) → result ≢ Err (NodeFault.Refused reason) }
-        ensures no_call { OnErr result (result ≢ Err NodeFault.Disk → IsUntouched D.seen D.may_leave D.moment D.left_since self.old.brick.disk self.new.brick.disk) }
-        ensures cause { Kept (D.faults self.old.brick.disk) (D.faults self.new.brick.disk) (D.sound self.old.brick.disk) (D.sound self.new.brick.disk) (result ≡ Err NodeFault.Disk) }
+        ensures no_call { OnErr result (result ≢ Err NodeFault.Disk
+            → IsUntouched D.seen D.may_leave D.moment D.left_since self.old.brick.disk self.new.brick.disk) }
+        ensures cause { Kept (D.faults self.old.brick.disk) (D.faults self.new.brick.disk) (D.sound self.old.brick.disk) (D.sound self.new.brick.disk)
+            (result ≡ Err NodeFault.Disk) }
     {
         if self.is_halted() {
             return Err(NodeFault::Halted);
@@ -206,17 +221,22 @@ impl<D: Disk> Node<D> {
     ) -> Result<Outs, NodeFault>
         requires runs { self.old.brick.halted ≡ false }
         requires durable { D.tells → LeavesBrick self.old.layout self.old.me (state_of self.old) (D.may_leave self.old.brick.disk) }
-        ensures step { IfOk result (StepsAs (state_of self.new) (requested (coding self.old.layout) self.old.me from (state_of self.old) call request.now)) }
+        ensures step { IfOk result (StepsAs (state_of self.new)
+            (requested (coding self.old.layout) self.old.me from (state_of self.old) call request.now)) }
         ensures few { IfOk result (λ outs. vec_len outs.packets ≤ 32) }
         ensures err { OnErr result (state_of self.new ≡ state_of self.old) }
         ensures same { IsSameBrick self.old self.new }
         ensures durable { D.tells → OnOk result (LeavesBrick self.old.layout self.old.me (state_of self.new) (D.may_leave self.new.brick.disk)) }
-        ensures moments { D.tells → LeavesOnly D.moment D.left_since self.old.brick.disk self.new.brick.disk (ShowsEither self.old.layout self.old.me (state_of self.old) (requested (coding self.old.layout) self.old.me from (state_of self.old) call request.now).node) }
+        ensures moments { D.tells → LeavesOnly D.moment D.left_since self.old.brick.disk self.new.brick.disk
+            (ShowsEither self.old.layout self.old.me (state_of self.old)
+            (requested (coding self.old.layout) self.old.me from (state_of self.old) call request.now).node) }
         ensures not_halted { result ≢ Err NodeFault.Halted }
         ensures halts { self.new.brick.halted ≡ halted_after false result }
         ensures not_refused { (reason : Refusal) → result ≢ Err (NodeFault.Refused reason) }
-        ensures no_call { OnErr result (result ≢ Err NodeFault.Disk → IsUntouched D.seen D.may_leave D.moment D.left_since self.old.brick.disk self.new.brick.disk) }
-        ensures cause { Kept (D.faults self.old.brick.disk) (D.faults self.new.brick.disk) (D.sound self.old.brick.disk) (D.sound self.new.brick.disk) (result ≡ Err NodeFault.Disk) }
+        ensures no_call { OnErr result (result ≢ Err NodeFault.Disk
+            → IsUntouched D.seen D.may_leave D.moment D.left_since self.old.brick.disk self.new.brick.disk) }
+        ensures cause { Kept (D.faults self.old.brick.disk) (D.faults self.new.brick.disk) (D.sound self.old.brick.disk) (D.sound self.new.brick.disk)
+            (result ≡ Err NodeFault.Disk) }
     {
         // The reply has its room before anything is kept: after that nothing can fail.
         let room = Vec::with_capacity(self.alloc, 1)?;
@@ -236,12 +256,14 @@ impl<D: Disk> Node<D> {
         reply: &Reply,
     ) -> Result<Outs, NodeFault>
         requires reply { packet.now.message ≡ message.Reply call reply.now }
-        ensures step { IfOk result (StepsAs (state_of self.new) (replied (coding self.old.layout) self.old.me now packet.now.from (state_of self.old) call reply.now)) }
+        ensures step { IfOk result (StepsAs (state_of self.new) (replied (coding self.old.layout) self.old.me now packet.now.from
+            (state_of self.old) call reply.now)) }
         ensures few { IfOk result (λ outs. vec_len outs.packets ≤ 32) }
         ensures err { OnErr result (state_of self.new ≡ state_of self.old) }
         ensures same { IsSameBrick self.old self.new }
         ensures brick { self.new.brick ≡ self.old.brick }
-        ensures shown { (image : List ℕ) → ImageShows self.old.layout self.old.me (state_of self.old) image → ImageShows self.old.layout self.old.me (state_of self.new) image }
+        ensures shown { (image : List ℕ) → ImageShows self.old.layout self.old.me (state_of self.old) image → ImageShows self.old.layout self.old.me
+            (state_of self.new) image }
         ensures only { OnErr result (result ≡ Err NodeFault.NoMemory) }
     {
         Ok(
@@ -271,7 +293,8 @@ impl<D: Disk> Node<D> {
     /// Whether a call of this brick answered [`NodeFault::Disk`]. While none did, a crash leaves only what shows the brick.
     pub fn is_halted(&self) -> bool
         ensures value { result ≡ self.now.brick.halted }
-        ensures durable { D.tells → self.now.brick.halted ≡ false → LeavesBrick self.now.layout self.now.me (state_of self.now) (D.may_leave self.now.brick.disk) }
+        ensures durable { D.tells → self.now.brick.halted ≡ false → LeavesBrick self.now.layout self.now.me (state_of self.now)
+            (D.may_leave self.now.brick.disk) }
         ensures kept { IsKept self.now.layout.block self.now.brick.state (state_of self.now) }
         ensures shape { self.now.brick.shape ≡ shape_at self.now.layout self.now.me }
     {

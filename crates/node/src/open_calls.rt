@@ -183,7 +183,9 @@ impl OpenCalls {
         requires group { group_of layout.now ask.now.group.0 ≡ Some group.now }
         requires fits { has_length group.now.m layout.now.block ask.now.op ≡ true }
         requires node { AreCallsOf layout.now self.old }
-        ensures begun { (parts : Parts) → IfOk result (BeginsAs (state_with parts self.new) (began_in (coding layout.now) group.now self.old.me (state_with parts self.old) (new_coordinator self.old.me now (state_with parts self.old) ask.now))) }
+        ensures begun { (parts : Parts) → IfOk result
+            (BeginsAs (state_with parts self.new) (began_in (coding layout.now) group.now self.old.me (state_with parts self.old)
+            (new_coordinator self.old.me now (state_with parts self.old) ask.now))) }
         ensures err { OnErr result ((parts : Parts) → state_with parts self.new ≡ state_with parts self.old) }
         ensures me { self.new.me ≡ self.old.me }
         ensures boot { self.new.boot ≡ self.old.boot }
@@ -223,7 +225,8 @@ impl OpenCalls {
     ) -> Result<Outs, NoMem>
         requires reply { packet.now.message ≡ message.Reply call reply.now }
         requires node { AreCallsOf layout.now self.old }
-        ensures step { (parts : Parts) → IfOk result (StepsAs (state_with parts self.new) (replied (coding layout.now) self.old.me now packet.now.from (state_with parts self.old) call reply.now)) }
+        ensures step { (parts : Parts) → IfOk result (StepsAs (state_with parts self.new)
+            (replied (coding layout.now) self.old.me now packet.now.from (state_with parts self.old) call reply.now)) }
         ensures few { IfOk result (λ outs. vec_len outs.packets ≤ 32) }
         ensures err { OnErr result ((parts : Parts) → state_with parts self.new ≡ state_with parts self.old) }
         ensures node { AreCallsOf layout.now self.new }
@@ -257,8 +260,10 @@ impl OpenCalls {
     ) -> Result<Outs, NoMem>
         requires held { is_some (tree.get nat_cmp self.old.operations call.seq) ≡ true }
         requires few { HasFewMessages decision }
-        ensures step { (parts : Parts) (layout : layouts.Layout) (before : Operation) → (coordinator_of before).call ≡ call → (shown_of before).group ≡ group.now → IsDecisionOf layout before decision
-            → IfOk result (StepsAs (state_with parts self.new) (carried_out (coding layout) group.now self.old.me (state_with parts self.old) known (coordinator_of before) (machine_next decision))) }
+        ensures step { (parts : Parts) (layout : layouts.Layout) (before : Operation) → (coordinator_of before).call ≡ call
+            → (shown_of before).group ≡ group.now → IsDecisionOf layout before decision
+            → IfOk result (StepsAs (state_with parts self.new) (carried_out (coding layout) group.now self.old.me (state_with parts self.old) known
+            (coordinator_of before) (machine_next decision))) }
         ensures node { (layout : layouts.Layout) (before : Operation) → (coordinator_of before).call ≡ call → IsDecisionOf layout before decision
             → AreCallsOf layout self.old → AreCallsOf layout self.new }
         ensures few { IfOk result (λ outs. vec_len outs.packets ≤ 32) }
@@ -318,7 +323,8 @@ impl OpenCalls {
     /// Puts back the open operation of this number; the brick now knows this time.
     fn put_back(&mut self, known: u64, seq: u64, operation: Operation)
         requires { is_some (tree.get nat_cmp self.old.operations seq) ≡ true }
-        ensures state { (parts : Parts) → state_with parts self.new ≡ with_call (state_with parts self.old) known (state_with parts self.old).busy seq (Some (coordinator_of operation)) }
+        ensures state { (parts : Parts) → state_with parts self.new ≡ with_call (state_with parts self.old) known (state_with parts self.old).busy seq
+            (Some (coordinator_of operation)) }
         ensures node { (layout : layouts.Layout) → AreCallsOf layout self.old → IsAt layout seq operation → AreCallsOf layout self.new }
         ensures me { self.new.me ≡ self.old.me }
         ensures boot { self.new.boot ≡ self.old.boot }
@@ -332,7 +338,8 @@ impl OpenCalls {
     /// Forgets the open operation of this number, which has ended; the brick now knows this time.
     fn close(&mut self, known: u64, seq: u64)
         requires { is_some (tree.get nat_cmp self.old.operations seq) ≡ true }
-        ensures state { (parts : Parts) → state_with parts self.new ≡ with_call (state_with parts self.old) known ((state_with parts self.old).busy - 1) seq None }
+        ensures state { (parts : Parts) → state_with parts self.new ≡ with_call (state_with parts self.old) known
+            ((state_with parts self.old).busy - 1) seq None }
         ensures node { (layout : layouts.Layout) → AreCallsOf layout self.old → AreCallsOf layout self.new }
         ensures me { self.new.me ≡ self.old.me }
         ensures boot { self.new.boot ≡ self.old.boot }
@@ -363,7 +370,8 @@ impl OpenCalls {
     /// without a reply that counts.
     pub(crate) fn on_tick(&self, alloc: Global, layout: &Layout) -> Result<Vec<Packet>, NoMem>
         requires { AreCallsOf layout.now self.now }
-        ensures packets { (parts : Parts) → IfOk result (λ packets. packets.items ≡ ticked (coding layout.now) self.now.me (state_with parts self.now)) }
+        ensures packets { (parts : Parts) → IfOk result (λ packets. packets.items ≡ ticked (coding layout.now) self.now.me
+            (state_with parts self.now)) }
         ensures few { IfOk result (λ packets. vec_len packets ≤ 2048) }
     {
         let mut packets = Vec::new(alloc);

@@ -241,7 +241,8 @@ impl Operation {
     ) -> Result<Decision, NoMem>
         requires operation { IsOperationOf layout.now self }
         requires group { (shown_of self).group ≡ group.now }
-        ensures decided { IfOk result (λ decision. machine_next decision ≡ or_waits (coordinator_of self) (decided_on fresh (shown_of self) from message.now)) }
+        ensures decided { IfOk result (λ decision. machine_next decision ≡ or_waits (coordinator_of self)
+            (decided_on fresh (shown_of self) from message.now)) }
         ensures kept { IfOk result (λ decision. IsDecisionOf layout.now self decision) }
         ensures few { IfOk result HasFewMessages }
     {

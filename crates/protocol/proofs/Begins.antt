@@ -147,7 +147,8 @@ module _ (setting : Setting) (w : World) (stamps : Stamping) (me : BrickId) (ask
     contents = λ g s t made. refl;
     grow = stamps_grow stamps me.0 c.call.boot c.call.seq c.call.phase first none from;
     numbered = numbered;
-    marks = (let longer : length next.marks ≡ length w.marks + 1 = length-append w.marks (Begin (length w.marks) (w.begun + 1) me ask ∷ []) in omega arith);
+    marks = (let longer : length next.marks ≡ length w.marks + 1 = length-append w.marks
+        (Begin (length w.marks) (w.begun + 1) me ask ∷ []) in omega arith);
   }
 
   called : IsCalled next me.0 c.call new
@@ -189,7 +190,8 @@ module _ (setting : Setting) (w : World) (stamps : Stamping) (me : BrickId) (ask
       subst (λ (r : Request). RequestSays setting next later me.0 j c.call r) (sym (request_looks setting.code group.m c seat (ap first_phase reads)))
       (refl, (new, called)))
       (λ (writes : (bytes : List ℕ) × (ask.op ≡ WriteStripe bytes)).
-      subst (λ (r : Request). RequestSays setting next later me.0 j c.call r) (sym (request_orders setting.code group.m c seat (ap first_phase writes.1))) (
+      subst (λ (r : Request). RequestSays setting next later me.0 j c.call r)
+      (sym (request_orders setting.code group.m c seat (ap first_phase writes.1))) (
         subst (λ (phase : Phase). IsBegun later me.0 c.call.boot c.call.seq c.call.phase phase c.stamp) (ap first_phase writes.1) begun_now,
         (new, called),
       ))
@@ -270,7 +272,8 @@ module _ (setting : Setting) (w : World) (stamps : Stamping) (me : BrickId) (ask
       = (let e : Some group ≡ Some z = sym group_is ∙ ap (λ (y : Operation). group_of setting.layout y.ask.group.0) same ∙ z_is in cc) in
       subst (λ (y : Operation). FloorsAtLeast y z u) same
       (subst (λ (y : Group). FloorsAtLeast new y u) at
-      (floors_at_least i earlier u is (groups ∙ ap (λ (y : Operation). y.ask.group.0) (sym same)) (stripes ∙ ap (λ (y : Operation). y.ask.stripe.0) (sym same)) version))))
+      (floors_at_least i earlier u is (groups ∙ ap (λ (y : Operation). y.ask.group.0) (sym same))
+      (stripes ∙ ap (λ (y : Operation). y.ask.stripe.0) (sym same)) version))))
       (λ j apart its. ⊎_elim
       (λ (floors : (z : Group) → group_of setting.layout late.ask.group.0 ≡ Some z → FloorsAtLeast late z u). inl floors)
       (λ (before : late.begin ≤ last_of (life_of w.marks i)). inr (omega (arith, before, lasts i)))
@@ -289,7 +292,8 @@ module _ (setting : Setting) (w : World) (stamps : Stamping) (me : BrickId) (ask
           (λ now. let here : (put w.nodes me.0 node me.0).seq ≡ c.call.seq = ap (λ (x : Node). x.seq) (put_same w.nodes me.0 node) in omega arith);
       tops = λ g s i. inl (put_each (λ j x. top_of (x.replicas g s) ≡ top_of ((w.nodes j).replicas g s)) w.nodes me.0 node refl (λ j other. refl) i);
       logs = λ g s i k version is. inl
-          (put_each (λ j x. slice_get (x.replicas g s).log k ≡ Some version → slice_get ((w.nodes j).replicas g s).log k ≡ Some version) w.nodes me.0 node
+          (put_each (λ j x. slice_get (x.replicas g s).log k ≡ Some version
+          → slice_get ((w.nodes j).replicas g s).log k ≡ Some version) w.nodes me.0 node
           (λ has. has) (λ j other has. has) i is);
       packets = λ k packet is. ⊎_elim
           (λ (there : slice_get w.packets k ≡ Some packet). inl there)

@@ -23,7 +23,8 @@ pub record PartsStay (w next : World) : Type 0 where
 -- and so through two steps
 pub parts_then : (w mid next : World) → PartsStay w mid → PartsStay mid next → PartsStay w next
 parts_then w mid next first second = record {
-  tops = λ g s i. stamp_not_below_trans (top_of (part_of w g s i)) (top_of (part_of mid g s i)) (top_of (part_of next g s i)) (first.tops g s i) (second.tops g s i);
+  tops = λ g s i. stamp_not_below_trans (top_of (part_of w g s i)) (top_of (part_of mid g s i)) (top_of (part_of next g s i)) (first.tops g s i)
+      (second.tops g s i);
   held = λ g s i t held. second.held g s i t (first.held g s i t held);
   newer = λ g s i t held. ⊎_elim
       (λ (was : is_held t (part_of mid g s i).log ≡ true). first.newer g s i t was)
@@ -56,14 +57,16 @@ blocked_stays w next stay g s group d blocked =
     (λ k below is.
     let parts = and_parts (stamp_below d (top_of (part_of w g s (brick_at group k)))) (not (is_held d (part_of w g s (brick_at group k)).log)) is in
     and_from (stamp_below d (top_of (part_of next g s (brick_at group k)))) (not (is_held d (part_of next g s (brick_at group k)).log))
-    (below_above d (top_of (part_of w g s (brick_at group k))) (top_of (part_of next g s (brick_at group k))) parts.0 (stay.tops g s (brick_at group k)))
+    (below_above d (top_of (part_of w g s (brick_at group k))) (top_of (part_of next g s (brick_at group k))) parts.0
+    (stay.tops g s (brick_at group k)))
     (not_from_false (is_held d (part_of next g s (brick_at group k)).log)
     (stays_unheld w next stay g s (brick_at group k) d parts.0 (not-true (is_held d (part_of w g s (brick_at group k)).log) parts.1)))) in
     omega (arith, blocked, more)
 
 -- what a quorum holds, a quorum goes on holding
 pub stands_stays : (w next : World) → PartsStay w next → (g s : ℕ) (group : Group) (d : Stamp)
-    → AtQuorum group (λ seat. is_held d (part_of w g s (brick_at group seat)).log) → AtQuorum group (λ seat. is_held d (part_of next g s (brick_at group seat)).log)
+    → AtQuorum group (λ seat. is_held d (part_of w g s (brick_at group seat)).log)
+    → AtQuorum group (λ seat. is_held d (part_of next g s (brick_at group seat)).log)
 stands_stays w next stay g s group d stands =
     let more = count_monotone (length group.members) (λ seat. is_held d (part_of w g s (brick_at group seat)).log)
     (λ seat. is_held d (part_of next g s (brick_at group seat)).log)

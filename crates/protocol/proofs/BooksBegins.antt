@@ -205,7 +205,8 @@ module _ (setting : Setting) (w : World) (brick : BrickId) (now : ℕ) (ask : As
         operations = λ m x is. ⊎_elim
             (λ (mine : m ≡ n).
             let one : o ≡ x = same_Some o x (sym operation_is ∙ ap later.operations (sym mine) ∙ is) in
-            subst (λ (y : ℕ). OperationBooks setting later y x) (sym mine) (subst (λ (y : Operation). OperationBooks setting later n y) one own_books))
+            subst (λ (y : ℕ). OperationBooks setting later y x) (sym mine)
+            (subst (λ (y : Operation). OperationBooks setting later n y) one own_books))
             (λ (other : m ≢ n).
             let old : IsOperation w m x = sym (other_operations m other) ∙ is in
             let mine : OperationBooks setting w m x = books.operations m x old in
@@ -228,7 +229,8 @@ module _ (setting : Setting) (w : World) (brick : BrickId) (now : ℕ) (ask : As
             (λ (other : j ≡ i → l ≡ k → ⊥).
             let old : IsCall w j l e = sym (other_calls j l other) ∙ is in
             let mine : CallBooks setting w j l e = books.calls j l e old in
-            let theirs : OperationBooks setting w (number_of w j l) mine.operation = books.operations (number_of w j l) mine.operation mine.operation_is in
+            let theirs : OperationBooks setting w (number_of w j l) mine.operation = books.operations
+            (number_of w j l) mine.operation mine.operation_is in
             let number : number_of w j l ≢ n = λ same. omega (arith, theirs.begun, same) in
             call_kept setting w later j l e mine refl (same_boots j) (other_number j l other) (other_operations (number_of w j l) number) (knows j)
             (other_life (number_of w j l) number)
@@ -241,7 +243,8 @@ module _ (setting : Setting) (w : World) (brick : BrickId) (now : ℕ) (ask : As
         lives = λ m life is. ⊎_elim
             (λ (mine : m ≡ n). (omega arith, omega arith))
             (λ (other : m ≢ n).
-            let old : (l : Life) × (life_of w.marks m ≡ Some l) = Stays-before (life_of w.marks m) (life_of later.marks m) life (other_life m other) is in
+            let old : (l : Life) × (life_of w.marks m ≡ Some l) = Stays-before (life_of w.marks m) (life_of later.marks m) life
+            (other_life m other) is in
             let bounds : (1 ≤ m) × (m ≤ w.begun) = books.lives m old.0 old.1 in
             (bounds.0, omega (arith, bounds.1)))
             (cases_eq m n);

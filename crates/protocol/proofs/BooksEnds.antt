@@ -33,7 +33,8 @@ answer_was p Done h = refl
 answer_was p (Aborted cause) h = absurd h
 
 -- brick i's call k, at c, is gone, and its operation is o, of this answer, in place of what it was; all else is as before
-pub record Ended (w : World) (i k : ℕ) (c : Coordinator) (before o : Operation) (answer : Answer) (nodes : ℕ → Node) (operations : ℕ → Option Operation) : Type 0 where
+pub record Ended (w : World) (i k : ℕ) (c : Coordinator) (before o : Operation) (answer : Answer) (nodes : ℕ → Node)
+    (operations : ℕ → Option Operation) : Type 0 where
   pub was : IsCall w i k c
   pub operation_was : IsOperation w (number_of w i k) before
   pub brick : o.brick ≡ before.brick
@@ -66,8 +67,10 @@ ended_world w nodes packets operations replies n answer =
       replies = replies;
     }
 
-module _ (setting : Setting) (w : World) (i k : ℕ) (c : Coordinator) (before o : Operation) (answer : Answer) (nodes : ℕ → Node) (packets : List Packet)
-    (operations : ℕ → Option Operation) (replies : ℕ → ℕ → List Counted) (books : Books setting w) (ended : Ended w i k c before o answer nodes operations) where
+module _ (setting : Setting) (w : World) (i k : ℕ) (c : Coordinator) (before o : Operation) (answer : Answer) (nodes : ℕ → Node)
+    (packets : List Packet)
+    (operations : ℕ → Option Operation) (replies : ℕ → ℕ → List Counted) (books : Books setting w)
+    (ended : Ended w i k c before o answer nodes operations) where
   -- the world after the end
   abbrev later : World
   later = ended_world w nodes packets operations replies (number_of w i k) answer
@@ -150,7 +153,8 @@ module _ (setting : Setting) (w : World) (i k : ℕ) (c : Coordinator) (before o
         operations = λ n x is. ⊎_elim
             (λ (mine : n ≡ number_of w i k).
             let one : o ≡ x = same_Some o x (sym ended.operation_is ∙ ap operations (sym mine) ∙ is) in
-            subst (λ (m : ℕ). OperationBooks setting later m x) (sym mine) (subst (λ (y : Operation). OperationBooks setting later (number_of w i k) y) one own_books))
+            subst (λ (m : ℕ). OperationBooks setting later m x) (sym mine)
+            (subst (λ (y : Operation). OperationBooks setting later (number_of w i k) y) one own_books))
             (λ (other : n ≢ number_of w i k).
             let old : IsOperation w n x = sym (ended.other_operations n other) ∙ is in
             let mine : OperationBooks setting w n x = books.operations n x old in
@@ -160,7 +164,8 @@ module _ (setting : Setting) (w : World) (i k : ℕ) (c : Coordinator) (before o
             (cases_eq n (number_of w i k));
         calls = λ j l e is. ⊎_elim
             (λ (mine : (j ≡ i) × (l ≡ k)).
-            let at : (nodes i).calls k ≡ Some e = subst (λ (x : ℕ). (nodes x).calls k ≡ Some e) mine.0 (subst (λ (y : ℕ). (nodes j).calls y ≡ Some e) mine.1 is) in
+            let at : (nodes i).calls k ≡ Some e = subst (λ (x : ℕ). (nodes x).calls k ≡ Some e) mine.0
+            (subst (λ (y : ℕ). (nodes j).calls y ≡ Some e) mine.1 is) in
             let never : None ≡ Some e = sym ended.call_is ∙ at in
             absurd (let e : ⊥ = cc in e))
             (λ (other : j ≡ i → l ≡ k → ⊥).
@@ -181,7 +186,8 @@ module _ (setting : Setting) (w : World) (i k : ℕ) (c : Coordinator) (before o
         lives = λ n life is. ⊎_elim
             (λ (mine : n ≡ number_of w i k). (omega (arith, own.from_one), omega (arith, own.begun)))
             (λ (other : n ≢ number_of w i k).
-            let old : (l : Life) × (life_of w.marks n ≡ Some l) = Stays-before (life_of w.marks n) (life_of later.marks n) life (other_life n other) is in
+            let old : (l : Life) × (life_of w.marks n ≡ Some l) = Stays-before (life_of w.marks n) (life_of later.marks n) life
+            (other_life n other) is in
             books.lives n old.0 old.1)
             (cases_eq n (number_of w i k));
       }
@@ -210,7 +216,8 @@ module _ (setting : Setting) (w : World) (brick : BrickId) (books : Books settin
   -- bricks keep their numbers
   pub stopped_keeps : (j : ℕ) → KeepsNumbers (w.nodes j) (shut.nodes j)
   unfolding stopped
-  stopped_keeps j = put_each (λ (x : ℕ) (y : Node). KeepsNumbers (w.nodes x) y) w.nodes i node (record { boot = refl; seq = refl; known = omega arith })
+  stopped_keeps j = put_each (λ (x : ℕ) (y : Node). KeepsNumbers (w.nodes x) y) w.nodes i node
+      (record { boot = refl; seq = refl; known = omega arith })
       (λ x other. record { boot = refl; seq = refl; known = omega arith }) j
 
   -- this brick has no call left, and others keep theirs
@@ -248,7 +255,8 @@ module _ (setting : Setting) (w : World) (brick : BrickId) (books : Books settin
       (λ life is open'. absurd (ended' (subst (λ (l : Option Life). IsOpen l) (sym is) open')))
 
   -- an open operation of this brick is interrupted
-  interrupted_books : (n : ℕ) (o : Operation) → OperationBooks setting w n o → o.brick.0 ≡ i → IsOpen (life_of w.marks n) → OperationBooks setting shut n o
+  interrupted_books : (n : ℕ) (o : Operation) → OperationBooks setting w n o → o.brick.0 ≡ i → IsOpen (life_of w.marks n)
+      → OperationBooks setting shut n o
   interrupted_books n o mine at open' =
       let seqs : (shut.nodes o.brick.0).seq ≡ (w.nodes o.brick.0).seq = (stopped_keeps o.brick.0).seq in
       let boots : (shut.nodes o.brick.0).boot ≡ (w.nodes o.brick.0).boot = (stopped_keeps o.brick.0).boot in
@@ -288,7 +296,8 @@ module _ (setting : Setting) (w : World) (brick : BrickId) (books : Books settin
       let old : IsCall w j k c = sym (unstopped_calls j k other) ∙ is in
       let mine : CallBooks setting w j k c = books.calls j k c old in
       let theirs : OperationBooks setting w (number_of w j k) mine.operation = books.operations (number_of w j k) mine.operation mine.operation_is in
-      call_kept setting w shut j k c mine (put_other w.up i false j other) (stopped_keeps j).boot (ap (λ (b : ℕ). w.numbers j b k) (stopped_keeps j).boot)
+      call_kept setting w shut j k c mine (put_other w.up i false j other) (stopped_keeps j).boot
+      (ap (λ (b : ℕ). w.numbers j b k) (stopped_keeps j).boot)
       refl (stopped_keeps j).known
       (life_stays (number_of w j k) mine.operation theirs (λ open' at. other (sym mine.brick ∙ at)))
       (λ o at. ((books.operations (number_of w j k) o at).life, (books.operations (number_of w j k) o at).life_is))

@@ -56,7 +56,8 @@ books_no_step setting w replies brick books =
 books_known : (setting : Setting) (w : World) (replies : Replies) (brick : BrickId) (known : ℕ) → Books setting w → (w.nodes brick.0).known ≤ known
     → Books setting (stepped w replies brick (no_step (with_known (w.nodes brick.0) known)))
 books_known setting w replies brick known books grows =
-    books_nothing setting w replies brick (with_known (w.nodes brick.0) known) [] books (record { boot = refl; seq = refl; known = grows }) (λ l. refl)
+    books_nothing setting w replies brick (with_known (w.nodes brick.0) known) [] books (record { boot = refl; seq = refl; known = grows })
+    (λ l. refl)
 
 -- a request
 books_requested_at : (setting : Setting) (w : World) (replies : Replies) (me from : BrickId) (call : Call) (request : Request) (seat : Option ℕ)
@@ -132,7 +133,8 @@ round_next fresh c d fits within = by fits.how
     call : d.call.phase ≡ c.call.phase + 1
     call = ap (λ (x : Call). x.phase) fits.call
 
-    recovers : (r : RecoversFits c d) → ((c.phase ≡ Looks) × (d.phase ≡ Recovers)) ⊎ ((bound : Stamp) × (d.phase ≡ Descends bound)) → InRound d d.phase
+    recovers : (r : RecoversFits c d) → ((c.phase ≡ Looks) × (d.phase ≡ Recovers)) ⊎ ((bound : Stamp) × (d.phase ≡ Descends bound))
+        → InRound d d.phase
     recovers r (inl (was, now)) =
         let first : (c.call.phase ≡ 1) × (c.round ≡ 1) = subst (λ (x : Phase). InRound c x) was within in
         subst (λ (x : Phase). InRound d x) (sym now)
@@ -225,7 +227,8 @@ module _ (setting : Setting) (group : Group) (w : World) (replies : Replies) (me
   -- the stamp that an operation has stays its own
   stamp_stays : (time : ℕ) (d : Option Coordinator) (t : Stamp) → t ≡ c.stamp → node.known ≤ time
       → IsBookedStamp (put w.nodes i (with_call node time node.busy k d) i).known mine.operation t
-  stamp_stays time d t same later = subst (λ (x : Stamp). IsBookedStamp (put w.nodes i (with_call node time node.busy k d) i).known mine.operation x) (sym same)
+  stamp_stays time d t same later = subst (λ (x : Stamp). IsBookedStamp (put w.nodes i (with_call node time node.busy k d) i).known mine.operation x)
+      (sym same)
       (subst (λ (x : ℕ). IsBookedStamp x mine.operation c.stamp) (own_known time node.busy d) (record {
         brick = mine.stamp_brick;
         view = mine.stamp_view;
@@ -258,7 +261,8 @@ module _ (setting : Setting) (group : Group) (w : World) (replies : Replies) (me
   rounds_sends d (inr goes) = subst (λ (x : ℕ). (1 ≤ x) × (x ≤ most_rounds)) (sym goes.round) mine.rounds
 
   -- what a brick does with what its coordinator decided
-  books_carried_out : (next : Next) → NextFits fresh then' next → Books setting (stepped w replies me (carried_out setting group me node known c next))
+  books_carried_out : (next : Next) → NextFits fresh then' next
+      → Books setting (stepped w replies me (carried_out setting group me node known c next))
   books_carried_out Ignores fits = absurd fits
   books_carried_out (Waits d) fits =
       books_turned setting w i k c d mine.operation mine.operation (put w.nodes i (with_call node known node.busy k (Some d))) (w.packets ++ [])
@@ -381,7 +385,8 @@ books_counted_at setting w replies me now from reply c group None books is_call 
 books_counted_at setting w replies me now from reply c group (Some seat) books is_call =
     let known = known_after (w.nodes me.0).known reply in
     let fresh = fresh_stamp me now (w.nodes me.0).boot known in
-    books_carried_out setting group w replies me now known c (with_reply c seat from reply).counted books is_call (known_grows (w.nodes me.0).known reply)
+    books_carried_out setting group w replies me now known c (with_reply c seat from reply).counted books is_call
+    (known_grows (w.nodes me.0).known reply)
     (once_full setting.code group fresh (with_reply c seat from reply)) (once_full_fits setting.code group fresh (with_reply c seat from reply))
 
 books_replied_to : (setting : Setting) (w : World) (replies : Replies) (me : BrickId) (now : ℕ) (from : BrickId) (call : Call) (reply : Reply)
@@ -409,7 +414,8 @@ books_replied setting w replies me now from call reply books =
     books_replied_at setting w replies me now from call reply ((w.nodes me.0).calls call.seq) books refl
 
 -- a message
-books_received : (setting : Setting) (w : World) (replies : Replies) (me : BrickId) (now : ℕ) (from to : BrickId) (message : Message) → Books setting w
+books_received : (setting : Setting) (w : World) (replies : Replies) (me : BrickId) (now : ℕ) (from to : BrickId) (message : Message)
+    → Books setting w
     → Books setting (stepped w replies me (received setting me now (w.nodes me.0) (record { from = from; to = to; message = message })))
 unfolding received
 books_received setting w replies me now from to (Message.Request call request) books = books_requested setting w replies me from call request books
@@ -452,16 +458,19 @@ pub record BeginFits (setting : Setting) (ask : Ask) : Type 0 where
 pub begin_fits : (setting : Setting) (w : World) (brick : BrickId) (ask : Ask) → may_begin setting w brick ask ≡ true → BeginFits setting ask
 unfolding refusal_of
 begin_fits setting w brick ask may =
-    let both = and_parts (is_up setting.layout w brick) (is_stripe_op ask.op && not (is_some (refusal_of setting.layout (w.nodes brick.0) ask))) may in
+    let both = and_parts (is_up setting.layout w brick)
+    (is_stripe_op ask.op && not (is_some (refusal_of setting.layout (w.nodes brick.0) ask))) may in
     let rest = and_parts (is_stripe_op ask.op) (not (is_some (refusal_of setting.layout (w.nodes brick.0) ask))) both.1 in
-    let none : refusal_of setting.layout (w.nodes brick.0) ask ≡ None = no_value (refusal_of setting.layout (w.nodes brick.0) ask) (not-true _ rest.1) in
+    let none : refusal_of setting.layout (w.nodes brick.0) ask ≡ None = no_value (refusal_of setting.layout (w.nodes brick.0) ask)
+    (not-true _ rest.1) in
     let fits = not_refused setting.layout.block (w.nodes brick.0) ask (group_of setting.layout ask.group.0) none in
     record { group = fits.0; group_is = fits.1; is_stripe_op = rest.0; stripe = fits.2; length_fits = fits.3 }
 
 -- it begins at a brick that is up
 pub begin_up : (setting : Setting) (w : World) (brick : BrickId) (ask : Ask) → may_begin setting w brick ask ≡ true → w.up brick.0 ≡ true
 begin_up setting w brick ask may =
-    let both = and_parts (is_up setting.layout w brick) (is_stripe_op ask.op && not (is_some (refusal_of setting.layout (w.nodes brick.0) ask))) may in
+    let both = and_parts (is_up setting.layout w brick)
+    (is_stripe_op ask.op && not (is_some (refusal_of setting.layout (w.nodes brick.0) ask))) may in
     (and_parts (is_brick setting.layout brick) (w.up brick.0) both.0).1
 
 -- an invocation
@@ -470,7 +479,8 @@ books_invoked : (setting : Setting) (w : World) (brick : BrickId) (now : ℕ) (a
 unfolding invoked
 books_invoked setting w brick now ask books may =
     let fits : BeginFits setting ask = begin_fits setting w brick ask may in
-    subst (λ (found : Option Group). Books setting (world_began w brick ask (began setting brick now (w.nodes brick.0) ask found))) (sym fits.group_is)
+    subst (λ (found : Option Group). Books setting (world_began w brick ask (began setting brick now (w.nodes brick.0) ask found)))
+    (sym fits.group_is)
     (books_began setting w brick now ask fits.group books fits.is_stripe_op fits.group_is fits.stripe
     (begin_up setting w brick ask may) fits.length_fits)
 
@@ -527,7 +537,8 @@ start_fits setting w brick openings may =
 pub books_kept : (setting : Setting) (w : World) (event : Event) → Books setting w → Books setting (happens setting w event)
 unfolding happens
 books_kept setting w (Invokes brick ask) books =
-    cond_both (may_begin setting w brick ask) _ _ (λ (x : World). Books setting x) (λ may. books_invoked setting w brick (w.clocks brick.0) ask books may) (λ refused. books)
+    cond_both (may_begin setting w brick ask) _ _ (λ (x : World). Books setting x)
+    (λ may. books_invoked setting w brick (w.clocks brick.0) ask books may) (λ refused. books)
 books_kept setting w (Delivers number) books = books_delivered setting w (packet_of w.packets number) books
 books_kept setting w (Sets brick time) books =
     cond_both (is_brick setting.layout brick) _ _ (λ (x : World). Books setting x)

@@ -102,15 +102,20 @@ call_kept setting w later i k c books up boot number operation known stays begun
 pub number_at : (setting : Setting) (w : World) (n : ℕ) (o : Operation) → OperationBooks setting w n o → o.boot ≡ (w.nodes o.brick.0).boot
     → (i k : ℕ) → o.brick.0 ≡ i → o.seq ≡ k → n ≡ number_of w i k
 number_at setting w n o books present i k at seq =
-    sym books.number ∙ ap (λ (b : ℕ). w.numbers o.brick.0 b o.seq) present ∙ ap (λ (j : ℕ). number_of w j o.seq) at ∙ ap (λ (l : ℕ). number_of w i l) seq
+    sym books.number ∙ ap (λ (b : ℕ). w.numbers o.brick.0 b o.seq) present ∙ ap (λ (j : ℕ). number_of w j o.seq) at
+    ∙ ap (λ (l : ℕ). number_of w i l) seq
 
 -- two calls of one operation are one call
 pub calls_apart : (setting : Setting) (w : World) (i k j l : ℕ) (c d : Coordinator) → CallBooks setting w i k c → CallBooks setting w j l d
     → number_of w j l ≡ number_of w i k → (j ≡ i) × (l ≡ k)
 calls_apart setting w i k j l c d first second same =
-    let there : w.operations (number_of w i k) ≡ Some second.operation = subst (λ (n : ℕ). IsOperation w n second.operation) same second.operation_is in
-    let one : first.operation ≡ second.operation = same_Some first.operation second.operation (sym first.operation_is ∙ there) in
-    (sym second.brick ∙ ap (λ (o : Operation). o.brick.0) (sym one) ∙ first.brick, sym second.seq ∙ ap (λ (o : Operation). o.seq) (sym one) ∙ first.seq)
+    let there : w.operations (number_of w i k) ≡ Some second.operation = subst
+    (λ (n : ℕ). IsOperation w n second.operation) same second.operation_is in
+    let one : first.operation ≡ second.operation = same_Some first.operation second.operation (sym first.operation_is ∙ there) in (
+      sym second.brick ∙ ap (λ (o : Operation). o.brick.0) (sym one) ∙ first.brick,
+      sym second.seq ∙ ap (λ (o : Operation). o.seq) (sym one)
+          ∙ first.seq,
+    )
 
 -- this call, or another
 pub cases_call : (i k j l : ℕ) → ((j ≡ i) × (l ≡ k)) ⊎ (j ≡ i → l ≡ k → ⊥)

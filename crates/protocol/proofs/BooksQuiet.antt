@@ -60,7 +60,8 @@ books_quiet setting w nodes clocks packets replies books keeps calls =
     }
 
 -- a brick that is down is started again, its store having been opened so many times
-module _ (setting : Setting) (w : World) (brick : BrickId) (openings : ℕ) (books : Books setting w) (down : w.up brick.0 ≡ false) (once : 1 ≤ openings) where
+module _ (setting : Setting) (w : World) (brick : BrickId) (openings : ℕ) (books : Books setting w) (down : w.up brick.0 ≡ false)
+    (once : 1 ≤ openings) where
   abbrev i : ℕ
   i = brick.0
 
@@ -116,7 +117,8 @@ module _ (setting : Setting) (w : World) (brick : BrickId) (openings : ℕ) (boo
           let before : (w.nodes j).boot ≡ (w.nodes i).boot = ap (λ (x : ℕ). (w.nodes x).boot) mine in
           let old : b ≢ (later.nodes j).boot = λ same. omega arith in
           let past : later.past j b ≡ known_in w j b = ap (λ (x : ℕ). later.past x b) mine
-          ∙ ap (λ (f : ℕ → ℕ). f b) (put_same w.past i (put (w.past i) (w.nodes i).boot (w.nodes i).known)) ∙ ap (λ (x : ℕ). known_in w x b) (sym mine) in
+          ∙ ap (λ (f : ℕ → ℕ). f b) (put_same w.past i (put (w.past i) (w.nodes i).boot (w.nodes i).known)) ∙ ap (λ (x : ℕ). known_in w x b)
+          (sym mine) in
           let now : known_in later j b ≡ known_in w j b =
           ap (λ (t : Bool). if t then (later.nodes j).known else later.past j b) (ne_eqb b (later.nodes j).boot old) ∙ past in
           omega arith
@@ -166,7 +168,8 @@ module _ (setting : Setting) (w : World) (brick : BrickId) (openings : ℕ) (boo
     well_formed = books.well_formed;
     places = books.places;
     boots = λ j. ⊎_elim
-        (λ (mine : j ≡ i). let boot : (later.nodes j).boot ≡ (w.nodes i).boot + openings = ap (λ (x : ℕ). (later.nodes x).boot) mine ∙ own_boot in omega arith)
+        (λ (mine : j ≡ i). let boot : (later.nodes j).boot ≡ (w.nodes i).boot + openings = ap (λ (x : ℕ). (later.nodes x).boot) mine
+        ∙ own_boot in omega arith)
         (λ (other : j ≢ i). let boot : (later.nodes j).boot ≡ (w.nodes j).boot = ap (λ (x : Node). x.boot) (unstarted j other) in
         omega (arith, books.boots j))
         (cases_eq j i);

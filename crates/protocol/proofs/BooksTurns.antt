@@ -31,7 +31,8 @@ pub record IsBookedStamp (known : ℕ) (o : Operation) (t : Stamp) : Type 0 wher
   pub time : (1 ≤ t.time) × (t.time ≤ known)
 
 -- brick i's call k is at d in place of c, and its operation is o in place of what it was; all else is as before
-pub record Turned (w : World) (i k : ℕ) (c d : Coordinator) (before o : Operation) (nodes : ℕ → Node) (operations : ℕ → Option Operation) : Type 0 where
+pub record Turned (w : World) (i k : ℕ) (c d : Coordinator) (before o : Operation) (nodes : ℕ → Node)
+    (operations : ℕ → Option Operation) : Type 0 where
   pub was : IsCall w i k c
   pub operation_was : IsOperation w (number_of w i k) before
   pub same : SameOperation c d
@@ -179,7 +180,8 @@ module _ (setting : Setting) (w : World) (i k : ℕ) (c d : Coordinator) (before
     operations = λ n x is. ⊎_elim
         (λ (mine : n ≡ number_of w i k).
         let one : o ≡ x = same_Some o x (sym turned.operation_is ∙ ap operations (sym mine) ∙ is) in
-        subst (λ (m : ℕ). OperationBooks setting later m x) (sym mine) (subst (λ (y : Operation). OperationBooks setting later (number_of w i k) y) one own_books))
+        subst (λ (m : ℕ). OperationBooks setting later m x) (sym mine)
+        (subst (λ (y : Operation). OperationBooks setting later (number_of w i k) y) one own_books))
         (λ (other : n ≢ number_of w i k).
         let old : IsOperation w n x = sym (turned.other_operations n other) ∙ is in
         let mine : OperationBooks setting w n x = books.operations n x old in
@@ -189,7 +191,8 @@ module _ (setting : Setting) (w : World) (i k : ℕ) (c d : Coordinator) (before
         (cases_eq n (number_of w i k));
     calls = λ j l e is. ⊎_elim
         (λ (mine : (j ≡ i) × (l ≡ k)).
-        let at : (nodes i).calls k ≡ Some e = subst (λ (x : ℕ). (nodes x).calls k ≡ Some e) mine.0 (subst (λ (y : ℕ). (nodes j).calls y ≡ Some e) mine.1 is) in
+        let at : (nodes i).calls k ≡ Some e = subst (λ (x : ℕ). (nodes x).calls k ≡ Some e) mine.0
+        (subst (λ (y : ℕ). (nodes j).calls y ≡ Some e) mine.1 is) in
         let one : d ≡ e = same_Some d e (sym turned.call_is ∙ at) in
         subst (λ (x : ℕ). CallBooks setting later x l e) (sym mine.0) (subst (λ (y : ℕ). CallBooks setting later i y e) (sym mine.1)
         (subst (λ (y : Coordinator). CallBooks setting later i k y) one call_books)))

@@ -111,7 +111,8 @@ module _ (setting : Setting) (w : World) (g s : ℕ) (books : Books setting w) (
       → Contains (ascending (entries_to w.operations g s w.begun)) (entry_of n o t)
   has_entry n o t is of version =
       let mine : OperationBooks setting w n o = books.operations n o is in
-      Contains-permutation (entries_to w.operations g s w.begun) entries (entry_of n o t) (ascending_permutation (entries_to w.operations g s w.begun))
+      Contains-permutation (entries_to w.operations g s w.begun) entries (entry_of n o t)
+      (ascending_permutation (entries_to w.operations g s w.begun))
       (entries_have w.operations g s w.begun n o t mine.from_one mine.begun is of version)
 
   -- an operation of the stripe is of its group and number
@@ -128,7 +129,8 @@ module _ (setting : Setting) (w : World) (g s : ℕ) (books : Books setting w) (
   maker_facts e mine maker = facts.maker e.operation mine.operation e.stamp mine.is (maker_made e mine maker) mine.version
 
   -- two makers of one version are one operation
-  pub one_maker : (a b : Entry) → Contains (ascending (entries_to w.operations g s w.begun)) a → Contains (ascending (entries_to w.operations g s w.begun)) b
+  pub one_maker : (a b : Entry) → Contains (ascending (entries_to w.operations g s w.begun)) a
+      → Contains (ascending (entries_to w.operations g s w.begun)) b
       → a.reader ≡ false → b.reader ≡ false → a.stamp ≡ b.stamp → a.operation ≡ b.operation
   one_maker a b a_has b_has a_maker b_maker same =
       let first : IsOurs a = ours a a_has in
@@ -236,7 +238,8 @@ module _ (setting : Setting) (w : World) (g s : ℕ) (books : Books setting w) (
         answered = sym (ap (λ (o : Option Operation). was_answered o) mine.is) ∙ answered;
       })
       entries entries_ours)
-      (All-weaker (Contains entries) (λ (e : Entry). e.reader ≡ false → base e.stamp ≡ base_of (w.operations e.operation)) (λ e has maker. base_is e has maker)
+      (All-weaker (Contains entries) (λ (e : Entry). e.reader ≡ false → base e.stamp ≡ base_of (w.operations e.operation))
+      (λ e has maker. base_is e has maker)
       entries (All-contains_itself entries))).0
 
   -- a version above the first, made by an operation of the stripe
@@ -248,7 +251,8 @@ module _ (setting : Setting) (w : World) (g s : ℕ) (books : Books setting w) (
     pub made : operation.made ≡ true
     pub version : operation.version ≡ Some t
 
-  made_or_first : (group stripe : ℕ) (t : Stamp) → group ≡ g → stripe ≡ s → stamp_below first_stamp t ≡ true → IsMadeOrFirst w group stripe t → MadeVersion t
+  made_or_first : (group stripe : ℕ) (t : Stamp) → group ≡ g → stripe ≡ s → stamp_below first_stamp t ≡ true → IsMadeOrFirst w group stripe t
+      → MadeVersion t
   made_or_first group stripe t at_group at_stripe above (inl first) =
       absurd (both_ways (stamp_below first_stamp first_stamp) (stamp_below_irrefl first_stamp)
       (subst (λ (x : Stamp). stamp_below first_stamp x ≡ true) first above))
@@ -356,7 +360,8 @@ module _ (setting : Setting) (w : World) (g s : ℕ) (books : Books setting w) (
       (λ (other : j ≡ k + 1 → ⊥).
       both_ways (stamp_below b t)
       (subst (λ (x : Stamp). stamp_below x t ≡ false) here
-      (subst (λ (x : Stamp). stamp_below (get_or effect.versions j first_stamp) x ≡ false) at_t (pairs (k + 1) j first_stamp (omega arith) (omega arith))))
+      (subst (λ (x : Stamp). stamp_below (get_or effect.versions j first_stamp) x ≡ false) at_t
+      (pairs (k + 1) j first_stamp (omega arith) (omega arith))))
       below)
       (cases_eq j (k + 1)))
       (cases_lt j (k + 1))
@@ -377,7 +382,8 @@ module _ (setting : Setting) (w : World) (g s : ℕ) (books : Books setting w) (
       (cases_Bool (stamp_below b u)) in
       let not_over : stamp_below u b ≡ false = ⊎_elim
       (λ (over : stamp_below u b ≡ true).
-      absurd (none_between_neighbours k u t b inside at_u at_t (complete b (BaseOf t b upper is) (above_first u b over)) over (base_facts.below t b is)))
+      absurd (none_between_neighbours k u t b inside at_u at_t (complete b (BaseOf t b upper is) (above_first u b over)) over
+      (base_facts.below t b is)))
       (λ (isnt : stamp_below u b ≡ false). isnt)
       (cases_Bool (stamp_below u b)) in
       stamp_neither_below b u not_under not_over

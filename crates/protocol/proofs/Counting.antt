@@ -22,7 +22,8 @@ each_then P Q [] then each = tt
 each_then P Q (x ∷ counted) then each = (then x each.0, each_then P Q counted then each.1)
 
 -- two facts of each
-pub each_both : (P Q : Counted → Type 0) (counted : List Counted) → EachCounted P counted → EachCounted Q counted → EachCounted (λ x. P x × Q x) counted
+pub each_both : (P Q : Counted → Type 0) (counted : List Counted) → EachCounted P counted → EachCounted Q counted
+    → EachCounted (λ x. P x × Q x) counted
 each_both P Q [] p q = tt
 each_both P Q (x ∷ counted) p q = ((p.0, q.0), each_both P Q counted p.1 q.1)
 
@@ -32,7 +33,8 @@ each_more P [] x each here = (here, tt)
 each_more P (y ∷ counted) x each here = (each.0, each_more P counted x each.1 here)
 
 -- the seats with one more reply
-has_more : (k : ℕ) (counted : List Counted) (x : Counted) → has_seat k counted ≡ false → nat_eq x.seat k ≡ false → has_seat k (counted ++ (x ∷ [])) ≡ false
+has_more : (k : ℕ) (counted : List Counted) (x : Counted) → has_seat k counted ≡ false → nat_eq x.seat k ≡ false
+    → has_seat k (counted ++ (x ∷ [])) ≡ false
 has_more k [] x isnt other = or_from (nat_eq x.seat k) false other refl
 has_more k (y ∷ counted) x isnt other =
     let parts = or_parts (nat_eq y.seat k) (has_seat k counted) isnt in
@@ -63,11 +65,13 @@ same_seat a b = ⊎_elim
     (cases_eq a b)
 
 -- the seats are as many as the replies
-count_seats : (n : ℕ) (counted : List Counted) → EachCounted (λ x. x.seat < n) counted → AreOnce counted → count n (λ k. has_seat k counted) ≡ length counted
+count_seats : (n : ℕ) (counted : List Counted) → EachCounted (λ x. x.seat < n) counted → AreOnce counted
+    → count n (λ k. has_seat k counted) ≡ length counted
 count_seats n [] within once = count_empty n (λ k. has_seat k []) (λ k below. refl)
 count_seats n (x ∷ counted) within once =
     let more : count n (λ k. has_seat k (x ∷ counted)) ≡ count n (with_seat x.seat (λ k. has_seat k counted))
-    = count_same n (λ k. has_seat k (x ∷ counted)) (with_seat x.seat (λ k. has_seat k counted)) (λ k below. ap (λ b. b || has_seat k counted) (same_seat x.seat k)) in
+    = count_same n (λ k. has_seat k (x ∷ counted)) (with_seat x.seat (λ k. has_seat k counted))
+    (λ k below. ap (λ b. b || has_seat k counted) (same_seat x.seat k)) in
     let one : count n (with_seat x.seat (λ k. has_seat k counted)) ≡ count n (λ k. has_seat k counted) + 1
     = count_with_seat n x.seat (λ k. has_seat k counted) within.0 once.0 in
     let rest : count n (λ k. has_seat k counted) ≡ length counted = count_seats n counted within.1 once.1 in
@@ -104,7 +108,8 @@ each_filter P test (x ∷ counted) each =
     (λ isnt. each_filter P test counted each.1)
 
 -- a seat with no reply has none among those that pass a test
-none_filter : (seat : ℕ) (test : Counted → Bool) (counted : List Counted) → has_seat seat counted ≡ false → has_seat seat (filter test counted) ≡ false
+none_filter : (seat : ℕ) (test : Counted → Bool) (counted : List Counted) → has_seat seat counted ≡ false
+    → has_seat seat (filter test counted) ≡ false
 none_filter seat test [] isnt = isnt
 none_filter seat test (x ∷ counted) isnt =
     let parts = or_parts (nat_eq x.seat seat) (has_seat seat counted) isnt in
@@ -129,13 +134,18 @@ TellsAtMost v (Some u) = stamp_below v u ≡ false
 greatest_each : (counted : List Counted) (v : Stamp) → ((u : Stamp) → greatest_found counted ≡ Some u → stamp_below v u ≡ false)
     → EachCounted (λ x. TellsAtMost v (told_stamp x.reply)) counted
 greatest_each [] v most = tt
-greatest_each (x ∷ counted) v most = (here (told_stamp x.reply) (greatest_found counted) most, greatest_each counted v (λ u is. there (told_stamp x.reply) u (λ z e. most z (ap (greater_stamp (told_stamp x.reply)) is ∙ e))))
+greatest_each (x ∷ counted) v most = (
+  here (told_stamp x.reply) (greatest_found counted) most,
+  greatest_each counted v
+      (λ u is. there (told_stamp x.reply) u (λ z e. most z (ap (greater_stamp (told_stamp x.reply)) is ∙ e))),
+)
   where
     here : (a b : Option Stamp) → ((u : Stamp) → greater_stamp a b ≡ Some u → stamp_below v u ≡ false) → TellsAtMost v a
     here None b h = tt
     here (Some a) None h = h a refl
     here (Some a) (Some b) h =
-        cond_both (stamp_below a b) (Some b) (Some a) (λ (z : Option Stamp). ((u : Stamp) → z ≡ Some u → stamp_below v u ≡ false) → stamp_below v a ≡ false)
+        cond_both (stamp_below a b) (Some b) (Some a) (λ (z : Option Stamp). ((u : Stamp) → z ≡ Some u → stamp_below v u ≡ false)
+        → stamp_below v a ≡ false)
         (λ less g. stamp_not_below_trans a b v (stamp_below_asym a b less) (g b refl))
         (λ above g. g a refl)
         h
@@ -143,22 +153,26 @@ greatest_each (x ∷ counted) v most = (here (told_stamp x.reply) (greatest_foun
     there : (a : Option Stamp) (b : Stamp) → ((u : Stamp) → greater_stamp a (Some b) ≡ Some u → stamp_below v u ≡ false) → stamp_below v b ≡ false
     there None b h = h b refl
     there (Some a) b h =
-        cond_both (stamp_below a b) (Some b) (Some a) (λ (z : Option Stamp). ((u : Stamp) → z ≡ Some u → stamp_below v u ≡ false) → stamp_below v b ≡ false)
+        cond_both (stamp_below a b) (Some b) (Some a) (λ (z : Option Stamp). ((u : Stamp) → z ≡ Some u → stamp_below v u ≡ false)
+        → stamp_below v b ≡ false)
         (λ less g. g b refl)
         (λ above g. stamp_not_below_trans b a v above (g a refl))
         h
 
 -- each reply tells at most the greatest version found
-pub found_most : (counted : List Counted) (v : Stamp) → greatest_found counted ≡ Some v → EachCounted (λ x. TellsAtMost v (told_stamp x.reply)) counted
+pub found_most : (counted : List Counted) (v : Stamp) → greatest_found counted ≡ Some v
+    → EachCounted (λ x. TellsAtMost v (told_stamp x.reply)) counted
 found_most counted v is =
-    greatest_each counted v (λ u e. let same : v ≡ u = same_Some v u (sym is ∙ e) in subst (λ (z : Stamp). stamp_below v z ≡ false) same (stamp_below_irrefl v))
+    greatest_each counted v (λ u e. let same : v ≡ u = same_Some v u (sym is ∙ e) in subst (λ (z : Stamp). stamp_below v z ≡ false) same
+    (stamp_below_irrefl v))
 
 -- one of two stamps is the greater
 greater_stamp_one : (a b : Option Stamp) (v : Stamp) → greater_stamp a b ≡ Some v → (a ≡ Some v) ⊎ (b ≡ Some v)
 greater_stamp_one None b v is = inr is
 greater_stamp_one (Some a) None v is = inl is
 greater_stamp_one (Some a) (Some b) v is =
-    cond_both (stamp_below a b) (Some b) (Some a) (λ (z : Option Stamp). z ≡ Some v → (Some a ≡ Some v) ⊎ (Some b ≡ Some v)) (λ less e. inr e) (λ above e. inl e) is
+    cond_both (stamp_below a b) (Some b) (Some a) (λ (z : Option Stamp). z ≡ Some v → (Some a ≡ Some v) ⊎ (Some b ≡ Some v)) (λ less e. inr e)
+    (λ above e. inl e) is
 
 -- one of the replies tells the greatest version found
 pub found_one : (P : Counted → Type 0) (counted : List Counted) (v : Stamp) → EachCounted P counted → greatest_found counted ≡ Some v
@@ -195,7 +209,8 @@ all_tell_each v (x ∷ counted) is =
     let parts = and_parts (tells v x.reply) (all_tell v counted) is in
     (tells_version v x.reply parts.0, all_tell_each v counted parts.1)
 
-told_each : (o : Option Stamp) (v : Stamp) (counted : List Counted) → told_by_all o counted ≡ Some v → EachCounted (λ x. TellsVersion v x.reply) counted
+told_each : (o : Option Stamp) (v : Stamp) (counted : List Counted) → told_by_all o counted ≡ Some v
+    → EachCounted (λ x. TellsVersion v x.reply) counted
 told_each None v counted is = cc
 told_each (Some u) v counted is =
     cond_both (all_tell u counted) (Some u) None
@@ -337,14 +352,16 @@ pieces_distinct [] once = tt
 pieces_distinct (x ∷ counted) once = (not_among counted x.seat once.0, pieces_distinct counted once.1)
 
 -- a piece is that of a reply
-piece_reply : (P : Counted → Type 0) (counted : List Counted) (k : ℕ) (piece : Piece) → EachCounted P counted → slice_get (pieces_of counted) k ≡ Some piece
+piece_reply : (P : Counted → Type 0) (counted : List Counted) (k : ℕ) (piece : Piece) → EachCounted P counted
+    → slice_get (pieces_of counted) k ≡ Some piece
     → (x : Counted) × P x × (piece ≡ record { seat = x.seat; bytes = found_bytes x.reply })
 piece_reply P [] k piece each is = cc
 piece_reply P (x ∷ counted) zero piece each is = (x, each.0, cc)
 piece_reply P (x ∷ counted) (suc k) piece each is = piece_reply P counted k piece each.1 is
 
 -- replies that tell blocks of one content are pieces of it
-pub are_pieces : (code : Code) (m n : ℕ) (content : List ℕ) (counted : List Counted) → EachCounted (IsPieceOf code m n content) counted → AreOnce counted
+pub are_pieces : (code : Code) (m n : ℕ) (content : List ℕ) (counted : List Counted) → EachCounted (IsPieceOf code m n content) counted
+    → AreOnce counted
     → ArePiecesOf code m n content (pieces_of counted)
 are_pieces code m n content counted each once = record {
   distinct = pieces_distinct counted once;

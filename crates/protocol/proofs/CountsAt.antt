@@ -16,7 +16,8 @@ call_is : (a : Call) → a ≡ call_of a.boot a.seq a.phase a.group.0 a.view.0 a
 unfolding call_of
 call_is a = refl
 
-call_from : (a b : Call) → a.boot ≡ b.boot → a.seq ≡ b.seq → a.phase ≡ b.phase → a.group.0 ≡ b.group.0 → a.view.0 ≡ b.view.0 → a.stripe.0 ≡ b.stripe.0 → a ≡ b
+call_from : (a b : Call) → a.boot ≡ b.boot → a.seq ≡ b.seq → a.phase ≡ b.phase → a.group.0 ≡ b.group.0 → a.view.0 ≡ b.view.0 → a.stripe.0 ≡ b.stripe.0
+    → a ≡ b
 call_from a b boot seq phase group view stripe =
     call_is a
     ∙ (let e : call_of a.boot a.seq a.phase a.group.0 a.view.0 a.stripe.0 ≡ call_of b.boot b.seq b.phase b.group.0 b.view.0 b.stripe.0 = cc in e)
@@ -54,7 +55,8 @@ pub counts_facts : (block : ℕ) (group : Group) (c : Coordinator) (from : ℕ) 
     → counts_at block group c from call reply ≡ Some seat → CountsAt block group c from call reply seat
 unfolding counts_at
 counts_facts block group c from call reply seat is =
-    cond_both (call_same call c.call && (answers_phase block c.stamp c.phase reply && nat_lt c.call.phase (2 ^ 32 - 1))) (new_seat c.counted (seat_in group.members from)) None
+    cond_both (call_same call c.call && (answers_phase block c.stamp c.phase reply && nat_lt c.call.phase (2 ^ 32 - 1)))
+    (new_seat c.counted (seat_in group.members from)) None
     (λ (z : Option ℕ). z ≡ Some seat → CountsAt block group c from call reply seat)
     (λ test e.
     let p = and_parts (call_same call c.call) (answers_phase block c.stamp c.phase reply && nat_lt c.call.phase (2 ^ 32 - 1)) test in

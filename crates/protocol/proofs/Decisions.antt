@@ -59,7 +59,8 @@ found_at setting w j i call o order version is says =
       block = λ its seat its_is at.
           says.says.block its seat (ap (group_of setting.layout) (sym group) ∙ its_is) at
           ∙ ap (λ content. setting.code.encode its.m content seat)
-          (ap (λ (g : ℕ). w.contents g call.stripe.0 version.stamp) (sym group) ∙ ap (λ (s : ℕ). w.contents o.ask.group.0 s version.stamp) (sym stripe));
+          (ap (λ (g : ℕ). w.contents g call.stripe.0 version.stamp) (sym group) ∙ ap (λ (s : ℕ). w.contents o.ask.group.0 s version.stamp)
+          (sym stripe));
     }
 
 -- a reply that neither refuses what it was asked, nor tells that a store is full
@@ -121,7 +122,8 @@ found_by block t bound phase x looks answers allows = ⊎_elim
     descends reply e answers allows = absurd (false≢true answers)
 
 -- a version that may be found is below the bound
-found_below : (block : ℕ) (bound : Stamp) (version : Version) → may_be_found block bound (Some version) ≡ true → stamp_below version.stamp bound ≡ true
+found_below : (block : ℕ) (bound : Stamp) (version : Version) → may_be_found block bound (Some version) ≡ true
+    → stamp_below version.stamp bound ≡ true
 found_below block bound version may = (and_parts (nat_eq (length version.block) block) (stamp_below version.stamp bound) may).1
 
 -- a recovery's stamp and bound are those of its phase
@@ -234,7 +236,8 @@ module _ (setting : Setting) (sound : IsSound setting) (w : World) (stamps : Sta
   pub promises_floors : EachCounted PromisesAt counted → FloorsAtMost its_operation group c.stamp
   promises_floors all =
       at_quorum group counted (λ seat. not (stamp_below c.stamp (its_operation.floor (brick_at group seat))))
-      (each_then PromisesAt (λ x. (x.seat < length group.members) × (not (stamp_below c.stamp (its_operation.floor (brick_at group x.seat))) ≡ true)) counted
+      (each_then PromisesAt (λ x. (x.seat < length group.members)
+      × (not (stamp_below c.stamp (its_operation.floor (brick_at group x.seat))) ≡ true)) counted
       (λ x h. (h.within, not_from_false _ h.floor)) all)
       once many
 
@@ -271,11 +274,17 @@ module _ (setting : Setting) (sound : IsSound setting) (w : World) (stamps : Sta
       = subst (λ (r : Reply). ReplySays setting w stamps x.brick (record { 0 = me.0 }) c.call r)
       (write_answered setting.layout.block c.stamp x answers allows) (counted_says x says) in
       let writes : WriteSays setting w stamps me.0 x.brick.0 c.call told.0 told.1
-      = said.packets told.2.0 (record { from = record { 0 = me.0 }; to = x.brick; message = Message.Request c.call (Request.Write told.0 told.1) }) told.2.1 in
+      = said.packets told.2.0 (record {
+        from = record { 0 = me.0 };
+        to = x.brick;
+        message = Message.Request c.call
+            (Request.Write told.0 told.1);
+      }) told.2.1 in
       let same : told.0 ≡ c.stamp
       = (begun_once stamps me.0 c.call.boot c.call.seq c.call.phase Stores c.phase told.0 c.stamp writes.begun its_begun).1 in (
         (seat_fits x says).0,
-        subst (λ (t : Stamp). is_held t (part_at x.seat).log ≡ true) same (at_seat (λ g s j. is_held told.0 (part_of w g s j).log ≡ true) x says told.3),
+        subst (λ (t : Stamp). is_held t (part_at x.seat).log ≡ true) same
+            (at_seat (λ g s j. is_held told.0 (part_of w g s j).log ≡ true) x says told.3),
       )
 
   -- a version that a quorum stored stands
@@ -283,7 +292,8 @@ module _ (setting : Setting) (sound : IsSound setting) (w : World) (stamps : Sta
       → AtQuorum group (λ seat. is_held c.stamp (part_at seat).log)
   stored_stands stores none roomy =
       at_quorum group counted (λ seat. is_held c.stamp (part_at seat).log)
-      (each_then (λ x. CountedSays setting w me.0 c x × Allows x) (λ x. (x.seat < length group.members) × (is_held c.stamp (part_at x.seat).log ≡ true))
+      (each_then (λ x. CountedSays setting w me.0 c x × Allows x) (λ x. (x.seat < length group.members)
+      × (is_held c.stamp (part_at x.seat).log ≡ true))
       counted (λ x h. stored_seat stores x h.0 h.1) (each_allows none roomy))
       once many
 
@@ -313,7 +323,8 @@ module _ (setting : Setting) (sound : IsSound setting) (w : World) (stamps : Sta
             (subst (λ (b : Stamp). (d : Stamp) → is_held d (part_of w c.call.group.0 c.call.stripe.0 x.brick.0).log ≡ true → stamp_below d b ≡ true
             → IsWithin answer.0 d) same.1 told.newest);
         below = λ version is.
-            found_below setting.layout.block bound version (subst (λ (z : Option Version). may_be_found setting.layout.block bound z ≡ true) is answer.2);
+            found_below setting.layout.block bound version
+            (subst (λ (z : Option Version). may_be_found setting.layout.block bound z ≡ true) is answer.2);
         made = λ version is. of_stripe (λ g s. IsMadeOrFirst w g s version.stamp) (told.says version is).made;
         block = λ version is.
             of_stripe (λ g s. version.block ≡ setting.code.encode group.m (w.contents g s version.stamp) x.seat)
@@ -324,7 +335,8 @@ module _ (setting : Setting) (sound : IsSound setting) (w : World) (stamps : Sta
   pub all_read : (bound : Stamp) → LooksBelow c bound → greatest_refuser counted ≡ None → lowest_full counted ≡ None
       → EachCounted (ReadsAt bound) counted
   all_read bound looks none roomy =
-      each_then (λ x. CountedSays setting w me.0 c x × Allows x) (ReadsAt bound) counted (λ x h. read_seat bound looks x h.0 h.1) (each_allows none roomy)
+      each_then (λ x. CountedSays setting w me.0 c x × Allows x) (ReadsAt bound) counted (λ x h. read_seat bound looks x h.0 h.1)
+      (each_allows none roomy)
 
   -- what a reply that tells version v shows
   record TellsAt (v : Stamp) (x : Counted) : Type 0 where
@@ -355,7 +367,8 @@ module _ (setting : Setting) (sound : IsSound setting) (w : World) (stamps : Sta
         floor = subst (λ (j : ℕ). stamp_below v (its_operation.floor j) ≡ false) (sym brick)
             (stamp_not_below_trans (its_operation.floor x.brick.0) most v at.floor below);
         held = subst (λ (t : Stamp). is_held t (part_at x.seat).log ≡ true) tells.stamp
-            (subst (λ (j : ℕ). is_held tells.version.stamp (part_of w its_operation.ask.group.0 its_operation.ask.stripe.0 j).log ≡ true) (sym brick) at.held);
+            (subst (λ (j : ℕ). is_held tells.version.stamp (part_of w its_operation.ask.group.0 its_operation.ask.stripe.0 j).log ≡ true)
+            (sym brick) at.held);
         made = subst (λ (t : Stamp). IsMadeOrFirst w its_operation.ask.group.0 its_operation.ask.stripe.0 t) tells.stamp at.made;
         block = ap found_bytes tells.reply_is
             ∙ at.block group x.seat its_group (says.seat group group_is)
@@ -370,7 +383,8 @@ module _ (setting : Setting) (sound : IsSound setting) (w : World) (stamps : Sta
   -- a version that may be answered at once is guarded
   pub fast_guards : (v : Stamp) → fast_version counted ≡ Some v → IsGuarded w its_operation.ask.group.0 its_operation.ask.stripe.0 group v
   fast_guards v fast =
-      at_quorum group counted (λ seat. not (stamp_below (top_of (part_of w its_operation.ask.group.0 its_operation.ask.stripe.0 (brick_at group seat))) v))
+      at_quorum group counted (λ seat. not (stamp_below
+      (top_of (part_of w its_operation.ask.group.0 its_operation.ask.stripe.0 (brick_at group seat))) v))
       (each_then (TellsAt v)
       (λ x. (x.seat < length group.members)
       × (not (stamp_below (top_of (part_of w its_operation.ask.group.0 its_operation.ask.stripe.0 (brick_at group x.seat))) v) ≡ true))
@@ -381,7 +395,8 @@ module _ (setting : Setting) (sound : IsSound setting) (w : World) (stamps : Sta
   pub fast_stands : (v : Stamp) → fast_version counted ≡ Some v → AtQuorum group (λ seat. is_held v (part_at seat).log)
   fast_stands v fast =
       at_quorum group counted (λ seat. is_held v (part_at seat).log)
-      (each_then (TellsAt v) (λ x. (x.seat < length group.members) × (is_held v (part_at x.seat).log ≡ true)) counted (λ x h. (h.within, h.held)) (all_tell_at v fast))
+      (each_then (TellsAt v) (λ x. (x.seat < length group.members) × (is_held v (part_at x.seat).log ≡ true)) counted (λ x h. (h.within, h.held))
+      (all_tell_at v fast))
       once many
 
   -- and is at or above the floors of a quorum
@@ -398,7 +413,8 @@ module _ (setting : Setting) (sound : IsSound setting) (w : World) (stamps : Sta
   unfolding fast_version
   fast_made v fast = made_of counted fast (all_tell_at v fast)
     where
-      made_of : (l : List Counted) → fast_version l ≡ Some v → EachCounted (TellsAt v) l → IsMadeOrFirst w its_operation.ask.group.0 its_operation.ask.stripe.0 v
+      made_of : (l : List Counted) → fast_version l ≡ Some v → EachCounted (TellsAt v) l
+          → IsMadeOrFirst w its_operation.ask.group.0 its_operation.ask.stripe.0 v
       made_of [] is_fast all = cc
       made_of (x ∷ l) is_fast all = all.0.made
 
@@ -429,7 +445,8 @@ module _ (setting : Setting) (sound : IsSound setting) (w : World) (stamps : Sta
       (w.contents its_operation.ask.group.0 its_operation.ask.stripe.0 v) (pieces_of counted)
       (content_formed v (fast_made v fast)).0 (content_formed v (fast_made v fast)).1
       (are_pieces setting.code group.m (length group.members) (w.contents its_operation.ask.group.0 its_operation.ask.stripe.0 v) counted
-      (each_then (TellsAt v) (IsPieceOf setting.code group.m (length group.members) (w.contents its_operation.ask.group.0 its_operation.ask.stripe.0 v)) counted
+      (each_then (TellsAt v) (IsPieceOf setting.code group.m (length group.members)
+      (w.contents its_operation.ask.group.0 its_operation.ask.stripe.0 v)) counted
       (λ x h. (h.within, h.block)) (all_tell_at v fast))
       once)
       (omega arith)

@@ -47,7 +47,11 @@ needs_cases : (r : Bool) (t : Stamp) (b : Option Stamp) (u : Stamp) → Contains
 needs_cases true t b u has = inl (refl, ⊎_elim (λ (here : t ≡ u). here) (λ (rest : Contains [] u). absurd (has_none u rest)) (has_cases t [] u has))
 needs_cases false t None u has = absurd (has_none u has)
 needs_cases false t (Some b) u has =
-    inr (refl, ap (λ (x : Stamp). Some x) (⊎_elim (λ (here : b ≡ u). here) (λ (rest : Contains [] u). absurd (has_none u rest)) (has_cases b [] u has)))
+    inr (
+      refl,
+      ap (λ (x : Stamp). Some x) (⊎_elim (λ (here : b ≡ u). here) (λ (rest : Contains [] u). absurd (has_none u rest))
+          (has_cases b [] u has)),
+    )
 
 needs_all : (P : Stamp → Type 0) (r : Bool) (t : Stamp) (b : Option Stamp) → (r ≡ true → P t) → ((u : Stamp) → r ≡ false → b ≡ Some u → P u)
     → All P (cond r (t ∷ []) (option_to_list b))
@@ -76,7 +80,8 @@ is_effective o e above = was_answered o || is_among e.stamp above.needed
 
 grows_with : (o : Option Operation) (e : Entry) (above : Effect) → Grows above (with_effective o e above)
 grows_with o e above = record {
-  told = λ x has. cond_both (is_told o) (e ∷ above.told) above.told (λ (l : List Entry). Contains l x) (λ is. has_behind e above.told x has) (λ isnt. has);
+  told = λ x has. cond_both (is_told o) (e ∷ above.told) above.told (λ (l : List Entry). Contains l x) (λ is. has_behind e above.told x has)
+      (λ isnt. has);
   versions = λ t has. has_behind e.stamp above.versions t has;
   needed = λ t has. Contains-append_right (needs o e) above.needed t has;
 }
@@ -88,7 +93,8 @@ pub record IsSwept (operations : ℕ → Option Operation) (effect : Effect) (x 
   pub base : (b : Stamp) → x.reader ≡ false → base_of (operations x.operation) ≡ Some b → Contains effect.needed b
   pub told : is_told (operations x.operation) ≡ true → Contains effect.told x
 
-swept_grows : (operations : ℕ → Option Operation) (above later : Effect) (x : Entry) → Grows above later → IsSwept operations above x → IsSwept operations later x
+swept_grows : (operations : ℕ → Option Operation) (above later : Effect) (x : Entry) → Grows above later → IsSwept operations above x
+    → IsSwept operations later x
 swept_grows operations above later x grows swept = record {
   version = grows.versions x.stamp swept.version;
   reads = λ is. grows.needed x.stamp (swept.reads is);
@@ -96,7 +102,8 @@ swept_grows operations above later x grows swept = record {
   told = λ is. grows.told x (swept.told is);
 }
 
-swept_first : (operations : ℕ → Option Operation) (e : Entry) (above : Effect) → IsSwept operations (with_effective (operations e.operation) e above) e
+swept_first : (operations : ℕ → Option Operation) (e : Entry) (above : Effect)
+    → IsSwept operations (with_effective (operations e.operation) e above) e
 swept_first operations e above =
     let o : Option Operation = operations e.operation in
     record {
@@ -120,7 +127,8 @@ module _ (operations : ℕ → Option Operation) where
       → (is_effective (operations e.operation) e (effect entries) ≡ true → P (with_effective (operations e.operation) e (effect entries)))
       → (is_effective (operations e.operation) e (effect entries) ≡ false → P (effect entries)) → P (effect (e ∷ entries))
   first_cases P e entries is isnt =
-      cond_both (is_effective (operations e.operation) e (effect entries)) (with_effective (operations e.operation) e (effect entries)) (effect entries) P is isnt
+      cond_both (is_effective (operations e.operation) e (effect entries)) (with_effective (operations e.operation) e (effect entries))
+      (effect entries) P is isnt
 
   -- an entry that is effective before others is swept
   effective_first : (e : Entry) (entries : List Entry) → is_effective (operations e.operation) e (effect entries) ≡ true
@@ -143,7 +151,8 @@ module _ (operations : ℕ → Option Operation) where
   answered_swept [] x has answered = absurd (has_none x has)
   answered_swept (e ∷ entries) x has answered = ⊎_elim
       (λ (here : e ≡ x).
-      let first : was_answered (operations e.operation) ≡ true = subst (λ (y : Entry). was_answered (operations y.operation) ≡ true) (sym here) answered in
+      let first : was_answered (operations e.operation) ≡ true = subst (λ (y : Entry). was_answered (operations y.operation) ≡ true)
+      (sym here) answered in
       subst (λ (y : Entry). IsSwept operations (effect (e ∷ entries)) y) here
       (effective_first e entries (or_left (was_answered (operations e.operation)) _ first)))
       (λ (rest : Contains entries x). swept_behind e entries x (answered_swept entries x rest answered))
@@ -154,7 +163,8 @@ module _ (operations : ℕ → Option Operation) where
   IsAboveBase e = (b : Stamp) → e.reader ≡ false → base_of (operations e.operation) ≡ Some b → stamp_below b e.stamp ≡ true
 
   -- no maker of a version stands after an entry that needs it
-  needs_before : (e : Entry) (entries : List Entry) → InOrder (e ∷ entries) → IsAboveBase e → (u : Stamp) → Contains (needs (operations e.operation) e) u
+  needs_before : (e : Entry) (entries : List Entry) → InOrder (e ∷ entries) → IsAboveBase e → (u : Stamp)
+      → Contains (needs (operations e.operation) e) u
       → (x : Entry) → Contains (e ∷ entries) x → x.reader ≡ false → x.stamp ≡ u → ⊥
   needs_before e entries order above u need x has maker stamp = ⊎_elim
       (λ (reads : (e.reader ≡ true) × (e.stamp ≡ u)). ⊎_elim
@@ -178,7 +188,8 @@ module _ (operations : ℕ → Option Operation) where
           (AllPairs-head (λ (a b : Entry). entry_below b a ≡ false) e entries order) there
 
   -- an entry of a version that those behind need is effective, where such an entry among them is
-  needed_first : (e : Entry) (entries : List Entry) (u : Stamp) (x : Entry) → Contains (e ∷ entries) x → x.stamp ≡ u → Contains (effect entries).needed u
+  needed_first : (e : Entry) (entries : List Entry) (u : Stamp) (x : Entry) → Contains (e ∷ entries) x → x.stamp ≡ u
+      → Contains (effect entries).needed u
       → (Contains entries x → IsSwept operations (effect entries) x) → IsSwept operations (effect (e ∷ entries)) x
   needed_first e entries u x has stamp need rest = ⊎_elim
       (λ (here : e ≡ x).
@@ -190,13 +201,15 @@ module _ (operations : ℕ → Option Operation) where
       (has_cases e entries x has)
 
   -- the maker of a version that is needed is effective
-  pub needed_swept : (entries : List Entry) → InOrder entries → All IsAboveBase entries → (u : Stamp) → Contains (effect_of operations entries).needed u
+  pub needed_swept : (entries : List Entry) → InOrder entries → All IsAboveBase entries → (u : Stamp)
+      → Contains (effect_of operations entries).needed u
       → (x : Entry) → Contains entries x → x.reader ≡ false → x.stamp ≡ u → IsSwept operations (effect_of operations entries) x
   needed_swept [] order above u need x has maker stamp = absurd (has_none x has)
   needed_swept (e ∷ entries) order above u need x has maker stamp =
       let by : Contains (effect entries).needed u → IsSwept operations (effect (e ∷ entries)) x =
       λ old. needed_first e entries u x has stamp old
-      (λ behind. needed_swept entries (AllPairs-tail (λ (a b : Entry). entry_below b a ≡ false) e entries order) (All-tail IsAboveBase e entries above) u old x
+      (λ behind. needed_swept entries (AllPairs-tail (λ (a b : Entry). entry_below b a ≡ false) e entries order)
+      (All-tail IsAboveBase e entries above) u old x
       behind maker stamp) in
       first_cases (λ (z : Effect). Contains z.needed u → IsSwept operations (effect (e ∷ entries)) x) e entries
       (λ is has_need. ⊎_elim
@@ -226,7 +239,8 @@ module _ (operations : ℕ → Option Operation) where
       (λ (maker : e.reader ≡ false). inr (record { entry = e; stands = has_front e entries; maker = maker; stamp = refl; swept = swept }))
       (cases_Bool e.reader)
 
-  held_behind : (e : Entry) (entries : List Entry) (found later : Effect) (t : Stamp) → Grows found later → IsHeld entries found t → IsHeld (e ∷ entries) later t
+  held_behind : (e : Entry) (entries : List Entry) (found later : Effect) (t : Stamp) → Grows found later → IsHeld entries found t
+      → IsHeld (e ∷ entries) later t
   held_behind e entries found later t grows (inl need) = inl (grows.needed t need)
   held_behind e entries found later t grows (inr made) =
       inr (record {
@@ -246,7 +260,8 @@ module _ (operations : ℕ → Option Operation) where
       (λ (here : e.stamp ≡ t).
       subst (λ (u : Stamp). IsHeld (e ∷ entries) (with_effective (operations e.operation) e (effect entries)) u) here (held_first e entries))
       (λ (behind : Contains (effect entries).versions t).
-      held_behind e entries (effect entries) (with_effective (operations e.operation) e (effect entries)) t (grows_with (operations e.operation) e (effect entries))
+      held_behind e entries (effect entries) (with_effective (operations e.operation) e (effect entries)) t
+      (grows_with (operations e.operation) e (effect entries))
       (rest behind))
       (has_cases e.stamp (effect entries).versions t found))
       (λ isnt found.
@@ -254,7 +269,8 @@ module _ (operations : ℕ → Option Operation) where
       has
 
   -- a maker of an effective version is effective, where the version has one
-  pub version_swept : (entries : List Entry) → InOrder entries → All IsAboveBase entries → (t : Stamp) → Contains (effect_of operations entries).versions t
+  pub version_swept : (entries : List Entry) → InOrder entries → All IsAboveBase entries → (t : Stamp)
+      → Contains (effect_of operations entries).versions t
       → (m : Entry) → Contains entries m → m.reader ≡ false → m.stamp ≡ t
       → (r : Entry) × Contains entries r × (r.reader ≡ false) × (r.stamp ≡ t) × IsSwept operations (effect_of operations entries) r
   version_swept entries order above t has m stands maker stamp = ⊎_elim
@@ -289,7 +305,8 @@ module _ (operations : ℕ → Option Operation) where
       first_cases (λ (z : Effect). All (λ (x : Entry). is_told (operations x.operation) ≡ true) z.told) e entries
       (λ is. cond_both (is_told (operations e.operation)) (e ∷ (effect entries).told) (effect entries).told
       (λ (l : List Entry). All (λ (x : Entry). is_told (operations x.operation) ≡ true) l)
-      (λ told. All-cons (λ (x : Entry). is_told (operations x.operation) ≡ true) e (effect entries).told told (told_told entries)) (λ untold. told_told entries))
+      (λ told. All-cons (λ (x : Entry). is_told (operations x.operation) ≡ true) e (effect entries).told told (told_told entries))
+      (λ untold. told_told entries))
       (λ isnt. told_told entries)
 
   -- and its version is effective
@@ -302,7 +319,8 @@ module _ (operations : ℕ → Option Operation) where
       let rest : All (λ (x : Entry). Contains versions x.stamp) (effect entries).told
       = All-weaker (λ (x : Entry). Contains (effect entries).versions x.stamp) (λ (x : Entry). Contains versions x.stamp)
       (λ x has. has_behind e.stamp (effect entries).versions x.stamp has) (effect entries).told (told_versions entries) in
-      cond_both (is_told (operations e.operation)) (e ∷ (effect entries).told) (effect entries).told (λ (l : List Entry). All (λ (x : Entry). Contains versions x.stamp) l)
+      cond_both (is_told (operations e.operation)) (e ∷ (effect entries).told) (effect entries).told
+      (λ (l : List Entry). All (λ (x : Entry). Contains versions x.stamp) l)
       (λ told. All-cons (λ (x : Entry). Contains versions x.stamp) e (effect entries).told (has_front e.stamp (effect entries).versions) rest)
       (λ untold. rest))
       (λ isnt. told_versions entries)
@@ -320,11 +338,13 @@ module _ (operations : ℕ → Option Operation) where
   versions_order [] order = λ i j d lt le. absurd (omega arith)
   versions_order (e ∷ entries) order =
       let InR : Entry → Entry → Type 0 = λ a b. entry_below b a ≡ false in
-      let rest : AllPairs (λ (a b : Stamp). stamp_below b a ≡ false) (effect entries).versions = versions_order entries (AllPairs-tail InR e entries order) in
+      let rest : AllPairs (λ (a b : Stamp). stamp_below b a ≡ false) (effect entries).versions = versions_order entries
+      (AllPairs-tail InR e entries order) in
       first_cases (λ (z : Effect). AllPairs (λ (a b : Stamp). stamp_below b a ≡ false) z.versions) e entries
       (λ is. AllPairs-cons (λ (a b : Stamp). stamp_below b a ≡ false) e.stamp (effect entries).versions
       (versions_all (λ (v : Stamp). stamp_below v e.stamp ≡ false) entries
-      (All-weaker (λ (x : Entry). entry_below x e ≡ false) (λ (x : Entry). stamp_below x.stamp e.stamp ≡ false) (λ x after. (after_entry e x after).0) entries
+      (All-weaker (λ (x : Entry). entry_below x e ≡ false) (λ (x : Entry). stamp_below x.stamp e.stamp ≡ false)
+      (λ x after. (after_entry e x after).0) entries
       (AllPairs-head InR e entries order)))
       rest)
       (λ isnt. rest)
@@ -333,8 +353,13 @@ module _ (operations : ℕ → Option Operation) where
   pub all_effective : (Stands : Stamp → Type 0) (base : Stamp → Option Stamp) (entries : List Entry)
       → All (λ e. was_answered (operations e.operation) ≡ true → Stands e.stamp) entries
       → All (λ e. e.reader ≡ false → base e.stamp ≡ base_of (operations e.operation)) entries
-      → All (λ t. IsEffective Stands base t) (effect_of operations entries).versions × All (λ t. IsEffective Stands base t) (effect_of operations entries).needed
-  all_effective Stands base [] answered based = (All-nil (λ (t : Stamp). IsEffective Stands base t), All-nil (λ (t : Stamp). IsEffective Stands base t))
+      → All (λ t. IsEffective Stands base t) (effect_of operations entries).versions × All (λ t. IsEffective Stands base t)
+      (effect_of operations entries).needed
+  all_effective Stands base [] answered based = (
+    All-nil (λ (t : Stamp). IsEffective Stands base t),
+    All-nil
+        (λ (t : Stamp). IsEffective Stands base t),
+  )
   all_effective Stands base (e ∷ entries) answered based =
       let IsE : Stamp → Type 0 = λ t. IsEffective Stands base t in
       let above = all_effective Stands base entries

@@ -70,7 +70,8 @@ module _ (setting : Setting) (w : World) (stamps : Stamping) (me : BrickId) (c :
   abbrev next : World
   next = operated w me node (collect_packets group me c.call stored) marks n ended w.contents
 
-  next_is : world_stepped w me (record { node = node; packets = collect_packets group me c.call stored; told = Answers c.call.seq answer seen }) (Answers c.call.seq answer seen) ≡ next
+  next_is : world_stepped w me (record { node = node; packets = collect_packets group me c.call stored; told = Answers c.call.seq answer seen })
+      (Answers c.call.seq answer seen) ≡ next
   next_is =
       ap (λ (x : Option Operation).
       record {
@@ -115,10 +116,12 @@ module _ (setting : Setting) (w : World) (stamps : Stamping) (me : BrickId) (c :
       continues = on;
       kept = λ g s t made. refl;
       longer = (let longer : length marks ≡ length w.marks + 1 = length-append w.marks (End (length w.marks) n answer ∷ []) in omega arith);
-      lasts = λ a. last_grows w.marks (End (length w.marks) n answer) a (λ k mark at. let place = books.places k mark at in omega (arith, place)) refl;
+      lasts = λ a. last_grows w.marks (End (length w.marks) n answer) a
+          (λ k mark at. let place = books.places k mark at in omega (arith, place)) refl;
       unended =
           let before = open_until setting w me.0 c.call.seq c books is in
-          let later = last_grows w.marks (End (length w.marks) n answer) n (λ k mark at. let place = books.places k mark at in omega (arith, place)) refl in
+          let later = last_grows w.marks (End (length w.marks) n answer) n
+          (λ k mark at. let place = books.places k mark at in omega (arith, place)) refl in
           omega (arith, before, later);
     }
 
@@ -175,7 +178,8 @@ module _ (setting : Setting) (w : World) (stamps : Stamping) (me : BrickId) (c :
         (w.nodes me.0).calls c.call.seq None
         (λ at. cc) (λ j other at. inl (at, λ p. refl)) k
 
-    packets : (o : Option Stamp) (k : ℕ) (packet : Packet) → slice_get (collect_packets group me c.call o) k ≡ Some packet → PacketSays setting next stamps packet
+    packets : (o : Option Stamp) (k : ℕ) (packet : Packet) → slice_get (collect_packets group me c.call o) k ≡ Some packet
+        → PacketSays setting next stamps packet
     packets None k packet at = cc
     packets (Some t) k packet at =
         let sent = sent_to_member me c.call (λ seat. Request.Collect t) 0 group.members k packet at in
@@ -194,7 +198,8 @@ module _ (setting : Setting) (w : World) (stamps : Stamping) (me : BrickId) (c :
     end_shows Done same = tt
     end_shows (Aborted cause) same = tt
 
-    ends : (k q a : ℕ) (other : Answer) → slice_get marks k ≡ Some (End q a other) → (slice_get w.marks k ≡ Some (End q a other)) ⊎ EndShows next a other
+    ends : (k q a : ℕ) (other : Answer) → slice_get marks k ≡ Some (End q a other) → (slice_get w.marks k ≡ Some (End q a other))
+        ⊎ EndShows next a other
     ends k q a other at = ⊎_elim
         (λ (old : slice_get w.marks k ≡ Some (End q a other)). inl old)
         (λ (new : (j : ℕ) × (slice_get (End (length w.marks) n answer ∷ []) j ≡ Some (End q a other))).
@@ -206,10 +211,12 @@ module _ (setting : Setting) (w : World) (stamps : Stamping) (me : BrickId) (c :
 
     -- the invariant holds when an operation ended
     pub said_ended : Said setting
-        (world_stepped w me (record { node = node; packets = collect_packets group me c.call stored; told = Answers c.call.seq answer seen }) (Answers c.call.seq answer seen)) stamps
+        (world_stepped w me (record { node = node; packets = collect_packets group me c.call stored; told = Answers c.call.seq answer seen })
+        (Answers c.call.seq answer seen)) stamps
     said_ended =
         subst (λ (z : World). Said setting z stamps) (sym next_is)
-        (said_operated setting w stamps stamps me node (collect_packets group me c.call stored) marks n o ended w.contents books said (stamps_same stamps) keeps
+        (said_operated setting w stamps stamps me node (collect_packets group me c.call stored) marks n o ended w.contents books said
+        (stamps_same stamps) keeps
         (record {
           stamps_say = stamps_stay_by setting w next stamps me.0 node said refl (ages_within (w.nodes me.0) node refl more_known (omega arith));
           stamps_other = λ i b k other p. refl;

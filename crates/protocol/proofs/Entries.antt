@@ -38,11 +38,13 @@ at_one g s n None = inl refl
 at_one g s n (Some o) = cond_both (is_of g s o) (entry_with n (not o.made) o.version) [] (λ (l : List Entry). IsOneOf n l)
     (λ of. with_one n (not o.made) o.version) (λ other. inl refl)
 
-with_of : (operations : ℕ → Option Operation) (g s n : ℕ) (o : Operation) (version : Option Stamp) → operations n ≡ Some o → is_of g s o ≡ true → o.version ≡ version
+with_of : (operations : ℕ → Option Operation) (g s n : ℕ) (o : Operation) (version : Option Stamp) → operations n ≡ Some o → is_of g s o ≡ true
+    → o.version ≡ version
     → All (IsEntryOf operations g s) (entry_with n (not o.made) version)
 with_of operations g s n o None is of same = All-nil (IsEntryOf operations g s)
 with_of operations g s n o (Some t) is of same =
-    All-cons (IsEntryOf operations g s) (entry_of n o t) [] (record { operation = o; is = is; of = of; version = same; reader = refl }) (All-nil (IsEntryOf operations g s))
+    All-cons (IsEntryOf operations g s) (entry_of n o t) [] (record { operation = o; is = is; of = of; version = same; reader = refl })
+    (All-nil (IsEntryOf operations g s))
 
 at_of : (operations : ℕ → Option Operation) (g s n : ℕ) (o : Option Operation) → operations n ≡ o → All (IsEntryOf operations g s) (entry_at g s n o)
 at_of operations g s n None is = All-nil (IsEntryOf operations g s)
@@ -62,11 +64,13 @@ entries_below : (operations : ℕ → Option Operation) (g s n : ℕ) → All (�
 entries_below operations g s zero = All-nil (λ (e : Entry). e.operation ≤ zero)
 entries_below operations g s (suc n) =
     All-append (λ (e : Entry). e.operation ≤ suc n) (entries_to operations g s n) (entry_at g s (suc n) (operations (suc n)))
-    (All-weaker (λ (e : Entry). e.operation ≤ n) (λ (e : Entry). e.operation ≤ suc n) (λ e le. omega arith) (entries_to operations g s n) (entries_below operations g s n))
+    (All-weaker (λ (e : Entry). e.operation ≤ n) (λ (e : Entry). e.operation ≤ suc n) (λ e le. omega arith) (entries_to operations g s n)
+    (entries_below operations g s n))
     (one_below (suc n) (entry_at g s (suc n) (operations (suc n))) (at_one g s (suc n) (operations (suc n))))
   where
     one_below : (m : ℕ) (entries : List Entry) → IsOneOf m entries → All (λ (e : Entry). e.operation ≤ m) entries
-    one_below m entries (inl none) = subst (λ (l : List Entry). All (λ (e : Entry). e.operation ≤ m) l) (sym none) (All-nil (λ (e : Entry). e.operation ≤ m))
+    one_below m entries (inl none) = subst (λ (l : List Entry). All (λ (e : Entry). e.operation ≤ m) l) (sym none)
+        (All-nil (λ (e : Entry). e.operation ≤ m))
     one_below m entries (inr (e, is, one)) =
         subst (λ (l : List Entry). All (λ (e : Entry). e.operation ≤ m) l) (sym one)
         (All-cons (λ (e : Entry). e.operation ≤ m) e [] (omega arith) (All-nil (λ (e : Entry). e.operation ≤ m)))
@@ -88,7 +92,8 @@ entries_rise : (operations : ℕ → Option Operation) (g s n : ℕ) → AllPair
 entries_rise operations g s zero = λ i j d lt le. absurd (omega arith)
 entries_rise operations g s (suc n) =
     push_rises (suc n) (entries_to operations g s n) (entry_at g s (suc n) (operations (suc n))) (entries_rise operations g s n)
-    (All-weaker (λ (e : Entry). e.operation ≤ n) (λ (e : Entry). e.operation < suc n) (λ e le. omega arith) (entries_to operations g s n) (entries_below operations g s n))
+    (All-weaker (λ (e : Entry). e.operation ≤ n) (λ (e : Entry). e.operation < suc n) (λ e le. omega arith) (entries_to operations g s n)
+    (entries_below operations g s n))
     (at_one g s (suc n) (operations (suc n)))
 
 -- two entries of different operations
@@ -123,7 +128,8 @@ at_has g s n o t of version =
     subst (λ (l : List Entry). Contains l (entry_of n o t)) (sym is) (0, omega arith, refl)
 
 -- each operation of the stripe that made or read a version has its entry
-pub entries_have : (operations : ℕ → Option Operation) (g s n k : ℕ) (o : Operation) (t : Stamp) → 1 ≤ k → k ≤ n → operations k ≡ Some o → is_of g s o ≡ true
+pub entries_have : (operations : ℕ → Option Operation) (g s n k : ℕ) (o : Operation) (t : Stamp) → 1 ≤ k → k ≤ n → operations k ≡ Some o
+    → is_of g s o ≡ true
     → o.version ≡ Some t → Contains (entries_to operations g s n) (entry_of k o t)
 entries_have operations g s zero k o t low high is of version = absurd (omega arith)
 entries_have operations g s (suc n) k o t low high is of version = ⊎_elim

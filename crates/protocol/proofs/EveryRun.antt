@@ -33,7 +33,8 @@ laws setting w booked facts history = record {
 -- the laws of every run
 pub every_run : EveryRunKeepsTheLaws
 every_run setting events sound =
-    laws setting (run setting events (first_world setting.layout)) (books setting events) (quorum_facts setting events sound (λ more. books setting more))
+    laws setting (run setting events (first_world setting.layout)) (books setting events)
+    (quorum_facts setting events sound (λ more. books setting more))
     (tallied setting events sound (λ more. books setting more))
 
 -- no event of any run lowers what a brick has promised or stored

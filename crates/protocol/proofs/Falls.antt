@@ -156,7 +156,8 @@ parts_stay_on setting (event ∷ more) w =
 -- what is guarded stays guarded through any event
 pub stays_guarded_through : (setting : Setting) (w : World) (event : Event) (g s : ℕ) (group : Group) (t : Stamp) → IsGuarded w g s group t
     → IsGuarded (happens setting w event) g s group t
-stays_guarded_through setting w event g s group t guarded = guarded_stays w (happens setting w event) (parts_stay setting w event).tops g s group t guarded
+stays_guarded_through setting w event g s group t guarded = guarded_stays w (happens setting w event)
+    (parts_stay setting w event).tops g s group t guarded
 
 -- a lost version is blocked: where a quorum is above it, and fewer than m of it hold it
 lost_blocked : (w : World) (g s : ℕ) (group : Group) (v : Stamp) → IsWithinLimits group.m (length group.members) → IsLost w g s group v

@@ -70,7 +70,8 @@ pub above_stays : (w next : World) → NeverFalls w next → (g s i : ℕ) (t : 
 above_stays w next tops g s i t above = stamp_not_below_trans t (top_of (part_of w g s i)) (top_of (part_of next g s i)) above (tops g s i)
 
 -- and what is guarded stays guarded
-pub guarded_stays : (w next : World) → NeverFalls w next → (g s : ℕ) (group : Group) (t : Stamp) → IsGuarded w g s group t → IsGuarded next g s group t
+pub guarded_stays : (w next : World) → NeverFalls w next → (g s : ℕ) (group : Group) (t : Stamp) → IsGuarded w g s group t
+    → IsGuarded next g s group t
 guarded_stays w next tops g s group t guarded =
     let more = count_monotone (length group.members)
     (λ seat. not (stamp_below (top_of (part_of w g s (brick_at group seat))) t))
@@ -154,7 +155,8 @@ module _ (setting : Setting) (w next : World) (stamps later : Stamping) (books :
   stays_standing g s v stands group is = stands_stays w next grows.parts g s group v (stands group is)
 
   -- a block stays the block of its version
-  pub stays_block : (g s i : ℕ) (t : Stamp) (block : List ℕ) → IsMadeOrFirst w g s t → IsBlockOf setting w g s i t block → IsBlockOf setting next g s i t block
+  pub stays_block : (g s i : ℕ) (t : Stamp) (block : List ℕ) → IsMadeOrFirst w g s t → IsBlockOf setting w g s i t block
+      → IsBlockOf setting next g s i t block
   stays_block g s i t block made is group seat its at =
       is group seat its at ∙ ap (λ content. setting.code.encode group.m content seat) (sym (grows.contents g s t made))
 
@@ -185,7 +187,8 @@ module _ (setting : Setting) (w next : World) (stamps later : Stamping) (books :
         is_block = stays_block call.group.0 call.stripe.0 to t block (write_made from to call t block says) says.is_block;
       }
 
-  pub stays_request : (i j : ℕ) (call : Call) (request : Request) → RequestSays setting w stamps i j call request → RequestSays setting next later i j call request
+  pub stays_request : (i j : ℕ) (call : Call) (request : Request) → RequestSays setting w stamps i j call request
+      → RequestSays setting next later i j call request
   stays_request i j call (Request.Read want) says = let goes = stays_called i call says.1.0 says.1.1 in (says.0, (goes.0, goes.1))
   stays_request i j call (Request.Order t) says =
       let goes = stays_called i call says.1.0 says.1.1 in (stays_phase i call.boot call.seq call.phase Orders t says.0, (goes.0, goes.1))
@@ -208,7 +211,8 @@ module _ (setting : Setting) (w next : World) (stamps later : Stamping) (books :
         floor = subst (λ (f : ℕ → Stamp). stamp_below says.stamp (f j) ≡ false) (sym goes.2.floor) says.floor;
       }
 
-  pub stays_found : (j i : ℕ) (call : Call) (order : Stamp) (version : Version) → FoundSays setting w j i call order version → FoundSays setting next j i call order version
+  pub stays_found : (j i : ℕ) (call : Call) (order : Stamp) (version : Version) → FoundSays setting w j i call order version
+      → FoundSays setting next j i call order version
   stays_found j i call order version says =
       let goes = stays_called i call says.operation says.called in
       record {
@@ -241,7 +245,8 @@ module _ (setting : Setting) (w next : World) (stamps later : Stamping) (books :
         newest = λ d held less. ⊎_elim
             (λ (was : is_held d (part_of w call.group.0 call.stripe.0 j).log ≡ true). says.newest d was less)
             (λ (new : stamp_below d (top_of (part_of w call.group.0 call.stripe.0 j)) ≡ false).
-            let above : stamp_below d says.stamp ≡ false = stamp_not_below_trans says.stamp (top_of (part_of w call.group.0 call.stripe.0 j)) d says.promised new in
+            let above : stamp_below d says.stamp ≡ false = stamp_not_below_trans says.stamp
+            (top_of (part_of w call.group.0 call.stripe.0 j)) d says.promised new in
             absurd (false≢true (sym above ∙ bound_within i call.boot call.seq call.phase says.bound says.stamp d says.recovers less)))
             (grows.parts.newer call.group.0 call.stripe.0 j d held);
         says = λ version is. stays_version call.group.0 call.stripe.0 j version (says.says version is);
@@ -254,11 +259,20 @@ module _ (setting : Setting) (w next : World) (stamps later : Stamping) (books :
   stays_asked call from to t (inl (inr sent)) =
       inl (inr (grows.sent (record { from = from; to = to; message = Message.Request call (Request.OrderRead t (Look.Below t) Want.All) }) sent))
   stays_asked call from to t (inr (inl sent)) =
-      inr (inl (sent.0, grows.sent (record { from = from; to = to; message = Message.Request call (Request.OrderRead t (Look.Below sent.0) Want.All) }) sent.1))
+      inr (inl (
+        sent.0,
+        grows.sent (record {
+          from = from;
+          to = to;
+          message = Message.Request call
+              (Request.OrderRead t (Look.Below sent.0) Want.All);
+        }) sent.1,
+      ))
   stays_asked call from to t (inr (inr sent)) =
       inr (inr (sent.0, grows.sent (record { from = from; to = to; message = Message.Request call (Request.Write t sent.0) }) sent.1))
 
-  pub stays_reply : (from to : BrickId) (call : Call) (reply : Reply) → ReplySays setting w stamps from to call reply → ReplySays setting next later from to call reply
+  pub stays_reply : (from to : BrickId) (call : Call) (reply : Reply) → ReplySays setting w stamps from to call reply
+      → ReplySays setting next later from to call reply
   stays_reply from to call (Reply.Found order (Some version)) says = stays_found from.0 to.0 call order version says
   stays_reply from to call Reply.Ordered says = stays_ordered from.0 to.0 call says
   stays_reply from to call (Reply.OrderedRead found) says = stays_ordered_read from.0 to.0 call found says
@@ -272,7 +286,8 @@ module _ (setting : Setting) (w next : World) (stamps later : Stamping) (books :
   stays_reply from to call (Reply.Full live) says = says
   stays_reply from to call reply says = tt
 
-  pub stays_message : (from to : BrickId) (message : Message) → MessageSays setting w stamps from to message → MessageSays setting next later from to message
+  pub stays_message : (from to : BrickId) (message : Message) → MessageSays setting w stamps from to message
+      → MessageSays setting next later from to message
   stays_message from to (Message.Request call request) says = stays_request from.0 to.0 call request says
   stays_message from to (Message.Reply call reply) says = stays_reply from to call reply says
   stays_message from to message says = tt
@@ -295,7 +310,8 @@ module _ (setting : Setting) (w next : World) (stamps later : Stamping) (books :
   stays_content n o v is made version = grows.contents o.ask.group.0 o.ask.stripe.0 v (inr (n, o, is, refl, refl, made, version))
 
   -- and so does how it was made
-  stays_maker : (n : ℕ) (o : Operation) (v : Stamp) → IsOperation w n o → o.made ≡ true → o.version ≡ Some v → WritesWhole w o v ⊎ ReadsBack setting w o v
+  stays_maker : (n : ℕ) (o : Operation) (v : Stamp) → IsOperation w n o → o.made ≡ true → o.version ≡ Some v → WritesWhole w o v
+      ⊎ ReadsBack setting w o v
       → WritesWhole next o v ⊎ ReadsBack setting next o v
   stays_maker n o v is made version (inl whole) =
       inl (whole.0, whole.1 ∙ ap (λ (bytes : List ℕ). WriteStripe bytes) (sym (stays_content n o v is made version)))
@@ -363,7 +379,8 @@ module _ (setting : Setting) (w next : World) (stamps later : Stamping) (books :
     once = says.once;
   }
 
-  pub stays_shown : (said : (n : ℕ) (o : Operation) → IsOperation w n o → OperationSays setting w stamps n o) (n : ℕ) (bytes : List ℕ) → DataShown w n bytes
+  pub stays_shown : (said : (n : ℕ) (o : Operation) → IsOperation w n o → OperationSays setting w stamps n o) (n : ℕ) (bytes : List ℕ)
+      → DataShown w n bytes
       → DataShown next n bytes
   stays_shown said n bytes shown =
       let goes = grows.operations n shown.operation shown.is in
@@ -380,7 +397,8 @@ module _ (setting : Setting) (w next : World) (stamps later : Stamping) (books :
       }
 
   -- what an end shows stays shown
-  pub stays_end : (said : (n : ℕ) (o : Operation) → IsOperation w n o → OperationSays setting w stamps n o) (n : ℕ) (answer : Answer) → EndShows w n answer → EndShows next n answer
+  pub stays_end : (said : (n : ℕ) (o : Operation) → IsOperation w n o → OperationSays setting w stamps n o) (n : ℕ) (answer : Answer)
+      → EndShows w n answer → EndShows next n answer
   stays_end said n (Data bytes) shows = stays_shown said n bytes shows
   stays_end said n Done shows = tt
   stays_end said n (Aborted cause) shows = tt

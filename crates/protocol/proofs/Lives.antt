@@ -44,7 +44,8 @@ life_onward (Some life) more n = Some (with_ending life (onward life.ending more
 pub life_of-append : (marks more : List Mark) (n : ℕ) → life_of (marks ++ more) n ≡ life_onward (life_of marks n) more n
 life_of-append [] more n = refl
 life_of-append (Begin p k b ask ∷ marks) more n =
-    elim (nat_eq k n) as (λ t. cond t (Some (record { begin = p; brick = b.0; ask = ask; ending = ending_of (marks ++ more) n b.0 (p + 1) })) (life_of (marks ++ more) n)
+    elim (nat_eq k n) as (λ t. cond t (Some (record { begin = p; brick = b.0; ask = ask; ending = ending_of (marks ++ more) n b.0 (p + 1) }))
+    (life_of (marks ++ more) n)
     ≡ life_onward (cond t (Some (record { begin = p; brick = b.0; ask = ask; ending = ending_of marks n b.0 (p + 1) })) (life_of marks n)) more n) [
       | true ↦ ap (λ (e : Ending). Some (record { begin = p; brick = b.0; ask = ask; ending = e })) (ending_of-append marks more n b.0 (p + 1))
       | false ↦ life_of-append marks more n
@@ -227,7 +228,8 @@ end_shuts (Interrupted q) p n brick answer more was is = was
 end_shuts (Unended past) p n brick answer more was is =
     subst (λ (t : Bool). IsUnended (cond t (Answered p answer) (ending_of more n brick (p + 1)))) (eq-eqb n n refl) is
 
-life_shuts : (life : Option Life) (p n : ℕ) (answer : Answer) (more : List Mark) → IsOpen life → IsOpen (life_onward life (End p n answer ∷ more) n) → ⊥
+life_shuts : (life : Option Life) (p n : ℕ) (answer : Answer) (more : List Mark) → IsOpen life → IsOpen (life_onward life (End p n answer ∷ more) n)
+    → ⊥
 life_shuts None p n answer more was is = was
 life_shuts (Some life) p n answer more was is = end_shuts life.ending p n life.brick answer more was is
 
@@ -275,7 +277,8 @@ ending_grows (Begin p k b ask ∷ marks) mark n brick past placed at =
     ending_grows marks mark n brick (p + 1) (placed_rest past p (Begin p k b ask) marks refl placed) (omega arith)
 ending_grows (End p k answer ∷ marks) mark n brick past placed at =
     let here : p ≡ past = placed_first past (End p k answer) marks placed in
-    choose_le (nat_eq k n) (Answered p answer) (ending_of marks n brick (p + 1)) (Answered p answer) (ending_of (marks ++ (mark ∷ [])) n brick (p + 1))
+    choose_le (nat_eq k n) (Answered p answer) (ending_of marks n brick (p + 1)) (Answered p answer)
+    (ending_of (marks ++ (mark ∷ [])) n brick (p + 1))
     (omega arith)
     (ending_grows marks mark n brick (p + 1) (placed_rest past p (End p k answer) marks refl placed) (omega arith))
 ending_grows (Crash p b ∷ marks) mark n brick past placed at =

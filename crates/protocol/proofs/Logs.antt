@@ -56,7 +56,8 @@ newest_held (x ∷ (y ∷ log)) version is =
 below_held : (bound d : Stamp) (log : List Version) → is_held d (below bound log) ≡ true → is_held d log ≡ true
 below_held bound d [] held = held
 below_held bound d (x ∷ log) held =
-    cond_both (stamp_below x.stamp bound) (x ∷ below bound log) (below bound log) (λ (l : List Version). is_held d l ≡ true → is_held d (x ∷ log) ≡ true)
+    cond_both (stamp_below x.stamp bound) (x ∷ below bound log) (below bound log) (λ (l : List Version). is_held d l ≡ true
+    → is_held d (x ∷ log) ≡ true)
     (λ is h. ⊎_elim
     (λ (here : x.stamp ≡ d). subst (λ (z : Stamp). is_held z (x ∷ log) ≡ true) here (held_here x log))
     (λ (there : is_held d (below bound log) ≡ true). or_right (stamp_same x.stamp d) (is_held d log) (below_held bound d log there))
@@ -65,7 +66,8 @@ below_held bound d (x ∷ log) held =
     held
 
 -- the place in a longer list
-place_next : (x version : Version) (log more : List Version) → ((k : ℕ) → slice_get more k ≡ Some version → (j : ℕ) × (slice_get log j ≡ Some version))
+place_next : (x version : Version) (log more : List Version)
+    → ((k : ℕ) → slice_get more k ≡ Some version → (j : ℕ) × (slice_get log j ≡ Some version))
     → (k : ℕ) → slice_get (x ∷ more) k ≡ Some version → (j : ℕ) × (slice_get (x ∷ log) j ≡ Some version)
 place_next x version log more old zero at = (zero, at)
 place_next x version log more old (suc k) at = let rest = old k at in (suc rest.0, rest.1)

@@ -128,7 +128,8 @@ well_formed_begin marks p n b ask well places above = record {
   positions_rise = positions_rise (marks ++ (Begin p n b ask ∷ [])) places;
   numbers_rise = subst (λ (xs : List ℕ). IsStrictlyIncreasing xs)
       (sym (begun_numbers-append marks (Begin p n b ask ∷ []))) (increasing_push (begun_numbers marks) n well.numbers_rise above);
-  ends_are_of_open = ends_push marks (Begin p n b ask) well.ends_are_of_open (λ q k a is. absurd (let never : Begin p n b ask ≡ End q k a = is in cc));
+  ends_are_of_open = ends_push marks (Begin p n b ask) well.ends_are_of_open
+      (λ q k a is. absurd (let never : Begin p n b ask ≡ End q k a = is in cc));
 }
 
 -- a Crash keeps marks well formed

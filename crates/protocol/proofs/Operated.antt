@@ -39,7 +39,8 @@ operated w me node more marks n p contents =
     }
 
 -- what such a change keeps: operation n was o, is open, and goes on as p
-pub record OperatedKeeps (w : World) (me : BrickId) (node : Node) (marks : List Mark) (n : ℕ) (o p : Operation) (contents : ℕ → ℕ → Stamp → List ℕ) : Type 0 where
+pub record OperatedKeeps (w : World) (me : BrickId) (node : Node) (marks : List Mark) (n : ℕ) (o p : Operation)
+    (contents : ℕ → ℕ → Stamp → List ℕ) : Type 0 where
   pub replicas : node.replicas ≡ (w.nodes me.0).replicas
   pub boot : node.boot ≡ (w.nodes me.0).boot
   pub is : IsOperation w n o
@@ -49,7 +50,8 @@ pub record OperatedKeeps (w : World) (me : BrickId) (node : Node) (marks : List 
   pub lasts : (a : ℕ) → last_of (life_of w.marks a) ≤ last_of (life_of marks a)
   pub unended : length w.marks ≤ last_of (life_of marks n)
 
-module _ (setting : Setting) (w : World) (stamps later : Stamping) (me : BrickId) (node : Node) (more : List Packet) (marks : List Mark) (n : ℕ) (o p : Operation)
+module _ (setting : Setting) (w : World) (stamps later : Stamping) (me : BrickId) (node : Node) (more : List Packet) (marks : List Mark) (n : ℕ)
+    (o p : Operation)
     (contents : ℕ → ℕ → Stamp → List ℕ) (keeps : OperatedKeeps w me node marks n o p contents) where
   abbrev next : World
   next = operated w me node more marks n p contents
@@ -58,7 +60,8 @@ module _ (setting : Setting) (w : World) (stamps later : Stamping) (me : BrickId
   goes_on : (a : ℕ) (e : Operation) → IsOperation w a e → (d : Operation) × IsOperation next a d × Continues e d
   goes_on a e =
       put_each (λ i x. IsOperation w i e → (d : Operation) × (x ≡ Some d) × Continues e d) w.operations n (Some p)
-      (λ is. let same : o ≡ e = (let z : Some o ≡ Some e = sym keeps.is ∙ is in cc) in (p, refl, subst (λ (z : Operation). Continues z p) same keeps.continues))
+      (λ is. let same : o ≡ e = (let z : Some o ≡ Some e = sym keeps.is
+      ∙ is in cc) in (p, refl, subst (λ (z : Operation). Continues z p) same keeps.continues))
       (λ i other is. (e, is, continues_same e)) a
 
   -- each operation was there
@@ -119,7 +122,8 @@ pub record OperatedOwes (setting : Setting) (w next : World) (stamps later : Sta
       → (slice_get w.marks k ≡ Some (End q a answer)) ⊎ EndShows next a answer
 
 -- the invariant holds after an operation changed
-pub said_operated : (setting : Setting) (w : World) (stamps later : Stamping) (me : BrickId) (node : Node) (more : List Packet) (marks : List Mark) (n : ℕ)
+pub said_operated : (setting : Setting) (w : World) (stamps later : Stamping) (me : BrickId) (node : Node) (more : List Packet) (marks : List Mark)
+    (n : ℕ)
     (o p : Operation) (contents : ℕ → ℕ → Stamp → List ℕ) → Books setting w → Said setting w stamps → StampsGrow stamps later
     → OperatedKeeps w me node marks n o p contents
     → OperatedOwes setting w (operated w me node more marks n p contents) stamps later me node more n p
@@ -131,7 +135,8 @@ said_operated setting w stamps later me node more marks n o p contents books sai
       tops = λ g s i. inl (put_each (λ j x. top_of (x.replicas g s) ≡ top_of ((w.nodes j).replicas g s)) w.nodes me.0 node
           (ap (λ r. top_of (r g s)) keeps.replicas) (λ j other. refl) i);
       logs = λ g s i k version is. inl
-          (put_each (λ j x. slice_get (x.replicas g s).log k ≡ Some version → slice_get ((w.nodes j).replicas g s).log k ≡ Some version) w.nodes me.0 node
+          (put_each (λ j x. slice_get (x.replicas g s).log k ≡ Some version
+          → slice_get ((w.nodes j).replicas g s).log k ≡ Some version) w.nodes me.0 node
           (λ has. ap (λ r. slice_get (r g s).log k) (sym keeps.replicas) ∙ has) (λ j other has. has) i is);
       packets = λ k packet is. ⊎_elim
           (λ (old : slice_get w.packets k ≡ Some packet). inl old)

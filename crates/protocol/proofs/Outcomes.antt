@@ -253,7 +253,8 @@ module _ (ask : Ask) (stamp : Stamp) (round : ℕ) (base : Option Stamp) (conten
   unless_told_fits fresh phase next None none fits = fits
   unless_told_fits fresh phase next (Some f) told fits = (abort_ends phase (Cause.Full f.brick f.live), record { seat = f.seat; told = told })
 
-  again_fits : (fresh : Option Stamp) (phase : Phase) (r : Refuser) → IsRound phase → ((f : Option Stamp) → NoRoundFits f (within phase) → LastFits f (within phase) phase)
+  again_fits : (fresh : Option Stamp) (phase : Phase) (r : Refuser) → IsRound phase
+      → ((f : Option Stamp) → NoRoundFits f (within phase) → LastFits f (within phase) phase)
       → (phase ≡ Stores → ⊥) → greatest_refuser counted ≡ Some r → NextFits fresh (within phase) (ordered_again fresh (within phase) r)
   again_fits None phase r is last unmade refused = aborts_fits None phase r refused (last None (inl refl))
   again_fits (Some t) phase r is last unmade refused =

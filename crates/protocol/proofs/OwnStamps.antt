@@ -67,7 +67,8 @@ module _ (setting : Setting) (w : World) (stamps : Stamping) (books : Books sett
       cc
 
   -- what a request that was sent says
-  sent_says : (call : Call) (from to : BrickId) (request : Request) → WasSent w (record { from = from; to = to; message = Message.Request call request })
+  sent_says : (call : Call) (from to : BrickId) (request : Request)
+      → WasSent w (record { from = from; to = to; message = Message.Request call request })
       → RequestSays setting w stamps from.0 to.0 call request
   sent_says call from to request sent = said.packets sent.0 (record { from = from; to = to; message = Message.Request call request }) sent.1
 

@@ -111,7 +111,8 @@ module _ (setting : Setting) (sound : IsSound setting) (w : World) (stamps : Sta
       let seat = count_some (length group.members)
       (both (λ k. not (stamp_below (later.floor (brick_at group k)) u)) (λ k. not (stamp_below v (later.floor (brick_at group k)))))
       (omega (arith, share, limits.some_block)) in
-      let tests = and_parts (not (stamp_below (later.floor (brick_at group seat.0)) u)) (not (stamp_below v (later.floor (brick_at group seat.0)))) seat.2 in
+      let tests = and_parts (not (stamp_below (later.floor (brick_at group seat.0)) u))
+      (not (stamp_below v (later.floor (brick_at group seat.0)))) seat.2 in
       shared_floor b later u v (brick_at group seat.0) b_is b_version
       (not-true (stamp_below (later.floor (brick_at group seat.0)) u) tests.0)
       (not-true (stamp_below v (later.floor (brick_at group seat.0))) tests.1))
@@ -132,7 +133,8 @@ module _ (setting : Setting) (sound : IsSound setting) (w : World) (stamps : Sta
         made = back.made;
         content = back.content;
         none_between = λ u stands above less.
-            blocked_never_stands w o.ask.group.0 o.ask.stripe.0 its.group u (back.blocked its.group its.group_is u (above, less)) (stands its.group its.group_is);
+            blocked_never_stands w o.ask.group.0 o.ask.stripe.0 its.group u (back.blocked its.group its.group_is u (above, less))
+            (stands its.group its.group_is);
       }
 
   maker_holds : (n : ℕ) (o : Operation) (t : Stamp) → IsOperation w n o → o.made ≡ true → o.version ≡ Some t → MakerFacts setting w o t

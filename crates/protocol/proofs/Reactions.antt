@@ -62,7 +62,8 @@ top_order replica = ⊎_elim
     (newest_cases replica.log)
 
 top_newest : (replica : Replica) (version : Version) → newest_of replica.log ≡ Some version → stamp_below (top_of replica) version.stamp ≡ false
-top_newest replica version is = subst (λ (z : Stamp). stamp_below z version.stamp ≡ false) (sym (top_is replica version is)) (max_right replica.order version.stamp)
+top_newest replica version is = subst (λ (z : Stamp). stamp_below z version.stamp ≡ false) (sym (top_is replica version is))
+    (max_right replica.order version.stamp)
 
 -- the greater of two stamps, the second no greater
 max_of_lower : (a b : Stamp) → stamp_below a b ≡ false → stamp_max a b ≡ a
@@ -90,7 +91,8 @@ top_promised replica t at = ⊎_elim
     (newest_cases replica.log)
 
 -- after a write the top is the written stamp
-pub top_written : (replica : Replica) (t : Stamp) (block : List ℕ) → stamp_below t (top_of replica) ≡ false → top_of (with_version replica t block) ≡ t
+pub top_written : (replica : Replica) (t : Stamp) (block : List ℕ) → stamp_below t (top_of replica) ≡ false
+    → top_of (with_version replica t block) ≡ t
 top_written replica t block at =
     top_is (with_version replica t block) (record { stamp = t; block = block }) (newest_grown replica.log (record { stamp = t; block = block }))
     ∙ max_of_higher replica.order t (stamp_not_below_trans replica.order (top_of replica) t (top_order replica) at)
@@ -281,8 +283,10 @@ handle_says full seat replica (Prepare ballot) = tt
 handle_says full seat replica (Accept ballot members) = tt
 
 -- a request does not lower the top
-pub after_top : (replica : Replica) (request : Request) (next : Replica) → IsAfter replica request next → stamp_below (top_of next) (top_of replica) ≡ false
-after_top replica request next (inl same) = subst (λ (z : Replica). stamp_below (top_of z) (top_of replica) ≡ false) (sym same) (stamp_below_irrefl (top_of replica))
+pub after_top : (replica : Replica) (request : Request) (next : Replica) → IsAfter replica request next
+    → stamp_below (top_of next) (top_of replica) ≡ false
+after_top replica request next (inl same) = subst (λ (z : Replica). stamp_below (top_of z) (top_of replica) ≡ false) (sym same)
+    (stamp_below_irrefl (top_of replica))
 after_top replica request next (inr (inl p)) =
     let top : top_of next ≡ p.stamp = ap (λ z. top_of z) p.next_is ∙ top_promised replica p.stamp p.above in
     subst (λ (z : Stamp). stamp_below z (top_of replica) ≡ false) (sym top) p.above
@@ -309,7 +313,8 @@ held_top replica d ascends held = within (newest_of replica.log) refl
         (subst (λ (z : Option Version). IsWithin z d) is (newest_greatest d replica.log ascends held)) (top_newest replica version is)
 
 -- after a request a log goes on ascending
-pub after_ascends : (replica : Replica) (request : Request) (next : Replica) → IsAfter replica request next → LogAscends replica.log → LogAscends next.log
+pub after_ascends : (replica : Replica) (request : Request) (next : Replica) → IsAfter replica request next → LogAscends replica.log
+    → LogAscends next.log
 after_ascends replica request next (inl same) ascends = subst (λ (z : Replica). LogAscends z.log) (sym same) ascends
 after_ascends replica request next (inr (inl p)) ascends = subst (λ (z : Replica). LogAscends z.log) (sym p.next_is) ascends
 after_ascends replica request next (inr (inr p)) ascends =

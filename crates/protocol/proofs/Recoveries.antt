@@ -90,7 +90,8 @@ module _ (setting : Setting) (sound : IsSound setting) (w : World) (stamps : Sta
       let none : reads.found ≡ None = none_told reads.found (sym (ap (option_map (λ (z : Version). z.stamp)) reads.found_is) ∙ nothing) in
       subst (λ (z : Option Version). IsWithin z first_stamp) none
       (reads.newest first_stamp
-      (said.first_held (books.calls me.0 c.call.seq c is).operation.ask.group.0 (books.calls me.0 c.call.seq c is).operation.ask.stripe.0 (brick_at group x.seat))
+      (said.first_held (books.calls me.0 c.call.seq c is).operation.ask.group.0 (books.calls me.0 c.call.seq c is).operation.ask.stripe.0
+      (brick_at group x.seat))
       first_under)
 
   each_some : (l : List Counted) → EachCounted Reading l → greatest_found l ≡ None → 1 ≤ length l → ⊥

@@ -97,7 +97,8 @@ module _ (setting : Setting) (sound : IsSound setting) (w : World) (stamps : Sta
   -- the world after what the coordinator decides
   abbrev after : Next → World
   after decision =
-      world_stepped w me (carried_out setting group me (w.nodes me.0) known c decision) (carried_out setting group me (w.nodes me.0) known c decision).told
+      world_stepped w me (carried_out setting group me (w.nodes me.0) known c decision)
+      (carried_out setting group me (w.nodes me.0) known c decision).told
 
   -- the coordinator waits
   said_waits : (d : Coordinator) → CallSays setting w stamps me.0 c.call.seq d → IsSaid setting (after (Waits d))
@@ -212,7 +213,8 @@ module _ (setting : Setting) (sound : IsSound setting) (w : World) (stamps : Sta
                 (fast_floors setting sound w stamps me c group books said is group_is d.counted each once many v fast);
           } in (
             stamps,
-            said_ended setting w stamps me c group known books said is more_known (Data (setting.code.decode group.m (pieces_of d.counted))) (Some v) None
+            said_ended setting w stamps me c group known books said is more_known (Data (setting.code.decode group.m (pieces_of d.counted)))
+                (Some v) None
                 (λ u old. let e : Some u ≡ None = sym old ∙ unmade.0 in cc)
                 (λ u now. let same : v ≡ u = cc in subst (λ (t : Stamp). HasVersion setting w o t) same has)
                 (λ u now how other other_is.
@@ -341,7 +343,8 @@ module _ (setting : Setting) (sound : IsSound setting) (w : World) (stamps : Sta
                 content_is = of_ask (λ a. setting.code.decode group.m (pieces_at v d.counted) ≡ w.contents a.group.0 a.stripe.0 v) content;
                 formed = subst (λ (l : List ℕ). IsContent group.m setting.layout.block l) (sym content)
                     (content_formed setting sound w stamps me c group books said is group_is d.counted each once many v made);
-                blocked = of_ask (λ a. AreBlocked setting w a.group.0 a.stripe.0 (λ e. (stamp_below v e ≡ true) × (stamp_below e c.stamp ≡ true))) blocked;
+                blocked = of_ask (λ a. AreBlocked setting w a.group.0 a.stripe.0
+                    (λ e. (stamp_below v e ≡ true) × (stamp_below e c.stamp ≡ true))) blocked;
               }))
 
         reads_on : (z : Option Stamp) → greatest_found d.counted ≡ z → IsSaid setting (after (read_back setting.code group.m d z))
@@ -390,7 +393,8 @@ module _ (setting : Setting) (sound : IsSound setting) (w : World) (stamps : Sta
                 let same : c.stamp ≡ v = same_Some c.stamp v (sym made.0 ∙ has) in
                 let group_same : group ≡ other = same_Some group other (sym its_group ∙ other_is) in
                 subst (λ (z : Group). AtQuorum z (λ seat. is_held v (part_of w o.ask.group.0 o.ask.stripe.0 (brick_at z seat)).log)) group_same
-                (subst (λ (t : Stamp). AtQuorum group (λ seat. is_held t (part_of w o.ask.group.0 o.ask.stripe.0 (brick_at group seat)).log)) same stands))
+                (subst (λ (t : Stamp). AtQuorum group (λ seat. is_held t
+                (part_of w o.ask.group.0 o.ask.stripe.0 (brick_at group seat)).log)) same stands))
                 (λ answered bytes op. made.1)
                 (stored_shows c.ask.op c.stamp made.0
                 ((says.stores stores).1 ∙ ap (λ (a : Ask). w.contents a.group.0 a.stripe.0 c.stamp) its.ask)),
@@ -427,7 +431,8 @@ module _ (setting : Setting) (sound : IsSound setting) (w : World) (stamps : Sta
     -- a reply that counts keeps the invariant
     counts : IsSaid setting (after (once_full setting.code group fresh d))
     counts =
-        cond_both (nat_lt (length d.counted) (quorum_of group)) (Waits d) (decided setting.code group.m fresh d) (λ (z : Next). IsSaid setting (after z))
+        cond_both (nat_lt (length d.counted) (quorum_of group)) (Waits d) (decided setting.code group.m fresh d)
+        (λ (z : Next). IsSaid setting (after z))
         (λ fewer. said_waits d more_says)
         (λ enough. decides (ltb-false (length d.counted) (quorum_of group) enough))
 
@@ -443,7 +448,8 @@ module _ (setting : Setting) (sound : IsSound setting) (w : World) (stamps : Sta
       facts.answers facts.seat_is facts.first
 
   -- a coordinator's step on a reply keeps the invariant
-  pub said_after_reply : (from : BrickId) (call : Call) (reply : Reply) → WasSent w (record { from = from; to = me; message = Message.Reply call reply })
+  pub said_after_reply : (from : BrickId) (call : Call) (reply : Reply)
+      → WasSent w (record { from = from; to = me; message = Message.Reply call reply })
       → IsSaid setting (after (on_reply setting.layout.block setting.code group fresh c from call reply))
   unfolding on_reply
   said_after_reply from call reply sent =

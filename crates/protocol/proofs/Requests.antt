@@ -70,7 +70,8 @@ parts_keep node call request reaction after = record {
       (λ held. after_held (node.replicas call.group.0 call.stripe.0) request reaction.replica t after held) (λ h r held. held) g s;
   newer = λ g s t.
       parts_each (λ h r x. is_held t x.log ≡ true → (is_held t (node.replicas h r).log ≡ true) ⊎ (stamp_below t (top_of (node.replicas h r)) ≡ false))
-      node call reaction (λ held. after_newer (node.replicas call.group.0 call.stripe.0) request reaction.replica t after held) (λ h r held. inl held) g s;
+      node call reaction (λ held. after_newer (node.replicas call.group.0 call.stripe.0) request reaction.replica t after held)
+      (λ h r held. inl held) g s;
   ascends = parts_each (λ g s x. LogAscends (node.replicas g s).log → LogAscends x.log) node call reaction
       (after_ascends (node.replicas call.group.0 call.stripe.0) request reaction.replica after) (λ g s ascends. ascends);
 }
@@ -268,7 +269,8 @@ module _ (setting : Setting) (w : World) (stamps : Stamping) (me from : BrickId)
     later_asked t (inl (inr is)) =
         let asked = read_asks t is.0 is.1 (asks_as (Request.OrderRead t is.0 is.1) is.2) in
         let whole : request ≡ Request.OrderRead t (Below asked.0) All
-        = is.2 ∙ ap (λ (look : Look). Request.OrderRead t look is.1) asked.1 ∙ ap (λ (want : Want). Request.OrderRead t (Below asked.0) want) asked.2 in
+        = is.2 ∙ ap (λ (look : Look). Request.OrderRead t look is.1) asked.1
+        ∙ ap (λ (want : Want). Request.OrderRead t (Below asked.0) want) asked.2 in
         inr (inl (
           asked.0,
           grows.sent (record { from = from; to = me; message = Message.Request call (Request.OrderRead t (Below asked.0) All) })
@@ -310,7 +312,8 @@ module _ (setting : Setting) (w : World) (stamps : Stamping) (me from : BrickId)
         → slice_get (reply_packets me from call o) k ≡ Some packet → PacketSays setting next stamps packet
     reply_packets_say None says k packet is = cc
     reply_packets_say (Some r) says k packet is =
-        subst (λ (p : Packet). PacketSays setting next stamps p) (get_one (record { from = me; to = from; message = Message.Reply call r }) packet k is)
+        subst (λ (p : Packet). PacketSays setting next stamps p)
+        (get_one (record { from = me; to = from; message = Message.Reply call r }) packet k is)
         (reply_says r says)
 
     -- a member's step on a request keeps the invariant, where what it sends says what it should

@@ -26,7 +26,8 @@ NumbersRise a (Crash p b ∷ marks) = NumbersRise a marks
 pub increasing_from_pairs : (xs : List ℕ) → AllPairs (λ x y. x < y) xs → IsStrictlyIncreasing xs
 increasing_from_pairs xs pairs k lt = pairs k (k + 1) 0 (omega arith) lt
 
-rises_from : (marks : List Mark) (a : ℕ) → All (λ (x : ℕ). a ≤ x) (map position_of marks) → AllPairs (λ x y. x < y) (map position_of marks) → RisesFrom a marks
+rises_from : (marks : List Mark) (a : ℕ) → All (λ (x : ℕ). a ≤ x) (map position_of marks) → AllPairs (λ x y. x < y) (map position_of marks)
+    → RisesFrom a marks
 rises_from [] a low pairs = tt
 rises_from (mark ∷ marks) a low pairs = (
   low 0 0 (omega arith),
@@ -50,7 +51,8 @@ RisesFrom-pairs : (marks : List Mark) (a : ℕ) → RisesFrom a marks → AllPai
 RisesFrom-pairs [] a rises = λ i j d lt le. absurd (omega arith)
 RisesFrom-pairs (mark ∷ marks) a rises =
     AllPairs-cons (λ (x y : ℕ). x < y) (position_of mark) (map position_of marks)
-    (λ k d lt. (let later : position_of mark + 1 ≤ get_or (map position_of marks) k d = RisesFrom-all marks (position_of mark + 1) rises.1 k d lt in omega arith))
+    (λ k d lt. (let later : position_of mark + 1 ≤ get_or (map position_of marks) k d = RisesFrom-all marks
+    (position_of mark + 1) rises.1 k d lt in omega arith))
     (RisesFrom-pairs marks (position_of mark + 1) rises.1)
 
 pub increasing_positions : (marks : List Mark) (a : ℕ) → RisesFrom a marks → IsStrictlyIncreasing (map position_of marks)
@@ -69,7 +71,8 @@ RisesFrom-filter test (mark ∷ marks) a rises =
     cond_both (test mark) (mark ∷ filter test marks) (filter test marks) (λ (x : List Mark). RisesFrom a x)
     (λ in'. (first, rest)) (λ out. RisesFrom-less (filter test marks) a (position_of mark + 1) (omega arith) rest)
 
-numbers_rise : (marks : List Mark) (a : ℕ) → All (λ (x : ℕ). a < x) (begun_numbers marks) → AllPairs (λ x y. x < y) (begun_numbers marks) → NumbersRise a marks
+numbers_rise : (marks : List Mark) (a : ℕ) → All (λ (x : ℕ). a < x) (begun_numbers marks) → AllPairs (λ x y. x < y) (begun_numbers marks)
+    → NumbersRise a marks
 numbers_rise [] a low pairs = tt
 numbers_rise (Begin p n b ask ∷ marks) a low pairs = (
   low 0 0 (omega arith),
@@ -79,7 +82,8 @@ numbers_rise (End p n answer ∷ marks) a low pairs = numbers_rise marks a low p
 numbers_rise (Crash p b ∷ marks) a low pairs = numbers_rise marks a low pairs
 
 -- numbers that rise, from 1
-pub NumbersRise-increasing : (marks : List Mark) → All (λ (x : ℕ). 0 < x) (begun_numbers marks) → IsStrictlyIncreasing (begun_numbers marks) → NumbersRise 0 marks
+pub NumbersRise-increasing : (marks : List Mark) → All (λ (x : ℕ). 0 < x) (begun_numbers marks) → IsStrictlyIncreasing (begun_numbers marks)
+    → NumbersRise 0 marks
 NumbersRise-increasing marks low up = numbers_rise marks 0 low (AllPairs-from_increasing (begun_numbers marks) up)
 
 NumbersRise-all : (marks : List Mark) (a : ℕ) → NumbersRise a marks → All (λ (x : ℕ). a < x) (begun_numbers marks)
@@ -117,7 +121,8 @@ NumbersRise-filter test (Begin p n b ask ∷ marks) a rises =
     (λ in'. (first, rest)) (λ out. NumbersRise-less (filter test marks) a n (omega arith) rest)
 NumbersRise-filter test (End p n answer ∷ marks) a rises =
     let rest : NumbersRise a (filter test marks) = NumbersRise-filter test marks a rises in
-    cond_both (test (End p n answer)) (End p n answer ∷ filter test marks) (filter test marks) (λ (x : List Mark). NumbersRise a x) (λ in'. rest) (λ out. rest)
+    cond_both (test (End p n answer)) (End p n answer ∷ filter test marks) (filter test marks) (λ (x : List Mark). NumbersRise a x) (λ in'. rest)
+    (λ out. rest)
 NumbersRise-filter test (Crash p b ∷ marks) a rises =
     let rest : NumbersRise a (filter test marks) = NumbersRise-filter test marks a rises in
     cond_both (test (Crash p b)) (Crash p b ∷ filter test marks) (filter test marks) (λ (x : List Mark). NumbersRise a x) (λ in'. rest) (λ out. rest)
@@ -128,7 +133,8 @@ NumbersRise-none [] a n le rises = refl
 NumbersRise-none (Begin p k b ask ∷ marks) a n le rises =
     let first : a < k = rises.0 in
     let other : k ≢ n = omega arith in
-    ap (λ (t : Bool). cond t (Some (record { begin = p; brick = b.0; ask = ask; ending = ending_of marks n b.0 (p + 1) })) (life_of marks n)) (ne_eqb k n other)
+    ap (λ (t : Bool). cond t (Some (record { begin = p; brick = b.0; ask = ask; ending = ending_of marks n b.0 (p + 1) })) (life_of marks n))
+    (ne_eqb k n other)
     ∙ NumbersRise-none marks k n (omega arith) rises.1
 NumbersRise-none (End p k answer ∷ marks) a n le rises = NumbersRise-none marks a n le rises
 NumbersRise-none (Crash p b ∷ marks) a n le rises = NumbersRise-none marks a n le rises
@@ -192,11 +198,17 @@ open_after (Begin p k b ask ∷ marks) n brick past q m life rises ending is = �
     (λ (there : (k ≢ m) × (life_of marks m ≡ Some life)). open_after marks n brick (p + 1) q m life rises.1 ending there.1)
     (begin_cases p k m _ (life_of marks m) life is)
 open_after (End p k answer ∷ marks) n brick past q m life rises ending is =
-    elim (nat_eq k n) as (λ t. cond t (Answered p answer) (ending_of marks n brick (p + 1)) ≡ Unended q → life.begin < q)
-    [ true ↦ λ e. absurd (let never : Answered p answer ≡ Unended q = e in cc) | false ↦ λ e. open_after marks n brick (p + 1) q m life rises.1 e is ] ending
+    elim (nat_eq k n) as (λ t. cond t (Answered p answer) (ending_of marks n brick (p + 1)) ≡ Unended q → life.begin < q) [
+      | true ↦ λ e. absurd (let never : Answered p answer ≡ Unended q = e in cc)
+      | false ↦ λ e. open_after marks n brick
+          (p + 1) q m life rises.1 e is
+    ] ending
 open_after (Crash p b ∷ marks) n brick past q m life rises ending is =
-    elim (nat_eq b.0 brick) as (λ t. cond t (Interrupted p) (ending_of marks n brick (p + 1)) ≡ Unended q → life.begin < q)
-    [ true ↦ λ e. absurd (let never : Interrupted p ≡ Unended q = e in cc) | false ↦ λ e. open_after marks n brick (p + 1) q m life rises.1 e is ] ending
+    elim (nat_eq b.0 brick) as (λ t. cond t (Interrupted p) (ending_of marks n brick (p + 1)) ≡ Unended q → life.begin < q) [
+      | true ↦ λ e. absurd (let never : Interrupted p ≡ Unended q = e in cc)
+      | false ↦ λ e. open_after marks n brick
+          (p + 1) q m life rises.1 e is
+    ] ending
 
 -- each operation began before where an open one stands
 pub begins_before_open : (marks : List Mark) (a n q m : ℕ) (one other : Life) → RisesFrom a marks → life_of marks n ≡ Some one
@@ -226,7 +238,8 @@ begins_in_order [] a b n m one other rises rise lt is at = absurd (let never : N
 begins_in_order (Begin p k c ask ∷ marks) a b n m one other rises rise lt is at = ⊎_elim
     (λ (theirs : (k ≡ m) × (record { begin = p; brick = c.0; ask = ask; ending = ending_of marks m c.0 (p + 1) } ≡ other)).
     absurd (⊎_elim
-    (λ (mine : (k ≡ n) × (record { begin = p; brick = c.0; ask = ask; ending = ending_of marks n c.0 (p + 1) } ≡ one)). omega (arith, mine.0, theirs.0))
+    (λ (mine : (k ≡ n) × (record { begin = p; brick = c.0; ask = ask; ending = ending_of marks n c.0 (p + 1) } ≡ one)). omega
+    (arith, mine.0, theirs.0))
     (λ (rest : (k ≢ n) × (life_of marks n ≡ Some one)).
     let none : life_of marks n ≡ None = NumbersRise-none marks k n (omega (arith, theirs.0)) rise.1 in
     let never : None ≡ Some one = sym none ∙ rest.1 in cc)

@@ -94,13 +94,19 @@ reply_said setting w stamps me from now call reply sound books said sent = at_ca
         → IsSaid setting (stepped w me (replied_to setting me now from (w.nodes me.0) call reply c z))
     in_group c is None none = (stamps, nothing_said setting w stamps me books said)
     in_group c is (Some group) group_is =
-        said_after_reply setting sound w stamps me c group (known_after (w.nodes me.0).known reply) books said is group_is (known_grows (w.nodes me.0).known reply)
+        said_after_reply setting sound w stamps me c group (known_after (w.nodes me.0).known reply) books said is group_is
+        (known_grows (w.nodes me.0).known reply)
         (fresh_stamp me now (w.nodes me.0).boot (known_after (w.nodes me.0).known reply))
-        (λ t new. fresh_says setting w me now (known_after (w.nodes me.0).known reply) t books (known_grows (w.nodes me.0).known reply) new) from call reply sent
+        (λ t new. fresh_says setting w me now (known_after (w.nodes me.0).known reply) t books
+        (known_grows (w.nodes me.0).known reply) new) from call reply sent
 
     at_call : (z : Option Coordinator) → (w.nodes me.0).calls call.seq ≡ z
         → IsSaid setting (stepped w me (replied_at setting me now from (w.nodes me.0) call reply z))
-    at_call None none = (stamps, said_known setting w stamps me (known_after (w.nodes me.0).known reply) books said (known_grows (w.nodes me.0).known reply))
+    at_call None none = (
+      stamps,
+      said_known setting w stamps me (known_after (w.nodes me.0).known reply) books said
+          (known_grows (w.nodes me.0).known reply),
+    )
     at_call (Some c) is =
         let seq : c.call.seq ≡ call.seq = (books.calls me.0 call.seq c is).call_seq in
         in_group c (subst (λ (k : ℕ). IsCall w me.0 k c) (sym seq) is) (group_of setting.layout c.ask.group.0) refl
@@ -211,7 +217,8 @@ invoked_said setting w stamps me ask books said may =
     (said_began setting w stamps me ask fits.group books said fits.group_is fits.is_stripe_op)
 
 -- every event keeps the invariant
-pub said_happens : (setting : Setting) (w : World) (event : Event) → IsSound setting → Books setting w → IsSaid setting w → IsSaid setting (happens setting w event)
+pub said_happens : (setting : Setting) (w : World) (event : Event) → IsSound setting → Books setting w → IsSaid setting w
+    → IsSaid setting (happens setting w event)
 unfolding happens
 said_happens setting w (Invokes brick ask) sound books said =
     cond_both (may_begin setting w brick ask) (world_began w brick ask (invoked setting brick (w.clocks brick.0) (w.nodes brick.0) ask)) w

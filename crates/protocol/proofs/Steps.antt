@@ -103,7 +103,8 @@ pub record KeepsParts (node next : Node) : Type 0 where
 pub keeps_same : (node next : Node) → next.replicas ≡ node.replicas → KeepsParts node next
 keeps_same node next same = record {
   tops = λ g s.
-      subst (λ (r : ℕ → ℕ → Replica). stamp_below (top_of (r g s)) (top_of (node.replicas g s)) ≡ false) (sym same) (stamp_below_irrefl (top_of (node.replicas g s)));
+      subst (λ (r : ℕ → ℕ → Replica). stamp_below (top_of (r g s)) (top_of (node.replicas g s)) ≡ false) (sym same)
+      (stamp_below_irrefl (top_of (node.replicas g s)));
   held = λ g s t held. subst (λ (r : ℕ → ℕ → Replica). is_held t (r g s).log ≡ true) (sym same) held;
   newer = λ g s t held. inl (subst (λ (r : ℕ → ℕ → Replica). is_held t (r g s).log ≡ true) same held);
   ascends = λ g s ascends. subst (λ (r : ℕ → ℕ → Replica). LogAscends (r g s).log) (sym same) ascends;
@@ -227,7 +228,8 @@ said_quiet setting w stamps later me node more books said grow owes =
     })
 
 -- what the stamps say where they stay, and one brick ages
-pub stamps_stay_by : (setting : Setting) (w next : World) (stamps : Stamping) (me : ℕ) (node : Node) → Said setting w stamps → next.nodes ≡ put w.nodes me node
+pub stamps_stay_by : (setting : Setting) (w next : World) (stamps : Stamping) (me : ℕ) (node : Node) → Said setting w stamps
+    → next.nodes ≡ put w.nodes me node
     → Ages (w.nodes me) node → StampsSay next stamps
 stamps_stay_by setting w next stamps me node said nodes ages = stamps_stay w next stamps said.stamps_say (ages_by w next me node nodes ages)
 
@@ -318,7 +320,8 @@ said_idle setting w stamps me node up past marks books said same none ages longe
       tops = λ g s i. inl (put_each (λ j x. top_of (x.replicas g s) ≡ top_of ((w.nodes j).replicas g s)) w.nodes me node
           (ap (λ r. top_of (r g s)) same) (λ j other. refl) i);
       logs = λ g s i k version is. inl
-          (put_each (λ j x. slice_get (x.replicas g s).log k ≡ Some version → slice_get ((w.nodes j).replicas g s).log k ≡ Some version) w.nodes me node
+          (put_each (λ j x. slice_get (x.replicas g s).log k ≡ Some version
+          → slice_get ((w.nodes j).replicas g s).log k ≡ Some version) w.nodes me node
           (λ has. ap (λ r. slice_get (r g s).log k) (sym same) ∙ has) (λ j other has. has) i is);
       packets = λ k packet is. inl is;
       operations = λ n o is. inl is;

@@ -212,7 +212,8 @@ module _ (setting : Setting) (sound : IsSound setting) (w : World) (stamps : Sta
     kept =
         put_each (λ h row. (r : ℕ) (u : Stamp) → IsMadeOrFirst w h r u → row r u ≡ w.contents h r u) w.contents c.ask.group.0
         (put (w.contents c.ask.group.0) c.ask.stripe.0 (λ u. cond (stamp_same u c.stamp) stored (w.contents c.ask.group.0 c.ask.stripe.0 u)))
-        (put_each (λ r cell. (u : Stamp) → IsMadeOrFirst w c.ask.group.0 r u → cell u ≡ w.contents c.ask.group.0 r u) (w.contents c.ask.group.0) c.ask.stripe.0
+        (put_each (λ r cell. (u : Stamp) → IsMadeOrFirst w c.ask.group.0 r u → cell u ≡ w.contents c.ask.group.0 r u)
+        (w.contents c.ask.group.0) c.ask.stripe.0
         (λ u. cond (stamp_same u c.stamp) stored (w.contents c.ask.group.0 c.ask.stripe.0 u))
         (λ u is_made. cond_both (stamp_same u c.stamp) stored (w.contents c.ask.group.0 c.ask.stripe.0 u)
         (λ (z : List ℕ). z ≡ w.contents c.ask.group.0 c.ask.stripe.0 u)
@@ -347,7 +348,8 @@ module _ (setting : Setting) (sound : IsSound setting) (w : World) (stamps : Sta
       write_says : (k : ℕ) (member : BrickId) → slice_get group.members k ≡ Some member
           → WriteSays setting next later me.0 member.0 d.call c.stamp (setting.code.encode group.m stored (0 + k))
       write_says k member at =
-          let seat : seat_in group.members member.0 ≡ Some k = seat_of_member group.members k member (sound.distinct c.ask.group.0 group group_is) at in
+          let seat : seat_in group.members member.0 ≡ Some k = seat_of_member group.members k member
+          (sound.distinct c.ask.group.0 group group_is) at in
           record {
             operation = made;
             called = record {

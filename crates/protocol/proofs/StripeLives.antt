@@ -56,7 +56,8 @@ keeps_begin : (p k n : ℕ) (mine : Life) (rest : List Mark) (b : _) (ask : Ask)
     → KeepsLife (Begin p k b ask ∷ rest) n life
 keeps_begin p k n mine rest b ask life other keeps = (
   keeps.0,
-  ap (λ (t : Bool). cond t (Some (record { begin = p; brick = b.0; ask = ask; ending = ending_of rest n b.0 (p + 1) })) (life_of rest n)) (ne_eqb k n other) ∙ keeps.1,
+  ap (λ (t : Bool). cond t (Some (record { begin = p; brick = b.0; ask = ask; ending = ending_of rest n b.0 (p + 1) })) (life_of rest n))
+      (ne_eqb k n other) ∙ keeps.1,
   keeps.2,
 )
 
@@ -100,7 +101,8 @@ cond_none false x rest h = (refl, h)
 pub none_filtered : (test : Mark → Bool) (marks : List Mark) (n : ℕ) → life_of marks n ≡ None → life_of (filter test marks) n ≡ None
 none_filtered test [] n none = refl
 none_filtered test (Begin p k b ask ∷ marks) n none =
-    let parts = cond_none (nat_eq k n) (record { begin = p; brick = b.0; ask = ask; ending = ending_of marks n b.0 (p + 1) }) (life_of marks n) none in
+    let parts = cond_none (nat_eq k n) (record { begin = p; brick = b.0; ask = ask; ending = ending_of marks n b.0 (p + 1) })
+    (life_of marks n) none in
     let rest : life_of (filter test marks) n ≡ None = none_filtered test marks n parts.1 in
     cond_both (test (Begin p k b ask)) (Begin p k b ask ∷ filter test marks) (filter test marks) (λ (x : List Mark). life_of x n ≡ None)
     (λ kept. ap (λ (t : Bool). cond t (Some (record { begin = p; brick = b.0; ask = ask; ending = ending_of (filter test marks) n b.0 (p + 1) }))
@@ -108,10 +110,12 @@ none_filtered test (Begin p k b ask ∷ marks) n none =
     (λ left. rest)
 none_filtered test (End p k answer ∷ marks) n none =
     let rest : life_of (filter test marks) n ≡ None = none_filtered test marks n none in
-    cond_both (test (End p k answer)) (End p k answer ∷ filter test marks) (filter test marks) (λ (x : List Mark). life_of x n ≡ None) (λ kept. rest) (λ left. rest)
+    cond_both (test (End p k answer)) (End p k answer ∷ filter test marks) (filter test marks) (λ (x : List Mark). life_of x n ≡ None) (λ kept. rest)
+    (λ left. rest)
 none_filtered test (Crash p b ∷ marks) n none =
     let rest : life_of (filter test marks) n ≡ None = none_filtered test marks n none in
-    cond_both (test (Crash p b)) (Crash p b ∷ filter test marks) (filter test marks) (λ (x : List Mark). life_of x n ≡ None) (λ kept. rest) (λ left. rest)
+    cond_both (test (Crash p b)) (Crash p b ∷ filter test marks) (filter test marks) (λ (x : List Mark). life_of x n ≡ None) (λ kept. rest)
+    (λ left. rest)
 
 -- an operation of another stripe has no life in the stripe's marks
 pub others_filtered : (g s : ℕ) (all marks : List Mark) (a n : ℕ) (life : Life) → NumbersRise a marks → life_of marks n ≡ Some life
@@ -142,7 +146,8 @@ others_filtered g s all (Crash p b ∷ marks) a n life rises is other = others_f
 abbrev KeptAt : {A : Type 0} → (A → Bool) → List A → ℕ → A → List A → Type 0
 KeptAt test xs i y kept = (j : ℕ) × (slice_get xs j ≡ Some y) × (take i kept ≡ filter test (take j xs)) × (test y ≡ true)
 
-kept_first : {A : Type 0} (test : A → Bool) (x : A) (xs : List A) → ((i : ℕ) (y : A) → slice_get (filter test xs) i ≡ Some y → KeptAt test xs i y (filter test xs))
+kept_first : {A : Type 0} (test : A → Bool) (x : A) (xs : List A)
+    → ((i : ℕ) (y : A) → slice_get (filter test xs) i ≡ Some y → KeptAt test xs i y (filter test xs))
     → (i : ℕ) (y : A) (t : Bool) → test x ≡ t → slice_get (cond t (x ∷ filter test xs) (filter test xs)) i ≡ Some y
     → KeptAt test (x ∷ xs) i y (cond t (x ∷ filter test xs) (filter test xs))
 kept_first test x xs rest zero y true is found = (0, found, refl, subst (λ z. test z ≡ true) (same_Some x y found) is)
@@ -184,7 +189,8 @@ open_filtered g s marks j n own open' =
     subst (λ (l : Option Life). IsOpen l) (sym kept.1) (EndingStays-open life.0.ending kept.0.ending kept.2.ending life.2)
 
 -- numbers that live are from 1
-pub numbers_from_one : (marks : List Mark) → ((n : ℕ) (life : Life) → life_of marks n ≡ Some life → 1 ≤ n) → All (λ (x : ℕ). 0 < x) (begun_numbers marks)
+pub numbers_from_one : (marks : List Mark) → ((n : ℕ) (life : Life) → life_of marks n ≡ Some life → 1 ≤ n)
+    → All (λ (x : ℕ). 0 < x) (begun_numbers marks)
 numbers_from_one marks least k d lt =
     let one = begun_lives marks k lt in
     let low : 1 ≤ get_or (begun_numbers marks) k 0 = least (get_or (begun_numbers marks) k 0) one.0 one.1 in
@@ -192,7 +198,8 @@ numbers_from_one marks least k d lt =
     omega arith
 
 -- the marks of a stripe are well formed
-pub well_formed_stripe : (g s : ℕ) (marks : List Mark) → IsWellFormed marks → All (λ (x : ℕ). 0 < x) (begun_numbers marks) → IsWellFormed (stripe_marks g s marks)
+pub well_formed_stripe : (g s : ℕ) (marks : List Mark) → IsWellFormed marks → All (λ (x : ℕ). 0 < x) (begun_numbers marks)
+    → IsWellFormed (stripe_marks g s marks)
 well_formed_stripe g s marks well low = record {
   positions_rise = increasing_positions (stripe_marks g s marks) 0
       (RisesFrom-filter (concerns g s marks) marks 0 (RisesFrom-increasing marks well.positions_rise));

@@ -63,7 +63,8 @@ DescentSent w call from to t bound =
 -- order, or below; no phase of a call both orders and writes, or looks further down; a store phase only writes, and a phase that looks further
 -- down does only that; and the replies that a coordinator has were sent to it.
 pub record MessagesShow (w : World) : Type 0 where
-  pub later : (call : Call) (from to : BrickId) (x : Stamp) → WasSent w (record { from = from; to = to; message = Message.Reply call (Reply.Later x) })
+  pub later : (call : Call) (from to : BrickId) (x : Stamp)
+      → WasSent w (record { from = from; to = to; message = Message.Reply call (Reply.Later x) })
       → (t : Stamp) × AskedAt w call to from t × (stamp_below t x ≡ true)
   pub order_or_write : (call : Call) (from to other : BrickId) (t u : Stamp) (block : List ℕ) → WriteSent w call from to t block
       → OrderSent w call from other u → ⊥

@@ -60,7 +60,8 @@ none_parts (Some a) (Some b) is =
     is
 
 -- replies of which none told a later stamp do not change which one told the greatest
-refuser_after : (forgotten counted : List Counted) → greatest_refuser forgotten ≡ None → greatest_refuser (forgotten ++ counted) ≡ greatest_refuser counted
+refuser_after : (forgotten counted : List Counted) → greatest_refuser forgotten ≡ None
+    → greatest_refuser (forgotten ++ counted) ≡ greatest_refuser counted
 refuser_after [] counted none = refl
 refuser_after (x ∷ forgotten) counted none =
     let parts = none_parts (refuser_of x) (greatest_refuser forgotten) none in
@@ -149,7 +150,8 @@ module _ (setting : Setting) (group : Group) (w : World) (me : BrickId) (now kno
       ap (λ (l : List Counted). greatest_refuser l) replies_now.1 ∙ refuser_after replies_now.0 (c.counted ++ (one ∷ [])) replies_now.2
 
   -- the replies once the coordinator waits on
-  tally_waits : (counted : List Counted) → (counted ≡ c.counted ++ (one ∷ [])) ⊎ ((counted ≡ []) × (greatest_refuser (c.counted ++ (one ∷ [])) ≡ None))
+  tally_waits : (counted : List Counted) → (counted ≡ c.counted ++ (one ∷ []))
+      ⊎ ((counted ≡ []) × (greatest_refuser (c.counted ++ (one ∷ [])) ≡ None))
       → IsTally (replies n c.call.phase) counted
   tally_waits counted (inl same) = subst (λ (l : List Counted). IsTally (replies n c.call.phase) l) (sym same) replies_now
   tally_waits counted (inr (none, unrefused)) = (
@@ -181,14 +183,16 @@ module _ (setting : Setting) (group : Group) (w : World) (me : BrickId) (now kno
       → IsRound d.phase → (p : ℕ) → first_round d.phase ≤ p → p < d.call.phase → is_some (greatest_refuser (replies n p)) ≡ true
   refused_sends d fits phase round p low high = by fits.how
     where
-      recovers : ((c.phase ≡ Looks) × (d.phase ≡ Recovers)) ⊎ ((bound : Stamp) × (d.phase ≡ Descends bound)) → is_some (greatest_refuser (replies n p)) ≡ true
+      recovers : ((c.phase ≡ Looks) × (d.phase ≡ Recovers)) ⊎ ((bound : Stamp) × (d.phase ≡ Descends bound))
+          → is_some (greatest_refuser (replies n p)) ≡ true
       recovers (inl (was, is)) =
           let first : (c.call.phase ≡ 1) × (c.round ≡ 1) = subst (λ (x : Phase). InRound c x) was mine.in_round in
           let two : first_round d.phase ≡ 2 = ap (λ (x : Phase). first_round x) is in
           absurd (omega (arith, first.0))
       recovers (inr (bound, is)) = absurd (subst (λ (x : Phase). IsRound x) is round)
 
-      by : ReordersFits fresh (with_reply c seat from reply) d ⊎ RecoversFits (with_reply c seat from reply) d → is_some (greatest_refuser (replies n p)) ≡ true
+      by : ReordersFits fresh (with_reply c seat from reply) d ⊎ RecoversFits (with_reply c seat from reply) d
+          → is_some (greatest_refuser (replies n p)) ≡ true
       by (inl again) =
           let same : first_round d.phase ≡ first_round c.phase = ap (λ (x : Phase). first_round x) again.phase in
           refused_again again.was again.refused p (omega arith) (omega arith)
@@ -243,7 +247,8 @@ module _ (setting : Setting) (group : Group) (w : World) (me : BrickId) (now kno
       (λ a other at. inr (at, λ same seq. other same)) j
 
   -- bricks keep their numbers
-  keeps : (time busy : ℕ) (d : Option Coordinator) → node.known ≤ time → (j : ℕ) → KeepsNumbers (w.nodes j) (put w.nodes i (with_call node time busy k d) j)
+  keeps : (time busy : ℕ) (d : Option Coordinator) → node.known ≤ time → (j : ℕ)
+      → KeepsNumbers (w.nodes j) (put w.nodes i (with_call node time busy k d) j)
   keeps time busy d later = keeps_put w i (with_call node time busy k d) (record { boot = refl; seq = refl; known = later })
 
   -- the number of a call, once this one is at d
@@ -258,11 +263,13 @@ module _ (setting : Setting) (group : Group) (w : World) (me : BrickId) (now kno
       subst (λ (b : ℕ). CallTallied replies (w.numbers j b l) e) (sym (keeps time busy d later j).boot)
       (⊎_elim
       (λ (own : (j ≡ i) × (l ≡ k) × (d ≡ Some e)).
-      subst (λ (a : ℕ). CallTallied replies (number_of w a l) e) (sym own.0) (subst (λ (b : ℕ). CallTallied replies (number_of w i b) e) (sym own.1) (new e own.2)))
+      subst (λ (a : ℕ). CallTallied replies (number_of w a l) e) (sym own.0) (subst (λ (b : ℕ). CallTallied replies (number_of w i b) e) (sym own.1)
+      (new e own.2)))
       (λ (other : IsCall w j l e × (j ≡ i → l ≡ k → ⊥)).
       let apart : number_of w j l ≢ n = λ same.
       (let both : (j ≡ i) × (l ≡ k) = calls_apart setting w i k j l c e mine (books.calls j l e other.0) same in other.1 both.0 both.1) in
-      call_tallied_on w.replies replies (number_of w j l) (number_of w j l) e refl (other_replies (number_of w j l) apart) (tallied.calls j l e other.0))
+      call_tallied_on w.replies replies (number_of w j l) (number_of w j l) e refl (other_replies (number_of w j l) apart)
+      (tallied.calls j l e other.0))
       (call_at time busy d j l e at))
 
   calls_by : (time busy : ℕ) (d : Coordinator) → node.known ≤ time → CallTallied replies n d
@@ -293,21 +300,27 @@ module _ (setting : Setting) (group : Group) (w : World) (me : BrickId) (now kno
   -- the world after what the coordinator decides
   abbrev after : Next → World
   after next =
-      world_stepped (record w { replies = with_counted w.replies (number_of w me.0 c.call.seq) c.call.phase (record { seat = seat; brick = from; reply = reply }) }) me
+      world_stepped (record w {
+        replies = with_counted w.replies (number_of w me.0 c.call.seq) c.call.phase
+            (record { seat = seat; brick = from; reply = reply });
+      }) me
       (carried_out setting group me (w.nodes me.0) known c next) (carried_out setting group me (w.nodes me.0) known c next).told
 
-  same_operations : (m : ℕ) (e : Operation) → IsOperation w m e → (p : Operation) × IsOperation w m p × (p.brick ≡ e.brick) × (p.boot ≡ e.boot) × (p.seq ≡ e.seq)
+  same_operations : (m : ℕ) (e : Operation) → IsOperation w m e → (p : Operation) × IsOperation w m p × (p.brick ≡ e.brick) × (p.boot ≡ e.boot)
+      × (p.seq ≡ e.seq)
   same_operations m e at = (e, at, refl, refl, refl)
 
   made_operations : (t : Stamp) (base : Option Stamp) (m : ℕ) (e : Operation) → IsOperation w m e
-      → (p : Operation) × (put w.operations n (with_made t base (w.operations n)) m ≡ Some p) × (p.brick ≡ e.brick) × (p.boot ≡ e.boot) × (p.seq ≡ e.seq)
+      → (p : Operation) × (put w.operations n (with_made t base (w.operations n)) m ≡ Some p) × (p.brick ≡ e.brick) × (p.boot ≡ e.boot)
+      × (p.seq ≡ e.seq)
   made_operations t base m e =
       put_each (λ a y. IsOperation w a e → (p : Operation) × (y ≡ Some p) × (p.brick ≡ e.brick) × (p.boot ≡ e.boot) × (p.seq ≡ e.seq)) w.operations n
       (with_made t base (w.operations n)) (λ at. (_, ap (λ (z : Option Operation). with_made t base z) at, refl, refl, refl))
       (λ a other at. (e, at, refl, refl, refl)) m
 
   answered_operations : (answer : Answer) (seen : Option Stamp) (m : ℕ) (e : Operation) → IsOperation w m e
-      → (p : Operation) × (put w.operations n (with_answer answer seen (w.operations n)) m ≡ Some p) × (p.brick ≡ e.brick) × (p.boot ≡ e.boot) × (p.seq ≡ e.seq)
+      → (p : Operation) × (put w.operations n (with_answer answer seen (w.operations n)) m ≡ Some p) × (p.brick ≡ e.brick) × (p.boot ≡ e.boot)
+      × (p.seq ≡ e.seq)
   answered_operations answer seen m e =
       put_each (λ a y. IsOperation w a e → (p : Operation) × (y ≡ Some p) × (p.brick ≡ e.brick) × (p.boot ≡ e.boot) × (p.seq ≡ e.seq)) w.operations n
       (with_answer answer seen (w.operations n)) (λ at. (_, ap (λ (z : Option Operation). with_answer answer seen z) at, refl, refl, refl))
@@ -316,7 +329,8 @@ module _ (setting : Setting) (group : Group) (w : World) (me : BrickId) (now kno
   -- each reply that counts was sent
   each_sent : EachCounted (λ y. WasSent w (record { from = y.brick; to = me; message = Message.Reply c.call y.reply })) (c.counted ++ (one ∷ []))
   each_sent =
-      each_more (λ y. WasSent w (record { from = y.brick; to = me; message = Message.Reply c.call y.reply })) c.counted one (shows.counted i k c is) sent
+      each_more (λ y. WasSent w (record { from = y.brick; to = me; message = Message.Reply c.call y.reply })) c.counted one
+      (shows.counted i k c is) sent
 
   -- the brick whose full store aborts the operation told so
   full_shown : (answer : Answer) (seen stored : Option Stamp) (brick : BrickId) (live : ℕ) → FullFits (with_reply c seat from reply) brick live
@@ -365,7 +379,8 @@ module _ (setting : Setting) (group : Group) (w : World) (me : BrickId) (now kno
           own = (mine.call_boot ∙ sym boot, sym mine.seq ∙ sym goes.4);
           asked = subst (λ (b : BrickId). AskedAt (after (Ends answer seen stored)) c.call b brick low.0) by
               (asked_on w (after (Ends answer seen stored)) on c.call me brick low.0 low.1);
-          told = subst (λ (b : BrickId). WasSent (after (Ends answer seen stored)) (record { from = brick; to = b; message = Message.Reply c.call (Reply.Later x) })) by
+          told = subst (λ (b : BrickId). WasSent (after (Ends answer seen stored))
+              (record { from = brick; to = b; message = Message.Reply c.call (Reply.Later x) })) by
               (on.sent (record { from = brick; to = me; message = Message.Reply c.call (Reply.Later x) }) told);
           above = low.2;
           greatest = refuser_now ∙ fits.refused;
@@ -376,7 +391,8 @@ module _ (setting : Setting) (group : Group) (w : World) (me : BrickId) (now kno
       -- the time that the brick knows in its present boot
       known_now : known_in (after (Ends answer seen stored)) i node.boot ≡ known
       known_now =
-          ap (λ (y : Node). if nat_eq node.boot y.boot then y.known else w.past i node.boot) (put_same w.nodes i (with_call node known (node.busy - 1) k None))
+          ap (λ (y : Node). if nat_eq node.boot y.boot then y.known else w.past i node.boot)
+          (put_same w.nodes i (with_call node known (node.busy - 1) k None))
           ∙ ap (λ (t : Bool). if t then known else w.past i node.boot) (eq-eqb node.boot node.boot refl)
 
       last_round : (e : Operation) → me ≡ e.brick → e.boot ≡ node.boot → IsRound c.phase → NoRoundFits fresh (with_reply c seat from reply)
@@ -430,7 +446,8 @@ module _ (setting : Setting) (group : Group) (w : World) (me : BrickId) (now kno
       }))
       unbegun (counted_next (after (Waits d)) on) (λ a p m brick x at. inl at) (λ a p m brick live at. inl at)
   tallied_counted (Sends d) fits later =
-      let on : Furthers w (after (Sends d)) = furthers (after (Sends d)) (max known d.stamp.time) node.busy (Some d) (phase_packets setting group me d) refl
+      let on : Furthers w (after (Sends d)) = furthers (after (Sends d)) (max known d.stamp.time) node.busy (Some d)
+      (phase_packets setting group me d) refl
       (omega arith) refl refl (λ j b. refl) same_operations in
       let phase : d.call.phase ≡ c.call.phase + 1 = ap (λ (x : Call). x.phase) fits.call in
       tallied_on setting w (after (Sends d)) books tallied later on
@@ -441,7 +458,8 @@ module _ (setting : Setting) (group : Group) (w : World) (me : BrickId) (now kno
       }))
       unbegun (counted_next (after (Sends d)) on) (λ a p m brick x at. inl at) (λ a p m brick live at. inl at)
   tallied_counted (Makes d) fits later =
-      let on : Furthers w (after (Makes d)) = furthers (after (Makes d)) known node.busy (Some d) (phase_packets setting group me d) refl grows refl refl
+      let on : Furthers w (after (Makes d)) = furthers (after (Makes d)) known node.busy (Some d)
+      (phase_packets setting group me d) refl grows refl refl
       (λ j b. refl) (made_operations d.stamp d.base) in
       let phase : d.call.phase ≡ c.call.phase + 1 = ap (λ (x : Call). x.phase) fits.call in
       tallied_on setting w (after (Makes d)) books tallied later on
@@ -477,5 +495,6 @@ module _ (setting : Setting) (group : Group) (w : World) (me : BrickId) (now kno
       let by : answer ≡ Aborted (Cause.Full brick live) = cc in
       let told : FullFits (with_reply c seat from reply) brick live
       = subst (λ (z : Answer). AnswerFits fresh (with_reply c seat from reply) z) by fits.1 in
-      inr (subst (λ (z : ℕ). FullAbortShown (after (Ends answer seen stored)) z brick live) number (full_shown answer seen stored brick live told on)))
+      inr (subst (λ (z : ℕ). FullAbortShown (after (Ends answer seen stored)) z brick live) number
+      (full_shown answer seen stored brick live told on)))
       (get_grown w.marks (End (length w.marks) n answer ∷ []) a (End p m (Aborted (Cause.Full brick live))) at))

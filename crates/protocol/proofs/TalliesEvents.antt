@@ -76,7 +76,8 @@ tallied_known : (setting : Setting) (w : World) (me : BrickId) (known : ℕ) →
     → MessagesShow (stepped w w.replies me (no_step (with_known (w.nodes me.0) known)))
     → Tallied (stepped w w.replies me (no_step (with_known (w.nodes me.0) known)))
 tallied_known setting w me known books tallied grows shows =
-    tallied_nothing setting w me (with_known (w.nodes me.0) known) [] books tallied shows (record { boot = refl; seq = refl; known = grows }) (λ l. refl)
+    tallied_nothing setting w me (with_known (w.nodes me.0) known) [] books tallied shows (record { boot = refl; seq = refl; known = grows })
+    (λ l. refl)
 
 -- a request
 tallied_requested : (setting : Setting) (w : World) (me from : BrickId) (call : Call) (request : Request) → Books setting w → Tallied w
@@ -102,14 +103,18 @@ tallied_requested setting w me from call request books tallied = in_group (group
         (λ is. at_seat (seat_in group.members me.0)) (λ isnt. tallied_no_step setting w me books tallied) shows
 
 -- a reply
-tallied_replied : (setting : Setting) (w : World) (me : BrickId) (now : ℕ) (from : BrickId) (call : Call) (reply : Reply) → Books setting w → Tallied w
+tallied_replied : (setting : Setting) (w : World) (me : BrickId) (now : ℕ) (from : BrickId) (call : Call) (reply : Reply) → Books setting w
+    → Tallied w
     → MessagesShow w → WasSent w (record { from = from; to = me; message = Message.Reply call reply })
-    → MessagesShow (stepped w (replies_at setting w me from call reply ((w.nodes me.0).calls call.seq)) me (replied setting me now from (w.nodes me.0) call reply))
-    → Tallied (stepped w (replies_at setting w me from call reply ((w.nodes me.0).calls call.seq)) me (replied setting me now from (w.nodes me.0) call reply))
+    → MessagesShow (stepped w (replies_at setting w me from call reply ((w.nodes me.0).calls call.seq)) me
+    (replied setting me now from (w.nodes me.0) call reply))
+    → Tallied (stepped w (replies_at setting w me from call reply ((w.nodes me.0).calls call.seq)) me
+    (replied setting me now from (w.nodes me.0) call reply))
 unfolding replied on_reply
 tallied_replied setting w me now from call reply books tallied shows sent = at_call ((w.nodes me.0).calls call.seq) refl
   where
-    at_seat : (c : Coordinator) (group : Group) → IsCall w me.0 call.seq c → (z : Option ℕ) → counts_at setting.layout.block group c from.0 call reply ≡ z
+    at_seat : (c : Coordinator) (group : Group) → IsCall w me.0 call.seq c → (z : Option ℕ)
+        → counts_at setting.layout.block group c from.0 call reply ≡ z
         → MessagesShow (stepped w (counted_after w.replies (number_of w me.0 call.seq) from call reply z) me
         (carried_out setting group me (w.nodes me.0) (known_after (w.nodes me.0).known reply) c
         (counted_at setting.code group (fresh_stamp me now (w.nodes me.0).boot (known_after (w.nodes me.0).known reply)) c from reply z)))
@@ -173,7 +178,8 @@ tallied_began : (setting : Setting) (w : World) (brick : BrickId) (now : ℕ) (a
     → MessagesShow (world_began w brick ask (began_in setting fits.group brick (w.nodes brick.0) (new_coordinator brick now (w.nodes brick.0) ask)))
     → Tallied (world_began w brick ask (began_in setting fits.group brick (w.nodes brick.0) (new_coordinator brick now (w.nodes brick.0) ask)))
 tallied_began setting w brick now ask fits up books tallied shows =
-    let next : World = world_began w brick ask (began_in setting fits.group brick (w.nodes brick.0) (new_coordinator brick now (w.nodes brick.0) ask)) in
+    let next : World = world_began w brick ask (began_in setting fits.group brick (w.nodes brick.0)
+    (new_coordinator brick now (w.nodes brick.0) ask)) in
     let i : ℕ = brick.0 in
     let k : ℕ = (w.nodes brick.0).seq + 1 in
     let n : ℕ = w.begun + 1 in
@@ -206,7 +212,8 @@ tallied_began setting w brick now ask fits up books tallied shows =
     let one : c ≡ e = same_Some c e
     (sym (call_is setting w brick now ask fits.group books fits.is_stripe_op fits.group_is fits.stripe up fits.length_fits) ∙ at) in
     let number : number_of next i k ≡ n = call_number setting w brick now ask fits.group books fits.is_stripe_op fits.group_is fits.stripe up fits.length_fits in
-    subst (λ (x : ℕ). CallTallied w.replies (number_of next x l) e) (sym mine.0) (subst (λ (y : ℕ). CallTallied w.replies (number_of next i y) e) (sym mine.1)
+    subst (λ (x : ℕ). CallTallied w.replies (number_of next x l) e) (sym mine.0) (subst (λ (y : ℕ). CallTallied w.replies (number_of next i y) e)
+    (sym mine.1)
     (subst (λ (x : ℕ). CallTallied w.replies x e) (sym number) (subst (λ (z : Coordinator). CallTallied w.replies n z) one new))))
     (λ (other : j ≡ i → l ≡ k → ⊥).
     let old : IsCall w j l e
@@ -230,7 +237,8 @@ tallied_began setting w brick now ask fits up books tallied shows =
     = get_one (Begin (length w.marks) n brick ask) (End p m (Aborted (Cause.Full by live))) new.0 new.1 in cc))
     (get_grown w.marks (Begin (length w.marks) n brick ask ∷ []) a (End p m (Aborted (Cause.Full by live))) is))
 
-tallied_invoked : (setting : Setting) (w : World) (brick : BrickId) (now : ℕ) (ask : Ask) → Books setting w → Tallied w → may_begin setting w brick ask ≡ true
+tallied_invoked : (setting : Setting) (w : World) (brick : BrickId) (now : ℕ) (ask : Ask) → Books setting w → Tallied w
+    → may_begin setting w brick ask ≡ true
     → MessagesShow (world_began w brick ask (invoked setting brick now (w.nodes brick.0) ask))
     → Tallied (world_began w brick ask (invoked setting brick now (w.nodes brick.0) ask))
 unfolding invoked
@@ -290,7 +298,8 @@ tallied_started setting w brick openings down once books tallied shows =
     })
     (λ i k c is. ⊎_elim
     (λ (mine : i ≡ brick.0).
-    let none : (next.nodes i).calls k ≡ None = ap (λ (x : ℕ). (next.nodes x).calls k) mine ∙ started_calls setting w brick openings books down once k in
+    let none : (next.nodes i).calls k ≡ None = ap (λ (x : ℕ). (next.nodes x).calls k) mine
+    ∙ started_calls setting w brick openings books down once k in
     absurd (let never : None ≡ Some c = sym none ∙ is in cc))
     (λ (other : i ≢ brick.0).
     let same : next.nodes i ≡ w.nodes i = unstarted setting w brick openings books down once i other in
@@ -375,13 +384,19 @@ messages_show setting w stamps books said = record {
   order_or_write = order_or_write setting w stamps books said;
   bounds = λ call from to t bound sent.
       bound_of stamps from.0 call.boot call.seq call.phase bound t
-      (said.packets sent.0 (record { from = from; to = to; message = Message.Request call (Request.OrderRead t (Look.Below bound) Want.All) }) sent.1).1;
+      (said.packets sent.0 (record {
+        from = from;
+        to = to;
+        message = Message.Request call
+            (Request.OrderRead t (Look.Below bound) Want.All);
+      }) sent.1).1;
   order_or_descent = λ call from to other t u bound below sent order. order_or_descent setting w stamps books said call from to other t u bound below sent order;
   stores_asked = λ i k c to t is stores asked. stores_asked setting w stamps books said (record { 0 = i }) to c t (at_call i k c is) stores asked;
   descends_asked = λ i k c to bound t is descends asked.
       descends_asked setting w stamps books said (record { 0 = i }) to c bound t (at_call i k c is) descends asked;
   counted = λ i k c is.
-      each_then (CountedSays setting w i c) (λ x. WasSent w (record { from = x.brick; to = record { 0 = i }; message = Message.Reply c.call x.reply }))
+      each_then (CountedSays setting w i c) (λ x. WasSent w
+      (record { from = x.brick; to = record { 0 = i }; message = Message.Reply c.call x.reply }))
       c.counted (λ x says. says.sent) (said.calls i k c is).counted;
 }
   where

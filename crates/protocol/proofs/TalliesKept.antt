@@ -90,7 +90,8 @@ module _ (w next : World) (on : Furthers w next) where
   descent_on call from to t bound sent =
       on.sent (record { from = from; to = to; message = Message.Request call (Request.OrderRead t (Look.Below bound) Want.All) }) sent
 
-  pub write_on : (call : Call) (from to : BrickId) (t : Stamp) (block : List ℕ) → WriteSent w call from to t block → WriteSent next call from to t block
+  pub write_on : (call : Call) (from to : BrickId) (t : Stamp) (block : List ℕ) → WriteSent w call from to t block
+      → WriteSent next call from to t block
   write_on call from to t block sent = on.sent (record { from = from; to = to; message = Message.Request call (Request.Write t block) }) sent
 
   pub asked_on : (call : Call) (from to : BrickId) (t : Stamp) → AskedAt w call from to t → AskedAt next call from to t
@@ -136,13 +137,15 @@ module _ (w next : World) (on : Furthers w next) where
       by_descent sent bound descent (inl own) =
           by_order (inr (subst (λ (b : Stamp). DescentSent w was.call o.brick brick was.stamp b) own descent))
       by_descent sent bound descent (inr below) =
-          absurd (shows.order_or_descent was.call o.brick brick brick was.stamp was.stamp bound below (descent_on was.call o.brick brick was.stamp bound descent)
+          absurd (shows.order_or_descent was.call o.brick brick brick was.stamp was.stamp bound below
+          (descent_on was.call o.brick brick was.stamp bound descent)
           (subst (λ (b : BrickId). OrderSent next was.call b brick was.stamp) brick_is sent))
 
       last_by : OrderSent next was.call p.brick brick was.stamp → AskedAt w was.call o.brick brick was.stamp → IsLastRound next n p was.call.phase
       last_by sent (inl order) = by_order order
       last_by sent (inr (inl (bound, descent))) =
-          by_descent sent bound descent (shows.bounds was.call o.brick brick was.stamp bound (descent_on was.call o.brick brick was.stamp bound descent))
+          by_descent sent bound descent (shows.bounds was.call o.brick brick was.stamp bound
+          (descent_on was.call o.brick brick was.stamp bound descent))
       last_by sent (inr (inr (block, write))) =
           absurd (shows.order_or_write was.call o.brick brick brick was.stamp was.stamp block (write_on was.call o.brick brick was.stamp block write)
           (subst (λ (b : BrickId). OrderSent next was.call b brick was.stamp) brick_is sent))

@@ -37,7 +37,8 @@ use Rattle.protocol.proofs.Sorting.{InOrder, ascending_order, ascending_apart, I
 use Rattle.protocol.proofs.StripeLives.{life_filtered, none_filtered, others_filtered, numbers_from_one}
 
 -- what an answered read of the stripe was answered is its content
-reads_data : (content : List ℕ) (ending : Ending) → ((p : ℕ) (bytes : List ℕ) → ending ≡ Answered p (Data bytes) → bytes ≡ content) → IsRead (Some content) (data_of ending)
+reads_data : (content : List ℕ) (ending : Ending) → ((p : ℕ) (bytes : List ℕ) → ending ≡ Answered p (Data bytes) → bytes ≡ content)
+    → IsRead (Some content) (data_of ending)
 reads_data content (Answered p (Data bytes)) h = h p bytes refl
 reads_data content (Answered p Done) h = tt
 reads_data content (Answered p (Aborted cause)) h = tt
@@ -175,7 +176,8 @@ module _ (setting : Setting) (w : World) (g s : ℕ) (books : Books setting w) (
       = ap (λ (x : ℕ). w.contents x o.ask.stripe.0 t) at.0 ∙ ap (λ (y : ℕ). w.contents g y t) at.1 in
       reads_data (w.contents g s t) l.life.ending
       (λ p bytes ending.
-      facts.answered_data n o t l.full p bytes is version l.full_is (answer_before l.full.ending l.life.ending p (Data bytes) l.stays.ending ending) ∙ same)
+      facts.answered_data n o t l.full p bytes is version l.full_is (answer_before l.full.ending l.life.ending p (Data bytes) l.stays.ending ending)
+      ∙ same)
 
   -- what an operation's life asks
   life_op : (n : ℕ) (o : Operation) (l : StripeLife n o) → l.life.ask.op ≡ o.ask.op
@@ -190,7 +192,8 @@ module _ (setting : Setting) (w : World) (g s : ℕ) (books : Books setting w) (
       subst (λ (x : Op). IsRead (read_of setting.layout.block x (w.contents g s t)) (data_of l.life.ending)) (sym (life_op n o l ∙ says.op))
       (reads_right n o t l is of version)
 
-  turn_of : (n : ℕ) (o : Operation) (t : Stamp) (l : StripeLife n o) (made : Bool) → IsOperation w n o → is_of g s o ≡ true → o.version ≡ Some t → o.made ≡ made
+  turn_of : (n : ℕ) (o : Operation) (t : Stamp) (l : StripeLife n o) (made : Bool) → IsOperation w n o → is_of g s o ≡ true → o.version ≡ Some t
+      → o.made ≡ made
       → HasTurn setting.layout.block (w.contents g s t) (not made) (Some l.life)
   turn_of n o t l true is of version made = made_turn n o t l is of version (facts.maker n o t is made version).how
   turn_of n o t l false is of version made =
@@ -227,7 +230,8 @@ module _ (setting : Setting) (w : World) (g s : ℕ) (books : Books setting w) (
   -- how an effective version came from the one before it, by its maker that the sweep found
   follows_by : (u v : Stamp) → IsMadeOn base u v → (r : Entry) → Contains entries r → r.reader ≡ false → r.stamp ≡ v
       → IsSwept w.operations effect r → Follows setting.layout.block marks (w.contents g s) walk u v
-  follows_by u v on r has maker stamp swept = subst (λ (t : Stamp). Follows setting.layout.block marks (w.contents g s) walk u t) stamp (by facts_of.how)
+  follows_by u v on r has maker stamp swept = subst (λ (t : Stamp). Follows setting.layout.block marks (w.contents g s) walk u t) stamp
+      (by facts_of.how)
     where
       mine : IsOurs r
       mine = All-contains IsOurs entries r (entries_ours setting w g s books facts) has
@@ -282,10 +286,12 @@ module _ (setting : Setting) (w : World) (g s : ℕ) (books : Books setting w) (
           let reads : writes mine.operation.ask.op ≡ false = ap (λ (x : Op). writes x) op in
           both_ways (mine.operation.answered || writes mine.operation.ask.op) (or_from _ _ unanswered reads) same
 
-      by : WritesWhole w mine.operation r.stamp ⊎ BaseSays setting w mine.operation r.stamp → Follows setting.layout.block marks (w.contents g s) walk u r.stamp
+      by : WritesWhole w mine.operation r.stamp ⊎ BaseSays setting w mine.operation r.stamp → Follows setting.layout.block marks
+          (w.contents g s) walk u r.stamp
       by (inl whole) =
           made_from (or_right mine.operation.answered _ (ap (λ (x : Op). writes x) whole.1))
-          (sym (ap (λ (x : Op). after_op setting.layout.block x (w.contents g s u)) (life_op r.operation mine.operation its ∙ whole.1) ∙ content_of r.stamp))
+          (sym (ap (λ (x : Op). after_op setting.layout.block x (w.contents g s u)) (life_op r.operation mine.operation its ∙ whole.1)
+          ∙ content_of r.stamp))
       by (inr says) =
           let same : w.contents g s r.stamp ≡ w.contents g s u
           = sym (content_of r.stamp) ∙ says.content ∙ content_of says.base ∙ ap (λ (t : Stamp). w.contents g s t) (base_is_u says) in
@@ -327,12 +333,14 @@ module _ (setting : Setting) (w : World) (g s : ℕ) (books : Books setting w) (
           (subst (λ (x : Life). IsAnswered x.ending) same ended)) in
           let version = (books.operations n o.0 o.1).answered_version was in
           let e : Entry = entry_of n o.0 version.0 in
-          let swept : IsSwept w.operations effect e = answered_swept w.operations entries e (has_entry setting w g s books facts n o.0 version.0 o.1 o.2 version.1)
+          let swept : IsSwept w.operations effect e = answered_swept w.operations entries e
+          (has_entry setting w g s books facts n o.0 version.0 o.1 o.2 version.1)
           (ap (λ (x : Option Operation). was_answered x) o.1 ∙ was) in
           Contains-number walk e (swept.told (ap (λ (x : Option Operation). is_told x) o.1 ∙ or_left o.0.answered _ was))
 
   -- an operation that ended did not end before one that stands no later in the walk began
-  in_time_ended : (a b : Entry) (first : IsOurs a) (second : IsOurs b) (one : StripeLife a.operation first.operation) (other : StripeLife b.operation second.operation)
+  in_time_ended : (a b : Entry) (first : IsOurs a) (second : IsOurs b) (one : StripeLife a.operation first.operation)
+      (other : StripeLife b.operation second.operation)
       → entry_below b a ≡ false → end_of other.life.ending ≡ end_of other.full.ending → one.life.begin ≤ end_of other.life.ending
   in_time_ended a b first second one other order ends = ⊎_elim
       (λ (late : end_of other.life.ending < one.life.begin).
@@ -362,7 +370,8 @@ module _ (setting : Setting) (w : World) (g s : ℕ) (books : Books setting w) (
       (λ (early : one.life.begin ≤ end_of other.life.ending). early)
       (cases_lt (end_of other.life.ending) one.life.begin)
 
-  in_time : (a b : Entry) (first : IsOurs a) (second : IsOurs b) (one : StripeLife a.operation first.operation) (other : StripeLife b.operation second.operation)
+  in_time : (a b : Entry) (first : IsOurs a) (second : IsOurs b) (one : StripeLife a.operation first.operation)
+      (other : StripeLife b.operation second.operation)
       → entry_below b a ≡ false → (e : Ending) → other.life.ending ≡ e → one.life.begin ≤ end_of other.life.ending
   in_time a b first second one other order (Answered p answer) ends =
       in_time_ended a b first second one other order

@@ -21,8 +21,10 @@ count_from_lowest (suc n) test = omega (arith, count_from_lowest n test)
 
 -- a place of a list with one more in front
 places_of_more : {X : Type 0} (p : X → Bool) (d x : X) (xs : List X)
-    → count (suc (length xs)) (λ k. p (get_or (x ∷ xs) k d)) ≡ cond (p x) (1 + count (length xs) (λ k. p (get_or xs k d))) (count (length xs) (λ k. p (get_or xs k d)))
-places_of_more p d x xs = count_from_lowest (length xs) (λ k. p (get_or (x ∷ xs) k d)) ∙ one_if_cond (p x) (count (length xs) (λ k. p (get_or xs k d)))
+    → count (suc (length xs)) (λ k. p (get_or (x ∷ xs) k d)) ≡ cond (p x) (1 + count (length xs) (λ k. p (get_or xs k d)))
+    (count (length xs) (λ k. p (get_or xs k d)))
+places_of_more p d x xs = count_from_lowest (length xs) (λ k. p (get_or (x ∷ xs) k d))
+    ∙ one_if_cond (p x) (count (length xs) (λ k. p (get_or xs k d)))
   where
     one_if_cond : (b : Bool) (others : ℕ) → one_if b + others ≡ cond b (1 + others) others
     one_if_cond true others = refl
@@ -46,7 +48,8 @@ vote_within n q place mark seats lt =
     ∙ ap (λ seat. set (take n seats) place (after_reply seat mark)) (sym (get_or-take n seats place Silent lt)))
 
 -- the seats of a tally that pass, by list and by place
-pub count_of_seats : (p : Seat → Bool) (votes : Votes) → length votes.seats ≡ votes.n → count_by p votes.seats ≡ count votes.n (λ k. p (seat_of votes k))
+pub count_of_seats : (p : Seat → Bool) (votes : Votes) → length votes.seats ≡ votes.n → count_by p votes.seats ≡ count votes.n
+    (λ k. p (seat_of votes k))
 count_of_seats p votes len = count_by_places p Silent votes.seats ∙ ap (λ n. count n (λ k. p (seat_of votes k))) len
 
 -- a reply that is counted is one
@@ -73,5 +76,6 @@ counted_after votes seat mark k within = ⊎_elim
 pub count_after : (votes : Votes) (seat : ℕ) (mark : Option Stamp) → length votes.seats ≡ votes.n → seat < votes.n → counted votes seat ≡ false
     → count votes.n (counted (with_vote votes seat mark)) ≡ count votes.n (counted votes) + 1
 count_after votes seat mark len within silent =
-    count_same votes.n (counted (with_vote votes seat mark)) (with_seat seat (counted votes)) (λ k below. counted_after votes seat mark k (omega arith))
+    count_same votes.n (counted (with_vote votes seat mark)) (with_seat seat (counted votes))
+    (λ k below. counted_after votes seat mark k (omega arith))
     ∙ count_with_seat votes.n seat (counted votes) within silent

@@ -36,7 +36,8 @@ pub place_after : (versions : List Stamp) → Ascends versions → (i j : ℕ) �
     → stamp_below (version_at versions i) (version_at versions j) ≡ false → j ≤ i
 place_after versions up i j inside not_below =
     ⊎_elim
-    (λ (less : i < j). absurd (both_ways (stamp_below (version_at versions i) (version_at versions j)) not_below (rises_far versions up i j less inside)))
+    (λ (less : i < j). absurd (both_ways (stamp_below (version_at versions i) (version_at versions j)) not_below
+    (rises_far versions up i j less inside)))
     (λ (after : j ≤ i). after)
     (cases_lt i j)
 
@@ -117,7 +118,8 @@ module _ (Stands : Stamp → Type 0) (base : Stamp → Option Stamp) (facts : Ba
       (λ (over : stamp_below (version_at versions k) b ≡ true).
       let place = place_of versions are (version_at versions k) b effective over in
       let low : stamp_below (version_at versions (k + 1)) (version_at versions place.0) ≡ false =
-      subst (λ (s : Stamp). stamp_below (version_at versions (k + 1)) s ≡ false) (sym place.2) (stamp_below_asym b (version_at versions (k + 1)) below_next) in
+      subst (λ (s : Stamp). stamp_below (version_at versions (k + 1)) s ≡ false) (sym place.2)
+      (stamp_below_asym b (version_at versions (k + 1)) below_next) in
       let high : stamp_below (version_at versions place.0) (version_at versions k) ≡ false =
       subst (λ (s : Stamp). stamp_below s (version_at versions k) ≡ false) (sym place.2) (stamp_below_asym (version_at versions k) b over) in
       let at_most : place.0 ≤ k + 1 = place_after versions are.ascend (k + 1) place.0 place.1 low in
@@ -158,7 +160,8 @@ module _ (Stands : Stamp → Type 0) (base : Stamp → Option Stamp) (facts : Ba
       by None is = inl is
       by (Some b) is =
           let not_below = base_not_below versions are k inside b effective is in
-          let not_above = base_not_above versions are k inside b (BaseOf (version_at versions (k + 1)) b effective is) (facts.below (version_at versions (k + 1)) b is) in
+          let not_above = base_not_above versions are k inside b (BaseOf (version_at versions (k + 1)) b effective is)
+          (facts.below (version_at versions (k + 1)) b is) in
           inr (is ∙ ap Some (stamp_neither_below b (version_at versions k) not_below not_above))
 
   -- what holds of each effective version and any version that it may have been made on holds along the versions

@@ -115,7 +115,8 @@ is_eq-nat_cmp x y = grind (arith, nat_tests)
 -- the derived order of stamps
 stamp_cmp : Stamp → Stamp → Ordering
 stamp_cmp a b =
-    ordering_then (nat_cmp a.view.0 b.view.0) (ordering_then (nat_cmp a.time b.time) (ordering_then (nat_cmp a.brick.0 b.brick.0) (nat_cmp a.boot b.boot)))
+    ordering_then (nat_cmp a.view.0 b.view.0) (ordering_then (nat_cmp a.time b.time)
+    (ordering_then (nat_cmp a.brick.0 b.brick.0) (nat_cmp a.boot b.boot)))
 
 is_lt-stamp_cmp : (a b : Stamp) → is_lt (stamp_cmp a b) ≡ stamp_below a b
 unfolding stamp_cmp stamp_below
@@ -134,7 +135,8 @@ turn_cmp true true k l = is_lt-nat_cmp k l
 
 -- the derived order is that of entries
 is_lt-entry_cmp : (a b : Entry)
-    → is_lt (ordering_then (stamp_cmp a.stamp b.stamp) (ordering_then (bool_cmp a.reader b.reader) (nat_cmp a.operation b.operation))) ≡ entry_below a b
+    → is_lt (ordering_then (stamp_cmp a.stamp b.stamp)
+    (ordering_then (bool_cmp a.reader b.reader) (nat_cmp a.operation b.operation))) ≡ entry_below a b
 unfolding entry_below
 is_lt-entry_cmp a b =
     simp (is_lt_then (stamp_cmp a.stamp b.stamp), is_lt-stamp_cmp, is_eq-stamp_cmp, turn_cmp)

@@ -146,7 +146,8 @@ one_maker_from entries once same i j d less inside first second alike =
     let b : Entry = get_or entries j d in
     let one : a.operation ≡ b.operation =
     same b.stamp a b (Contains-get_or entries i d (omega arith)) (Contains-get_or entries j d inside) (first, alike) (second, refl) in
-    eqb-false _ _ (apart_from_distinct eqb (map (λ (e : Entry). e.operation) entries) i j 0 once less (omega (arith, length-map entries (λ (e : Entry). e.operation))))
+    eqb-false _ _ (apart_from_distinct eqb (map (λ (e : Entry). e.operation) entries) i j 0 once less
+    (omega (arith, length-map entries (λ (e : Entry). e.operation))))
     (get_or-map (λ (e : Entry). e.operation) entries i d 0 (omega arith) ∙ one ∙ sym (get_or-map (λ (e : Entry). e.operation) entries j d 0 inside))
 
 module _ (block : ℕ) (marks : List Mark) (content : Stamp → List ℕ) (versions : List Stamp) (rising : Ascends versions) where
@@ -212,7 +213,8 @@ module _ (block : ℕ) (marks : List Mark) (content : Stamp → List ℕ) (versi
       both_ways (stamp_below f.stamp e.stamp) after.0 below)
       (λ (least : j ≤ k).
       let here : j ≡ k = omega arith in
-      let reads : e.reader ≡ true = ⊎_elim (λ (r : e.reader ≡ true). r) (λ (r : e.reader ≡ false). absurd (let less : k < j = maker r in omega arith)) (cases_Bool e.reader) in
+      let reads : e.reader ≡ true = ⊎_elim (λ (r : e.reader ≡ true). r) (λ (r : e.reader ≡ false). absurd (let less : k < j = maker r in omega arith))
+      (cases_Bool e.reader) in
       after.1 reads makes (sym at ∙ ap version here ∙ sym stamp))
       (cases_lt k j)
 
@@ -283,7 +285,8 @@ module _ (block : ℕ) (marks : List Mark) (content : Stamp → List ℕ) (versi
       let after = after_entry e f later in
       let least : j ≤ place.at =
       place_after versions rising place.at j inside
-      (subst (λ (s : Stamp). stamp_below s (version j) ≡ false) (sym place.is) (subst (λ (s : Stamp). stamp_below f.stamp s ≡ false) (sym is) after.0)) in
+      (subst (λ (s : Stamp). stamp_below s (version j) ≡ false) (sym place.is)
+      (subst (λ (s : Stamp). stamp_below f.stamp s ≡ false) (sym is) after.0)) in
       record {
         at = place.at;
         from = least;
@@ -360,7 +363,8 @@ walk_is_strict m block marks content versions entries facts = record {
   never_back = positioned-rise marks 0 entries;
   once = subst (IsDistinct eqb) (sym (map-positioned marks 0 entries)) facts.once;
   in_time = positioned-in_time block marks content 0 entries facts.turns facts.real_time (λ k d h. omega arith);
-  answered_happen = λ n answered. subst (λ (numbers : List ℕ). Contains numbers n) (sym (map-positioned marks 0 entries)) (facts.answered_stand n answered);
+  answered_happen = λ n answered. subst (λ (numbers : List ℕ). Contains numbers n) (sym (map-positioned marks 0 entries))
+      (facts.answered_stand n answered);
   reads_right =
       positioned-reads_right block marks content versions facts.versions_ascend 0 (zero_registers m block) 0 entries
       (record {

@@ -49,7 +49,8 @@ fn is_above(number: u64, last: Option<u64>) -> bool
 
 /// Whether each End is of an operation that is open just before it.
 fn ends_are_of_open(marks: &[Mark]) -> bool
-    ensures { IsTrue result ↔ ((i p n : ℕ) (answer : Answer) → slice_get marks.now i ≡ Some (End p n answer) → IsOpen (life_of (take i marks.now) n)) }
+    ensures { IsTrue result ↔ ((i p n : ℕ) (answer : Answer) → slice_get marks.now i ≡ Some (End p n answer)
+        → IsOpen (life_of (take i marks.now) n)) }
 {
     for (i, mark) in marks.iter().enumerate() {
         if let Mark::End { operation, .. } = mark {

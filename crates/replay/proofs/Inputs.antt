@@ -46,7 +46,8 @@ PrintsHeaded-refused head left old new r output is p =
     record { schedule = some.0; are_lines = some.1; printed = Prints-same old new r (output_of (Parted head some.0)) output (is some.0) p }
 
 -- the layout was read, and the lines behind it were run
-pub PrintsHeaded-lines : (head : List ℕ) (layout : Layout) (run : Run) (left old new : Option (List ℕ)) (r : Result Verdict Halt) → layout_of head ≡ Ok layout
+pub PrintsHeaded-lines : (head : List ℕ) (layout : Layout) (run : Run) (left old new : Option (List ℕ)) (r : Result Verdict Halt)
+    → layout_of head ≡ Ok layout
     → run ≡ record { layout = layout; lines = [] } → PrintsRest run 0 left old new r
     → PrintsHeaded head left old new r
 PrintsHeaded-lines head layout run left old new r is first p =
@@ -59,7 +60,8 @@ PrintsHeaded-lines head layout run left old new r is first p =
     }
 
 -- the output of an equal layout's text
-pub PrintsHeaded-head : (head other : List ℕ) (left old new : Option (List ℕ)) (r : Result Verdict Halt) → head ≡ other → PrintsHeaded head left old new r
+pub PrintsHeaded-head : (head other : List ℕ) (left old new : Option (List ℕ)) (r : Result Verdict Halt) → head ≡ other
+    → PrintsHeaded head left old new r
     → PrintsHeaded other left old new r
 PrintsHeaded-head head other left old new r e p = subst (λ (l : List ℕ). PrintsHeaded l left old new r) e p
 
@@ -89,10 +91,12 @@ pub PrintsInput-headed : (source left old new : Option (List ℕ)) (head : List 
 PrintsInput-headed source left old new head r reads under p =
     record { input = Parted head p.schedule; is_input = is_input source left reads p.are_lines; printed = p.printed }
   where
-    is_input : (source left : Option (List ℕ)) → ReadsSchedule source left head [] → AreLinesOf left p.schedule → IsInput source (Parted head p.schedule)
+    is_input : (source left : Option (List ℕ)) → ReadsSchedule source left head [] → AreLinesOf left p.schedule
+        → IsInput source (Parted head p.schedule)
     is_input None left reads lines = tt
     is_input (Some x) None reads lines = absurd reads
-    is_input (Some x) (Some y) reads lines = input_of-parts x head p.schedule under (reads ∙ ap (λ l. Some (record { layout = head; schedule = l })) lines)
+    is_input (Some x) (Some y) reads lines = input_of-parts x head p.schedule under
+        (reads ∙ ap (λ l. Some (record { layout = head; schedule = l })) lines)
 
 -- bytes that were not read yet stand before those of the source
 pub PrintsInput-unread : (unread : List ℕ) (source old new : Option (List ℕ)) (r : Result Verdict Halt) → unread ≡ []

@@ -42,7 +42,8 @@ layout_has [] rest none = of_parts (parts_of_lines rest)
 layout_has (line ∷ lines) rest none =
     let both = or_parts (ends_layout line) (list_any ends_layout lines) none in
     let more = layout_has-line line (length (concat lines)) (parts_of_lines (lines ++ rest)) (layout_has lines rest both.1) in
-    rw (both.0) (subst (λ (k : ℕ). LayoutHas k (option_map (onto_layout line) (parts_of_lines (lines ++ rest)))) (sym (length-append line (concat lines))) more)
+    rw (both.0) (subst (λ (k : ℕ). LayoutHas k (option_map (onto_layout line) (parts_of_lines (lines ++ rest))))
+    (sym (length-append line (concat lines))) more)
 
 -- some of the lines have no more bytes than all
 some_of_all : (lines rest : List (List ℕ)) → length (concat lines) ≤ length (concat (lines ++ rest))
@@ -92,7 +93,8 @@ long_ends line over = of_test (ends_layout line) (bytes_eq-Decides (content line
     of_test true same = absurd (let three : length (content line) ≡ 3 = ap length (same refl) in omega (arith, three, over))
 
 -- the next line is past the limit
-pub too_long-next : (start now : Option (List ℕ)) (head : List ℕ) → ReadsHead start now head → IfSome now (BeginsLong most_layout_bytes) → IsInput start TooLong
+pub too_long-next : (start now : Option (List ℕ)) (head : List ℕ) → ReadsHead start now head → IfSome now (BeginsLong most_layout_bytes)
+    → IsInput start TooLong
 too_long-next None now head h next = tt
 too_long-next (Some x) None head (lines, taken, none, is) next = absurd taken
 too_long-next (Some x) (Some y) head (lines, taken, none, is) (line, rest, first, over) =
@@ -110,7 +112,8 @@ too_long-next (Some x) (Some y) head (lines, taken, none, is) (line, rest, first
     last_of (l ∷ lines) = omega (arith, length-append l (concat (lines ++ line ∷ [])), last_of lines)
 
 -- no line is left, and those that were taken are within the limit
-pub endless : (start now : Option (List ℕ)) (head : List ℕ) → ReadsHead start now head → IsAtEnd now → length head ≤ most_layout_bytes → IsInput start Endless
+pub endless : (start now : Option (List ℕ)) (head : List ℕ) → ReadsHead start now head → IsAtEnd now → length head ≤ most_layout_bytes
+    → IsInput start Endless
 unfolding input_of
 endless None now head h end under = tt
 endless (Some x) None head (lines, taken, none, is) end under = absurd taken

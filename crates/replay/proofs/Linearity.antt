@@ -41,9 +41,11 @@ record IsWhole (layout : Layout) (w : World) (n : ℕ) (contents : List (List �
   text_is : text ≡ lines_text (coding layout) w lines ++ closing_text layout (after_lines (coding layout) w lines) (n + length lines)
 
 -- an output that ends as whole is one of lines, where that holds behind the first
-whole-line : (layout : Layout) (w : World) (n : ℕ) (content : List ℕ) (rest : List (List ℕ)) (within : Bool) (line : Option Line) → line_of content ≡ line
+whole-line : (layout : Layout) (w : World) (n : ℕ) (content : List ℕ) (rest : List (List ℕ)) (within : Bool) (line : Option Line)
+    → line_of content ≡ line
     → ((v : World) (k : ℕ) → (output_from layout v k rest).verdict ≡ Whole → IsWhole layout v k rest (output_from layout v k rest).text)
-    → (let output = output_line n within line (λ l. onto (text_of (coding layout) w l) (output_from layout (after_line (coding layout) w l) (n + 1) rest)) in
+    → (let output = output_line n within line (λ l. onto (text_of (coding layout) w l)
+    (output_from layout (after_line (coding layout) w l) (n + 1) rest)) in
     output.verdict ≡ Whole → IsWhole layout w n (content ∷ rest) output.text)
 whole-line layout w n content rest false line is behind h = cc
 whole-line layout w n content rest true None is behind h = cc
@@ -116,7 +118,8 @@ unfolding output_of
 by_parts head schedule h = by_layout head schedule (layout_of head) refl h
 
 -- no output of an input without a schedule ends as whole
-parted_or_not : (input : Input) → ((output_of input).verdict ≡ Whole → ⊥) ⊎ ((head : List ℕ) × (schedule : List (List ℕ)) × (input ≡ Parted head schedule))
+parted_or_not : (input : Input) → ((output_of input).verdict ≡ Whole → ⊥)
+    ⊎ ((head : List ℕ) × (schedule : List (List ℕ)) × (input ≡ Parted head schedule))
 unfolding output_of
 parted_or_not TooLong = inl (λ h. let never : BadLayout ≡ Whole = h in cc)
 parted_or_not Endless = inl (λ h. let never : BadLayout ≡ Whole = h in cc)

@@ -45,10 +45,12 @@ output_from-many layout w content rest = refl
 pub output_from-front : (layout : Layout) (w : World) (n : ℕ) (content : List ℕ) (rest : List (List ℕ)) → n < most_lines
     → (more : List ℕ) × ((output_from layout w n (content ∷ rest)).text ≡ line_text (coding layout) w (line_of content) ++ more)
 unfolding output_from
-output_from-front layout w n content rest h = rw (within n h) (by_line (line_of content) (λ line. output_from layout (after_line (coding layout) w line) (n + 1) rest))
+output_from-front layout w n content rest h = rw (within n h)
+    (by_line (line_of content) (λ line. output_from layout (after_line (coding layout) w line) (n + 1) rest))
   where
     by_line : (line : Option Line) (ran : Line → Output)
-        → (more : List ℕ) × ((output_line n true line (λ l. onto (text_of (coding layout) w l) (ran l))).text ≡ line_text (coding layout) w line ++ more)
+        → (more : List ℕ) × ((output_line n true line (λ l. onto (text_of (coding layout) w l) (ran l))).text ≡ line_text
+        (coding layout) w line ++ more)
     by_line None ran = ((bad_line (n + 1)).text, refl)
     by_line (Some line) ran = ((ran line).text, refl)
 

@@ -24,7 +24,8 @@ pub Prints-nothing : (a : Option (List ℕ)) (output : Output) (halt : Halt) →
 Prints-nothing a output halt = AppendsFront-none a a output.text (Keeps-refl a)
 
 -- an equal output
-pub Prints-same : (a b : Option (List ℕ)) (r : Result Verdict Halt) (output other : Output) → output ≡ other → Prints a b other r → Prints a b output r
+pub Prints-same : (a b : Option (List ℕ)) (r : Result Verdict Halt) (output other : Output) → output ≡ other → Prints a b other r
+    → Prints a b output r
 Prints-same a b r output other e p = subst (λ (o : Output). Prints a b o r) (sym e) p
 
 -- the output of an equal text

@@ -42,7 +42,8 @@ PrintsRest-ended run n left old new r end p = record {
 
 -- the next line is none
 pub PrintsRest-bad : (run : Run) (n : ℕ) (left rest old mid new : Option (List ℕ)) (line : List ℕ) (r : Result Verdict Halt) → n < most_lines
-    → Passes left rest (line ∷ []) → line_of (content line) ≡ None → Keeps old mid → Prints mid new (bad_line (n + 1)) r → PrintsRest run n left old new r
+    → Passes left rest (line ∷ []) → line_of (content line) ≡ None → Keeps old mid → Prints mid new (bad_line (n + 1)) r
+    → PrintsRest run n left old new r
 PrintsRest-bad run n left rest old mid new line r within passes bad keeps p =
     let first = first_line left rest line passes in
     record {
@@ -90,7 +91,8 @@ PrintsRest-many run left rest old new piece r says more p =
           (output_from-many run.layout (world_of run) line contents) p;
     }
   where
-    a_line : (piece : Piece) → Says 70000 left rest piece → (piece ≡ Ended → ⊥) → (line : List ℕ) × (contents : List (List ℕ)) × AreLinesOf left (line ∷ contents)
+    a_line : (piece : Piece) → Says 70000 left rest piece → (piece ≡ Ended → ⊥) → (line : List ℕ) × (contents : List (List ℕ))
+        × AreLinesOf left (line ∷ contents)
     a_line (Whole bytes) says more = let first = first_line left rest bytes says.1 in (content bytes, first.0, first.1)
     a_line Long says more = let long = long_line left says.1 in (long.0, long.1, long.2)
     a_line Ended says more = absurd (more refl)
@@ -136,9 +138,11 @@ onto-onto a b output = ap (λ t. onto_verdict t) (sym (append_assoc a b output.t
 -- the output of a line, over an equal layout
 line_of_layout : (layout same : Layout) (w : World) (n : ℕ) (content : List ℕ) (rest : List (List ℕ)) (line : Line) → n < most_lines → layout ≡ same
     → line_of content ≡ Some line
-    → output_from same w n (content ∷ rest) ≡ onto (text_of (coding layout) w line) (output_from same (after_line (coding layout) w line) (n + 1) rest)
+    → output_from same w n (content ∷ rest) ≡ onto (text_of (coding layout) w line)
+    (output_from same (after_line (coding layout) w line) (n + 1) rest)
 line_of_layout layout same w n content rest line within e is =
-    subst (λ (l : Layout). output_from same w n (content ∷ rest) ≡ onto (text_of (coding l) w line) (output_from same (after_line (coding l) w line) (n + 1) rest))
+    subst (λ (l : Layout). output_from same w n (content ∷ rest) ≡ onto (text_of (coding l) w line)
+    (output_from same (after_line (coding l) w line) (n + 1) rest))
     (sym e) (output_from-line same w n content rest line within is)
 
 -- one more was run
@@ -168,7 +172,8 @@ HasRun-line first run after n start left rest old mid new within h t =
     }
 
 -- the rest was printed
-pub HasRun-rest : (first run : Run) (n : ℕ) (start left old mid new : Option (List ℕ)) (r : Result Verdict Halt) → HasRun first run n start left old mid
+pub HasRun-rest : (first run : Run) (n : ℕ) (start left old mid new : Option (List ℕ)) (r : Result Verdict Halt)
+    → HasRun first run n start left old mid
     → PrintsRest run n left mid new r → PrintsRest first 0 start old new r
 HasRun-rest first run n start left old mid new r h p =
     let printed = subst (λ l. Prints mid new (output_from l (world_of run) n p.contents) r) h.same_layout p.printed in
@@ -176,6 +181,7 @@ HasRun-rest first run n start left old mid new r h p =
     record {
       contents = map content h.lines ++ p.contents;
       are_lines = taken_lines start left h.lines p.contents h.passes p.are_lines;
-      printed = Prints-same old new r (output_from first.layout (world_of first) 0 (map content h.lines ++ p.contents)) (onto h.text whole) (h.onward p.contents)
+      printed = Prints-same old new r (output_from first.layout (world_of first) 0 (map content h.lines ++ p.contents)) (onto h.text whole)
+          (h.onward p.contents)
           (Prints-after old mid new h.text whole r h.printed printed);
     }

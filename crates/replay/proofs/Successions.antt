@@ -22,7 +22,8 @@ follows_events : (layout : Layout) → IsSound (coding layout) → (events more 
 follows_events layout sound events more earlier later first then =
     subst (λ (w : World). Follows layout earlier w) (sym then) (from_run earlier first)
   where
-    of_run : Follows layout (run (coding layout) events (first_world layout)) (run (coding layout) more (run (coding layout) events (first_world layout)))
+    of_run : Follows layout (run (coding layout) events (first_world layout))
+        (run (coding layout) more (run (coding layout) events (first_world layout)))
     of_run = record {
       never_falls = (parts_stay_on (coding layout) more (run (coding layout) events (first_world layout))).tops;
       never_surfaces = λ g s group v here lost held. never_surfaces (coding layout) events more g s group v sound here lost held;

@@ -8,4 +8,5 @@ use Rattle.protocol.specs.Laws.{NeverFalls, IsLost, IsHeldByQuorum}
 -- No brick has lowered what it had promised or stored, and no version that was lost has surfaced.
 pub record Follows (layout : Layout) (earlier later : World) : Type 0 where
   pub never_falls : NeverFalls earlier later
-  pub never_surfaces : (g s : ℕ) (group : Group) (v : Stamp) → group_of layout g ≡ Some group → IsLost earlier g s group v → IsHeldByQuorum later g s group v → ⊥
+  pub never_surfaces : (g s : ℕ) (group : Group) (v : Stamp) → group_of layout g ≡ Some group → IsLost earlier g s group v
+      → IsHeldByQuorum later g s group v → ⊥

@@ -42,10 +42,18 @@ same_halted halted (Err NoMemory) other = refl
 -- what follows from another failure
 kept_as : (before now : ℕ) (S T F G : Type 0) → (G → F) → Kept before now S T F → Kept before now S T G
 kept_as before now S T F G back kept =
-    record { later = kept.later; rose = λ failed. kept.rose (back failed); stays = kept.stays; never = λ sound failed. kept.never sound (back failed) }
+    record {
+      later = kept.later;
+      rose = λ failed. kept.rose (back failed);
+      stays = kept.stays;
+      never = λ sound failed. kept.never sound
+          (back failed);
+    }
 
-module _ {D : Type 0} (tells : Type 0) (seen : D → List ℕ) (may_leave : D → List ℕ → Type 0) (moment : D → ℕ) (left_since : D → ℕ → List ℕ → Type 0) (faults_of : D → ℕ) (sound : D → Type 0)
-    (only_now : (disk : D) (image : List ℕ) → left_since disk (moment disk) image → may_leave disk image) (g s : ℕ) (Follows : Option Reply → StateOf Version → Type 0) where
+module _ {D : Type 0} (tells : Type 0) (seen : D → List ℕ) (may_leave : D → List ℕ → Type 0) (moment : D → ℕ) (left_since : D → ℕ → List ℕ → Type 0)
+    (faults_of : D → ℕ) (sound : D → Type 0)
+    (only_now : (disk : D) (image : List ℕ) → left_since disk (moment disk) image → may_leave disk image) (g s : ℕ)
+    (Follows : Option Reply → StateOf Version → Type 0) where
   abbrev Called : Brick D → Brick D → Answer → Type 0
   Called old new result = Handles tells seen may_leave moment left_since faults_of sound g s Follows old new result
 
@@ -53,18 +61,23 @@ module _ {D : Type 0} (tells : Type 0) (seen : D → List ℕ) (may_leave : D �
   not_running old result runs halted = differ (sym runs.runs ∙ halted)
 
   -- a call that left the disk and the state as they were
-  pub handles_untouched : (old new : Brick D) (result : Answer) → Runs tells may_leave old → new.shape ≡ old.shape → new.state ≡ old.state → new.halted ≡ old.halted
-      → IsUntouched seen may_leave moment left_since old.disk new.disk → Kept (faults_of old.disk) (faults_of new.disk) (sound old.disk) (sound new.disk) (result ≡ Err Disk)
+  pub handles_untouched : (old new : Brick D) (result : Answer) → Runs tells may_leave old → new.shape ≡ old.shape → new.state ≡ old.state
+      → new.halted ≡ old.halted
+      → IsUntouched seen may_leave moment left_since old.disk new.disk → Kept (faults_of old.disk) (faults_of new.disk) (sound old.disk)
+      (sound new.disk) (result ≡ Err Disk)
       → result ≢ Err Disk → result ≢ Err Halted → IfOk result (λ reply. Follows reply old.state) → Called old new result
   handles_untouched old new result runs shape state halted untouched cause not_disk not_halted follows = record {
     ok = followed result follows;
     refused = on_err (new.state ≡ old.state) result state;
     shape = shape;
-    durable = λ told. on_ok (LeavesState new.shape new.state (may_leave new.disk)) result (λ image left. now image (runs.durable told image (untouched.crash image left)));
+    durable = λ told. on_ok (LeavesState new.shape new.state (may_leave new.disk)) result
+        (λ image left. now image (runs.durable told image (untouched.crash image left)));
     any_moment = λ told _.
-        goes_on moment left_since old.disk old.disk new.disk Either (may_leave new.disk) (started moment left_since old.disk Either (λ image left. inl (runs.durable told image (only_now old.disk image left))))
+        goes_on moment left_since old.disk old.disk new.disk Either (may_leave new.disk)
+        (started moment left_since old.disk Either (λ image left. inl (runs.durable told image (only_now old.disk image left))))
         untouched.time (λ image left. inl (runs.durable told image (untouched.crash image left)));
-    still = on_ok (part_in old.shape.block new.state g s ≡ part_in old.shape.block old.state g s → (new.state ≡ old.state) × IsUntouched seen may_leave moment left_since old.disk new.disk) result (λ same. (state, untouched));
+    still = on_ok (part_in old.shape.block new.state g s ≡ part_in old.shape.block old.state g s → (new.state ≡ old.state)
+        × IsUntouched seen may_leave moment left_since old.disk new.disk) result (λ same. (state, untouched));
     halted = not_running old result runs;
     only_halted = λ is. absurd (not_halted is);
     halts = halted ∙ same_halted old.halted result not_disk;
@@ -76,7 +89,8 @@ module _ {D : Type 0} (tells : Type 0) (seen : D → List ℕ) (may_leave : D �
       Either = OpensAsEither old.shape old.state Follows
 
       now : (image : List ℕ) → StandsFor old.shape old.state image → StandsFor new.shape new.state image
-      now image stands = subst (λ (x : Shape). StandsFor x new.state image) (sym shape) (subst (λ (st : StateOf Version). StandsFor old.shape st image) (sym state) stands)
+      now image stands = subst (λ (x : Shape). StandsFor x new.state image) (sym shape)
+          (subst (λ (st : StateOf Version). StandsFor old.shape st image) (sym state) stands)
 
       followed : (r : Answer) → IfOk r (λ reply. Follows reply old.state) → IfOk r (λ reply. Follows reply new.state)
       followed (Ok reply) h = subst (λ (st : StateOf Version). Follows reply st) (sym state) h
@@ -91,14 +105,17 @@ module _ {D : Type 0} (tells : Type 0) (seen : D → List ℕ) (may_leave : D �
     Changed answer = Changes tells seen may_leave moment left_since faults_of sound old new after adds calls answer
 
     -- where there was room, each image opens as the state before or after
-    moments : (answer : Result (Unit {0}) StoreFault) → Changed answer → Follows (Some reply) after → tells → old.halted ≡ false → LeavesOnly moment left_since old.disk new.disk (OpensAsEither old.shape old.state Follows)
+    moments : (answer : Result (Unit {0}) StoreFault) → Changed answer → Follows (Some reply) after → tells → old.halted ≡ false
+        → LeavesOnly moment left_since old.disk new.disk (OpensAsEither old.shape old.state Follows)
     moments answer change follows told running =
         widened moment left_since old.disk new.disk (StandsForEither old.shape old.state after) (OpensAsEither old.shape old.state Follows)
-        (λ image either. ⊎_elim (λ (was : StandsFor old.shape old.state image). inl was) (λ (is : StandsFor old.shape after image). inr (after, Some reply, is, follows)) either)
+        (λ image either. ⊎_elim (λ (was : StandsFor old.shape old.state image). inl was)
+        (λ (is : StandsFor old.shape after image). inr (after, Some reply, is, follows)) either)
         (change.any_moment told running)
 
     -- and it was made, or the disk failed
-    room : (answer : Result (Unit {0}) StoreFault) → Changed answer → answer ≢ Err (faults.Full (live old.state)) → adds ≡ true → live old.state ≡ old.shape.records → ⊥
+    room : (answer : Result (Unit {0}) StoreFault) → Changed answer → answer ≢ Err (faults.Full (live old.state)) → adds ≡ true
+        → live old.state ≡ old.shape.records → ⊥
     room answer change other add full = other (change.answer.full runs.runs add full)
 
     pub handles_change : (answer : Result (Unit {0}) StoreFault) → Changed answer → Called old new (answered reply answer)
@@ -134,27 +151,34 @@ module _ {D : Type 0} (tells : Type 0) (seen : D → List ℕ) (may_leave : D �
         }
     handles_change (Err (faults.Full n)) change =
         let was = change.answer.only_full n refl in
-        handles_untouched old new (Ok (Some (Full n))) runs change.refused.shape change.refused.state change.answer.halts (change.no_call (λ h. absurd cc))
-        (kept_as (faults_of old.disk) (faults_of new.disk) (sound old.disk) (sound new.disk) _ _ (λ h. absurd cc) change.cause) (λ h. absurd cc) (λ h. absurd cc)
+        handles_untouched old new (Ok (Some (Full n))) runs change.refused.shape change.refused.state change.answer.halts
+        (change.no_call (λ h. absurd cc))
+        (kept_as (faults_of old.disk) (faults_of new.disk) (sound old.disk) (sound new.disk) _ _ (λ h. absurd cc) change.cause) (λ h. absurd cc)
+        (λ h. absurd cc)
         (subst (λ (m : ℕ). Follows (Some (Full m)) old.state) (sym was.3) (none was.1 was.2))
     handles_change (Err faults.Halted) change = differ (sym runs.runs ∙ change.answer.only_then refl)
     handles_change (Err faults.NotAStore) change = absurd (change.answer.a_store refl)
     handles_change (Err faults.Worn) change = absurd (change.answer.not_worn refl)
     handles_change (Err faults.NoMemory) change =
         handles_untouched old new (Err NoMemory) runs change.refused.shape change.refused.state change.answer.halts (change.no_call (λ h. absurd cc))
-        (kept_as (faults_of old.disk) (faults_of new.disk) (sound old.disk) (sound new.disk) _ _ (λ h. absurd cc) change.cause) (λ h. absurd cc) (λ h. absurd cc) tt
+        (kept_as (faults_of old.disk) (faults_of new.disk) (sound old.disk) (sound new.disk) _ _ (λ h. absurd cc) change.cause) (λ h. absurd cc)
+        (λ h. absurd cc) tt
 
 -- what follows in one sense follows in another
-pub handles_imply : {D : Type 0} (tells : Type 0) (seen : D → List ℕ) (may_leave : D → List ℕ → Type 0) (moment : D → ℕ) (left_since : D → ℕ → List ℕ → Type 0) (faults_of : D → ℕ) (sound : D → Type 0)
-    (g s : ℕ) (Follows Also : Option Reply → StateOf Version → Type 0) → ((reply : Option Reply) (st : StateOf Version) → Follows reply st → Also reply st) → (old new : Brick D) (result : Answer)
-    → Handles tells seen may_leave moment left_since faults_of sound g s Follows old new result → Handles tells seen may_leave moment left_since faults_of sound g s Also old new result
+pub handles_imply : {D : Type 0} (tells : Type 0) (seen : D → List ℕ) (may_leave : D → List ℕ → Type 0) (moment : D → ℕ)
+    (left_since : D → ℕ → List ℕ → Type 0) (faults_of : D → ℕ) (sound : D → Type 0)
+    (g s : ℕ) (Follows Also : Option Reply → StateOf Version → Type 0) → ((reply : Option Reply) (st : StateOf Version) → Follows reply st
+    → Also reply st) → (old new : Brick D) (result : Answer)
+    → Handles tells seen may_leave moment left_since faults_of sound g s Follows old new result
+    → Handles tells seen may_leave moment left_since faults_of sound g s Also old new result
 handles_imply {D} tells seen may_leave moment left_since faults_of sound g s Follows Also implies old new result handles = record {
   ok = followed result handles.ok;
   refused = handles.refused;
   shape = handles.shape;
   durable = handles.durable;
   any_moment = λ told running.
-      widened moment left_since old.disk new.disk (OpensAsEither old.shape old.state Follows) (OpensAsEither old.shape old.state Also) either (handles.any_moment told running);
+      widened moment left_since old.disk new.disk (OpensAsEither old.shape old.state Follows) (OpensAsEither old.shape old.state Also) either
+      (handles.any_moment told running);
   still = handles.still;
   halted = handles.halted;
   only_halted = handles.only_halted;

@@ -32,7 +32,8 @@ pub not_below_order : (part : Replica) (t : Stamp) → stamp_below t (top_of par
 unfolding top_of
 not_below_order part t h = by (newest_of part.log) refl
   where
-    max_of : (b : Bool) (v : Version) → stamp_below part.order v.stamp ≡ b → stamp_below t (cond b v.stamp part.order) ≡ false → stamp_below t part.order ≡ false
+    max_of : (b : Bool) (v : Version) → stamp_below part.order v.stamp ≡ b → stamp_below t (cond b v.stamp part.order) ≡ false
+        → stamp_below t part.order ≡ false
     max_of true v at h' = stamp_not_below_trans part.order v.stamp t (stamp_below_asym part.order v.stamp at) h'
     max_of false v at h' = h'
 
@@ -41,7 +42,8 @@ not_below_order part t h = by (newest_of part.log) refl
     by (Some v) at = max_of (stamp_below part.order v.stamp) v refl (rw at at h)
 
 -- nor below the newest version
-not_below_newest : (part : Replica) (t : Stamp) (v : Version) → newest_of part.log ≡ Some v → stamp_below t (top_of part) ≡ false → stamp_below t v.stamp ≡ false
+not_below_newest : (part : Replica) (t : Stamp) (v : Version) → newest_of part.log ≡ Some v → stamp_below t (top_of part) ≡ false
+    → stamp_below t v.stamp ≡ false
 unfolding top_of
 not_below_newest part t v at h = max_of (stamp_below part.order v.stamp) refl (rw at at h)
   where
@@ -67,7 +69,8 @@ newest_other t (w ∷ x ∷ log) v held at = newest_other t (x ∷ log) v (by (s
     by false h = h
 
 -- a version that is not held, and not below the top, is above the newest
-pub above_newest : (part : Replica) (t : Stamp) → is_held t part.log ≡ false → stamp_below t (top_of part) ≡ false → ForSome (newest_of part.log) (λ top. IsTrue (stamp_below top.stamp t))
+pub above_newest : (part : Replica) (t : Stamp) → is_held t part.log ≡ false → stamp_below t (top_of part) ≡ false
+    → ForSome (newest_of part.log) (λ top. IsTrue (stamp_below top.stamp t))
 above_newest part t held h v at = by (stamp_below v.stamp t) refl
   where
     by : (b : Bool) → stamp_below v.stamp t ≡ b → stamp_below v.stamp t ≡ true
@@ -94,9 +97,11 @@ and_not : (b : Bool) → (b && not b) ≡ false
 and_not true = refl
 and_not false = refl
 
-pub promised_again : (full : Option ℕ) (part : Replica) (t : Stamp) (reply : Reply) → stamp_same part.order t ≡ true → stays part reply ≡ unless_full full part (promised part t reply)
+pub promised_again : (full : Option ℕ) (part : Replica) (t : Stamp) (reply : Reply) → stamp_same part.order t ≡ true
+    → stays part reply ≡ unless_full full part (promised part t reply)
 promised_again full part t reply same =
-    sym (ap (unless_full full part) (ap promise (sym (stamp_same_true part.order t same)) ∙ ap adding (and_not (stamp_same part.order first_stamp))) ∙ unless_stays full part reply)
+    sym (ap (unless_full full part) (ap promise (sym (stamp_same_true part.order t same)) ∙ ap adding (and_not (stamp_same part.order first_stamp)))
+    ∙ unless_stays full part reply)
   where
     promise : Stamp → Reaction
     promise o = promised part o reply

@@ -12,7 +12,8 @@ use Rattle.protocol.specs.Replicas.{newest_of, is_held, looked_up}
 use Rattle.protocol.specs.Replicas as machine
 use Rattle.replica.specs.Parts.{as_version}
 
-pub option_map-option_map : {X Y Z : Type 0} (f : Y → Z) (g : X → Y) (found : Option X) → option_map (λ x. f (g x)) found ≡ option_map f (option_map g found)
+pub option_map-option_map : {X Y Z : Type 0} (f : Y → Z) (g : X → Y) (found : Option X) → option_map (λ x. f (g x)) found ≡ option_map f
+    (option_map g found)
 option_map-option_map f g None = refl
 option_map-option_map f g (Some x) = refl
 
@@ -35,7 +36,8 @@ pub held_seen : (t : Stamp) (log : List Kept) → is_held t (map as_version log)
 held_seen t [] = refl
 held_seen t (v ∷ log) = by (stamp_same v.stamp t) (held_seen t log)
   where
-    by : (b : Bool) → is_held t (map as_version log) ≡ is_some (find (has_stamp t) log) → (b || is_held t (map as_version log)) ≡ is_some (cond b (Some v) (find (has_stamp t) log))
+    by : (b : Bool) → is_held t (map as_version log) ≡ is_some (find (has_stamp t) log) → (b || is_held t (map as_version log)) ≡ is_some
+        (cond b (Some v) (find (has_stamp t) log))
     by true rest = refl
     by false rest = rest
 
@@ -78,9 +80,11 @@ newest_found t (v ∷ log) rising = by (stamp_same v.stamp t) refl (newest_found
     by false at rest = rest
     by true at rest = ap (λ (vs : List Kept). newest (v ∷ vs)) (none_again t v log at rising)
 
-at_seen : (t : Stamp) (log : List Kept) → IsRising log → newest_of (filter (λ v. stamp_same v.stamp t) (map as_version log)) ≡ option_map as_version (find (has_stamp t) log)
+at_seen : (t : Stamp) (log : List Kept) → IsRising log → newest_of (filter (λ v. stamp_same v.stamp t) (map as_version log)) ≡ option_map as_version
+    (find (has_stamp t) log)
 at_seen t log rising =
-    ap newest_of (filter-map as_version (λ v. stamp_same v.stamp t) log) ∙ newest_seen (filter (has_stamp t) log) ∙ ap (option_map as_version) (newest_found t log rising)
+    ap newest_of (filter-map as_version (λ v. stamp_same v.stamp t) log) ∙ newest_seen (filter (has_stamp t) log)
+    ∙ ap (option_map as_version) (newest_found t log rising)
 
 -- it is the one with this block
 pub found_at : (t : Stamp) (log : List Kept) (found : Option (List ℕ)) → IsRising log → found ≡ option_map block_of (find (has_stamp t) log)
@@ -94,13 +98,15 @@ found_at t log found rising is = by (find (has_stamp t) log) (passes log) is ∙
     passes [] v h = absurd cc
     passes (w ∷ vs) v h = at (stamp_same w.stamp t) refl (passes vs v) h
       where
-        at : (b : Bool) → stamp_same w.stamp t ≡ b → (find (has_stamp t) vs ≡ Some v → v.stamp ≡ t) → cond b (Some w) (find (has_stamp t) vs) ≡ Some v → v.stamp ≡ t
+        at : (b : Bool) → stamp_same w.stamp t ≡ b → (find (has_stamp t) vs ≡ Some v → v.stamp ≡ t) → cond b (Some w) (find (has_stamp t) vs) ≡ Some v
+            → v.stamp ≡ t
         at true same rest h' = ap (λ (x : Kept). x.stamp) (sym (some_same h')) ∙ stamp_same_true w.stamp t same
           where
             some_same : {a b : Kept} → Some a ≡ Some b → a ≡ b
             some_same e = cc
         at false same rest h' = rest h'
 
-    by : (kept : Option Kept) → ((v : Kept) → kept ≡ Some v → v.stamp ≡ t) → found ≡ option_map block_of kept → option_map (λ block. record { stamp = t; block = block }) found ≡ option_map as_version kept
+    by : (kept : Option Kept) → ((v : Kept) → kept ≡ Some v → v.stamp ≡ t) → found ≡ option_map block_of kept
+        → option_map (λ block. record { stamp = t; block = block }) found ≡ option_map as_version kept
     by None stamp h = rw h refl
     by (Some v) stamp h = rw h (ap (λ (u : Stamp). Some (record { stamp = u; block = v.block })) (sym (stamp v refl)))

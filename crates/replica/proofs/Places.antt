@@ -51,14 +51,16 @@ module _ {E : Type 0} where
   inserted_other p q s (e ∷ stripes) other = by (place_cmp p e.0) refl (inserted_other p q s stripes other)
     where
       by : (r : Ordering) → place_cmp p e.0 ≡ r → found q (insert_entry place_cmp stripes p s) ≡ found q stripes
-          → found q (match_ordering r ((p, s) ∷ e ∷ stripes) ((e.0, s) ∷ stripes) (e ∷ insert_entry place_cmp stripes p s)) ≡ cond (is_eq (place_cmp q e.0)) (Some e.1) (found q stripes)
+          → found q (match_ordering r ((p, s) ∷ e ∷ stripes) ((e.0, s) ∷ stripes) (e ∷ insert_entry place_cmp stripes p s)) ≡ cond
+          (is_eq (place_cmp q e.0)) (Some e.1) (found q stripes)
       by Less at rest = rw (apart p q other) refl
       by Greater at rest = ap (cond (is_eq (place_cmp q e.0)) (Some e.1)) rest
       by Equal at rest = rw (subst (λ (k : Place). is_eq (place_cmp q k) ≡ false) (place_exact p e.0 at) (apart p q other)) refl
 
   -- ---- one that is not
 
-  removed_here : (p : Place) (stripes : Stripes E) → IsStrictlySortedBy place_cmp (keys_of stripes) → found p (remove_entry (is_at (place_cmp p)) stripes) ≡ None
+  removed_here : (p : Place) (stripes : Stripes E) → IsStrictlySortedBy place_cmp (keys_of stripes)
+      → found p (remove_entry (is_at (place_cmp p)) stripes) ≡ None
   removed_here p [] sorted = refl
   removed_here p (e ∷ stripes) sorted = by (place_cmp p e.0) refl (removed_here p stripes (sorted_tail place_cmp e.0 (keys_of stripes) sorted))
     where
@@ -66,7 +68,8 @@ module _ {E : Type 0} where
       none_above [] above at = refl
       none_above (x ∷ rest) above at = rw (place_total.congr p e.0 x.0 at ∙ above.0) (none_above rest above.1 at)
 
-      by : (r : Ordering) → place_cmp p e.0 ≡ r → found p (remove_entry (is_at (place_cmp p)) stripes) ≡ None → found p (cond (is_eq r) stripes (e ∷ remove_entry (is_at (place_cmp p)) stripes)) ≡ None
+      by : (r : Ordering) → place_cmp p e.0 ≡ r → found p (remove_entry (is_at (place_cmp p)) stripes) ≡ None
+          → found p (cond (is_eq r) stripes (e ∷ remove_entry (is_at (place_cmp p)) stripes)) ≡ None
       by Less at rest = rw at rest
       by Greater at rest = rw at rest
       by Equal at rest = none_above stripes (sorted_head place_cmp e.0 (keys_of stripes) sorted) at
@@ -76,17 +79,20 @@ module _ {E : Type 0} where
   removed_other p q (e ∷ stripes) other = by (place_cmp p e.0) refl (removed_other p q stripes other)
     where
       by : (r : Ordering) → place_cmp p e.0 ≡ r → found q (remove_entry (is_at (place_cmp p)) stripes) ≡ found q stripes
-          → found q (cond (is_eq r) stripes (e ∷ remove_entry (is_at (place_cmp p)) stripes)) ≡ cond (is_eq (place_cmp q e.0)) (Some e.1) (found q stripes)
+          → found q (cond (is_eq r) stripes (e ∷ remove_entry (is_at (place_cmp p)) stripes)) ≡ cond (is_eq (place_cmp q e.0)) (Some e.1)
+          (found q stripes)
       by Less at rest = ap (cond (is_eq (place_cmp q e.0)) (Some e.1)) rest
       by Greater at rest = ap (cond (is_eq (place_cmp q e.0)) (Some e.1)) rest
       by Equal at rest = rw (subst (λ (k : Place). is_eq (place_cmp q k) ≡ false) (place_exact p e.0 at) (apart p q other)) refl
 
   -- ---- a stripe in its place
 
-  pub put_here : (p : Place) (s : StripeOf E) (stripes : Stripes E) → IsStrictlySortedBy place_cmp (keys_of stripes) → stripe_in (put p s stripes) p ≡ s
+  pub put_here : (p : Place) (s : StripeOf E) (stripes : Stripes E) → IsStrictlySortedBy place_cmp (keys_of stripes)
+      → stripe_in (put p s stripes) p ≡ s
   put_here p s stripes sorted = by (is_first p s) refl
     where
-      by : (b : Bool) → is_first p s ≡ b → unwrap_or (found p (cond b (remove_entry (is_at (place_cmp p)) stripes) (insert_entry place_cmp stripes p s))) (first_stripe p) ≡ s
+      by : (b : Bool) → is_first p s ≡ b → unwrap_or
+          (found p (cond b (remove_entry (is_at (place_cmp p)) stripes) (insert_entry place_cmp stripes p s))) (first_stripe p) ≡ s
       by true at = ap (λ (o : Option (StripeOf E)). unwrap_or o (first_stripe p)) (removed_here p stripes sorted) ∙ sym (is_first-true p s at)
       by false at = ap (λ (o : Option (StripeOf E)). unwrap_or o (first_stripe p)) (inserted_here p s stripes)
 
@@ -103,12 +109,14 @@ module _ {E : Type 0} where
   weight_found p None = sym (rw (stamp_same_refl first_stamp) refl)
   weight_found p (Some s) = refl
 
-  pub live_put : (p : Place) (s : StripeOf E) (stripes : Stripes E) → IsStrictlySortedBy place_cmp (keys_of stripes) → live_in (put p s stripes) + weight (stripe_in stripes p) ≡ live_in stripes + weight s
+  pub live_put : (p : Place) (s : StripeOf E) (stripes : Stripes E) → IsStrictlySortedBy place_cmp (keys_of stripes)
+      → live_in (put p s stripes) + weight (stripe_in stripes p) ≡ live_in stripes + weight s
   live_put p s stripes sorted = by (is_first p s) refl
     where
       was : unwrap_or (option_map weight (found p stripes)) 0 ≡ weight (stripe_in stripes p)
       was = weight_found p (found p stripes)
 
-      by : (b : Bool) → is_first p s ≡ b → live_in (cond b (remove_entry (is_at (place_cmp p)) stripes) (insert_entry place_cmp stripes p s)) + weight (stripe_in stripes p) ≡ live_in stripes + weight s
+      by : (b : Bool) → is_first p s ≡ b → live_in (cond b (remove_entry (is_at (place_cmp p)) stripes) (insert_entry place_cmp stripes p s)) + weight
+          (stripe_in stripes p) ≡ live_in stripes + weight s
       by true at = omega (arith, sum_by-remove_entry weight (is_at (place_cmp p)) stripes, was, weight_first p s at)
       by false at = omega (arith, sum_by-insert_entry weight place_total stripes p s sorted, was)

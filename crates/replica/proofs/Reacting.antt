@@ -51,7 +51,8 @@ parts_put block g s new st sorted h t = by (eqb h g) refl
     inside false group stripe =
         away (λ same. differ (sym stripe ∙ eq-eqb t s (ap (λ (p : Place). p.2) same))) ∙ ap (λ (i : ℕ). part_in block st i t) group
 
-    by : (b : Bool) → eqb h g ≡ b → part_in block (with_stripe (g, 1, s) new st) h t ≡ cond b (put (part_in block st g) s (part_from block new)) (part_in block st h) t
+    by : (b : Bool) → eqb h g ≡ b → part_in block (with_stripe (g, 1, s) new st) h t ≡ cond b (put (part_in block st g) s (part_from block new))
+        (part_in block st h) t
     by true group = inside (eqb t s) (eqb-true h g group) refl
     by false group = away (λ same. differ (sym group ∙ eq-eqb h g (ap (λ (p : Place). p.0) same)))
 
@@ -70,7 +71,14 @@ parts_same f g s h t = by (eqb h g) refl
 -- ---- a part that stays
 
 pub reacted_stays : (block g s : ℕ) (reply : Reply) (st : StateOf Kept) → IsReacted block g s st (stays (part_in block st g s) reply) (Some reply) st
-reacted_stays block g s reply st = record { told = refl; boot = refl; groups = refl; live = refl; parts = λ h t. parts_same (part_in block st) g s h t }
+reacted_stays block g s reply st = record {
+  told = refl;
+  boot = refl;
+  groups = refl;
+  live = refl;
+  parts = λ h t. parts_same
+      (part_in block st) g s h t;
+}
 
 -- ---- an order stamp
 
@@ -92,33 +100,42 @@ module _ (block g s : ℕ) (st : StateOf Kept) (sorted : IsStrictlySortedBy plac
   abbrev stripe : StripeOf Kept
   stripe = stripe_at st (g, 1, s)
 
-  reacted_order : (t : Stamp) (reply : Reply) → stamp_below stripe.order t ≡ true → IsReacted block g s st (promised (part_in block st g s) t reply) (Some reply) (ordered (g, 1, s) t st)
+  reacted_order : (t : Stamp) (reply : Reply) → stamp_below stripe.order t ≡ true → IsReacted block g s st (promised (part_in block st g s) t reply)
+      (Some reply) (ordered (g, 1, s) t st)
   reacted_order t reply later = record {
     told = refl;
     boot = refl;
     groups = refl;
-    live = order_adds (stamp_same stripe.order first_stamp) (stamp_same t first_stamp) (length stripe.added) (live st) (live (ordered (g, 1, s) t st)) (later_not_first stripe.order t later)
+    live = order_adds (stamp_same stripe.order first_stamp) (stamp_same t first_stamp) (length stripe.added) (live st) (live (ordered (g, 1, s) t st))
+        (later_not_first stripe.order t later)
         (live_put (g, 1, s) (with_order t stripe) st.stripes sorted);
     parts = parts_put block g s (with_order t stripe) st sorted;
   }
 
   pub order_moves : (t : Stamp) → stamp_below stripe.order t ≡ true → part_in block (ordered (g, 1, s) t st) g s ≡ part_in block st g s → ⊥
   order_moves t later same =
-      let now : (part_in block (ordered (g, 1, s) t st) g s).order ≡ t = ap (λ (x : StripeOf Kept). x.order) (put_here (g, 1, s) (with_order t stripe) st.stripes sorted) in
+      let now : (part_in block (ordered (g, 1, s) t st) g s).order ≡ t = ap (λ (x : StripeOf Kept). x.order)
+      (put_here (g, 1, s) (with_order t stripe) st.stripes sorted) in
       let is : t ≡ stripe.order = sym now ∙ ap (λ (r : Replica). r.order) same in
       differ (sym (stamp_below_irrefl stripe.order) ∙ ap (stamp_below stripe.order) (sym is) ∙ later)
 
   -- ---- a version
 
-  log_added : (v : Kept) → part_from block (with_added v stripe) ≡ record { order = stripe.order; log = map as_version (log_of block stripe) ++ (as_version v ∷ []) }
+  log_added : (v : Kept) → part_from block (with_added v stripe) ≡ record {
+    order = stripe.order;
+    log = map as_version (log_of block stripe) ++
+        (as_version v ∷ []);
+  }
   log_added v =
       let start = cond stripe.from_start (version first_stamp (replicate block 0) ∷ []) [] in
-      ap (part_of stripe.order) (sym (append_assoc start stripe.added (v ∷ []))) ∙ ap (λ (vs : List Version). part_with vs) (map-append as_version (start ++ stripe.added) (v ∷ []))
+      ap (part_of stripe.order) (sym (append_assoc start stripe.added (v ∷ []))) ∙ ap (λ (vs : List Version). part_with vs)
+      (map-append as_version (start ++ stripe.added) (v ∷ []))
     where
       part_with : List Version → Replica
       part_with vs = record { order = stripe.order; log = vs }
 
-  reacted_store : (t : Stamp) (bytes : List ℕ) → IsReacted block g s st (stored (part_in block st g s) t bytes) (Some Stored) (added (g, 1, s) (version t bytes) st)
+  reacted_store : (t : Stamp) (bytes : List ℕ) → IsReacted block g s st (stored (part_in block st g s) t bytes) (Some Stored)
+      (added (g, 1, s) (version t bytes) st)
   reacted_store t bytes =
       let v = version t bytes in
       record {
@@ -127,19 +144,22 @@ module _ (block g s : ℕ) (st : StateOf Kept) (sorted : IsStrictlySortedBy plac
         groups = refl;
         live = omega (arith, live_put (g, 1, s) (with_added v stripe) st.stripes sorted, length-append stripe.added (v ∷ []));
         parts = λ h i.
-            subst (λ (r : Replica). part_in block (added (g, 1, s) v st) h i ≡ put (part_in block st) g (put (part_in block st g) s r) h i) (log_added v) (parts_put block g s (with_added v stripe) st sorted h i);
+            subst (λ (r : Replica). part_in block (added (g, 1, s) v st) h i ≡ put (part_in block st) g (put (part_in block st g) s r) h i)
+            (log_added v) (parts_put block g s (with_added v stripe) st sorted h i);
       }
 
   pub store_moves : (t : Stamp) (bytes : List ℕ) → part_in block (added (g, 1, s) (version t bytes) st) g s ≡ part_in block st g s → ⊥
   store_moves t bytes same =
       let v = version t bytes in
       let now = ap (part_from block) (put_here (g, 1, s) (with_added v stripe) st.stripes sorted) ∙ log_added v in
-      let longer : length (map as_version (log_of block stripe) ++ (as_version v ∷ [])) ≡ length (map as_version (log_of block stripe)) = ap (λ (r : Replica). length r.log) (sym now ∙ same) in
+      let longer : length (map as_version (log_of block stripe) ++ (as_version v ∷ [])) ≡ length (map as_version (log_of block stripe)) = ap
+      (λ (r : Replica). length r.log) (sym now ∙ same) in
       omega (arith, longer, length-append (map as_version (log_of block stripe)) (as_version v ∷ []))
 
   -- ---- where there is room, and where there is none
 
-  unless_room : (records : ℕ) (part : Replica) (reaction : Reaction) → (reaction.adds ≡ true → live st ≡ records → ⊥) → reaction ≡ unless_full (full_in records st) part reaction
+  unless_room : (records : ℕ) (part : Replica) (reaction : Reaction) → (reaction.adds ≡ true → live st ≡ records → ⊥)
+      → reaction ≡ unless_full (full_in records st) part reaction
   unless_room records part reaction free = by (eqb (live st) records) refl
     where
       adding : (d : Bool) → reaction.adds ≡ d → live st ≡ records → reaction ≡ cond d (stays part (Full (live st))) reaction
@@ -150,23 +170,30 @@ module _ (block g s : ℕ) (st : StateOf Kept) (sorted : IsStrictlySortedBy plac
       by false at = refl
       by true at = adding reaction.adds refl (eqb-true (live st) records at)
 
-  unless_none : (records : ℕ) (part : Replica) (reaction : Reaction) → reaction.adds ≡ true → live st ≡ records → stays part (Full (live st)) ≡ unless_full (full_in records st) part reaction
+  unless_none : (records : ℕ) (part : Replica) (reaction : Reaction) → reaction.adds ≡ true → live st ≡ records
+      → stays part (Full (live st)) ≡ unless_full (full_in records st) part reaction
   unless_none records part reaction adds full = rw (eq-eqb (live st) records full) (rw adds refl)
 
   abbrev Reacts : Reaction → Option Reply → StateOf Kept → Type 0
   Reacts reaction reply after = IsReacted block g s st reaction reply after
 
-  pub order_made : (records : ℕ) (t : Stamp) (reply : Reply) → stamp_below stripe.order t ≡ true → ((promised (part_in block st g s) t reply).adds ≡ true → live st ≡ records → ⊥)
-      → Reacts (unless_full (full_in records st) (part_in block st g s) (promised (part_in block st g s) t reply)) (Some reply) (ordered (g, 1, s) t st)
+  pub order_made : (records : ℕ) (t : Stamp) (reply : Reply) → stamp_below stripe.order t ≡ true
+      → ((promised (part_in block st g s) t reply).adds ≡ true → live st ≡ records → ⊥)
+      → Reacts (unless_full (full_in records st) (part_in block st g s) (promised (part_in block st g s) t reply)) (Some reply)
+      (ordered (g, 1, s) t st)
   order_made records t reply later free =
-      subst (λ (r : Reaction). Reacts r (Some reply) (ordered (g, 1, s) t st)) (unless_room records (part_in block st g s) (promised (part_in block st g s) t reply) free) (reacted_order t reply later)
+      subst (λ (r : Reaction). Reacts r (Some reply) (ordered (g, 1, s) t st))
+      (unless_room records (part_in block st g s) (promised (part_in block st g s) t reply) free) (reacted_order t reply later)
 
   pub store_made : (records : ℕ) (t : Stamp) (bytes : List ℕ) → (true ≡ true → live st ≡ records → ⊥)
-      → Reacts (unless_full (full_in records st) (part_in block st g s) (stored (part_in block st g s) t bytes)) (Some Stored) (added (g, 1, s) (version t bytes) st)
+      → Reacts (unless_full (full_in records st) (part_in block st g s) (stored (part_in block st g s) t bytes)) (Some Stored)
+      (added (g, 1, s) (version t bytes) st)
   store_made records t bytes free =
-      subst (λ (r : Reaction). Reacts r (Some Stored) (added (g, 1, s) (version t bytes) st)) (unless_room records (part_in block st g s) (stored (part_in block st g s) t bytes) free) (reacted_store t bytes)
+      subst (λ (r : Reaction). Reacts r (Some Stored) (added (g, 1, s) (version t bytes) st))
+      (unless_room records (part_in block st g s) (stored (part_in block st g s) t bytes) free) (reacted_store t bytes)
 
   pub none_made : (records : ℕ) (reaction : Reaction) → reaction.adds ≡ true → live st ≡ records
       → Reacts (unless_full (full_in records st) (part_in block st g s) reaction) (Some (Full (live st))) st
   none_made records reaction adds full =
-      subst (λ (r : Reaction). Reacts r (Some (Full (live st))) st) (unless_none records (part_in block st g s) reaction adds full) (reacted_stays block g s (Full (live st)) st)
+      subst (λ (r : Reaction). Reacts r (Some (Full (live st))) st) (unless_none records (part_in block st g s) reaction adds full)
+      (reacted_stays block g s (Full (live st)) st)

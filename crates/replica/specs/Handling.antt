@@ -37,7 +37,8 @@ pub record Runs {D : Type 0} (tells : Type 0) (may_leave : D → List ℕ → Ty
   pub ordered : IsOrdered store.shape.block store.state
 
 -- The call makes a reply and a state that follow, the state whole or not at all, or is refused. `g` and `s` name the stripe that it is about.
-pub record Handles {D : Type 0} (tells : Type 0) (seen : D → List ℕ) (may_leave : D → List ℕ → Type 0) (moment : D → ℕ) (left_since : D → ℕ → List ℕ → Type 0) (faults : D → ℕ) (sound : D → Type 0)
+pub record Handles {D : Type 0} (tells : Type 0) (seen : D → List ℕ) (may_leave : D → List ℕ → Type 0) (moment : D → ℕ)
+    (left_since : D → ℕ → List ℕ → Type 0) (faults : D → ℕ) (sound : D → Type 0)
     (g s : ℕ) (Follows : Option Reply → StateOf Version → Type 0) (old new : Brick D) (result : Result (Option Reply) ReplicaFault) : Type 0 where
   pub ok : IfOk result (λ reply. Follows reply new.state)
   pub refused : OnErr result (new.state ≡ old.state)
@@ -47,7 +48,8 @@ pub record Handles {D : Type 0} (tells : Type 0) (seen : D → List ℕ) (may_le
   -- at each moment of the call each image opens as the state before it, or as one that follows
   pub any_moment : tells → old.halted ≡ false → LeavesOnly moment left_since old.disk new.disk (OpensAsEither old.shape old.state Follows)
   -- where the stripe's part stays as it was, no call of the disk was made
-  pub still : OnOk result (part_in old.shape.block new.state g s ≡ part_in old.shape.block old.state g s → (new.state ≡ old.state) × IsUntouched seen may_leave moment left_since old.disk new.disk)
+  pub still : OnOk result (part_in old.shape.block new.state g s ≡ part_in old.shape.block old.state g s → (new.state ≡ old.state)
+      × IsUntouched seen may_leave moment left_since old.disk new.disk)
   pub halted : old.halted ≡ true → result ≡ Err Halted
   pub only_halted : result ≡ Err Halted → old.halted ≡ true
   pub halts : new.halted ≡ halted_after old.halted result

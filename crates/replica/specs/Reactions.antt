@@ -29,7 +29,8 @@ seat_served layout me call request None = None
 seat_served layout me call request (Some group) = if is_served group call && fits_block layout.block request then seat_in group.members me.0 else None
 
 -- Each brick of the machine that keeps what the store kept before makes this reply of the request, and keeps what the store keeps after.
-pub record IsStep (layout : Layout) (me : BrickId) (call : Call) (request : Request) (before : StateOf Version) (reply : Option Reply) (after : StateOf Version) : Type 0 where
+pub record IsStep (layout : Layout) (me : BrickId) (call : Call) (request : Request) (before : StateOf Version) (reply : Option Reply)
+    (after : StateOf Version) : Type 0 where
   pub packets : (from : BrickId) (node : Node) → IsPartsOf layout.block before node
       → (requested_in layout me from node call request (group_of layout call.group.0)).packets ≡ reply_packets me from call reply
   pub parts : (from : BrickId) (node : Node) → IsPartsOf layout.block before node

@@ -50,7 +50,10 @@ fn carry_out<D: Disk>(
     requires view { IsFirstView store.old.state }
     requires runs { Runs D.tells D.may_leave store.old }
     requires change { IsChange store.old.shape.block (part_in store.old.shape.block store.old.state group.0 stripe.0) plan }
-    ensures { Handles D.tells D.seen D.may_leave D.moment D.left_since D.faults D.sound group.0 stripe.0 (IsReacted store.old.shape.block group.0 stripe.0 store.old.state (planned (full_in store.old.shape.records store.old.state) (part_in store.old.shape.block store.old.state group.0 stripe.0) plan)) store.old store.new result }
+    ensures { Handles D.tells D.seen D.may_leave D.moment D.left_since D.faults D.sound group.0 stripe.0
+        (IsReacted store.old.shape.block group.0 stripe.0 store.old.state
+        (planned (full_in store.old.shape.records store.old.state)
+        (part_in store.old.shape.block store.old.state group.0 stripe.0) plan)) store.old store.new result }
 {
     match plan {
         Plan::Ignore => Ok(None),
@@ -117,7 +120,8 @@ pub fn handle<D: Disk>(
 ) -> Result<Option<Reply>, ReplicaFault>
     requires shape { store.old.shape ≡ shape_of store.old.shape.me layout.now.block layout.now.records }
     requires view { IsFirstView store.old.state }
-    ensures { Handles D.tells D.seen D.may_leave D.moment D.left_since D.faults D.sound call.group.0 call.stripe.0 (IsStep layout.now (me_of store.old) call request.now store.old.state) store.old store.new result }
+    ensures { Handles D.tells D.seen D.may_leave D.moment D.left_since D.faults D.sound call.group.0 call.stripe.0
+        (IsStep layout.now (me_of store.old) call request.now store.old.state) store.old store.new result }
 {
     if store.is_halted() {
         return Err(ReplicaFault::Halted);

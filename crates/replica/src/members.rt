@@ -88,7 +88,8 @@ fn look_up<'a>(part: &'a State<'_>, look: Look) -> Option<(Stamp, &'a Bytes)>
 // A promise, with the reply that says so. One of the very stamp that is kept needs no change.
 fn promise(part: &State<'_>, stamp: Stamp, reply: Reply) -> Plan
     requires { stamp_below stamp part.now.order ≡ false }
-    ensures plan { (full : Option ℕ) → planned full (part_seen part.now) result ≡ unless_full full (part_seen part.now) (promised (part_seen part.now) stamp reply) }
+    ensures plan { (full : Option ℕ) → planned full (part_seen part.now) result ≡ unless_full full (part_seen part.now)
+        (promised (part_seen part.now) stamp reply) }
     ensures change { (size : ℕ) → IsChange size (part_seen part.now) result }
 {
     if part.order().is_same(stamp) {
@@ -100,7 +101,8 @@ fn promise(part: &State<'_>, stamp: Stamp, reply: Reply) -> Plan
 
 // Tell the order stamp and the newest version.
 fn read(alloc: Global, part: &State<'_>, wanted: bool) -> Result<Plan, NoMem>
-    ensures plan { IfOk result (λ plan. (full : Option ℕ) → planned full (part_seen part.now) plan ≡ stays (part_seen part.now) (Found part.now.order (told_version wanted (newest_of (part_seen part.now).log)))) }
+    ensures plan { IfOk result (λ plan. (full : Option ℕ) → planned full (part_seen part.now) plan ≡ stays (part_seen part.now)
+        (Found part.now.order (told_version wanted (newest_of (part_seen part.now).log)))) }
     ensures change { IfOk result (λ plan. (size : ℕ) → IsChange size (part_seen part.now) plan) }
 {
     let newest = told(alloc, wanted, part.newest())?;
@@ -131,7 +133,8 @@ fn order_read(
     wanted: bool,
 ) -> Result<Plan, NoMem>
     requires { IsRising part.now.log }
-    ensures plan { IfOk result (λ plan. (full : Option ℕ) → planned full (part_seen part.now) plan ≡ order_read full (part_seen part.now) stamp look wanted) }
+    ensures plan { IfOk result (λ plan. (full : Option ℕ) → planned full (part_seen part.now) plan ≡ order_read full
+        (part_seen part.now) stamp look wanted) }
     ensures change { IfOk result (λ plan. (size : ℕ) → IsChange size (part_seen part.now) plan) }
 {
     let top = top(part);
@@ -144,7 +147,8 @@ fn order_read(
 
 // Store a version, unless something later was promised or stored. One that is held is stored already.
 fn write(alloc: Global, part: &State<'_>, stamp: Stamp, block: &Bytes) -> Result<Plan, NoMem>
-    ensures plan { IfOk result (λ plan. (full : Option ℕ) → planned full (part_seen part.now) plan ≡ written full (part_seen part.now) stamp block.now) }
+    ensures plan { IfOk result (λ plan. (full : Option ℕ) → planned full (part_seen part.now) plan ≡ written full
+        (part_seen part.now) stamp block.now) }
     ensures change { IfOk result (λ plan. IsChange (length block.now) (part_seen part.now) plan) }
 {
     if is_held(part, stamp) {
@@ -168,7 +172,8 @@ pub(crate) fn decide(
 ) -> Result<Plan, NoMem>
     requires rising { IsRising part.now.log }
     requires fits { IsTrue (fits_block block request.now) }
-    ensures plan { IfOk result (λ plan. (full : Option ℕ) → planned full (part_seen part.now) plan ≡ handle full seat (part_seen part.now) request.now) }
+    ensures plan { IfOk result (λ plan. (full : Option ℕ) → planned full (part_seen part.now) plan ≡ handle full seat
+        (part_seen part.now) request.now) }
     ensures change { IfOk result (λ plan. IsChange block (part_seen part.now) plan) }
 {
     let _ = block;

@@ -18,14 +18,17 @@ unfoldable raised : ℕ → (ℕ → ℕ) → ℕ → ℕ → List ℕ → List 
 raised m point j d p = sum_of p (scaled d (lagrange m point j))
 
 -- its value rises by d times the weight
-value-raised : (m : ℕ) (point : ℕ → ℕ) (j d : ℕ) (p : List ℕ) (x : ℕ) → value (raised m point j d p) x ≡ bit_xor (value p x) (field_mul (weight_of m point j x) d)
+value-raised : (m : ℕ) (point : ℕ → ℕ) (j d : ℕ) (p : List ℕ) (x : ℕ) → value (raised m point j d p) x ≡ bit_xor (value p x)
+    (field_mul (weight_of m point j x) d)
 unfolding raised
 value-raised m point j d p x =
     value-sum_of p (scaled d (lagrange m point j)) x
-    ∙ ap (bit_xor (value p x)) (value-scaled d (lagrange m point j) x ∙ ap (field_mul d) (value-lagrange m point j x) ∙ field_mul-comm d (weight_of m point j x))
+    ∙ ap (bit_xor (value p x)) (value-scaled d (lagrange m point j) x ∙ ap (field_mul d) (value-lagrange m point j x)
+    ∙ field_mul-comm d (weight_of m point j x))
 
 -- its degree stays below m
-degree-raised : (m : ℕ) (point : ℕ → ℕ) (j d : ℕ) (p : List ℕ) → AreDistinct m point → j < m → HasDegreeBelow m p → HasDegreeBelow m (raised m point j d p)
+degree-raised : (m : ℕ) (point : ℕ → ℕ) (j d : ℕ) (p : List ℕ) → AreDistinct m point → j < m → HasDegreeBelow m p
+    → HasDegreeBelow m (raised m point j d p)
 unfolding raised
 degree-raised m point j d p distinct within degree =
     let one = (lagrange_IsOneAt m point j distinct within).degree in
@@ -76,10 +79,12 @@ degree-interpolated m zero point column distinct h = record {
   bytes = All-replicate (λ c. c < 256) m 0 (omega arith);
 }
 degree-interpolated m (suc i) point column distinct h =
-    degree-raised m point i (column i) (interpolated m i point column) distinct (omega arith) (degree-interpolated m i point column distinct (omega arith))
+    degree-raised m point i (column i) (interpolated m i point column) distinct (omega arith)
+    (degree-interpolated m i point column distinct (omega arith))
 
 -- it is 0 at the points that are still to come
-interpolated_later : (m n : ℕ) (point column : ℕ → ℕ) (h : ℕ) → AreDistinct m point → n ≤ h → h < m → value (interpolated m n point column) (point h) ≡ 0
+interpolated_later : (m n : ℕ) (point column : ℕ → ℕ) (h : ℕ) → AreDistinct m point → n ≤ h → h < m → value (interpolated m n point column)
+    (point h) ≡ 0
 unfolding interpolated
 interpolated_later m zero point column h distinct le within = value_of_none m (point h)
 interpolated_later m (suc i) point column h distinct le within =
@@ -112,7 +117,8 @@ unfolding through
 value-through m point column x = value-interpolated m m point column x
 
 -- it passes through the points
-pub through-PassesThrough : (m : ℕ) (point column : ℕ → ℕ) → AreDistinct m point → ((i : ℕ) → i < m → column i < 256) → PassesThrough m point column (through m point column)
+pub through-PassesThrough : (m : ℕ) (point column : ℕ → ℕ) → AreDistinct m point → ((i : ℕ) → i < m → column i < 256)
+    → PassesThrough m point column (through m point column)
 unfolding through
 through-PassesThrough m point column distinct small = record {
   degree = degree-interpolated m m point column distinct (omega arith);
@@ -120,12 +126,14 @@ through-PassesThrough m point column distinct small = record {
 }
 
 -- it is the only one
-pub PassesThrough-unique : (m : ℕ) (point column : ℕ → ℕ) → AreDistinct m point → (p q : List ℕ) → PassesThrough m point column p → PassesThrough m point column q → p ≡ q
+pub PassesThrough-unique : (m : ℕ) (point column : ℕ → ℕ) → AreDistinct m point → (p q : List ℕ) → PassesThrough m point column p
+    → PassesThrough m point column q → p ≡ q
 PassesThrough-unique m point column distinct p q hp hq =
     same_polynomial m point distinct p q hp.degree hq.degree (λ i h. hp.values i h ∙ sym (hq.values i h))
 
 -- a polynomial through the data bytes has byte k of the codeword as its value at k
-pub value-IsCodedByte : (m : ℕ) (column : ℕ → ℕ) (k y : ℕ) (p : List ℕ) → m ≤ 256 → PassesThrough m (λ i. i) column p → y ≡ value p k → IsCodedByte m column k y
+pub value-IsCodedByte : (m : ℕ) (column : ℕ → ℕ) (k y : ℕ) (p : List ℕ) → m ≤ 256 → PassesThrough m (λ i. i) column p → y ≡ value p k
+    → IsCodedByte m column k y
 value-IsCodedByte m column k y p few passes coded = record {
   polynomial = p;
   passes = passes;
@@ -134,15 +142,18 @@ value-IsCodedByte m column k y p few passes coded = record {
 }
 
 -- Lagrange's formula gives it
-pub weighted_sum-IsCodedByte : (m : ℕ) (column : ℕ → ℕ) (k : ℕ) → m ≤ 256 → ((i : ℕ) → i < m → column i < 256) → IsCodedByte m column k (weighted_sum m m (λ i. i) column k)
+pub weighted_sum-IsCodedByte : (m : ℕ) (column : ℕ → ℕ) (k : ℕ) → m ≤ 256 → ((i : ℕ) → i < m → column i < 256)
+    → IsCodedByte m column k (weighted_sum m m (λ i. i) column k)
 weighted_sum-IsCodedByte m column k few small =
-    value-IsCodedByte m column k (weighted_sum m m (λ i. i) column k) (through m (λ i. i) column) few (through-PassesThrough m (λ i. i) column (numbers_AreDistinct m few) small)
+    value-IsCodedByte m column k (weighted_sum m m (λ i. i) column k) (through m (λ i. i) column) few
+    (through-PassesThrough m (λ i. i) column (numbers_AreDistinct m few) small)
     (sym (value-through m (λ i. i) column k))
 
 -- a codeword has one byte k
 pub IsCodedByte-unique : (m : ℕ) (column : ℕ → ℕ) (k y z : ℕ) → m ≤ 256 → IsCodedByte m column k y → IsCodedByte m column k z → y ≡ z
 IsCodedByte-unique m column k y z few hy hz =
-    hy.coded ∙ ap (λ p. value p k) (PassesThrough-unique m (λ i. i) column (numbers_AreDistinct m few) hy.polynomial hz.polynomial hy.passes hz.passes) ∙ sym hz.coded
+    hy.coded ∙ ap (λ p. value p k) (PassesThrough-unique m (λ i. i) column
+    (numbers_AreDistinct m few) hy.polynomial hz.polynomial hy.passes hz.passes) ∙ sym hz.coded
 
 -- a change of data byte j by d changes byte k by d times the weight of j at k
 pub IsCodedByte-changed : (m : ℕ) (old new : ℕ → ℕ) (j d k y : ℕ) → m ≤ 256 → j < m → d < 256 → new j ≡ bit_xor (old j) d
@@ -154,7 +165,8 @@ IsCodedByte-changed m old new j d k y few within small changed others h =
       degree = degree-raised m (λ i. i) j d h.polynomial distinct within h.passes.degree;
       values = λ i hi. elim (cases_eq i j) as (λ _. value (raised m (λ i. i) j d h.polynomial) i ≡ new i) [
         | inl own ↦
-            ap (value raised_p) own ∙ raised_at_own m (λ i. i) j d h.polynomial distinct within small ∙ ap (λ y. bit_xor y d) (h.passes.values j within)
+            ap (value raised_p) own ∙ raised_at_own m (λ i. i) j d h.polynomial distinct within small
+            ∙ ap (λ y. bit_xor y d) (h.passes.values j within)
             ∙ sym changed ∙ ap new (sym own)
         | inr other ↦ raised_at_other m (λ i. i) j i d h.polynomial distinct within hi other ∙ h.passes.values i hi ∙ sym (others i hi other)
       ];
@@ -182,10 +194,12 @@ pub weighted_sum-lt : (m n : ℕ) (point column : ℕ → ℕ) (x : ℕ) → wei
 unfolding weighted_sum
 weighted_sum-lt m zero point column x = omega arith
 weighted_sum-lt m (suc i) point column x =
-    xor_lt 8 (weighted_sum m i point column x) (field_mul (weight_of m point i x) (column i)) (weighted_sum-lt m i point column x) (field_mul-lt (weight_of m point i x) (column i))
+    xor_lt 8 (weighted_sum m i point column x) (field_mul (weight_of m point i x) (column i)) (weighted_sum-lt m i point column x)
+    (field_mul-lt (weight_of m point i x) (column i))
 
 -- of the same values it is the same
-pub weighted_sum_same : (m n : ℕ) (point a b : ℕ → ℕ) (x : ℕ) → ((i : ℕ) → i < n → a i ≡ b i) → weighted_sum m n point a x ≡ weighted_sum m n point b x
+pub weighted_sum_same : (m n : ℕ) (point a b : ℕ → ℕ) (x : ℕ) → ((i : ℕ) → i < n → a i ≡ b i)
+    → weighted_sum m n point a x ≡ weighted_sum m n point b x
 unfolding weighted_sum
 weighted_sum_same m zero point a b x same = refl
 weighted_sum_same m (suc i) point a b x same =

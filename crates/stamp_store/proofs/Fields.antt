@@ -95,7 +95,8 @@ wide64 = record {
   below = λ bytes fits. omega (arith, fits 0, fits 1, fits 2, fits 3, fits 4, fits 5, fits 6, fits 7);
 }
 
-number_takes : (w : Width) (limit : ℕ) (wide : IsWide w limit) (bytes : List ℕ) (n : ℕ) (rest : List ℕ) → IsBytes bytes → number_at w bytes ≡ Some (n, rest)
+number_takes : (w : Width) (limit : ℕ) (wide : IsWide w limit) (bytes : List ℕ) (n : ℕ) (rest : List ℕ) → IsBytes bytes
+    → number_at w bytes ≡ Some (n, rest)
     → Takes bytes (number_bytes w n) rest × (n < limit)
 unfolding number_at number_bytes
 number_takes w limit wide bytes n rest fits e =
@@ -103,12 +104,18 @@ number_takes w limit wide bytes n rest fits e =
     let long : byte_len w ≤ length bytes = ltb-false _ _ g.0 in
     let n-is : from_be_bytes w (take (byte_len w) bytes) ≡ n = ap (λ (p : ℕ × List ℕ). p.0) g.1 in
     let rest-is : drop (byte_len w) bytes ≡ rest = ap (λ (p : ℕ × List ℕ). p.1) g.1 in
-    let front : to_be_bytes w n ≡ take (byte_len w) bytes = rw (← n-is) (wide.back (take (byte_len w) bytes) (omega (arith, length-take (byte_len w) bytes)) (IsBytes-take (byte_len w) bytes fits)) in (
-      record { parts = rw (front, ← rest-is) (sym (take-append-drop (byte_len w) bytes)); rest_fits = rw (← rest-is) (IsBytes-drop (byte_len w) bytes fits) },
+    let front : to_be_bytes w n ≡ take (byte_len w) bytes = rw (← n-is)
+    (wide.back (take (byte_len w) bytes) (omega (arith, length-take (byte_len w) bytes)) (IsBytes-take (byte_len w) bytes fits)) in (
+      record {
+        parts = rw (front, ← rest-is) (sym (take-append-drop (byte_len w) bytes));
+        rest_fits = rw (← rest-is)
+            (IsBytes-drop (byte_len w) bytes fits);
+      },
       rw (← n-is) (wide.below (take (byte_len w) bytes) (IsBytes-take (byte_len w) bytes fits)),
     )
 
-number_again : (w : Width) (limit : ℕ) (wide : IsWide w limit) (n : ℕ) (rest : List ℕ) → n < limit → number_at w (number_bytes w n ++ rest) ≡ Some (n, rest)
+number_again : (w : Width) (limit : ℕ) (wide : IsWide w limit) (n : ℕ) (rest : List ℕ) → n < limit → number_at w (number_bytes w n ++ rest) ≡ Some
+    (n, rest)
 unfolding number_at number_bytes
 number_again w limit wide n rest lt =
     let len = wide.len n in
@@ -130,7 +137,8 @@ field64 = number_field w64 (2 ^ 64) wide64
 -- ---- one field after another, and a field seen as something else
 
 -- what two fields in turn are read as
-pair_is : {X Y : Type 0} (first : Reads X) (second : Reads Y) (bytes : List ℕ) (p : X × Y) (rest : List ℕ) → then_at first second bytes ≡ Some (p, rest)
+pair_is : {X Y : Type 0} (first : Reads X) (second : Reads Y) (bytes : List ℕ) (p : X × Y) (rest : List ℕ) → then_at first second bytes ≡ Some
+    (p, rest)
     → (middle : List ℕ) × (first bytes ≡ Some (p.0, middle)) × (second middle ≡ Some (p.1, rest))
 pair_is {X} {Y} first second bytes p rest e =
     let a = bind_some (first bytes) (λ x. second x.1 >>= λ y. Some ((x.0, y.0), y.1)) (p, rest) e in
@@ -161,7 +169,8 @@ made_is {X} {Y} made at bytes y rest e =
     (a.0.0, ap (λ (p : Y × List ℕ). p.0) same, subst (λ (r : List ℕ). at bytes ≡ Some (a.0.0, r)) (ap (λ (p : Y × List ℕ). p.1) same) a.1)
 
 pub made_field : {X Y : Type 0} {f : X → Type 0} {s : X → List ℕ} {at : Reads X} (made : X → Y) (parts : Y → X)
-    → ((y : Y) → made (parts y) ≡ y) → ((x : X) → parts (made x) ≡ x) → IsField f s at → IsField (λ (y : Y). f (parts y)) (λ (y : Y). s (parts y)) (as_at made at)
+    → ((y : Y) → made (parts y) ≡ y) → ((x : X) → parts (made x) ≡ x) → IsField f s at → IsField (λ (y : Y). f (parts y)) (λ (y : Y). s (parts y))
+    (as_at made at)
 made_field {X} {Y} {f} {s} {at} made parts back forth field = record {
   takes = λ bytes y rest isb e.
       let read = made_is made at bytes y rest e in
@@ -210,14 +219,19 @@ times_takes (suc n) bytes xs rest isb e =
     subst (λ (x : List BrickId × List ℕ). Takes bytes (flat_map brick_bytes x.0) x.1 × (length x.0 ≡ suc n) × All BrickFits x.0)
     (some_is made (xs, rest) b.2) (rw flat_map-cons both, ap suc others.1, All-cons BrickFits a.0.0 b.0.0 first.1 others.2)
 
-times_again : (xs : List BrickId) (rest : List ℕ) → All BrickFits xs → times_at brick_at (length xs) (flat_map brick_bytes xs ++ rest) ≡ Some (xs, rest)
+times_again : (xs : List BrickId) (rest : List ℕ) → All BrickFits xs → times_at brick_at (length xs) (flat_map brick_bytes xs ++ rest) ≡ Some
+    (xs, rest)
 unfolding times_at
 times_again [] rest fits = refl
 times_again (x ∷ xs) rest fits =
     let regrouped : flat_map brick_bytes (x ∷ xs) ++ rest ≡ brick_bytes x ++ (flat_map brick_bytes xs ++ rest)
     = ap (λ (t : List ℕ). t ++ rest) (flat_map-cons brick_bytes x xs) ∙ append_assoc (brick_bytes x) (flat_map brick_bytes xs) rest in
     ap (times_at brick_at (suc (length xs))) regrouped
-    ∙ rw (brick_field.again x (flat_map brick_bytes xs ++ rest) (All-head BrickFits x xs fits), times_again xs rest (All-tail BrickFits x xs fits)) refl
+    ∙ rw (
+      brick_field.again x (flat_map brick_bytes xs ++ rest) (All-head BrickFits x xs fits),
+      times_again xs rest
+          (All-tail BrickFits x xs fits),
+    ) refl
 
 members_takes : (bytes : List ℕ) (members : List BrickId) (rest : List ℕ) → IsBytes bytes → members_at bytes ≡ Some (members, rest)
     → Takes bytes (members_bytes members) rest × MembersFit members
@@ -227,7 +241,11 @@ members_takes (n ∷ bytes) members rest isb e =
     let held = guard_held (leb 1 n && leb n 32) (times_at brick_at n bytes) (members, rest) e in
     let within = and_parts (leb 1 n) (leb n 32) held.0 in
     let took = times_takes n bytes members rest (IsBytes-rest n bytes isb) held.1 in (
-      record { parts = ap (λ (t : List ℕ). n ∷ t) took.0.parts ∙ ap (λ (k : ℕ). k ∷ (flat_map brick_bytes members ++ rest)) (sym took.1); rest_fits = took.0.rest_fits },
+      record {
+        parts = ap (λ (t : List ℕ). n ∷ t) took.0.parts ∙ ap (λ (k : ℕ). k ∷ (flat_map brick_bytes members ++ rest))
+            (sym took.1);
+        rest_fits = took.0.rest_fits;
+      },
       record { some = omega (arith, took.1, leb-true 1 n within.0); few = omega (arith, took.1, leb-true n 32 within.1); each = took.2 },
     )
 
@@ -242,12 +260,15 @@ members_field = record { takes = members_takes; again = members_again }
 
 -- ---- a flag, and what may be left out
 
-flag_takes : (bytes : List ℕ) (flag : Bool) (rest : List ℕ) → IsBytes bytes → flag_at bytes ≡ Some (flag, rest) → Takes bytes (flag_bytes flag) rest × Unit {0}
+flag_takes : (bytes : List ℕ) (flag : Bool) (rest : List ℕ) → IsBytes bytes → flag_at bytes ≡ Some (flag, rest) → Takes bytes (flag_bytes flag) rest
+    × Unit {0}
 flag_takes [] flag rest isb e = absurd cc
 flag_takes (zero ∷ bytes) flag rest isb e =
-    subst (λ (x : Bool × List ℕ). Takes (0 ∷ bytes) (flag_bytes x.0) x.1 × Unit {0}) (some_is (false, bytes) (flag, rest) e) (record { parts = refl; rest_fits = IsBytes-rest 0 bytes isb }, tt)
+    subst (λ (x : Bool × List ℕ). Takes (0 ∷ bytes) (flag_bytes x.0) x.1 × Unit {0}) (some_is (false, bytes) (flag, rest) e)
+    (record { parts = refl; rest_fits = IsBytes-rest 0 bytes isb }, tt)
 flag_takes (suc zero ∷ bytes) flag rest isb e =
-    subst (λ (x : Bool × List ℕ). Takes (1 ∷ bytes) (flag_bytes x.0) x.1 × Unit {0}) (some_is (true, bytes) (flag, rest) e) (record { parts = refl; rest_fits = IsBytes-rest 1 bytes isb }, tt)
+    subst (λ (x : Bool × List ℕ). Takes (1 ∷ bytes) (flag_bytes x.0) x.1 × Unit {0}) (some_is (true, bytes) (flag, rest) e)
+    (record { parts = refl; rest_fits = IsBytes-rest 1 bytes isb }, tt)
 flag_takes (suc (suc b) ∷ bytes) flag rest isb e = absurd cc
 
 flag_again : (flag : Bool) (rest : List ℕ) → Unit {0} → flag_at (flag_bytes flag ++ rest) ≡ Some (flag, rest)
@@ -258,10 +279,12 @@ pub flag_field : IsField (λ (flag : Bool). Unit {0}) flag_bytes flag_at
 flag_field = record { takes = flag_takes; again = flag_again }
 
 -- a ballot and its members
-vote_field : IsField (λ (p : Ballot × List BrickId). BallotFits p.0 × MembersFit p.1) (λ (p : Ballot × List BrickId). ballot_bytes p.0 ++ members_bytes p.1) (then_at ballot_at members_at)
+vote_field : IsField (λ (p : Ballot × List BrickId). BallotFits p.0 × MembersFit p.1)
+    (λ (p : Ballot × List BrickId). ballot_bytes p.0 ++ members_bytes p.1) (then_at ballot_at members_at)
 vote_field = pair_field ballot_field members_field
 
-accepted_takes : (bytes : List ℕ) (accepted : Option (Ballot × List BrickId)) (rest : List ℕ) → IsBytes bytes → accepted_at bytes ≡ Some (accepted, rest)
+accepted_takes : (bytes : List ℕ) (accepted : Option (Ballot × List BrickId)) (rest : List ℕ) → IsBytes bytes
+    → accepted_at bytes ≡ Some (accepted, rest)
     → Takes bytes (accepted_bytes accepted) rest × AcceptedFits accepted
 unfolding accepted_at accepted_bytes
 accepted_takes [] accepted rest isb e = absurd cc
@@ -275,7 +298,8 @@ accepted_takes (suc zero ∷ bytes) accepted rest isb e =
     (record { parts = ap (λ (t : List ℕ). 1 ∷ t) took.0.parts; rest_fits = took.0.rest_fits }, took.1)
 accepted_takes (suc (suc b) ∷ bytes) accepted rest isb e = absurd cc
 
-accepted_again : (accepted : Option (Ballot × List BrickId)) (rest : List ℕ) → AcceptedFits accepted → accepted_at (accepted_bytes accepted ++ rest) ≡ Some (accepted, rest)
+accepted_again : (accepted : Option (Ballot × List BrickId)) (rest : List ℕ) → AcceptedFits accepted
+    → accepted_at (accepted_bytes accepted ++ rest) ≡ Some (accepted, rest)
 unfolding accepted_at accepted_bytes
 accepted_again None rest fits = refl
 accepted_again (Some a) rest fits = rw (vote_field.again a rest fits) refl

@@ -16,7 +16,8 @@ regroup front brick (Some x) = ap (λ (bricks : List BrickId). Some (bricks, x.1
 regroup front brick None = refl
 
 -- one brick more
-pub goes_on : (front : List BrickId) (count i : ℕ) (bytes : List ℕ) (brick : BrickId) (after : List ℕ) (total : Option (List BrickId × List ℕ)) → i < count
+pub goes_on : (front : List BrickId) (count i : ℕ) (bytes : List ℕ) (brick : BrickId) (after : List ℕ) (total : Option (List BrickId × List ℕ))
+    → i < count
     → brick_at bytes ≡ Some (brick, after) → with_front front (times_at brick_at (count - i) bytes) ≡ total
     → with_front (front ++ brick ∷ []) (times_at brick_at (count - (i + 1)) after) ≡ total
 unfolding times_at
@@ -41,7 +42,8 @@ pub is_done : (front : List BrickId) (count i : ℕ) (bytes : List ℕ) (total :
 unfolding times_at
 is_done front count i bytes total le so_far =
     let k : count - i ≡ 0 = omega arith in
-    let one : with_front front (times_at brick_at (count - i) bytes) ≡ Some (front, bytes) = rw k (ap (λ (bricks : List BrickId). Some (bricks, bytes)) (append-nil front)) in
+    let one : with_front front (times_at brick_at (count - i) bytes) ≡ Some (front, bytes) = rw k
+    (ap (λ (bricks : List BrickId). Some (bricks, bytes)) (append-nil front)) in
     sym so_far ∙ one
 
 -- one brick more is written
@@ -50,7 +52,8 @@ pub one_written : (old now new : List ℕ) (bricks : List BrickId) (i : ℕ) (d 
     → new ≡ old ++ (length bricks ∷ flat_map brick_bytes (take (i + 1) bricks))
 one_written old now new bricks i d lt before one =
     let brick = get_or bricks i d in
-    let more : (length bricks ∷ flat_map brick_bytes (take i bricks)) ++ brick_bytes brick ≡ length bricks ∷ flat_map brick_bytes (take (i + 1) bricks)
+    let more : (length bricks ∷ flat_map brick_bytes (take i bricks)) ++ brick_bytes brick ≡ length bricks ∷ flat_map brick_bytes
+    (take (i + 1) bricks)
     = flat_map_more brick_bytes (length bricks ∷ []) (take i bricks) brick
     ∙ ap (λ (front : List BrickId). length bricks ∷ flat_map brick_bytes front) (sym (take_more bricks i d lt)) in
     one ∙ ap (λ (t : List ℕ). t ++ brick_bytes brick) before

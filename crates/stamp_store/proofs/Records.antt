@@ -42,7 +42,8 @@ view_takes : (bytes : List ℕ) (kept : Kept) (rest : List ℕ) → IsBytes byte
 unfolding view_at body_of
 view_takes bytes kept rest isb e =
     let read = made_is made_view view_parts_at bytes kept rest e in
-    let took = (pair_field field32 (pair_field field32 (pair_field members_field (pair_field members_field flag_field)))).takes bytes read.0 rest isb read.2 in
+    let took = (pair_field field32 (pair_field field32
+    (pair_field members_field (pair_field members_field flag_field)))).takes bytes read.0 rest isb read.2 in
     subst (λ (k : Kept). TakesKept 2 bytes k rest) read.1 (took.0, took.1, refl)
 
 -- ballots
@@ -69,7 +70,8 @@ kept_again (kinds.View group view synced) rest fits =
     rw ((pair_field field32 (pair_field field32 (pair_field members_field (pair_field members_field flag_field)))).again
     (group.0, (view.number.0, (view.members, (view.prior, synced)))) rest fits) refl
 kept_again (Ballots group view promised accepted) rest fits =
-    rw ((pair_field field32 (pair_field field32 (pair_field ballot_field accepted_field))).again (group.0, (view.0, (promised, accepted))) rest fits) refl
+    rw ((pair_field field32 (pair_field field32 (pair_field ballot_field accepted_field))).again
+    (group.0, (view.0, (promised, accepted))) rest fits) refl
 kept_again (Order group view stripe stamp) rest fits =
     rw ((pair_field field32 (pair_field field32 (pair_field field32 stamp_field))).again (group.0, (view.0, (stripe.0, stamp))) rest fits) refl
 
@@ -80,7 +82,8 @@ no_kind kind bytes more =
     rw (ne_eqb kind 1 (omega arith), ne_eqb kind 2 (omega arith), ne_eqb kind 3 (omega arith), ne_eqb kind 4 (omega arith)) refl
 
 -- the kind is one of four
-kept_takes : (kind : ℕ) (bytes : List ℕ) (kept : Kept) (rest : List ℕ) → IsBytes bytes → kept_at kind bytes ≡ Some (kept, rest) → TakesKept kind bytes kept rest
+kept_takes : (kind : ℕ) (bytes : List ℕ) (kept : Kept) (rest : List ℕ) → IsBytes bytes → kept_at kind bytes ≡ Some (kept, rest)
+    → TakesKept kind bytes kept rest
 unfolding kept_at
 kept_takes zero bytes kept rest isb e = absurd cc
 kept_takes (suc zero) bytes kept rest isb e = boot_takes bytes kept rest isb e
@@ -111,11 +114,13 @@ spells_read kind bytes kept spells =
     rw (spells.kind_is, spells.body_is, again) refl
 
 -- an answer that gives what is read has that body
-pub found_spells : (kind : ℕ) (bytes : List ℕ) (found : Option Kept) → IsBytes bytes → Gives (λ kept. kept) found (read_of kind bytes) → IfSome found (Spells kind bytes)
+pub found_spells : (kind : ℕ) (bytes : List ℕ) (found : Option Kept) → IsBytes bytes → Gives (λ kept. kept) found (read_of kind bytes)
+    → IfSome found (Spells kind bytes)
 found_spells kind bytes None isb gives = tt
 found_spells kind bytes (Some kept) isb gives = read_spells kind bytes kept isb gives
 
 -- an answer that gives what is read is the record that is spelled so
-pub spells_found : (kind : ℕ) (bytes : List ℕ) (found : Option Kept) (kept : Kept) → Spells kind bytes kept → Gives (λ made. made) found (read_of kind bytes) → found ≡ Some kept
+pub spells_found : (kind : ℕ) (bytes : List ℕ) (found : Option Kept) (kept : Kept) → Spells kind bytes kept
+    → Gives (λ made. made) found (read_of kind bytes) → found ≡ Some kept
 spells_found kind bytes None kept spells gives = sym gives ∙ spells_read kind bytes kept spells
 spells_found kind bytes (Some other) kept spells gives = sym gives ∙ spells_read kind bytes kept spells

@@ -21,9 +21,14 @@ unfolding stamps_of
 above source [] = λ k d below. absurd (omega arith)
 above source (Asked now view brick ∷ uses) =
     let later : StampSource = record source { known = next_time source now } in
-    asked (λ (s : Stamp). source.known < s.time) (eqb source.known (2 ^ 64 - 1)) (record { view = view; time = next_time source now; brick = brick; boot = source.boot }) source later uses
+    asked (λ (s : Stamp). source.known < s.time) (eqb source.known (2 ^ 64 - 1))
+    (record { view = view; time = next_time source now; brick = brick; boot = source.boot }) source later uses
     (λ spent. above source uses)
-    (λ made. (omega arith, All-weaker (λ (s : Stamp). next_time source now < s.time) (λ (s : Stamp). source.known < s.time) (λ s h. omega (arith, h)) (stamps_of later uses) (above later uses)))
+    (λ made. (
+      omega arith,
+      All-weaker (λ (s : Stamp). next_time source now < s.time) (λ (s : Stamp). source.known < s.time) (λ s h. omega (arith, h))
+          (stamps_of later uses) (above later uses),
+    ))
 above source (Saw stamp ∷ uses) =
     All-weaker (λ (s : Stamp). max source.known stamp.time < s.time) (λ (s : Stamp). source.known < s.time) (λ s h. omega (arith, h))
     (stamps_of (after_seen source stamp) uses) (above (after_seen source stamp) uses)
@@ -34,7 +39,8 @@ unfolding stamps_of
 of_boot source [] = λ k d below. absurd (omega arith)
 of_boot source (Asked now view brick ∷ uses) =
     let later : StampSource = record source { known = next_time source now } in
-    asked (λ (s : Stamp). s.boot ≡ source.boot) (eqb source.known (2 ^ 64 - 1)) (record { view = view; time = next_time source now; brick = brick; boot = source.boot }) source later uses
+    asked (λ (s : Stamp). s.boot ≡ source.boot) (eqb source.known (2 ^ 64 - 1))
+    (record { view = view; time = next_time source now; brick = brick; boot = source.boot }) source later uses
     (λ spent. of_boot source uses) (λ made. (refl, of_boot later uses))
 of_boot source (Saw stamp ∷ uses) = of_boot (after_seen source stamp) uses
 

@@ -34,7 +34,8 @@ pub data Use : Type 0 where
 -- the stamps that a source makes
 unfoldable pub stamps_of : StampSource → List Use → List Stamp
 stamps_of source [] = []
-stamps_of source (Asked now view brick ∷ uses) = option_to_list (next_stamp source now view brick) ++ stamps_of (after_next source now view brick) uses
+stamps_of source (Asked now view brick ∷ uses) = option_to_list (next_stamp source now view brick) ++ stamps_of
+    (after_next source now view brick) uses
 stamps_of source (Saw stamp ∷ uses) = stamps_of (after_seen source stamp) uses
 
 -- the stamps of a source have rising times

@@ -82,7 +82,8 @@ pub joined : (size n : ℕ) (content : List ℕ) (block : ℕ → List ℕ) → 
 joined size zero content block is = let none : 0 ≡ 0 * size = omega arith in ap (λ k. take k content) none
 joined size (suc n) content block is =
     let place : n * size + size ≡ suc n * size = omega arith in
-    let more : map block (range_with_len 0 (n + 1)) ≡ map block (range_with_len 0 n) ++ (block n ∷ []) = map-range_with_len_more block 0 n n (omega arith) in
+    let more : map block (range_with_len 0 (n + 1)) ≡ map block (range_with_len 0 n) ++ (block n ∷ []) = map-range_with_len_more block 0 n n
+    (omega arith) in
     ap (λ k. concat (map block (range_with_len 0 k))) (sym (add-one n))
     ∙ ap concat more
     ∙ concat-append (map block (range_with_len 0 n)) (block n ∷ [])

@@ -32,13 +32,16 @@ bytes_hold (x ∷ xs) bytes (suc n) = bytes_hold xs (and_parts (nat_lt x 256) (a
 seat_at : (m : ℕ) (pieces : List Piece) (i : ℕ) → i < m → m ≤ length pieces → get_or (seats_of (take m pieces)) i 0 ≡ (get_or pieces i nowhere).seat
 seat_at m pieces i hi enough =
     let within : i < length (take m pieces) = omega (arith, length-take-le m pieces enough) in
-    get_or-map (λ (piece : Piece). piece.seat) (take m pieces) i nowhere 0 within ∙ ap (λ (piece : Piece). piece.seat) (get_or-take m pieces i nowhere hi)
+    get_or-map (λ (piece : Piece). piece.seat) (take m pieces) i nowhere 0 within ∙ ap (λ (piece : Piece). piece.seat)
+    (get_or-take m pieces i nowhere hi)
 
 -- its block
-bytes_at : (m : ℕ) (pieces : List Piece) (i : ℕ) → i < m → m ≤ length pieces → get_or (blocks_of (take m pieces)) i [] ≡ (get_or pieces i nowhere).bytes
+bytes_at : (m : ℕ) (pieces : List Piece) (i : ℕ) → i < m → m ≤ length pieces → get_or (blocks_of (take m pieces)) i [] ≡
+    (get_or pieces i nowhere).bytes
 bytes_at m pieces i hi enough =
     let within : i < length (take m pieces) = omega (arith, length-take-le m pieces enough) in
-    get_or-map (λ (piece : Piece). piece.bytes) (take m pieces) i nowhere [] within ∙ ap (λ (piece : Piece). piece.bytes) (get_or-take m pieces i nowhere hi)
+    get_or-map (λ (piece : Piece). piece.bytes) (take m pieces) i nowhere [] within ∙ ap (λ (piece : Piece). piece.bytes)
+    (get_or-take m pieces i nowhere hi)
 
 -- seats of different pieces differ
 seats_apart : (pieces : List Piece) (h i : ℕ) → IsDistinct nat_eq (seats_of pieces) → h < i → i < length pieces
@@ -46,7 +49,8 @@ seats_apart : (pieces : List Piece) (h i : ℕ) → IsDistinct nat_eq (seats_of 
 seats_apart pieces h i distinct lt within same =
     let apart = apart_from_distinct nat_eq (seats_of pieces) h i 0 distinct lt (omega (arith, length-map pieces (λ (piece : Piece). piece.seat))) in
     eqb-false (get_or (seats_of pieces) h 0) (get_or (seats_of pieces) i 0) apart
-    (get_or-map (λ (piece : Piece). piece.seat) pieces h nowhere 0 (omega arith) ∙ same ∙ sym (get_or-map (λ (piece : Piece). piece.seat) pieces i nowhere 0 within))
+    (get_or-map (λ (piece : Piece). piece.seat) pieces h nowhere 0 (omega arith) ∙ same
+    ∙ sym (get_or-map (λ (piece : Piece). piece.seat) pieces i nowhere 0 within))
 
 -- m different pieces are at m seats
 pub AreSeats_of_pieces : (m n : ℕ) (pieces : List Piece) → m ≤ length pieces → IsDistinct nat_eq (seats_of pieces)
@@ -54,9 +58,11 @@ pub AreSeats_of_pieces : (m n : ℕ) (pieces : List Piece) → m ≤ length piec
 AreSeats_of_pieces m n pieces enough distinct below = record {
   count = length-map (take m pieces) (λ (piece : Piece). piece.seat) ∙ length-take-le m pieces enough;
   within = λ i hi.
-      subst (λ seat. seat < n) (sym (seat_at m pieces i hi enough)) (below i (get_or pieces i nowhere) (slice_get-get_or pieces i nowhere (omega arith)));
+      subst (λ seat. seat < n) (sym (seat_at m pieces i hi enough))
+      (below i (get_or pieces i nowhere) (slice_get-get_or pieces i nowhere (omega arith)));
   apart = λ h i hh hi other same.
-      let seats_same : (get_or pieces h nowhere).seat ≡ (get_or pieces i nowhere).seat = sym (seat_at m pieces h hh enough) ∙ same ∙ seat_at m pieces i hi enough in
+      let seats_same : (get_or pieces h nowhere).seat ≡ (get_or pieces i nowhere).seat = sym (seat_at m pieces h hh enough) ∙ same
+      ∙ seat_at m pieces i hi enough in
       elim (cases_lt h i) as (λ _. ⊥) [
         | inl lt ↦ seats_apart pieces h i distinct lt (omega arith) seats_same
         | inr le ↦ seats_apart pieces i h distinct (omega arith) (omega arith) (sym seats_same)
@@ -71,7 +77,8 @@ AreBlocks m size content pieces = AllByRecursion (λ piece. piece.bytes ≡ code
 
 -- which they are by place
 blocks_from_places : (m size : ℕ) (content : List ℕ) (pieces : List Piece)
-    → ((k : ℕ) (piece : Piece) → slice_get pieces k ≡ Some piece → piece.bytes ≡ coded_block m size content piece.seat) → AreBlocks m size content pieces
+    → ((k : ℕ) (piece : Piece) → slice_get pieces k ≡ Some piece → piece.bytes ≡ coded_block m size content piece.seat)
+    → AreBlocks m size content pieces
 blocks_from_places m size content [] each = tt
 blocks_from_places m size content (piece ∷ pieces) each = (each 0 piece refl, blocks_from_places m size content pieces (λ k. each (suc k)))
 
@@ -84,7 +91,10 @@ blocks_first m size (suc n) content (piece ∷ pieces) are = (are.0, blocks_firs
 -- they have the length of a block
 pub blocks_long : (m size : ℕ) (content : List ℕ) (pieces : List Piece) → AreBlocks m size content pieces → AreLong size pieces
 blocks_long m size content [] are = tt
-blocks_long m size content (piece ∷ pieces) are = (ap length are.0 ∙ length-coded_block m size content piece.seat, blocks_long m size content pieces are.1)
+blocks_long m size content (piece ∷ pieces) are = (
+  ap length are.0 ∙ length-coded_block m size content piece.seat,
+  blocks_long m size content pieces are.1,
+)
 
 -- and are bytes
 append_holds : (xs ys : List ℕ) → HoldsBytes xs → HoldsBytes ys → HoldsBytes (xs ++ ys)
@@ -99,7 +109,8 @@ blocks_hold m size content (piece ∷ pieces) are n =
     (blocks_hold m size content pieces are.1) n
 
 -- block i of the blocks is that of piece i
-block_is : (m size : ℕ) (pieces : List Piece) (i : ℕ) → i < length pieces → AreLong size pieces → length (concat (blocks_of pieces)) ≡ m * size → i < m
+block_is : (m size : ℕ) (pieces : List Piece) (i : ℕ) → i < length pieces → AreLong size pieces → length (concat (blocks_of pieces)) ≡ m * size
+    → i < m
     → (bytes : List ℕ) → length bytes ≡ size → get_or (blocks_of pieces) i [] ≡ bytes → block_of size (concat (blocks_of pieces)) i ≡ bytes
 block_is m size pieces i within each_long long hi bytes bytes_long is =
     ext_get_or 0 (block_of size (concat (blocks_of pieces)) i) bytes (length-block_of m size (concat (blocks_of pieces)) i long hi ∙ sym bytes_long)
@@ -120,9 +131,11 @@ any_blocks_decode m n size limits content pieces long bytes are enough =
     let few_seats : n ≤ 256 = omega (arith, limits.few_seats) in
     let count : length (take m pieces) ≡ m = length-take-le m pieces enough in
     let small : HoldsBytes content = bytes_hold content bytes in
-    let each : AreBlocks m size content (take m pieces) = blocks_first m size m content pieces (blocks_from_places m size content pieces are.blocks) in
+    let each : AreBlocks m size content (take m pieces) = blocks_first m size m content pieces
+    (blocks_from_places m size content pieces are.blocks) in
     let each_long : AreLong size (take m pieces) = blocks_long m size content (take m pieces) each in
-    let blocks_length : length (concat (blocks_of (take m pieces))) ≡ m * size = length-blocks size (take m pieces) each_long ∙ ap (λ k. k * size) count in
+    let blocks_length : length (concat (blocks_of (take m pieces))) ≡ m * size = length-blocks size (take m pieces) each_long
+    ∙ ap (λ k. k * size) count in
     let are_seats : AreSeats m n (seats_of (take m pieces)) = AreSeats_of_pieces m n pieces enough are.distinct are.seats in
     let has : HasBlocks m size (seats_of (take m pieces)) (concat (blocks_of (take m pieces))) content = record {
       long = long;
@@ -131,7 +144,8 @@ any_blocks_decode m n size limits content pieces long bytes are enough =
           let coded : (get_or pieces i nowhere).bytes ≡ coded_block m size content (get_or pieces i nowhere).seat =
           are.blocks i (get_or pieces i nowhere) (slice_get-get_or pieces i nowhere (omega arith)) in
           let is : block_of size (concat (blocks_of (take m pieces))) i ≡ coded_block m size content (get_or (seats_of (take m pieces)) i 0) =
-          block_is m size (take m pieces) i (omega (arith, count)) each_long blocks_length hi (coded_block m size content (get_or (seats_of (take m pieces)) i 0))
+          block_is m size (take m pieces) i (omega (arith, count)) each_long blocks_length hi
+          (coded_block m size content (get_or (seats_of (take m pieces)) i 0))
           (length-coded_block m size content (get_or (seats_of (take m pieces)) i 0))
           (bytes_at m pieces i hi enough ∙ coded ∙ ap (coded_block m size content) (sym seat)) in
           subst (IsCodedBlock m size content (get_or (seats_of (take m pieces)) i 0)) (sym is)

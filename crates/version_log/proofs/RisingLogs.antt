@@ -66,7 +66,8 @@ find_from_end {X} p xs = subst (λ (ys : List X). find p (reverse xs) ≡ last (
         (ap (cond (p y) (Some y)) (onwards ys) ∙ last_passing p (reverse ys) y)
 
 -- a version above the newest is above all
-pub IsRising-push : (log : List Version) (v : Version) → IsRising log → ForSome (newest log) (λ top. IsTrue (stamp_below top.stamp v.stamp)) → IsRising (log ++ v ∷ [])
+pub IsRising-push : (log : List Version) (v : Version) → IsRising log → ForSome (newest log) (λ top. IsTrue (stamp_below top.stamp v.stamp))
+    → IsRising (log ++ v ∷ [])
 IsRising-push log v rising above =
     all_pairs_push (λ (a b : Version). IsTrue (stamp_below a.stamp b.stamp)) log v rising (λ k d below.
     let top : IsTrue (stamp_below (get_or log (length log - 1) d).stamp v.stamp)
@@ -83,7 +84,8 @@ pub IsRising-filter : (p : Version → Bool) (log : List Version) → IsRising l
 IsRising-filter p log rising = AllPairs-filter (λ (a b : Version). IsTrue (stamp_below a.stamp b.stamp)) p log rising
 
 -- a log that has the stamp is collected by a filter
-pub collected_has : (s : Stamp) (log : List Version) → is_some (find (has_stamp s) log) ≡ true → filter (λ v. not (is_below s v)) log ≡ collected s log
+pub collected_has : (s : Stamp) (log : List Version) → is_some (find (has_stamp s) log) ≡ true
+    → filter (λ v. not (is_below s v)) log ≡ collected s log
 collected_has s log has = sym (cond-true (is_some (find (has_stamp s) log)) (filter (λ v. not (is_below s v)) log) log has)
 
 -- an option has a value exactly if its image has

@@ -26,12 +26,14 @@ found_is shape st other image found stands =
     sym found.state ∙ ap (λ (frames : List Frame). state_in shape frames image) once.0 ∙ stands.state
 
 -- what is found shows the brick: its count, and no later view
-pub found_boot : (layout : Layout) (me : BrickId) (state : machine.Node) (st : StateOf Version) (image : List ℕ) → IsFound (shape_at layout me) st image
+pub found_boot : (layout : Layout) (me : BrickId) (state : machine.Node) (st : StateOf Version) (image : List ℕ)
+    → IsFound (shape_at layout me) st image
     → ImageShows layout me state image → state.boot ≡ st.boot
 found_boot layout me state st image found shows =
     shows.parts.boot ∙ ap (λ (x : StateOf Version). x.boot) (sym (found_is (shape_at layout me) st shows.st image found shows.stands))
 
-pub found_first : (layout : Layout) (me : BrickId) (state : machine.Node) (st : StateOf Version) (image : List ℕ) → IsFound (shape_at layout me) st image
+pub found_first : (layout : Layout) (me : BrickId) (state : machine.Node) (st : StateOf Version) (image : List ℕ)
+    → IsFound (shape_at layout me) st image
     → ImageShows layout me state image → IsFirstView st
 found_first layout me state st image found shows =
     subst IsFirstView (sym (found_is (shape_at layout me) st shows.st image found shows.stands)) shows.first
@@ -77,7 +79,8 @@ rests_off layout me state node disk runs same seen durable =
 
 -- a disk at rest that was left alone
 pub rests_still : (layout : Layout) (me : BrickId) (state : machine.Node) (disk new : MemDisk) → content_of new ≡ content_of disk
-    → ((image : List ℕ) → IsImage (past_of_disk new) (content_of new) image → IsImage (past_of_disk disk) (content_of disk) image) → (IsSound disk → IsSound new)
+    → ((image : List ℕ) → IsImage (past_of_disk new) (content_of new) image → IsImage (past_of_disk disk) (content_of disk) image)
+    → (IsSound disk → IsSound new)
     → Rests layout me state disk → Rests layout me state new
 rests_still layout me state disk new content crash sound rests = record {
   seen = subst (λ (image : List ℕ). ImageShows layout me state image) (sym content) rests.seen;
@@ -122,17 +125,21 @@ is_spent layout made me disk state same rests found =
 pub runs_over : (layout made : Layout) (me : BrickId) (disk : MemDisk) (node : Running MemDisk) (state : machine.Node) → made ≡ layout
     → Rests layout me state disk → node.layout ≡ made → node.me ≡ me → node.brick.halted ≡ false
     → ((before : machine.Node) → ImageShows made me before (content_of disk) → state_of node ≡ machine.restarted 1 before)
-    → ((st : StateOf Version) × IsFound (shape_at made me) st (content_of disk) × (st.boot < 2 ^ 32 - 1) × (node.brick.state ≡ booted (st.boot + 1) st))
+    → ((st : StateOf Version) × IsFound (shape_at made me) st (content_of disk) × (st.boot < 2 ^ 32 - 1)
+    × (node.brick.state ≡ booted (st.boot + 1) st))
     → (IsSound disk → IsSound node.brick.disk) → (machine.may_open 1 state ≡ true) × Runs layout me (machine.restarted 1 state) node
 runs_over layout made me disk node state same rests layout_is me_is runs state_is found sound =
     let seen : ImageShows made me state (content_of disk) =
     subst (λ (l : Layout). ImageShows l me state (content_of disk)) (sym same) rests.seen
     in
-    let boot : state.boot ≡ found.0.boot = found_boot made me state found.0 (content_of disk) found.1 seen in
-    (may_open_is state.boot found.0.boot boot found.2, record { layout_is = layout_is ∙ same; me_is = me_is; state_is = state_is state seen; runs = runs; sound = sound rests.sound })
+    let boot : state.boot ≡ found.0.boot = found_boot made me state found.0 (content_of disk) found.1 seen in (
+      may_open_is state.boot found.0.boot boot found.2,
+      record { layout_is = layout_is ∙ same; me_is = me_is; state_is = state_is state seen; runs = runs; sound = sound rests.sound },
+    )
 
 -- a brick that took a step
-pub still_runs : (layout : Layout) (me : BrickId) (state next : machine.Node) (node new : Running MemDisk) → Runs layout me state node → IsSameBrick node new
+pub still_runs : (layout : Layout) (me : BrickId) (state next : machine.Node) (node new : Running MemDisk) → Runs layout me state node
+    → IsSameBrick node new
     → state_of new ≡ next → new.brick.halted ≡ false → IsSound new.brick.disk → Runs layout me next new
 still_runs layout me state next node new runs same state_is halted sound =
     record { layout_is = same.layout ∙ runs.layout_is; me_is = same.me ∙ runs.me_is; state_is = state_is; runs = halted; sound = sound }

@@ -29,7 +29,8 @@ tells_same old new w sent marks operations numbers tells = record {
   marks = marks ∙ tells.marks;
   begun = ap length operations ∙ tells.begun;
   operations = subst (λ (kept : List Known). StandFor kept w.operations) (sym operations) tells.operations;
-  numbers = λ i k low high. subst (λ (map : BTreeMap (ℕ × ℕ) ℕ). get call_cmp map (i, k) ≡ Some (number_of w i k)) (sym numbers) (tells.numbers i k low high);
+  numbers = λ i k low high. subst (λ (map : BTreeMap (ℕ × ℕ) ℕ). get call_cmp map (i, k) ≡ Some (number_of w i k)) (sym numbers)
+      (tells.numbers i k low high);
 }
 
 -- the number of a call that is none so far changes nothing that is told
@@ -52,7 +53,8 @@ pub record KeepsCalls (w v : World) : Type 0 where
   pub each : (i k : ℕ) → 1 ≤ k → k ≤ (v.nodes i).seq → (k ≤ (w.nodes i).seq) × (number_of v i k ≡ number_of w i k)
 
 -- so where the boots, the counts of calls and the numbers stay
-pub calls_same : (w v : World) → ((i : ℕ) → (v.nodes i).boot ≡ (w.nodes i).boot) → ((i : ℕ) → (v.nodes i).seq ≡ (w.nodes i).seq) → v.numbers ≡ w.numbers
+pub calls_same : (w v : World) → ((i : ℕ) → (v.nodes i).boot ≡ (w.nodes i).boot) → ((i : ℕ) → (v.nodes i).seq ≡ (w.nodes i).seq)
+    → v.numbers ≡ w.numbers
     → KeepsCalls w v
 calls_same w v boots seqs numbers = record {
   each = λ i k low high. (
@@ -73,14 +75,17 @@ tells_other history w v packets marks begun operations calls tells = record {
 }
 
 -- a brick's step leaves all boots, and one that opens no call all call numbers
-pub boots_stay : (w : World) (brick : BrickId) (node : Node) → node.boot ≡ (w.nodes brick.0).boot → (i : ℕ) → (put w.nodes brick.0 node i).boot ≡ (w.nodes i).boot
+pub boots_stay : (w : World) (brick : BrickId) (node : Node) → node.boot ≡ (w.nodes brick.0).boot → (i : ℕ) → (put w.nodes brick.0 node i).boot ≡
+    (w.nodes i).boot
 boots_stay w brick node same = each_value (λ i x. x.boot ≡ (w.nodes i).boot) w.nodes brick.0 node same (λ i other. refl)
 
-pub seqs_stay : (w : World) (brick : BrickId) (node : Node) → node.seq ≡ (w.nodes brick.0).seq → (i : ℕ) → (put w.nodes brick.0 node i).seq ≡ (w.nodes i).seq
+pub seqs_stay : (w : World) (brick : BrickId) (node : Node) → node.seq ≡ (w.nodes brick.0).seq → (i : ℕ) → (put w.nodes brick.0 node i).seq ≡
+    (w.nodes i).seq
 seqs_stay w brick node same = each_value (λ i x. x.seq ≡ (w.nodes i).seq) w.nodes brick.0 node same (λ i other. refl)
 
 -- what is kept of the operations is the machine's where both change alike at one number
-pub known_changed : (old new : List Known) (operations : ℕ → Option Operation) (number : ℕ) (change : Known → Known) (next : Option Operation → Option Operation)
+pub known_changed : (old new : List Known) (operations : ℕ → Option Operation) (number : ℕ) (change : Known → Known)
+    (next : Option Operation → Option Operation)
     → ((known : Known) (o : Operation) → IsKnown known o → (p : Operation) × (next (Some o) ≡ Some p) × IsKnown (change known) p)
     → ChangesAt old new number change
     → StandFor old operations → StandFor new (put operations number (next (operations number)))
@@ -156,7 +161,8 @@ unfolding restarted
 restarted_seq openings node = refl
 
 -- one operation changed, and some marks came
-tells_changed : (old new : History) (w : World) (number : ℕ) (kept after : List Known) (change : Known → Known) (next : Option Operation → Option Operation)
+tells_changed : (old new : History) (w : World) (number : ℕ) (kept after : List Known) (change : Known → Known)
+    (next : Option Operation → Option Operation)
     → Tells old w → kept ≡ old.operations.items → new.operations.items ≡ after
     → ((known : Known) (o : Operation) → IsKnown known o → (p : Operation) × (next (Some o) ≡ Some p) × IsKnown (change known) p)
     → ChangesAt kept after number change → length after ≡ length kept
@@ -169,7 +175,8 @@ tells_changed old new w number kept after change next tells are become alike cha
   operations = subst (λ (x : List Known). StandFor x (put w.operations number (next (w.operations number)))) (sym become)
       (known_changed kept after w.operations number change next alike changed
       (subst (λ (x : List Known). StandFor x w.operations) (sym are) tells.operations));
-  numbers = λ i k low high. subst (λ (map : BTreeMap (ℕ × ℕ) ℕ). get call_cmp map (i, k) ≡ Some (number_of w i k)) (sym numbers) (tells.numbers i k low high);
+  numbers = λ i k low high. subst (λ (map : BTreeMap (ℕ × ℕ) ℕ). get call_cmp map (i, k) ≡ Some (number_of w i k)) (sym numbers)
+      (tells.numbers i k low high);
 }
 
 -- the numbers of calls with one call more
@@ -252,17 +259,20 @@ tells_began old new w brick ask step tells sent marks operations numbers boot ne
         answered = refl;
       }) tells.operations);
   numbers = subst (λ (map : BTreeMap (ℕ × ℕ) ℕ). (i k : ℕ) → 1 ≤ k → k ≤ (put w.nodes brick.0 step.node i).seq
-      → get call_cmp map (i, k) ≡ Some (with_number w.numbers brick.0 step.node (w.begun + 1) i (put w.nodes brick.0 step.node i).boot k)) (sym numbers)
+      → get call_cmp map (i, k) ≡ Some (with_number w.numbers brick.0 step.node (w.begun + 1) i (put w.nodes brick.0 step.node i).boot k))
+      (sym numbers)
       (numbers_grow w old.numbers brick.0 (w.begun + 1) step.node boot next number tells.numbers);
 }
 
 -- there is no operation 0
 pub changes_none : (kept : List Known) (number : ℕ) (change : Known → Known) → number ≡ 0 → ChangesAt kept kept number change
 changes_none kept number change none n =
-    sym (ap (λ b. if b then option_map change (slice_get kept n) else slice_get kept n) (let apart : n + 1 ≢ number = (λ e. omega arith) in ne_eqb (n + 1) number apart))
+    sym (ap (λ b. if b then option_map change (slice_get kept n) else slice_get kept n)
+    (let apart : n + 1 ≢ number = (λ e. omega arith) in ne_eqb (n + 1) number apart))
 
 -- there is no operation past the last
-pub changes_past : (kept : List Known) (number : ℕ) (change : Known → Known) → number ≢ 0 → length kept ≤ number - 1 → ChangesAt kept kept number change
+pub changes_past : (kept : List Known) (number : ℕ) (change : Known → Known) → number ≢ 0 → length kept ≤ number - 1
+    → ChangesAt kept kept number change
 changes_past kept number change some past n =
     cond_both (nat_eq (n + 1) number) (option_map change (slice_get kept n)) (slice_get kept n) (λ (x : Option Known). slice_get kept n ≡ x)
     (λ here.
@@ -323,7 +333,8 @@ tells_made old new w b seq number stamp base kept after tells is are become sent
     (subst (λ n. ChangesAt kept after n (made_known stamp base)) is changed) count sent numbers w.marks (marks ∙ tells.marks)
 
 -- an operation ended
-pub tells_ended : (old new : History) (w : World) (b seq number : ℕ) (answer : Answer) (answered : Bool) (seen : Option Stamp) (kept after : List Known)
+pub tells_ended : (old new : History) (w : World) (b seq number : ℕ) (answer : Answer) (answered : Bool) (seen : Option Stamp)
+    (kept after : List Known)
     → Tells old w → number ≡ number_of w b seq → kept ≡ old.operations.items → new.operations.items ≡ after → answered ≡ is_answer answer
     → new.sent.items ≡ old.sent.items → new.marks.items ≡ old.marks.items ++ End (length old.marks.items) number answer ∷ []
     → ChangesAt kept after number (ended_known answered seen) → length after ≡ length kept → new.numbers ≡ old.numbers
@@ -334,7 +345,8 @@ pub tells_ended : (old new : History) (w : World) (b seq number : ℕ) (answer :
 tells_ended old new w b seq number answer answered seen kept after tells is are become right sent marks changed count numbers =
     let at : ChangesAt kept after (number_of w b seq) (ended_known answered seen) =
     subst (λ n. ChangesAt kept after n (ended_known answered seen)) is changed in
-    tells_changed old new w (number_of w b seq) kept after (ended_known (is_answer answer) seen) (with_answer answer seen) tells are become (ended_alike answer seen)
+    tells_changed old new w (number_of w b seq) kept after (ended_known (is_answer answer) seen) (with_answer answer seen) tells are become
+    (ended_alike answer seen)
     (subst (λ (x : Bool). ChangesAt kept after (number_of w b seq) (ended_known x seen)) right at) count sent numbers _
     (marks ∙ ap (λ n. old.marks.items ++ End (length old.marks.items) n answer ∷ []) is
     ∙ ap (λ (xs : List Mark). xs ++ End (length xs) (number_of w b seq) answer ∷ []) tells.marks)
@@ -357,7 +369,8 @@ tells_step_made history w brick step packets seq stamp base is sent boot next of
     (made call.0 call.1))
 
 -- a step that ended an operation
-pub tells_step_ended : (history : History) (w : World) (brick : BrickId) (step : NodeStep) (packets : List Packet) (seq : ℕ) (answer : Answer) (seen : Option Stamp)
+pub tells_step_ended : (history : History) (w : World) (brick : BrickId) (step : NodeStep) (packets : List Packet) (seq : ℕ) (answer : Answer)
+    (seen : Option Stamp)
     → step.told ≡ Answers seq answer seen → packets ≡ step.packets → step.node.boot ≡ (w.nodes brick.0).boot
     → step.node.seq ≡ (w.nodes brick.0).seq → IsOfCall (w.nodes brick.0) step.told
     → (1 ≤ seq → seq ≤ (w.nodes brick.0).seq
@@ -382,7 +395,8 @@ tells_crashed old new w brick tells sent marks operations numbers =
     let kept : Tells (record new { marks = old.marks }) w = tells_same old (record new { marks = old.marks }) w sent refl operations numbers tells in
     let other : Tells (record new { marks = old.marks }) (record (world_stopped w brick) { marks = w.marks }) =
     tells_other (record new { marks = old.marks }) w (record (world_stopped w brick) { marks = w.marks }) refl refl refl refl
-    (calls_same w (record (world_stopped w brick) { marks = w.marks }) (boots_stay w brick (stopped (w.nodes brick.0)) (stopped_boot (w.nodes brick.0)))
+    (calls_same w (record (world_stopped w brick) { marks = w.marks })
+    (boots_stay w brick (stopped (w.nodes brick.0)) (stopped_boot (w.nodes brick.0)))
     (seqs_stay w brick (stopped (w.nodes brick.0)) (stopped_seq (w.nodes brick.0))) refl) kept
     in
     record {
@@ -397,11 +411,13 @@ tells_crashed old new w brick tells sent marks operations numbers =
 started_calls : (w : World) (brick : BrickId) (openings : ℕ) → KeepsCalls w (world_started w brick openings)
 started_calls w brick openings = record {
   each = λ i k low. each_value (λ j x. k ≤ x.seq → (k ≤ (w.nodes j).seq) × (w.numbers j x.boot k ≡ number_of w j k)) w.nodes brick.0
-      (restarted openings (w.nodes brick.0)) (λ high. absurd (let none : (restarted openings (w.nodes brick.0)).seq ≡ 0 = restarted_seq openings (w.nodes brick.0) in omega arith))
+      (restarted openings (w.nodes brick.0)) (λ high. absurd (let none : (restarted openings (w.nodes brick.0)).seq ≡ 0 = restarted_seq openings
+      (w.nodes brick.0) in omega arith))
       (λ j other high. (high, refl)) i;
 }
 
 -- a brick started again
-pub tells_started : (history : History) (w : World) (brick : BrickId) (openings : ℕ) → Tells history w → Tells history (world_started w brick openings)
+pub tells_started : (history : History) (w : World) (brick : BrickId) (openings : ℕ) → Tells history w
+    → Tells history (world_started w brick openings)
 tells_started history w brick openings tells =
     tells_other history w (world_started w brick openings) refl refl refl refl (started_calls w brick openings) tells

@@ -37,9 +37,11 @@ pub entries_more : (operations : List Known) (g s i : ℕ) (d : Known) → i < l
     ≡ entries_to (operations_of operations) g s i ++ entry_at g s (i + 1) (Some (operation_of (get_or operations i d)))
 entries_more operations g s i d within =
     let known : Known = get_or operations i d in
-    subst (λ (m : ℕ). entries_to (operations_of operations) g s m ≡ entries_to (operations_of operations) g s i ++ entry_at g s m (Some (operation_of known)))
+    subst (λ (m : ℕ). entries_to (operations_of operations) g s m ≡ entries_to (operations_of operations) g s i ++ entry_at g s m
+    (Some (operation_of known)))
     (sym (add-one i))
-    (ap (λ (o : Option Known). entries_to (operations_of operations) g s i ++ entry_at g s (suc i) (option_map operation_of o)) (slice_get-get_or operations i d within))
+    (ap (λ (o : Option Known). entries_to (operations_of operations) g s i ++ entry_at g s (suc i) (option_map operation_of o))
+    (slice_get-get_or operations i d within))
 
 -- the entry of an operation that is kept is the machine's
 known_entry : (g s n : ℕ) (known : Known) (o : Operation) → IsKnown known o → entry_at g s n (Some (operation_of known)) ≡ entry_at g s n (Some o)
@@ -84,14 +86,16 @@ at_number g s n (Some o) =
     with_number : (reader : Bool) (version : Option Stamp) → All (λ (e : Entry). e.operation ≡ n) (entry_with n reader version)
     with_number reader None = All-nil (λ (e : Entry). e.operation ≡ n)
     with_number reader (Some t) =
-        All-cons (λ (e : Entry). e.operation ≡ n) (record { stamp = t; reader = reader; operation = n }) [] refl (All-nil (λ (e : Entry). e.operation ≡ n))
+        All-cons (λ (e : Entry). e.operation ≡ n) (record { stamp = t; reader = reader; operation = n }) [] refl
+        (All-nil (λ (e : Entry). e.operation ≡ n))
 
 -- the entries of operations 1 to n are so numbered
 entries_numbered : (operations : ℕ → Option Operation) (g s n : ℕ) → All (IsUpTo n) (entries_to operations g s n)
 entries_numbered operations g s zero = All-nil (IsUpTo zero)
 entries_numbered operations g s (suc n) =
     All-append (IsUpTo (suc n)) (entries_to operations g s n) (entry_at g s (suc n) (operations (suc n)))
-    (All-weaker (IsUpTo n) (IsUpTo (suc n)) (λ e old. (old.0, omega (arith, old.1))) (entries_to operations g s n) (entries_numbered operations g s n))
+    (All-weaker (IsUpTo n) (IsUpTo (suc n)) (λ e old. (old.0, omega (arith, old.1))) (entries_to operations g s n)
+    (entries_numbered operations g s n))
     (All-weaker (λ (e : Entry). e.operation ≡ suc n) (IsUpTo (suc n)) (λ e is. (omega arith, omega arith)) (entry_at g s (suc n) (operations (suc n)))
     (at_number g s (suc n) (operations (suc n))))
 
@@ -101,7 +105,8 @@ writes_that true = refl
 writes_that false = refl
 
 -- where of two operations the same is known, the same is done with their entry
-with_entry_same : (o p : Option Operation) (e : Entry) (above : Effect) → was_answered o ≡ was_answered p → is_told o ≡ is_told p → base_of o ≡ base_of p
+with_entry_same : (o p : Option Operation) (e : Entry) (above : Effect) → was_answered o ≡ was_answered p → is_told o ≡ is_told p
+    → base_of o ≡ base_of p
     → with_entry o e above ≡ with_entry p e above
 with_entry_same o p e above answered told base =
     ap (λ (b : Bool). cond (b || is_among e.stamp above.needed) (took (is_told o) (base_of o)) above) answered
@@ -142,7 +147,8 @@ module _ (operations : List Known) (w : World) (are : AreKnown operations w) (d 
 
   -- the same is known of an operation as the machine knows
   known_same : (k : ℕ) → 1 ≤ k → k ≤ length operations
-      → (was_answered (operations_of operations k) ≡ was_answered (w.operations k)) × (is_told (operations_of operations k) ≡ is_told (w.operations k))
+      → (was_answered (operations_of operations k) ≡ was_answered (w.operations k))
+      × (is_told (operations_of operations k) ≡ is_told (w.operations k))
       × (base_of (operations_of operations k) ≡ base_of (w.operations k))
   known_same k low high =
       let mine : Agrees operations w k = agrees operations w are d k low high in
@@ -174,7 +180,8 @@ module _ (operations : List Known) (w : World) (are : AreKnown operations w) (d 
       ∙ ap (λ (x : Effect). x.told) (effect_same (operations_of operations) w.operations (ascending entries)
       (rising_all AreSame
       (All-weaker (IsUpTo w.begun) AreSame
-      (λ e upto. known_same e.operation upto.0 (let begun = are.begun in omega (arith, upto.1))) entries (entries_numbered w.operations g s w.begun))))
+      (λ e upto. known_same e.operation upto.0 (let begun = are.begun in omega (arith, upto.1))) entries
+      (entries_numbered w.operations g s w.begun))))
 
   -- an entry's operation begins where the marks of the stripe say
   begin_same : BeginsAgree w → (e : Entry) → IsUpTo (length operations) e → IsEntryOf w.operations g s e
@@ -188,7 +195,8 @@ module _ (operations : List Known) (w : World) (are : AreKnown operations w) (d 
       let stripe : o.ask.stripe.0 ≡ s = eqb-true o.ask.stripe.0 s parts.1 in
       let agree : begin_of (life_of (stripe_marks g s w.marks) e.operation) ≡ o.begin =
       subst (λ (x : ℕ). begin_of (life_of (stripe_marks x s w.marks) e.operation) ≡ o.begin) group
-      (subst (λ (y : ℕ). begin_of (life_of (stripe_marks o.ask.group.0 y w.marks) e.operation) ≡ o.begin) stripe (begins.each e.operation o ours.is)) in
+      (subst (λ (y : ℕ). begin_of (life_of (stripe_marks o.ask.group.0 y w.marks) e.operation) ≡ o.begin) stripe
+      (begins.each e.operation o ours.is)) in
       ap begin_at mine.kept ∙ mine.same.begin ∙ ap (λ (x : Operation). x.begin) one ∙ sym agree
 
   -- entries that begin alike happen alike
@@ -210,7 +218,8 @@ module _ (operations : List Known) (w : World) (are : AreKnown operations w) (d 
   walk_all P all = told_all w.operations P (rising_to w.operations g s w.begun) (rising_all P all)
 
   -- the happenings are the same
-  happenings_same : BeginsAgree w → placed (operations_of operations) 0 (walk_to (operations_of operations) g s (length operations)) ≡ happenings_of w g s
+  happenings_same : BeginsAgree w → placed (operations_of operations) 0
+      (walk_to (operations_of operations) g s (length operations)) ≡ happenings_of w g s
   unfolding happenings_of
   happenings_same begins =
       let walk : List Entry = walk_of w g s in

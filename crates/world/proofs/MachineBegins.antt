@@ -14,7 +14,8 @@ use Rattle.protocol.specs.Worlds.{World, Invokes, Delivers, Sets, Ticks, Crashes
 use Rattle.world.specs.Runs.{ask_of, refusal_at}
 
 -- where there is no such group there is no such stripe
-pub refused_no_group : (layout : Layout) (g s : ℕ) (node : Node) (op : Op) → group_of layout g ≡ None → refusal_of layout node (ask_of g s op) ≡ Some Refusal.NoStripe
+pub refused_no_group : (layout : Layout) (g s : ℕ) (node : Node) (op : Op) → group_of layout g ≡ None
+    → refusal_of layout node (ask_of g s op) ≡ Some Refusal.NoStripe
 unfolding refusal_of
 refused_no_group layout g s node op none = ap (refusal_in layout.block node (ask_of g s op)) none
 
@@ -52,7 +53,8 @@ may_not true false r reason is = refl
 may_not false c r reason is = refl
 
 -- an operation that is refused changes nothing
-pub happens_refused : (setting : Setting) (w : World) (brick : BrickId) (ask : Ask) (reason : Refusal) → refusal_of setting.layout (w.nodes brick.0) ask ≡ Some reason
+pub happens_refused : (setting : Setting) (w : World) (brick : BrickId) (ask : Ask) (reason : Refusal)
+    → refusal_of setting.layout (w.nodes brick.0) ask ≡ Some reason
     → happens setting w (Invokes brick ask) ≡ w
 unfolding happens
 happens_refused setting w brick ask reason is =
@@ -60,10 +62,12 @@ happens_refused setting w brick ask reason is =
     (may_not (is_up setting.layout w brick) (is_stripe_op ask.op) (refusal_of setting.layout (w.nodes brick.0) ask) reason is)
 
 -- nothing begins at a brick that is not up
-pub happens_down : (setting : Setting) (w : World) (brick : BrickId) (ask : Ask) → is_up setting.layout w brick ≡ false → happens setting w (Invokes brick ask) ≡ w
+pub happens_down : (setting : Setting) (w : World) (brick : BrickId) (ask : Ask) → is_up setting.layout w brick ≡ false
+    → happens setting w (Invokes brick ask) ≡ w
 unfolding happens
 happens_down setting w brick ask down =
-    ap (λ b. cond (b && (is_stripe_op ask.op && not (is_some (refusal_of setting.layout (w.nodes brick.0) ask)))) (world_began w brick ask (invoked setting brick (w.clocks brick.0) (w.nodes brick.0) ask)) w)
+    ap (λ b. cond (b && (is_stripe_op ask.op && not (is_some (refusal_of setting.layout (w.nodes brick.0) ask))))
+    (world_began w brick ask (invoked setting brick (w.clocks brick.0) (w.nodes brick.0) ask)) w)
     down
 
 may : (b c : Bool) (r : Option Refusal) → b ≡ true → c ≡ true → r ≡ None → b && (c && not (is_some r)) ≡ true
@@ -80,7 +84,8 @@ happens_begun setting w brick ask up stripe none =
     ap (λ b. cond b (world_began w brick ask (invoked setting brick (w.clocks brick.0) (w.nodes brick.0) ask)) w)
     (may (is_up setting.layout w brick) (is_stripe_op ask.op) (refusal_of setting.layout (w.nodes brick.0) ask) up stripe none)
 
-began_next : (setting : Setting) (brick : BrickId) (now : ℕ) (node : Node) (ask : Ask) (found : Option Group) → refusal_in setting.layout.block node ask found ≡ None
+began_next : (setting : Setting) (brick : BrickId) (now : ℕ) (node : Node) (ask : Ask) (found : Option Group)
+    → refusal_in setting.layout.block node ask found ≡ None
     → (began setting brick now node ask found).node.seq ≡ node.seq + 1
 began_next setting brick now node ask None none = absurd (let never : Some Refusal.NoStripe ≡ None = none in cc)
 began_next setting brick now node ask (Some group) none = refl
@@ -97,7 +102,8 @@ invoked_boot_in : (setting : Setting) (brick : BrickId) (now : ℕ) (node : Node
 invoked_boot_in setting brick now node ask None = refl
 invoked_boot_in setting brick now node ask (Some group) = refl
 
-pub invoked_boot : (setting : Setting) (brick : BrickId) (now : ℕ) (node : Node) (ask : Ask) → (invoked setting brick now node ask).node.boot ≡ node.boot
+pub invoked_boot : (setting : Setting) (brick : BrickId) (now : ℕ) (node : Node) (ask : Ask)
+    → (invoked setting brick now node ask).node.boot ≡ node.boot
 unfolding invoked
 invoked_boot setting brick now node ask = invoked_boot_in setting brick now node ask (group_of setting.layout ask.group.0)
 
@@ -156,7 +162,8 @@ pub happens_stopped : (setting : Setting) (w : World) (brick : BrickId) → is_u
 unfolding happens
 happens_stopped setting w brick up = ap (λ b. cond b (world_stopped w brick) w) up
 
-pub happens_unstopped : (setting : Setting) (w : World) (brick : BrickId) → is_up setting.layout w brick ≡ false → happens setting w (Crashes brick) ≡ w
+pub happens_unstopped : (setting : Setting) (w : World) (brick : BrickId) → is_up setting.layout w brick ≡ false
+    → happens setting w (Crashes brick) ≡ w
 unfolding happens
 happens_unstopped setting w brick down = ap (λ b. cond b (world_stopped w brick) w) down
 

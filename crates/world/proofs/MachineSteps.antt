@@ -32,14 +32,17 @@ requested_in_opens_none : (layout : Layout) (me from : BrickId) (node : Node) (c
     → OpensNone node (requested_in layout me from node call request group)
 requested_in_opens_none layout me from node call request None = record { boot = refl; seq = refl; told = tt }
 requested_in_opens_none layout me from node call request (Some group) =
-    cond_both (is_served group call && fits_block layout.block request) (requested_at layout.records me from node call request (seat_in group.members me.0)) (no_step node)
+    cond_both (is_served group call && fits_block layout.block request)
+    (requested_at layout.records me from node call request (seat_in group.members me.0)) (no_step node)
     (λ (step : NodeStep). OpensNone node step)
-    (λ serves. requested_at_opens_none layout.records me from node call request (seat_in group.members me.0)) (λ void. record { boot = refl; seq = refl; told = tt })
+    (λ serves. requested_at_opens_none layout.records me from node call request (seat_in group.members me.0))
+    (λ void. record { boot = refl; seq = refl; told = tt })
 
 requested_opens_none : (setting : Setting) (me from : BrickId) (node : Node) (call : Call) (request : Request)
     → OpensNone node (requested setting me from node call request)
 unfolding requested
-requested_opens_none setting me from node call request = requested_in_opens_none setting.layout me from node call request (group_of setting.layout call.group.0)
+requested_opens_none setting me from node call request = requested_in_opens_none setting.layout me from node call request
+    (group_of setting.layout call.group.0)
 
 -- a reply
 carried_out_opens_none : (setting : Setting) (group : Group) (me : BrickId) (node : Node) (known : ℕ) (c : Coordinator) (next : Next)
@@ -64,7 +67,8 @@ replied_at_opens_none : (setting : Setting) (me : BrickId) (now : ℕ) (from : B
 replied_at_opens_none setting me now from node call reply None numbered is = record { boot = refl; seq = refl; told = tt }
 replied_at_opens_none setting me now from node call reply (Some c) numbered is =
     let at = numbered call.seq c is in
-    replied_to_opens_none setting me now from node call reply c (group_of setting.layout c.ask.group.0) (omega (arith, at.0, at.1)) (omega (arith, at.0, at.2))
+    replied_to_opens_none setting me now from node call reply c (group_of setting.layout c.ask.group.0) (omega (arith, at.0, at.1))
+    (omega (arith, at.0, at.2))
 
 replied_opens_none : (setting : Setting) (me : BrickId) (now : ℕ) (from : BrickId) (node : Node) (call : Call) (reply : Reply)
     → CallsAreNumbered node → OpensNone node (replied setting me now from node call reply)
@@ -77,7 +81,8 @@ received_as_opens_none : (setting : Setting) (me : BrickId) (now : ℕ) (from to
     → OpensNone node (received setting me now node (record { from = from; to = to; message = message }))
 unfolding received
 received_as_opens_none setting me now from to node (Message.Request call request) numbered = requested_opens_none setting me from node call request
-received_as_opens_none setting me now from to node (Message.Reply call reply) numbered = replied_opens_none setting me now from node call reply numbered
+received_as_opens_none setting me now from to node
+    (Message.Reply call reply) numbered = replied_opens_none setting me now from node call reply numbered
 received_as_opens_none setting me now from to node message numbered = record { boot = refl; seq = refl; told = tt }
 
 pub received_opens_none : (setting : Setting) (me : BrickId) (now : ℕ) (node : Node) (packet : Packet) → CallsAreNumbered node

@@ -32,7 +32,8 @@ use Rattle.world.proofs.BrickLemmas.{still_runs}
 use Rattle.world.proofs.Places.{grown, replaced, value_here, value_elsewhere}
 
 -- one brick changed, and no other
-shows_after : (layout : Layout) (bricks : List Brick) (b : ℕ) (brick : Brick) (w v : World) → ShowsBrick layout b brick (v.nodes b) (v.up b) (v.clocks b)
+shows_after : (layout : Layout) (bricks : List Brick) (b : ℕ) (brick : Brick) (w v : World) → ShowsBrick layout b brick (v.nodes b) (v.up b)
+    (v.clocks b)
     → ((i : ℕ) → i ≢ b → (v.nodes i ≡ w.nodes i) × (v.up i ≡ w.up i) × (v.clocks i ≡ w.clocks i))
     → ShowsBricks layout bricks w.nodes w.up w.clocks → ShowsBricks layout (set bricks b brick) v.nodes v.up v.clocks
 shows_after layout bricks b brick w v is stay shows = record {
@@ -76,7 +77,8 @@ with_power brick power = record { power = power; clock = brick.clock }
 -- a brick that took a step
 shows_step : (layout : Layout) (bricks : List Brick) (b : ℕ) (old : Brick) (new : Running MemDisk) (w : World) (next : machine.Node)
     → old.clock ≡ w.clocks b → w.up b ≡ true → Runs layout (brick_of b) next new
-    → ShowsBricks layout bricks w.nodes w.up w.clocks → ShowsBricks layout (set bricks b (with_power old (Up new))) (machine.put w.nodes b next) w.up w.clocks
+    → ShowsBricks layout bricks w.nodes w.up w.clocks → ShowsBricks layout (set bricks b (with_power old (Up new)))
+    (machine.put w.nodes b next) w.up w.clocks
 shows_step layout bricks b old new w next clock up runs shows =
     shows_after layout bricks b (with_power old (Up new)) w (record w { nodes = machine.put w.nodes b next })
     (record {
@@ -92,17 +94,21 @@ shows_turned : (layout : Layout) (bricks : List Brick) (b : ℕ) (old : Brick) (
 shows_turned layout bricks b old power up w next clock is shows =
     shows_after layout bricks b (with_power old power) w (record w { nodes = machine.put w.nodes b next; up = machine.put w.up b up })
     (record {
-      power = subst (λ (state : machine.Node). ShowsPower layout (brick_of b) state (machine.put w.up b up b) power) (sym (value_here w.nodes b b next refl))
+      power = subst (λ (state : machine.Node). ShowsPower layout (brick_of b) state (machine.put w.up b up b) power)
+          (sym (value_here w.nodes b b next refl))
           (subst (λ (on : Bool). ShowsPower layout (brick_of b) next on power) (sym (value_here w.up b b up refl)) is);
       clock = clock;
     })
     (λ i other. (value_elsewhere w.nodes b i next other, value_elsewhere w.up b i up other, refl)) shows
 
 -- a brick stopped
-pub shows_stopped : (layout : Layout) (bricks : List Brick) (b : ℕ) (old : Brick) (power : Power) (w : World) → b < length bricks → old ≡ get_or bricks b old
-    → ((me : BrickId) (state : machine.Node) (up : Bool) → ShowsPower layout me state up old.power → ShowsPower layout me (machine.stopped state) false power)
+pub shows_stopped : (layout : Layout) (bricks : List Brick) (b : ℕ) (old : Brick) (power : Power) (w : World) → b < length bricks
+    → old ≡ get_or bricks b old
+    → ((me : BrickId) (state : machine.Node) (up : Bool) → ShowsPower layout me state up old.power
+    → ShowsPower layout me (machine.stopped state) false power)
     → ShowsBricks layout bricks w.nodes w.up w.clocks
-    → ShowsBricks layout (set bricks b (with_power old power)) (machine.put w.nodes b (machine.stopped (w.nodes b))) (machine.put w.up b false) w.clocks
+    → ShowsBricks layout (set bricks b (with_power old power)) (machine.put w.nodes b (machine.stopped (w.nodes b)))
+    (machine.put w.up b false) w.clocks
 shows_stopped layout bricks b old power w within is off shows =
     let was = brick_at layout bricks w b old within is shows in
     shows_turned layout bricks b old power false w (machine.stopped (w.nodes b)) was.clock (off (brick_of b) (w.nodes b) (w.up b) was.power) shows
@@ -123,9 +129,12 @@ shows_kept layout bricks b old power w within is power_shows shows =
     shows_after layout bricks b (with_power old power) w w (record { power = power_shows; clock = was.clock }) (λ i other. (refl, refl, refl)) shows
 
 -- a brick that was to start
-module _ (layout : Layout) (bricks : List Brick) (b : ℕ) (old : Brick) (power : Power) (within : b < length bricks) (is : old ≡ get_or bricks b old) where
-  pub shows_turned_on : (result : Result Bool NoMem) → ((state : machine.Node) (up : Bool) → ShowsPower layout (brick_of b) state up old.power → TurnsOn layout (brick_of b) state up power result)
-      → IfOk result (λ started. (w : World) → ShowsBricks layout bricks w.nodes w.up w.clocks → ShowsStarted layout (brick_of b) w (set bricks b (with_power old power)) started)
+module _ (layout : Layout) (bricks : List Brick) (b : ℕ) (old : Brick) (power : Power) (within : b < length bricks)
+    (is : old ≡ get_or bricks b old) where
+  pub shows_turned_on : (result : Result Bool NoMem) → ((state : machine.Node) (up : Bool) → ShowsPower layout (brick_of b) state up old.power
+      → TurnsOn layout (brick_of b) state up power result)
+      → IfOk result (λ started. (w : World) → ShowsBricks layout bricks w.nodes w.up w.clocks → ShowsStarted layout (brick_of b) w
+      (set bricks b (with_power old power)) started)
   shows_turned_on (Ok true) turns = λ w shows.
       let was = brick_at layout bricks w b old within is shows in
       let runs = turns (w.nodes b) (w.up b) was.power in
@@ -142,8 +151,10 @@ module _ (layout : Layout) (bricks : List Brick) (b : ℕ) (old : Brick) (power 
       }
   shows_turned_on (Err refused) turns = tt
 
-  pub shows_not_on : (result : Result Bool NoMem) → ((state : machine.Node) (up : Bool) → ShowsPower layout (brick_of b) state up old.power → TurnsOn layout (brick_of b) state up power result)
-      → OnErr result ((w : World) → ShowsBricks layout bricks w.nodes w.up w.clocks → ShowsBricks layout (set bricks b (with_power old power)) w.nodes w.up w.clocks)
+  pub shows_not_on : (result : Result Bool NoMem) → ((state : machine.Node) (up : Bool) → ShowsPower layout (brick_of b) state up old.power
+      → TurnsOn layout (brick_of b) state up power result)
+      → OnErr result ((w : World) → ShowsBricks layout bricks w.nodes w.up w.clocks
+      → ShowsBricks layout (set bricks b (with_power old power)) w.nodes w.up w.clocks)
   shows_not_on (Ok started) turns = tt
   shows_not_on (Err refused) turns = λ w shows.
       shows_kept layout bricks b old power w within is (turns (w.nodes b) (w.up b) (brick_at layout bricks w b old within is shows).power) shows
@@ -169,8 +180,10 @@ shows_clock layout bricks b old time w within is shows =
     (λ i other. (refl, refl, value_elsewhere w.clocks b i time other)) shows
 
 -- a brick refuses as the machine's does
-pub asked_refused : (layout : Layout) (bricks : List Brick) (b : ℕ) (brick : Brick) (node : Running MemDisk) (ask : Ask) (result : Result Begun NodeFault)
-    → b < length bricks → brick ≡ get_or bricks b brick → brick.power ≡ Up node → RefusesAs result (machine.refusal_of node.layout (state_of node) ask)
+pub asked_refused : (layout : Layout) (bricks : List Brick) (b : ℕ) (brick : Brick) (node : Running MemDisk) (ask : Ask)
+    (result : Result Begun NodeFault)
+    → b < length bricks → brick ≡ get_or bricks b brick → brick.power ≡ Up node
+    → RefusesAs result (machine.refusal_of node.layout (state_of node) ask)
     → (w : World) → ShowsBricks layout bricks w.nodes w.up w.clocks → RefusesAs result (machine.refusal_of layout (w.nodes b) ask)
 asked_refused layout bricks b brick node ask result within is on refuses w shows =
     let runs = (runs_at layout bricks w b brick node within is on shows).1 in
@@ -252,7 +265,8 @@ handed_over bricks b old node new packet result within is on same halted sound s
       as_machine.packets ∙ ap (λ (x : machine.NodeStep). x.packets) alike,
       as_machine.told ∙ ap (λ (x : machine.NodeStep). x.told) alike,
       shows_step layout bricks b old new w next at.clock up.0
-          (still_runs layout (brick_of b) (w.nodes b) next node new runs same (as_machine.state_is ∙ ap (λ (x : machine.NodeStep). x.node) alike) halted sound)
+          (still_runs layout (brick_of b) (w.nodes b) next node new runs same
+          (as_machine.state_is ∙ ap (λ (x : machine.NodeStep). x.node) alike) halted sound)
           shows,
     ))
     steps
@@ -262,7 +276,8 @@ pub next_shown : (layout : Layout) (bricks : List Brick) (b : ℕ) (brick : Bric
     → brick ≡ get_or bricks b brick → brick.power ≡ Up node → SomeIff next ((state_of node).seq + 1 < 2 ^ 64) ((state_of node).seq + 1)
     → (w : World) → ShowsBricks layout bricks w.nodes w.up w.clocks → SomeIff next ((w.nodes b).seq + 1 < 2 ^ 64) ((w.nodes b).seq + 1)
 next_shown layout bricks b brick node next within is on gives w shows =
-    subst (λ (x : machine.Node). SomeIff next (x.seq + 1 < 2 ^ 64) (x.seq + 1)) (runs_at layout bricks w b brick node within is on shows).1.state_is gives
+    subst (λ (x : machine.Node). SomeIff next (x.seq + 1 < 2 ^ 64) (x.seq + 1))
+    (runs_at layout bricks w b brick node within is on shows).1.state_is gives
 
 -- it is above those so far
 pub next_above : (seq : ℕ) (next : Option ℕ) → SomeIff next (seq + 1 < 2 ^ 64) (seq + 1) → ForSome next (λ n. seq < n)
@@ -306,12 +321,14 @@ pub shows_fresh : (layout : Layout) (bricks : List Brick) (n : ℕ) → n ≡ la
 shows_fresh layout bricks n all fresh = record { count = fresh.count ∙ all; each = fresh.each }
 
 -- each brick that is shown is one of the layout
-pub nodes_of : (layout : Layout) (bricks : List Brick) (nodes : ℕ → machine.Node) (up : ℕ → Bool) (clocks : ℕ → ℕ) → ShowsBricks layout bricks nodes up clocks
+pub nodes_of : (layout : Layout) (bricks : List Brick) (nodes : ℕ → machine.Node) (up : ℕ → Bool) (clocks : ℕ → ℕ)
+    → ShowsBricks layout bricks nodes up clocks
     → AreNodesOf layout bricks
 nodes_of layout bricks nodes up clocks shows = λ i brick at. record { state = nodes i; up = up i; shows = (shows.each i brick at).power }
 
 -- the brick of a number is one of the layout
-pub node_at : (layout : Layout) (bricks : List Brick) (b : ℕ) (brick : Brick) → b < length bricks → brick ≡ get_or bricks b brick → AreNodesOf layout bricks
+pub node_at : (layout : Layout) (bricks : List Brick) (b : ℕ) (brick : Brick) → b < length bricks → brick ≡ get_or bricks b brick
+    → AreNodesOf layout bricks
     → IsNodeOf layout b brick.power
 node_at layout bricks b brick within is of = of b brick (slice_get_read bricks (length bricks) b brick refl within is)
 
@@ -351,7 +368,8 @@ found_down layout bricks b brick disk within is off = λ w shows.
 
 -- there is no brick of a number past the last
 pub found_none : (layout : Layout) (bricks : List Brick) (b : ℕ) → layout.bricks ≤ b → FindsUp layout bricks b None
-found_none layout bricks b past = λ w shows. let there : is_brick layout (brick_of b) ≡ false = grind (arith, nat_tests) in ap (λ (x : Bool). x && w.up b) there
+found_none layout bricks b past = λ w shows. let there : is_brick layout (brick_of b) ≡ false = grind (arith, nat_tests) in ap
+    (λ (x : Bool). x && w.up b) there
 
 -- what was found of the bricks behind a slice
 pub down_at : (layout : Layout) (slice bricks : List Brick) (b : ℕ) (brick : BrickId) → slice ≡ bricks → b ≡ brick.0 → FindsUp layout slice b None

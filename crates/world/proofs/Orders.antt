@@ -98,7 +98,8 @@ one_order (x ∷ xs) (y ∷ ys) order other alike =
     let two : sum_by f (y ∷ ys) ≡ f y + sum_by f ys = sum_by-cons f y ys in
     let heads : f x ≡ f y = ap f first in
     omega arith) in
-    ap₂ (λ (e : Entry) (l : List Entry). e ∷ l) first (one_order xs ys (AllPairs-tail IsNotAfter x xs order) (AllPairs-tail IsNotAfter y ys other) rest)
+    ap₂ (λ (e : Entry) (l : List Entry). e ∷ l) first
+    (one_order xs ys (AllPairs-tail IsNotAfter x xs order) (AllPairs-tail IsNotAfter y ys other) rest)
 
 -- what a sort makes of entries is their ascending order
 pub sorted_ascends : (xs ys : List Entry) → IsPermutation xs ys → IsSorted cmp-value.it ys → ys ≡ ascending xs

@@ -17,7 +17,11 @@ grown [] x zero y is = inr (refl, let e : Some x ≡ Some y = is in cc)
 grown [] x (suc n) y is = let e : None ≡ Some y = is in cc
 grown (z ∷ xs) x zero y is = inl is
 grown (z ∷ xs) x (suc n) y is =
-    elim (grown xs x n y is) as (λ _. (slice_get xs n ≡ Some y) ⊎ ((suc n ≡ suc (length xs)) × (x ≡ y))) [ inl old ↦ inl old | inr new ↦ inr (ap suc new.0, new.1) ]
+    elim (grown xs x n y is) as (λ _. (slice_get xs n ≡ Some y) ⊎ ((suc n ≡ suc (length xs)) × (x ≡ y))) [
+      | inl old ↦ inl old
+      | inr new ↦ inr
+          (ap suc new.0, new.1)
+    ]
 
 -- an element of a list with one place changed is the new one, or one of another place
 pub replaced : {A : Type 0} (xs : List A) (k : ℕ) (x : A) (n : ℕ) (y : A) → slice_get (set xs k x) n ≡ Some y

@@ -37,7 +37,8 @@ pub shows_line : (layout : Layout) (state : State) (old new : List Line) (line :
     → Shows layout state (world_of (record { layout = layout; lines = new }))
 shows_line layout state old new line grown shows =
     subst (λ (v : World). Shows layout state v)
-    (sym (ap (λ (lines : List Line). world_of (record { layout = layout; lines = lines })) grown ∙ world_of-with_line (record { layout = layout; lines = old }) line)) shows
+    (sym (ap (λ (lines : List Line). world_of (record { layout = layout; lines = lines })) grown
+    ∙ world_of-with_line (record { layout = layout; lines = old }) line)) shows
 
 -- the log of a part that there is
 pub log_at_part : (r : Run) (b g s : ℕ) (group : Group) (log : List Version) → group_of r.layout g ≡ Some group → s < group.stripes
@@ -46,7 +47,8 @@ pub log_at_part : (r : Run) (b g s : ℕ) (group : Group) (log : List Version) �
 log_at_part r b g s group log found within up is =
     let there : is_stripe (group_of r.layout g) s && is_up r.layout (world_of r) (brick_of b) ≡ true =
     ap (λ o. is_stripe o s && is_up r.layout (world_of r) (brick_of b)) found
-    ∙ both (nat_lt s group.stripes) (is_up r.layout (world_of r) (brick_of b)) (let e : nat_lt s group.stripes ≡ true = grind (arith, nat_tests) in e) up
+    ∙ both (nat_lt s group.stripes) (is_up r.layout (world_of r) (brick_of b))
+    (let e : nat_lt s group.stripes ≡ true = grind (arith, nat_tests) in e) up
     in
     ap (λ l. Some l) is ∙ sym (ap (λ x. cond x (Some (((world_of r).nodes b).replicas g s).log) None) there)
   where

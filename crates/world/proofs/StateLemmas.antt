@@ -59,17 +59,21 @@ down_shown layout state w b brick disk shows at off within =
     ap (λ (x : Bool). x && w.up b) (let e : nat_lt b layout.bricks ≡ true = grind (arith, nat_tests) in e) ∙ is.0
 
 -- an operation that began
-pub shows_begun : (layout : Layout) (state : State) (w : World) (brick : BrickId) (ask : Ask) → is_up layout w brick ≡ true → is_stripe_op ask.op ≡ true
+pub shows_begun : (layout : Layout) (state : State) (w : World) (brick : BrickId) (ask : Ask) → is_up layout w brick ≡ true
+    → is_stripe_op ask.op ≡ true
     → refusal_of layout (w.nodes brick.0) ask ≡ None
-    → ShowsBricks layout state.bricks.items (put w.nodes brick.0 (invoked (coding layout) brick (w.clocks brick.0) (w.nodes brick.0) ask).node) w.up w.clocks
+    → ShowsBricks layout state.bricks.items (put w.nodes brick.0
+    (invoked (coding layout) brick (w.clocks brick.0) (w.nodes brick.0) ask).node) w.up w.clocks
     → Tells state.history (world_began w brick ask (invoked (coding layout) brick (w.clocks brick.0) (w.nodes brick.0) ask))
     → Shows layout state (happens (coding layout) w (Invokes brick ask))
 shows_begun layout state w brick ask up stripe none bricks history =
-    subst (λ (v : World). Shows layout state v) (sym (happens_begun (coding layout) w brick ask up stripe none)) (record { bricks = bricks; history = history })
+    subst (λ (v : World). Shows layout state v) (sym (happens_begun (coding layout) w brick ask up stripe none))
+    (record { bricks = bricks; history = history })
 
 -- an operation that was refused
 pub shows_refused : (layout : Layout) (state : State) (w : World) (brick : BrickId) (ask : Ask) (reason : Refusal)
-    → refusal_of layout (w.nodes brick.0) ask ≡ Some reason → Shows layout state w → Shows layout state (happens (coding layout) w (Invokes brick ask))
+    → refusal_of layout (w.nodes brick.0) ask ≡ Some reason → Shows layout state w
+    → Shows layout state (happens (coding layout) w (Invokes brick ask))
 shows_refused layout state w brick ask reason is shows =
     subst (λ (v : World). Shows layout state v) (sym (happens_refused (coding layout) w brick ask reason is)) shows
 
@@ -92,7 +96,8 @@ shows_astray layout state w number packet sent down shows =
     subst (λ (v : World). Shows layout state v) (sym (happens_astray (coding layout) w number packet sent down)) shows
 
 -- a step changes its brick alone, whatever is told
-nodes_stepped : (w : World) (brick : BrickId) (step : NodeStep) (told : Told) → (world_stepped w brick step told).nodes ≡ put w.nodes brick.0 step.node
+nodes_stepped : (w : World) (brick : BrickId) (step : NodeStep) (told : Told)
+    → (world_stepped w brick step told).nodes ≡ put w.nodes brick.0 step.node
 nodes_stepped w brick step Nothing = refl
 nodes_stepped w brick step (Made seq stamp base) = refl
 nodes_stepped w brick step (Answers seq answer seen) = refl
@@ -128,7 +133,8 @@ shows_handled layout state w number packet sent up bricks history =
     let v : World = record w { replies = replies_with (coding layout) w packet } in
     subst (λ (x : World). Shows layout state x) (sym (happens_handled (coding layout) w number packet sent up))
     (record {
-      bricks = subst (λ (f : ℕ → ℕ). ShowsBricks layout state.bricks.items (after_message (coding layout) w packet).nodes (after_message (coding layout) w packet).up f)
+      bricks = subst (λ (f : ℕ → ℕ). ShowsBricks layout state.bricks.items (after_message (coding layout) w packet).nodes
+          (after_message (coding layout) w packet).up f)
           (sym (clocks_stepped v packet.to step step.told))
           (subst (λ (f : ℕ → Bool). ShowsBricks layout state.bricks.items (after_message (coding layout) w packet).nodes f w.clocks)
           (sym (up_stepped v packet.to step step.told))
@@ -197,11 +203,13 @@ handled_here layout w packet found is up = sym (ap (handled_or_idle (coding layo
 -- a tick, a crash or a start at no brick that it may happen to
 pub shows_unticked : (layout : Layout) (state : State) (w : World) (brick : BrickId) → is_up layout w brick ≡ false
     → Shows layout state w → Shows layout state (happens (coding layout) w (Ticks brick))
-shows_unticked layout state w brick down shows = subst (λ (v : World). Shows layout state v) (sym (happens_unticked (coding layout) w brick down)) shows
+shows_unticked layout state w brick down shows = subst (λ (v : World). Shows layout state v)
+    (sym (happens_unticked (coding layout) w brick down)) shows
 
 pub shows_unstopped : (layout : Layout) (state : State) (w : World) (brick : BrickId) → is_up layout w brick ≡ false
     → Shows layout state w → Shows layout state (happens (coding layout) w (Crashes brick))
-shows_unstopped layout state w brick down shows = subst (λ (v : World). Shows layout state v) (sym (happens_unstopped (coding layout) w brick down)) shows
+shows_unstopped layout state w brick down shows = subst (λ (v : World). Shows layout state v)
+    (sym (happens_unstopped (coding layout) w brick down)) shows
 
 pub shows_nowhere : (layout : Layout) (state : State) (w : World) (brick : BrickId) → layout.bricks ≤ brick.0
     → Shows layout state w → Shows layout state (happens (coding layout) w (Starts brick 1))
@@ -230,7 +238,11 @@ pub shows_start : (layout : Layout) (old new : State) (w : World) (brick : Brick
     → Shows layout new (happens (coding layout) w (Starts brick 1))
 shows_start layout old new w brick true is same shows =
     subst (λ (v : World). Shows layout new v) (sym (happens_started (coding layout) w brick (sym is.may)))
-    (record { bricks = is.after; history = subst (λ (h : History). Tells h (world_started w brick 1)) (sym same) (tells_started old.history w brick 1 shows.history) })
+    (record {
+      bricks = is.after;
+      history = subst (λ (h : History). Tells h (world_started w brick 1)) (sym same)
+          (tells_started old.history w brick 1 shows.history);
+    })
 shows_start layout old new w brick false is same shows =
     subst (λ (v : World). Shows layout new v) (sym (happens_unstarted (coding layout) w brick (sym is.may)))
     (record { bricks = is.after; history = subst (λ (h : History). Tells h w) (sym same) shows.history })

@@ -41,7 +41,8 @@ impl Power {
 
     /// What is left where the brick stops.
     pub fn off(self) -> Power
-        ensures { (layout : _) (me : _) (state : _) (up : _) → ShowsPower layout me state up self → ShowsPower layout me (stopped state) false result }
+        ensures { (layout : _) (me : _) (state : _) (up : _) → ShowsPower layout me state up self
+            → ShowsPower layout me (stopped state) false result }
     {
         match self {
             Power::Up(node) => Power::Down(node.into_disk()),

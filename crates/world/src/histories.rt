@@ -258,7 +258,8 @@ impl History {
     /// The operation of a brick's call made a version, on this base.
     fn made(&mut self, brick: BrickId, seq: u64, stamp: Stamp, base: Option<Stamp>)
         ensures made { (w : World) → Tells self.old w → 1 ≤ seq → seq ≤ (w.nodes brick.0).seq
-            → (let n = number_of w brick.0 seq in Tells self.new (record w { operations = changed w.operations n (with_made stamp base (w.operations n)) })) }
+            → (let n = number_of w brick.0 seq in Tells self.new
+            (record w { operations = changed w.operations n (with_made stamp base (w.operations n)) })) }
         ensures marks { self.new.marks ≡ self.old.marks }
     {
         let number = self.number(brick, seq);
@@ -294,7 +295,8 @@ impl History {
         requires few { vec_len outs.packets ≤ 32 }
         ensures stepped { (w : World) (step : NodeStep) → Tells self.old w
             → outs.packets.items ≡ step.packets → outs.told ≡ step.told
-            → step.node.boot ≡ (w.nodes brick.0).boot → step.node.seq ≡ (w.nodes brick.0).seq → IsOfCall (w.nodes brick.0) step.told → Tells self.new (world_stepped w brick step step.told) }
+            → step.node.boot ≡ (w.nodes brick.0).boot → step.node.seq ≡ (w.nodes brick.0).seq → IsOfCall (w.nodes brick.0) step.told
+            → Tells self.new (world_stepped w brick step step.told) }
         ensures marks { vec_len self.old.marks ≤ vec_len self.new.marks }
     {
         let Outs { packets, told } = outs;

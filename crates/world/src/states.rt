@@ -42,7 +42,8 @@ pub enum Outcome {
 
 /// All bricks of a layout, their stores fresh, their clocks at 0.
 fn fresh_bricks(alloc: Global, layout: &Layout) -> Result<Vec<Brick>, NoMem>
-    ensures { IfOk result (λ bricks. ShowsBricks layout.now bricks.items (first_world layout.now).nodes (first_world layout.now).up (first_world layout.now).clocks) }
+    ensures { IfOk result (λ bricks. ShowsBricks layout.now bricks.items (first_world layout.now).nodes (first_world layout.now).up
+        (first_world layout.now).clocks) }
 {
     let mut bricks = Vec::new(alloc);
     for number in 0..layout.bricks() {

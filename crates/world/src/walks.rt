@@ -223,7 +223,8 @@ pub fn happenings(
     group: GroupId,
     stripe: StripeNo,
 ) -> Result<Vec<Happening>, NoMem>
-    ensures { IfOk result (λ happenings. (w : World) → AreKnown operations.now w → BeginsAgree w → happenings.items ≡ happenings_of w group.0 stripe.0) }
+    ensures { IfOk result (λ happenings. (w : World) → AreKnown operations.now w → BeginsAgree w
+        → happenings.items ≡ happenings_of w group.0 stripe.0) }
 {
     let walk = walk(alloc, operations, group, stripe)?;
     along(alloc, operations, &walk)

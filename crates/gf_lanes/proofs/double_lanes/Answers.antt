@@ -12,8 +12,10 @@ returns c =
     let v = c.args.v in
     let shifted = lanes-zip2 (λ x y. x * 2 ^ y % 256) v (replicate 32 1) c.fits-v.0 refl in
     let reduced = lanes-select leb (replicate 32 128) v 29 0 refl c.fits-v.0 in
-    let sum = lanes-zip2 bit_xor (zip2 (λ x y. x * 2 ^ y % 256) v (replicate 32 1)) (sel_l (zip2 leb (replicate 32 128) v) (replicate 32 29) (replicate 32 0)) shifted.long reduced.long in
-    subst (λ ms. HasLanes (zip2 bit_xor (zip2 (λ x y. x * 2 ^ y % 256) v (replicate 32 1)) (sel_l ms (replicate 32 29) (replicate 32 0))) (λ k. field_mul 2 (get_or v k 0)))
+    let sum = lanes-zip2 bit_xor (zip2 (λ x y. x * 2 ^ y % 256) v (replicate 32 1))
+    (sel_l (zip2 leb (replicate 32 128) v) (replicate 32 29) (replicate 32 0)) shifted.long reduced.long in
+    subst (λ ms. HasLanes (zip2 bit_xor (zip2 (λ x y. x * 2 ^ y % 256) v (replicate 32 1)) (sel_l ms (replicate 32 29) (replicate 32 0)))
+    (λ k. field_mul 2 (get_or v k 0)))
     (sym (tops_compared w8 leb (replicate 32 128) v))
     (record {
       long = sum.long;

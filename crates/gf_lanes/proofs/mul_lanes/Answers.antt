@@ -30,12 +30,14 @@ loop-i-preserved c k l =
           ap (λ v. get_or v k 0) w.product-is
           ∙ sym (cond-false (eqb (bits % 2) 1) (bit_xor product power) product (ne_eqb (bits % 2) 1 (λ e. w.if-c-i-eq1.false (and_mask bits 1 ∙ e))))
     ] in
-    mul_step c.args.c (field_mul c.args.c (get_or c.args.v k 0)) c.loop-i.i product power (get_or c.if-c-i-eq1.product k 0) (get_or c.double_lanes-power.result k 0)
+    mul_step c.args.c (field_mul c.args.c (get_or c.args.v k 0)) c.loop-i.i product power (get_or c.if-c-i-eq1.product k 0)
+    (get_or c.double_lanes-power.result k 0)
     c.loop-i-test.true (lane-lt c.loop-i.power c.loop-i.auto.power k l) chosen (c.double_lanes-power.ensures.each k l) (c.loop-i.invariant k l)
 
 pub returns : goal.returns
 returns c = record {
   long = c.loop-i.auto.product.0;
   each = λ k l.
-      mul_end c.args.c (field_mul c.args.c (get_or c.args.v k 0)) c.loop-i.i (get_or c.loop-i.product k 0) (get_or c.loop-i.power k 0) c.loop-i-test.false (c.loop-i.invariant k l);
+      mul_end c.args.c (field_mul c.args.c (get_or c.args.v k 0)) c.loop-i.i (get_or c.loop-i.product k 0)
+      (get_or c.loop-i.power k 0) c.loop-i-test.false (c.loop-i.invariant k l);
 }

@@ -7,4 +7,5 @@ use Rattle.gf_lanes.proofs.mul_lanes.Given as goal
 
 abbrev pub invariant-loop-i : goal.invariant-loop-i
 invariant-loop-i l =
-    (k : ℕ) → k < 32 → bit_xor (get_or l.product k 0) (times (bits_of (8 - l.i) (l.c / 2 ^ l.i)) (get_or l.power k 0)) ≡ field_mul l.c (get_or l.fn.v k 0)
+    (k : ℕ) → k < 32 → bit_xor (get_or l.product k 0) (times (bits_of (8 - l.i) (l.c / 2 ^ l.i)) (get_or l.power k 0)) ≡ field_mul l.c
+    (get_or l.fn.v k 0)

@@ -21,5 +21,6 @@ pub returns : goal.returns
 returns c =
     let k = c.loop-number.number in
     let done = c.loop-number.records.items in
-    sym (append-nil done) ∙ ap (λ xs. done ++ xs) (sym (ap (groups_records k) (drop_all k c.args.groups.now c.loop-number-test.false) ∙ groups_none k))
+    sym (append-nil done) ∙ ap (λ xs. done ++ xs)
+    (sym (ap (groups_records k) (drop_all k c.args.groups.now c.loop-number-test.false) ∙ groups_none k))
     ∙ c.loop-number.invariant

@@ -30,5 +30,6 @@ returns c =
     let k = c.loop-entry.entry-index in
     let done = c.loop-entry.records.items in
     sym (append-nil done)
-    ∙ ap (λ xs. done ++ xs) (sym (ap (version_records p c.loop-entry.under) (drop_all k c.args.entries.now c.loop-entry-test.false) ∙ versions_none p c.loop-entry.under))
+    ∙ ap (λ xs. done ++ xs) (sym (ap (version_records p c.loop-entry.under) (drop_all k c.args.entries.now c.loop-entry-test.false)
+    ∙ versions_none p c.loop-entry.under))
     ∙ c.loop-entry.invariant

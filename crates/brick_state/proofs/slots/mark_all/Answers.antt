@@ -11,4 +11,5 @@ loop-slot-preserved c =
     ∙ mark_step c.loop-slot.taken.items c.args.used.now c.loop-slot.slot-index (omega (arith, c.loop-slot-test.true)) ∙ c.loop-slot.invariant)
 
 pub returns : goal.returns
-returns c = sym (mark_end c.loop-slot.taken.items c.args.used.now c.loop-slot.slot-index (grind (arith, nat_tests, c.loop-slot-test.false))) ∙ c.loop-slot.invariant
+returns c = sym (mark_end c.loop-slot.taken.items c.args.used.now c.loop-slot.slot-index (grind (arith, nat_tests, c.loop-slot-test.false)))
+    ∙ c.loop-slot.invariant

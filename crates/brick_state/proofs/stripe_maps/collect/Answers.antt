@@ -21,9 +21,19 @@ returns-after-stripe c =
     let new : Stripe = record { order = old.order; from_start = c.if-stripe.stripe; added = c.drop_below.new.entries } in
     let at = sym c.in-Some.ensures.value in
     let from : c.if-stripe.stripe ≡ (old.from_start && not (stamp_below first_stamp c.args.stamp)) =
-    elim c.if-stripe.branch [ then-stripe w ↦ w.stripe-is ∙ ap not w.is_below.ensures ∙ and_true _ _ (sym w.if-stripe.true) | else-stripe w ↦ w.stripe-is ∙ and_false _ _ (sym w.if-stripe.false) ] in
+    elim c.if-stripe.branch [
+      | then-stripe w ↦ w.stripe-is ∙ ap not w.is_below.ensures
+          ∙ and_true _ _ (sym w.if-stripe.true)
+      | else-stripe w ↦ w.stripe-is ∙ and_false _ _ (sym w.if-stripe.false)
+    ] in
     ap listed (c.get_mut.follows.holds new).0
     ∙ written_at entries c.get_mut.ensures.ordered c.args.place old new at
     ∙ ap (λ b. put c.args.place (record { order = old.order; from_start = b; added = c.drop_below.new.entries.items }) (listed entries)) from
-    ∙ ap (λ items. put c.args.place (record { order = old.order; from_start = old.from_start && not (stamp_below first_stamp c.args.stamp); added = items }) (listed entries)) c.drop_below.ensures
-    ∙ ap (λ s. put c.args.place (with_collected stamp_of c.args.stamp s) (listed entries)) (sym (found_at entries c.get_mut.ensures.ordered c.args.place old at))
+    ∙ ap (λ items. put c.args.place (record {
+      order = old.order;
+      from_start = old.from_start && not
+          (stamp_below first_stamp c.args.stamp);
+      added = items;
+    }) (listed entries)) c.drop_below.ensures
+    ∙ ap (λ s. put c.args.place (with_collected stamp_of c.args.stamp s) (listed entries))
+    (sym (found_at entries c.get_mut.ensures.ordered c.args.place old at))

@@ -8,4 +8,5 @@ use Rattle.brick_state.proofs.stripe_maps.drop_below.Goals as goal
 
 pub returns : goal.returns
 returns c =
-    filter_same _ (λ (e : Entry). not (stamp_below (stamp_of e) c.args.stamp)) _ (λ x b f' k. search (rules, tests)) c.args.entries.now.items c.retain.new.self.items c.retain.ensures.filtered
+    filter_same _ (λ (e : Entry). not (stamp_below (stamp_of e) c.args.stamp)) _
+    (λ x b f' k. search (rules, tests)) c.args.entries.now.items c.retain.new.self.items c.retain.ensures.filtered

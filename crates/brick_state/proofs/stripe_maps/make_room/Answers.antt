@@ -9,14 +9,16 @@ pub returns-in_err-reserve-in-Some-clause-same : goal.returns-in_err-reserve-in-
 returns-in_err-reserve-in-Some-clause-same c =
     let new : Stripe = record c.in-Some.stripe.now { added = c.reserve.new.self } in
     ap listed (c.get_mut.follows.holds new).0
-    ∙ rewritten_same c.make_entry.new.stripes.entries c.args.place c.in-Some.stripe.now new (sym c.in-Some.ensures.value) (same_versions c.in-Some.stripe.now new refl refl c.reserve.ensures.items)
+    ∙ rewritten_same c.make_entry.new.stripes.entries c.args.place c.in-Some.stripe.now new (sym c.in-Some.ensures.value)
+    (same_versions c.in-Some.stripe.now new refl refl c.reserve.ensures.items)
     ∙ c.make_entry.ensures.same
 
 pub returns-in_ok-reserve-in-Some-clause-same : goal.returns-in_ok-reserve-in-Some-clause-same
 returns-in_ok-reserve-in-Some-clause-same c =
     let new : Stripe = record c.in-Some.stripe.now { added = c.reserve.new.self } in
     ap listed (c.get_mut.follows.holds new).0
-    ∙ rewritten_same c.make_entry.new.stripes.entries c.args.place c.in-Some.stripe.now new (sym c.in-Some.ensures.value) (same_versions c.in-Some.stripe.now new refl refl c.reserve.ensures.items)
+    ∙ rewritten_same c.make_entry.new.stripes.entries c.args.place c.in-Some.stripe.now new (sym c.in-Some.ensures.value)
+    (same_versions c.in-Some.stripe.now new refl refl c.reserve.ensures.items)
     ∙ c.make_entry.ensures.same
 
 pub returns-in_ok-reserve-in-Some-clause-room : goal.returns-in_ok-reserve-in-Some-clause-room

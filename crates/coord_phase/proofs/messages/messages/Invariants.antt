@@ -6,5 +6,6 @@ use Rattle.coord_phase.proofs.messages.messages.Given as goal
 
 abbrev pub invariant-loop-seat : goal.invariant-loop-seat
 invariant-loop-seat l =
-    l.messages.items ++ to_silent l.counted l.stage.call (stage_request (block_code l.block) l.group.m l.stage l.content) l.seat (drop l.seat l.group.members)
+    l.messages.items ++ to_silent l.counted l.stage.call (stage_request (block_code l.block) l.group.m l.stage l.content) l.seat
+    (drop l.seat l.group.members)
     ≡ to_silent l.counted l.stage.call (stage_request (block_code l.block) l.group.m l.stage l.content) 0 l.group.members

@@ -5,4 +5,5 @@ use Rattle.coord_phase.proofs.versions.seats_finding.Given as goal
 
 abbrev pub invariant-loop-reply : goal.invariant-loop-reply
 invariant-loop-reply l =
-    l.seats.items ++ map (λ piece. piece.seat) (pieces_at l.version (drop l.reply-index l.counted)) ≡ map (λ piece. piece.seat) (pieces_at l.version l.counted)
+    l.seats.items ++ map (λ piece. piece.seat) (pieces_at l.version (drop l.reply-index l.counted)) ≡ map (λ piece. piece.seat)
+    (pieces_at l.version l.counted)

@@ -12,9 +12,12 @@ loop-place-preserved c =
     let within : c.loop-place.place < length c.loop-place.content = omega arith in
     elim c.if-is_uncertain.branch [
       | then-is_uncertain w ↦
-          goes_on_drawn uncertain c.loop-place.random c.loop-place.content c.loop-place.place within _ w.next_word.result c.if-is_uncertain.random (ap (λ (r : Lcg). (w.next_word.result, r)) w.random-is ∙ w.next_word.ensures) w.content-is (sym c.is_uncertain.ensures ∙ w.if-is_uncertain.true)
+          goes_on_drawn uncertain c.loop-place.random c.loop-place.content c.loop-place.place within _ w.next_word.result c.if-is_uncertain.random
+          (ap (λ (r : Lcg). (w.next_word.result, r)) w.random-is ∙ w.next_word.ensures) w.content-is
+          (sym c.is_uncertain.ensures ∙ w.if-is_uncertain.true)
           ∙ c.loop-place.invariant
       | else-is_uncertain w ↦
-          goes_on_kept uncertain c.loop-place.random c.loop-place.content c.loop-place.place within _ _ w.random-is w.content-is (sym c.is_uncertain.ensures ∙ w.if-is_uncertain.false)
+          goes_on_kept uncertain c.loop-place.random c.loop-place.content c.loop-place.place within _ _ w.random-is w.content-is
+          (sym c.is_uncertain.ensures ∙ w.if-is_uncertain.false)
           ∙ c.loop-place.invariant
     ]

@@ -20,7 +20,14 @@ loop-kind-preserved c =
           ∙ ap (λ (l : List Frame). frames ++ l) (sym (frames_of-more c.loop-kind.rest.now (f, after) found)) ∙ c.loop-kind.invariant.listed;
       stands = ap (λ (l : List Frame). spelled l ++ after) items ∙ ap (λ (l : List ℕ). l ++ after) (spelled-append frames (f ∷ []))
           ∙ append_assoc (spelled frames) (spelled (f ∷ [])) after ∙ ap (λ (l : List ℕ). spelled frames ++ l) one ∙ c.loop-kind.invariant.stands;
-      size = omega (arith, ap size_of items, size_of-append frames (f ∷ []), ap length split, length-append (frame_rest f) after, c.loop-kind.invariant.size);
+      size = omega (
+        arith,
+        ap size_of items,
+        size_of-append frames (f ∷ []),
+        ap length split,
+        length-append (frame_rest f) after,
+        c.loop-kind.invariant.size,
+      );
     }
 
 pub returns-clause-listed : goal.returns-clause-listed

@@ -33,16 +33,20 @@ returns-clause-laid g c = λ told.
     let image = g.D.Disk.seen c.args.disk.now in
     let half = c.in-Some.half in
     let whole : 64 ≤ length image = omega (arith, c.in_ok-size.ensures.length told) in
-    let are : c.in_ok-headers.headers ≡ part 0 64 image = c.in_ok-headers.ensures.bytes told ∙ ap (λ (l : List ℕ). part 0 64 l) c.len.ensures.untouched.content in
-    let found : InForce c.args.shape half c.in_ok-headers.headers × (generation_at half c.in_ok-headers.headers ≡ c.in-Some.generation) = search rules in
+    let are : c.in_ok-headers.headers ≡ part 0 64 image = c.in_ok-headers.ensures.bytes told
+    ∙ ap (λ (l : List ℕ). part 0 64 l) c.len.ensures.untouched.content in
+    let found : InForce c.args.shape half c.in_ok-headers.headers
+    × (generation_at half c.in_ok-headers.headers ≡ c.in-Some.generation) = search rules in
     let bytes : c.in_ok-bytes.bytes.items ≡ half_bytes c.args.shape half image =
-    c.in_ok-bytes.ensures.bytes told ∙ ap (half_bytes c.args.shape half) (c.read_headers.ensures.untouched.content ∙ c.len.ensures.untouched.content) in
+    c.in_ok-bytes.ensures.bytes told ∙ ap (half_bytes c.args.shape half) (c.read_headers.ensures.untouched.content
+    ∙ c.len.ensures.untouched.content) in
     let listed : c.in_ok-frames.frames.items ≡ frames_of c.in_ok-bytes.bytes.items = search rules in
     let stands : take (size_of c.in_ok-frames.frames.items) c.in_ok-bytes.bytes.items ≡ spelled c.in_ok-frames.frames.items = search rules in
     let within : size_of c.in_ok-frames.frames.items ≤ length c.in_ok-bytes.bytes.items = search rules in
     let used : c.size_of-used.result ≡ size_of c.in_ok-frames.frames.items = search rules in
     let gate : c.header_at.result ≡ header_at (other half) = c.header_at.ensures ∙ ap header_at c.other.ensures in
     let shut = ap (λ (i : ℕ). not (nat_eq (get_or c.in_ok-headers.headers i 0) 165)) gate in
-    let iff = subst (λ (l : List ℕ). IsTrue c.is_shut.result ↔ ((c.size_of-used.result < length l) × (get_or l c.size_of-used.result 0 ≢ 165))) c.deref-3.ensures.value c.is_shut.ensures in
+    let iff = subst (λ (l : List ℕ). IsTrue c.is_shut.result ↔ ((c.size_of-used.result < length l)
+    × (get_or l c.size_of-used.result 0 ≢ 165))) c.deref-3.ensures.value c.is_shut.ensures in
     read_laid c.args.shape image c.in_ok-headers.headers whole are half c.in-Some.generation c.in_ok-frames.frames.items c.in_ok-bytes.bytes.items c.size_of-used.result _ c.is_shut.result
     found.0 found.1 bytes listed stands within used shut iff.0 iff.1

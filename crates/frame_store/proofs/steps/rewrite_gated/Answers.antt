@@ -5,7 +5,8 @@ use Rattle.frame_store.proofs.steps.rewrite_gated.Goals as goal
 
 pub write_synced-requires-clause-room : goal.write_synced-requires-clause-room
 write_synced-requires-clause-room g c =
-    g.met.D.Disk.room_for_less c.args.disk.now 7 (length c.args.shut.now + (length c.args.rest.now + length c.args.list.now + 1)) (c.args.at + length c.args.list.now)
+    g.met.D.Disk.room_for_less c.args.disk.now 7 (length c.args.shut.now + (length c.args.rest.now + length c.args.list.now + 1))
+    (c.args.at + length c.args.list.now)
     2 (length c.args.shut.now) (c.args.gate + length c.args.shut.now) (omega arith) (omega arith) (omega (arith, c.requires.shut)) c.requires.room
 
 pub write_both_gated-requires-clause-room : goal.write_both_gated-requires-clause-room
@@ -18,6 +19,8 @@ write_both_gated-requires-clause-room g c =
 
 pub returns-clause-cause : goal.returns-clause-cause
 returns-clause-cause g c =
-    kept_both (g.D.Disk.faults c.args.disk.now) (g.D.Disk.faults c.write_synced.new.disk) (g.D.Disk.faults c.write_both_gated.new.disk) (g.D.Disk.sound c.args.disk.now)
-    (g.D.Disk.sound c.write_synced.new.disk) (g.D.Disk.sound c.write_both_gated.new.disk) (c.write_synced.result ≡ Err Disk) (c.write_both_gated.result ≡ Err Disk)
+    kept_both (g.D.Disk.faults c.args.disk.now) (g.D.Disk.faults c.write_synced.new.disk) (g.D.Disk.faults c.write_both_gated.new.disk)
+    (g.D.Disk.sound c.args.disk.now)
+    (g.D.Disk.sound c.write_synced.new.disk) (g.D.Disk.sound c.write_both_gated.new.disk) (c.write_synced.result ≡ Err Disk)
+    (c.write_both_gated.result ≡ Err Disk)
     c.write_synced.ensures.cause c.write_both_gated.ensures.cause

@@ -7,11 +7,15 @@ pub write_synced-requires-2-clause-room : goal.write_synced-requires-2-clause-ro
 write_synced-requires-2-clause-room g c =
     let n = length c.args.bytes.now in
     let end = c.args.at + n in
-    let had = g.met.D.Disk.room_for_less c.args.disk.now 4 (n + 1) end (2 + 2) (1 + n) end (omega arith) (omega arith) (omega arith) c.requires.room in
-    g.met.D.Disk.room_for_less c.write_synced.new.disk 2 1 end 2 1 (c.args.gate + 1) (omega arith) (omega arith) (omega (arith, c.requires.gate)) (c.in_ok-write_synced.ensures.left 2 1 end (omega arith) had)
+    let had = g.met.D.Disk.room_for_less c.args.disk.now 4 (n + 1) end (2 + 2) (1 + n) end (omega arith) (omega arith)
+    (omega arith) c.requires.room in
+    g.met.D.Disk.room_for_less c.write_synced.new.disk 2 1 end 2 1 (c.args.gate + 1) (omega arith) (omega arith) (omega (arith, c.requires.gate))
+    (c.in_ok-write_synced.ensures.left 2 1 end (omega arith) had)
 
 pub returns-clause-cause : goal.returns-clause-cause
 returns-clause-cause g c =
-    kept_both (g.D.Disk.faults c.args.disk.now) (g.D.Disk.faults c.write_synced.new.disk) (g.D.Disk.faults c.write_synced-2.new.disk) (g.D.Disk.sound c.args.disk.now)
-    (g.D.Disk.sound c.write_synced.new.disk) (g.D.Disk.sound c.write_synced-2.new.disk) (c.write_synced.result ≡ Err Disk) (c.write_synced-2.result ≡ Err Disk)
+    kept_both (g.D.Disk.faults c.args.disk.now) (g.D.Disk.faults c.write_synced.new.disk) (g.D.Disk.faults c.write_synced-2.new.disk)
+    (g.D.Disk.sound c.args.disk.now)
+    (g.D.Disk.sound c.write_synced.new.disk) (g.D.Disk.sound c.write_synced-2.new.disk) (c.write_synced.result ≡ Err Disk)
+    (c.write_synced-2.result ≡ Err Disk)
     c.write_synced.ensures.cause c.write_synced-2.ensures.cause

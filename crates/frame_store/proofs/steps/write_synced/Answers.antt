@@ -9,7 +9,10 @@ sync-requires g c =
     let n = length c.args.bytes.now in
     let end = c.args.at + n in
     let had = g.met.D.Disk.room_for_less c.args.disk.now 2 n end (1 + 1) (0 + n) end (omega arith) (omega arith) (omega arith) c.requires.room in
-    record { room = g.met.D.Disk.room_for_less c.write.new.disk 1 0 end 1 0 0 (omega arith) (omega arith) (omega arith) (c.in_ok-write.ensures.left 1 0 end (omega arith) had) }
+    record {
+      room = g.met.D.Disk.room_for_less c.write.new.disk 1 0 end 1 0 0 (omega arith) (omega arith) (omega arith)
+          (c.in_ok-write.ensures.left 1 0 end (omega arith) had);
+    }
 
 pub returns-clause-moments : goal.returns-clause-moments
 returns-clause-moments g c = λ only.

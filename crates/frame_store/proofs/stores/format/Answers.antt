@@ -18,7 +18,8 @@ returns-clause-empty g c = λ told.
     let shape = shape_of c.args.me c.args.block c.args.records in
     let limits : IsShape shape = record { some_bytes = c.requires.block_range.0; few_bytes = c.requires.block_range.1; some_slots = c.requires.records_range.0; few_slots = c.requires.records_range.1 } in
     let content = g.D.Disk.seen c.args.disk.now in
-    let same = ap (λ (l : List ℕ). written 0 (165 ∷ []) (both_written 0 l c.half_at-first.result (0 ∷ []) (g.D.Disk.seen c.reserve.new.disk))) c.shut_headers-headers.ensures
+    let same = ap (λ (l : List ℕ). written 0 (165 ∷ [])
+    (both_written 0 l c.half_at-first.result (0 ∷ []) (g.D.Disk.seen c.reserve.new.disk))) c.shut_headers-headers.ensures
     ∙ ap (λ (n : ℕ). written 0 (165 ∷ []) (both_written 0 (shut_pair shape) n (0 ∷ []) (g.D.Disk.seen c.reserve.new.disk))) c.half_at-first.ensures
     ∙ ap (formatted shape) c.in_ok-reserve.ensures.untouched.content in
     on_ok c.write_both_gated.result
@@ -29,8 +30,10 @@ returns-clause-slots g c = λ told.
     let shape = shape_of c.args.me c.args.block c.args.records in
     let limits : IsShape shape = record { some_bytes = c.requires.block_range.0; few_bytes = c.requires.block_range.1; some_slots = c.requires.records_range.0; few_slots = c.requires.records_range.1 } in
     let content = g.D.Disk.seen c.args.disk.now in
-    let same = ap (λ (l : List ℕ). written 0 (165 ∷ []) (both_written 0 l c.half_at-first.result (0 ∷ []) (g.D.Disk.seen c.reserve.new.disk))) c.shut_headers-headers.ensures
+    let same = ap (λ (l : List ℕ). written 0 (165 ∷ [])
+    (both_written 0 l c.half_at-first.result (0 ∷ []) (g.D.Disk.seen c.reserve.new.disk))) c.shut_headers-headers.ensures
     ∙ ap (λ (n : ℕ). written 0 (165 ∷ []) (both_written 0 (shut_pair shape) n (0 ∷ []) (g.D.Disk.seen c.reserve.new.disk))) c.half_at-first.ensures
     ∙ ap (formatted shape) c.in_ok-reserve.ensures.untouched.content in
     on_ok c.write_both_gated.result
-    (λ is. subst (λ (l : List ℕ). (slot : ℕ) → slot < c.args.records → HasSlot shape (length l) slot) (sym (is ∙ same)) (formatted_slots shape limits content)) (c.write_both_gated.ensures.written told)
+    (λ is. subst (λ (l : List ℕ). (slot : ℕ) → slot < c.args.records → HasSlot shape (length l) slot) (sym (is ∙ same))
+    (formatted_slots shape limits content)) (c.write_both_gated.ensures.written told)

@@ -7,7 +7,8 @@ pub loop-round-init : goal.loop-round-init
 unfolding inverse_of
 loop-round-init c = refl
 
-step : (n square product : ℕ) → times_squares n (field_mul square square) (field_mul product (field_mul square square)) ≡ times_squares (suc n) square product
+step : (n square product : ℕ) → times_squares n (field_mul square square) (field_mul product (field_mul square square)) ≡ times_squares
+    (suc n) square product
 unfolding times_squares
 step n square product = refl
 
@@ -33,5 +34,6 @@ pub returns-clause-inverse : goal.returns-clause-inverse
 returns-clause-inverse c =
     let done : 0 ≡ 7 - c.loop-round._round = omega arith in
     let is : c.loop-round.product ≡ inverse_of c.args.a =
-    none c.loop-round.square c.loop-round.product ∙ ap (λ n. times_squares n c.loop-round.square c.loop-round.product) done ∙ c.loop-round.invariant in
+    none c.loop-round.square c.loop-round.product ∙ ap (λ n. times_squares n c.loop-round.square c.loop-round.product) done
+    ∙ c.loop-round.invariant in
     ap (field_mul c.args.a) is ∙ field_mul-inverse_of c.args.a (omega arith) c.requires

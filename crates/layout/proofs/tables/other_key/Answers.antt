@@ -25,7 +25,8 @@ loop-key-preserved c =
       c.loop-key.invariant.3
           ∙ ap (λ (keys : List (String Global)). least_other c.args.known.now (texts_of keys)) step
           ∙ least_other-known c.args.known.now c.in-Some.key.now c.next.new.self
-          (ap (λ (text : List ℕ). is_known c.args.known.now text) (sym c.as_str-key.ensures.value) ∙ sym c.is_known.ensures ∙ c.if-not-is_known.false),
+          (ap (λ (text : List ℕ). is_known c.args.known.now text) (sym c.as_str-key.ensures.value) ∙ sym c.is_known.ensures
+          ∙ c.if-not-is_known.false),
     )
 
 pub returns-then-not-is_known : goal.returns-then-not-is_known

@@ -7,4 +7,5 @@ use Rattle.layout.proofs.tables.tables_in.Given as goal
 
 abbrev pub invariant-loop-value : goal.invariant-loop-value
 invariant-loop-value l =
-    tables_in (array_view l.array) ≡ with_rest (map (λ table. table_view table.now) l.tables.items) (tables_in (items_view (drop l.value-index l.array.items)))
+    tables_in (array_view l.array) ≡ with_rest (map (λ table. table_view table.now) l.tables.items)
+    (tables_in (items_view (drop l.value-index l.array.items)))

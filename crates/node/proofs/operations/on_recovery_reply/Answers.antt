@@ -15,7 +15,8 @@ returns-in-Wait-clause-kept c =
     let after = c.on_reply.new.self in
     let answers : Answers c.args.fresh c.args.op c.args.from c.args.message.now Wait after =
     subst (λ (next : Next). Answers c.args.fresh c.args.op c.args.from c.args.message.now next after) c.in-Wait.is c.in_ok-on_reply.ensures.answers in
-    waits_on_recovery c.args.layout.now c.args.op after c.requires answers.stays (waits_so c.args.fresh c.args.op c.args.from c.args.message.now after answers).1
+    waits_on_recovery c.args.layout.now c.args.op after c.requires answers.stays
+    (waits_so c.args.fresh c.args.op c.args.from c.args.message.now after answers).1
 
 pub returns-in-Send-clause-kept : goal.returns-in-Send-clause-kept
 returns-in-Send-clause-kept c =

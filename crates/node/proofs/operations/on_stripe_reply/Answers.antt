@@ -83,5 +83,6 @@ returns-in-Recover-clause-kept c =
     subst (λ (next : Next). Answers c.args.fresh c.args.op c.args.from c.args.message.now next after) c.in-Recover.is c.in_ok-on_reply.ensures.answers in
     let asked = recovery_is_asked c.args.fresh c.args.op c.args.from c.args.message.now c.in-Recover.turn after c.requires.of_kind answers in
     IfOk-weaker c.recover.result (IsDecisionOf c.args.layout.now (Stripe after)) _
-    (λ (next : Decision). decision_since c.args.layout.now (Stripe c.args.op) (Stripe after) next answers.stays.group (ap (λ (call : Call). call.seq) asked.call))
+    (λ (next : Decision). decision_since c.args.layout.now (Stripe c.args.op) (Stripe after) next answers.stays.group
+    (ap (λ (call : Call). call.seq) asked.call))
     c.recover.ensures.kept

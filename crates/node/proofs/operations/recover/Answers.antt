@@ -25,11 +25,15 @@ returns-clause-kept c =
     ∙ ap (λ members. phased.group_in_view layout members c.into_ask.result.group.0) (ap (λ view. view.members) c.requires.view)
     ∙ ap (λ (ask : Ask). phased.group_in_view layout was.group.members ask.group.0) c.into_ask.ensures
     ∙ group_in_first_view layout was.state.ask.group.0 was.group c.requires.of_layout.group in
-    let call : now.state.call ≡ phased.call_in (record { boot = was.state.call.boot; seq = was.state.call.seq }) (was.state.call.phase + 1) now.state.ask (record { 0 = 1 }) =
+    let call : now.state.call ≡ phased.call_in (record { boot = was.state.call.boot; seq = was.state.call.seq })
+    (was.state.call.phase + 1) now.state.ask (record { 0 = 1 }) =
     ap (λ (op : phased.Operation). op.state.call) c.in_ok-recovery.ensures.op
-    ∙ ap (λ (last : Call). phased.call_in (record { boot = last.boot; seq = last.seq }) (last.phase + 1) c.into_ask.result c.args.view.number) c.call-last.ensures
-    ∙ ap (λ (asked : Ask). phased.call_in (record { boot = was.state.call.boot; seq = was.state.call.seq }) (was.state.call.phase + 1) asked c.args.view.number) (c.into_ask.ensures ∙ sym ask)
-    ∙ ap (λ (view : View). phased.call_in (record { boot = was.state.call.boot; seq = was.state.call.seq }) (was.state.call.phase + 1) now.state.ask view.number) c.requires.view in
+    ∙ ap (λ (last : Call). phased.call_in (record { boot = last.boot; seq = last.seq })
+    (last.phase + 1) c.into_ask.result c.args.view.number) c.call-last.ensures
+    ∙ ap (λ (asked : Ask). phased.call_in (record { boot = was.state.call.boot; seq = was.state.call.seq })
+    (was.state.call.phase + 1) asked c.args.view.number) (c.into_ask.ensures ∙ sym ask)
+    ∙ ap (λ (view : View). phased.call_in (record { boot = was.state.call.boot; seq = was.state.call.seq })
+    (was.state.call.phase + 1) now.state.ask view.number) c.requires.view in
     let sent : c.messages_in.result.items ≡ phase_messages now =
     subst (λ (next : Next). decisions.SendsPhase now next) c.messages_in.ensures c.in_ok-recovery.ensures.sent in
     c.begin_phase.ensures.kept layout (Stripe was) (record {
@@ -48,5 +52,6 @@ returns-clause-kept c =
         group = group;
         seq = ap (λ (call : Call). call.seq) call;
       };
-      sends = λ me. ap (packets_from me) sent ∙ phase_sent layout now me block (ap (λ (op : phased.Operation). op.state.counted) c.in_ok-recovery.ensures.op);
+      sends = λ me. ap (packets_from me) sent ∙ phase_sent layout now me block
+          (ap (λ (op : phased.Operation). op.state.counted) c.in_ok-recovery.ensures.op);
     })

@@ -9,17 +9,20 @@ use Rattle.reg_model.proofs.strictness.once.Goals as goal
 pub returns-then-has_happened : goal.returns-then-has_happened
 returns-then-has_happened c =
     let here = c.if-has_happened.ensures.0 refl in
-    let before = subst (λ (hs : List Happening). Contains (map (λ (h : Happening). h.operation) hs) (get_or c.args.happenings.now c.loop-i.i (record { operation = 0; position = 0 })).operation)
+    let before = subst (λ (hs : List Happening). Contains (map (λ (h : Happening). h.operation) hs)
+    (get_or c.args.happenings.now c.loop-i.i (record { operation = 0; position = 0 })).operation)
     c.split_at.ensures.front here in (
       λ never. absurd (false≢true never),
-      λ distinct. absurd (twice (λ (h : Happening). h.operation) c.args.happenings.now c.loop-i.i (record { operation = 0; position = 0 }) c.loop-i-test.true before distinct),
+      λ distinct. absurd (twice (λ (h : Happening). h.operation) c.args.happenings.now c.loop-i.i
+          (record { operation = 0; position = 0 }) c.loop-i-test.true before distinct),
     )
 
 pub loop-i-preserved : goal.loop-i-preserved
 loop-i-preserved c =
     apart_more (λ (h : Happening). h.operation) c.args.happenings.now c.loop-i.i (record { operation = 0; position = 0 }) c.loop-i-test.true
     (λ before. false≢true (c.if-has_happened.ensures.1
-    (subst (λ (hs : List Happening). Contains (map (λ (h : Happening). h.operation) hs) (get_or c.args.happenings.now c.loop-i.i (record { operation = 0; position = 0 })).operation)
+    (subst (λ (hs : List Happening). Contains (map (λ (h : Happening). h.operation) hs)
+    (get_or c.args.happenings.now c.loop-i.i (record { operation = 0; position = 0 })).operation)
     (sym c.split_at.ensures.front) before)))
     c.loop-i.invariant
 

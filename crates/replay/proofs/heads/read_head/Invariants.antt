@@ -7,7 +7,8 @@ use Rattle.replay.proofs.heads.read_head.Given as goal
 
 abbrev pub invariant-loop : goal.invariant-loop
 invariant-loop g l = record {
-  read : ReadsHead (prepend_known l.initial.unread (g.S.Source.told l.initial.source)) (prepend_known l.unread (g.S.Source.told l.source)) l.head.items;
+  read : ReadsHead (prepend_known l.initial.unread (g.S.Source.told l.initial.source))
+      (prepend_known l.unread (g.S.Source.told l.source)) l.head.items;
   within : length l.head.items ≤ most_layout_bytes;
   source : Kept (g.S.Source.faults l.initial.source) (g.S.Source.faults l.source) (g.S.Source.sound l.initial.source) (g.S.Source.sound l.source) ⊥;
 }

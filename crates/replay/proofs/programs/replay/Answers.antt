@@ -20,7 +20,8 @@ returns-then-is_run-clause-run g c = λ _.
       printed = run.printed;
       read = c.run.ensures.read;
       linearizable = λ whole. linearizable run.input
-          (subst (λ (r : Result Verdict Halt). Prints (g.K.Sink.told c.args.sink.now) (g.K.Sink.told c.run.new.sink) (output_of run.input) r) whole run.printed).0;
+          (subst (λ (r : Result Verdict Halt). Prints (g.K.Sink.told c.args.sink.now) (g.K.Sink.told c.run.new.sink)
+          (output_of run.input) r) whole run.printed).0;
       stays_strict = stays_strict run.input;
     }
 

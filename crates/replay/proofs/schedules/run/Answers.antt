@@ -27,4 +27,5 @@ pub returns-clause-output : goal.returns-clause-output
 returns-clause-output g c =
     let head = rw c.in-Endless.is at c.in_ok-text.ensures.head in
     PrintsInput-unread _ _ _ _ _ c.new-unread.ensures
-    (PrintsInput-refused _ _ _ _ _ _ head output_of-endless (Prints-text _ _ _ _ _ _ c.as_slice-in-Endless.ensures c.close-in-Endless.ensures.content))
+    (PrintsInput-refused _ _ _ _ _ _ head output_of-endless
+    (Prints-text _ _ _ _ _ _ c.as_slice-in-Endless.ensures c.close-in-Endless.ensures.content))

@@ -25,7 +25,8 @@ pub add_version-answer-requires-clause-above : goal.add_version-answer-requires-
 add_version-answer-requires-clause-above g c =
     let old = c.args.store.now in
     let log = log_at old.shape.block old.state (c.args.group.0, 1, c.args.stripe.0) in
-    let change = subst (λ (p : Plan). IsChange old.shape.block (part_in old.shape.block old.state c.args.group.0 c.args.stripe.0) p) c.in-Store.is c.requires.change in
+    let change = subst (λ (p : Plan). IsChange old.shape.block
+    (part_in old.shape.block old.state c.args.group.0 c.args.stripe.0) p) c.in-Store.is c.requires.change in
     record { above = λ v at. change.0 (as_version v) (newest_seen log ∙ ap (option_map as_version) at); content = λ none. refl }
 
 pub returns-in-Promise : goal.returns-in-Promise
@@ -45,9 +46,12 @@ returns-in-Promise g c =
     let Follows = λ (p : Plan). IsReacted block n s st (planned full part p) in
     let sorted = c.requires.runs.ordered.sorted in
     let later : stamp_below (stripe_at st (n, 1, s)).order t ≡ true = subst (λ (p : Plan). IsChange block part p) c.in-Promise.is c.requires.change in
-    subst (λ (p : Plan). Handles d.tells d.seen d.may_leave d.moment d.left_since d.faults d.sound n s (Follows p) old new c.answered.result) (sym c.in-Promise.is)
-    (subst (λ (r : Result (Option Reply) ReplicaFault). Handles d.tells d.seen d.may_leave d.moment d.left_since d.faults d.sound n s (Follows (Promise t reply)) old new r) (sym c.answered.ensures)
-    (handles_change d.tells d.seen d.may_leave d.moment d.left_since d.faults d.sound g.met.D.Disk.only_now n s (Follows (Promise t reply)) old new (ordered (n, 1, s) t st)
+    subst (λ (p : Plan). Handles d.tells d.seen d.may_leave d.moment d.left_since d.faults d.sound n s (Follows p) old new c.answered.result)
+    (sym c.in-Promise.is)
+    (subst (λ (r : Result (Option Reply) ReplicaFault). Handles d.tells d.seen d.may_leave d.moment d.left_since d.faults d.sound n s
+    (Follows (Promise t reply)) old new r) (sym c.answered.ensures)
+    (handles_change d.tells d.seen d.may_leave d.moment d.left_since d.faults d.sound g.met.D.Disk.only_now n s (Follows (Promise t reply)) old new
+    (ordered (n, 1, s) t st)
     (adds_stamp t (stripe_at st (n, 1, s)).order) 4 reply c.requires.runs
     (order_made block n s st sorted old.shape.records t reply later)
     (none_made block n s st sorted old.shape.records (promised part t reply))
@@ -68,9 +72,12 @@ returns-in-Store g c =
     let full = full_in old.shape.records st in
     let Follows = λ (p : Plan). IsReacted block n s st (planned full part p) in
     let sorted = c.requires.runs.ordered.sorted in
-    subst (λ (p : Plan). Handles d.tells d.seen d.may_leave d.moment d.left_since d.faults d.sound n s (Follows p) old new c.answered-in-Store.result) (sym c.in-Store.is)
-    (subst (λ (r : Result (Option Reply) ReplicaFault). Handles d.tells d.seen d.may_leave d.moment d.left_since d.faults d.sound n s (Follows (Store t bytes)) old new r) (sym c.answered-in-Store.ensures)
-    (handles_change d.tells d.seen d.may_leave d.moment d.left_since d.faults d.sound g.met.D.Disk.only_now n s (Follows (Store t bytes)) old new (added (n, 1, s) (version t bytes) st)
+    subst (λ (p : Plan). Handles d.tells d.seen d.may_leave d.moment d.left_since d.faults d.sound n s (Follows p) old new c.answered-in-Store.result)
+    (sym c.in-Store.is)
+    (subst (λ (r : Result (Option Reply) ReplicaFault). Handles d.tells d.seen d.may_leave d.moment d.left_since d.faults d.sound n s
+    (Follows (Store t bytes)) old new r) (sym c.answered-in-Store.ensures)
+    (handles_change d.tells d.seen d.may_leave d.moment d.left_since d.faults d.sound g.met.D.Disk.only_now n s (Follows (Store t bytes)) old new
+    (added (n, 1, s) (version t bytes) st)
     true 5 Stored c.requires.runs
     (store_made block n s st sorted old.shape.records t bytes)
     (none_made block n s st sorted old.shape.records (stored part t bytes))

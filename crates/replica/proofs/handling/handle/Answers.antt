@@ -40,8 +40,10 @@ returns g c =
     let part = part_in old.shape.block st n s in
     let block : old.shape.block ≡ layout.block = ap (λ (x : Shape). x.block) c.requires.shape in
     let records : old.shape.records ≡ layout.records = ap (λ (x : Shape). x.records) c.requires.shape in
-    let shown : part_seen seen ≡ part = seen_part seen part.order (log_at old.shape.block st (n, 1, s)) c.state-part.ensures.order c.state-part.ensures.log in
-    let reaction : planned full part plan ≡ handle full seat part request = subst (λ (r : Replica). planned full r plan ≡ handle full seat r request) shown (c.in_ok-plan.ensures.plan full) in
+    let shown : part_seen seen ≡ part = seen_part seen part.order
+    (log_at old.shape.block st (n, 1, s)) c.state-part.ensures.order c.state-part.ensures.log in
+    let reaction : planned full part plan ≡ handle full seat part request = subst
+    (λ (r : Replica). planned full r plan ≡ handle full seat r request) shown (c.in_ok-plan.ensures.plan full) in
     let me : c.me.result ≡ me_of old = ap (λ (k : ℕ). brick k) c.me.ensures in
     let served : seat_served layout (me_of old) call request (group_of layout n) ≡ Some seat
     = subst (λ (b : BrickId). seat_served layout b call request (group_of layout n) ≡ Some seat) me (sym c.seat_served.ensures.seat ∙ c.in-Some.is) in
@@ -50,7 +52,8 @@ returns g c =
     (subst (λ (k : ℕ). IsReacted layout.block n s st (handle (full_in k st) seat (part_in layout.block st n s) request) reply after) records
     (subst (λ (b : ℕ). IsReacted b n s st (handle full seat (part_in b st n s) request) reply after) block
     (subst (λ (r : Reaction). IsReacted old.shape.block n s st r reply after) reaction reacted))) in
-    handles_imply d.tells d.seen d.may_leave d.moment d.left_since d.faults d.sound n s (IsReacted old.shape.block n s st (planned full part plan)) (IsStep layout (me_of old) call request st) step old new
+    handles_imply d.tells d.seen d.may_leave d.moment d.left_since d.faults d.sound n s (IsReacted old.shape.block n s st (planned full part plan))
+    (IsStep layout (me_of old) call request st) step old new
     c.carry_out.result c.carry_out.ensures
   where
     brick : ℕ → BrickId

@@ -15,4 +15,5 @@ some_copied (Some block) = refl
 pub returns : goal.returns
 returns c =
     let log = c.args.part.now.log in
-    c.is_some.ensures ∙ some_copied c.at.result ∙ ap is_some c.at.ensures ∙ is_some-option_map block_of (find (has_stamp c.args.stamp) log) ∙ sym (held_seen c.args.stamp log)
+    c.is_some.ensures ∙ some_copied c.at.result ∙ ap is_some c.at.ensures ∙ is_some-option_map block_of (find (has_stamp c.args.stamp) log)
+    ∙ sym (held_seen c.args.stamp log)

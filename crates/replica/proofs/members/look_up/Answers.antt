@@ -13,13 +13,15 @@ use Rattle.replica.proofs.members.look_up.Goals as goal
 pub returns-in-Below : goal.returns-in-Below
 returns-in-Below c =
     let log = c.args.part.now.log in
-    option_map-option_map as_version (λ (v : Stamp × Bor Bytes). version v.0 v.1.now) c.below.result ∙ ap (option_map as_version) c.below.ensures ∙ sym (below_seen c.in-Below.bound log)
+    option_map-option_map as_version (λ (v : Stamp × Bor Bytes). version v.0 v.1.now) c.below.result ∙ ap (option_map as_version) c.below.ensures
+    ∙ sym (below_seen c.in-Below.bound log)
     ∙ ap (λ (look : Look). looked_up look (map as_version log)) (sym c.in-Below.is)
 
 pub returns-in-Some : goal.returns-in-Some
 returns-in-Some c =
     let log = c.args.part.now.log in
-    found_at c.in-At.stamp log (Some c.in-Some.block.now) c.requires c.in-Some.ensures ∙ ap (λ (look : Look). looked_up look (map as_version log)) (sym c.in-At.is)
+    found_at c.in-At.stamp log (Some c.in-Some.block.now) c.requires c.in-Some.ensures ∙ ap (λ (look : Look). looked_up look (map as_version log))
+    (sym c.in-At.is)
 
 pub returns-in-None : goal.returns-in-None
 returns-in-None c =

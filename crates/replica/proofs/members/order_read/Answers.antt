@@ -6,4 +6,5 @@ use Rattle.replica.proofs.Deciding.{not_below_order}
 use Rattle.replica.proofs.members.order_read.Goals as goal
 
 pub promise-requires : goal.promise-requires
-promise-requires c = not_below_order (part_seen c.args.part.now) c.args.stamp (ap (stamp_below c.args.stamp) (sym c.top-top.ensures) ∙ sym c.is_below.ensures ∙ c.if-is_below.false)
+promise-requires c = not_below_order (part_seen c.args.part.now) c.args.stamp (ap (stamp_below c.args.stamp) (sym c.top-top.ensures)
+    ∙ sym c.is_below.ensures ∙ c.if-is_below.false)

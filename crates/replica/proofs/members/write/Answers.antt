@@ -10,5 +10,6 @@ use Rattle.replica.proofs.members.write.Goals as goal
 pub returns-clause-change : goal.returns-clause-change
 returns-clause-change c =
     let part = part_seen c.args.part.now in
-    let not_below : stamp_below c.args.stamp (top_of part) ≡ false = ap (stamp_below c.args.stamp) (sym c.top-top.ensures) ∙ sym c.is_below.ensures ∙ c.if-is_below.false in
+    let not_below : stamp_below c.args.stamp (top_of part) ≡ false = ap (stamp_below c.args.stamp) (sym c.top-top.ensures) ∙ sym c.is_below.ensures
+    ∙ c.if-is_below.false in
     (above_newest part c.args.stamp (sym c.is_held.ensures ∙ c.if-is_held.false) not_below, ap length c.in_ok-copy.ensures)

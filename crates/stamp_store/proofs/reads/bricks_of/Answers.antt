@@ -10,7 +10,8 @@ pub returns-in_err-brick : goal.returns-in_err-brick
 returns-in_err-brick c =
     let at = c.loop-seat in
     rw c.from_residual.ensures
-    (ends (take at.seat at.bricks) c.args.count at.seat at.rest.now (times_at brick_at c.args.count c.args.bytes.now) (omega arith) c.in_err-brick.ensures at.invariant.read)
+    (ends (take at.seat at.bricks) c.args.count at.seat at.rest.now (times_at brick_at c.args.count c.args.bytes.now)
+    (omega arith) c.in_err-brick.ensures at.invariant.read)
 
 pub loop-seat-preserved : goal.loop-seat-preserved
 loop-seat-preserved c =
@@ -19,8 +20,10 @@ loop-seat-preserved c =
     let front : take (at.seat + 1) (set at.bricks at.seat c.in_ok-brick.brick) ≡ take at.seat at.bricks ++ c.in_ok-brick.brick ∷ [] = take_more_set at.bricks at.seat c.in_ok-brick.brick within in
     record {
       room = length-set at.bricks at.seat c.in_ok-brick.brick ∙ at.invariant.room;
-      read = subst (λ (bricks : List BrickId). with_front bricks (times_at brick_at (c.args.count - (at.seat + 1)) c.in_ok-brick.after.now) ≡ times_at brick_at c.args.count c.args.bytes.now) (sym front)
-          (goes_on (take at.seat at.bricks) c.args.count at.seat at.rest.now c.in_ok-brick.brick c.in_ok-brick.after.now (times_at brick_at c.args.count c.args.bytes.now)
+      read = subst (λ (bricks : List BrickId). with_front bricks
+          (times_at brick_at (c.args.count - (at.seat + 1)) c.in_ok-brick.after.now) ≡ times_at brick_at c.args.count c.args.bytes.now) (sym front)
+          (goes_on (take at.seat at.bricks) c.args.count at.seat at.rest.now c.in_ok-brick.brick c.in_ok-brick.after.now
+          (times_at brick_at c.args.count c.args.bytes.now)
           (omega arith) c.in_ok-brick.ensures at.invariant.read);
     }
 
@@ -28,5 +31,6 @@ pub returns : goal.returns
 returns c =
     let at = c.loop-seat in
     let all : take at.seat at.bricks ≡ c.in_ok-members.members = ap (λ n. take n at.bricks) (omega arith) ∙ sym c.in_ok-members.ensures.bricks in
-    is_done (take at.seat at.bricks) c.args.count at.seat at.rest.now (times_at brick_at c.args.count c.args.bytes.now) (omega arith) at.invariant.read
+    is_done (take at.seat at.bricks) c.args.count at.seat at.rest.now (times_at brick_at c.args.count c.args.bytes.now)
+    (omega arith) at.invariant.read
     ∙ ap (λ (bricks : List BrickId). Some (bricks, at.rest.now)) all

@@ -9,6 +9,7 @@ loop-brick-preserved c =
     let at = c.loop-brick in
     let bricks = c.as_slice-bricks.result.now in
     record {
-      written = one_written c.args.out.now.items at.out.items c.put_u16.new.out.items bricks at.brick-index (record { 0 = 0 }) c.loop-brick-test.true at.invariant.written c.in_ok-put_u16.ensures.bytes;
+      written = one_written c.args.out.now.items at.out.items c.put_u16.new.out.items bricks at.brick-index
+          (record { 0 = 0 }) c.loop-brick-test.true at.invariant.written c.in_ok-put_u16.ensures.bytes;
       each = All-more BrickFits bricks at.brick-index (record { 0 = 0 }) c.loop-brick-test.true at.invariant.each c.in_ok-put_u16.ensures.fits;
     }

@@ -9,10 +9,12 @@ use Rattle.stripe_code.proofs.Pieces.{decoded_is}
 use Rattle.stripe_code.proofs.blocks.decode.Goals as goal
 
 -- one data block more
-one_more : (block : ℕ → List ℕ) (j : ℕ) (content more last : List ℕ) → content ≡ concat (map block (range_with_len 0 j)) → more ≡ content ++ last → last ≡ block j
+one_more : (block : ℕ → List ℕ) (j : ℕ) (content more last : List ℕ) → content ≡ concat (map block (range_with_len 0 j)) → more ≡ content ++ last
+    → last ≡ block j
     → more ≡ concat (map block (range_with_len 0 (j + 1)))
 one_more block j content more last so_far is last_is =
-    let grown : map block (range_with_len 0 (j + 1)) ≡ map block (range_with_len 0 j) ++ (block j ∷ []) = map-range_with_len_more block 0 j j (omega arith) in
+    let grown : map block (range_with_len 0 (j + 1)) ≡ map block (range_with_len 0 j) ++ (block j ∷ []) = map-range_with_len_more block 0 j j
+    (omega arith) in
     is ∙ (λ k. so_far k ++ last_is k) ∙ ap (λ rest. concat (map block (range_with_len 0 j)) ++ rest) (sym (append-nil (block j)))
     ∙ sym (concat-append (map block (range_with_len 0 j)) (block j ∷ [])) ∙ ap concat (sym grown)
 
@@ -25,12 +27,15 @@ loop-j-preserved c =
     IsDecoded-unique c.args.m c.args.size c.args.seats.now c.args.blocks.now c.loop-j.j c.decode_into.new.into
     (data_block c.args.m c.args.size c.args.seats.now c.args.blocks.now c.loop-j.j)
     (subst (λ k. IsDecoded c.args.m k c.args.seats.now c.args.blocks.now c.loop-j.j c.decode_into.new.into) size c.decode_into.ensures)
-    (data_block-IsDecoded c.args.m 32 c.args.size c.args.seats.now c.args.blocks.now c.loop-j.j few (omega arith) c.requires.seats small c.requires.long c.loop-j-test.true) in
-    let same_length : length c.decode_into.new.into ≡ vec_len c.loop-j.block = omega (arith, ap length is, length-data_block c.args.m c.args.size c.args.seats.now c.args.blocks.now c.loop-j.j, c.loop-j.invariant.long) in
+    (data_block-IsDecoded c.args.m 32 c.args.size c.args.seats.now c.args.blocks.now c.loop-j.j few
+    (omega arith) c.requires.seats small c.requires.long c.loop-j-test.true) in
+    let same_length : length c.decode_into.new.into ≡ vec_len c.loop-j.block = omega
+    (arith, ap length is, length-data_block c.args.m c.args.size c.args.seats.now c.args.blocks.now c.loop-j.j, c.loop-j.invariant.long) in
     record {
       decoded = one_more (data_block c.args.m c.args.size c.args.seats.now c.args.blocks.now) c.loop-j.j c.loop-j.content.items c.extend_from_slice.new.self.items c.deref.result.now
           c.loop-j.invariant.decoded c.in_ok-extend_from_slice.ensures.items
-          (c.deref.ensures.value ∙ take_at c.decode_into.new.into (drop (length c.decode_into.new.into) c.loop-j.block.items) (vec_len c.loop-j.block) same_length ∙ is);
+          (c.deref.ensures.value ∙ take_at c.decode_into.new.into (drop (length c.decode_into.new.into) c.loop-j.block.items)
+          (vec_len c.loop-j.block) same_length ∙ is);
       long = c.loop-j.invariant.long;
     }
 

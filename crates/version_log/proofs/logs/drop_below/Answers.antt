@@ -8,4 +8,5 @@ use Rattle.version_log.proofs.logs.drop_below.Goals as goal
 
 pub returns : goal.returns
 returns c =
-    filter_same _ (λ (e : Entry). not (is_below c.args.stamp (version_of e))) _ (λ x b f' k. search (rules, tests)) c.args.entries.now.items c.retain.new.self.items c.retain.ensures.filtered
+    filter_same _ (λ (e : Entry). not (is_below c.args.stamp (version_of e))) _
+    (λ x b f' k. search (rules, tests)) c.args.entries.now.items c.retain.new.self.items c.retain.ensures.filtered

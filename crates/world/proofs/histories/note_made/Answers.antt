@@ -7,7 +7,8 @@ pub returns-then-number-eq0 : goal.returns-then-number-eq0
 returns-then-number-eq0 c = changes_none c.args.operations.now c.args.number (made_known c.args.stamp c.args.base) c.if-number-eq0.true
 
 pub returns-then-place-operations : goal.returns-then-place-operations
-returns-then-place-operations c = changes_past c.args.operations.now c.args.number (made_known c.args.stamp c.args.base) c.if-number-eq0.false c.if-place-operations.true
+returns-then-place-operations c = changes_past c.args.operations.now c.args.number
+    (made_known c.args.stamp c.args.base) c.if-number-eq0.false c.if-place-operations.true
 
 pub returns : goal.returns
 returns c = changes_at c.args.operations.now c.args.number _ (made_known c.args.stamp c.args.base) c.if-number-eq0.false c.if-place-operations.false

@@ -30,5 +30,6 @@ returns-clause-err c =
     on_at c.requires.brick.0 c.args.bricks.now.items c.args.number c.index_mut-brick.result.now _ c.index_mut-brick.ensures.value c.in-Up.is c.requires.brick.1
     in
     asked_same c.args.bricks.now.items c.args.number.0 c.index_mut-brick.result.now c.in-Up.node c.invoke.new.node c.invoke.result
-    c.requires.brick.1.within c.index_mut-brick.ensures.value c.in-Up.is c.invoke.ensures.same (ap (λ (x : Store MemDisk). x.halted) c.invoke.ensures.brick ∙ on.0)
+    c.requires.brick.1.within c.index_mut-brick.ensures.value c.in-Up.is c.invoke.ensures.same
+    (ap (λ (x : Store MemDisk). x.halted) c.invoke.ensures.brick ∙ on.0)
     (subst (λ (x : Store MemDisk). IsSound x.disk) (sym c.invoke.ensures.brick) on.1) c.invoke.ensures.err

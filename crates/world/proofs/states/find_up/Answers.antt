@@ -9,10 +9,12 @@ returns-then-number-from c = found_none c.args.layout.now c.args.bricks.now c.ar
 
 pub returns-in-Up : goal.returns-in-Up
 returns-in-Up c =
-    found_up c.args.layout.now c.args.bricks.now c.args.number c.index-bricks-number.result _ (omega (arith, c.requires.bricks)) c.index-bricks-number.is
+    found_up c.args.layout.now c.args.bricks.now c.args.number c.index-bricks-number.result _
+    (omega (arith, c.requires.bricks)) c.index-bricks-number.is
     (ap (λ (x : Brick). x.power) c.index-bricks-number.is ∙ c.in-Up.is) c.requires.nodes
 
 pub returns-in-Down : goal.returns-in-Down
 returns-in-Down c =
-    found_down c.args.layout.now c.args.bricks.now c.args.number c.index-bricks-number.result _ (omega (arith, c.requires.bricks)) c.index-bricks-number.is
+    found_down c.args.layout.now c.args.bricks.now c.args.number c.index-bricks-number.result _
+    (omega (arith, c.requires.bricks)) c.index-bricks-number.is
     (ap (λ (x : Brick). x.power) c.index-bricks-number.is ∙ c.in-Down.is)

@@ -7,7 +7,8 @@ use Rattle.world.proofs.states.next_of.Goals as goal
 pub unreachable-requires : goal.unreachable-requires
 unreachable-requires c =
     let brick : Brick = get_or c.args.bricks.now c.args.number.0 c.index-bricks-number.result in
-    on_at c.requires.0 c.args.bricks.now c.args.number brick _ (ap (λ (x : Brick). get_or c.args.bricks.now c.args.number.0 x) c.index-bricks-number.is)
+    on_at c.requires.0 c.args.bricks.now c.args.number brick _
+    (ap (λ (x : Brick). get_or c.args.bricks.now c.args.number.0 x) c.index-bricks-number.is)
     c.in-Down.is c.requires.1
 
 pub returns : goal.returns

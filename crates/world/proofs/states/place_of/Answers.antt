@@ -11,7 +11,8 @@ returns-then-group-group_count-clause-none c node op =
 
 pub returns-in_err-found-clause-none : goal.returns-in_err-found-clause-none
 returns-in_err-found-clause-none c =
-    if_none_always c.from_residual.result (λ node op. refused_no_group c.args.layout.now c.args.group c.args.stripe node op (sym c.in_err-found.ensures.found))
+    if_none_always c.from_residual.result (λ node op. refused_no_group c.args.layout.now c.args.group c.args.stripe node op
+    (sym c.in_err-found.ensures.found))
 
 pub returns-then-stripe-from-clause-none : goal.returns-then-stripe-from-clause-none
 returns-then-stripe-from-clause-none c node op =

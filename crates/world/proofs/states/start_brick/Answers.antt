@@ -9,7 +9,8 @@ use Rattle.world.proofs.states.start_brick.Goals as goal
 pub on-requires : goal.on-requires
 on-requires c =
     subst (λ (power : Power). IsNodeOf c.args.layout.now c.args.number.0 power) (sym c.replace.ensures.value)
-    (node_at c.args.layout.now c.args.bricks.now.items c.args.number.0 c.index_mut-brick.result.now (omega (arith, c.args.bricks.now.ok.0, c.requires.brick)) c.index_mut-brick.ensures.value c.requires.nodes)
+    (node_at c.args.layout.now c.args.bricks.now.items c.args.number.0 c.index_mut-brick.result.now
+    (omega (arith, c.args.bricks.now.ok.0, c.requires.brick)) c.index_mut-brick.ensures.value c.requires.nodes)
 
 pub returns-clause-started : goal.returns-clause-started
 returns-clause-started c =

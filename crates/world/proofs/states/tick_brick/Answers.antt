@@ -8,13 +8,15 @@ use Rattle.world.proofs.states.tick_brick.Goals as goal
 pub tick-requires : goal.tick-requires
 tick-requires c =
     let brick : Brick = get_or c.args.bricks.now c.args.number.0 c.index-bricks-number.result in
-    (on_at c.requires.0 c.args.bricks.now c.args.number brick _ (ap (λ (x : Brick). get_or c.args.bricks.now c.args.number.0 x) c.index-bricks-number.is)
+    (on_at c.requires.0 c.args.bricks.now c.args.number brick _
+    (ap (λ (x : Brick). get_or c.args.bricks.now c.args.number.0 x) c.index-bricks-number.is)
     c.in-Up.is c.requires.1).0
 
 pub unreachable-requires : goal.unreachable-requires
 unreachable-requires c =
     let brick : Brick = get_or c.args.bricks.now c.args.number.0 c.index-bricks-number.result in
-    on_at c.requires.0 c.args.bricks.now c.args.number brick _ (ap (λ (x : Brick). get_or c.args.bricks.now c.args.number.0 x) c.index-bricks-number.is)
+    on_at c.requires.0 c.args.bricks.now c.args.number brick _
+    (ap (λ (x : Brick). get_or c.args.bricks.now c.args.number.0 x) c.index-bricks-number.is)
     c.in-Down.is c.requires.1
 
 pub returns : goal.returns

@@ -4,4 +4,5 @@ use Rattle.world.specs.Walks.{operations_of, placed}
 use Rattle.world.proofs.walks.along.Given as goal
 
 abbrev pub invariant-loop-entry : goal.invariant-loop-entry
-invariant-loop-entry l = l.happenings.items ++ placed (operations_of l.operations) l.position (drop l.entry-index l.walk) ≡ placed (operations_of l.operations) 0 l.walk
+invariant-loop-entry l = l.happenings.items ++ placed (operations_of l.operations) l.position (drop l.entry-index l.walk) ≡ placed
+    (operations_of l.operations) 0 l.walk

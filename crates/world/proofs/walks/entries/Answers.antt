@@ -13,6 +13,7 @@ loop-place-preserved c =
           let pushed : c.match-entry_of.entries.items ≡ c.loop-place.entries.items ++ w.in-Some.entry ∷ [] = rw w.entries-is w.in_ok-push.ensures.items in
           pushed ∙ ap₂ (λ a b. a ++ b) c.loop-place.invariant w.in-Some.ensures ∙ sym more
       | in_default w ↦
-          let kept : c.match-entry_of.entries.items ≡ c.loop-place.entries.items ++ [] = rw w.entries-is (sym (append-nil c.loop-place.entries.items)) in
+          let kept : c.match-entry_of.entries.items ≡ c.loop-place.entries.items ++ [] = rw w.entries-is
+          (sym (append-nil c.loop-place.entries.items)) in
           kept ∙ ap₂ (λ a b. a ++ b) c.loop-place.invariant w.in_default.ensures ∙ sym more
     ]

@@ -18,7 +18,13 @@ returns-clause-answer c =
     let new = listed c.change_log.new.stripes.entries in
     let mid = listed c.make_room.new.stripes.entries in
     let answer = c.change_log.result in
-    let told = subst (λ (b : Bool). AnswersAt p mid new (log_changed (slot_limits limits.slots) b logged.change logged.stamp (stripe_in mid p)) answer) c.is_full-full.ensures c.change_log.ensures.answer in
-    let here = subst (λ (xs : List (Place × StripeOf Entry)). AnswersAt p xs new (log_changed (slot_limits limits.slots) (is_full limits (with_stripes st xs)) logged.change logged.stamp (stripe_in xs p)) answer) c.make_room.ensures.same told in
-    let counted = subst (λ (o : Option (StripeOf Entry)). AnswersAt p st.stripes new o answer) (log_changed-slots limits (is_full limits st) logged.change logged.stamp (stripe_in st.stripes p)) here in
-    tested (nat_lt logged.group.0 64) (with_stripes st new) (placed p st (log_changed limits (is_full limits st) logged.change logged.stamp (stripe_in st.stripes p))) answer (lt-ltb logged.group.0 64 (omega arith)) (placed_answer p st new _ answer counted)
+    let told = subst (λ (b : Bool). AnswersAt p mid new (log_changed (slot_limits limits.slots) b logged.change logged.stamp
+    (stripe_in mid p)) answer) c.is_full-full.ensures c.change_log.ensures.answer in
+    let here = subst (λ (xs : List (Place × StripeOf Entry)). AnswersAt p xs new
+    (log_changed (slot_limits limits.slots) (is_full limits (with_stripes st xs)) logged.change logged.stamp
+    (stripe_in xs p)) answer) c.make_room.ensures.same told in
+    let counted = subst (λ (o : Option (StripeOf Entry)). AnswersAt p st.stripes new o answer)
+    (log_changed-slots limits (is_full limits st) logged.change logged.stamp (stripe_in st.stripes p)) here in
+    tested (nat_lt logged.group.0 64) (with_stripes st new)
+    (placed p st (log_changed limits (is_full limits st) logged.change logged.stamp (stripe_in st.stripes p))) answer
+    (lt-ltb logged.group.0 64 (omega arith)) (placed_answer p st new _ answer counted)

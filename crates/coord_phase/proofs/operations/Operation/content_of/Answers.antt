@@ -13,7 +13,8 @@ decode-requires-clause-seats c =
     let v = c.args.version in
     let m_is : c.m-m.result ≡ inside.group.m = c.m-m.ensures.value ∙ c.policy.ensures.m in
     let few : length inside.group.members ≤ 32 = omega (arith, c.policy.ensures.limits.few_seats) in
-    let needed : inside.group.m ≤ length (pieces_at v inside.counted.items) = subst (λ (op : Operation). op.group.m ≤ length (pieces_at v op.state.counted)) (sym c.self.view_is) c.requires in
+    let needed : inside.group.m ≤ length (pieces_at v inside.counted.items) = subst
+    (λ (op : Operation). op.group.m ≤ length (pieces_at v op.state.counted)) (sym c.self.view_is) c.requires in
     let enough : c.m-m.result ≤ length (pieces_at v inside.counted.items) = omega (arith, needed, m_is) in
     (give_back _ _ _ v _ _ _ c.self.invariant few enough
     (c.deref.ensures.value ∙ c.in_ok-seats.ensures ∙ ap (λ counted. seats_of (pieces_at v counted)) c.as_slice.ensures.value)
@@ -25,7 +26,8 @@ decode-requires-clause-long c =
     let v = c.args.version in
     let m_is : c.m-m.result ≡ inside.group.m = c.m-m.ensures.value ∙ c.policy.ensures.m in
     let few : length inside.group.members ≤ 32 = omega (arith, c.policy.ensures.limits.few_seats) in
-    let needed : inside.group.m ≤ length (pieces_at v inside.counted.items) = subst (λ (op : Operation). op.group.m ≤ length (pieces_at v op.state.counted)) (sym c.self.view_is) c.requires in
+    let needed : inside.group.m ≤ length (pieces_at v inside.counted.items) = subst
+    (λ (op : Operation). op.group.m ≤ length (pieces_at v op.state.counted)) (sym c.self.view_is) c.requires in
     let enough : c.m-m.result ≤ length (pieces_at v inside.counted.items) = omega (arith, needed, m_is) in
     (give_back _ _ _ v _ _ _ c.self.invariant few enough
     (c.deref.ensures.value ∙ c.in_ok-seats.ensures ∙ ap (λ counted. seats_of (pieces_at v counted)) c.as_slice.ensures.value)
@@ -40,7 +42,8 @@ returns-clause-value c =
     let v = c.args.version in
     let m_is : c.m-m.result ≡ inside.group.m = c.m-m.ensures.value ∙ c.policy.ensures.m in
     let few : length inside.group.members ≤ 32 = omega (arith, c.policy.ensures.limits.few_seats) in
-    let needed : inside.group.m ≤ length (pieces_at v inside.counted.items) = subst (λ (op : Operation). op.group.m ≤ length (pieces_at v op.state.counted)) (sym c.self.view_is) c.requires in
+    let needed : inside.group.m ≤ length (pieces_at v inside.counted.items) = subst
+    (λ (op : Operation). op.group.m ≤ length (pieces_at v op.state.counted)) (sym c.self.view_is) c.requires in
     let enough : c.m-m.result ≤ length (pieces_at v inside.counted.items) = omega (arith, needed, m_is) in
     let back = give_back _ _ _ v _ _ _ c.self.invariant few enough
     (c.deref.ensures.value ∙ c.in_ok-seats.ensures ∙ ap (λ counted. seats_of (pieces_at v counted)) c.as_slice.ensures.value)

@@ -6,9 +6,11 @@ use Rattle.coord_phase.specs.declared.operations.Stage.{Stage}
 use Rattle.coord_phase.specs.Operations.{StoresBlocks}
 use Rattle.coord_phase.proofs.operations.Operation.make.Goals as goal
 
-ready : (block m : ℕ) (content : List ℕ) (phase next : Phase) → phase ≡ Orders → next ≡ Stores → StoresBlocks block m content phase → StoresBlocks block m content next
+ready : (block m : ℕ) (content : List ℕ) (phase next : Phase) → phase ≡ Orders → next ≡ Stores → StoresBlocks block m content phase
+    → StoresBlocks block m content next
 ready block m content phase next orders stores long =
-    subst (λ (z : Phase). StoresBlocks block m content z) (sym stores) (let z : StoresBlocks block m content Orders = subst (λ (z : Phase). StoresBlocks block m content z) orders long in z)
+    subst (λ (z : Phase). StoresBlocks block m content z) (sym stores)
+    (let z : StoresBlocks block m content Orders = subst (λ (z : Phase). StoresBlocks block m content z) orders long in z)
 
 pub begin-requires : goal.begin-requires
 begin-requires c =

@@ -14,8 +14,11 @@ returns c =
     IfOk-weaker c.messages.result _ _
     (λ messages is.
     is
-    ∙ ap (λ counted. to_silent counted inside.stage.call (stage_request (block_code inside.block) inside.group.m inside.stage c.stored.result.now) 0 inside.group.members) c.as_slice.ensures.value
-    ∙ ap (λ content. to_silent inside.counted.items inside.stage.call (stage_request (block_code inside.block) inside.group.m inside.stage content) 0 inside.group.members) (c.stored.ensures.value ∙ ap (λ op. stored_content op.state) (sym c.self.view_is))
+    ∙ ap (λ counted. to_silent counted inside.stage.call
+    (stage_request (block_code inside.block) inside.group.m inside.stage c.stored.result.now) 0 inside.group.members) c.as_slice.ensures.value
+    ∙ ap (λ content. to_silent inside.counted.items inside.stage.call
+    (stage_request (block_code inside.block) inside.group.m inside.stage content) 0 inside.group.members)
+    (c.stored.ensures.value ∙ ap (λ op. stored_content op.state) (sym c.self.view_is))
     ∙ asked_by_stage inside.block inside.group _
     ∙ ap phase_messages c.self.view_is)
     c.messages.ensures

@@ -10,4 +10,5 @@ returns-clause-messages c =
     let stage = c.next_stage-stage.result in
     let state : Coordinator =
     record { ask = inside.ask; stamp = stage.stamp; round = stage.round; base = Some c.args.base; content = c.args.content; call = stage.call; phase = stage.phase; counted = [] } in
-    begun_messages inside.block inside.group state _ _ _ c.in_ok-messages.ensures (c.as_slice.ensures.value ∙ c.in_ok-told.ensures ∙ c.stored.ensures) c.new.ensures.items
+    begun_messages inside.block inside.group state _ _ _ c.in_ok-messages.ensures (c.as_slice.ensures.value ∙ c.in_ok-told.ensures
+    ∙ c.stored.ensures) c.new.ensures.items

@@ -21,7 +21,8 @@ decided_of fresh op = decided (block_code op.block) op.group.m fresh op.state
 abbrev NextIs : Result Next NoMem → Operation → Option Stamp → Operation → Type 0
 NextIs result after fresh before = IfOk result (λ next. decision after next ≡ decided_of fresh before)
 
-next_is : (result : Result Next NoMem) (after : Operation) (fresh : Option Stamp) (before : Operation) (next : machine.Next) → decided_of fresh before ≡ next
+next_is : (result : Result Next NoMem) (after : Operation) (fresh : Option Stamp) (before : Operation) (next : machine.Next)
+    → decided_of fresh before ≡ next
     → IfOk result (λ answered. decision after answered ≡ next) → NextIs result after fresh before
 next_is result after fresh before next is h = subst (λ (d : machine.Next). IfOk result (λ answered. decision after answered ≡ d)) (sym is) h
 
@@ -61,7 +62,8 @@ returns-in-Stores-default-clause-told c =
     (sym (ap (λ (s : Stage). s.phase) c.stage.ensures) ∙ c.in-Stores-default.is-0) in
     subst (λ (before : Operation). ToldIs c.end_store.result c.end_store.new.self c.args.fresh before) c.self.view_is
     (told_is c.end_store.result c.end_store.new.self c.args.fresh op None
-    (ap (note_told op.state.call) is ∙ nothing_told_at_end op.state.call (greatest_refuser op.state.counted) (answer_of op.state.ask.op op.state.content) (Some op.state.stamp))
+    (ap (note_told op.state.call) is ∙ nothing_told_at_end op.state.call (greatest_refuser op.state.counted)
+    (answer_of op.state.ask.op op.state.content) (Some op.state.stamp))
     c.end_store.ensures.told)
 
 pub returns-in-Recovers-Some-clause-next : goal.returns-in-Recovers-Some-clause-next
@@ -110,7 +112,8 @@ returns-in-Recovers-None-clause-next c =
     let is = unrefused_recovering (block_code op.block) op.group.m c.args.fresh op.state
     (sym c.full_member.ensures ∙ c.in_default.is)
     (sym (ap (λ (s : Stage). s.phase) c.stage.ensures) ∙ c.in-Recovers-None.is-0) (sym c.refuser.ensures ∙ c.in-Recovers-None.is-1) in
-    next_is c.read_back.result c.read_back.new.self c.args.fresh c.args.self.now _ (subst (ReadsBack c.args.fresh) c.self.view_is is) c.read_back.ensures.next
+    next_is c.read_back.result c.read_back.new.self c.args.fresh c.args.self.now _
+    (subst (ReadsBack c.args.fresh) c.self.view_is is) c.read_back.ensures.next
 
 pub returns-in-Recovers-None-clause-told : goal.returns-in-Recovers-None-clause-told
 returns-in-Recovers-None-clause-told c =
@@ -127,7 +130,8 @@ returns-in-Descends-None-clause-next c =
     let is = unrefused_descending (block_code op.block) op.group.m c.args.fresh op.state c.in-Descends-None.field-0-0
     (sym c.full_member.ensures ∙ c.in_default.is)
     (sym (ap (λ (s : Stage). s.phase) c.stage.ensures) ∙ c.in-Descends-None.is-0) (sym c.refuser.ensures ∙ c.in-Descends-None.is-1) in
-    next_is c.read_back-in-Descends-None.result c.read_back-in-Descends-None.new.self c.args.fresh c.args.self.now _ (subst (ReadsBack c.args.fresh) c.self.view_is is) c.read_back-in-Descends-None.ensures.next
+    next_is c.read_back-in-Descends-None.result c.read_back-in-Descends-None.new.self c.args.fresh c.args.self.now _
+    (subst (ReadsBack c.args.fresh) c.self.view_is is) c.read_back-in-Descends-None.ensures.next
 
 pub returns-in-Descends-None-clause-told : goal.returns-in-Descends-None-clause-told
 returns-in-Descends-None-clause-told c =

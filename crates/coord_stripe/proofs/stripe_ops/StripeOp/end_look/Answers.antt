@@ -13,7 +13,8 @@ content_of-requires c =
     let op = c.self.inside.op in
     let told : all_tell c.in-Some.version op.state.counted ≡ true =
     subst (λ (counted : List Counted). all_tell c.in-Some.version counted ≡ true) c.counted.ensures c.in-Some.ensures.all in
-    let enough : op.group.m ≤ length op.state.counted = subst (λ (z : Operation). z.group.m ≤ length z.state.counted) (sym c.self.view_is) c.requires.enough in
+    let enough : op.group.m ≤ length op.state.counted = subst (λ (z : Operation). z.group.m ≤ length z.state.counted)
+    (sym c.self.view_is) c.requires.enough in
     enough_pieces _ _ _ enough told
 
 pub returns-clause-next : goal.returns-clause-next

@@ -15,14 +15,16 @@ pub returns-then-not-is_full-clause-answers : goal.returns-then-not-is_full-clau
 returns-then-not-is_full-clause-answers c =
     subst (λ (op : Operation). Answers c.args.fresh op c.args.from c.args.reply.now c.wait-then-not-is_full.result c.wait-then-not-is_full.new.self) c.self.view_is
     (answers_waiting c.args.fresh c.self.inside.op c.args.from c.args.reply.now c.count.new.self c.wait-then-not-is_full.new.self c.wait-then-not-is_full.result
-    c.is_full.result c.in_ok-count.ensures.heard (sym c.in_ok-count.ensures.counted ∙ c.if-not-branch.false) c.is_full.ensures.full c.if-not-is_full.true
+    c.is_full.result c.in_ok-count.ensures.heard (sym c.in_ok-count.ensures.counted
+    ∙ c.if-not-branch.false) c.is_full.ensures.full c.if-not-is_full.true
     c.wait-then-not-is_full.ensures.next c.wait-then-not-is_full.ensures.state)
 
 pub returns-in-Ok-clause-answers : goal.returns-in-Ok-clause-answers
 returns-in-Ok-clause-answers c =
     subst (λ (op : Operation). Answers c.args.fresh op c.args.from c.args.reply.now c.in-Ok.next c.decide.new.self) c.self.view_is
     (answers_decided c.args.fresh c.self.inside.op c.args.from c.args.reply.now c.count.new.self c.decide.new.self c.in-Ok.next
-    c.is_full.result c.in_ok-count.ensures.heard (sym c.in_ok-count.ensures.counted ∙ c.if-not-branch.false) c.is_full.ensures.full c.if-not-is_full.false
+    c.is_full.result c.in_ok-count.ensures.heard (sym c.in_ok-count.ensures.counted
+    ∙ c.if-not-branch.false) c.is_full.ensures.full c.if-not-is_full.false
     c.in-Ok.ensures.next c.in-Ok.ensures.sent c.in-Ok.ensures.told c.in-Ok.ensures.stays)
 
 pub returns-in-Err-clause-err : goal.returns-in-Err-clause-err

@@ -9,6 +9,7 @@ pub returns-clause-content : goal.returns-clause-content
 returns-clause-content c =
     let medium = c.args.self.now in
     let size : length c.scatter.new.content ≡ medium.content.len = search rules in
-    let drawn : c.scatter.new.content ≡ filled (is_uncertain (past_of (reverse medium.steps.items) []) (length medium.content.items)) (seeded c.args.pick) 0 medium.content.items = search rules in
+    let drawn : c.scatter.new.content ≡ filled (is_uncertain (past_of (reverse medium.steps.items) []) (length medium.content.items))
+    (seeded c.args.pick) 0 medium.content.items = search rules in
     take_at c.scatter.new.content (drop (length c.scatter.new.content) medium.content.items) medium.content.len size
     ∙ drawn ∙ drawn_by_steps c.args.pick medium.steps.items medium.saved.items medium.content.items c.if-pick-eq0.false c.if-pick-eq1.false

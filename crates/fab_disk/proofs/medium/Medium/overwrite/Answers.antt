@@ -17,7 +17,8 @@ returns-clause-past c =
     let step : Overwrite = record { at = min c.args.at (length new); len = length from; kept = length stood; length_before = length old } in
     let steps : c.push.new.self.items ≡ c.args.self.now.steps.items ++ Wrote step ∷ [] = search rules in
     let saved : c.extend_from_slice.new.self.items ≡ c.args.self.now.saved.items ++ stood = search rules in
-    let torn : Torn c.args.at (length from) old new = subst (λ (l : List ℕ). Torn c.args.at (length from) old l) (sym c.put.ensures.content) (written_torn c.args.at from old) in
+    let torn : Torn c.args.at (length from) old new = subst (λ (l : List ℕ). Torn c.args.at (length from) old l) (sym c.put.ensures.content)
+    (written_torn c.args.at from old) in
     record {
       change = change_of step stood;
       remembered = ap (λ (s : List Step). past_of (reverse s) c.extend_from_slice.new.self.items) steps

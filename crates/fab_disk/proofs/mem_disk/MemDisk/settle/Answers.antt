@@ -7,4 +7,5 @@ use Rattle.fab_disk.proofs.mem_disk.MemDisk.settle.Goals as goal
 pub returns-clause-image : goal.returns-clause-image
 returns-clause-image c =
     let medium = c.args.self.now.medium in
-    subst (IsImage (past medium) medium.content.items) (sym c.settle.ensures.content) (settled_is_image c.args.pick (past medium) medium.content.items medium.fits)
+    subst (IsImage (past medium) medium.content.items) (sym c.settle.ensures.content)
+    (settled_is_image c.args.pick (past medium) medium.content.items medium.fits)

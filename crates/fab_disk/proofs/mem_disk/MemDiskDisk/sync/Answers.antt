@@ -9,14 +9,17 @@ use Rattle.fab_disk.proofs.mem_disk.MemDiskDisk.sync.Goals as goal
 pub returns-in-Goes-clause-crash : goal.returns-in-Goes-clause-crash
 returns-in-Goes-clause-crash c = λ image left.
     let old = c.args.self.now.medium in
-    let here : image ≡ c.commit.new.self.content.items = subst (λ (p : List Past). IsImage p c.commit.new.self.content.items image) c.commit.ensures.past left in
-    let same : image ≡ old.content.items = here ∙ c.commit.ensures.content ∙ ap (λ (m : Medium). m.content.items) c.next_fate.ensures.medium ∙ c.reserve.ensures.content in
+    let here : image ≡ c.commit.new.self.content.items = subst
+    (λ (p : List Past). IsImage p c.commit.new.self.content.items image) c.commit.ensures.past left in
+    let same : image ≡ old.content.items = here ∙ c.commit.ensures.content ∙ ap (λ (m : Medium). m.content.items) c.next_fate.ensures.medium
+    ∙ c.reserve.ensures.content in
     subst (IsImage (past old) old.content.items) (sym same) (content_is_image (past old) old.content.items old.fits)
 
 pub returns-in-Goes-clause-room : goal.returns-in-Goes-clause-room
 returns-in-Goes-clause-room c = record {
   left = λ calls bytes limit le had. c.commit.ensures.room calls bytes limit
-      (subst (λ (m : Medium). HasRoom m (calls + 1) bytes limit) (sym c.next_fate.ensures.medium) (c.reserve.ensures.room (calls + 1) bytes limit (room_same c.args.self.now.medium (calls + 1) bytes limit had)));
+      (subst (λ (m : Medium). HasRoom m (calls + 1) bytes limit) (sym c.next_fate.ensures.medium)
+      (c.reserve.ensures.room (calls + 1) bytes limit (room_same c.args.self.now.medium (calls + 1) bytes limit had)));
   enough = λ calls bytes limit le had refused. cc;
 }
 

@@ -9,15 +9,20 @@ use Rattle.fab_disk.proofs.mem_disk.MemDiskDisk.write_at.Goals as goal
 pub returns-in-Goes-clause-crash : goal.returns-in-Goes-clause-crash
 returns-in-Goes-clause-crash c = λ image left.
     let old = c.args.self.now.medium in
-    let over = subst (λ (m : Medium). IsWrittenOver c.args.at (length c.args.from.now) (past m) (past c.overwrite.new.self) m.content.items c.overwrite.new.self.content.items) c.next_fate.ensures.medium c.overwrite.ensures.past in
-    let over_past = subst (λ (p : List Past). IsWrittenOver c.args.at (length c.args.from.now) p (past c.overwrite.new.self) c.reserve.new.self.content.items c.overwrite.new.self.content.items) c.reserve.ensures.past over in
-    let over_old = subst (λ (b : List ℕ). IsWrittenOver c.args.at (length c.args.from.now) (past old) (past c.overwrite.new.self) b c.overwrite.new.self.content.items) c.reserve.ensures.content over_past in
-    write_crash c.args.at (length c.args.from.now) (past old) (past c.overwrite.new.self) old.content.items c.overwrite.new.self.content.items over_old image left
+    let over = subst (λ (m : Medium). IsWrittenOver c.args.at (length c.args.from.now) (past m)
+    (past c.overwrite.new.self) m.content.items c.overwrite.new.self.content.items) c.next_fate.ensures.medium c.overwrite.ensures.past in
+    let over_past = subst (λ (p : List Past). IsWrittenOver c.args.at (length c.args.from.now) p
+    (past c.overwrite.new.self) c.reserve.new.self.content.items c.overwrite.new.self.content.items) c.reserve.ensures.past over in
+    let over_old = subst (λ (b : List ℕ). IsWrittenOver c.args.at (length c.args.from.now) (past old)
+    (past c.overwrite.new.self) b c.overwrite.new.self.content.items) c.reserve.ensures.content over_past in
+    write_crash c.args.at (length c.args.from.now) (past old)
+    (past c.overwrite.new.self) old.content.items c.overwrite.new.self.content.items over_old image left
 
 pub returns-in-Goes-clause-room : goal.returns-in-Goes-clause-room
 returns-in-Goes-clause-room c = record {
   left = λ calls bytes limit le had. c.overwrite.ensures.room calls bytes limit le
-      (subst (λ (m : Medium). HasRoom m (calls + 1) (bytes + length c.args.from.now) limit) (sym c.next_fate.ensures.medium) (c.reserve.ensures.room (calls + 1) (bytes + length c.args.from.now) limit had));
+      (subst (λ (m : Medium). HasRoom m (calls + 1) (bytes + length c.args.from.now) limit) (sym c.next_fate.ensures.medium)
+      (c.reserve.ensures.room (calls + 1) (bytes + length c.args.from.now) limit had));
   enough = λ calls bytes limit le had refused. cc;
 }
 
@@ -32,21 +37,27 @@ returns-in-Goes-clause-cause c = record {
 pub returns-in-Stops-clause-crash : goal.returns-in-Stops-clause-crash
 returns-in-Stops-clause-crash c = λ image left.
     let old = c.args.self.now.medium in
-    let over = subst (λ (m : Medium). IsWrittenOver c.args.at (length c.args.from.now) (past m) (past c.overwrite-in-Stops.new.self) m.content.items c.overwrite-in-Stops.new.self.content.items) c.next_fate.ensures.medium c.overwrite-in-Stops.ensures.past in
-    let over_past = subst (λ (p : List Past). IsWrittenOver c.args.at (length c.args.from.now) p (past c.overwrite-in-Stops.new.self) c.reserve.new.self.content.items c.overwrite-in-Stops.new.self.content.items) c.reserve.ensures.past over in
-    let over_old = subst (λ (b : List ℕ). IsWrittenOver c.args.at (length c.args.from.now) (past old) (past c.overwrite-in-Stops.new.self) b c.overwrite-in-Stops.new.self.content.items) c.reserve.ensures.content over_past in
-    write_crash c.args.at (length c.args.from.now) (past old) (past c.overwrite-in-Stops.new.self) old.content.items c.overwrite-in-Stops.new.self.content.items over_old image left
+    let over = subst (λ (m : Medium). IsWrittenOver c.args.at (length c.args.from.now) (past m)
+    (past c.overwrite-in-Stops.new.self) m.content.items c.overwrite-in-Stops.new.self.content.items) c.next_fate.ensures.medium c.overwrite-in-Stops.ensures.past in
+    let over_past = subst (λ (p : List Past). IsWrittenOver c.args.at (length c.args.from.now) p
+    (past c.overwrite-in-Stops.new.self) c.reserve.new.self.content.items c.overwrite-in-Stops.new.self.content.items) c.reserve.ensures.past over in
+    let over_old = subst (λ (b : List ℕ). IsWrittenOver c.args.at (length c.args.from.now) (past old)
+    (past c.overwrite-in-Stops.new.self) b c.overwrite-in-Stops.new.self.content.items) c.reserve.ensures.content over_past in
+    write_crash c.args.at (length c.args.from.now) (past old)
+    (past c.overwrite-in-Stops.new.self) old.content.items c.overwrite-in-Stops.new.self.content.items over_old image left
 
 pub returns-in-Stops-clause-room : goal.returns-in-Stops-clause-room
 returns-in-Stops-clause-room c = record {
   left = λ calls bytes limit le had. c.overwrite-in-Stops.ensures.room calls bytes limit le
-      (subst (λ (m : Medium). HasRoom m (calls + 1) (bytes + length c.args.from.now) limit) (sym c.next_fate.ensures.medium) (c.reserve.ensures.room (calls + 1) (bytes + length c.args.from.now) limit had));
+      (subst (λ (m : Medium). HasRoom m (calls + 1) (bytes + length c.args.from.now) limit) (sym c.next_fate.ensures.medium)
+      (c.reserve.ensures.room (calls + 1) (bytes + length c.args.from.now) limit had));
   enough = λ calls bytes limit le had refused. cc;
 }
 
 pub returns-in-Fails-clause-room : goal.returns-in-Fails-clause-room
 returns-in-Fails-clause-room c = record {
   left = λ calls bytes limit le had. subst (λ (m : Medium). HasRoom m calls bytes limit) (sym c.next_fate.ensures.medium)
-      (room_less c.reserve.new.self calls bytes (length c.args.from.now) limit (c.reserve.ensures.room (calls + 1) (bytes + length c.args.from.now) limit had));
+      (room_less c.reserve.new.self calls bytes (length c.args.from.now) limit
+      (c.reserve.ensures.room (calls + 1) (bytes + length c.args.from.now) limit had));
   enough = λ calls bytes limit le had refused. cc;
 }

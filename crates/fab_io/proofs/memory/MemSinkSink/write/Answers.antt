@@ -16,7 +16,8 @@ returns-clause-failed c = λ failed.
     let calls = IfErr-at_err _ failed c.count.ensures.err in
     elim c.if-fails_next.branch [
       | then-fails_next w ↦
-          let part : take c.if-fails_next.part from ≡ take c.self.inside.part from = ap (λ k. take k from) (w.part-is ∙ w.min-part.ensures) ∙ take_min c.self.inside.part from in
+          let part : take c.if-fails_next.part from ≡ take c.self.inside.part from = ap (λ k. take k from) (w.part-is ∙ w.min-part.ensures)
+          ∙ take_min c.self.inside.part from in
           let taken = c.in_ok-extend_from_slice.ensures.items ∙ ap (λ l. c.self.inside.taken.items ++ l) part in
           subst (λ (s : SinkInMemory). record { taken = c.extend_from_slice.new.self.items; part = c.self.inside.part; calls = c.count.new.self } ≡ after_failed_write s from)
           c.self.view_is (sink_by_parts c.self.inside.part _ _ _ _ taken calls)

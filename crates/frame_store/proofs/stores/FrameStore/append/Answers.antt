@@ -8,5 +8,7 @@ pub returns-in_err-body-clause-any_moment : goal.returns-in_err-body-clause-any_
 returns-in_err-body-clause-any_moment g c =
     let x = c.self.inside in
     let d = g.D.Disk in
-    subst (λ (s : Held g.row.D.Denot). Moments d.tells d.seen d.may_leave d.moment d.left_since (λ fs. fs ++ frame_of c.args.kind c.args.body.now ∷ []) None x.disk s) c.self.view_is
-    (moments_still d.tells d.seen d.may_leave d.moment d.left_since g.met.D.Disk.only_now _ x.half x.generation x.other_shut (λ fs. fs ++ frame_of c.args.kind c.args.body.now ∷ []) None c.self.invariant.1)
+    subst (λ (s : Held g.row.D.Denot). Moments d.tells d.seen d.may_leave d.moment d.left_since
+    (λ fs. fs ++ frame_of c.args.kind c.args.body.now ∷ []) None x.disk s) c.self.view_is
+    (moments_still d.tells d.seen d.may_leave d.moment d.left_since g.met.D.Disk.only_now _ x.half x.generation x.other_shut
+    (λ fs. fs ++ frame_of c.args.kind c.args.body.now ∷ []) None c.self.invariant.1)

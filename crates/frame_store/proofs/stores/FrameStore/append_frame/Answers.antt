@@ -12,8 +12,10 @@ pub returns-in_err-stage-clause-any_moment : goal.returns-in_err-stage-clause-an
 returns-in_err-stage-clause-any_moment g c =
     let x = c.self.inside in
     let d = g.D.Disk in
-    subst (λ (s : Held g.row.D.Denot). Moments d.tells d.seen d.may_leave d.moment d.left_since (λ fs. fs ++ c.args.frame ∷ []) None c.stage.new.disk s) c.self.view_is
-    (moments_untouched d.tells d.seen d.may_leave d.moment d.left_since g.met.D.Disk.only_now _ x.half x.generation x.other_shut (λ fs. fs ++ c.args.frame ∷ []) None c.stage.new.disk c.self.invariant.1 c.stage.ensures.untouched)
+    subst (λ (s : Held g.row.D.Denot). Moments d.tells d.seen d.may_leave d.moment d.left_since
+    (λ fs. fs ++ c.args.frame ∷ []) None c.stage.new.disk s) c.self.view_is
+    (moments_untouched d.tells d.seen d.may_leave d.moment d.left_since g.met.D.Disk.only_now _ x.half x.generation x.other_shut
+    (λ fs. fs ++ c.args.frame ∷ []) None c.stage.new.disk c.self.invariant.1 c.stage.ensures.untouched)
 
 pub returns-in-Err-clause-any_moment : goal.returns-in-Err-clause-any_moment
 returns-in-Err-clause-any_moment g c =
@@ -64,11 +66,13 @@ invariant_of-self-in-Ok g c =
     let size : c.max-self-inside.result ≡ max x.size (p + 1 + length c.deref.result.now) = omega (arith, bytes, c.max-self-inside.ensures) in
     let ready = subst (λ (s : Held g.row.D.Denot). Ready d.tells d.seen d.may_leave d.moment d.left_since x.half x.generation x.other_shut x.used c.stage.new.disk p s) c.self.view_is
     (record { counted = c.self.invariant.0; invariant = c.self.invariant.1; untouched = c.stage.ensures.untouched; place = place }) in
-    let laid = subst (λ (s : Held g.row.D.Denot). d.tells → Laid s.shape x.half x.generation x.other_shut (s.frames ++ c.args.frame ∷ []) true (d.seen c.write_gated.new.disk)
+    let laid = subst (λ (s : Held g.row.D.Denot). d.tells → Laid s.shape x.half x.generation x.other_shut (s.frames ++ c.args.frame ∷ []) true
+    (d.seen c.write_gated.new.disk)
     × (length (d.seen c.write_gated.new.disk) ≡ max s.size (p + 1 + length c.deref.result.now))) (sym c.self.view_is)
     (append_laid d.tells d.seen d.may_leave d.moment d.left_since c.args.self.now x.half x.generation x.other_shut x.used c.stage.new.disk c.write_gated.new.disk p c.args.frame c.deref.result.now
     ready c.requires.fits line_is c.requires.runs c.in-Ok.ensures.written) in
-    let counted = subst (λ (s : Held g.row.D.Denot). IsCounted s.shape (s.frames ++ c.args.frame ∷ []) (x.used + length c.deref.result.now)) (sym c.self.view_is)
+    let counted = subst (λ (s : Held g.row.D.Denot). IsCounted s.shape (s.frames ++ c.args.frame ∷ []) (x.used + length c.deref.result.now))
+    (sym c.self.view_is)
     (append_counted d.tells d.seen d.may_leave d.moment d.left_since c.args.self.now x.half x.generation x.other_shut x.used c.stage.new.disk c.write_gated.new.disk p c.args.frame c.deref.result.now
     ready c.requires.fits line_is) in
     let used : x.used + length c.deref.result.now ≡ x.used + c.len-bytes.result = omega (arith, bytes) in (
@@ -84,4 +88,8 @@ pub returns-in-Ok-clause-read : goal.returns-in-Ok-clause-read
 returns-in-Ok-clause-read g c = λ told runs.
     let x = c.self.inside in
     let now = (invariant_of-self-in-Ok g c).1 told runs in
-    record { opens = laid_opens x.shape x.half x.generation x.other_shut c.push.new.self.items true (g.D.Disk.seen c.write_gated.new.disk) now.0; size = now.1 }
+    record {
+      opens = laid_opens x.shape x.half x.generation x.other_shut c.push.new.self.items true
+          (g.D.Disk.seen c.write_gated.new.disk) now.0;
+      size = now.1;
+    }

@@ -16,8 +16,10 @@ pub returns-in_err-stage_list-clause-any_moment : goal.returns-in_err-stage_list
 returns-in_err-stage_list-clause-any_moment g c =
     let x = c.self.inside in
     let d = g.D.Disk in
-    subst (λ (s : Held g.row.D.Denot). Moments d.tells d.seen d.may_leave d.moment d.left_since (λ old. c.args.frames.items) None c.stage_list.new.disk s) c.self.view_is
-    (moments_untouched d.tells d.seen d.may_leave d.moment d.left_since g.met.D.Disk.only_now _ x.half x.generation x.other_shut (λ old. c.args.frames.items) None c.stage_list.new.disk c.self.invariant.1 c.stage_list.ensures.untouched)
+    subst (λ (s : Held g.row.D.Denot). Moments d.tells d.seen d.may_leave d.moment d.left_since
+    (λ old. c.args.frames.items) None c.stage_list.new.disk s) c.self.view_is
+    (moments_untouched d.tells d.seen d.may_leave d.moment d.left_since g.met.D.Disk.only_now _ x.half x.generation x.other_shut
+    (λ old. c.args.frames.items) None c.stage_list.new.disk c.self.invariant.1 c.stage_list.ensures.untouched)
 
 pub returns-in-Err-clause-any_moment : goal.returns-in-Err-clause-any_moment
 returns-in-Err-clause-any_moment g c =
@@ -34,8 +36,10 @@ returns-in-Err-clause-any_moment g c =
     let untouched = subst (λ (s : Held g.row.D.Denot). IsUntouched d.seen d.may_leave d.moment d.left_since s.disk mid) c.self.view_is c.stage_list.ensures.untouched in
     let small : x.generation < 2 ^ 64 = omega arith in
     let gate_is : gate ≡ header_at (other x.half) = c.header_at-gate.ensures ∙ ap header_at c.other-other.ensures in
-    let at_is : at ≡ half_at c.args.self.now.shape (other x.half) = c.half_at-at.ensures ∙ ap (half_at x.shape) c.other-other.ensures ∙ ap (λ (s : Held g.row.D.Denot). half_at s.shape (other x.half)) c.self.view_is in
-    let rest_is : c.header_rest-rest.result ≡ header_rest c.args.self.now.shape (next_of x.generation) = c.header_rest-rest.ensures ∙ ap (λ (s : Held g.row.D.Denot). header_rest s.shape (next_of x.generation)) c.self.view_is in
+    let at_is : at ≡ half_at c.args.self.now.shape (other x.half) = c.half_at-at.ensures ∙ ap (half_at x.shape) c.other-other.ensures
+    ∙ ap (λ (s : Held g.row.D.Denot). half_at s.shape (other x.half)) c.self.view_is in
+    let rest_is : c.header_rest-rest.result ≡ header_rest c.args.self.now.shape (next_of x.generation) = c.header_rest-rest.ensures
+    ∙ ap (λ (s : Held g.row.D.Denot). header_rest s.shape (next_of x.generation)) c.self.view_is in
     let line_is : line ≡ closed_list fs = c.deref-2.ensures.value ∙ c.in_ok-stage_list.ensures.line ∙ ap closed_list c.deref.ensures.value in
     rewrite_moments d.tells d.seen d.may_leave d.moment d.left_since c.args.self.now x.half x.generation x.other_shut x.used mid new fs gate at c.closing-shut.result.now c.header_rest-rest.result line counted inv untouched c.requires.fits small gate_is at_is c.closing-shut.ensures rest_is line_is g.met.D.Disk.only_now c.rewrite_gated.ensures.moments
 
@@ -54,8 +58,10 @@ returns-in-Ok-clause-any_moment g c =
     let untouched = subst (λ (s : Held g.row.D.Denot). IsUntouched d.seen d.may_leave d.moment d.left_since s.disk mid) c.self.view_is c.stage_list.ensures.untouched in
     let small : x.generation < 2 ^ 64 = omega arith in
     let gate_is : gate ≡ header_at (other x.half) = c.header_at-gate.ensures ∙ ap header_at c.other-other.ensures in
-    let at_is : at ≡ half_at c.args.self.now.shape (other x.half) = c.half_at-at.ensures ∙ ap (half_at x.shape) c.other-other.ensures ∙ ap (λ (s : Held g.row.D.Denot). half_at s.shape (other x.half)) c.self.view_is in
-    let rest_is : c.header_rest-rest.result ≡ header_rest c.args.self.now.shape (next_of x.generation) = c.header_rest-rest.ensures ∙ ap (λ (s : Held g.row.D.Denot). header_rest s.shape (next_of x.generation)) c.self.view_is in
+    let at_is : at ≡ half_at c.args.self.now.shape (other x.half) = c.half_at-at.ensures ∙ ap (half_at x.shape) c.other-other.ensures
+    ∙ ap (λ (s : Held g.row.D.Denot). half_at s.shape (other x.half)) c.self.view_is in
+    let rest_is : c.header_rest-rest.result ≡ header_rest c.args.self.now.shape (next_of x.generation) = c.header_rest-rest.ensures
+    ∙ ap (λ (s : Held g.row.D.Denot). header_rest s.shape (next_of x.generation)) c.self.view_is in
     let line_is : line ≡ closed_list fs = c.deref-2.ensures.value ∙ c.in_ok-stage_list.ensures.line ∙ ap closed_list c.deref.ensures.value in
     rewrite_moments d.tells d.seen d.may_leave d.moment d.left_since c.args.self.now x.half x.generation x.other_shut x.used mid new fs gate at c.closing-shut.result.now c.header_rest-rest.result line counted inv untouched c.requires.fits small gate_is at_is c.closing-shut.ensures rest_is line_is g.met.D.Disk.only_now c.rewrite_gated.ensures.moments
 
@@ -74,8 +80,10 @@ returns-in-Ok-clause-after g c =
     let untouched = subst (λ (s : Held g.row.D.Denot). IsUntouched d.seen d.may_leave d.moment d.left_since s.disk mid) c.self.view_is c.stage_list.ensures.untouched in
     let small : x.generation < 2 ^ 64 = omega arith in
     let gate_is : gate ≡ header_at (other x.half) = c.header_at-gate.ensures ∙ ap header_at c.other-other.ensures in
-    let at_is : at ≡ half_at c.args.self.now.shape (other x.half) = c.half_at-at.ensures ∙ ap (half_at x.shape) c.other-other.ensures ∙ ap (λ (s : Held g.row.D.Denot). half_at s.shape (other x.half)) c.self.view_is in
-    let rest_is : c.header_rest-rest.result ≡ header_rest c.args.self.now.shape (next_of x.generation) = c.header_rest-rest.ensures ∙ ap (λ (s : Held g.row.D.Denot). header_rest s.shape (next_of x.generation)) c.self.view_is in
+    let at_is : at ≡ half_at c.args.self.now.shape (other x.half) = c.half_at-at.ensures ∙ ap (half_at x.shape) c.other-other.ensures
+    ∙ ap (λ (s : Held g.row.D.Denot). half_at s.shape (other x.half)) c.self.view_is in
+    let rest_is : c.header_rest-rest.result ≡ header_rest c.args.self.now.shape (next_of x.generation) = c.header_rest-rest.ensures
+    ∙ ap (λ (s : Held g.row.D.Denot). header_rest s.shape (next_of x.generation)) c.self.view_is in
     let line_is : line ≡ closed_list fs = c.deref-2.ensures.value ∙ c.in_ok-stage_list.ensures.line ∙ ap closed_list c.deref.ensures.value in
     let runs = subst (λ (s : Held g.row.D.Denot). s.halted ≡ false) c.self.view_is c.if-self.false in
     rewrite_done d.tells d.seen d.may_leave d.moment d.left_since c.args.self.now x.half x.generation x.other_shut x.used mid new fs gate at c.closing-shut.result.now c.header_rest-rest.result line counted inv untouched c.requires.fits small gate_is at_is c.closing-shut.ensures rest_is line_is runs c.in-Ok.ensures.written
@@ -99,18 +107,23 @@ invariant_of-self-in-Ok g c =
     let untouched = subst (λ (s : Held g.row.D.Denot). IsUntouched d.seen d.may_leave d.moment d.left_since s.disk mid) c.self.view_is c.stage_list.ensures.untouched in
     let small : x.generation < 2 ^ 64 = omega arith in
     let gate_is : gate ≡ header_at (other x.half) = c.header_at-gate.ensures ∙ ap header_at c.other-other.ensures in
-    let at_is : at ≡ half_at c.args.self.now.shape (other x.half) = c.half_at-at.ensures ∙ ap (half_at x.shape) c.other-other.ensures ∙ ap (λ (s : Held g.row.D.Denot). half_at s.shape (other x.half)) c.self.view_is in
-    let rest_is : c.header_rest-rest.result ≡ header_rest c.args.self.now.shape (next_of x.generation) = c.header_rest-rest.ensures ∙ ap (λ (s : Held g.row.D.Denot). header_rest s.shape (next_of x.generation)) c.self.view_is in
+    let at_is : at ≡ half_at c.args.self.now.shape (other x.half) = c.half_at-at.ensures ∙ ap (half_at x.shape) c.other-other.ensures
+    ∙ ap (λ (s : Held g.row.D.Denot). half_at s.shape (other x.half)) c.self.view_is in
+    let rest_is : c.header_rest-rest.result ≡ header_rest c.args.self.now.shape (next_of x.generation) = c.header_rest-rest.ensures
+    ∙ ap (λ (s : Held g.row.D.Denot). header_rest s.shape (next_of x.generation)) c.self.view_is in
     let line_is : line ≡ closed_list fs = c.deref-2.ensures.value ∙ c.in_ok-stage_list.ensures.line ∙ ap closed_list c.deref.ensures.value in
     let runs = subst (λ (s : Held g.row.D.Denot). s.halted ≡ false) c.self.view_is c.if-self.false in
-    let laid = subst (λ (s : Held g.row.D.Denot). d.tells → Laid s.shape (other x.half) (next_of x.generation) false fs true (d.seen new) × (length (d.seen new) ≡ max s.size (at + length line))) (sym c.self.view_is)
+    let laid = subst (λ (s : Held g.row.D.Denot). d.tells → Laid s.shape (other x.half) (next_of x.generation) false fs true (d.seen new)
+    × (length (d.seen new) ≡ max s.size (at + length line))) (sym c.self.view_is)
     (rewrite_laid d.tells d.seen d.may_leave d.moment d.left_since c.args.self.now x.half x.generation x.other_shut x.used mid new fs gate at c.closing-shut.result.now c.header_rest-rest.result line counted inv untouched c.requires.fits small gate_is at_is c.closing-shut.ensures rest_is line_is runs c.in-Ok.ensures.written) in
-    let counts = subst (λ (s : Held g.row.D.Denot). IsCounted s.shape fs (length line - 1)) (sym c.self.view_is) (rewrite_counted d.tells d.seen d.may_leave d.moment d.left_since c.args.self.now x.half x.generation x.other_shut x.used mid new fs gate at c.closing-shut.result.now c.header_rest-rest.result line counted inv untouched c.requires.fits small gate_is at_is c.closing-shut.ensures rest_is line_is) in
+    let counts = subst (λ (s : Held g.row.D.Denot). IsCounted s.shape fs (length line - 1)) (sym c.self.view_is)
+    (rewrite_counted d.tells d.seen d.may_leave d.moment d.left_since c.args.self.now x.half x.generation x.other_shut x.used mid new fs gate at c.closing-shut.result.now c.header_rest-rest.result line counted inv untouched c.requires.fits small gate_is at_is c.closing-shut.ensures rest_is line_is) in
     let bytes : c.len-bytes.result ≡ length line = omega arith in
     let items : c.replace.new.listed.items ≡ fs = c.replace.ensures.items in
     let size : c.max-self-inside.result ≡ max x.size (at + length line) = omega (arith, bytes, c.max-self-inside.ensures) in
     let used : length line - 1 ≡ c.len-bytes.result - 1 = omega (arith, bytes) in (
-      subst (λ (n : ℕ). IsCounted x.shape c.replace.new.listed.items n) used (subst (λ (l : List Frame). IsCounted x.shape l (length line - 1)) (sym items) counts),
+      subst (λ (n : ℕ). IsCounted x.shape c.replace.new.listed.items n) used (subst (λ (l : List Frame). IsCounted x.shape l (length line - 1))
+          (sym items) counts),
       λ told runs_now. (
         subst (λ (h : Half). Laid x.shape h (next_of x.generation) false c.replace.new.listed.items true (d.seen new)) (sym c.other-other.ensures)
             (subst (λ (l : List Frame). Laid x.shape (other x.half) (next_of x.generation) false l true (d.seen new)) (sym items) (laid told).0),
@@ -122,54 +135,91 @@ pub returns-in-Ok-clause-read : goal.returns-in-Ok-clause-read
 returns-in-Ok-clause-read g c = λ told runs.
     let x = c.self.inside in
     let now = (invariant_of-self-in-Ok g c).1 told runs in
-    record { opens = laid_opens x.shape c.other-other.result (next_of x.generation) false c.replace.new.listed.items true (g.D.Disk.seen c.rewrite_gated.new.disk) now.0; size = now.1 }
+    record {
+      opens = laid_opens x.shape c.other-other.result (next_of x.generation) false c.replace.new.listed.items true
+          (g.D.Disk.seen c.rewrite_gated.new.disk) now.0;
+      size = now.1;
+    }
 
 -- the list fits in its half, and so below the store's end
 pub rewrite_gated-requires-clause-reach : goal.rewrite_gated-requires-clause-reach
 rewrite_gated-requires-clause-reach g c =
     let x = c.self.inside in
     let fits = subst (λ (s : Held g.row.D.Denot). size_of c.args.frames.items + 1 ≤ half_size s.shape) (sym c.self.view_is) c.requires.fits in
-    let line_is : c.deref-2.result.now ≡ closed_list c.args.frames.items = c.deref-2.ensures.value ∙ c.in_ok-stage_list.ensures.line ∙ ap closed_list c.deref.ensures.value in
-    omega (arith, c.half_at-at.ensures, half_within x.shape c.other-other.result, end_small x.shape c.self.invariant.0.limits, fits, ap length line_is, length-closed_list c.args.frames.items)
+    let line_is : c.deref-2.result.now ≡ closed_list c.args.frames.items = c.deref-2.ensures.value ∙ c.in_ok-stage_list.ensures.line
+    ∙ ap closed_list c.deref.ensures.value in
+    omega (
+      arith,
+      c.half_at-at.ensures,
+      half_within x.shape c.other-other.result,
+      end_small x.shape c.self.invariant.0.limits,
+      fits,
+      ap length line_is,
+      length-closed_list c.args.frames.items,
+    )
 
 pub overflow_add-at : goal.overflow_add-at
 overflow_add-at g c =
     let x = c.self.inside in
     let fits = subst (λ (s : Held g.row.D.Denot). size_of c.args.frames.items + 1 ≤ half_size s.shape) (sym c.self.view_is) c.requires.fits in
-    let line_is : c.deref-2.result.now ≡ closed_list c.args.frames.items = c.deref-2.ensures.value ∙ c.in_ok-stage_list.ensures.line ∙ ap closed_list c.deref.ensures.value in
+    let line_is : c.deref-2.result.now ≡ closed_list c.args.frames.items = c.deref-2.ensures.value ∙ c.in_ok-stage_list.ensures.line
+    ∙ ap closed_list c.deref.ensures.value in
     let bytes : c.len-bytes.result ≡ length c.deref-2.result.now = omega arith in
-    omega (arith, bytes, c.half_at-at.ensures, half_within x.shape c.other-other.result, end_small x.shape c.self.invariant.0.limits, fits, ap length line_is, length-closed_list c.args.frames.items)
+    omega (
+      arith,
+      bytes,
+      c.half_at-at.ensures,
+      half_within x.shape c.other-other.result,
+      end_small x.shape c.self.invariant.0.limits,
+      fits,
+      ap length line_is,
+      length-closed_list c.args.frames.items,
+    )
 
 pub rewrite_gated-requires-clause-room : goal.rewrite_gated-requires-clause-room
 rewrite_gated-requires-clause-room g c =
     let x = c.self.inside in
     let fs = c.args.frames.items in
     let fits = subst (λ (s : Held g.row.D.Denot). size_of fs + 1 ≤ half_size s.shape) (sym c.self.view_is) c.requires.fits in
-    let line_is : c.deref-2.result.now ≡ closed_list fs = c.deref-2.ensures.value ∙ c.in_ok-stage_list.ensures.line ∙ ap closed_list c.deref.ensures.value in
+    let line_is : c.deref-2.result.now ≡ closed_list fs = c.deref-2.ensures.value ∙ c.in_ok-stage_list.ensures.line
+    ∙ ap closed_list c.deref.ensures.value in
     let shut = closing_short x.other_shut in
     let rest : length c.header_rest-rest.result ≡ 31 = ap length c.header_rest-rest.ensures in
     let listed : size_of c.deref.result.now ≡ size_of fs = ap size_of c.deref.ensures.value in
     g.met.D.Disk.room_for_less c.stage_list.new.disk 7 (size_of c.deref.result.now + 34) c.end-end.result
-    7 (length c.closing-shut.result.now + (length c.header_rest-rest.result + length c.deref-2.result.now + 1)) (c.half_at-at.result + length c.deref-2.result.now)
+    7 (length c.closing-shut.result.now + (length c.header_rest-rest.result + length c.deref-2.result.now + 1))
+    (c.half_at-at.result + length c.deref-2.result.now)
     (omega arith) (omega (arith, ap length c.closing-shut.ensures, shut, rest, ap length line_is, length-closed_list fs, listed))
-    (omega (arith, c.end-end.ensures, c.half_at-at.ensures, half_within x.shape c.other-other.result, fits, ap length line_is, length-closed_list fs)) c.in_ok-stage_list.ensures.made
+    (omega (
+      arith,
+      c.end-end.ensures,
+      c.half_at-at.ensures,
+      half_within x.shape c.other-other.result,
+      fits,
+      ap length line_is,
+      length-closed_list fs,
+    )) c.in_ok-stage_list.ensures.made
 
 -- what room there was beyond the call is left
 pub returns-in-Ok-clause-left : goal.returns-in-Ok-clause-left
 returns-in-Ok-clause-left g c = λ calls bytes written listed body had.
     let x = c.self.inside in
     let fs = c.args.frames.items in
-    let before = subst (λ (s : Held g.row.D.Denot). HasRoom g.D.Disk.has_room s (calls + 7) (bytes + (size_of fs + 34)) written listed body) (sym c.self.view_is) had in
+    let before = subst (λ (s : Held g.row.D.Denot). HasRoom g.D.Disk.has_room s (calls + 7) (bytes + (size_of fs + 34)) written listed body)
+    (sym c.self.view_is) had in
     let fits = subst (λ (s : Held g.row.D.Denot). size_of fs + 1 ≤ half_size s.shape) (sym c.self.view_is) c.requires.fits in
-    let line_is : c.deref-2.result.now ≡ closed_list fs = c.deref-2.ensures.value ∙ c.in_ok-stage_list.ensures.line ∙ ap closed_list c.deref.ensures.value in
+    let line_is : c.deref-2.result.now ≡ closed_list fs = c.deref-2.ensures.value ∙ c.in_ok-stage_list.ensures.line
+    ∙ ap closed_list c.deref.ensures.value in
     let shut = closing_short x.other_shut in
     let rest : length c.header_rest-rest.result ≡ 31 = ap length c.header_rest-rest.ensures in
     let kept = c.stage_list.ensures.room (calls + 7) (bytes + (size_of fs + 34)) (store_end x.shape) before.disk in
     let less = g.met.D.Disk.room_for_less c.stage_list.new.disk (calls + 7) (bytes + (size_of fs + 34)) (store_end x.shape)
-    (calls + 7) (bytes + (length c.closing-shut.result.now + (length c.header_rest-rest.result + length c.deref-2.result.now + 1))) (store_end x.shape)
+    (calls + 7) (bytes + (length c.closing-shut.result.now + (length c.header_rest-rest.result + length c.deref-2.result.now + 1)))
+    (store_end x.shape)
     (omega arith) (omega (arith, ap length c.closing-shut.ensures, shut, rest, ap length line_is, length-closed_list fs)) (omega arith) kept in
     record {
-      disk = c.in-Ok.ensures.left calls bytes (store_end x.shape) (omega (arith, c.half_at-at.ensures, half_within x.shape c.other-other.result, fits, ap length line_is, length-closed_list fs)) less;
+      disk = c.in-Ok.ensures.left calls bytes (store_end x.shape)
+          (omega (arith, c.half_at-at.ensures, half_within x.shape c.other-other.result, fits, ap length line_is, length-closed_list fs)) less;
       line = omega (arith, before.line, c.stage_list.ensures.wide);
       listed = omega (arith, before.listed, c.stage_list.ensures.capacity, c.replace.ensures.capacity);
       spare = before.spare;

@@ -8,11 +8,14 @@ pub returns-clause-durable : goal.returns-clause-durable
 returns-clause-durable g c =
     let d = g.D.Disk in
     let x = c.self.inside in
-    subst (λ (n : Running g.row.D.Denot). d.tells → n.brick.halted ≡ false → LeavesBrick n.layout n.me (state_of n) (d.may_leave n.brick.disk)) c.self.view_is
-    (λ told runs. leaves_so x.layout x.calls.me (state_of (running x.layout x.calls x.store)) x.store (d.may_leave x.store.disk) c.self.invariant.shape_is
+    subst (λ (n : Running g.row.D.Denot). d.tells → n.brick.halted ≡ false → LeavesBrick n.layout n.me (state_of n)
+    (d.may_leave n.brick.disk)) c.self.view_is
+    (λ told runs. leaves_so x.layout x.calls.me (state_of (running x.layout x.calls x.store)) x.store
+    (d.may_leave x.store.disk) c.self.invariant.shape_is
     (kept_so x.layout x.calls x.store c.self.invariant) (c.is_halted.ensures.durable told runs))
 
 pub returns-clause-kept : goal.returns-clause-kept
 returns-clause-kept g c =
     let x = c.self.inside in
-    subst (λ (n : Running g.row.D.Denot). IsKept n.layout.block n.brick.state (state_of n)) c.self.view_is (kept_so x.layout x.calls x.store c.self.invariant)
+    subst (λ (n : Running g.row.D.Denot). IsKept n.layout.block n.brick.state (state_of n)) c.self.view_is
+    (kept_so x.layout x.calls x.store c.self.invariant)

@@ -14,5 +14,6 @@ returns-in-Reply-clause-durable g c = λ told.
     let runs : old.brick.halted ≡ false = sym c.if-is_halted.ensures.value in
     let leaves : LeavesBrick old.layout old.me (state_of new) (d.may_leave old.brick.disk) =
     λ image left. c.on_reply.ensures.shown image (c.is_halted.ensures.durable told runs image left) in
-    subst (λ (b : Brick g.row.D.Denot). OnOk c.on_reply.result (LeavesBrick old.layout old.me (state_of new) (d.may_leave b.disk))) (sym c.on_reply.ensures.brick)
+    subst (λ (b : Brick g.row.D.Denot). OnOk c.on_reply.result (LeavesBrick old.layout old.me (state_of new) (d.may_leave b.disk)))
+    (sym c.on_reply.ensures.brick)
     (on_ok c.on_reply.result leaves)

@@ -18,13 +18,15 @@ use Rattle.node.proofs.nodes.Node.on_request.Goals as goal
 pub returns-in_err-room-clause-moments : goal.returns-in_err-room-clause-moments
 returns-in_err-room-clause-moments g c = λ told.
     let d = g.D.Disk in
-    leaves_still d.moment d.left_since d.may_leave g.met.D.Disk.only_now c.args.self.now.brick.disk _ (λ image left. inl (c.requires.durable told image left))
+    leaves_still d.moment d.left_since d.may_leave g.met.D.Disk.only_now c.args.self.now.brick.disk _
+    (λ image left. inl (c.requires.durable told image left))
 
 pub returns-in_err-reply-clause-err : goal.returns-in_err-reply-clause-err
 returns-in_err-reply-clause-err g c =
     let x = c.self.inside in
     on_err _
-    (same_kept x.layout x.calls x.store c.handle.new.store c.in_err-reply.ensures.refused ∙ ap (λ (n : Running g.row.D.Denot). state_of n) c.self.view_is)
+    (same_kept x.layout x.calls x.store c.handle.new.store c.in_err-reply.ensures.refused
+    ∙ ap (λ (n : Running g.row.D.Denot). state_of n) c.self.view_is)
 
 pub returns-in_err-reply-clause-moments : goal.returns-in_err-reply-clause-moments
 returns-in_err-reply-clause-moments g c = λ told.
@@ -36,7 +38,8 @@ returns-in_err-reply-clause-moments g c = λ told.
     let request = c.args.request.now in
     let shape = c.self.invariant.shape_is in
     let runs : old.halted ≡ false = ap (λ (n : Running g.row.D.Denot). n.brick.halted) c.self.view_is ∙ c.requires.runs in
-    let moved = subst (λ (me : BrickId). LeavesOnly d.moment d.left_since old.disk new.disk (OpensAsEither old.shape old.state (IsStep x.layout me call request old.state)))
+    let moved = subst (λ (me : BrickId). LeavesOnly d.moment d.left_since old.disk new.disk
+    (OpensAsEither old.shape old.state (IsStep x.layout me call request old.state)))
     (is_me x.layout x.calls old c.args.from call request shape) (c.in_err-reply.ensures.any_moment told runs) in
     subst
     (λ (n : Running g.row.D.Denot). LeavesOnly d.moment d.left_since n.brick.disk new.disk
@@ -68,7 +71,8 @@ returns-clause-step g c =
     let is = subst (λ (me : BrickId). IsStep x.layout me call request x.store.state reply new.state)
     (is_me x.layout x.calls x.store c.args.from call request c.self.invariant.shape_is) c.in_ok-reply.ensures.ok in
     subst
-    (λ (n : Running g.row.D.Denot). StepsAs (state_of (running x.layout x.calls new)) (requested (coding n.layout) n.me c.args.from (state_of n) call request) (record { packets = c.reply_packets.result; told = Nothing }))
+    (λ (n : Running g.row.D.Denot). StepsAs (state_of (running x.layout x.calls new))
+    (requested (coding n.layout) n.me c.args.from (state_of n) call request) (record { packets = c.reply_packets.result; told = Nothing }))
     c.self.view_is
     (record {
       packets = c.reply_packets.ensures.items ∙ ap (λ (me : BrickId). reply_packets me c.args.from call reply) c.me.ensures
@@ -97,7 +101,8 @@ returns-clause-moments g c = λ told.
     let request = c.args.request.now in
     let shape = c.self.invariant.shape_is in
     let runs : old.halted ≡ false = ap (λ (n : Running g.row.D.Denot). n.brick.halted) c.self.view_is ∙ c.requires.runs in
-    let moved = subst (λ (me : BrickId). LeavesOnly d.moment d.left_since old.disk new.disk (OpensAsEither old.shape old.state (IsStep x.layout me call request old.state)))
+    let moved = subst (λ (me : BrickId). LeavesOnly d.moment d.left_since old.disk new.disk
+    (OpensAsEither old.shape old.state (IsStep x.layout me call request old.state)))
     (is_me x.layout x.calls old c.args.from call request shape) (c.in_ok-reply.ensures.any_moment told runs) in
     subst
     (λ (n : Running g.row.D.Denot). LeavesOnly d.moment d.left_since n.brick.disk new.disk

@@ -20,11 +20,13 @@ returns-in-Err-clause-moments_err g c = λ told before shows.
     let disk = c.args.disk in
     let layout = c.args.layout in
     let me = c.args.me in
-    let same : shape_of me.0 c.block.result c.records.result ≡ shape_at layout me = λ i. shape_of me.0 (c.block.ensures i) (c.records.ensures.value i) in
+    let same : shape_of me.0 c.block.result c.records.result ≡ shape_at layout me = λ i. shape_of me.0 (c.block.ensures i)
+    (c.records.ensures.value i) in
     let last = c.in-Err.refused.1 in
     opening_shows layout me before (d.seen disk) shows d.moment d.left_since (d.may_leave disk) disk last
     (subst
-    (λ (s : Shape). (st : StateOf Version) → StandsFor s st (d.seen disk) → LeavesOnly d.moment d.left_since disk last (IsAllowedOr (d.may_leave disk) (StandsForEither s st (booted (st.boot + 1) st))))
+    (λ (s : Shape). (st : StateOf Version) → StandsFor s st (d.seen disk) → LeavesOnly d.moment d.left_since disk last
+    (IsAllowedOr (d.may_leave disk) (StandsForEither s st (booted (st.boot + 1) st))))
     same (c.in-Err.ensures.moments_err told) shows.st shows.stands)
 
 pub returns-in-Err-clause-any_moment_err : goal.returns-in-Err-clause-any_moment_err
@@ -34,7 +36,8 @@ returns-in-Err-clause-any_moment_err g c = λ told before all.
     let layout = c.args.layout in
     let me = c.args.me in
     let shows = all (d.seen disk) (g.met.D.Disk.seen_is_left disk) in
-    all_shown d.moment d.left_since layout me before (reopened before) (d.may_leave disk) disk c.in-Err.refused.1 all (returns-in-Err-clause-moments_err g c told before shows)
+    all_shown d.moment d.left_since layout me before (reopened before) (d.may_leave disk) disk c.in-Err.refused.1 all
+    (returns-in-Err-clause-moments_err g c told before shows)
 
 pub returns-then-not-is_first_view-clause-moments_err : goal.returns-then-not-is_first_view-clause-moments_err
 returns-then-not-is_first_view-clause-moments_err g c = λ told before shows.
@@ -42,15 +45,19 @@ returns-then-not-is_first_view-clause-moments_err g c = λ told before shows.
     let disk = c.args.disk in
     let layout = c.args.layout in
     let me = c.args.me in
-    let same : shape_of me.0 c.block.result c.records.result ≡ shape_at layout me = λ i. shape_of me.0 (c.block.ensures i) (c.records.ensures.value i) in
+    let same : shape_of me.0 c.block.result c.records.result ≡ shape_at layout me = λ i. shape_of me.0 (c.block.ensures i)
+    (c.records.ensures.value i) in
     let last = c.into_disk.result in
     let moments =
     subst
-    (λ (end : g.row.D.Denot). (st : StateOf Version) → StandsFor (shape_of me.0 c.block.result c.records.result) st (d.seen disk) → LeavesOnly d.moment d.left_since disk end (IsAllowedOr (d.may_leave disk) (StandsForEither (shape_of me.0 c.block.result c.records.result) st (booted (st.boot + 1) st))))
+    (λ (end : g.row.D.Denot). (st : StateOf Version) → StandsFor (shape_of me.0 c.block.result c.records.result) st (d.seen disk)
+    → LeavesOnly d.moment d.left_since disk end (IsAllowedOr (d.may_leave disk)
+    (StandsForEither (shape_of me.0 c.block.result c.records.result) st (booted (st.boot + 1) st))))
     (sym c.into_disk.ensures.disk) (c.in-Ok.ensures.moments told) in
     opening_shows layout me before (d.seen disk) shows d.moment d.left_since (d.may_leave disk) disk last
     (subst
-    (λ (s : Shape). (st : StateOf Version) → StandsFor s st (d.seen disk) → LeavesOnly d.moment d.left_since disk last (IsAllowedOr (d.may_leave disk) (StandsForEither s st (booted (st.boot + 1) st))))
+    (λ (s : Shape). (st : StateOf Version) → StandsFor s st (d.seen disk) → LeavesOnly d.moment d.left_since disk last
+    (IsAllowedOr (d.may_leave disk) (StandsForEither s st (booted (st.boot + 1) st))))
     same (moments) shows.st shows.stands)
 
 pub returns-then-not-is_first_view-clause-any_moment_err : goal.returns-then-not-is_first_view-clause-any_moment_err
@@ -60,7 +67,8 @@ returns-then-not-is_first_view-clause-any_moment_err g c = λ told before all.
     let layout = c.args.layout in
     let me = c.args.me in
     let shows = all (d.seen disk) (g.met.D.Disk.seen_is_left disk) in
-    all_shown d.moment d.left_since layout me before (reopened before) (d.may_leave disk) disk c.into_disk.result all (returns-then-not-is_first_view-clause-moments_err g c told before shows)
+    all_shown d.moment d.left_since layout me before (reopened before) (d.may_leave disk) disk c.into_disk.result all
+    (returns-then-not-is_first_view-clause-moments_err g c told before shows)
 
 pub returns-then-not-is_first_view-clause-not_a_store : goal.returns-then-not-is_first_view-clause-not_a_store
 returns-then-not-is_first_view-clause-not_a_store g c = λ is told.
@@ -68,7 +76,8 @@ returns-then-not-is_first_view-clause-not_a_store g c = λ is told.
     let disk = c.args.disk in
     let layout = c.args.layout in
     let me = c.args.me in
-    let same : shape_of me.0 c.block.result c.records.result ≡ shape_at layout me = λ i. shape_of me.0 (c.block.ensures i) (c.records.ensures.value i) in
+    let same : shape_of me.0 c.block.result c.records.result ≡ shape_at layout me = λ i. shape_of me.0 (c.block.ensures i)
+    (c.records.ensures.value i) in
     let found = c.in-Ok.ensures.found told in
     inr (
       found.0,
@@ -80,7 +89,8 @@ pub invariant_of-result : goal.invariant_of-result
 invariant_of-result g c =
     let layout = c.args.layout in
     let me = c.args.me in
-    let same : shape_of me.0 c.block.result c.records.result ≡ shape_at layout me = λ i. shape_of me.0 (c.block.ensures i) (c.records.ensures.value i) in
+    let same : shape_of me.0 c.block.result c.records.result ≡ shape_at layout me = λ i. shape_of me.0 (c.block.ensures i)
+    (c.records.ensures.value i) in
     record {
       shape_is = c.in-Ok.ensures.shape ∙ same ∙ ap (λ (brick : BrickId). shape_at layout brick) (sym c.new-calls.ensures.me);
       boot = c.new-calls.ensures.boot ∙ c.boot.ensures;
@@ -94,10 +104,12 @@ returns-clause-state g c = λ told before shows.
     let disk = c.args.disk in
     let layout = c.args.layout in
     let me = c.args.me in
-    let same : shape_of me.0 c.block.result c.records.result ≡ shape_at layout me = λ i. shape_of me.0 (c.block.ensures i) (c.records.ensures.value i) in
+    let same : shape_of me.0 c.block.result c.records.result ≡ shape_at layout me = λ i. shape_of me.0 (c.block.ensures i)
+    (c.records.ensures.value i) in
     let store = c.in-Ok.store in
     let opened =
-    subst (λ (s : Shape). (st : StateOf Version) → StandsFor s st (d.seen disk) → store.state ≡ booted (st.boot + 1) st) same (c.in-Ok.ensures.state told)
+    subst (λ (s : Shape). (st : StateOf Version) → StandsFor s st (d.seen disk) → store.state ≡ booted (st.boot + 1) st) same
+    (c.in-Ok.ensures.state told)
     shows.st shows.stands in
     restarts_so layout me c.new-calls.result store c.boot.result before (d.seen disk) (c.new-calls.ensures.boot ∙ c.boot.ensures) c.boot.ensures
     c.new-calls.ensures.state shows opened
@@ -108,7 +120,8 @@ returns-clause-durable g c = λ told.
     let disk = c.args.disk in
     let layout = c.args.layout in
     let me = c.args.me in
-    let same : shape_of me.0 c.block.result c.records.result ≡ shape_at layout me = λ i. shape_of me.0 (c.block.ensures i) (c.records.ensures.value i) in
+    let same : shape_of me.0 c.block.result c.records.result ≡ shape_at layout me = λ i. shape_of me.0 (c.block.ensures i)
+    (c.records.ensures.value i) in
     let store = c.in-Ok.store in
     leaves_so layout me (state_of (running layout c.new-calls.result store)) store (d.may_leave store.disk) (c.in-Ok.ensures.shape ∙ same)
     (kept_so layout c.new-calls.result store (invariant_of-result g c)) (c.in-Ok.ensures.durable told)
@@ -123,11 +136,13 @@ returns-clause-moments g c = λ told before shows.
     let disk = c.args.disk in
     let layout = c.args.layout in
     let me = c.args.me in
-    let same : shape_of me.0 c.block.result c.records.result ≡ shape_at layout me = λ i. shape_of me.0 (c.block.ensures i) (c.records.ensures.value i) in
+    let same : shape_of me.0 c.block.result c.records.result ≡ shape_at layout me = λ i. shape_of me.0 (c.block.ensures i)
+    (c.records.ensures.value i) in
     let last = c.in-Ok.store.disk in
     opening_shows layout me before (d.seen disk) shows d.moment d.left_since (d.may_leave disk) disk last
     (subst
-    (λ (s : Shape). (st : StateOf Version) → StandsFor s st (d.seen disk) → LeavesOnly d.moment d.left_since disk last (IsAllowedOr (d.may_leave disk) (StandsForEither s st (booted (st.boot + 1) st))))
+    (λ (s : Shape). (st : StateOf Version) → StandsFor s st (d.seen disk) → LeavesOnly d.moment d.left_since disk last
+    (IsAllowedOr (d.may_leave disk) (StandsForEither s st (booted (st.boot + 1) st))))
     same (c.in-Ok.ensures.moments told) shows.st shows.stands)
 
 pub returns-clause-any_moment : goal.returns-clause-any_moment
@@ -137,4 +152,5 @@ returns-clause-any_moment g c = λ told before all.
     let layout = c.args.layout in
     let me = c.args.me in
     let shows = all (d.seen disk) (g.met.D.Disk.seen_is_left disk) in
-    all_shown d.moment d.left_since layout me before (reopened before) (d.may_leave disk) disk c.in-Ok.store.disk all (returns-clause-moments g c told before shows)
+    all_shown d.moment d.left_since layout me before (reopened before) (d.may_leave disk) disk c.in-Ok.store.disk all
+    (returns-clause-moments g c told before shows)

@@ -24,7 +24,11 @@ returns-in_err-insert-clause-err c =
     let m = c.args.self.now.operations in
     let n = c.insert.new.self in
     let entries = c.in_err-insert.ensures.err in
-    let same : (parts : Parts) → record (state_with parts c.args.self.now) { busy = btree_map_len n; calls = λ k. option_map coordinator_of (get nat_cmp n k) } ≡ state_with parts c.args.self.now =
+    let same : (parts : Parts) → record (state_with parts c.args.self.now) {
+      busy = btree_map_len n;
+      calls = λ k. option_map coordinator_of
+          (get nat_cmp n k);
+    } ≡ state_with parts c.args.self.now =
     λ parts. same_states _ _ refl refl refl (ap length entries) refl (λ g s. refl) (λ k. ap (option_map coordinator_of) (same_calls m n entries k)) in
     on_err _ same
 
@@ -79,5 +83,6 @@ returns-clause-node c =
     let seq = c.args.self.now.seq + 1 in
     let at : IsAt layout seq operation =
     record { seq = ap (λ (op : phased.Operation). op.state.call.seq) c.in_ok-operation.ensures.operation; is_operation = c.in_ok-operation.ensures.kept } in
-    each_after (λ k (op : Operation). IsAt layout k op) c.args.self.now.operations c.insert.new.self seq (Some operation) c.in_ok-insert.ensures.updates.0 c.requires.node
+    each_after (λ k (op : Operation). IsAt layout k op) c.args.self.now.operations c.insert.new.self seq
+    (Some operation) c.in_ok-insert.ensures.updates.0 c.requires.node
     (λ op is. let same : operation ≡ op = cc in subst (λ (o : Operation). IsAt layout seq o) same at)

@@ -15,7 +15,8 @@ returns-in-Waits-clause-node c =
 pub returns-in_ok-packets-in-Sends-clause-node : goal.returns-in_ok-packets-in-Sends-clause-node
 returns-in_ok-packets-in-Sends-clause-node c =
     λ layout before same is was.
-    let begins : IsDecisionOf layout before (Sends c.in-Sends.operation c.in-Sends.messages) = subst (λ (d : Decision). IsDecisionOf layout before d) c.in-Sends.is is in
+    let begins : IsDecisionOf layout before (Sends c.in-Sends.operation c.in-Sends.messages) = subst
+    (λ (d : Decision). IsDecisionOf layout before d) c.in-Sends.is is in
     c.put_back-in-Sends.ensures.node layout was
     (record { seq = begins.goes_on.seq ∙ ap (λ (call : Call). call.seq) same; is_operation = begins.goes_on.is_operation })
 

@@ -50,16 +50,19 @@ returns-clause-step c = λ parts.
     let its = at.is_operation.of_layout in
     let asked : (c.call-last.result).group ≡ k.ask.group =
     ap (λ (last : Call). last.group) c.call-last.ensures ∙ ap (λ (last : Call). last.group) its.call in
-    let found : group_of layout k.ask.group.0 ≡ Some group = ap (λ (g : GroupId). group_of layout g.0) (sym asked) ∙ sym c.in-Some-group.ensures.found in
+    let found : group_of layout k.ask.group.0 ≡ Some group = ap (λ (g : GroupId). group_of layout g.0) (sym asked)
+    ∙ sym c.in-Some-group.ensures.found in
     let both : Some (shown_of op).group ≡ Some group = sym its.group ∙ found in
     let same_group : (shown_of op).group ≡ group = cc in
     let known = known_after before.known reply in
     let fresh = fresh_stamp me c.args.now before.boot known in
     let new : c.fresh_stamp-fresh.result ≡ fresh =
     c.fresh_stamp-fresh.ensures ∙ ap (fresh_stamp me c.args.now before.boot) c.known_after-known.ensures in
-    let decided : machine_next c.in_ok-decision.decision ≡ or_waits k (machine.on_reply layout.block (block_code layout.block) group fresh k from call reply) =
+    let decided : machine_next c.in_ok-decision.decision ≡ or_waits k
+    (machine.on_reply layout.block (block_code layout.block) group fresh k from call reply) =
     c.in_ok-decision.ensures.decided
-    ∙ ap (λ (o : Operation). or_waits (coordinator_of o) (decided_on c.fresh_stamp-fresh.result (shown_of o) from c.args.packet.now.message)) c.in_ok-copy.ensures
+    ∙ ap (λ (o : Operation). or_waits (coordinator_of o)
+    (decided_on c.fresh_stamp-fresh.result (shown_of o) from c.args.packet.now.message)) c.in_ok-copy.ensures
     ∙ ap (λ (m : Message). or_waits k (decided_on c.fresh_stamp-fresh.result (shown_of op) from m)) c.requires.reply
     ∙ ap (λ (f : Option Stamp). or_waits k (decided_on f (shown_of op) from (message.Reply call reply))) new
     ∙ ap (λ (b : ℕ). or_waits k (machine.on_reply b (block_code b) (shown_of op).group fresh k from call reply)) its.block
@@ -72,7 +75,8 @@ returns-clause-step c = λ parts.
     ∙ ap (carried_out (coding layout) group me before known k) (sym decided)
     ∙ ap (λ (t : ℕ). carried_out (coding layout) group me before t k (machine_next c.in_ok-decision.decision)) (sym c.known_after-known.ensures) in
     IfOk-weaker c.carry_out.result
-    (StepsAs (state_with parts c.carry_out.new.self) (carried_out (coding layout) group me before c.known_after-known.result k (machine_next c.in_ok-decision.decision))) _
+    (StepsAs (state_with parts c.carry_out.new.self) (carried_out (coding layout) group me before c.known_after-known.result k
+    (machine_next c.in_ok-decision.decision))) _
     (λ (outs : Outs). steps_as _ _ _ outs is)
     (c.carry_out.ensures.step parts layout op (sym c.call-last.ensures) same_group kept)
 

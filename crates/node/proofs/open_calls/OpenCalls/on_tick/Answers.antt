@@ -21,7 +21,8 @@ loop-operation-init c =
     let layout = c.args.layout.now in
     let node = c.args.self.now in
     let sends = λ (op : Operation). resent (coding layout) node.me (Some (coordinator_of op)) in
-    let left : c.into_iter-operation-iterator.result ≡ values node.operations = c.into_iter-operation-iterator.ensures.into_iter_gives ∙ c.values-operation-items.ensures.rest in
+    let left : c.into_iter-operation-iterator.result ≡ values node.operations = c.into_iter-operation-iterator.ensures.into_iter_gives
+    ∙ c.values-operation-items.ensures.rest in
     let within : IsWithin node.operations node.seq = record { ordered = c.values-operation-items.ensures.ordered; none = node.from_one; fresh = node.fresh } in
     let each : AllByRecursion (λ (op : Operation). IsOperationOf layout op) (values node.operations) =
     all_values (λ (op : Operation). IsOperationOf layout op) node.operations node.seq within (λ k op is. (c.requires k op is).is_operation) in

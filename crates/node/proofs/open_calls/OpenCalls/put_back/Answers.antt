@@ -19,6 +19,7 @@ pub returns-in-Some-clause-node : goal.returns-in-Some-clause-node
 returns-in-Some-clause-node c =
     let m = c.args.self.now.operations in
     let written = c.get_mut.follows.holds c.args.operation in
-    λ layout was at. each_after (λ k (operation : Operation). IsAt layout k operation) m (c.get_mut.follows.lender c.args.operation) c.args.seq (Some c.args.operation)
+    λ layout was at. each_after (λ k (operation : Operation). IsAt layout k operation) m (c.get_mut.follows.lender c.args.operation) c.args.seq
+    (Some c.args.operation)
     (written.3 (search rules)).0 was
     (λ operation is. let same : c.args.operation ≡ operation = cc in subst (λ (o : Operation). IsAt layout c.args.seq o) same at)

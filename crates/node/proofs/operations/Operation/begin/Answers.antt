@@ -18,7 +18,8 @@ sends c =
     let sent : c.messages_in.result.items ≡ phase_messages c.in_ok-op.op =
     subst (λ (next : Next). decisions.SendsPhase c.in_ok-op.op next) c.messages_in.ensures c.in_ok-op.ensures.sent in
     λ me. ap (packets_from me) sent
-    ∙ phase_sent c.args.layout.now c.in_ok-op.op me (ap (λ (op : phased.Operation). op.block) c.in_ok-op.ensures.op) (ap (λ (op : phased.Operation). op.state.counted) c.in_ok-op.ensures.op)
+    ∙ phase_sent c.args.layout.now c.in_ok-op.op me (ap (λ (op : phased.Operation). op.block) c.in_ok-op.ensures.op)
+    (ap (λ (op : phased.Operation). op.state.counted) c.in_ok-op.ensures.op)
 
 pub returns-clause-sends : goal.returns-clause-sends
 returns-clause-sends c = sends c

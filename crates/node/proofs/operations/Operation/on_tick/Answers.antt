@@ -16,7 +16,8 @@ returns-in_ok-on_tick-in-Stripe-clause-few c =
     let sent : c.messages_in.result.items ≡ phase_messages op =
     subst (λ (next : Next). SendsPhase op next) c.messages_in.ensures c.in_ok-on_tick-in-Stripe.ensures.sent in
     let group : op.group ≡ c.args.group.now =
-    ap (λ (op : phased.Operation). op.group) c.in_ok-op-in-Stripe.ensures ∙ ap (λ (op : Operation). (shown_of op).group) (sym c.in-Stripe.is) ∙ c.requires in
+    ap (λ (op : phased.Operation). op.group) c.in_ok-op-in-Stripe.ensures ∙ ap (λ (op : Operation). (shown_of op).group) (sym c.in-Stripe.is)
+    ∙ c.requires in
     let same = ap (λ (group : Group). length group.members) group in
     let few = few_again op c.messages_in.result.items sent (omega (arith, c.policy.ensures.limits.few_seats)) in
     omega arith
@@ -27,7 +28,8 @@ returns-in_ok-on_tick-in-Recovery-clause-few c =
     let sent : c.messages_in-in-Recovery.result.items ≡ phase_messages op =
     subst (λ (next : Next). SendsPhase op next) c.messages_in-in-Recovery.ensures c.in_ok-on_tick-in-Recovery.ensures.sent in
     let group : op.group ≡ c.args.group.now =
-    ap (λ (op : phased.Operation). op.group) c.in_ok-op-in-Recovery.ensures ∙ ap (λ (op : Operation). (shown_of op).group) (sym c.in-Recovery.is) ∙ c.requires in
+    ap (λ (op : phased.Operation). op.group) c.in_ok-op-in-Recovery.ensures ∙ ap (λ (op : Operation). (shown_of op).group) (sym c.in-Recovery.is)
+    ∙ c.requires in
     let same = ap (λ (group : Group). length group.members) group in
     let few = few_again op c.messages_in-in-Recovery.result.items sent (omega (arith, c.policy.ensures.limits.few_seats)) in
     omega arith

@@ -12,6 +12,7 @@ returns c =
     let votes = c.args.self.now in
     let same = c.replies.ensures.value in
     let size : length votes.seats ≡ votes.n = ap length (sym same) ∙ c.replies.ensures.len in
-    let many : c.counted_seats.result ≡ count votes.n (counted votes) = c.counted_seats.ensures ∙ ap (count_by is_counted) same ∙ count_of_seats is_counted votes size in
+    let many : c.counted_seats.result ≡ count votes.n (counted votes) = c.counted_seats.ensures ∙ ap (count_by is_counted) same
+    ∙ count_of_seats is_counted votes size in
     let quorum : c.from.result ≡ votes.q = c.from.ensures ∙ ap (λ (tally : Votes). tally.q) c.self.view_is in
     (λ is. sym many ∙ eqb-true _ _ is ∙ quorum, λ enough. eq-eqb _ _ (many ∙ enough ∙ sym quorum))

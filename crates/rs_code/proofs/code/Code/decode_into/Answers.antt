@@ -19,7 +19,8 @@ loop-i-init c t h =
 pub weight_among-requires-clause-distinct : goal.weight_among-requires-clause-distinct
 weight_among-requires-clause-distinct c =
     let few : c.args.self.now.n ≤ 256 = omega (arith, c.args.self.now.few_blocks) in
-    subst (λ m. AreDistinct m (λ i. get_or c.args.seats.now i 0)) (sym c.requires.seats.count) (seats_AreDistinct c.args.self.now.m c.args.self.now.n c.args.seats.now few c.requires.seats)
+    subst (λ m. AreDistinct m (λ i. get_or c.args.seats.now i 0)) (sym c.requires.seats.count)
+    (seats_AreDistinct c.args.self.now.m c.args.self.now.n c.args.seats.now few c.requires.seats)
 
 pub loop-i-preserved : goal.loop-i-preserved
 loop-i-preserved c t h =

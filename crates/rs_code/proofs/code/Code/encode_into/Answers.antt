@@ -57,7 +57,8 @@ pub returns-then-k-self-clause-formula : goal.returns-then-k-self-clause-formula
 returns-then-k-self-clause-formula c =
     let few : c.args.self.now.m ≤ 256 = omega (arith, c.args.self.now.few_data) in
     let small : HoldsBytes c.args.stripe.now = λ n. omega (arith, c.type_inv.stripe n) in
-    c.copy_block.ensures ∙ sym (coded_block-data c.args.self.now.m (length c.args.into.now) c.args.stripe.now c.args.k few small c.requires.size c.if-k-self.true)
+    c.copy_block.ensures ∙ sym (coded_block-data c.args.self.now.m
+    (length c.args.into.now) c.args.stripe.now c.args.k few small c.requires.size c.if-k-self.true)
 
 pub returns-then-k-self-clause-coded : goal.returns-then-k-self-clause-coded
 returns-then-k-self-clause-coded c =

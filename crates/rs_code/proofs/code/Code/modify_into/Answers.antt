@@ -9,4 +9,5 @@ returns-clause-coded c old new changes coded =
     let few : c.args.self.now.m ≤ 256 = omega (arith, c.args.self.now.few_data) in
     let small : HoldsBytes c.args.delta.now = λ n. omega (arith, c.type_inv.delta n) in
     IsCodedBlock-changed c.args.self.now.m (length c.args.block.now) c.args.j c.args.k c.args.delta.now old new c.args.block.now c.mul_add.new.dst few c.requires.changed small changes
-    c.mul_add.ensures.long (λ t h. c.mul_add.ensures.each t h ∙ ap (λ w. bit_xor (get_or c.args.block.now t 0) (field_mul w (get_or c.args.delta.now t 0))) c.weight.ensures.formula) coded
+    c.mul_add.ensures.long (λ t h. c.mul_add.ensures.each t h
+    ∙ ap (λ w. bit_xor (get_or c.args.block.now t 0) (field_mul w (get_or c.args.delta.now t 0))) c.weight.ensures.formula) coded

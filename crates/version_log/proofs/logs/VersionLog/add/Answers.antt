@@ -14,6 +14,8 @@ invariant_of-self-2 c =
     let log = map version_of c.self.inside.entries.items in
     let v = version c.args.stamp c.in_ok-block.block.value in
     let above : ForSome (newest log) (λ (top : Version). IsTrue (stamp_below top.stamp c.args.stamp))
-    = subst (λ (old : List Version). ForSome (newest old) (λ (top : Version). IsTrue (stamp_below top.stamp c.args.stamp))) (sym c.self.view_is) c.requires.above in
-    let items : map version_of c.push.new.self.items ≡ log ++ v ∷ [] = ap (map version_of) c.in_ok-push.ensures.items ∙ map_push version_of c.self.inside.entries.items _ in
+    = subst (λ (old : List Version). ForSome (newest old) (λ (top : Version). IsTrue (stamp_below top.stamp c.args.stamp)))
+    (sym c.self.view_is) c.requires.above in
+    let items : map version_of c.push.new.self.items ≡ log ++ v ∷ [] = ap (map version_of) c.in_ok-push.ensures.items
+    ∙ map_push version_of c.self.inside.entries.items _ in
     subst (λ (new : List Version). IsRising new) (sym items) (IsRising-push log v c.self.invariant above)

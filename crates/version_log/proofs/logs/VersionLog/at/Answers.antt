@@ -13,12 +13,14 @@ pub returns-in_err-entry : goal.returns-in_err-entry
 unfolding stamp_same
 returns-in_err-entry c =
     let entries = c.self.inside.entries.items in
-    let found = find_from_yields_List (λ (e : Entry). has_stamp c.args.stamp (version_of e)) _ _ c.find.result c.find.ensures.ran (YieldsList-from_slice entries cc) (λ x b q k. search (rules, tests)) in
+    let found = find_from_yields_List (λ (e : Entry). has_stamp c.args.stamp (version_of e)) _ _ c.find.result c.find.ensures.ran
+    (YieldsList-from_slice entries cc) (λ x b q k. search (rules, tests)) in
     rw (c.from_residual.ensures, ← c.self.view_is, find-map version_of (has_stamp c.args.stamp) entries, ← found, c.in_err-entry.was) refl
 
 pub returns : goal.returns
 unfolding stamp_same
 returns c =
     let entries = c.self.inside.entries.items in
-    let found = find_from_yields_List (λ (e : Entry). has_stamp c.args.stamp (version_of e)) _ _ c.find.result c.find.ensures.ran (YieldsList-from_slice entries cc) (λ x b q k. search (rules, tests)) in
+    let found = find_from_yields_List (λ (e : Entry). has_stamp c.args.stamp (version_of e)) _ _ c.find.result c.find.ensures.ran
+    (YieldsList-from_slice entries cc) (λ x b q k. search (rules, tests)) in
     rw (← c.self.view_is, find-map version_of (has_stamp c.args.stamp) entries, ← found, c.in_ok-entry.was, c.as_ref.ensures) refl

@@ -11,11 +11,29 @@ use Rattle.version_log.proofs.logs.VersionLog.below.Goals as goal
 pub returns-in_err-entry : goal.returns-in_err-entry
 returns-in_err-entry c =
     let entries = c.self.inside.entries.items in
-    let found = find_from_yields_List (λ (e : Entry). is_below c.args.bound (version_of e)) _ _ c.find.result c.find.ensures.ran (YieldsList-from_rev_slice entries cc) (λ x b q k. search (rules, tests)) in
-    rw (c.from_residual.ensures, ← c.self.view_is, filter-map version_of (is_below c.args.bound) entries, last-map version_of, ← find_from_end, ← found, c.in_err-entry.was) refl
+    let found = find_from_yields_List (λ (e : Entry). is_below c.args.bound (version_of e)) _ _ c.find.result c.find.ensures.ran
+    (YieldsList-from_rev_slice entries cc) (λ x b q k. search (rules, tests)) in
+    rw (
+      c.from_residual.ensures,
+      ← c.self.view_is,
+      filter-map version_of (is_below c.args.bound) entries,
+      last-map version_of,
+      ← find_from_end,
+      ← found,
+      c.in_err-entry.was,
+    ) refl
 
 pub returns : goal.returns
 returns c =
     let entries = c.self.inside.entries.items in
-    let found = find_from_yields_List (λ (e : Entry). is_below c.args.bound (version_of e)) _ _ c.find.result c.find.ensures.ran (YieldsList-from_rev_slice entries cc) (λ x b q k. search (rules, tests)) in
-    rw (← c.self.view_is, filter-map version_of (is_below c.args.bound) entries, last-map version_of, ← find_from_end, ← found, c.in_ok-entry.was, c.as_ref.ensures) refl
+    let found = find_from_yields_List (λ (e : Entry). is_below c.args.bound (version_of e)) _ _ c.find.result c.find.ensures.ran
+    (YieldsList-from_rev_slice entries cc) (λ x b q k. search (rules, tests)) in
+    rw (
+      ← c.self.view_is,
+      filter-map version_of (is_below c.args.bound) entries,
+      last-map version_of,
+      ← find_from_end,
+      ← found,
+      c.in_ok-entry.was,
+      c.as_ref.ensures,
+    ) refl

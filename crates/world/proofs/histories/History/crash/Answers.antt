@@ -7,4 +7,5 @@ use Rattle.world.proofs.histories.History.crash.Goals as goal
 pub returns-clause-crashed : goal.returns-clause-crashed
 returns-clause-crashed c w tells =
     tells_crashed c.args.self.now _ w c.args.brick tells refl
-    (c.put.ensures ∙ ap (λ p. c.args.self.now.marks.items ++ Crash p c.args.brick ∷ []) (c.len-position.ensures ∙ c.args.self.now.marks.ok.0)) refl refl
+    (c.put.ensures ∙ ap (λ p. c.args.self.now.marks.items ++ Crash p c.args.brick ∷ [])
+    (c.len-position.ensures ∙ c.args.self.now.marks.ok.0)) refl refl

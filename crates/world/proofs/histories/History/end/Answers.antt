@@ -13,5 +13,6 @@ returns-clause-ended c w tells low high =
     (with_items_is c.args.self.now.operations c.note_answer.new.operations (c.note_answer.auto.operations ∙ c.deref_mut.ensures.len))
     c.is_answer.ensures refl
     (c.put.ensures
-    ∙ ap (λ p. c.args.self.now.marks.items ++ End p c.number-operation.result c.args.answer ∷ []) (c.len-position.ensures ∙ c.args.self.now.marks.ok.0))
+    ∙ ap (λ p. c.args.self.now.marks.items ++ End p c.number-operation.result c.args.answer ∷ [])
+    (c.len-position.ensures ∙ c.args.self.now.marks.ok.0))
     c.note_answer.ensures c.note_answer.auto.operations refl

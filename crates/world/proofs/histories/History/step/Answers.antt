@@ -5,7 +5,8 @@ use Rattle.world.proofs.histories.History.step.Goals as goal
 
 pub returns-in-Made-clause-stepped : goal.returns-in-Made-clause-stepped
 returns-in-Made-clause-stepped c w step tells sent told boot next of =
-    tells_step_made c.made.new.self w c.args.brick step c.args.outs.packets.items c.in-Made.seq c.in-Made.stamp c.in-Made.base (sym told ∙ c.in-Made.is) sent boot next of
+    tells_step_made c.made.new.self w c.args.brick step c.args.outs.packets.items c.in-Made.seq c.in-Made.stamp c.in-Made.base
+    (sym told ∙ c.in-Made.is) sent boot next of
     (λ low high. c.made.ensures.made (record w { packets = w.packets ++ c.args.outs.packets.items }) (c.send.ensures.sent w tells) low high)
 
 pub returns-in-Answers-clause-stepped : goal.returns-in-Answers-clause-stepped

@@ -67,7 +67,8 @@ returns-clause-shows c w numbered shows =
     in
     let step : NodeStep = received (coding c.args.layout.now) to (w.clocks to.0) (w.nodes to.0) packet in
     let did = c.in_ok-outs.ensures.stepped c.args.layout.now w shows.bricks in
-    let opens = received_opens_none (coding c.args.layout.now) to (w.clocks to.0) (w.nodes to.0) packet (λ k call open_at. numbered to.0 k call open_at) in
+    let opens = received_opens_none (coding c.args.layout.now) to (w.clocks to.0) (w.nodes to.0) packet
+    (λ k call open_at. numbered to.0 k call open_at) in
     shows_delivered c.args.layout.now (record { bricks = c.hand_over.new.bricks; history = c.step.new.self }) w c.args.message packet to found.0
     (the_packet _ _ _ c.args.message _ c.deref.ensures.value (c.make_room.ensures.same w shows.history).packets c.in-Some.ensures)
     (found.1.up w shows.bricks) did.2

@@ -10,12 +10,14 @@ returns-then-brick-from-clause-shows c w shows = shows_nowhere c.args.layout.now
 
 pub returns-then-branch-clause-shows : goal.returns-then-branch-clause-shows
 returns-then-branch-clause-shows c w shows =
-    shows_start c.args.layout.now c.args.self.now (record { bricks = c.start_brick.new.bricks; history = c.args.self.now.history }) w (brick_of c.args.brick)
+    shows_start c.args.layout.now c.args.self.now (record { bricks = c.start_brick.new.bricks; history = c.args.self.now.history }) w
+    (brick_of c.args.brick)
     true (subst (λ (b : Bool). ShowsStarted c.args.layout.now (brick_of c.args.brick) w c.start_brick.new.bricks.items b) c.if-branch.true
     (c.in_ok-start_brick.ensures.started w shows.bricks)) refl shows
 
 pub returns-else-branch-clause-shows : goal.returns-else-branch-clause-shows
 returns-else-branch-clause-shows c w shows =
-    shows_start c.args.layout.now c.args.self.now (record { bricks = c.start_brick.new.bricks; history = c.args.self.now.history }) w (brick_of c.args.brick)
+    shows_start c.args.layout.now c.args.self.now (record { bricks = c.start_brick.new.bricks; history = c.args.self.now.history }) w
+    (brick_of c.args.brick)
     false (subst (λ (b : Bool). ShowsStarted c.args.layout.now (brick_of c.args.brick) w c.start_brick.new.bricks.items b) c.if-branch.false
     (c.in_ok-start_brick.ensures.started w shows.bricks)) refl shows

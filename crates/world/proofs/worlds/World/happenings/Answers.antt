@@ -16,5 +16,7 @@ returns c =
     subst (λ (kept : List Known). AreKnown kept (world_of (run_of c.self.inside))) (sym c.as_slice.ensures.value)
     (record { begun = c.self.invariant.shows.history.begun; each = c.self.invariant.shows.history.operations })
     in
-    subst (λ (r : Run). IfOk c.happenings.result (λ happenings. happenings.items ≡ happenings_of (world_of r) c.args.group.0 c.args.stripe.0)) c.self.view_is
-    (IfOk-weaker c.happenings.result _ _ (λ happenings told. told (world_of (run_of c.self.inside)) are (begins_agree (run_of c.self.inside))) c.happenings.ensures)
+    subst (λ (r : Run). IfOk c.happenings.result (λ happenings. happenings.items ≡ happenings_of
+    (world_of r) c.args.group.0 c.args.stripe.0)) c.self.view_is
+    (IfOk-weaker c.happenings.result _ _ (λ happenings told. told (world_of (run_of c.self.inside)) are
+    (begins_agree (run_of c.self.inside))) c.happenings.ensures)

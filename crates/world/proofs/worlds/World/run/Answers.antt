@@ -14,7 +14,8 @@ run-requires-clause-nodes c = nodes_of _ _ _ _ _ c.self.invariant.shows.bricks
 
 pub invariant_of-self-in_err-outcome : goal.invariant_of-self-in_err-outcome
 invariant_of-self-in_err-outcome c = record {
-  shows = subst (λ (lines : List Line). Shows c.self.inside.layout c.run.new.self (world_of (record { layout = c.self.inside.layout; lines = lines })))
+  shows = subst (λ (lines : List Line). Shows c.self.inside.layout c.run.new.self
+      (world_of (record { layout = c.self.inside.layout; lines = lines })))
       (sym c.reserve.ensures.items) (c.in_err-outcome.ensures.err (world_of (run_of c.self.inside)) c.self.invariant.shows);
 }
 
@@ -31,4 +32,11 @@ returns-clause-marks c =
     (c.put.ensures ∙ ap (λ (lines : List Line). lines ++ c.args.line ∷ []) c.reserve.ensures.items)
     (c.in_ok-outcome.ensures.shows (world_of (run_of c.self.inside)) (numbered (run_of c.self.inside)) c.self.invariant.shows)) in
     let before = ap (λ (r : Run). length (world_of r).marks) (sym c.self.view_is) ∙ ap length (sym c.self.invariant.shows.history.marks) in
-    omega (arith, before, ap length after.history.marks, c.self.inside.state.history.marks.ok.0, c.run.new.self.history.marks.ok.0, c.run.ensures.marks)
+    omega (
+      arith,
+      before,
+      ap length after.history.marks,
+      c.self.inside.state.history.marks.ok.0,
+      c.run.new.self.history.marks.ok.0,
+      c.run.ensures.marks,
+    )
