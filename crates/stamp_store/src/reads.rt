@@ -9,6 +9,7 @@ ghost use Rattle.stamp_store.specs.LogSpelling.{change_at, logged_at, logged_of}
 
 use crate::kept_records::Kept;
 use crate::log_records::{LogChange, Logged};
+use byteorder::{BigEndian, ByteOrder};
 use fab_base::{Ballot, BrickId, GroupId, Members, Stamp, StripeNo, View, ViewNo};
 
 fn u8_at(bytes: &[u8]) -> Option<(u8, &[u8])>
@@ -20,7 +21,7 @@ fn u8_at(bytes: &[u8]) -> Option<(u8, &[u8])>
     }
 }
 
-#[tactic(auto, unfolding(crate::specs::Reading::number_at))]
+#[tactic(auto, using(crate::proofs::Numbers::big_number_16), unfolding(crate::specs::Reading::number_at))]
 fn u16_at(bytes: &[u8]) -> Option<(u16, &[u8])>
     ensures { Gives (λ x. (x.0, x.1.now)) result (number_at w16 bytes.now) }
 {
@@ -28,10 +29,10 @@ fn u16_at(bytes: &[u8]) -> Option<(u16, &[u8])>
         return None;
     }
     let (front, rest) = bytes.split_at(2);
-    Some((u16::from_be_bytes([front[0], front[1]]), rest))
+    Some((BigEndian::read_u16(front), rest))
 }
 
-#[tactic(auto, unfolding(crate::specs::Reading::number_at))]
+#[tactic(auto, using(crate::proofs::Numbers::big_number_32), unfolding(crate::specs::Reading::number_at))]
 fn u32_at(bytes: &[u8]) -> Option<(u32, &[u8])>
     ensures { Gives (λ x. (x.0, x.1.now)) result (number_at w32 bytes.now) }
 {
@@ -39,11 +40,10 @@ fn u32_at(bytes: &[u8]) -> Option<(u32, &[u8])>
         return None;
     }
     let (front, rest) = bytes.split_at(4);
-    let number = u32::from_be_bytes([front[0], front[1], front[2], front[3]]);
-    Some((number, rest))
+    Some((BigEndian::read_u32(front), rest))
 }
 
-#[tactic(auto, unfolding(crate::specs::Reading::number_at))]
+#[tactic(auto, using(crate::proofs::Numbers::big_number_64), unfolding(crate::specs::Reading::number_at))]
 fn u64_at(bytes: &[u8]) -> Option<(u64, &[u8])>
     ensures { Gives (λ x. (x.0, x.1.now)) result (number_at w64 bytes.now) }
 {
@@ -51,10 +51,7 @@ fn u64_at(bytes: &[u8]) -> Option<(u64, &[u8])>
         return None;
     }
     let (front, rest) = bytes.split_at(8);
-    let number = u64::from_be_bytes([
-        front[0], front[1], front[2], front[3], front[4], front[5], front[6], front[7],
-    ]);
-    Some((number, rest))
+    Some((BigEndian::read_u64(front), rest))
 }
 
 fn flag_of(bytes: &[u8]) -> Option<(bool, &[u8])>

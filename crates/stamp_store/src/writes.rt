@@ -10,6 +10,7 @@ ghost use Rattle.stamp_store.specs.Spelling.{MembersFit, AcceptedFits, ViewFits,
 
 use crate::kept_records::Kept;
 use crate::log_records::{LogChange, Logged};
+use byteorder::{BigEndian, ByteOrder};
 use fab_base::{Ballot, GroupId, Members, NoMem, Stamp, StripeNo, View, ViewNo};
 
 #[tactic(auto, unfolding(crate::specs::Spelling::number_bytes))]
@@ -17,7 +18,9 @@ fn put_u16(out: &mut Vec<u8>, number: u16) -> Result<(), NoMem>
     ensures bytes { OnOk result (out.new.items ≡ out.old.items ++ number_bytes w16 number) }
     ensures fits { OnOk result (number < 2 ^ 16) }
 {
-    out.extend_from_slice(&number.to_be_bytes())?;
+    let mut bytes = [0; 2];
+    BigEndian::write_u16(&mut bytes, number);
+    out.extend_from_slice(&bytes)?;
     Ok(())
 }
 
@@ -26,7 +29,9 @@ fn put_u32(out: &mut Vec<u8>, number: u32) -> Result<(), NoMem>
     ensures bytes { OnOk result (out.new.items ≡ out.old.items ++ number_bytes w32 number) }
     ensures fits { OnOk result (number < 2 ^ 32) }
 {
-    out.extend_from_slice(&number.to_be_bytes())?;
+    let mut bytes = [0; 4];
+    BigEndian::write_u32(&mut bytes, number);
+    out.extend_from_slice(&bytes)?;
     Ok(())
 }
 
@@ -35,7 +40,9 @@ fn put_u64(out: &mut Vec<u8>, number: u64) -> Result<(), NoMem>
     ensures bytes { OnOk result (out.new.items ≡ out.old.items ++ number_bytes w64 number) }
     ensures fits { OnOk result (number < 2 ^ 64) }
 {
-    out.extend_from_slice(&number.to_be_bytes())?;
+    let mut bytes = [0; 8];
+    BigEndian::write_u64(&mut bytes, number);
+    out.extend_from_slice(&bytes)?;
     Ok(())
 }
 
