@@ -1,7 +1,8 @@
 -- What one brick is, over its disk.
-use Rattle.std.proofs.Common.{◌≡◌, ℕ, ◌+◌, ◌-◌, ◌^◌, ◌<◌, zero, suc, true, false, List, [], None, refl, sym, ap, ◌∙◌, subst, arith}
+use Rattle.std.proofs.Common.{◌≡◌, ℕ, ◌+◌, ◌-◌, ◌^◌, ◌<◌, zero, suc, Bool, true, false, List, None, Result, Ok, refl, sym, ap, ◌∙◌, subst, arith}
 use Rattle.std.specs.Prelude.{nat_lt, replicate, slice_index_or}
 use Rattle.std.proofs.lemmas.Bool.Decides.{nat_tests}
+use Rattle.fab_base.specs.declared.faults.NoMem.{NoMem}
 use Rattle.fab_base.specs.declared.identities.BrickId.{BrickId}
 use Rattle.fab_disk.specs.Past.{IsImage}
 use Rattle.fab_disk.specs.MemDisk.{content_of, past_of_disk, IsSound}
@@ -17,7 +18,8 @@ use Rattle.replica.specs.Parts.{IsFirstView}
 use Rattle.node.specs.Running.{Running, state_of, shape_at, ImageShows, LeavesBrick, IsSameBrick}
 use Rattle.protocol.specs.Settings.{Layout}
 use Rattle.protocol.specs.Nodes as machine
-use Rattle.world.specs.States.{Runs, Rests, unopened}
+use Rattle.world.specs.States.{Runs, Rests, ShowsPower, TurnsOn, unopened}
+use Rattle.world.specs.declared.bricks.Power.{Power}
 
 -- an image is found as the one state that it stands for
 pub found_is : (shape : Shape) (st other : StateOf Version) (image : List ℕ) → IsFound shape st image → StandsFor shape other image → st ≡ other
@@ -145,6 +147,17 @@ still_runs layout me state next node new runs same state_is halted sound =
     record { layout_is = same.layout ∙ runs.layout_is; me_is = same.me ∙ runs.me_is; state_is = state_is; runs = halted; sound = sound }
 
 -- a fresh brick is the machine's first
-pub first_is : (block : ℕ) → machine.restarted 1 (unopened block) ≡ machine.first_node block
+first_is : (block : ℕ) → machine.restarted 1 (unopened block) ≡ machine.first_node block
 unfolding machine.restarted
 first_is block = refl
+
+-- and runs once it was to start
+pub fresh_runs : (layout : Layout) (me : BrickId) (power : Power) (result : Result Bool NoMem) (started : Bool) → result ≡ Ok started
+    → TurnsOn layout me (unopened layout.block) false power result → ShowsPower layout me (machine.first_node layout.block) true power
+fresh_runs layout me power result true was turns =
+    let now = subst (λ (r : Result Bool NoMem). TurnsOn layout me (unopened layout.block) false power r) was turns in
+    subst (λ (state : machine.Node). ShowsPower layout me state true power) (first_is layout.block) now.1
+fresh_runs layout me power result false was turns =
+    let now = subst (λ (r : Result Bool NoMem). TurnsOn layout me (unopened layout.block) false power r) was turns in
+    let spent : true ≡ false = now.0 in
+    absurd cc
