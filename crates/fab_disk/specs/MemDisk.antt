@@ -24,3 +24,8 @@ pub record IsQuiet (plan : Plan) (failing : FailingCalls) : Type 0 where
 -- nothing will make a call fail
 abbrev pub IsSound : MemDisk → Type 0
 IsSound disk = IsQuiet disk.plan disk.failing
+
+-- the calls of these numbers are to fail, counted from the next one
+pub record Lists (disk : MemDisk) (calls : List ℕ) : Type 0 where
+  pub listed : disk.failing.listed.items ≡ calls
+  pub made : disk.failing.made ≡ 0

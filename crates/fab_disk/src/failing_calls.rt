@@ -1,5 +1,5 @@
 // Calls that are to fail, by their number.
-ghost use Rattle.std.specs.Prelude.{◌≡◌, ◌≢◌, IsTrue, Contains, false};
+ghost use Rattle.std.specs.Prelude.{◌≡◌, ◌≢◌, ◌↔◌, ◌<◌, ◌-◌, ◌^◌, IsTrue, false};
 
 use crate::disk::Fate;
 use std::alloc::Global;
@@ -11,7 +11,7 @@ pub struct FailingCalls {
 }
 
 impl FailingCalls {
-    ghost use Rattle.fab_disk.specs.FailingCalls.{NoneLeft};
+    ghost use Rattle.fab_disk.specs.FailingCalls.{NoneLeft, FailsNext};
 
     // No call is to fail.
     pub fn none(alloc: Global) -> Self
@@ -33,7 +33,7 @@ impl FailingCalls {
 
     // Counts a call, and says whether it is to fail.
     pub fn next_fails(&mut self) -> bool
-        ensures listed { IsTrue result → Contains self.old.listed.items self.new.made }
+        ensures exact { self.old.made < 2 ^ 64 - 1 → (IsTrue result ↔ FailsNext self.old) }
         ensures never { NoneLeft self.old → result ≡ false }
         ensures stays { NoneLeft self.old → NoneLeft self.new }
     {
@@ -47,6 +47,7 @@ impl FailingCalls {
     // Counts a call, and says what befalls it where a plan has this befall it.
     pub fn or_listed(&mut self, planned: Fate) -> Fate
         ensures planned { planned ≢ Fate.Goes → result ≡ planned }
+        ensures exact { planned ≡ Fate.Goes → self.old.made < 2 ^ 64 - 1 → (result ≡ Fate.Fails ↔ FailsNext self.old) }
         ensures never { NoneLeft self.old → result ≡ planned }
         ensures stays { NoneLeft self.old → NoneLeft self.new }
     {

@@ -20,12 +20,13 @@ pub struct MemDisk {
 }
 
 impl MemDisk {
-    ghost use Rattle.std.specs.Prelude.{◌≡◌, ◌≢◌, [], List, ℕ};
+    ghost use Rattle.std.specs.Prelude.{◌≡◌, ◌≢◌, ◌<◌, ◌-◌, ◌^◌, [], List, ℕ};
     ghost use Rattle.fab_disk.specs.Disk.{Kept, CountsDown};
     ghost use Rattle.fab_disk.specs.Past.{IsImage};
     ghost use Rattle.fab_disk.specs.Settled.{settled_at};
     ghost use Rattle.fab_disk.specs.Plan.{IsPlanned};
-    ghost use Rattle.fab_disk.specs.MemDisk.{content_of, past_of_disk, IsSound};
+    ghost use Rattle.fab_disk.specs.FailingCalls.{FailsNext};
+    ghost use Rattle.fab_disk.specs.MemDisk.{content_of, past_of_disk, IsSound, Lists};
 
     /// A sound disk that holds these bytes. A crash leaves them.
     pub fn new(alloc: Global, content: Vec<u8>) -> MemDisk
@@ -53,6 +54,8 @@ impl MemDisk {
     pub fn fail_at(&mut self, calls: Vec<u64>)
         ensures content { content_of self.new ≡ content_of self.old }
         ensures past { past_of_disk self.new ≡ past_of_disk self.old }
+        ensures listed { Lists self.new calls.items }
+        ensures faults { self.new.faults ≡ self.old.faults }
     {
         self.failing = FailingCalls::of(calls);
     }
@@ -65,6 +68,7 @@ impl MemDisk {
         ensures image { IsImage (past_of_disk self.old) (content_of self.old) (content_of self.new) }
         ensures past { past_of_disk self.new ≡ [] }
         ensures sound { IsSound self.old → IsSound self.new }
+        ensures faults { self.new.faults ≡ self.old.faults }
     {
         self.medium.settle(pick);
     }
@@ -75,6 +79,7 @@ impl MemDisk {
         ensures plan { self.new.plan ≡ self.old.plan }
         ensures cause { Kept self.old.faults self.new.faults (IsSound self.old) (IsSound self.new) (result ≡ Err IoFault.Failed) }
         ensures only { IsOkUnless result IoFault.Failed }
+        ensures listed { self.old.failing.made < 2 ^ 64 - 1 → FailsNext self.old.failing → result ≡ Err IoFault.Failed }
     {
         if self.failing.next_fails() {
             self.faults = self.faults.saturating_add(1);
@@ -88,6 +93,7 @@ impl MemDisk {
         ensures medium { self.new.medium ≡ self.old.medium }
         ensures cause { Kept self.old.faults self.new.faults (IsSound self.old) (IsSound self.new) (result ≢ Fate.Goes) }
         ensures plan { result ≡ Fate.Goes → CountsDown (IsPlanned self.old.plan) (IsPlanned self.new.plan) }
+        ensures listed { self.old.failing.made < 2 ^ 64 - 1 → FailsNext self.old.failing → result ≢ Fate.Goes }
     {
         let (planned, left) = self.plan.next();
         self.plan = left;
