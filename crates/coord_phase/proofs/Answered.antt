@@ -5,14 +5,14 @@ use Rattle.std.specs.Prelude.{is_some}
 use Rattle.std.proofs.lemmas.Bool.{false≢true}
 use Rattle.fab_base.specs.declared.identities.BrickId.{BrickId}
 use Rattle.fab_base.specs.declared.stamps.Stamp.{Stamp}
-use Rattle.fab_wire.specs.declared.calls.Call.{Call}
-use Rattle.fab_wire.specs.declared.messages.Message.{Message}
-use Rattle.fab_wire.specs.declared.messages.Message.TheVariants as messages
-use Rattle.fab_wire.specs.declared.replies.Reply.{Reply}
-use Rattle.fab_wire.specs.declared.turns.Next.{Next as Answer}
-use Rattle.fab_wire.specs.declared.turns.Next.TheVariants.{Wait}
+use Rattle.messages.specs.declared.calls.Call.{Call}
+use Rattle.messages.specs.declared.packets.Message.{Message}
+use Rattle.messages.specs.declared.packets.Message.TheVariants as messages
+use Rattle.messages.specs.declared.replies.Reply.{Reply}
+use Rattle.messages.specs.declared.turns.Next.{Next as Answer}
+use Rattle.messages.specs.declared.turns.Next.TheVariants.{Wait}
 use Rattle.fab_base.specs.declared.notes.Note.{Note}
-use Rattle.protocol.specs.Settings.{quorum_of}
+use Rattle.quorum.specs.Quorums.{quorum_of}
 use Rattle.protocol.specs.declared.phases.Counted.{Counted}
 use Rattle.protocol.specs.Coordinators.{Next, Ignores, Waits, counts_at, decided, on_reply, counted_at}
 use Rattle.stripe_code.specs.Codes.{block_code}

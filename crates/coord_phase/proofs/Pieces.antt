@@ -10,10 +10,11 @@ use Rattle.std.proofs.lemmas.List.FromFn.{length-map-range_with_len, length-rang
 use Rattle.fab_base.specs.declared.identities.BrickId.{BrickId}
 use Rattle.fab_base.specs.declared.stamps.Stamp.{Stamp}
 use Rattle.fab_base.specs.Stamps.{stamp_below}
-use Rattle.fab_wire.specs.declared.replies.Reply.{Reply}
-use Rattle.fab_wire.specs.declared.replies.Reply.TheVariants as replies
+use Rattle.messages.specs.declared.replies.Reply.{Reply}
+use Rattle.messages.specs.declared.replies.Reply.TheVariants as replies
 use Rattle.rs_code.specs.Codewords.{AreSeats}
-use Rattle.protocol.specs.Settings.{Group, Piece}
+use Rattle.fab_base.specs.Layouts.{Group}
+use Rattle.protocol.specs.Settings.{Piece}
 use Rattle.protocol.specs.declared.phases.Counted.{Counted}
 use Rattle.protocol.specs.declared.phases.Phase.{Phase}
 use Rattle.protocol.specs.declared.phases.Phase.TheVariants.{Looks, Orders, Recovers, Descends, Stores}

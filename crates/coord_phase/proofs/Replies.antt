@@ -4,13 +4,13 @@ use Rattle.std.specs.Prelude.{nat_eq}
 use Rattle.std.specs.List.{list_all}
 use Rattle.std.proofs.lemmas.Bool.{and_parts, and_from, or_parts, or_from, not-true, lt-ltb, ne_eqb, eqb-false}
 use Rattle.fab_base.specs.declared.identities.BrickId.{BrickId}
-use Rattle.fab_wire.specs.declared.calls.Call.{Call}
-use Rattle.fab_wire.specs.declared.replies.Reply.{Reply}
-use Rattle.protocol.specs.Settings.{Group}
+use Rattle.messages.specs.declared.calls.Call.{Call}
+use Rattle.messages.specs.declared.replies.Reply.{Reply}
+use Rattle.fab_base.specs.Layouts.{Group}
 use Rattle.protocol.specs.declared.phases.Counted.{Counted}
 use Rattle.protocol.specs.Coordinators.{Coordinator, has_seat, counts_at, with_reply}
 use Rattle.protocol.proofs.CountsAt.{counts_facts}
-use Rattle.protocol.proofs.Tables.{seat_within}
+use Rattle.fab_base.proofs.Seats.{seat_within}
 use Rattle.coord_phase.specs.Operations.{are_apart, IsInPhase}
 
 -- what is true of all is true of the first n

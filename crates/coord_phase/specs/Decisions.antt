@@ -4,11 +4,11 @@ use Rattle.fab_base.specs.declared.identities.BrickId.{BrickId}
 use Rattle.fab_base.specs.declared.identities.CallId.{CallId}
 use Rattle.fab_base.specs.declared.stamps.Stamp.{Stamp}
 use Rattle.fab_base.specs.declared.notes.Note.{Note}
-use Rattle.fab_wire.specs.declared.calls.Call.{Call}
-use Rattle.fab_wire.specs.declared.messages.Message.{Message}
-use Rattle.fab_wire.specs.declared.turns.Next.{Next}
-use Rattle.fab_wire.specs.declared.turns.Next.TheVariants.{Send, Wait, End, Recover}
-use Rattle.fab_wire.specs.declared.turns.Turn.TheVariants as Turn
+use Rattle.messages.specs.declared.calls.Call.{Call}
+use Rattle.messages.specs.declared.packets.Message.{Message}
+use Rattle.messages.specs.declared.turns.Next.{Next}
+use Rattle.messages.specs.declared.turns.Next.TheVariants.{Send, Wait, End, Recover}
+use Rattle.messages.specs.declared.turns.Turn.TheVariants as Turn
 use Rattle.protocol.specs.Coordinators as machine
 use Rattle.protocol.specs.declared.phases.Phase.{Phase}
 use Rattle.protocol.specs.declared.phases.Phase.TheVariants.{Looks, Orders, Recovers, Descends, Stores}

@@ -1,14 +1,15 @@
 -- What a phase sends.
 use Rattle.std.specs.Prelude.{ℕ, ◌+◌, if◌then◌else◌, List, [], ◌∷◌, map}
 use Rattle.fab_base.specs.declared.identities.BrickId.{BrickId}
-use Rattle.fab_wire.specs.declared.calls.Call.{Call}
-use Rattle.fab_wire.specs.declared.messages.Message.{Message}
-use Rattle.fab_wire.specs.declared.messages.Packet.{Packet}
-use Rattle.fab_wire.specs.declared.requests.Request.{Request}
-use Rattle.fab_wire.specs.declared.requests.Request.TheVariants.{Read, Order, OrderRead, Write}
-use Rattle.fab_wire.specs.declared.requests.Look.TheVariants.{Below}
-use Rattle.fab_wire.specs.declared.requests.Want.TheVariants.{All}
-use Rattle.protocol.specs.Settings.{Group, Code}
+use Rattle.messages.specs.declared.calls.Call.{Call}
+use Rattle.messages.specs.declared.packets.Message.{Message}
+use Rattle.messages.specs.declared.packets.Packet.{Packet}
+use Rattle.messages.specs.declared.requests.Request.{Request}
+use Rattle.messages.specs.declared.requests.Request.TheVariants.{Read, Order, OrderRead, Write}
+use Rattle.messages.specs.declared.requests.Look.TheVariants.{Below}
+use Rattle.messages.specs.declared.requests.Want.TheVariants.{All}
+use Rattle.fab_base.specs.Layouts.{Group}
+use Rattle.protocol.specs.Settings.{Code}
 use Rattle.protocol.specs.declared.phases.Phase.{Phase}
 use Rattle.protocol.specs.declared.phases.Phase.TheVariants.{Looks, Orders, Recovers, Descends, Stores}
 use Rattle.protocol.specs.declared.phases.Counted.{Counted}

@@ -1,12 +1,12 @@
 //! Which replies count.
 
 ghost use Rattle.std.specs.Prelude.{◌≡◌, ◌≤◌, ◌<◌, length, IfSome};
-ghost use Rattle.protocol.specs.Settings.{seat_in};
+ghost use Rattle.fab_base.specs.Layouts.{seat_in};
 ghost use Rattle.protocol.specs.Coordinators.{call_same, may_be_found, answers_phase, has_seat};
 
 use crate::operations::Operation;
 use fab_base::{BrickId, NoMem, Stamp};
-use fab_wire::{Call, Message, Reply, Version};
+use messages::{Call, Message, Reply, Version};
 use protocol::{Counted, Phase};
 use std::alloc::Global;
 
@@ -64,7 +64,7 @@ pub(crate) fn has_reply(seat: u8, counted: &[Counted]) -> bool
 
 impl Operation {
     ghost use Rattle.std.specs.Prelude.{◌≡◌, ◌-◌, ◌<◌, ◌≤◌, ◌^◌, not, nat_lt, true, None, Some, IfSome, IfOk, OnOk, OnErr, length, take};
-    ghost use Rattle.protocol.specs.Settings.{quorum_of};
+    ghost use Rattle.quorum.specs.Quorums.{quorum_of};
     ghost use Rattle.protocol.specs.Coordinators.{counts_at, with_reply};
     ghost use Rattle.coord_phase.specs.Operations.{with_state, counts, heard};
 

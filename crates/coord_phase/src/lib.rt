@@ -5,7 +5,7 @@
 
 mod counting;
 mod forgetting;
-mod messages;
+mod sending;
 pub mod operations;
 mod refusals;
 mod stages;

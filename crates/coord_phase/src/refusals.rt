@@ -4,7 +4,7 @@ ghost use Rattle.std.specs.Prelude.{◌≡◌, length};
 ghost use Rattle.protocol.specs.Coordinators.{refuser_of, greater_refuser, greatest_refuser, full_member_of, lower_full, lowest_full};
 
 use crate::operations::Operation;
-use fab_wire::Reply;
+use messages::Reply;
 use protocol::{Counted, FullMember, Refuser};
 
 /// The member that told a later stamp, if this reply did.

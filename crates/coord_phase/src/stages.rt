@@ -2,10 +2,10 @@
 
 ghost use Rattle.std.specs.Prelude.{◌≡◌, length};
 
-use crate::messages::messages;
+use crate::sending::messages;
 use crate::operations::{Operation, Stage, stored};
 use fab_base::{Answer, Bytes, CallId, Cause, NoMem, Note, Op, Stamp};
-use fab_wire::{Messages, Next, Turn};
+use messages::{Messages, Next, Turn};
 use protocol::{FullMember, Phase, Refuser};
 use std::alloc::Global;
 

@@ -6,7 +6,7 @@ ghost use Rattle.protocol.specs.Coordinators.{finds, found_bytes, pieces_at};
 
 use crate::operations::Operation;
 use fab_base::{Bytes, NoMem, Stamp};
-use fab_wire::Reply;
+use messages::Reply;
 use protocol::Counted;
 use std::alloc::Global;
 

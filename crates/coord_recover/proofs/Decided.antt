@@ -4,7 +4,7 @@ use Rattle.std.specs.Prelude.{nat_lt}
 use Rattle.std.proofs.lemmas.Bool.{cond_both}
 use Rattle.fab_base.specs.declared.answers.Answer.{Answer}
 use Rattle.fab_base.specs.declared.stamps.Stamp.{Stamp}
-use Rattle.fab_wire.specs.declared.calls.Call.{Call}
+use Rattle.messages.specs.declared.calls.Call.{Call}
 use Rattle.protocol.specs.Settings.{Code}
 use Rattle.protocol.specs.declared.phases.Phase.{Phase}
 use Rattle.protocol.specs.declared.phases.Phase.TheVariants.{Recovers, Descends, Stores}

@@ -5,11 +5,11 @@ use Rattle.fab_base.specs.declared.stamps.Stamp.{Stamp}
 use Rattle.fab_base.specs.declared.asks.Ask.{Ask}
 use Rattle.fab_base.specs.declared.member_lists.View.{View}
 use Rattle.fab_base.specs.declared.notes.Note.{Note}
-use Rattle.fab_wire.specs.declared.turns.Turn.{Turn}
-use Rattle.fab_wire.specs.declared.turns.Turn.TheVariants.{Order, Down, Store}
+use Rattle.messages.specs.declared.turns.Turn.{Turn}
+use Rattle.messages.specs.declared.turns.Turn.TheVariants.{Order, Down, Store}
 use Rattle.protocol.specs.declared.phases.Phase.{Phase}
 use Rattle.protocol.specs.declared.phases.Phase.TheVariants.{Looks, Orders, Recovers, Descends, Stores}
-use Rattle.protocol.specs.Settings.{Layout}
+use Rattle.fab_base.specs.Layouts.{Layout}
 use Rattle.protocol.specs.Coordinators.{Coordinator}
 use Rattle.protocol.specs.Nodes.{has_length}
 use Rattle.coord_phase.specs.Operations.{Operation, group_in_view, call_in}

@@ -4,7 +4,7 @@ ghost use Rattle.std.specs.Prelude.{◌≡◌};
 ghost use Rattle.protocol.specs.Coordinators.{told_stamp, greater_stamp, greatest_found};
 
 use fab_base::Stamp;
-use fab_wire::Reply;
+use messages::Reply;
 use protocol::Counted;
 
 /// The stamp of the version that a reply tells, if it tells one.

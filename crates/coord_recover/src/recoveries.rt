@@ -5,7 +5,7 @@ ghost use Rattle.std.specs.Prelude.{◌≡◌};
 use crate::greatest::greatest_found;
 use coord_phase::{Operation, Stage};
 use fab_base::{Ask, BrickId, Bytes, CallId, NoMem, Note, Stamp, View};
-use fab_wire::{Call, Message, Next, Turn};
+use messages::{Call, Message, Next, Turn};
 use layout::{Group, Layout};
 use protocol::Phase;
 use std::alloc::Global;

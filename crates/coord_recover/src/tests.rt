@@ -9,7 +9,7 @@ use fab_base::{
     Answer, Ask, BrickId, Bytes, CallId, Cause, GroupId, Members, Note, Op, Stamp, StripeNo, View,
     ViewNo,
 };
-use fab_wire::{Message, Next, Reply, Turn, Version};
+use messages::{Message, Next, Reply, Turn, Version};
 use layout::Layout;
 use std::test::Fail;
 

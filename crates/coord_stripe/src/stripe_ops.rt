@@ -6,7 +6,7 @@ ghost use Rattle.protocol.specs.Nodes.{first_phase};
 
 use coord_phase::{Operation, Stage};
 use fab_base::{Ask, BrickId, Bytes, CallId, NoMem, Note, Op, Stamp, View};
-use fab_wire::{Call, Message, Next, Reply, Turn};
+use messages::{Call, Message, Next, Reply, Turn};
 use layout::{Group, Layout};
 use protocol::{Counted, Phase};
 use std::alloc::Global;

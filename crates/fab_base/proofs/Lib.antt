@@ -1,1 +1,2 @@
 pub mod StampOrder
+pub mod Seats

@@ -10,12 +10,12 @@ use Rattle.fab_base.specs.declared.identities.GroupId.{GroupId}
 use Rattle.fab_base.specs.declared.identities.StripeNo.{StripeNo}
 use Rattle.fab_base.specs.declared.identities.ViewNo.{ViewNo}
 use Rattle.fab_base.specs.declared.stamps.Stamp.{Stamp}
-use Rattle.fab_wire.specs.declared.clients.ClientAnswer.{ClientAnswer}
-use Rattle.fab_wire.specs.declared.clients.ClientAnswer.TheVariants.{Ended, Refused}
-use Rattle.fab_wire.specs.declared.clients.ClientOp.{ClientOp}
-use Rattle.fab_wire.specs.declared.messages.Message.{Message}
-use Rattle.fab_wire.specs.declared.messages.Message.TheVariants.{Learn, Synced, Client, ClientReply}
-use Rattle.fab_wire.specs.declared.messages.Message.TheVariants as messages
+use Rattle.messages.specs.declared.clients.ClientAnswer.{ClientAnswer}
+use Rattle.messages.specs.declared.clients.ClientAnswer.TheVariants.{Ended, Refused}
+use Rattle.messages.specs.declared.clients.ClientOp.{ClientOp}
+use Rattle.messages.specs.declared.packets.Message.{Message}
+use Rattle.messages.specs.declared.packets.Message.TheVariants.{Learn, Synced, Client, ClientReply}
+use Rattle.messages.specs.declared.packets.Message.TheVariants as messages
 use Rattle.fab_wire.specs.Fields.{Field, AllFit, u16, u32, exactly, stamp_fields, stripe_fields}
 use Rattle.fab_wire.specs.Spelling.{answer_fields, kind_of, body_fields}
 use Rattle.fab_wire.specs.Reading.{bare_at, data_at, later_answer_at, gone_at, full_answer_at, moved_answer_at, answer_rows, client_answer_at, client_at, client_reply_at, client_rows}

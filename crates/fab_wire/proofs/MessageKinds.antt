@@ -6,19 +6,19 @@ use Rattle.fab_base.specs.declared.identities.GroupId.{GroupId}
 use Rattle.fab_base.specs.declared.identities.ViewNo.{ViewNo}
 use Rattle.fab_base.specs.declared.stamps.Stamp.{Stamp}
 use Rattle.fab_base.specs.declared.stamps.Ballot.{Ballot}
-use Rattle.fab_wire.specs.declared.calls.Call.{Call}
-use Rattle.fab_wire.specs.declared.messages.Message.{Message}
-use Rattle.fab_wire.specs.declared.messages.Message.TheVariants.{Learn, Synced, Client, ClientReply}
-use Rattle.fab_wire.specs.declared.messages.Message.TheVariants as messages
-use Rattle.fab_wire.specs.declared.requests.Look.{Look}
-use Rattle.fab_wire.specs.declared.requests.Request.{Request}
-use Rattle.fab_wire.specs.declared.requests.Request.TheVariants as requests
-use Rattle.fab_wire.specs.declared.requests.Version.{Version}
-use Rattle.fab_wire.specs.declared.requests.Want.{Want}
-use Rattle.fab_wire.specs.declared.replies.Choice.{Choice}
-use Rattle.fab_wire.specs.declared.replies.Lineage.{Lineage}
-use Rattle.fab_wire.specs.declared.replies.Reply.{Reply}
-use Rattle.fab_wire.specs.declared.replies.Reply.TheVariants as replies
+use Rattle.messages.specs.declared.calls.Call.{Call}
+use Rattle.messages.specs.declared.packets.Message.{Message}
+use Rattle.messages.specs.declared.packets.Message.TheVariants.{Learn, Synced, Client, ClientReply}
+use Rattle.messages.specs.declared.packets.Message.TheVariants as messages
+use Rattle.messages.specs.declared.requests.Look.{Look}
+use Rattle.messages.specs.declared.requests.Request.{Request}
+use Rattle.messages.specs.declared.requests.Request.TheVariants as requests
+use Rattle.messages.specs.declared.requests.Version.{Version}
+use Rattle.messages.specs.declared.requests.Want.{Want}
+use Rattle.messages.specs.declared.replies.Choice.{Choice}
+use Rattle.messages.specs.declared.replies.Lineage.{Lineage}
+use Rattle.messages.specs.declared.replies.Reply.{Reply}
+use Rattle.messages.specs.declared.replies.Reply.TheVariants as replies
 use Rattle.fab_wire.specs.Fields.{Field, call_fields}
 use Rattle.fab_wire.specs.Spelling.{request_row, reply_row, kind_of, body_fields}
 use Rattle.fab_wire.specs.Reading.{Reads, request_at, reply_at, plain_at, request_rows, reply_rows, read_at, order_at, order_read_at, write_at, modify_at, collect_at, old_read_at, prepare_at, accept_at, learn_at, synced_at, found_at, ordered_at, ordered_read_at, stored_at, behind_at, later_at, full_at, moved_at, old_at, retired_at, promise_at, accepted_reply_at, outbid_at, not_synced_at}

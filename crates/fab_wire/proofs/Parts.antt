@@ -7,16 +7,16 @@ use Rattle.fab_base.specs.declared.identities.StripeNo.{StripeNo}
 use Rattle.fab_base.specs.declared.identities.ViewNo.{ViewNo}
 use Rattle.fab_base.specs.declared.stamps.Stamp.{Stamp}
 use Rattle.fab_base.specs.declared.stamps.Ballot.{Ballot}
-use Rattle.fab_wire.specs.declared.calls.Call.{Call}
-use Rattle.fab_wire.specs.declared.clients.ClientOp.{ClientOp}
-use Rattle.fab_wire.specs.declared.clients.ClientOp.TheVariants.{ReadBlock, WriteBlock, ReadStripe, WriteStripe}
-use Rattle.fab_wire.specs.declared.requests.Version.{Version}
-use Rattle.fab_wire.specs.declared.requests.Want.{Want}
-use Rattle.fab_wire.specs.declared.requests.Want.TheVariants.{Seat, All}
-use Rattle.fab_wire.specs.declared.requests.Look.{Look}
-use Rattle.fab_wire.specs.declared.requests.Look.TheVariants.{Below, At}
-use Rattle.fab_wire.specs.declared.replies.Choice.{Choice}
-use Rattle.fab_wire.specs.declared.replies.Lineage.{Lineage}
+use Rattle.messages.specs.declared.calls.Call.{Call}
+use Rattle.messages.specs.declared.clients.ClientOp.{ClientOp}
+use Rattle.messages.specs.declared.clients.ClientOp.TheVariants.{ReadBlock, WriteBlock, ReadStripe, WriteStripe}
+use Rattle.messages.specs.declared.requests.Version.{Version}
+use Rattle.messages.specs.declared.requests.Want.{Want}
+use Rattle.messages.specs.declared.requests.Want.TheVariants.{Seat, All}
+use Rattle.messages.specs.declared.requests.Look.{Look}
+use Rattle.messages.specs.declared.requests.Look.TheVariants.{Below, At}
+use Rattle.messages.specs.declared.replies.Choice.{Choice}
+use Rattle.messages.specs.declared.replies.Lineage.{Lineage}
 use Rattle.fab_wire.specs.Fields.{Field, Number, Limited, number_bytes, bytes_of, spelled, Fits, u16, u32, exactly, call_fields, stamp_fields, ballot_fields, block_fields, stripe_fields, members_fields, option_fields, want_fields, look_fields, version_fields, choice_fields, lineage_fields}
 use Rattle.fab_wire.specs.Spelling.{op_number}
 use Rattle.fab_wire.specs.Reading.{Reads, ◌>>=◌, as_at, nothing_at, number_at, row, no_row, made_call, call_at, made_stamp, stamp_at, made_ballot, ballot_at, made_brick, brick_at, made_group, group_at, made_view_number, view_number_at, made_stripe, stripe_number_at, block_at, stripe_at, members_at, made_some, made_none, option_at, want_at, look_at, made_version, version_at, made_choice, accepted_at, made_lineage, lineage_at, op_at}

@@ -2,11 +2,11 @@
 use Rattle.std.proofs.Common.{◌≡◌, ℕ, ◌+◌, ◌≤◌, cond, ltb, eqb, List, [], ◌++◌, length, Some, Result, Ok, Err, refl, sym, ap, subst, ◌∙◌, arith, inl, inr}
 use Rattle.std.proofs.lemmas.Bool.{eqb-true}
 use Rattle.std.proofs.lemmas.List.{append-nil, length-append, nil_from_length}
-use Rattle.fab_wire.specs.declared.messages.Message.{Message}
-use Rattle.fab_wire.specs.declared.messages.Message.TheVariants.{Learn, Synced, Client, ClientReply}
-use Rattle.fab_wire.specs.declared.messages.Message.TheVariants as messages
-use Rattle.fab_wire.specs.declared.requests.Request.TheVariants as requests
-use Rattle.fab_wire.specs.declared.replies.Reply.TheVariants as replies
+use Rattle.messages.specs.declared.packets.Message.{Message}
+use Rattle.messages.specs.declared.packets.Message.TheVariants.{Learn, Synced, Client, ClientReply}
+use Rattle.messages.specs.declared.packets.Message.TheVariants as messages
+use Rattle.messages.specs.declared.requests.Request.TheVariants as requests
+use Rattle.messages.specs.declared.replies.Reply.TheVariants as replies
 use Rattle.fab_wire.specs.Fields.{spelled}
 use Rattle.fab_wire.specs.Spelling.{kind_of, body_fields, fabw, fields_of, Spells, Begins, IsMalformed}
 use Rattle.fab_wire.specs.Reading.{◌>>=◌, request_rows, reply_rows, client_rows, kinds, message_at, datagram_of, read_at, order_at, order_read_at, write_at, modify_at, collect_at, old_read_at, prepare_at, accept_at, learn_at, synced_at, found_at, ordered_at, ordered_read_at, stored_at, behind_at, later_at, full_at, moved_at, old_at, retired_at, promise_at, accepted_reply_at, outbid_at, not_synced_at, client_at, client_reply_at}

@@ -4,14 +4,14 @@ use Rattle.byteorder.specs.Endian.{big_bytes}
 use Rattle.fab_base.specs.declared.identities.BrickId.{BrickId}
 use Rattle.fab_base.specs.declared.stamps.Stamp.{Stamp}
 use Rattle.fab_base.specs.declared.stamps.Ballot.{Ballot}
-use Rattle.fab_wire.specs.declared.calls.Call.{Call}
-use Rattle.fab_wire.specs.declared.requests.Version.{Version}
-use Rattle.fab_wire.specs.declared.requests.Want.{Want}
-use Rattle.fab_wire.specs.declared.requests.Want.TheVariants.{Seat, All}
-use Rattle.fab_wire.specs.declared.requests.Look.{Look}
-use Rattle.fab_wire.specs.declared.requests.Look.TheVariants.{Below, At}
-use Rattle.fab_wire.specs.declared.replies.Choice.{Choice}
-use Rattle.fab_wire.specs.declared.replies.Lineage.{Lineage}
+use Rattle.messages.specs.declared.calls.Call.{Call}
+use Rattle.messages.specs.declared.requests.Version.{Version}
+use Rattle.messages.specs.declared.requests.Want.{Want}
+use Rattle.messages.specs.declared.requests.Want.TheVariants.{Seat, All}
+use Rattle.messages.specs.declared.requests.Look.{Look}
+use Rattle.messages.specs.declared.requests.Look.TheVariants.{Below, At}
+use Rattle.messages.specs.declared.replies.Choice.{Choice}
+use Rattle.messages.specs.declared.replies.Lineage.{Lineage}
 
 -- a field: any number of so many bytes, one that has limits, or bytes whose count was told before
 pub data Field : Type 0 where

@@ -2,4 +2,3 @@ pub mod Fields
 pub mod Spelling
 pub mod Limits
 pub mod Reading
-pub mod Clients

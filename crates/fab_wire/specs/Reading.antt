@@ -11,26 +11,26 @@ use Rattle.fab_base.specs.declared.stamps.Ballot.{Ballot}
 use Rattle.fab_base.specs.declared.answers.Answer.TheVariants.{Data, Done, Aborted}
 use Rattle.fab_base.specs.declared.answers.Cause.TheVariants as causes
 use Rattle.fab_base.specs.declared.answers.Refusal.TheVariants.{NoStripe, NoBlock, Length, Busy, Spent}
-use Rattle.fab_wire.specs.declared.calls.Call.{Call}
-use Rattle.fab_wire.specs.declared.clients.ClientAnswer.{ClientAnswer}
-use Rattle.fab_wire.specs.declared.clients.ClientAnswer.TheVariants.{Ended, Refused}
-use Rattle.fab_wire.specs.declared.clients.ClientOp.{ClientOp}
-use Rattle.fab_wire.specs.declared.clients.ClientOp.TheVariants.{ReadBlock, WriteBlock, ReadStripe, WriteStripe}
+use Rattle.messages.specs.declared.calls.Call.{Call}
+use Rattle.messages.specs.declared.clients.ClientAnswer.{ClientAnswer}
+use Rattle.messages.specs.declared.clients.ClientAnswer.TheVariants.{Ended, Refused}
+use Rattle.messages.specs.declared.clients.ClientOp.{ClientOp}
+use Rattle.messages.specs.declared.clients.ClientOp.TheVariants.{ReadBlock, WriteBlock, ReadStripe, WriteStripe}
 use Rattle.fab_wire.specs.declared.faults.ReadFault.{ReadFault}
 use Rattle.fab_wire.specs.declared.faults.ReadFault.TheVariants as faults
-use Rattle.fab_wire.specs.declared.messages.Message.{Message}
-use Rattle.fab_wire.specs.declared.messages.Message.TheVariants as messages
-use Rattle.fab_wire.specs.declared.requests.Version.{Version}
-use Rattle.fab_wire.specs.declared.requests.Want.{Want}
-use Rattle.fab_wire.specs.declared.requests.Want.TheVariants.{Seat, All}
-use Rattle.fab_wire.specs.declared.requests.Look.{Look}
-use Rattle.fab_wire.specs.declared.requests.Look.TheVariants.{Below, At}
-use Rattle.fab_wire.specs.declared.requests.Request.{Request}
-use Rattle.fab_wire.specs.declared.requests.Request.TheVariants as requests
-use Rattle.fab_wire.specs.declared.replies.Reply.{Reply}
-use Rattle.fab_wire.specs.declared.replies.Reply.TheVariants as replies
-use Rattle.fab_wire.specs.declared.replies.Choice.{Choice}
-use Rattle.fab_wire.specs.declared.replies.Lineage.{Lineage}
+use Rattle.messages.specs.declared.packets.Message.{Message}
+use Rattle.messages.specs.declared.packets.Message.TheVariants as messages
+use Rattle.messages.specs.declared.requests.Version.{Version}
+use Rattle.messages.specs.declared.requests.Want.{Want}
+use Rattle.messages.specs.declared.requests.Want.TheVariants.{Seat, All}
+use Rattle.messages.specs.declared.requests.Look.{Look}
+use Rattle.messages.specs.declared.requests.Look.TheVariants.{Below, At}
+use Rattle.messages.specs.declared.requests.Request.{Request}
+use Rattle.messages.specs.declared.requests.Request.TheVariants as requests
+use Rattle.messages.specs.declared.replies.Reply.{Reply}
+use Rattle.messages.specs.declared.replies.Reply.TheVariants as replies
+use Rattle.messages.specs.declared.replies.Choice.{Choice}
+use Rattle.messages.specs.declared.replies.Lineage.{Lineage}
 use Rattle.fab_wire.specs.Spelling.{fabw}
 
 -- how a field is read

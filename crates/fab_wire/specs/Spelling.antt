@@ -4,19 +4,19 @@ use Rattle.fab_base.specs.declared.answers.Answer.TheVariants.{Data, Done, Abort
 use Rattle.fab_base.specs.declared.answers.Cause.TheVariants as causes
 use Rattle.fab_base.specs.declared.answers.Refusal.{Refusal}
 use Rattle.fab_base.specs.declared.answers.Refusal.TheVariants.{Down, NoStripe, NoBlock, Length, Busy, Spent}
-use Rattle.fab_wire.specs.declared.clients.ClientOp.{ClientOp}
-use Rattle.fab_wire.specs.declared.clients.ClientOp.TheVariants.{ReadBlock, WriteBlock, ReadStripe, WriteStripe}
-use Rattle.fab_wire.specs.declared.clients.ClientAnswer.{ClientAnswer}
-use Rattle.fab_wire.specs.declared.clients.ClientAnswer.TheVariants.{Ended, Refused}
+use Rattle.messages.specs.declared.clients.ClientOp.{ClientOp}
+use Rattle.messages.specs.declared.clients.ClientOp.TheVariants.{ReadBlock, WriteBlock, ReadStripe, WriteStripe}
+use Rattle.messages.specs.declared.clients.ClientAnswer.{ClientAnswer}
+use Rattle.messages.specs.declared.clients.ClientAnswer.TheVariants.{Ended, Refused}
 use Rattle.fab_wire.specs.declared.faults.WireFault.{WireFault}
 use Rattle.fab_wire.specs.declared.faults.WireFault.TheVariants.{Malformed, NoMemory}
-use Rattle.fab_wire.specs.declared.messages.Message.{Message}
-use Rattle.fab_wire.specs.declared.messages.Message.TheVariants.{Learn, Synced, Client, ClientReply}
-use Rattle.fab_wire.specs.declared.messages.Message.TheVariants as messages
-use Rattle.fab_wire.specs.declared.requests.Request.{Request}
-use Rattle.fab_wire.specs.declared.requests.Request.TheVariants as requests
-use Rattle.fab_wire.specs.declared.replies.Reply.{Reply}
-use Rattle.fab_wire.specs.declared.replies.Reply.TheVariants as replies
+use Rattle.messages.specs.declared.packets.Message.{Message}
+use Rattle.messages.specs.declared.packets.Message.TheVariants.{Learn, Synced, Client, ClientReply}
+use Rattle.messages.specs.declared.packets.Message.TheVariants as messages
+use Rattle.messages.specs.declared.requests.Request.{Request}
+use Rattle.messages.specs.declared.requests.Request.TheVariants as requests
+use Rattle.messages.specs.declared.replies.Reply.{Reply}
+use Rattle.messages.specs.declared.replies.Reply.TheVariants as replies
 use Rattle.fab_wire.specs.Fields.{Field, Limited, spelled, AllFit, u8, u16, u32, u64, exactly, call_fields, stamp_fields, ballot_fields, block_fields, stripe_fields, members_fields, option_fields, want_fields, look_fields, version_fields, choice_fields, lineage_fields}
 
 -- a request's kind, and its fields after the call

@@ -5,10 +5,10 @@ ghost use Rattle.fab_base.specs.declared.answers.Answer.TheVariants.{Aborted};
 ghost use Rattle.fab_wire.specs.Fields.{spelled, AllFit, exactly};
 ghost use Rattle.fab_wire.specs.Limits.{StripeFits, RefusalFits, AnswerFits};
 ghost use Rattle.fab_wire.specs.Spelling.{fields_of, op_number, answer_fields, refusal_field};
-ghost use Rattle.fab_wire.specs.declared.clients.ClientAnswer.TheVariants.{Ended};
-ghost use Rattle.fab_wire.specs.declared.messages.Message.TheVariants as messages;
+ghost use Rattle.messages.specs.declared.clients.ClientAnswer.TheVariants.{Ended};
+ghost use Rattle.messages.specs.declared.packets.Message.TheVariants as messages;
 
-use crate::clients::{ClientAnswer, ClientAsk, ClientOp};
+use messages::{ClientAnswer, ClientAsk, ClientOp};
 use crate::field_writes::{put_opening, put_stamp, put_stripe, put_u8, put_u16, put_u32, put_u64};
 use fab_base::{Answer, Cause, NoMem, Refusal};
 

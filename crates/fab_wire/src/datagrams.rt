@@ -1,19 +1,19 @@
 //! Messages as the bytes of a datagram, and back.
 
 ghost use Rattle.std.specs.Prelude.{◌≡◌, ◌≤◌, ◌<◌, ◌+◌, ◌↔◌, List, ℕ, length, IfOk, IfErr, IfSome, IsNone, OnOk, ◌++◌};
-ghost use Rattle.fab_wire.specs.declared.messages.Message.{Message};
+ghost use Rattle.messages.specs.declared.packets.Message.{Message};
 ghost use Rattle.fab_wire.specs.Fields.{spelled, AllFit, call_fields, stamp_fields, ballot_fields};
 ghost use Rattle.fab_wire.specs.Limits.{HasSpelling};
 ghost use Rattle.fab_wire.specs.Reading.{Gives, exactly_at, choice_at, kinds, message_at, datagram_of};
 ghost use Rattle.fab_wire.specs.Spelling.{fabw, fields_of, Spells, MalformedIs, IsAt};
 
-use crate::calls::Call;
+use messages::Call;
 use crate::client_reads::client_message_of;
 use crate::client_writes::{put_client, put_client_reply};
 use crate::faults::{ReadFault, WireFault};
 use crate::field_reads::{ballot_of, call_of, stamp_of, u8_of, u32_of};
 use crate::field_writes::{FABW, VERSION};
-use crate::messages::Message;
+use messages::Message;
 use crate::reply_reads::reply_of;
 use crate::reply_writes::put_reply;
 use crate::request_reads::request_of;

@@ -6,10 +6,10 @@ ghost use Rattle.fab_wire.specs.Reading.{call_at, stamp_at, ballot_at, brick_at,
 ghost use Rattle.fab_wire.specs.Reading.{stripe_number_at, block_at, stripe_at, members_at, want_at, look_at};
 ghost use Rattle.fab_wire.specs.Reading.{version_at, accepted_at, lineage_at};
 
-use crate::calls::Call;
+use messages::Call;
 use crate::faults::ReadFault;
-use crate::replies::{Choice, Lineage};
-use crate::requests::{Look, Version, Want};
+use messages::{Choice, Lineage};
+use messages::{Look, Version, Want};
 use byteorder::{BigEndian, ByteOrder};
 use fab_base::{Ballot, BrickId, Bytes, GroupId, Members, Stamp, StripeNo, ViewNo};
 use std::alloc::Global;

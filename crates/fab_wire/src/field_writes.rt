@@ -7,9 +7,9 @@ ghost use Rattle.fab_wire.specs.Fields.{look_fields, version_fields, choice_fiel
 ghost use Rattle.fab_wire.specs.Spelling.{opening_fields};
 ghost use Rattle.fab_wire.specs.Limits.{WantFits, BlockFits, StripeFits, HasMembers, VersionFits, LineageFits, ChoiceFits};
 
-use crate::calls::Call;
-use crate::replies::{Choice, Lineage};
-use crate::requests::{Look, Version, Want};
+use messages::Call;
+use messages::{Choice, Lineage};
+use messages::{Look, Version, Want};
 use byteorder::{BigEndian, ByteOrder};
 use fab_base::{Ballot, Bytes, Members, NoMem, Stamp};
 

@@ -4,15 +4,15 @@ ghost use Rattle.std.specs.Prelude.{◌≡◌, ◌++◌, ◌∷◌, OnOk};
 ghost use Rattle.fab_wire.specs.Fields.{spelled, AllFit, u32, stamp_fields, option_fields, version_fields, lineage_fields};
 ghost use Rattle.fab_wire.specs.Limits.{VersionFits, LineageFits, ReplyFits};
 ghost use Rattle.fab_wire.specs.Spelling.{fields_of, reply_row};
-ghost use Rattle.fab_wire.specs.declared.messages.Message.TheVariants as messages;
+ghost use Rattle.messages.specs.declared.packets.Message.TheVariants as messages;
 
-use crate::calls::Call;
+use messages::Call;
 use crate::field_writes::{
     put_ballot, put_choice_option, put_head, put_lineage_option, put_stamp, put_stamp_option,
     put_u32, put_version_option,
 };
-use crate::replies::{Lineage, Reply};
-use crate::requests::Version;
+use messages::{Lineage, Reply};
+use messages::Version;
 use fab_base::{NoMem, Stamp, ViewNo};
 
 /// A reply's kind.

@@ -10,8 +10,8 @@ use crate::field_reads::{
     ballot_of, block_of, call_of, data_block_of, group_of, look_of, members_of, stamp_of,
     stamp_option_of, view_number_of, want_of,
 };
-use crate::messages::Message;
-use crate::requests::Request;
+use messages::Message;
+use messages::Request;
 use fab_base::View;
 use std::alloc::Global;
 

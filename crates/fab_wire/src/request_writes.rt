@@ -5,14 +5,14 @@ ghost use Rattle.fab_wire.specs.Fields.{Limited, spelled, AllFit, stamp_fields, 
 ghost use Rattle.fab_wire.specs.Fields.{ballot_fields, members_fields};
 ghost use Rattle.fab_wire.specs.Limits.{WantFits, BlockFits, HasMembers, RequestFits};
 ghost use Rattle.fab_wire.specs.Spelling.{fields_of, request_row};
-ghost use Rattle.fab_wire.specs.declared.messages.Message.TheVariants as messages;
+ghost use Rattle.messages.specs.declared.packets.Message.TheVariants as messages;
 
-use crate::calls::Call;
+use messages::Call;
 use crate::field_writes::{
     put_ballot, put_block, put_head, put_look, put_members, put_opening, put_stamp,
     put_stamp_option, put_u8, put_u32, put_want,
 };
-use crate::requests::{Look, Request, Want};
+use messages::{Look, Request, Want};
 use fab_base::{Ballot, Bytes, GroupId, Members, NoMem, Stamp, View, ViewNo};
 
 /// A request's kind.

@@ -5,7 +5,7 @@ use Rattle.std.specs.Option.{ok_or}
 use Rattle.std.proofs.lemmas.Bool.{and_parts, not-true}
 use Rattle.std.proofs.lemmas.Bool.Decides.{nat_tests}
 use Rattle.fab_base.specs.declared.identities.BrickId.{BrickId}
-use Rattle.protocol.specs.Settings.{Group, Layout}
+use Rattle.fab_base.specs.Layouts.{Group, Layout}
 use Rattle.toml.specs.Data.{Members}
 use Rattle.layout.specs.declared.faults.Key.{Key}
 use Rattle.layout.specs.declared.faults.Key.TheVariants as keys

@@ -1,6 +1,6 @@
 -- Reading a list one element after another.
 use Rattle.std.proofs.Common.{List, ◌++◌, Option, option_map, Result, Ok}
-use Rattle.protocol.specs.Settings.{Group}
+use Rattle.fab_base.specs.Layouts.{Group}
 use Rattle.layout.specs.declared.faults.LayoutFault.{LayoutFault}
 use Rattle.layout.specs.Checks.{◌>>=◌}
 

@@ -3,7 +3,7 @@ use Rattle.std.proofs.Common.{◌≡◌, ℕ, ◌<◌, nat_eq, length, map, Some
 use Rattle.std.specs.List.{IsDistinct, AllByRecursion}
 use Rattle.fab_base.specs.declared.identities.BrickId.{BrickId}
 use Rattle.quorum.specs.Quorums.{IsWithinLimits}
-use Rattle.protocol.specs.Settings.{Group, Layout, group_of}
+use Rattle.fab_base.specs.Layouts.{Group, Layout, group_of}
 use Rattle.layout.specs.Limits.{IsLayout}
 
 -- each group is within the limits of a quorum

@@ -1,7 +1,7 @@
 -- The limits of a layout.
 use Rattle.std.specs.Prelude.{◌≡◌, ℕ, ◌*◌, ◌<◌, ◌≤◌, nat_eq, length, map, Some}
 use Rattle.std.specs.List.{IsDistinct, AllByRecursion}
-use Rattle.protocol.specs.Settings.{Group, Layout, group_of}
+use Rattle.fab_base.specs.Layouts.{Group, Layout, group_of}
 use Rattle.quorum.specs.Quorums.{IsWithinLimits}
 
 -- A group of a disk with blocks of this many bytes and this many bricks: its stripes and blocks are within the limits, and its members are

@@ -1,7 +1,7 @@
 -- What a layout text says.
 use Rattle.std.specs.Prelude.{ℕ, List, [], ◌∷◌, if◌then◌else◌, Option, None, Some, Result, Ok, Err}
 use Rattle.std.specs.Str.{is_utf8}
-use Rattle.protocol.specs.Settings.{Group, Layout}
+use Rattle.fab_base.specs.Layouts.{Group, Layout}
 use Rattle.toml.specs.Data.{Members}
 use Rattle.toml.specs.Parse.{parse_document}
 use Rattle.layout.specs.declared.faults.LayoutFault.{LayoutFault}

@@ -2,7 +2,8 @@
 
 ghost use Rattle.std.specs.Prelude.{◌≡◌, ◌↔◌, ◌<◌, IsSome, IfSome, length};
 ghost use Rattle.quorum.specs.Quorums.{IsWithinLimits};
-ghost use Rattle.protocol.specs.Settings.{quorum_of, seat_in};
+ghost use Rattle.fab_base.specs.Layouts.{seat_in};
+ghost use Rattle.quorum.specs.Quorums.{quorum_of};
 
 use fab_base::{BrickId, Members};
 use quorum::Policy;
@@ -18,7 +19,7 @@ pub struct Group {
 
 impl Model for Group {
     ghost use Rattle.std.specs.Prelude.{◌≡◌, length};
-    ghost use Rattle.protocol.specs.Settings.{Group};
+    ghost use Rattle.fab_base.specs.Layouts.{Group};
 
     ghost Value = { Group };
 

@@ -1,7 +1,7 @@
 //! Layouts.
 
 ghost use Rattle.std.specs.Prelude.{◌≡◌, ◌<◌, length, option_copied, IfSome, IfOk};
-ghost use Rattle.protocol.specs.Settings.{group_of};
+ghost use Rattle.fab_base.specs.Layouts.{group_of};
 ghost use Rattle.layout.specs.Limits.{IsLayout};
 
 use crate::groups::Group;
@@ -19,7 +19,7 @@ pub struct Layout {
 }
 
 impl Model for Layout {
-    ghost use Rattle.protocol.specs.Settings.{Layout};
+    ghost use Rattle.fab_base.specs.Layouts.{Layout};
     ghost use Rattle.layout.specs.Limits.{IsLayout};
 
     ghost Value = { Layout };

@@ -6,16 +6,16 @@ use Rattle.std.proofs.lemmas.Bool.Decides.{nat_tests}
 use Rattle.fab_base.specs.declared.identities.BrickId.{BrickId}
 use Rattle.fab_base.specs.declared.stamps.Stamp.{Stamp}
 use Rattle.fab_base.specs.declared.asks.Ask.{Ask}
-use Rattle.fab_wire.specs.declared.calls.Call.{Call}
-use Rattle.fab_wire.specs.declared.messages.Message.{Message}
-use Rattle.fab_wire.specs.declared.replies.Reply.{Reply}
-use Rattle.fab_wire.specs.declared.requests.Request.{Request}
-use Rattle.fab_wire.specs.declared.turns.Next.{Next}
-use Rattle.fab_wire.specs.declared.turns.Next.TheVariants.{Wait, Recover}
-use Rattle.fab_wire.specs.declared.turns.Turn.{Turn}
+use Rattle.messages.specs.declared.calls.Call.{Call}
+use Rattle.messages.specs.declared.packets.Message.{Message}
+use Rattle.messages.specs.declared.replies.Reply.{Reply}
+use Rattle.messages.specs.declared.requests.Request.{Request}
+use Rattle.messages.specs.declared.turns.Next.{Next}
+use Rattle.messages.specs.declared.turns.Next.TheVariants.{Wait, Recover}
+use Rattle.messages.specs.declared.turns.Turn.{Turn}
 use Rattle.protocol.specs.declared.phases.Phase.{Phase}
 use Rattle.protocol.specs.declared.phases.Phase.TheVariants.{Looks, Orders, Recovers, Descends, Stores}
-use Rattle.protocol.specs.Settings.{Layout, Group, group_of}
+use Rattle.fab_base.specs.Layouts.{Layout, Group, group_of}
 use Rattle.protocol.specs.Coordinators as machine
 use Rattle.protocol.specs.Coordinators.{Coordinator, next_phase, in_phase, request_of, counts_at, call_same, answers_phase, new_seat}
 use Rattle.protocol.specs.Nodes.{to_members, phase_packets, is_stripe_op, has_length}

@@ -4,14 +4,16 @@ use Rattle.std.proofs.lemmas.Bool.{cond_both}
 use Rattle.fab_base.specs.declared.identities.BrickId.{BrickId}
 use Rattle.fab_base.specs.declared.stamps.Stamp.{Stamp}
 use Rattle.fab_base.specs.declared.asks.Ask.{Ask}
-use Rattle.fab_wire.specs.declared.calls.Call.{Call}
-use Rattle.fab_wire.specs.declared.replies.Reply.{Reply}
+use Rattle.messages.specs.declared.calls.Call.{Call}
+use Rattle.messages.specs.declared.replies.Reply.{Reply}
 use Rattle.protocol.specs.declared.phases.Phase.{Phase}
 use Rattle.protocol.specs.declared.phases.Phase.TheVariants.{Looks, Orders, Recovers, Descends, Stores}
 use Rattle.protocol.specs.declared.phases.Counted.{Counted}
 use Rattle.protocol.specs.declared.phases.Refuser.{Refuser}
 use Rattle.protocol.specs.declared.phases.FullMember.{FullMember}
-use Rattle.protocol.specs.Settings.{Group, Code, quorum_of}
+use Rattle.fab_base.specs.Layouts.{Group}
+use Rattle.quorum.specs.Quorums.{quorum_of}
+use Rattle.protocol.specs.Settings.{Code}
 use Rattle.protocol.specs.Coordinators.{Coordinator, Next, Ignores, Waits, Sends, Makes, Ends, next_phase, in_phase, fast_version, greatest_refuser, greatest_found, pieces_at, answered_fast, once_ordered, ordered_again, unless_refused, unless_told_full, lowest_full, read_back, answer_of, decided, once_full, counted_at, counts_at, on_reply, most_rounds}
 use Rattle.node.specs.Operations.{IsFirst, IsNoRecovery}
 

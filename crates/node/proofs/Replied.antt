@@ -2,9 +2,9 @@
 use Rattle.std.proofs.Common.{◌≡◌, ℕ, Bool, true, false, cond, nat_eq, Some, None, refl, ◌∙◌, ap, arith}
 use Rattle.std.proofs.lemmas.Bool.Decides.{nat_tests}
 use Rattle.fab_base.specs.declared.identities.BrickId.{BrickId}
-use Rattle.fab_wire.specs.declared.calls.Call.{Call}
-use Rattle.fab_wire.specs.declared.replies.Reply.{Reply}
-use Rattle.protocol.specs.Settings.{Group, Layout, group_of}
+use Rattle.messages.specs.declared.calls.Call.{Call}
+use Rattle.messages.specs.declared.replies.Reply.{Reply}
+use Rattle.fab_base.specs.Layouts.{Group, Layout, group_of}
 use Rattle.protocol.specs.Coordinators.{Coordinator, Next, Ignores, Waits, Sends, Makes, Ends, on_reply}
 use Rattle.protocol.specs.Nodes.{Node, carried_out, replied, replied_at, replied_to, known_after, fresh_stamp, no_step, with_known}
 use Rattle.stripe_code.specs.Codes.{block_code, coding}

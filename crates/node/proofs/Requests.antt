@@ -2,15 +2,15 @@
 use Rattle.std.proofs.Common.{◌≡◌, ℕ, ◌&&◌, List, Option, Some, None, inl, inr, refl, sym, ◌∙◌, ap, subst}
 use Rattle.std.proofs.lemmas.Bool.{cond_both}
 use Rattle.fab_base.specs.declared.identities.BrickId.{BrickId}
-use Rattle.fab_wire.specs.declared.calls.Call.{Call}
-use Rattle.fab_wire.specs.declared.replies.Reply.{Reply}
-use Rattle.fab_wire.specs.declared.requests.Request.{Request}
+use Rattle.messages.specs.declared.calls.Call.{Call}
+use Rattle.messages.specs.declared.replies.Reply.{Reply}
+use Rattle.messages.specs.declared.requests.Request.{Request}
 use Rattle.frame_store.specs.declared.shapes.Shape.{Shape}
 use Rattle.version_log.specs.Versions.{Version}
 use Rattle.brick_state.specs.States.{StateOf}
 use Rattle.brick_store.specs.Bricks.{Brick}
 use Rattle.brick_store.specs.Images.{StandsFor}
-use Rattle.protocol.specs.Settings.{Layout, Group, group_of, seat_in}
+use Rattle.fab_base.specs.Layouts.{Layout, Group, group_of, seat_in}
 use Rattle.protocol.specs.Nodes.{Node, NodeStep, no_step, requested, requested_in, requested_at, reply_packets, is_served, fits_block}
 use Rattle.protocol.specs.declared.tellings.Told.TheVariants.{Nothing}
 use Rattle.stripe_code.specs.Codes.{coding}

@@ -7,7 +7,7 @@ use Rattle.brick_state.specs.States.{StateOf, booted, live}
 use Rattle.brick_store.specs.Bricks.{Brick}
 use Rattle.brick_store.specs.Images.{StandsForEither}
 use Rattle.brick_store.specs.Openings.{IsAllowedOr}
-use Rattle.protocol.specs.Settings.{Layout}
+use Rattle.fab_base.specs.Layouts.{Layout}
 use Rattle.protocol.specs.Nodes.{Node, restarted, no_calls}
 use Rattle.replica.specs.Parts.{part_in}
 use Rattle.node.specs.declared.open_calls.OpenCalls.{OpenCalls}

@@ -2,7 +2,7 @@
 use Rattle.std.proofs.Common.{◌≡◌, ℕ, Option, Some, sym, ◌∙◌, subst}
 use Rattle.fab_base.specs.declared.asks.Ask.{Ask}
 use Rattle.brick_store.specs.Bricks.{Brick}
-use Rattle.protocol.specs.Settings.{Layout, Group, group_of}
+use Rattle.fab_base.specs.Layouts.{Layout, Group, group_of}
 use Rattle.protocol.specs.Nodes.{Node, NodeStep, began, began_in, new_coordinator, invoked}
 use Rattle.stripe_code.specs.Codes.{coding}
 use Rattle.node.specs.declared.open_calls.OpenCalls.{OpenCalls}

@@ -11,7 +11,7 @@ use Rattle.version_log.specs.Versions.{Version}
 use Rattle.brick_state.specs.States.{StateOf}
 use Rattle.brick_store.specs.Bricks.{Brick}
 use Rattle.brick_store.specs.Images.{StandsFor, LeavesState}
-use Rattle.protocol.specs.Settings.{Layout}
+use Rattle.fab_base.specs.Layouts.{Layout}
 use Rattle.protocol.specs.Nodes.{Node}
 use Rattle.node.specs.declared.open_calls.OpenCalls.{OpenCalls}
 use Rattle.node.specs.Operations.{coordinator_of}

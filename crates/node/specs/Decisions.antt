@@ -3,8 +3,8 @@ use Rattle.std.specs.Prelude.{◌≡◌, ◌≤◌, List, Option, Some, None, ve
 use Rattle.fab_base.specs.declared.identities.BrickId.{BrickId}
 use Rattle.fab_base.specs.declared.stamps.Stamp.{Stamp}
 use Rattle.fab_base.specs.declared.notes.Note.{Note}
-use Rattle.fab_wire.specs.declared.messages.Message.{Message}
-use Rattle.protocol.specs.Settings.{Layout}
+use Rattle.messages.specs.declared.packets.Message.{Message}
+use Rattle.fab_base.specs.Layouts.{Layout}
 use Rattle.protocol.specs.Coordinators as machine
 use Rattle.protocol.specs.Coordinators.{Coordinator}
 use Rattle.protocol.specs.Nodes.{phase_packets}

@@ -1,7 +1,7 @@
 -- The open operations of a brick, as the machine sees them.
 use Rattle.std.specs.Prelude.{◌≡◌, true, [], Some, None}
 use Rattle.fab_base.specs.declared.member_lists.View.{View}
-use Rattle.protocol.specs.Settings.{Layout, Group, group_of}
+use Rattle.fab_base.specs.Layouts.{Layout, Group, group_of}
 use Rattle.protocol.specs.declared.phases.Phase.{Phase}
 use Rattle.protocol.specs.declared.phases.Phase.TheVariants.{Looks, Orders, Recovers, Descends, Stores}
 use Rattle.protocol.specs.Coordinators.{Coordinator}

@@ -10,7 +10,7 @@ use Rattle.version_log.specs.Versions.{Version}
 use Rattle.brick_state.specs.States.{StateOf, live}
 use Rattle.brick_store.specs.Bricks.{Brick}
 use Rattle.brick_store.specs.Images.{StandsFor}
-use Rattle.protocol.specs.Settings.{Layout}
+use Rattle.fab_base.specs.Layouts.{Layout}
 use Rattle.protocol.specs.Coordinators.{Coordinator}
 use Rattle.protocol.specs.Nodes as machine
 use Rattle.replica.specs.Parts.{part_in, IsPartsOf, IsFirstView}

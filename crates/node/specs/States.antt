@@ -9,7 +9,7 @@ use Rattle.replica.specs.Parts.{part_in}
 use Rattle.node.specs.declared.open_calls.OpenCalls.{OpenCalls}
 use Rattle.node.specs.declared.outs.Outs.{Outs}
 use Rattle.node.specs.declared.outs.Begun.{Begun}
-use Rattle.protocol.specs.Settings.{Layout}
+use Rattle.fab_base.specs.Layouts.{Layout}
 use Rattle.protocol.specs.Replicas.{Replica}
 use Rattle.node.specs.declared.operations.Operation.{Operation}
 use Rattle.node.specs.Operations.{coordinator_of, IsOperationOf}

@@ -11,7 +11,7 @@ ghost use Rattle.node.specs.Decisions.{machine_next, or_waits, IsDecisionOf};
 use coord_recover::Recovery;
 use coord_stripe::StripeOp;
 use fab_base::{Answer, Ask, BrickId, CallId, NoMem, Note, Stamp, View, ViewNo};
-use fab_wire::{Call, Message, Messages, Next, Turn};
+use messages::{Call, Message, Messages, Next, Turn};
 use layout::{Group, Layout};
 use std::alloc::Global;
 
@@ -81,7 +81,7 @@ pub enum Decision {
 
 impl Operation {
     ghost use Rattle.std.specs.Prelude.{◌≡◌, ◌-◌, ◌<◌, ◌≤◌, ◌^◌, true, IfOk, Some, length, vec_len, option_copied};
-    ghost use Rattle.protocol.specs.Settings.{Layout, group_of};
+    ghost use Rattle.fab_base.specs.Layouts.{Layout, group_of};
     ghost use Rattle.protocol.specs.Nodes.{is_stripe_op, has_length};
     ghost use Rattle.coord_phase.specs.Decisions.{decided_on, begins_in, seen_in, note_told};
     ghost use Rattle.coord_phase.specs.Messages.{phase_messages};

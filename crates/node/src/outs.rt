@@ -2,7 +2,7 @@
 
 ghost use Rattle.std.specs.Prelude.{◌≡◌, []};
 
-use fab_wire::Packet;
+use messages::Packet;
 use protocol::Told;
 use std::alloc::Global;
 

@@ -5,7 +5,7 @@ ghost use Rattle.protocol.specs.Nodes.{collect_packets, reply_packets};
 ghost use Rattle.coord_phase.specs.Messages.{packets_from};
 
 use fab_base::{BrickId, NoMem, Stamp};
-use fab_wire::{Call, Message, Messages, Packet, Reply, Request};
+use messages::{Call, Message, Messages, Packet, Reply, Request};
 use layout::Group;
 use std::alloc::Global;
 

@@ -2,9 +2,9 @@
 use Rattle.std.proofs.Common.{◌≡◌, ℕ, ◌-◌, nat_lt, true, false, ◌&&◌, List, Option, Some, None, refl, sym, ◌∙◌, subst}
 use Rattle.std.specs.Prelude.{nat_eq, ◌^◌}
 use Rattle.std.proofs.lemmas.Bool.{cond_both, eqb-true, and_parts}
-use Rattle.fab_wire.specs.declared.calls.Call.{Call}
-use Rattle.fab_wire.specs.declared.replies.Reply.{Reply}
-use Rattle.protocol.specs.Settings.{Group, seat_in}
+use Rattle.messages.specs.declared.calls.Call.{Call}
+use Rattle.messages.specs.declared.replies.Reply.{Reply}
+use Rattle.fab_base.specs.Layouts.{Group, seat_in}
 use Rattle.protocol.specs.Coordinators.{Coordinator, Counted, call_same, answers_phase, has_seat, new_seat, counts_at}
 
 -- calls that test the same are equal

@@ -10,20 +10,22 @@ use Rattle.fab_base.specs.declared.answers.Answer.{Answer}
 use Rattle.fab_base.specs.declared.answers.Answer.TheVariants.{Data, Done, Aborted}
 use Rattle.fab_base.specs.declared.answers.Cause.TheVariants as Cause
 use Rattle.fab_base.specs.Stamps.{stamp_below, stamp_same}
-use Rattle.fab_wire.specs.declared.calls.Call.{Call}
-use Rattle.fab_wire.specs.declared.requests.Look.TheVariants.{Below}
-use Rattle.fab_wire.specs.declared.requests.Version.{Version}
-use Rattle.fab_wire.specs.declared.requests.Want.TheVariants.{All}
-use Rattle.fab_wire.specs.declared.requests.Request.{Request}
-use Rattle.fab_wire.specs.declared.requests.Request.TheVariants.{Read, Order, OrderRead, Write}
-use Rattle.fab_wire.specs.declared.replies.Reply.{Reply}
-use Rattle.fab_wire.specs.declared.replies.Reply.TheVariants.{Found, Ordered, OrderedRead, Stored, Later, Full}
+use Rattle.messages.specs.declared.calls.Call.{Call}
+use Rattle.messages.specs.declared.requests.Look.TheVariants.{Below}
+use Rattle.messages.specs.declared.requests.Version.{Version}
+use Rattle.messages.specs.declared.requests.Want.TheVariants.{All}
+use Rattle.messages.specs.declared.requests.Request.{Request}
+use Rattle.messages.specs.declared.requests.Request.TheVariants.{Read, Order, OrderRead, Write}
+use Rattle.messages.specs.declared.replies.Reply.{Reply}
+use Rattle.messages.specs.declared.replies.Reply.TheVariants.{Found, Ordered, OrderedRead, Stored, Later, Full}
 pub use Rattle.protocol.specs.declared.phases.Phase.{Phase}
 pub use Rattle.protocol.specs.declared.phases.Phase.TheVariants.{Looks, Orders, Recovers, Descends, Stores}
 pub use Rattle.protocol.specs.declared.phases.Counted.{Counted}
 pub use Rattle.protocol.specs.declared.phases.Refuser.{Refuser}
 pub use Rattle.protocol.specs.declared.phases.FullMember.{FullMember}
-use Rattle.protocol.specs.Settings.{Group, Code, Piece, quorum_of, seat_in}
+use Rattle.fab_base.specs.Layouts.{Group, seat_in}
+use Rattle.quorum.specs.Quorums.{quorum_of}
+use Rattle.protocol.specs.Settings.{Code, Piece}
 
 -- An open operation at its coordinator: what is asked, its stamp, how many rounds of ordering it has begun, the version that it read back and
 -- its content, where it is a recovery that found one, the call of its present phase, and the replies that count in it.

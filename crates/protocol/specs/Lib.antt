@@ -4,4 +4,3 @@ pub mod Coordinators
 pub mod Nodes
 pub mod Worlds
 pub mod Happenings
-pub mod Laws

@@ -6,14 +6,15 @@ use Rattle.fab_base.specs.declared.asks.Ask.{Ask}
 use Rattle.fab_base.specs.declared.asks.Op.{Op}
 use Rattle.fab_base.specs.declared.asks.Op.TheVariants.{ReadBlock, WriteBlock, ReadStripe, WriteStripe}
 use Rattle.fab_base.specs.declared.answers.Refusal.{Refusal}
-use Rattle.fab_wire.specs.declared.calls.Call.{Call}
-use Rattle.fab_wire.specs.declared.messages.Message.{Message}
-use Rattle.fab_wire.specs.declared.messages.Packet.{Packet}
-use Rattle.fab_wire.specs.declared.requests.Request.{Request}
-use Rattle.fab_wire.specs.declared.replies.Reply.{Reply}
+use Rattle.messages.specs.declared.calls.Call.{Call}
+use Rattle.messages.specs.declared.packets.Message.{Message}
+use Rattle.messages.specs.declared.packets.Packet.{Packet}
+use Rattle.messages.specs.declared.requests.Request.{Request}
+use Rattle.messages.specs.declared.replies.Reply.{Reply}
 pub use Rattle.protocol.specs.declared.tellings.Told.{Told}
 pub use Rattle.protocol.specs.declared.tellings.Told.TheVariants.{Nothing, Made, Answers}
-use Rattle.protocol.specs.Settings.{Setting, Layout, Group, group_of, seat_in, are_bytes}
+use Rattle.fab_base.specs.Layouts.{Layout, Group, group_of, seat_in}
+use Rattle.protocol.specs.Settings.{Setting, are_bytes}
 use Rattle.protocol.specs.Replicas.{Replica, Reaction, first_replica, handle}
 use Rattle.protocol.specs.Coordinators.{Phase, Looks, Orders, Coordinator, Counted, Next, Ignores, Waits, Sends, Makes, Ends, has_seat, request_of, on_reply}
 

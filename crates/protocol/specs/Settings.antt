@@ -1,23 +1,9 @@
 -- What does not change while a disk runs: its bricks and groups, and the code that keeps a stripe.
-use Rattle.std.specs.Prelude.{◌≡◌, ℕ, ◌+◌, ◌*◌, ◌<◌, ◌≤◌, nat_eq, nat_lt, Bool, true, if◌then◌else◌, List, [], ◌∷◌, length, Option, Some, None, map, slice_get, replicate}
-use Rattle.std.specs.Option.{option_map}
+use Rattle.std.specs.Prelude.{◌≡◌, ℕ, ◌*◌, ◌<◌, ◌≤◌, nat_eq, nat_lt, Bool, true, List, length, Some, map, slice_get, replicate}
 use Rattle.std.specs.List.{IsDistinct, list_all}
-use Rattle.fab_base.specs.declared.identities.BrickId.{BrickId}
+use Rattle.fab_base.specs.Layouts.{Layout, Group, group_of}
 use Rattle.reg_model.specs.Registers.{zero_registers}
-use Rattle.quorum.specs.Quorums.{q_of, IsWithinLimits}
-
--- a group: the members of its view 1, by seat; the data blocks of a stripe; and how many stripes
-pub record Group : Type 0 where
-  pub members : List BrickId
-  pub m : ℕ
-  pub stripes : ℕ
-
--- the bytes of a block, the number of bricks, how many live records a brick may keep, and the groups by number
-pub record Layout : Type 0 where
-  pub block : ℕ
-  pub bricks : ℕ
-  pub records : ℕ
-  pub groups : List Group
+use Rattle.quorum.specs.Quorums.{IsWithinLimits}
 
 -- a block that was found at a seat
 pub record Piece : Type 0 where
@@ -49,19 +35,6 @@ AnyBlocksDecode code block m n =
 pub record Setting : Type 0 where
   pub layout : Layout
   pub code : Code
-
--- the group of a number, if there is one
-abbrev pub group_of : Layout → ℕ → Option Group
-group_of layout g = slice_get layout.groups g
-
--- the quorum of a group
-abbrev pub quorum_of : Group → ℕ
-quorum_of group = q_of group.m (length group.members)
-
--- the seat of a brick in a list of members, the first if there are several
-abbrev pub seat_in : List BrickId → ℕ → Option ℕ
-seat_in [] brick = None
-seat_in (member ∷ members) brick = if nat_eq member.0 brick then Some 0 else option_map (λ seat. seat + 1) (seat_in members brick)
 
 -- Each group is within the limits of a quorum, its members are distinct bricks, its code gives back what it encodes, and the zero content has zero blocks.
 pub record IsSound (setting : Setting) : Type 0 where

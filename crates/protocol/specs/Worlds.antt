@@ -7,14 +7,15 @@ use Rattle.fab_base.specs.declared.asks.Ask.{Ask}
 use Rattle.fab_base.specs.declared.answers.Answer.{Answer}
 use Rattle.fab_base.specs.declared.answers.Answer.TheVariants.{Data, Done, Aborted}
 use Rattle.fab_base.specs.Stamps.{stamp_same}
-use Rattle.fab_wire.specs.declared.calls.Call.{Call}
-use Rattle.fab_wire.specs.declared.messages.Message.{Message}
-use Rattle.fab_wire.specs.declared.messages.Packet.{Packet}
-use Rattle.fab_wire.specs.declared.replies.Reply.{Reply}
+use Rattle.messages.specs.declared.calls.Call.{Call}
+use Rattle.messages.specs.declared.packets.Message.{Message}
+use Rattle.messages.specs.declared.packets.Packet.{Packet}
+use Rattle.messages.specs.declared.replies.Reply.{Reply}
 use Rattle.reg_model.specs.declared.marks.Mark.{Mark}
 use Rattle.reg_model.specs.declared.marks.Mark.TheVariants.{Begin, End, Crash}
 use Rattle.reg_model.specs.Registers.{zero_registers}
-use Rattle.protocol.specs.Settings.{Setting, Layout, Group, group_of}
+use Rattle.fab_base.specs.Layouts.{Layout, Group, group_of}
+use Rattle.protocol.specs.Settings.{Setting}
 use Rattle.protocol.specs.Replicas.{top_of}
 use Rattle.protocol.specs.Coordinators.{Counted, Coordinator, stored_content, counts_at}
 use Rattle.protocol.specs.Nodes.{Node, NodeStep, Told, Nothing, Made, Answers, put, first_node, is_stripe_op, refusal_of, invoked, received, absorbed, ticked, stopped, restarted, may_open}

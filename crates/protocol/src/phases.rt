@@ -1,7 +1,7 @@
 //! The phases of an operation at its coordinator, and the replies that count in them.
 
 use fab_base::{BrickId, Stamp};
-use fab_wire::Reply;
+use messages::Reply;
 
 /// The phase that an operation is in (Frølund 2004: a read looks, and recovers where it finds no version that all tell; a write orders, and
 /// then stores).

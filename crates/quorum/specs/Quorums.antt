@@ -1,5 +1,6 @@
 -- Sets of seats, and how many seats make a quorum.
-use Rattle.std.specs.Prelude.{ℕ, zero, suc, ◌+◌, ◌-◌, ◌/◌, ◌≤◌, Bool, ◌&&◌, true, false, ◌||◌, nat_eq}
+use Rattle.std.specs.Prelude.{ℕ, zero, suc, ◌+◌, ◌-◌, ◌/◌, ◌≤◌, Bool, ◌&&◌, true, false, ◌||◌, nat_eq, length}
+use Rattle.fab_base.specs.Layouts.{Group}
 
 -- what a seat adds to a count
 abbrev pub one_if : Bool → ℕ
@@ -38,6 +39,10 @@ f_of m n = (n - m) / 2
 -- the size of a quorum
 abbrev pub q_of : ℕ → ℕ → ℕ
 q_of m n = n - f_of m n
+
+-- the quorum of a group
+abbrev pub quorum_of : Group → ℕ
+quorum_of group = q_of group.m (length group.members)
 
 -- any two sets of at least a quorum's size share at least m seats
 abbrev pub QuorumsMeet : ℕ → ℕ → Type 0

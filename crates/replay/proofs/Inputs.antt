@@ -6,7 +6,7 @@ use Rattle.lines.specs.Lines.{parts}
 use Rattle.lines.specs.Reading.{ReadsSchedule}
 use Rattle.layout.specs.declared.faults.LayoutFault.{LayoutFault}
 use Rattle.layout.specs.Texts.{layout_of}
-use Rattle.protocol.specs.Settings.{Layout}
+use Rattle.fab_base.specs.Layouts.{Layout}
 use Rattle.protocol.specs.Worlds.{first_world}
 use Rattle.world.specs.Runs.{Run}
 use Rattle.replay.specs.declared.endings.Verdict.{Verdict}

@@ -3,9 +3,9 @@ use Rattle.std.proofs.Common.{◌≡◌, ℕ, ◌+◌, Bool, true, false, List, 
 use Rattle.std.specs.Prelude.{nat_lt}
 use Rattle.lines.specs.declared.forms.Line.{Line}
 use Rattle.lines.specs.Grammar.{line_of}
-use Rattle.protocol.specs.Settings.{Layout}
+use Rattle.fab_base.specs.Layouts.{Layout}
 use Rattle.protocol.specs.Worlds.{World, first_world}
-use Rattle.protocol.specs.Laws.{Laws}
+use Rattle.protocol_laws.specs.Laws.{Laws}
 use Rattle.stripe_code.specs.Codes.{coding}
 use Rattle.stripe_code.proofs.Soundness.{coding_is_sound}
 use Rattle.layout.specs.declared.faults.LayoutFault.{LayoutFault}

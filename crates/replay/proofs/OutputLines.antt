@@ -5,7 +5,8 @@ use Rattle.std.proofs.lemmas.Bool.Decides.{nat_tests}
 use Rattle.lines.specs.declared.forms.Line.{Line}
 use Rattle.lines.specs.Grammar.{line_of}
 use Rattle.stripe_code.specs.Codes.{coding}
-use Rattle.protocol.specs.Settings.{Setting, Layout}
+use Rattle.fab_base.specs.Layouts.{Layout}
+use Rattle.protocol.specs.Settings.{Setting}
 use Rattle.protocol.specs.Worlds.{World}
 use Rattle.world.specs.Runs.{after_line, after_lines}
 use Rattle.world.specs.Texts.{text_of}

@@ -11,7 +11,7 @@ use Rattle.lines.specs.declared.reader.Piece.{Piece}
 use Rattle.lines.specs.declared.reader.Piece.TheVariants.{Whole, Long, Ended}
 use Rattle.lines.proofs.Passing.{Passes-nil, Passes-trans}
 use Rattle.lines.specs.declared.forms.Line.{Line}
-use Rattle.protocol.specs.Settings.{Layout}
+use Rattle.fab_base.specs.Layouts.{Layout}
 use Rattle.protocol.specs.Worlds.{World}
 use Rattle.stripe_code.specs.Codes.{coding}
 use Rattle.world.specs.Runs.{Run, world_of, after_line}

@@ -1,6 +1,6 @@
 -- The lines of happenings, one more at a time.
 use Rattle.std.proofs.Common.{◌≡◌, ℕ, ◌+◌, [], ◌++◌, refl, add-one}
-use Rattle.protocol.specs.Settings.{Layout, group_of}
+use Rattle.fab_base.specs.Layouts.{Layout, group_of}
 use Rattle.protocol.specs.Worlds.{World}
 use Rattle.protocol.specs.Happenings.{happenings_of}
 use Rattle.replay.specs.Outputs.{happened_text, stripes_text, groups_text, stripes_of}

@@ -2,9 +2,10 @@
 use Rattle.std.proofs.Common.{◌≡◌, List, [], ◌∷◌, ◌++◌, refl, sym, ◌∙◌, subst}
 use Rattle.lines.specs.declared.forms.Line.{Line}
 use Rattle.stripe_code.specs.Codes.{coding}
-use Rattle.protocol.specs.Settings.{Setting, Layout, IsSound}
+use Rattle.fab_base.specs.Layouts.{Layout}
+use Rattle.protocol.specs.Settings.{Setting, IsSound}
 use Rattle.protocol.specs.Worlds.{World, Event, first_world, run}
-use Rattle.protocol.proofs.Falls.{parts_stay_on, never_surfaces}
+use Rattle.protocol_laws.proofs.Falls.{parts_stay_on, never_surfaces}
 use Rattle.world.specs.Runs.{after_line, after_lines, events_of}
 use Rattle.world.proofs.RunLemmas.{after_lines-run, world_of-run}
 use Rattle.replay.specs.Histories.{Follows}

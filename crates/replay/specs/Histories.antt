@@ -1,9 +1,9 @@
 -- What the further lines of a run cannot undo: laws of an earlier world of the run and a later one.
 use Rattle.std.specs.Prelude.{◌≡◌, ℕ, Some}
 use Rattle.fab_base.specs.declared.stamps.Stamp.{Stamp}
-use Rattle.protocol.specs.Settings.{Layout, Group, group_of}
+use Rattle.fab_base.specs.Layouts.{Layout, Group, group_of}
 use Rattle.protocol.specs.Worlds.{World}
-use Rattle.protocol.specs.Laws.{NeverFalls, IsLost, IsHeldByQuorum}
+use Rattle.protocol_laws.specs.Laws.{NeverFalls, IsLost, IsHeldByQuorum}
 
 -- No brick has lowered what it had promised or stored, and no version that was lost has surfaced.
 pub record Follows (layout : Layout) (earlier later : World) : Type 0 where

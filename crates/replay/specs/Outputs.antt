@@ -7,7 +7,7 @@ use Rattle.reg_model.specs.declared.marks.Mark.TheVariants.{Begin, End, Crash}
 use Rattle.reg_model.specs.declared.marks.Happening.{Happening}
 use Rattle.lines.specs.declared.forms.Line.{Line}
 use Rattle.lines.specs.Grammar.{line_of}
-use Rattle.protocol.specs.Settings.{Layout, Group, group_of}
+use Rattle.fab_base.specs.Layouts.{Layout, Group, group_of}
 use Rattle.protocol.specs.Worlds.{World, first_world}
 use Rattle.protocol.specs.Happenings.{happenings_of}
 use Rattle.stripe_code.specs.Codes.{coding}

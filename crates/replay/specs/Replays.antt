@@ -7,10 +7,11 @@ use Rattle.reg_model.specs.Marks.{stripe_marks, IsWellFormed}
 use Rattle.reg_model.specs.Strict.{IsStrict}
 use Rattle.lines.specs.declared.forms.Line.{Line}
 use Rattle.lines.specs.Grammar.{line_of}
-use Rattle.protocol.specs.Settings.{Setting, Layout, Group, group_of}
+use Rattle.fab_base.specs.Layouts.{Layout, Group, group_of}
+use Rattle.protocol.specs.Settings.{Setting}
 use Rattle.protocol.specs.Worlds.{World, first_world}
 use Rattle.protocol.specs.Happenings.{happenings_of}
-use Rattle.protocol.specs.Laws.{AbortsShow, Laws}
+use Rattle.protocol_laws.specs.Laws.{AbortsShow, Laws}
 use Rattle.stripe_code.specs.Codes.{coding}
 use Rattle.layout.specs.Texts.{layout_of}
 use Rattle.world.specs.Runs.{after_line, world_of}

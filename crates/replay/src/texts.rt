@@ -1,7 +1,7 @@
 //! The texts that close an output.
 
 ghost use Rattle.std.specs.Prelude.{◌≡◌, ◌++◌, IfOk, codes, count_by, string_bytes};
-ghost use Rattle.protocol.specs.Settings.{group_of};
+ghost use Rattle.fab_base.specs.Layouts.{group_of};
 ghost use Rattle.world.specs.Runs.{world_of};
 ghost use Rattle.replay.specs.Outputs.{happened_text, stripes_text, stripes_of, groups_text, most_groups, count_text, closing_text, is_begin, is_answered, is_aborted, is_crash};
 

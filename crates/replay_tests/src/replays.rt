@@ -1,7 +1,7 @@
 // Worked inputs, codes of every size, prefixes of an input, ends that fail, and a message that comes three times.
 use fab_base::{BrickId, GroupId, StripeNo};
 use fab_io::{MemSink, MemSource};
-use fab_wire::{Message, Reply};
+use messages::{Message, Reply};
 use layout::Layout;
 use replay::replay;
 use std::alloc::Global;

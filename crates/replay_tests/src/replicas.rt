@@ -5,7 +5,7 @@ ghost use Rattle.replica.specs.Parts.{IsFirstView};
 use brick_store::{BrickStore, StoreFault, format, open_store};
 use fab_base::{BrickId, Bytes, GroupId, Stamp, StripeNo, ViewNo};
 use fab_disk::MemDisk;
-use fab_wire::{Call, Look, Reply, Request, Want};
+use messages::{Call, Look, Reply, Request, Want};
 use layout::Layout;
 use replica::{ReplicaFault, handle};
 use std::alloc::Global;

@@ -6,8 +6,8 @@ use Rattle.std.proofs.Common.{ℕ}
 use Rattle.fab_base.specs.declared.stamps.Stamp.{Stamp}
 use Rattle.fab_base.specs.Stamps.{stamp_below, stamp_same, first_stamp}
 use Rattle.fab_base.proofs.StampOrder.{stamp_below_asym, stamp_not_below_trans, stamp_neither_below, stamp_same_refl, stamp_same_true}
-use Rattle.fab_wire.specs.declared.requests.Version.{Version}
-use Rattle.fab_wire.specs.declared.replies.Reply.{Reply}
+use Rattle.messages.specs.declared.requests.Version.{Version}
+use Rattle.messages.specs.declared.replies.Reply.{Reply}
 use Rattle.version_log.specs.Versions.{Version as Kept, newest}
 use Rattle.protocol.specs.Replicas.{Replica, Reaction, newest_of, is_held, top_of, stamp_max, stays, promised, unless_full}
 use Rattle.replica.specs.Parts.{part_of}

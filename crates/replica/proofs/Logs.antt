@@ -5,7 +5,7 @@ use Rattle.std.specs.Option.{option_map, is_some}
 use Rattle.fab_base.specs.declared.stamps.Stamp.{Stamp}
 use Rattle.fab_base.specs.Stamps.{stamp_below, stamp_same}
 use Rattle.fab_base.proofs.StampOrder.{stamp_below_irrefl, stamp_same_true}
-use Rattle.fab_wire.specs.declared.requests.Version.{Version}
+use Rattle.messages.specs.declared.requests.Version.{Version}
 use Rattle.version_log.specs.Versions.{Version as Kept, newest, below, is_below, has_stamp, block_of, IsRising}
 use Rattle.version_log.proofs.RisingLogs.{filter-map}
 use Rattle.protocol.specs.Replicas.{newest_of, is_held, looked_up}

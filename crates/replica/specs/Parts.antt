@@ -1,7 +1,7 @@
 -- What a store keeps, as the parts of stripes that a brick of the machine has.
 use Rattle.std.specs.Prelude.{◌≡◌, ℕ, None, List, map}
 use Rattle.fab_base.specs.declared.stamps.Stamp.{Stamp}
-use Rattle.fab_wire.specs.declared.requests.Version.{Version}
+use Rattle.messages.specs.declared.requests.Version.{Version}
 use Rattle.version_log.specs.Versions.{Version as Kept}
 use Rattle.brick_state.specs.States.{StateOf, stripe_at, group_at, live}
 use Rattle.brick_store.specs.Blocks.{log_at}

@@ -1,12 +1,12 @@
 -- The machine's reactions, as changes of what a store keeps.
 use Rattle.std.specs.Prelude.{◌≡◌, ℕ, ◌+◌, nat_eq, ◌&&◌, if◌then◌else◌, Option, Some, None}
 use Rattle.fab_base.specs.declared.identities.BrickId.{BrickId}
-use Rattle.fab_wire.specs.declared.calls.Call.{Call}
-use Rattle.fab_wire.specs.declared.requests.Request.{Request}
-use Rattle.fab_wire.specs.declared.replies.Reply.{Reply}
+use Rattle.messages.specs.declared.calls.Call.{Call}
+use Rattle.messages.specs.declared.requests.Request.{Request}
+use Rattle.messages.specs.declared.replies.Reply.{Reply}
 use Rattle.version_log.specs.Versions.{Version}
 use Rattle.brick_state.specs.States.{StateOf, live}
-use Rattle.protocol.specs.Settings.{Layout, Group, group_of, seat_in}
+use Rattle.fab_base.specs.Layouts.{Layout, Group, group_of, seat_in}
 use Rattle.protocol.specs.Replicas.{Reaction}
 use Rattle.protocol.specs.Nodes.{Node, put, is_served, fits_block, requested_in, reply_packets}
 use Rattle.replica.specs.Parts.{part_in, IsPartsOf, IsFirstView}

@@ -3,7 +3,7 @@
 ghost use Rattle.std.specs.Prelude.{◌≡◌, ◌≢◌, ◌<◌, ◌≤◌, Err, IsSome, IsTrue, length};
 ghost use Rattle.brick_store.specs.declared.faults.StoreFault.TheVariants as faults;
 ghost use Rattle.frame_store.specs.Layouts.{shape_of};
-ghost use Rattle.protocol.specs.Settings.{seat_in, group_of};
+ghost use Rattle.fab_base.specs.Layouts.{seat_in, group_of};
 ghost use Rattle.protocol.specs.Nodes.{is_served, fits_block};
 ghost use Rattle.replica.specs.Parts.{part_in, IsFirstView};
 ghost use Rattle.replica.specs.Plans.{planned, IsChange};
@@ -16,7 +16,7 @@ use crate::plans::Plan;
 use brick_store::{BrickStore, StoreFault};
 use fab_base::{BrickId, GroupId, StripeNo, ViewNo};
 use fab_disk::Disk;
-use fab_wire::{Call, Reply, Request};
+use messages::{Call, Reply, Request};
 use layout::{Group, Layout};
 use std::alloc::Global;
 

@@ -2,7 +2,7 @@
 
 ghost use Rattle.std.specs.Prelude.{◌≡◌, ℕ, false, Option, IfOk, IsTrue, length, map, option_map, if◌then◌else◌};
 ghost use Rattle.fab_base.specs.Stamps.{stamp_below};
-ghost use Rattle.fab_wire.specs.declared.replies.Reply.TheVariants.{Found, Later};
+ghost use Rattle.messages.specs.declared.replies.Reply.TheVariants.{Found, Later};
 ghost use Rattle.version_log.specs.Versions.{version, IsRising};
 ghost use Rattle.protocol.specs.Replicas.{is_held, is_wanted, told_version, top_of, newest_of, looked_up, handle, ordered, order_read, written, stays, promised, unless_full};
 ghost use Rattle.protocol.specs.Nodes.{fits_block};
@@ -12,7 +12,7 @@ ghost use Rattle.replica.specs.Plans.{planned, IsChange};
 use crate::plans::Plan;
 use brick_store::State;
 use fab_base::{Bytes, NoMem, Stamp};
-use fab_wire::{Look, Reply, Request, Version, Want};
+use messages::{Look, Reply, Request, Version, Want};
 use std::alloc::Global;
 
 // Whether the member at this seat is to send its block.

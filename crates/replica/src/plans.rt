@@ -1,7 +1,7 @@
 //! What a request comes to at a member.
 
 use fab_base::{Bytes, Stamp};
-use fab_wire::Reply;
+use messages::Reply;
 
 /// What a request comes to at a member, before it is kept.
 #[derive(Debug, Drop)]

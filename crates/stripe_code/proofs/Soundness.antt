@@ -11,7 +11,8 @@ use Rattle.rs_code.specs.Stripes.{block_of, coded_block, data_block, IsCodedBloc
 use Rattle.rs_code.proofs.StripeLaws.{HoldsBytes, length-coded_block, coded_block-IsCodedBlock, coded_block-HoldsBytes, coded_block_zeros, data_block-IsDecoded, length-block_of, get_or-block_of}
 use Rattle.reg_model.specs.Registers.{zero_registers}
 use Rattle.quorum.specs.Quorums.{IsWithinLimits}
-use Rattle.protocol.specs.Settings.{Piece, Layout, AnyBlocksDecode, IsSound, are_bytes}
+use Rattle.fab_base.specs.Layouts.{Layout}
+use Rattle.protocol.specs.Settings.{Piece, AnyBlocksDecode, IsSound, are_bytes}
 use Rattle.layout.specs.Limits.{IsLayout}
 use Rattle.stripe_code.specs.Codes.{block_code, coding}
 use Rattle.stripe_code.proofs.Pieces.{seats_of, blocks_of, AreLong, byte_of-blocks, length-blocks, decoded_is, joined}

@@ -3,7 +3,8 @@ use Rattle.std.specs.Prelude.{◌≡◌, ℕ, ◌≤◌, List, [], length, map, 
 use Rattle.std.specs.List.{concat, range_with_len, AllByRecursion}
 use Rattle.rs_code.specs.Codewords.{weighted_sum}
 use Rattle.rs_code.specs.Stripes.{coded_block}
-use Rattle.protocol.specs.Settings.{Piece, Code, Layout, Setting, IsSound}
+use Rattle.fab_base.specs.Layouts.{Layout}
+use Rattle.protocol.specs.Settings.{Piece, Code, Setting, IsSound}
 use Rattle.layout.specs.Limits.{IsLayout}
 
 -- The first m of the pieces are at these seats, and their blocks, each of this many bytes, are these, one after the other.

@@ -16,7 +16,7 @@ use Rattle.brick_state.specs.States.{StateOf, empty, booted, no_group}
 use Rattle.brick_store.specs.Images.{IsFound, StandsFor, state_in}
 use Rattle.replica.specs.Parts.{IsFirstView}
 use Rattle.node.specs.Running.{Running, state_of, shape_at, ImageShows, LeavesBrick, IsSameBrick}
-use Rattle.protocol.specs.Settings.{Layout}
+use Rattle.fab_base.specs.Layouts.{Layout}
 use Rattle.protocol.specs.Nodes as machine
 use Rattle.world.specs.States.{Runs, Rests, ShowsPower, TurnsOn, unopened}
 use Rattle.world.specs.declared.bricks.Power.{Power}

@@ -17,12 +17,12 @@ use Rattle.reg_model.specs.Walk.{begin_of, positioned}
 use Rattle.protocol.specs.Settings.{Setting}
 use Rattle.protocol.specs.Worlds.{World, Operation, Event, first_world, run}
 use Rattle.protocol.specs.Happenings.{Effect, is_of, entry_with, entry_at, entries_to, was_answered, writes, is_told, base_of, is_among, with_entry, effect_of, ascending, walk_of, happenings_of}
-use Rattle.protocol.proofs.Books.{Books, OperationBooks}
-use Rattle.protocol.proofs.BooksEvents.{books}
-use Rattle.protocol.proofs.Effects.{told_all}
-use Rattle.protocol.proofs.Entries.{IsEntryOf, entries_of}
-use Rattle.protocol.proofs.Sorting.{ascending_permutation}
-use Rattle.protocol.proofs.StripeLives.{life_filtered}
+use Rattle.protocol_laws.proofs.Books.{Books, OperationBooks}
+use Rattle.protocol_laws.proofs.BooksEvents.{books}
+use Rattle.protocol_laws.proofs.Effects.{told_all}
+use Rattle.protocol_laws.proofs.Entries.{IsEntryOf, entries_of}
+use Rattle.protocol_laws.proofs.Sorting.{ascending_permutation}
+use Rattle.protocol_laws.proofs.StripeLives.{life_filtered}
 use Rattle.world.specs.declared.histories.Known.{Known}
 use Rattle.world.specs.States.{IsKnown}
 use Rattle.world.specs.Walks.{AreKnown, BeginsAgree, op_that, operation_of, operations_of, begin_at, rising_to, walk_to, placed}

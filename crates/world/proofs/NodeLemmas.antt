@@ -11,7 +11,7 @@ use Rattle.fab_base.specs.declared.faults.NoMem.{NoMem}
 use Rattle.fab_base.specs.declared.identities.BrickId.{BrickId}
 use Rattle.fab_disk.specs.MemDisk.{IsSound}
 use Rattle.fab_disk.specs.declared.mem_disk.MemDisk.{MemDisk}
-use Rattle.fab_wire.specs.declared.messages.Packet.{Packet}
+use Rattle.messages.specs.declared.packets.Packet.{Packet}
 use Rattle.brick_store.specs.Bricks.{Brick as Store}
 use Rattle.node.specs.declared.outs.Begun.{Begun}
 use Rattle.node.specs.declared.outs.Outs.{Outs}
@@ -21,7 +21,7 @@ use Rattle.node.specs.Faults.{RefusesAs}
 use Rattle.node.specs.Running.{Running, state_of, IsSameBrick}
 use Rattle.node.specs.States.{BeginsAs, StepsAs}
 use Rattle.protocol.specs.Worlds.{World, first_world, is_brick, is_up, may_start}
-use Rattle.protocol.specs.Settings.{Layout}
+use Rattle.fab_base.specs.Layouts.{Layout}
 use Rattle.protocol.specs.Nodes as machine
 use Rattle.world.specs.Runs.{brick_of}
 use Rattle.world.specs.States.{Runs, Rests, ShowsPower, ShowsBrick, ShowsBricks, ShowsStarted, IsNodeOf, IsOn, IsUp, FindsUp, AreNodesOf, TurnsOn}

@@ -13,7 +13,7 @@ use Rattle.reg_model.specs.contracts.entries.EntryOrd.TheImpl.{cmp-value}
 use Rattle.reg_model.specs.Walk.{turn_below, entry_below}
 use Rattle.reg_model.proofs.EntryOrder.{not_before_parts, entry_order, IsSortedBy-from_sort}
 use Rattle.protocol.specs.Happenings.{ascending}
-use Rattle.protocol.proofs.Sorting.{InOrder, AllPairs-tail, ascending_permutation, ascending_order}
+use Rattle.protocol_laws.proofs.Sorting.{InOrder, AllPairs-tail, ascending_permutation, ascending_order}
 
 -- turns of which neither is before the other are the same
 same_turn : (p q : Bool) (k n : ℕ) → turn_below p k q n ≡ false → turn_below q n p k ≡ false → (p ≡ q) × (k ≡ n)

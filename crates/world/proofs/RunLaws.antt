@@ -3,10 +3,10 @@ use Rattle.std.proofs.Common.{sym, subst}
 use Rattle.stripe_code.specs.Codes.{coding}
 use Rattle.protocol.specs.Settings.{IsSound}
 use Rattle.protocol.specs.Worlds.{World}
-use Rattle.protocol.specs.Laws.{Laws}
-use Rattle.protocol.proofs.Books.{Books}
-use Rattle.protocol.proofs.BooksEvents.{books}
-use Rattle.protocol.proofs.EveryRun.{every_run}
+use Rattle.protocol_laws.specs.Laws.{Laws}
+use Rattle.protocol_laws.proofs.Books.{Books}
+use Rattle.protocol_laws.proofs.BooksEvents.{books}
+use Rattle.protocol_laws.proofs.EveryRun.{every_run}
 use Rattle.world.specs.Runs.{Run, world_of, events_of}
 use Rattle.world.specs.States.{IsNumbered}
 use Rattle.world.specs.Walks.{BeginsAgree}

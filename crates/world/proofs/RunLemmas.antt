@@ -4,15 +4,16 @@ use Rattle.std.proofs.lemmas.Bool.{cond_both}
 use Rattle.std.proofs.lemmas.Bool.Decides.{nat_tests}
 use Rattle.fab_base.specs.declared.identities.BrickId.{BrickId}
 use Rattle.fab_base.specs.declared.answers.Refusal.{Refusal}
-use Rattle.fab_wire.specs.declared.requests.Version.{Version}
+use Rattle.messages.specs.declared.requests.Version.{Version}
 use Rattle.reg_model.specs.declared.marks.Mark.{Mark}
 use Rattle.lines.specs.declared.forms.Line.{Line}
 use Rattle.lines.specs.declared.forms.Line.TheVariants.{Nothing, Invoke, Deliver, SetClock, Tick, Crash, Start}
 use Rattle.stripe_code.specs.Codes.{coding}
-use Rattle.protocol.specs.Settings.{Setting, Layout, Group, group_of}
+use Rattle.fab_base.specs.Layouts.{Layout, Group, group_of}
+use Rattle.protocol.specs.Settings.{Setting}
 use Rattle.protocol.specs.Nodes.{put}
 use Rattle.protocol.specs.Worlds.{World, Sets, Ticks, Starts, first_world, is_brick, is_up, may_start, packet_of, number_of, world_ticked, world_started, happens, run}
-use Rattle.protocol.proofs.Books.{Books}
+use Rattle.protocol_laws.proofs.Books.{Books}
 use Rattle.world.specs.Runs.{Run, after_line, after_lines, world_of, events_of, brick_of, ask_of, refusal_at}
 use Rattle.world.specs.States.{IsNumbered, Shows, outcome_of, refused_or_begun}
 use Rattle.world.specs.Steps.{outcome_text, with_line, is_stripe, log_at}

@@ -6,10 +6,10 @@ use Rattle.fab_base.specs.declared.asks.Ask.{Ask}
 use Rattle.fab_base.specs.declared.asks.Op.{Op}
 use Rattle.fab_base.specs.declared.answers.Refusal.{Refusal}
 use Rattle.fab_base.specs.declared.identities.BrickId.{BrickId}
-use Rattle.fab_wire.specs.declared.messages.Packet.{Packet}
+use Rattle.messages.specs.declared.packets.Packet.{Packet}
 use Rattle.stripe_code.specs.Codes.{coding}
 use Rattle.node.specs.Running.{Running, state_of}
-use Rattle.protocol.specs.Settings.{Layout}
+use Rattle.fab_base.specs.Layouts.{Layout}
 use Rattle.protocol.specs.Nodes.{Node, NodeStep, put, is_stripe_op, refusal_of, invoked, received, ticked, stopped, may_open}
 use Rattle.protocol.specs.declared.tellings.Told.{Told}
 use Rattle.protocol.specs.declared.tellings.Told.TheVariants.{Nothing, Made, Answers}

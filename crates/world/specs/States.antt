@@ -8,14 +8,15 @@ use Rattle.fab_base.specs.declared.answers.Refusal.{Refusal}
 use Rattle.fab_base.specs.declared.faults.NoMem.{NoMem}
 use Rattle.fab_base.specs.declared.identities.BrickId.{BrickId}
 use Rattle.fab_base.specs.declared.stamps.Stamp.{Stamp}
-use Rattle.fab_wire.specs.declared.messages.Packet.{Packet}
+use Rattle.messages.specs.declared.packets.Packet.{Packet}
 use Rattle.lines.specs.declared.forms.Line.{Line}
 use Rattle.lines.specs.declared.forms.Line.TheVariants.{Nothing, Invoke, Deliver, SetClock, Tick, Crash, Start}
 use Rattle.fab_disk.specs.Past.{IsImage}
 use Rattle.fab_disk.specs.MemDisk.{content_of, past_of_disk, IsSound}
 use Rattle.fab_disk.specs.declared.mem_disk.MemDisk.{MemDisk}
 use Rattle.node.specs.Running.{Running, state_of, ImageShows, LeavesBrick}
-use Rattle.protocol.specs.Settings.{Layout, Setting}
+use Rattle.fab_base.specs.Layouts.{Layout}
+use Rattle.protocol.specs.Settings.{Setting}
 use Rattle.protocol.specs.Replicas.{first_replica}
 use Rattle.protocol.specs.Coordinators.{Coordinator}
 use Rattle.protocol.specs.Nodes as machine

@@ -1,11 +1,11 @@
 -- What a step of a run comes to.
 use Rattle.std.specs.Prelude.{◌≡◌, ℕ, ◌⊎◌, nat_lt, ◌&&◌, if◌then◌else◌, Bool, false, List, [], ◌∷◌, ◌++◌, Option, Some, None, Result, Ok, Err}
-use Rattle.fab_wire.specs.declared.requests.Version.{Version}
+use Rattle.messages.specs.declared.requests.Version.{Version}
 use Rattle.reg_model.specs.declared.marks.Mark.{Mark}
 use Rattle.lines.specs.Grammar.{line_of}
 use Rattle.lines.specs.declared.forms.Line.{Line}
 use Rattle.stripe_code.specs.Codes.{coding}
-use Rattle.protocol.specs.Settings.{Group, group_of}
+use Rattle.fab_base.specs.Layouts.{Group, group_of}
 use Rattle.protocol.specs.Worlds.{is_up}
 use Rattle.world.specs.Runs.{Run, world_of, brick_of}
 use Rattle.world.specs.Texts.{text_of, marks_text, refusal_text, idle_text}

@@ -16,7 +16,7 @@ use Rattle.reg_model.specs.declared.marks.Mark.{Mark}
 use Rattle.reg_model.specs.declared.marks.Mark.TheVariants.{Begin, End}
 use Rattle.lines.specs.declared.forms.Line.{Line}
 use Rattle.lines.specs.declared.forms.Line.TheVariants.{Nothing, Invoke, Deliver, SetClock, Tick, Start}
-use Rattle.fab_wire.specs.declared.messages.Packet.{Packet}
+use Rattle.messages.specs.declared.packets.Packet.{Packet}
 use Rattle.protocol.specs.Settings.{Setting}
 use Rattle.protocol.specs.Worlds.{World, is_brick, is_up, may_start, packet_of}
 use Rattle.world.specs.Runs.{after_line, brick_of, ask_of, refusal_at}

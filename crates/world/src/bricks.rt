@@ -13,7 +13,7 @@ ghost use Rattle.world.specs.States.{Rests, ShowsBrick, TurnsOn, unopened};
 use brick_store::StoreFault;
 use fab_base::{Ask, BrickId, NoMem};
 use fab_disk::MemDisk;
-use fab_wire::Packet;
+use messages::Packet;
 use layout::Layout;
 use node::{Begun, Node, NodeFault, Outs};
 use std::alloc::Global;

@@ -8,7 +8,7 @@ ghost use Rattle.world.specs.States.{ChangesAt, made_known, ended_known};
 
 use crate::rooms::{put, put_all};
 use fab_base::{Answer, Ask, BrickId, GroupId, NoMem, Op, Stamp, StripeNo};
-use fab_wire::Packet;
+use messages::Packet;
 use node::Outs;
 use protocol::Told;
 use reg_model::Mark;
@@ -116,7 +116,7 @@ impl History {
     ghost use Rattle.std.specs.Prelude.{◌≡◌, ℕ, ◌+◌, ◌<◌, ◌≤◌, [], ◌∷◌, ◌++◌, Some, length, unwrap_or, OnOk, OnErr, vec_len, vec_capacity};
     ghost use Rattle.std.specs.BTreeMap.{get};
     ghost use Rattle.std.specs.Option.{ForSome};
-    ghost use Rattle.protocol.specs.Settings.{Layout};
+    ghost use Rattle.fab_base.specs.Layouts.{Layout};
     ghost use Rattle.protocol.specs.Nodes.{NodeStep};
     ghost use Rattle.protocol.specs.Nodes.{put as changed};
     ghost use Rattle.protocol.specs.Worlds.{World, first_world, number_of, world_began, world_stepped, world_stopped, with_made, with_answer};

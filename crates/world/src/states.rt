@@ -15,7 +15,7 @@ use crate::bricks::{Brick, Power, deliver, fresh_brick, invoke, tick};
 use crate::histories::{History, packet_at};
 use fab_base::{Ask, BrickId, GroupId, NoMem, Op, Refusal, StripeNo};
 use fab_disk::MemDisk;
-use fab_wire::Packet;
+use messages::Packet;
 use layout::Layout;
 use lines::Line;
 use node::{Begun, NodeFault, Outs};

@@ -9,7 +9,7 @@ use crate::states::{Outcome, State};
 use crate::texts::{idle_text, marks_text, refusal_text};
 use crate::walks;
 use fab_base::{BrickId, Bytes, GroupId, NoMem, StripeNo};
-use fab_wire::Packet;
+use messages::Packet;
 use layout::Layout;
 use lines::{Line, parse};
 use reg_model::{Happening, Mark};

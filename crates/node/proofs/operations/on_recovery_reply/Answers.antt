@@ -1,7 +1,7 @@
 -- What the machine decides is carried on.
 use Rattle.std.proofs.Common.{subst}
-use Rattle.fab_wire.specs.declared.turns.Next.{Next}
-use Rattle.fab_wire.specs.declared.turns.Next.TheVariants.{Wait, Send}
+use Rattle.messages.specs.declared.turns.Next.{Next}
+use Rattle.messages.specs.declared.turns.Next.TheVariants.{Wait, Send}
 use Rattle.protocol.specs.Coordinators as machine
 use Rattle.coord_phase.specs.Decisions.{Answers, begins_in}
 use Rattle.node.specs.declared.operations.Operation.TheVariants.{Recovery}

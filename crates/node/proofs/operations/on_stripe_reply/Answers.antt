@@ -1,9 +1,9 @@
 -- What the machine decides is carried on.
 use Rattle.std.proofs.Common.{◌≡◌, sym, ◌∙◌, ap, subst}
 use Rattle.std.proofs.lemmas.Result.{IfOk-weaker}
-use Rattle.fab_wire.specs.declared.calls.Call.{Call}
-use Rattle.fab_wire.specs.declared.turns.Next.{Next}
-use Rattle.fab_wire.specs.declared.turns.Next.TheVariants.{Wait, Send, Recover}
+use Rattle.messages.specs.declared.calls.Call.{Call}
+use Rattle.messages.specs.declared.turns.Next.{Next}
+use Rattle.messages.specs.declared.turns.Next.TheVariants.{Wait, Send, Recover}
 use Rattle.protocol.specs.Coordinators as machine
 use Rattle.coord_phase.specs.Decisions.{Answers, begins_in}
 use Rattle.node.specs.declared.operations.Decision.{Decision}

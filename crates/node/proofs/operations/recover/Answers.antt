@@ -2,9 +2,9 @@
 use Rattle.std.proofs.Common.{◌≡◌, ◌+◌, Some, refl, sym, ◌∙◌, ap, subst}
 use Rattle.fab_base.specs.declared.asks.Ask.{Ask}
 use Rattle.fab_base.specs.declared.member_lists.View.{View}
-use Rattle.fab_wire.specs.declared.turns.Next.{Next}
-use Rattle.fab_wire.specs.declared.calls.Call.{Call}
-use Rattle.protocol.specs.Settings.{Group, group_of}
+use Rattle.messages.specs.declared.turns.Next.{Next}
+use Rattle.messages.specs.declared.calls.Call.{Call}
+use Rattle.fab_base.specs.Layouts.{Group, group_of}
 use Rattle.protocol.specs.Nodes.{is_stripe_op, has_length}
 use Rattle.coord_phase.specs.Operations as phased
 use Rattle.coord_phase.specs.Messages.{packets_from, phase_messages}

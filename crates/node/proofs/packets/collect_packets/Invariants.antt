@@ -1,6 +1,6 @@
 -- The packets so far, and those to the members that are left, are all.
 use Rattle.std.proofs.Common.{◌≡◌, ◌++◌, drop, vec_len}
-use Rattle.fab_wire.specs.declared.requests.Request.TheVariants.{Collect}
+use Rattle.messages.specs.declared.requests.Request.TheVariants.{Collect}
 use Rattle.protocol.specs.Nodes.{to_members}
 use Rattle.node.proofs.packets.collect_packets.Given as goal
 

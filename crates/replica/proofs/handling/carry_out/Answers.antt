@@ -2,8 +2,8 @@
 use Rattle.std.proofs.Common.{◌≡◌, true, Option, Result, refl, sym, ap, subst, ◌∙◌}
 use Rattle.std.specs.Option.{option_map}
 use Rattle.fab_base.specs.Stamps.{stamp_below}
-use Rattle.fab_wire.specs.declared.replies.Reply.{Reply}
-use Rattle.fab_wire.specs.declared.replies.Reply.TheVariants.{Stored}
+use Rattle.messages.specs.declared.replies.Reply.{Reply}
+use Rattle.messages.specs.declared.replies.Reply.TheVariants.{Stored}
 use Rattle.version_log.specs.Versions.{version}
 use Rattle.brick_state.specs.States.{stripe_at, ordered, added}
 use Rattle.brick_store.specs.Blocks.{log_at, adds_stamp}

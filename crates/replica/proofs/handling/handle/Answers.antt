@@ -2,13 +2,13 @@
 use Rattle.std.proofs.Common.{◌≡◌, ℕ, Option, Some, List, sym, ap, subst, ◌∙◌}
 use Rattle.fab_base.specs.declared.identities.BrickId.{BrickId}
 use Rattle.fab_base.specs.declared.stamps.Stamp.{Stamp}
-use Rattle.fab_wire.specs.declared.replies.Reply.{Reply}
+use Rattle.messages.specs.declared.replies.Reply.{Reply}
 use Rattle.frame_store.specs.declared.shapes.Shape.{Shape}
 use Rattle.version_log.specs.Versions.{Version}
 use Rattle.brick_state.specs.States.{StateOf}
 use Rattle.brick_store.specs.Blocks.{log_at}
 use Rattle.brick_store.specs.Logs.{StripeLog}
-use Rattle.protocol.specs.Settings.{group_of}
+use Rattle.fab_base.specs.Layouts.{group_of}
 use Rattle.protocol.specs.Replicas.{Replica, Reaction, handle}
 use Rattle.replica.specs.Parts.{part_of, part_seen, part_in}
 use Rattle.replica.specs.Plans.{planned}

@@ -3,7 +3,7 @@ use Rattle.std.proofs.Common.{Some, None, map, Bor, sym, ap, ◌∙◌}
 use Rattle.std.specs.Option.{option_map}
 use Rattle.fab_base.specs.declared.block_bytes.Bytes.{Bytes}
 use Rattle.fab_base.specs.declared.stamps.Stamp.{Stamp}
-use Rattle.fab_wire.specs.declared.requests.Look.{Look}
+use Rattle.messages.specs.declared.requests.Look.{Look}
 use Rattle.version_log.specs.Versions.{version}
 use Rattle.protocol.specs.Replicas.{looked_up}
 use Rattle.replica.specs.Parts.{as_version}

@@ -3,8 +3,8 @@ use Rattle.std.proofs.Common.{◌≡◌, Option, map, Bor, sym, ap, ◌∙◌}
 use Rattle.std.specs.Option.{option_map}
 use Rattle.fab_base.specs.declared.block_bytes.Bytes.{Bytes}
 use Rattle.fab_base.specs.declared.stamps.Stamp.{Stamp}
-use Rattle.fab_wire.specs.declared.requests.Version.{Version}
-use Rattle.fab_wire.specs.declared.replies.Reply.TheVariants.{Found}
+use Rattle.messages.specs.declared.requests.Version.{Version}
+use Rattle.messages.specs.declared.replies.Reply.TheVariants.{Found}
 use Rattle.version_log.specs.Versions.{version}
 use Rattle.protocol.specs.Replicas.{newest_of, stays, told_version}
 use Rattle.replica.specs.Parts.{as_version, part_seen}

@@ -3,7 +3,7 @@ use Rattle.std.proofs.Common.{◌≡◌, Option, Some, None, Result, IfOk, OnOk,
 use Rattle.fab_base.specs.declared.faults.NoMem.{NoMem}
 use Rattle.fab_base.specs.declared.notes.Note.{Note}
 use Rattle.fab_base.specs.declared.stamps.Stamp.{Stamp}
-use Rattle.fab_wire.specs.declared.turns.Next.{Next}
+use Rattle.messages.specs.declared.turns.Next.{Next}
 use Rattle.protocol.specs.Coordinators as machine
 use Rattle.protocol.specs.Coordinators.{greatest_refuser, answer_of, decided, read_back, greatest_found}
 use Rattle.stripe_code.specs.Codes.{block_code}

@@ -1,7 +1,7 @@
 -- The brick is not among the members that the loop has passed.
 use Rattle.std.proofs.Common.{◌≡◌, ◌+◌, drop}
 use Rattle.std.specs.Option.{option_map}
-use Rattle.protocol.specs.Settings.{seat_in}
+use Rattle.fab_base.specs.Layouts.{seat_in}
 use Rattle.layout.proofs.groups.Group.seat_of.Given as goal
 
 abbrev pub invariant-loop-seat : goal.invariant-loop-seat

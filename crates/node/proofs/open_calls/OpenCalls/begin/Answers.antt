@@ -5,7 +5,7 @@ use Rattle.std.specs.Ordering.{nat_cmp}
 use Rattle.std.specs.BTreeMap.{get, btree_map_len}
 use Rattle.fab_base.specs.declared.asks.Ask.{Ask}
 use Rattle.fab_base.specs.declared.stamps.Stamp.{Stamp}
-use Rattle.protocol.specs.Settings.{Group}
+use Rattle.fab_base.specs.Layouts.{Group}
 use Rattle.protocol.specs.Coordinators.{Coordinator}
 use Rattle.protocol.specs.Nodes.{put, phase_packets, first_phase, new_coordinator}
 use Rattle.stripe_code.specs.Codes.{coding}

@@ -1,6 +1,6 @@
 -- What an operation becomes stays at its number.
 use Rattle.std.proofs.Common.{◌∙◌, ap, subst}
-use Rattle.fab_wire.specs.declared.calls.Call.{Call}
+use Rattle.messages.specs.declared.calls.Call.{Call}
 use Rattle.node.specs.declared.operations.Decision.{Decision}
 use Rattle.node.specs.declared.operations.Decision.TheVariants.{Waits, Sends, Makes}
 use Rattle.node.specs.Decisions.{IsDecisionOf}

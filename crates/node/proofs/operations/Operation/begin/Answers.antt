@@ -1,7 +1,7 @@
 -- The first phase is sent to all members.
 use Rattle.std.proofs.Common.{◌≡◌, length, ◌∙◌, ap, subst, arith}
-use Rattle.fab_wire.specs.declared.turns.Next.{Next}
-use Rattle.protocol.specs.Settings.{Group}
+use Rattle.messages.specs.declared.turns.Next.{Next}
+use Rattle.fab_base.specs.Layouts.{Group}
 use Rattle.coord_phase.specs.Operations as phased
 use Rattle.coord_phase.specs.Messages.{packets_from, phase_messages}
 use Rattle.coord_phase.specs.Decisions as decisions

@@ -1,7 +1,7 @@
 -- A group has few members.
 use Rattle.std.proofs.Common.{◌≡◌, ◌≤◌, length, ap, ◌∙◌, sym, arith}
 use Rattle.std.proofs.lemmas.Result.{IfOk-weaker}
-use Rattle.protocol.specs.Settings.{Group}
+use Rattle.fab_base.specs.Layouts.{Group}
 use Rattle.node.specs.declared.operations.Operation.{Operation}
 use Rattle.node.specs.declared.operations.Operation.TheVariants.{Stripe, Recovery}
 use Rattle.node.specs.declared.operations.Decision.{Decision}

@@ -1,7 +1,7 @@
 -- There is at most a message for each member.
 use Rattle.std.proofs.Common.{◌≡◌, length, sym, ◌∙◌, ap, subst, arith}
-use Rattle.fab_wire.specs.declared.turns.Next.{Next}
-use Rattle.protocol.specs.Settings.{Group}
+use Rattle.messages.specs.declared.turns.Next.{Next}
+use Rattle.fab_base.specs.Layouts.{Group}
 use Rattle.coord_phase.specs.Operations as phased
 use Rattle.coord_phase.specs.Messages.{phase_messages}
 use Rattle.coord_phase.specs.Decisions.{SendsPhase}

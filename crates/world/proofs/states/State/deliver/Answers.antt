@@ -1,7 +1,7 @@
 -- The message is the machine's, and its brick handles it as the machine's does.
 use Rattle.std.proofs.Common.{◌≡◌, ℕ, true, List, Option, None, sym, ap, ◌∙◌, subst}
 use Rattle.fab_base.specs.declared.identities.BrickId.{BrickId}
-use Rattle.fab_wire.specs.declared.messages.Packet.{Packet}
+use Rattle.messages.specs.declared.packets.Packet.{Packet}
 use Rattle.stripe_code.specs.Codes.{coding}
 use Rattle.protocol.specs.Nodes.{NodeStep, received}
 use Rattle.protocol.specs.Worlds.{is_up, packet_of, replies_with}

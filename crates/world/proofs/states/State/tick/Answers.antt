@@ -1,7 +1,7 @@
 -- A brick that is up sends what the machine's does.
 use Rattle.std.proofs.Common.{◌≡◌, true, List, ◌++◌, refl, sym, subst}
 use Rattle.fab_base.specs.declared.identities.BrickId.{BrickId}
-use Rattle.fab_wire.specs.declared.messages.Packet.{Packet}
+use Rattle.messages.specs.declared.packets.Packet.{Packet}
 use Rattle.stripe_code.specs.Codes.{coding}
 use Rattle.protocol.specs.Worlds.{Ticks, is_up, happens}
 use Rattle.world.specs.Runs.{brick_of}

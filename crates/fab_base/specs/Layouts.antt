@@ -1,0 +1,30 @@
+-- A disk's layout, as the machine and its text speak of it: its bricks, and its groups of stripes.
+use Rattle.std.specs.Prelude.{ℕ, ◌+◌, nat_eq, if◌then◌else◌, List, [], ◌∷◌, Option, Some, None, slice_get, slice_index_or}
+use Rattle.std.specs.Option.{option_map}
+use Rattle.fab_base.specs.declared.identities.BrickId.{BrickId}
+
+-- a group: the members of its view 1, by seat; the data blocks of a stripe; and how many stripes
+pub record Group : Type 0 where
+  pub members : List BrickId
+  pub m : ℕ
+  pub stripes : ℕ
+
+-- the bytes of a block, the number of bricks, how many live records a brick may keep, and the groups by number
+pub record Layout : Type 0 where
+  pub block : ℕ
+  pub bricks : ℕ
+  pub records : ℕ
+  pub groups : List Group
+
+-- the group of a number, if there is one
+abbrev pub group_of : Layout → ℕ → Option Group
+group_of layout g = slice_get layout.groups g
+
+-- the seat of a brick in a list of members, the first if there are several
+abbrev pub seat_in : List BrickId → ℕ → Option ℕ
+seat_in [] brick = None
+seat_in (member ∷ members) brick = if nat_eq member.0 brick then Some 0 else option_map (λ seat. seat + 1) (seat_in members brick)
+
+-- the brick at a seat of a group
+abbrev pub brick_at : Group → ℕ → ℕ
+brick_at group seat = (slice_index_or group.members seat (record { 0 = 0 })).0

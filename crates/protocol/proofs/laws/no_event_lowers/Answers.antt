@@ -1,6 +1,0 @@
--- No event lowers.
-use Rattle.protocol.proofs.EveryRun.{no_event}
-use Rattle.protocol.proofs.laws.no_event_lowers.Goals as goal
-
-pub returns : goal.returns
-returns c = no_event

@@ -1,6 +1,0 @@
--- No lost version surfaces.
-use Rattle.protocol.proofs.Falls.{never_surfaces}
-use Rattle.protocol.proofs.laws.no_lost_version_surfaces.Goals as goal
-
-pub returns : goal.returns
-returns c = never_surfaces

@@ -1,0 +1,323 @@
+-- A brick begins an operation, with a stamp that no part of any stripe has.
+use Rattle.std.proofs.Common.{◌≡◌, ℕ, ◌+◌, ◌≤◌, ◌⊎◌, inl, inr, true, false, List, [], ◌∷◌, ◌++◌, length, Option, Some, None, refl, sym, ap, ◌∙◌, subst, ⊎_elim, arith}
+use Rattle.std.specs.Prelude.{slice_get}
+use Rattle.std.proofs.lemmas.Bool.{false≢true}
+use Rattle.std.proofs.lemmas.Option.{same_Some}
+use Rattle.std.proofs.lemmas.List.{length-append}
+use Rattle.fab_base.specs.declared.identities.BrickId.{BrickId}
+use Rattle.fab_base.specs.declared.stamps.Stamp.{Stamp}
+use Rattle.fab_base.specs.declared.asks.Ask.{Ask}
+use Rattle.fab_base.specs.declared.asks.Op.{Op}
+use Rattle.fab_base.specs.declared.asks.Op.TheVariants.{ReadBlock, WriteBlock, ReadStripe, WriteStripe}
+use Rattle.messages.specs.declared.packets.Packet.{Packet}
+use Rattle.messages.specs.declared.requests.Request.{Request}
+use Rattle.messages.specs.declared.requests.Want.TheVariants as Want
+use Rattle.reg_model.specs.declared.marks.Mark.{Mark}
+use Rattle.reg_model.specs.declared.marks.Mark.TheVariants.{Begin, End}
+use Rattle.reg_model.specs.Marks.{life_of, position_of}
+use Rattle.reg_model.specs.Walk.{last_of}
+use Rattle.fab_base.specs.Layouts.{Group, group_of}
+use Rattle.protocol.specs.Settings.{Setting, Code}
+use Rattle.protocol.specs.Replicas.{top_of}
+use Rattle.protocol.specs.declared.phases.Phase.{Phase}
+use Rattle.protocol.specs.declared.phases.Phase.TheVariants.{Looks, Orders, Descends, Stores}
+use Rattle.protocol.specs.Coordinators.{Coordinator, request_of}
+use Rattle.protocol.specs.Nodes.{Node, put, is_stripe_op, first_phase, new_coordinator, opened, began_in, phase_packets}
+use Rattle.protocol.specs.Worlds.{World, Operation, world_began}
+use Rattle.protocol_laws.specs.Laws.{part_of, IsGuarded}
+use Rattle.protocol_laws.proofs.Books.{Books, IsOperation}
+use Rattle.protocol_laws.proofs.Said.{Begun, Stamping, Said, IsSaid, IsBegun, IsStamped, IsKnown, IsStampOf, IsCalled, FitsPhase, FloorsAtLeast, RequestSays, PacketSays, OperationSays, CallSays, IsInOrder}
+use Rattle.protocol_laws.proofs.Tables.{put_each, put_same, get_grown, get_one, sent_to_member}
+use Rattle.protocol_laws.proofs.Lives.{last_grows}
+use Rattle.protocol_laws.proofs.Growth.{Grows, continues_same}
+use Rattle.protocol_laws.proofs.Steps.{KeepsStamps, keeps_same, parts_by, sent_by, ages_by, calls_by, phase_asked, said_after}
+use Rattle.protocol_laws.proofs.Stampings.{ComesFrom, ages_within, stays_known, later_unknown, with_stamp, stamp_now, stamps_other, stamp_last, stamps_grow, stamps_say}
+
+-- what a phase asks
+request_looks : (code : Code) (m : ℕ) (c : Coordinator) (seat : ℕ) → c.phase ≡ Looks → request_of code m c seat ≡ Request.Read Want.All
+unfolding request_of
+request_looks code m c seat is = rw is
+
+request_orders : (code : Code) (m : ℕ) (c : Coordinator) (seat : ℕ) → c.phase ≡ Orders → request_of code m c seat ≡ Request.Order c.stamp
+unfolding request_of
+request_orders code m c seat is = rw is
+
+-- an operation on a whole stripe is a read or a write
+op_cases : (op : Op) → is_stripe_op op ≡ true → (op ≡ ReadStripe) ⊎ ((bytes : List ℕ) × (op ≡ WriteStripe bytes))
+op_cases ReadStripe is = inl refl
+op_cases (WriteStripe bytes) is = inr (bytes, refl)
+op_cases (ReadBlock j) is = absurd (false≢true is)
+op_cases (WriteBlock j bytes) is = absurd (false≢true is)
+
+module _ (setting : Setting) (w : World) (stamps : Stamping) (me : BrickId) (ask : Ask) (group : Group) (books : Books setting w)
+    (said : Said setting w stamps) (group_is : group_of setting.layout ask.group.0 ≡ Some group) (stripe_op : is_stripe_op ask.op ≡ true) where
+  -- the brick before
+  abbrev old : Node
+  old = w.nodes me.0
+
+  -- its new coordinator, at what its clock reads
+  abbrev c : Coordinator
+  c = new_coordinator me (w.clocks me.0) (w.nodes me.0) ask
+
+  -- the brick after
+  abbrev node : Node
+  node = opened (w.nodes me.0) c
+
+  -- the phase that is begun
+  abbrev first : Begun
+  first = record { stamp = c.stamp; phase = c.phase }
+
+  -- the stamps after
+  abbrev later : Stamping
+  later = with_stamp stamps me.0 c.call.boot c.call.seq c.call.phase first
+
+  abbrev next : World
+  next = world_began w me ask (began_in setting group me (w.nodes me.0) c)
+
+  -- the new operation
+  abbrev new : Operation
+  new =
+      record {
+        brick = me;
+        boot = c.call.boot;
+        seq = c.call.seq;
+        begin = length w.marks;
+        ask = ask;
+        version = None;
+        made = false;
+        base = None;
+        answered = false;
+        floor = λ i. top_of ((w.nodes i).replicas ask.group.0 ask.stripe.0);
+      }
+
+  -- the new stamp is the brick's, and nobody knows it
+  own : IsStampOf node me.0 c.call.boot c.stamp
+  own = record { view = refl; boot = refl; booted = omega arith; brick = refl; positive = omega arith; bounded = λ now. omega arith }
+
+  unknown : IsKnown stamps c.stamp → ⊥
+  unknown = later_unknown w stamps said.stamps_say node me.0 c.stamp own (omega arith)
+
+  from : ComesFrom stamps me.0 c.call.boot c.call.seq c.stamp
+  from = inr unknown
+
+  -- the new call has no stamp before
+  no_stamp : (p : ℕ) (z : Option Begun) → stamps me.0 c.call.boot c.call.seq p ≡ z → z ≡ None
+  no_stamp p None is = refl
+  no_stamp p (Some b) is =
+      absurd (let begun = said.stamps_say.begun me.0 c.call.boot c.call.seq p b.stamp (b.phase, is) in omega (arith, begun.1 refl))
+
+  none : (p : ℕ) → c.call.phase ≤ p → stamps me.0 c.call.boot c.call.seq p ≡ None
+  none p most = no_stamp p (stamps me.0 c.call.boot c.call.seq p) refl
+
+  -- the numbers of its boot's calls, with the new one
+  abbrev row : ℕ → ℕ
+  row = put (w.numbers me.0 c.call.boot) c.call.seq (w.begun + 1)
+
+  numbered : (i b k : ℕ) → (b ≡ (w.nodes i).boot → k ≤ (w.nodes i).seq) → next.numbers i b k ≡ w.numbers i b k
+  numbered =
+      put_each (λ j table. (b k : ℕ) → (b ≡ (w.nodes j).boot → k ≤ (w.nodes j).seq) → table b k ≡ w.numbers j b k) w.numbers me.0
+      (put (w.numbers me.0) c.call.boot row)
+      (put_each (λ b line. (k : ℕ) → (b ≡ (w.nodes me.0).boot → k ≤ (w.nodes me.0).seq) → line k ≡ w.numbers me.0 b k) (w.numbers me.0)
+      c.call.boot row
+      (put_each (λ k v. (c.call.boot ≡ (w.nodes me.0).boot → k ≤ (w.nodes me.0).seq) → v ≡ w.numbers me.0 c.call.boot k)
+      (w.numbers me.0 c.call.boot) c.call.seq (w.begun + 1) (λ within. absurd (omega (arith, within refl))) (λ k other within. refl))
+      (λ b other k within. refl))
+      (λ j other b k within. refl)
+
+  number_now : next.numbers me.0 c.call.boot c.call.seq ≡ w.begun + 1
+  number_now =
+      ap (λ table. table c.call.boot c.call.seq) (put_same w.numbers me.0 (put (w.numbers me.0) c.call.boot row))
+      ∙ ap (λ line. line c.call.seq) (put_same (w.numbers me.0) c.call.boot row)
+      ∙ put_same (w.numbers me.0 c.call.boot) c.call.seq (w.begun + 1)
+
+  goes_on : (n : ℕ) (o : Operation) → IsOperation w n o → IsOperation next n o
+  goes_on n o =
+      put_each (λ i x. IsOperation w i o → x ≡ Some o) w.operations (w.begun + 1) (Some new)
+      (λ is. absurd (let most = (books.operations (w.begun + 1) o is).begun in omega (arith, most)))
+      (λ i other is. is) n
+
+  placed : (k : ℕ) (mark : Mark) → slice_get w.marks k ≡ Some mark → position_of mark ≡ 0 + k
+  placed k mark at = let place = books.places k mark at in omega (arith, place)
+
+  lasts : (a : ℕ) → last_of (life_of w.marks a) ≤ last_of (life_of next.marks a)
+  lasts a = last_grows w.marks (Begin (length w.marks) (w.begun + 1) me ask) a placed refl
+
+  grows : Grows w next stamps later
+  grows = record {
+    parts = parts_by w next me.0 node refl (keeps_same (w.nodes me.0) node refl);
+    sent = sent_by w next (phase_packets setting group me c) refl;
+    operations = λ n o is. (o, goes_on n o is, continues_same o);
+    contents = λ g s t made. refl;
+    grow = stamps_grow stamps me.0 c.call.boot c.call.seq c.call.phase first none from;
+    numbered = numbered;
+    marks = (let longer : length next.marks ≡ length w.marks + 1 = length-append w.marks
+        (Begin (length w.marks) (w.begun + 1) me ask ∷ []) in omega arith);
+  }
+
+  called : IsCalled next me.0 c.call new
+  called = record {
+    is = subst (λ (n : ℕ). IsOperation next n new) (sym number_now) (put_same w.operations (w.begun + 1) (Some new));
+    brick = refl;
+    boot = refl;
+    seq = refl;
+    group = refl;
+    stripe = refl;
+  }
+
+  operation_says : OperationSays setting next later (w.begun + 1) new
+  operation_says = record {
+    begin = grows.marks;
+    floors = λ i. grows.parts.tops ask.group.0 ask.stripe.0 i;
+    floors_known = λ i. stays_known stamps later grows.grow (top_of (part_of w ask.group.0 ask.stripe.0 i)) (said.tops ask.group.0 ask.stripe.0 i);
+    fresh = λ i p stamped. ⊎_elim
+        (λ (own_was : (q : ℕ) × IsStamped stamps me.0 c.call.boot c.call.seq q (top_of (part_of w ask.group.0 ask.stripe.0 i))).
+        let begun = said.stamps_say.begun me.0 c.call.boot c.call.seq own_was.0 (top_of (part_of w ask.group.0 ask.stripe.0 i)) own_was.1 in
+        omega (arith, begun.1 refl))
+        (λ (never : IsKnown stamps (top_of (part_of w ask.group.0 ask.stripe.0 i)) → ⊥). never (said.tops ask.group.0 ask.stripe.0 i))
+        (grows.grow.newer me.0 c.call.boot c.call.seq p (top_of (part_of w ask.group.0 ask.stripe.0 i)) stamped);
+    made = λ made. absurd (false≢true made);
+    maker = λ v made version. absurd (false≢true made);
+    content = λ v made version group group_is. absurd (false≢true made);
+    stands = λ v has how. cc;
+    version = λ v has. cc;
+    answered = λ answered bytes op. absurd (false≢true answered);
+  }
+
+  begun_now : IsBegun later me.0 c.call.boot c.call.seq c.call.phase c.phase c.stamp
+  begun_now = stamp_now stamps me.0 c.call.boot c.call.seq c.call.phase first
+
+  -- the first request
+  request_says : (j seat : ℕ) → RequestSays setting next later me.0 j c.call (request_of setting.code group.m c seat)
+  request_says j seat = ⊎_elim
+      (λ (reads : ask.op ≡ ReadStripe).
+      subst (λ (r : Request). RequestSays setting next later me.0 j c.call r) (sym (request_looks setting.code group.m c seat (ap first_phase reads)))
+      (refl, (new, called)))
+      (λ (writes : (bytes : List ℕ) × (ask.op ≡ WriteStripe bytes)).
+      subst (λ (r : Request). RequestSays setting next later me.0 j c.call r)
+      (sym (request_orders setting.code group.m c seat (ap first_phase writes.1))) (
+        subst (λ (phase : Phase). IsBegun later me.0 c.call.boot c.call.seq c.call.phase phase c.stamp) (ap first_phase writes.1) begun_now,
+        (new, called),
+      ))
+      (op_cases ask.op stripe_op)
+
+  fits : FitsPhase (first_phase ask.op) ask.op
+  fits = ⊎_elim
+      (λ (reads : ask.op ≡ ReadStripe). subst (λ (p : Phase). FitsPhase p ask.op) (sym (ap first_phase reads)) reads)
+      (λ (writes : (bytes : List ℕ) × (ask.op ≡ WriteStripe bytes)). subst (λ (p : Phase). FitsPhase p ask.op) (sym (ap first_phase writes.1)) writes)
+      (op_cases ask.op stripe_op)
+
+  -- a first phase neither stores nor descends
+  not_stores : (op : Op) → first_phase op ≡ Stores → ⊥
+  not_stores (ReadBlock j) is = cc
+  not_stores (WriteBlock j bytes) is = cc
+  not_stores ReadStripe is = cc
+  not_stores (WriteStripe bytes) is = cc
+
+  not_descends : (op : Op) (bound : Stamp) → first_phase op ≡ Descends bound → ⊥
+  not_descends (ReadBlock j) bound is = cc
+  not_descends (WriteBlock j bytes) bound is = cc
+  not_descends ReadStripe bound is = cc
+  not_descends (WriteStripe bytes) bound is = cc
+
+  -- the brick's boot stays
+  boot_now : (next.nodes me.0).boot ≡ c.call.boot
+  boot_now = ap (λ (x : Node). x.boot) (put_same w.nodes me.0 node)
+
+  calls : (k : ℕ) (d : Coordinator) → node.calls k ≡ Some d
+      → (((w.nodes me.0).calls k ≡ Some d) × KeepsStamps stamps later me.0 c.call.boot k) ⊎ CallSays setting next later me.0 k d
+  calls k d =
+      put_each (λ j x. x ≡ Some d
+      → (((w.nodes me.0).calls j ≡ Some d) × KeepsStamps stamps later me.0 c.call.boot j) ⊎ CallSays setting next later me.0 j d)
+      (w.nodes me.0).calls c.call.seq (Some c)
+      (λ at. let same : c ≡ d = cc in
+      inr (subst (λ (z : Coordinator). CallSays setting next later me.0 c.call.seq z) same
+      (record {
+        begun = subst (λ (b : ℕ). IsBegun later me.0 b c.call.seq c.call.phase c.phase c.stamp) (sym boot_now) begun_now;
+        last = λ p less.
+            subst (λ (b : ℕ). later me.0 b c.call.seq p ≡ None) (sym boot_now)
+            (stamp_last stamps me.0 c.call.boot c.call.seq c.call.phase first none from p less);
+        asked = λ other other_is seat member at.
+            let its : group ≡ other = same_Some group other (sym group_is ∙ other_is) in
+            phase_asked setting next other me c w.packets (ap (λ (z : Group). w.packets ++ phase_packets setting z me c) its) seat member at;
+        fits = fits;
+        unbased = λ orders. refl;
+        above = λ bound descends. absurd (not_descends ask.op bound descends);
+        below = λ bound descends. absurd (not_descends ask.op bound descends);
+        covered = λ bound descends. absurd (not_descends ask.op bound descends);
+        stores = λ stores. absurd (not_stores ask.op stores);
+        counted = tt;
+        once = tt;
+      })))
+      (λ j other at. inl (at, stamps_other stamps me.0 c.call.boot c.call.seq c.call.phase first me.0 c.call.boot j (λ brick same. other same))) k
+
+  -- a version that was there is guarded when the operation begins
+  floors_at_least : (a : ℕ) (earlier : Operation) (u : Stamp) → IsOperation w a earlier → earlier.ask.group.0 ≡ ask.group.0
+      → earlier.ask.stripe.0 ≡ ask.stripe.0 → earlier.version ≡ Some u → FloorsAtLeast new group u
+  floors_at_least a earlier u is groups stripes version =
+      let guarded = ((said.operations a earlier is).version u version).guarded group (ap (group_of setting.layout) groups ∙ group_is) in
+      subst (λ (s : ℕ). IsGuarded w ask.group.0 s group u) stripes
+      (subst (λ (g : ℕ). IsGuarded w g earlier.ask.stripe.0 group u) groups guarded)
+
+  in_order : IsInOrder setting next
+  in_order a b earlier late u earlier_is late_is groups stripes version =
+      put_each (λ i x. x ≡ Some earlier
+      → ((other : Group) → group_of setting.layout late.ask.group.0 ≡ Some other → FloorsAtLeast late other u)
+      ⊎ (late.begin ≤ last_of (life_of next.marks i))) w.operations (w.begun + 1) (Some new)
+      (λ is. let same : new ≡ earlier = cc in let none : None ≡ Some u = ap (λ (z : Operation). z.version) same ∙ version in cc)
+      (λ i other is.
+      put_each (λ j x. x ≡ Some late
+      → ((other : Group) → group_of setting.layout late.ask.group.0 ≡ Some other → FloorsAtLeast late other u)
+      ⊎ (late.begin ≤ last_of (life_of next.marks i))) w.operations (w.begun + 1) (Some new)
+      (λ its.
+      let same : new ≡ late = cc in
+      inl (λ z z_is.
+      let at : group ≡ z
+      = (let e : Some group ≡ Some z = sym group_is ∙ ap (λ (y : Operation). group_of setting.layout y.ask.group.0) same ∙ z_is in cc) in
+      subst (λ (y : Operation). FloorsAtLeast y z u) same
+      (subst (λ (y : Group). FloorsAtLeast new y u) at
+      (floors_at_least i earlier u is (groups ∙ ap (λ (y : Operation). y.ask.group.0) (sym same))
+      (stripes ∙ ap (λ (y : Operation). y.ask.stripe.0) (sym same)) version))))
+      (λ j apart its. ⊎_elim
+      (λ (floors : (z : Group) → group_of setting.layout late.ask.group.0 ≡ Some z → FloorsAtLeast late z u). inl floors)
+      (λ (before : late.begin ≤ last_of (life_of w.marks i)). inr (omega (arith, before, lasts i)))
+      (said.order i j earlier late u is its groups stripes version))
+      b late_is)
+      a earlier_is
+
+  -- the invariant holds when an operation began
+  pub said_began : IsSaid setting next
+  said_began = (
+    later,
+    said_after setting w next stamps later books said grows (record {
+      stamps_say = stamps_say stamps me.0 c.call.boot c.call.seq c.call.phase first none from w next said.stamps_say
+          (ages_by w next me.0 node refl (ages_within (w.nodes me.0) node refl (omega arith) (omega arith)))
+          (subst (λ (x : Node). IsStampOf x me.0 c.call.boot c.stamp) (sym (put_same w.nodes me.0 node)) own) (omega arith)
+          (λ now. let here : (put w.nodes me.0 node me.0).seq ≡ c.call.seq = ap (λ (x : Node). x.seq) (put_same w.nodes me.0 node) in omega arith);
+      tops = λ g s i. inl (put_each (λ j x. top_of (x.replicas g s) ≡ top_of ((w.nodes j).replicas g s)) w.nodes me.0 node refl (λ j other. refl) i);
+      logs = λ g s i k version is. inl
+          (put_each (λ j x. slice_get (x.replicas g s).log k ≡ Some version
+          → slice_get ((w.nodes j).replicas g s).log k ≡ Some version) w.nodes me.0 node
+          (λ has. has) (λ j other has. has) i is);
+      packets = λ k packet is. ⊎_elim
+          (λ (there : slice_get w.packets k ≡ Some packet). inl there)
+          (λ (sent : (j : ℕ) × (slice_get (phase_packets setting group me c) j ≡ Some packet)).
+          let to = sent_to_member me c.call (request_of setting.code group.m c) 0 group.members sent.0 packet sent.1 in
+          inr (subst (λ (z : Packet). PacketSays setting next later z) (sym to.2) (request_says to.0.0 (0 + sent.0))))
+          (get_grown w.packets (phase_packets setting group me c) k packet is);
+      operations = λ a e.
+          put_each (λ i x. x ≡ Some e → IsOperation w i e ⊎ OperationSays setting next later i e) w.operations (w.begun + 1) (Some new)
+          (λ is. let same : new ≡ e = cc in inr (subst (λ (z : Operation). OperationSays setting next later (w.begun + 1) z) same operation_says))
+          (λ i other is. inl is) a;
+      calls = λ i k d.
+          calls_by setting w next stamps later me.0 node refl refl k d (calls k d)
+          (λ j other. stamps_other stamps me.0 c.call.boot c.call.seq c.call.phase first j (w.nodes j).boot k (λ brick same. other brick)) i;
+      ends = λ k q a answer at. ⊎_elim
+          (λ (there : slice_get w.marks k ≡ Some (End q a answer)). inl there)
+          (λ (added : (j : ℕ) × (slice_get (Begin (length w.marks) (w.begun + 1) me ask ∷ []) j ≡ Some (End q a answer))).
+          let bad : Begin (length w.marks) (w.begun + 1) me ask ≡ End q a answer
+          = get_one (Begin (length w.marks) (w.begun + 1) me ask) (End q a answer) added.0 added.1 in
+          absurd (let no : ⊥ = cc in no))
+          (get_grown w.marks (Begin (length w.marks) (w.begun + 1) me ask ∷ []) k (End q a answer) at);
+      order = in_order;
+    }),
+  )

@@ -1,0 +1,103 @@
+-- What a world's books say: operations, calls, numbers and marks agree, at every moment of every run.
+use Rattle.std.proofs.Common.{◌≡◌, ℕ, ◌+◌, ◌<◌, ◌≤◌, true, false, List, Some, None}
+use Rattle.std.specs.Prelude.{slice_get}
+use Rattle.reg_model.specs.declared.marks.Mark.{Mark}
+use Rattle.reg_model.specs.Marks.{Life, life_of, IsOpen, IsWellFormed, position_of}
+use Rattle.reg_model.specs.Strict.{IsAnswered}
+use Rattle.fab_base.specs.Layouts.{Group, group_of}
+use Rattle.protocol.specs.Settings.{Setting}
+use Rattle.protocol.specs.declared.phases.Counted.{Counted}
+use Rattle.protocol.specs.declared.phases.Phase.{Phase}
+use Rattle.protocol.specs.declared.phases.Phase.TheVariants.{Looks, Orders, Recovers, Descends, Stores}
+use Rattle.protocol.specs.Coordinators.{Coordinator, most_rounds}
+use Rattle.protocol.specs.Nodes.{is_stripe_op, has_length}
+use Rattle.protocol.specs.Worlds.{World, Operation, number_of}
+
+-- the replies that have counted, by operation and phase
+abbrev pub Replies : Type 0
+Replies = ℕ → ℕ → List Counted
+
+-- operation n is o
+abbrev pub IsOperation : World → ℕ → Operation → Type 0
+IsOperation w n o = w.operations n ≡ Some o
+
+-- the open operation of brick i's call k is at coordinator c
+abbrev pub IsCall : World → ℕ → ℕ → Coordinator → Type 0
+IsCall w i k c = (w.nodes i).calls k ≡ Some c
+
+-- the operation has made nothing, and read nothing
+abbrev pub IsUnmade : Operation → Type 0
+IsUnmade o = (o.version ≡ None) × (o.made ≡ false) × (o.base ≡ None)
+
+-- a version of the coordinator's own stamp was made on its base from its store phase on, and none before
+abbrev pub MadeInPhase : Coordinator → Operation → Phase → Type 0
+MadeInPhase c o Looks = IsUnmade o
+MadeInPhase c o Orders = IsUnmade o
+MadeInPhase c o Recovers = IsUnmade o
+MadeInPhase c o (Descends bound) = IsUnmade o
+MadeInPhase c o Stores = (o.version ≡ Some c.stamp) × (o.made ≡ true) × (o.base ≡ c.base)
+
+-- the number of a phase, by the rounds of ordering that were begun
+abbrev pub InRound : Coordinator → Phase → Type 0
+InRound c Looks = (c.call.phase ≡ 1) × (c.round ≡ 1)
+InRound c Orders = c.call.phase ≡ c.round
+InRound c Recovers = c.call.phase ≡ c.round + 1
+InRound c (Descends bound) = Unit {0}
+InRound c Stores = Unit {0}
+
+-- operation n, and its marks
+pub record OperationBooks (setting : Setting) (w : World) (n : ℕ) (o : Operation) : Type 0 where
+  pub from_one : 1 ≤ n
+  pub begun : n ≤ w.begun
+  pub number : w.numbers o.brick.0 o.boot o.seq ≡ n
+  pub booted : (1 ≤ o.boot) × (o.boot ≤ (w.nodes o.brick.0).boot)
+  pub called : (1 ≤ o.seq) × (o.boot ≡ (w.nodes o.brick.0).boot → o.seq ≤ (w.nodes o.brick.0).seq)
+  pub is_stripe_op : is_stripe_op o.ask.op ≡ true
+  pub group : Group
+  pub group_is : group_of setting.layout o.ask.group.0 ≡ Some group
+  pub stripe : o.ask.stripe.0 < group.stripes
+  pub length_fits : has_length group.m setting.layout.block o.ask.op ≡ true
+  pub life : Life
+  pub life_is : life_of w.marks n ≡ Some life
+  pub begin : life.begin ≡ o.begin
+  pub brick : life.brick ≡ o.brick.0
+  pub ask : life.ask ≡ o.ask
+  pub answered : o.answered ≡ true → IsAnswered life.ending
+  pub answered_only : IsAnswered life.ending → o.answered ≡ true
+  pub answered_version : o.answered ≡ true → (v : _) × (o.version ≡ Some v)
+  pub open_call : IsOpen (Some life) → (o.boot ≡ (w.nodes o.brick.0).boot) × ((c : Coordinator) × IsCall w o.brick.0 o.seq c)
+
+-- call k of brick i, whose coordinator is c, and its operation
+pub record CallBooks (setting : Setting) (w : World) (i k : ℕ) (c : Coordinator) : Type 0 where
+  pub operation : Operation
+  pub operation_is : IsOperation w (number_of w i k) operation
+  pub up : w.up i ≡ true
+  pub brick : operation.brick.0 ≡ i
+  pub boot : operation.boot ≡ (w.nodes i).boot
+  pub seq : operation.seq ≡ k
+  pub ask : c.ask ≡ operation.ask
+  pub stamp_brick : c.stamp.brick ≡ operation.brick
+  pub stamp_view : c.stamp.view.0 ≡ 1
+  pub stamp_boot : c.stamp.boot ≡ (w.nodes i).boot
+  pub stamp_known : (1 ≤ c.stamp.time) × (c.stamp.time ≤ (w.nodes i).known)
+  pub call_boot : c.call.boot ≡ (w.nodes i).boot
+  pub call_seq : c.call.seq ≡ k
+  pub call_group : c.call.group ≡ c.ask.group
+  pub call_view : c.call.view.0 ≡ 1
+  pub call_stripe : c.call.stripe ≡ c.ask.stripe
+  pub rounds : (1 ≤ c.round) × (c.round ≤ most_rounds)
+  pub in_round : InRound c c.phase
+  pub made : MadeInPhase c operation c.phase
+  pub unended : (life : Life) → life_of w.marks (number_of w i k) ≡ Some life → IsOpen (Some life)
+  pub unanswered : operation.answered ≡ false
+
+-- the books of a world
+pub record Books (setting : Setting) (w : World) : Type 0 where
+  pub well_formed : IsWellFormed w.marks
+  pub places : (k : ℕ) (mark : Mark) → slice_get w.marks k ≡ Some mark → position_of mark ≡ k
+  pub boots : (i : ℕ) → 1 ≤ (w.nodes i).boot
+  pub all_begun : (n : ℕ) → 1 ≤ n → n ≤ w.begun → (o : Operation) × IsOperation w n o
+  pub operations : (n : ℕ) (o : Operation) → IsOperation w n o → OperationBooks setting w n o
+  pub calls : (i k : ℕ) (c : Coordinator) → IsCall w i k c → CallBooks setting w i k c
+  pub fresh_calls : (i k : ℕ) → (w.nodes i).seq < k → (w.nodes i).calls k ≡ None
+  pub lives : (n : ℕ) (life : Life) → life_of w.marks n ≡ Some life → (1 ≤ n) × (n ≤ w.begun)

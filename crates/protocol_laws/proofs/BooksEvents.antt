@@ -1,0 +1,589 @@
+-- Every event keeps the books.
+use Rattle.std.proofs.Common.{◌≡◌, ℕ, ◌+◌, ◌-◌, ◌<◌, ◌≤◌, ◌⊎◌, inl, inr, ◌^◌, Bool, true, false, not, ◌&&◌, cond, is_some, Option, Some, None, refl, sym, ap, ◌∙◌, subst, arith, List, [], ◌∷◌, ◌++◌}
+use Rattle.std.specs.Prelude.{nat_lt, max}
+use Rattle.std.proofs.lemmas.Option.{same_Some}
+use Rattle.std.proofs.lemmas.Bool.{cond_both, and_parts, not-true, not-false, ltb-true, both_ways}
+use Rattle.fab_base.specs.declared.identities.BrickId.{BrickId}
+use Rattle.fab_base.specs.declared.asks.Ask.{Ask}
+use Rattle.fab_base.specs.declared.stamps.Stamp.{Stamp}
+use Rattle.fab_base.specs.declared.answers.Answer.{Answer}
+use Rattle.fab_base.specs.declared.answers.Refusal.{Refusal}
+use Rattle.messages.specs.declared.calls.Call.{Call}
+use Rattle.messages.specs.declared.packets.Message.{Message}
+use Rattle.messages.specs.declared.packets.Packet.{Packet}
+use Rattle.messages.specs.declared.requests.Request.{Request}
+use Rattle.messages.specs.declared.replies.Reply.{Reply}
+use Rattle.fab_base.specs.Layouts.{Group, group_of, seat_in}
+use Rattle.protocol.specs.Settings.{Setting}
+use Rattle.protocol.specs.Replicas.{handle}
+use Rattle.protocol.specs.declared.phases.Phase.{Phase}
+use Rattle.protocol.specs.declared.phases.Phase.TheVariants.{Looks, Orders, Recovers, Descends, Stores}
+use Rattle.protocol.specs.declared.phases.Counted.{Counted}
+use Rattle.protocol.specs.Coordinators.{Coordinator, Next, Ignores, Waits, Sends, Makes, Ends, most_rounds, with_reply, once_full, counted_at, counts_at, on_reply}
+use Rattle.protocol.specs.declared.tellings.Told.TheVariants.{Nothing}
+use Rattle.protocol.specs.Nodes.{Node, NodeStep, put, no_step, is_stripe_op, has_block, has_length, refusal_in, refusal_of, began, invoked, with_replica, replica_at, full_at, reply_packets, requested_at, requested_in, requested, is_served, fits_block, absorbed, ticked, may_open, has_later_time, next_time, new_stamp, fresh_stamp, known_after, with_call, with_known, carried_out, phase_packets, collect_packets, replied_to, replied_at, replied, received}
+use Rattle.protocol.specs.Worlds.{World, Operation, Event, Invokes, Delivers, Sets, Ticks, Crashes, Starts, Absorbs, is_answer, version_after, first_world, is_brick, is_up, may_begin, number_of, may_start, world_absorbed, world_began, world_stepped, with_made, with_answer, with_content, replies_with, delivered, packet_of, happens, run}
+use Rattle.protocol_laws.proofs.Books.{Replies, Books, CallBooks, IsCall, IsUnmade, MadeInPhase, InRound}
+use Rattle.protocol_laws.proofs.BooksKept.{KeepsNumbers}
+use Rattle.protocol_laws.proofs.BooksQuiet.{books_quiet, books_started}
+use Rattle.protocol_laws.proofs.BooksTurns.{IsBookedStamp, books_turned}
+use Rattle.protocol_laws.proofs.BooksEnds.{books_ended, books_stopped}
+use Rattle.protocol_laws.proofs.BooksBegins.{books_began}
+use Rattle.protocol_laws.proofs.Outcomes.{SameOperation, IsRound, ReordersFits, RecoversFits, SendsFits, sends_unmade, EndFits, NextFits, once_full_fits}
+use Rattle.protocol_laws.proofs.Puts.{put_other}
+use Rattle.protocol_laws.proofs.Tables.{put_each, put_same}
+
+-- a brick that keeps its numbers, among those that stay
+pub keeps_put : (w : World) (i : ℕ) (node : Node) → KeepsNumbers (w.nodes i) node → (j : ℕ) → KeepsNumbers (w.nodes j) (put w.nodes i node j)
+keeps_put w i node keeps j =
+    put_each (λ (x : ℕ) (y : Node). KeepsNumbers (w.nodes x) y) w.nodes i node keeps
+    (λ x other. record { boot = refl; seq = refl; known = omega arith }) j
+
+-- the world after a brick's step, with these counted replies
+abbrev pub stepped : World → Replies → BrickId → NodeStep → World
+stepped w replies brick step = world_stepped (record w { replies = replies }) brick step step.told
+
+-- a step that tells nothing and keeps a brick's calls and numbers keeps the books
+books_nothing : (setting : Setting) (w : World) (replies : Replies) (brick : BrickId) (node : Node) (packets : List Packet) → Books setting w
+    → KeepsNumbers (w.nodes brick.0) node → ((l : ℕ) → node.calls l ≡ (w.nodes brick.0).calls l)
+    → Books setting (stepped w replies brick (record { node = node; packets = packets; told = Nothing }))
+books_nothing setting w replies brick node packets books keeps calls =
+    books_quiet setting w (put w.nodes brick.0 node) w.clocks (w.packets ++ packets) replies books (keeps_put w brick.0 node keeps)
+    (λ j l. put_each (λ (x : ℕ) (y : Node). y.calls l ≡ (w.nodes x).calls l) w.nodes brick.0 node (calls l) (λ x other. refl) j)
+
+-- a brick that changes nothing
+books_no_step : (setting : Setting) (w : World) (replies : Replies) (brick : BrickId) → Books setting w
+    → Books setting (stepped w replies brick (no_step (w.nodes brick.0)))
+books_no_step setting w replies brick books =
+    books_nothing setting w replies brick (w.nodes brick.0) [] books (record { boot = refl; seq = refl; known = omega arith }) (λ l. refl)
+
+-- a brick that learns of a time
+books_known : (setting : Setting) (w : World) (replies : Replies) (brick : BrickId) (known : ℕ) → Books setting w → (w.nodes brick.0).known ≤ known
+    → Books setting (stepped w replies brick (no_step (with_known (w.nodes brick.0) known)))
+books_known setting w replies brick known books grows =
+    books_nothing setting w replies brick (with_known (w.nodes brick.0) known) [] books (record { boot = refl; seq = refl; known = grows })
+    (λ l. refl)
+
+-- a request
+books_requested_at : (setting : Setting) (w : World) (replies : Replies) (me from : BrickId) (call : Call) (request : Request) (seat : Option ℕ)
+    → Books setting w → Books setting (stepped w replies me (requested_at setting.layout.records me from (w.nodes me.0) call request seat))
+books_requested_at setting w replies me from call request None books = books_no_step setting w replies me books
+books_requested_at setting w replies me from call request (Some seat) books =
+    let reaction = handle (full_at setting.layout.records (w.nodes me.0)) seat (replica_at (w.nodes me.0) call) request in
+    books_nothing setting w replies me (with_replica (w.nodes me.0) call reaction) (reply_packets me from call reaction.reply) books
+    (record { boot = refl; seq = refl; known = omega arith }) (λ l. refl)
+
+books_requested_in : (setting : Setting) (w : World) (replies : Replies) (me from : BrickId) (call : Call) (request : Request) (group : Option Group)
+    → Books setting w → Books setting (stepped w replies me (requested_in setting.layout me from (w.nodes me.0) call request group))
+books_requested_in setting w replies me from call request None books = books_no_step setting w replies me books
+books_requested_in setting w replies me from call request (Some group) books =
+    cond_both (is_served group call && fits_block setting.layout.block request) _ _ (λ (step : NodeStep). Books setting (stepped w replies me step))
+    (λ is. books_requested_at setting w replies me from call request (seat_in group.members me.0) books)
+    (λ isnt. books_no_step setting w replies me books)
+
+books_requested : (setting : Setting) (w : World) (replies : Replies) (me from : BrickId) (call : Call) (request : Request) → Books setting w
+    → Books setting (stepped w replies me (requested setting me from (w.nodes me.0) call request))
+unfolding requested
+books_requested setting w replies me from call request books =
+    books_requested_in setting w replies me from call request (group_of setting.layout call.group.0) books
+
+-- what an operation made is of its stamp and on its base, whatever else its coordinator holds
+made_same : (c d : Coordinator) (o : Operation) (p q : Phase) → d.stamp ≡ c.stamp → d.base ≡ c.base → q ≡ p → MadeInPhase c o p → MadeInPhase d o q
+made_same c d o p q stamp base phase made = subst (λ (x : Phase). MadeInPhase d o x) (sym phase) (by p made)
+  where
+    by : (p : Phase) → MadeInPhase c o p → MadeInPhase d o p
+    by Looks made = made
+    by Orders made = made
+    by Recovers made = made
+    by (Descends bound) made = made
+    by Stores made = (made.0 ∙ ap (λ (t : Stamp). Some t) (sym stamp), made.1, made.2 ∙ sym base)
+
+-- before its store phase an operation has made nothing
+made_nothing : (c : Coordinator) (o : Operation) (p : Phase) → (p ≡ Stores → ⊥) → MadeInPhase c o p → IsUnmade o
+made_nothing c o Looks before made = made
+made_nothing c o Orders before made = made
+made_nothing c o Recovers before made = made
+made_nothing c o (Descends bound) before made = made
+made_nothing c o Stores before made = absurd (before refl)
+
+nothing_made : (d : Coordinator) (o : Operation) (p : Phase) → (p ≡ Stores → ⊥) → IsUnmade o → MadeInPhase d o p
+nothing_made d o Looks before none = none
+nothing_made d o Orders before none = none
+nothing_made d o Recovers before none = none
+nothing_made d o (Descends bound) before none = none
+nothing_made d o Stores before none = absurd (before refl)
+
+-- a phase that stays has its number
+round_same : (c d : Coordinator) (p q : Phase) → d.call.phase ≡ c.call.phase → d.round ≡ c.round → q ≡ p → InRound c p → InRound d q
+round_same c d p q call round phase within = subst (λ (x : Phase). InRound d x) (sym phase) (by p within)
+  where
+    by : (p : Phase) → InRound c p → InRound d p
+    by Looks (first, one) = (call ∙ first, round ∙ one)
+    by Orders within = call ∙ within ∙ sym round
+    by Recovers within = call ∙ within ∙ ap (λ (x : ℕ). x + 1) (sym round)
+    by (Descends bound) within = tt
+    by Stores within = tt
+
+-- the next round of ordering has the next number
+round_again : (c d : Coordinator) (p : Phase) → IsRound p → d.call.phase ≡ c.call.phase + 1 → d.round ≡ c.round + 1 → InRound c p → InRound d p
+round_again c d Looks is call round within = absurd is
+round_again c d Orders is call round within = omega arith
+round_again c d Recovers is call round within = omega arith
+round_again c d (Descends bound) is call round within = tt
+round_again c d Stores is call round within = tt
+
+round_next : (fresh : Option Stamp) (c d : Coordinator) → SendsFits fresh c d → InRound c c.phase → InRound d d.phase
+round_next fresh c d fits within = by fits.how
+  where
+    call : d.call.phase ≡ c.call.phase + 1
+    call = ap (λ (x : Call). x.phase) fits.call
+
+    recovers : (r : RecoversFits c d) → ((c.phase ≡ Looks) × (d.phase ≡ Recovers)) ⊎ ((bound : Stamp) × (d.phase ≡ Descends bound))
+        → InRound d d.phase
+    recovers r (inl (was, now)) =
+        let first : (c.call.phase ≡ 1) × (c.round ≡ 1) = subst (λ (x : Phase). InRound c x) was within in
+        subst (λ (x : Phase). InRound d x) (sym now)
+        (call ∙ ap (λ (x : ℕ). x + 1) first.0 ∙ ap (λ (x : ℕ). x + 1) (sym (r.round ∙ first.1)))
+    recovers r (inr (bound, now)) = subst (λ (x : Phase). InRound d x) (sym now) tt
+
+    by : ReordersFits fresh c d ⊎ RecoversFits c d → InRound d d.phase
+    by (inl again) = subst (λ (x : Phase). InRound d x) (sym again.phase) (round_again c d c.phase again.was call again.round within)
+    by (inr goes) = recovers goes goes.phase
+
+-- an operation that is answered has a version
+ends_version : (c : Coordinator) (o : Operation) (p : Phase) (answer : Answer) (seen : Option Stamp) → MadeInPhase c o p → EndFits p answer seen
+    → is_answer answer ≡ true → (v : Stamp) × (version_after o.version seen ≡ Some v)
+ends_version c o Looks answer seen made fits is = (let saw = fits is in (saw.0, ap (λ (x : Option Stamp). version_after o.version x) saw.1))
+ends_version c o Orders answer seen made fits is = absurd (both_ways (is_answer answer) fits is)
+ends_version c o Recovers answer seen made fits is = absurd (both_ways (is_answer answer) fits is)
+ends_version c o (Descends bound) answer seen made fits is = absurd (both_ways (is_answer answer) fits is)
+ends_version c o Stores answer None made fits is = (c.stamp, made.0)
+ends_version c o Stores answer (Some v) made fits is = (v, refl)
+
+-- a fresh stamp is above all that its brick knows
+pub fresh_is : (me : BrickId) (now boot known : ℕ) (t : Stamp) → fresh_stamp me now boot known ≡ Some t
+    → (t ≡ new_stamp me now boot known) × (known ≤ next_time now known) × (1 ≤ next_time now known)
+fresh_is me now boot known t is =
+    cond_both (has_later_time known) (Some (new_stamp me now boot known)) None
+    (λ (z : Option Stamp). z ≡ Some t → (t ≡ new_stamp me now boot known) × (known ≤ next_time now known) × (1 ≤ next_time now known))
+    (λ some e. (sym (same_Some (new_stamp me now boot known) t e), omega arith, omega arith))
+    (λ none e. absurd (let never : None ≡ Some t = e in cc))
+    is
+
+-- a brick is its number
+pub brick_of : (a b : BrickId) → a.0 ≡ b.0 → a ≡ b
+brick_of a b same = ap (λ (x : ℕ). let b : BrickId = record { 0 = x } in b) same
+
+-- brick me took a reply, which counts in coordinator c, and knows this time; a new round would have this stamp
+module _ (setting : Setting) (group : Group) (w : World) (replies : Replies) (me : BrickId) (now known : ℕ) (c : Coordinator) (counted : List Counted)
+    (books : Books setting w) (is_call : IsCall w me.0 c.call.seq c) (grows : (w.nodes me.0).known ≤ known) where
+  abbrev i : ℕ
+  i = me.0
+
+  abbrev k : ℕ
+  k = c.call.seq
+
+  abbrev node : Node
+  node = w.nodes i
+
+  -- the coordinator with the replies that then count
+  abbrev then' : Coordinator
+  then' = record {
+    ask = c.ask;
+    stamp = c.stamp;
+    round = c.round;
+    base = c.base;
+    content = c.content;
+    call = c.call;
+    phase = c.phase;
+    counted = counted;
+  }
+
+  abbrev fresh : Option Stamp
+  fresh = fresh_stamp me now node.boot known
+
+  -- the replies that count are no part of the operation
+  same_of : (d : Coordinator) → SameOperation then' d → SameOperation c d
+  same_of d same =
+      record { ask = same.ask; boot = same.boot; seq = same.seq; group = same.group; view = same.view; stripe = same.stripe }
+
+  mine : CallBooks setting w i k c
+  mine = books.calls i k c is_call
+
+  -- brick i with this call changed
+  call_put : (time busy : ℕ) (d : Option Coordinator) → (put w.nodes i (with_call node time busy k d) i).calls k ≡ d
+  call_put time busy d =
+      ap (λ (x : Node). x.calls k) (put_same w.nodes i (with_call node time busy k d)) ∙ put_same node.calls k d
+
+  other_put : (time busy : ℕ) (d : Option Coordinator) (j l : ℕ) → (j ≡ i → l ≡ k → ⊥)
+      → (put w.nodes i (with_call node time busy k d) j).calls l ≡ (w.nodes j).calls l
+  other_put time busy d j l other =
+      put_each (λ (x : ℕ) (y : Node). (x ≡ i → l ≡ k → ⊥) → y.calls l ≡ (w.nodes x).calls l) w.nodes i (with_call node time busy k d)
+      (λ apart. put_other node.calls k d l (λ same. apart refl same)) (λ x at apart. refl) j other
+
+  keeps_call : (time busy : ℕ) (d : Option Coordinator) → node.known ≤ time
+      → (j : ℕ) → KeepsNumbers (w.nodes j) (put w.nodes i (with_call node time busy k d) j)
+  keeps_call time busy d later = keeps_put w i (with_call node time busy k d) (record { boot = refl; seq = refl; known = later })
+
+  -- the time that brick i then knows
+  own_known : (time busy : ℕ) (d : Option Coordinator) → time ≡ (put w.nodes i (with_call node time busy k d) i).known
+  own_known time busy d = ap (λ (x : Node). x.known) (sym (put_same w.nodes i (with_call node time busy k d)))
+
+  -- the stamp that an operation has stays its own
+  stamp_stays : (time : ℕ) (d : Option Coordinator) (t : Stamp) → t ≡ c.stamp → node.known ≤ time
+      → IsBookedStamp (put w.nodes i (with_call node time node.busy k d) i).known mine.operation t
+  stamp_stays time d t same later = subst (λ (x : Stamp). IsBookedStamp (put w.nodes i (with_call node time node.busy k d) i).known mine.operation x)
+      (sym same)
+      (subst (λ (x : ℕ). IsBookedStamp x mine.operation c.stamp) (own_known time node.busy d) (record {
+        brick = mine.stamp_brick;
+        view = mine.stamp_view;
+        boot = mine.stamp_boot ∙ sym mine.boot;
+        time = (omega (arith, mine.stamp_known.0), omega (arith, mine.stamp_known.1));
+      }))
+
+  -- a fresh stamp is the operation's, and no time falls
+  stamp_fresh : (time : ℕ) (d : Option Coordinator) (t : Stamp) → fresh ≡ Some t → t.time ≤ time
+      → IsBookedStamp (put w.nodes i (with_call node time node.busy k d) i).known mine.operation t
+  stamp_fresh time d t is later =
+      let facts = fresh_is me now node.boot known t is in
+      let at : t.time ≡ next_time now known = ap (λ (x : Stamp). x.time) facts.0 in
+      subst (λ (x : ℕ). IsBookedStamp x mine.operation t) (own_known time node.busy d) (record {
+        brick = ap (λ (x : Stamp). x.brick) facts.0 ∙ brick_of me mine.operation.brick (sym mine.brick);
+        view = ap (λ (x : Stamp). x.view.0) facts.0;
+        boot = ap (λ (x : Stamp). x.boot) facts.0 ∙ sym mine.boot;
+        time = (omega (arith, facts.2, at), omega arith);
+      })
+
+  -- the stamp and the rounds of the next phase
+  stamp_sends : (d : Coordinator) → ReordersFits fresh then' d ⊎ RecoversFits then' d
+      → IsBookedStamp (put w.nodes i (with_call node (max known d.stamp.time) node.busy k (Some d)) i).known mine.operation d.stamp
+  stamp_sends d (inl again) = stamp_fresh (max known d.stamp.time) (Some d) d.stamp again.stamp (omega arith)
+  stamp_sends d (inr goes) = stamp_stays (max known d.stamp.time) (Some d) d.stamp goes.stamp (omega arith)
+
+  rounds_sends : (d : Coordinator) → ReordersFits fresh then' d ⊎ RecoversFits then' d → (1 ≤ d.round) × (d.round ≤ most_rounds)
+  rounds_sends d (inl again) =
+      let next : d.round ≡ c.round + 1 = again.round in let left : c.round < most_rounds = again.left in (omega arith, omega arith)
+  rounds_sends d (inr goes) = subst (λ (x : ℕ). (1 ≤ x) × (x ≤ most_rounds)) (sym goes.round) mine.rounds
+
+  -- what a brick does with what its coordinator decided
+  books_carried_out : (next : Next) → NextFits fresh then' next
+      → Books setting (stepped w replies me (carried_out setting group me node known c next))
+  books_carried_out Ignores fits = absurd fits
+  books_carried_out (Waits d) fits =
+      books_turned setting w i k c d mine.operation mine.operation (put w.nodes i (with_call node known node.busy k (Some d))) (w.packets ++ [])
+      w.operations w.contents replies books
+      (record {
+        was = is_call;
+        operation_was = mine.operation_is;
+        same = same_of d fits.same;
+        stamp = stamp_stays known (Some d) d.stamp fits.stamp grows;
+        rounds = subst (λ (x : ℕ). (1 ≤ x) × (x ≤ most_rounds)) (sym fits.round) mine.rounds;
+        in_round = round_same c d c.phase d.phase (ap (λ (x : Call). x.phase) fits.call) fits.round fits.phase mine.in_round;
+        same_ask = record { brick = refl; boot = refl; seq = refl; begin = refl; ask = refl; answered = refl };
+        made = made_same c d mine.operation c.phase d.phase fits.stamp fits.base fits.phase mine.made;
+        keeps = keeps_call known node.busy (Some d) grows;
+        call_is = call_put known node.busy (Some d);
+        other_calls = other_put known node.busy (Some d);
+        operation_is = mine.operation_is;
+        other_operations = λ m other. refl;
+      })
+  books_carried_out (Sends d) fits =
+      let time : ℕ = max known d.stamp.time in
+      books_turned setting w i k c d mine.operation mine.operation (put w.nodes i (with_call node time node.busy k (Some d)))
+      (w.packets ++ phase_packets setting group me d) w.operations w.contents replies books
+      (record {
+        was = is_call;
+        operation_was = mine.operation_is;
+        same = same_of d fits.same;
+        stamp = stamp_sends d fits.how;
+        rounds = rounds_sends d fits.how;
+        in_round = round_next fresh then' d fits (round_same c then' c.phase c.phase refl refl refl mine.in_round);
+        same_ask = record { brick = refl; boot = refl; seq = refl; begin = refl; ask = refl; answered = refl };
+        made = nothing_made d mine.operation d.phase (sends_unmade fresh then' d fits)
+            (made_nothing c mine.operation c.phase fits.unmade mine.made);
+        keeps = keeps_call time node.busy (Some d) (omega arith);
+        call_is = call_put time node.busy (Some d);
+        other_calls = other_put time node.busy (Some d);
+        operation_is = mine.operation_is;
+        other_operations = λ m other. refl;
+      })
+  books_carried_out (Makes d) fits =
+      let o : Operation = record {
+        brick = mine.operation.brick;
+        boot = mine.operation.boot;
+        seq = mine.operation.seq;
+        begin = mine.operation.begin;
+        ask = mine.operation.ask;
+        version = Some d.stamp;
+        made = true;
+        base = d.base;
+        answered = mine.operation.answered;
+        floor = mine.operation.floor;
+      } in
+      let n : ℕ = number_of w i k in
+      books_turned setting w i k c d mine.operation o (put w.nodes i (with_call node known node.busy k (Some d)))
+      (w.packets ++ phase_packets setting group me d) (put w.operations n (with_made d.stamp d.base (w.operations n)))
+      (with_content w.contents d.stamp ((with_call node known node.busy k (Some d)).calls k)) replies books
+      (record {
+        was = is_call;
+        operation_was = mine.operation_is;
+        same = same_of d fits.same;
+        stamp = stamp_stays known (Some d) d.stamp fits.stamp grows;
+        rounds = subst (λ (x : ℕ). (1 ≤ x) × (x ≤ most_rounds)) (sym fits.round) mine.rounds;
+        in_round = subst (λ (x : Phase). InRound d x) (sym fits.phase) tt;
+        same_ask = record { brick = refl; boot = refl; seq = refl; begin = refl; ask = refl; answered = refl };
+        made = subst (λ (x : Phase). MadeInPhase d o x) (sym fits.phase) (refl, refl, refl);
+        keeps = keeps_call known node.busy (Some d) grows;
+        call_is = call_put known node.busy (Some d);
+        other_calls = other_put known node.busy (Some d);
+        operation_is = put_same w.operations n (with_made d.stamp d.base (w.operations n))
+            ∙ ap (λ (x : Option Operation). with_made d.stamp d.base x) mine.operation_is;
+        other_operations = λ m other. put_other w.operations n (with_made d.stamp d.base (w.operations n)) m other;
+      })
+  books_carried_out (Ends answer seen stored) fits =
+      let o : Operation = record {
+        brick = mine.operation.brick;
+        boot = mine.operation.boot;
+        seq = mine.operation.seq;
+        begin = mine.operation.begin;
+        ask = mine.operation.ask;
+        version = version_after mine.operation.version seen;
+        made = mine.operation.made;
+        base = mine.operation.base;
+        answered = is_answer answer;
+        floor = mine.operation.floor;
+      } in
+      let n : ℕ = number_of w i k in
+      books_ended setting w i k c mine.operation o answer (put w.nodes i (with_call node known (node.busy - 1) k None))
+      (w.packets ++ collect_packets group me c.call stored) (put w.operations n (with_answer answer seen (w.operations n))) replies books
+      (record {
+        was = is_call;
+        operation_was = mine.operation_is;
+        brick = refl;
+        boot = refl;
+        seq = refl;
+        begin = refl;
+        ask = refl;
+        answered = refl;
+        answered_version = λ is. ends_version c mine.operation c.phase answer seen mine.made fits.0 is;
+        keeps = keeps_call known (node.busy - 1) None grows;
+        call_is = call_put known (node.busy - 1) None;
+        other_calls = other_put known (node.busy - 1) None;
+        operation_is = put_same w.operations n (with_answer answer seen (w.operations n))
+            ∙ ap (λ (x : Option Operation). with_answer answer seen x) mine.operation_is;
+        other_operations = λ m other. put_other w.operations n (with_answer answer seen (w.operations n)) m other;
+      })
+
+-- what a reply makes known is no less
+pub known_grows : (known : ℕ) (reply : Reply) → known ≤ known_after known reply
+known_grows known (Reply.Later t) = omega arith
+known_grows known reply = omega arith
+
+-- a reply
+books_counted_at : (setting : Setting) (w : World) (replies : Replies) (me : BrickId) (now : ℕ) (from : BrickId) (reply : Reply) (c : Coordinator)
+    (group : Group) (seat : Option ℕ) → Books setting w → IsCall w me.0 c.call.seq c
+    → (let known = known_after (w.nodes me.0).known reply in
+    Books setting (stepped w replies me (carried_out setting group me (w.nodes me.0) known c
+    (counted_at setting.code group (fresh_stamp me now (w.nodes me.0).boot known) c from reply seat))))
+books_counted_at setting w replies me now from reply c group None books is_call =
+    books_known setting w replies me (known_after (w.nodes me.0).known reply) books (known_grows (w.nodes me.0).known reply)
+books_counted_at setting w replies me now from reply c group (Some seat) books is_call =
+    let known = known_after (w.nodes me.0).known reply in
+    let fresh = fresh_stamp me now (w.nodes me.0).boot known in
+    books_carried_out setting group w replies me now known c (with_reply c seat from reply).counted books is_call
+    (known_grows (w.nodes me.0).known reply)
+    (once_full setting.code group fresh (with_reply c seat from reply)) (once_full_fits setting.code group fresh (with_reply c seat from reply))
+
+books_replied_to : (setting : Setting) (w : World) (replies : Replies) (me : BrickId) (now : ℕ) (from : BrickId) (call : Call) (reply : Reply)
+    (c : Coordinator) (group : Option Group) → Books setting w → IsCall w me.0 c.call.seq c
+    → Books setting (stepped w replies me (replied_to setting me now from (w.nodes me.0) call reply c group))
+unfolding on_reply
+books_replied_to setting w replies me now from call reply c None books is_call = books_no_step setting w replies me books
+books_replied_to setting w replies me now from call reply c (Some group) books is_call =
+    books_counted_at setting w replies me now from reply c group (counts_at setting.layout.block group c from.0 call reply) books is_call
+
+books_replied_at : (setting : Setting) (w : World) (replies : Replies) (me : BrickId) (now : ℕ) (from : BrickId) (call : Call) (reply : Reply)
+    (found : Option Coordinator) → Books setting w → (w.nodes me.0).calls call.seq ≡ found
+    → Books setting (stepped w replies me (replied_at setting me now from (w.nodes me.0) call reply found))
+books_replied_at setting w replies me now from call reply None books is =
+    books_known setting w replies me (known_after (w.nodes me.0).known reply) books (known_grows (w.nodes me.0).known reply)
+books_replied_at setting w replies me now from call reply (Some c) books is =
+    let seq : c.call.seq ≡ call.seq = (books.calls me.0 call.seq c is).call_seq in
+    books_replied_to setting w replies me now from call reply c (group_of setting.layout c.ask.group.0) books
+    (subst (λ (l : ℕ). IsCall w me.0 l c) (sym seq) is)
+
+books_replied : (setting : Setting) (w : World) (replies : Replies) (me : BrickId) (now : ℕ) (from : BrickId) (call : Call) (reply : Reply)
+    → Books setting w → Books setting (stepped w replies me (replied setting me now from (w.nodes me.0) call reply))
+unfolding replied
+books_replied setting w replies me now from call reply books =
+    books_replied_at setting w replies me now from call reply ((w.nodes me.0).calls call.seq) books refl
+
+-- a message
+books_received : (setting : Setting) (w : World) (replies : Replies) (me : BrickId) (now : ℕ) (from to : BrickId) (message : Message)
+    → Books setting w
+    → Books setting (stepped w replies me (received setting me now (w.nodes me.0) (record { from = from; to = to; message = message })))
+unfolding received
+books_received setting w replies me now from to (Message.Request call request) books = books_requested setting w replies me from call request books
+books_received setting w replies me now from to (Message.Reply call reply) books = books_replied setting w replies me now from call reply books
+books_received setting w replies me now from to message books = books_no_step setting w replies me books
+
+books_delivered : (setting : Setting) (w : World) (packet : Option Packet) → Books setting w → Books setting (delivered setting w packet)
+books_delivered setting w None books = books
+books_delivered setting w (Some packet) books =
+    cond_both (is_up setting.layout w packet.to) _ _ (λ (x : World). Books setting x)
+    (λ member. books_received setting w (replies_with setting w packet) packet.to (w.clocks packet.to.0) packet.from packet.to packet.message books)
+    (λ stranger. books)
+
+-- where no reason to refuse is found, the group is there, and the ask fits it
+cond_none : (b : Bool) (r : Refusal) (rest : Option Refusal) → cond b (Some r) rest ≡ None → (b ≡ false) × (rest ≡ None)
+cond_none true r rest h = absurd (let never : Some r ≡ None = h in cc)
+cond_none false r rest h = (refl, h)
+
+not_refused : (block : ℕ) (node : Node) (ask : Ask) (found : Option Group) → refusal_in block node ask found ≡ None
+    → (group : Group) × (found ≡ Some group) × (ask.stripe.0 < group.stripes) × (has_length group.m block ask.op ≡ true)
+not_refused block node ask None h = absurd (let never : Some Refusal.NoStripe ≡ None = h in cc)
+not_refused block node ask (Some group) h =
+    let first = cond_none (not (nat_lt ask.stripe.0 group.stripes)) Refusal.NoStripe _ h in
+    let second = cond_none (not (has_block group.m ask.op)) Refusal.NoBlock _ first.1 in
+    let third = cond_none (not (has_length group.m block ask.op)) Refusal.Length _ second.1 in
+    (group, refl, ltb-true ask.stripe.0 group.stripes (not-false _ first.0), not-false _ third.0)
+
+no_value : (r : Option Refusal) → is_some r ≡ false → r ≡ None
+no_value None h = refl
+no_value (Some r) h = absurd (let never : true ≡ false = h in cc)
+
+-- an operation that may begin has its group, and fits it
+pub record BeginFits (setting : Setting) (ask : Ask) : Type 0 where
+  pub group : Group
+  pub group_is : group_of setting.layout ask.group.0 ≡ Some group
+  pub is_stripe_op : is_stripe_op ask.op ≡ true
+  pub stripe : ask.stripe.0 < group.stripes
+  pub length_fits : has_length group.m setting.layout.block ask.op ≡ true
+
+pub begin_fits : (setting : Setting) (w : World) (brick : BrickId) (ask : Ask) → may_begin setting w brick ask ≡ true → BeginFits setting ask
+unfolding refusal_of
+begin_fits setting w brick ask may =
+    let both = and_parts (is_up setting.layout w brick)
+    (is_stripe_op ask.op && not (is_some (refusal_of setting.layout (w.nodes brick.0) ask))) may in
+    let rest = and_parts (is_stripe_op ask.op) (not (is_some (refusal_of setting.layout (w.nodes brick.0) ask))) both.1 in
+    let none : refusal_of setting.layout (w.nodes brick.0) ask ≡ None = no_value (refusal_of setting.layout (w.nodes brick.0) ask)
+    (not-true _ rest.1) in
+    let fits = not_refused setting.layout.block (w.nodes brick.0) ask (group_of setting.layout ask.group.0) none in
+    record { group = fits.0; group_is = fits.1; is_stripe_op = rest.0; stripe = fits.2; length_fits = fits.3 }
+
+-- it begins at a brick that is up
+pub begin_up : (setting : Setting) (w : World) (brick : BrickId) (ask : Ask) → may_begin setting w brick ask ≡ true → w.up brick.0 ≡ true
+begin_up setting w brick ask may =
+    let both = and_parts (is_up setting.layout w brick)
+    (is_stripe_op ask.op && not (is_some (refusal_of setting.layout (w.nodes brick.0) ask))) may in
+    (and_parts (is_brick setting.layout brick) (w.up brick.0) both.0).1
+
+-- an invocation
+books_invoked : (setting : Setting) (w : World) (brick : BrickId) (now : ℕ) (ask : Ask) → Books setting w → may_begin setting w brick ask ≡ true
+    → Books setting (world_began w brick ask (invoked setting brick now (w.nodes brick.0) ask))
+unfolding invoked
+books_invoked setting w brick now ask books may =
+    let fits : BeginFits setting ask = begin_fits setting w brick ask may in
+    subst (λ (found : Option Group). Books setting (world_began w brick ask (began setting brick now (w.nodes brick.0) ask found)))
+    (sym fits.group_is)
+    (books_began setting w brick now ask fits.group books fits.is_stripe_op fits.group_is fits.stripe
+    (begin_up setting w brick ask may) fits.length_fits)
+
+-- what a request leaves of a brick keeps its numbers and calls
+abbrev pub KeepsCalls : Node → Node → Type 0
+KeepsCalls node later = KeepsNumbers node later × ((l : ℕ) → later.calls l ≡ node.calls l)
+
+keeps_itself : (node : Node) → KeepsCalls node node
+keeps_itself node = (record { boot = refl; seq = refl; known = omega arith }, λ l. refl)
+
+requested_keeps : (setting : Setting) (me from : BrickId) (node : Node) (call : Call) (request : Request)
+    → KeepsCalls node (requested setting me from node call request).node
+unfolding requested
+requested_keeps setting me from node call request = in_group (group_of setting.layout call.group.0)
+  where
+    at_seat : (z : Option ℕ) → KeepsCalls node (requested_at setting.layout.records me from node call request z).node
+    at_seat None = keeps_itself node
+    at_seat (Some seat) = (record { boot = refl; seq = refl; known = omega arith }, λ l. refl)
+
+    in_group : (z : Option Group) → KeepsCalls node (requested_in setting.layout me from node call request z).node
+    in_group None = keeps_itself node
+    in_group (Some group) =
+        cond_both (is_served group call && fits_block setting.layout.block request) _ _ (λ (step : NodeStep). KeepsCalls node step.node)
+        (λ is. at_seat (seat_in group.members me.0)) (λ isnt. keeps_itself node)
+
+-- so does a message whose handling was the last thing that it did
+pub absorbed_keeps : (setting : Setting) (me : BrickId) (node : Node) (from to : BrickId) (message : Message)
+    → KeepsCalls node (absorbed setting me node (record { from = from; to = to; message = message }))
+unfolding absorbed
+absorbed_keeps setting me node from to (Message.Request call request) = requested_keeps setting me from node call request
+absorbed_keeps setting me node from to message = keeps_itself node
+
+books_absorbed : (setting : Setting) (w : World) (packet : Option Packet) → Books setting w → Books setting (world_absorbed setting w packet)
+books_absorbed setting w None books = books
+books_absorbed setting w (Some packet) books =
+    let node : Node = absorbed setting packet.to (w.nodes packet.to.0) packet in
+    let keeps : KeepsCalls (w.nodes packet.to.0) node = absorbed_keeps setting packet.to (w.nodes packet.to.0) packet.from packet.to packet.message in
+    cond_both (is_up setting.layout w packet.to) _ _ (λ (x : World). Books setting x)
+    (λ up. books_quiet setting w (put w.nodes packet.to.0 node) w.clocks w.packets w.replies books (keeps_put w packet.to.0 node keeps.0)
+    (λ j l. put_each (λ (x : ℕ) (y : Node). y.calls l ≡ (w.nodes x).calls l) w.nodes packet.to.0 node (keeps.1 l) (λ x other. refl) j))
+    (λ down. books)
+
+-- a brick may start that is down, and its store is opened at least once
+pub start_fits : (setting : Setting) (w : World) (brick : BrickId) (openings : ℕ) → may_start setting.layout w brick openings ≡ true
+    → (w.up brick.0 ≡ false) × (1 ≤ openings)
+start_fits setting w brick openings may =
+    let both = and_parts (is_brick setting.layout brick) (not (w.up brick.0) && may_open openings (w.nodes brick.0)) may in
+    let rest = and_parts (not (w.up brick.0)) (may_open openings (w.nodes brick.0)) both.1 in
+    let few = and_parts (nat_lt 0 openings) (nat_lt ((w.nodes brick.0).boot + openings) (2 ^ 32)) rest.1 in
+    let once : 0 < openings = ltb-true 0 openings few.0 in
+    (not-true (w.up brick.0) rest.0, omega arith)
+
+-- every event keeps the books
+pub books_kept : (setting : Setting) (w : World) (event : Event) → Books setting w → Books setting (happens setting w event)
+unfolding happens
+books_kept setting w (Invokes brick ask) books =
+    cond_both (may_begin setting w brick ask) _ _ (λ (x : World). Books setting x)
+    (λ may. books_invoked setting w brick (w.clocks brick.0) ask books may) (λ refused. books)
+books_kept setting w (Delivers number) books = books_delivered setting w (packet_of w.packets number) books
+books_kept setting w (Sets brick time) books =
+    cond_both (is_brick setting.layout brick) _ _ (λ (x : World). Books setting x)
+    (λ member. books_quiet setting w w.nodes (put w.clocks brick.0 time) w.packets w.replies books
+    (λ i. record { boot = refl; seq = refl; known = omega arith }) (λ i k. refl))
+    (λ stranger. books)
+books_kept setting w (Ticks brick) books =
+    cond_both (is_up setting.layout w brick) _ _ (λ (x : World). Books setting x)
+    (λ up. books_quiet setting w w.nodes w.clocks (w.packets ++ ticked setting brick (w.nodes brick.0)) w.replies books
+    (λ i. record { boot = refl; seq = refl; known = omega arith }) (λ i k. refl))
+    (λ down. books)
+books_kept setting w (Crashes brick) books =
+    cond_both (is_up setting.layout w brick) _ _ (λ (x : World). Books setting x) (λ up. books_stopped setting w brick books) (λ down. books)
+books_kept setting w (Starts brick openings) books =
+    cond_both (may_start setting.layout w brick openings) _ _ (λ (x : World). Books setting x)
+    (λ may. (let fits = start_fits setting w brick openings may in books_started setting w brick openings books fits.0 fits.1))
+    (λ cannot. books)
+books_kept setting w (Absorbs number) books = books_absorbed setting w (packet_of w.packets number) books
+
+-- at first nothing is booked
+books_first : (setting : Setting) → Books setting (first_world setting.layout)
+books_first setting = record {
+  well_formed = record {
+    positions_rise = λ k lt. absurd (omega arith);
+    numbers_rise = λ k lt. absurd (omega arith);
+    ends_are_of_open = λ i p n answer is. absurd (let never : None ≡ Some _ = is in cc);
+  };
+  places = λ k mark is. absurd (let never : None ≡ Some mark = is in cc);
+  boots = λ i. omega arith;
+  all_begun = λ n low high. absurd (omega arith);
+  operations = λ n o is. absurd (let never : None ≡ Some o = is in cc);
+  calls = λ i k c is. absurd (let never : None ≡ Some c = is in cc);
+  fresh_calls = λ i k lt. refl;
+  lives = λ n life is. absurd (let never : None ≡ Some life = is in cc);
+}
+
+books_run : (setting : Setting) (events : List Event) (w : World) → Books setting w → Books setting (run setting events w)
+books_run setting [] w books = books
+books_run setting (event ∷ events) w books = books_run setting events (happens setting w event) (books_kept setting w event books)
+
+-- the books hold in every world that a run reaches
+pub books : (setting : Setting) (events : List Event) → Books setting (run setting events (first_world setting.layout))
+books setting events = books_run setting events (first_world setting.layout) (books_first setting)

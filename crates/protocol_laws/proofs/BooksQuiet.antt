@@ -1,0 +1,196 @@
+-- The books of a world where a brick changed its part of a stripe, or learnt of a time, where a clock was set or ticks, or where a stopped brick was
+-- started again.
+use Rattle.std.proofs.Common.{◌≡◌, ◌≢◌, ℕ, ◌+◌, ◌≤◌, ⊎_elim, Bool, true, false, None, Some, refl, sym, ap, ◌∙◌, subst, arith, List}
+use Rattle.std.specs.Prelude.{nat_eq, if◌then◌else◌}
+use Rattle.std.proofs.lemmas.Bool.{cases_eq, both_ways, ne_eqb}
+use Rattle.std.proofs.lemmas.Option.{same_Some}
+use Rattle.fab_base.specs.declared.identities.BrickId.{BrickId}
+use Rattle.messages.specs.declared.packets.Packet.{Packet}
+use Rattle.reg_model.specs.Marks.{Life, life_of, IsOpen}
+use Rattle.protocol.specs.Settings.{Setting}
+use Rattle.protocol.specs.declared.phases.Counted.{Counted}
+use Rattle.protocol.specs.Coordinators.{Coordinator}
+use Rattle.protocol.specs.Nodes.{Node, put, no_calls, restarted}
+use Rattle.protocol.specs.Worlds.{World, Operation, number_of, known_in, world_started}
+use Rattle.protocol_laws.proofs.Books.{Books, OperationBooks, CallBooks, IsCall}
+use Rattle.protocol_laws.proofs.BooksKept.{KeepsNumbers, operation_stays, operation_kept, call_kept}
+use Rattle.protocol_laws.proofs.Lives.{Stays-refl}
+use Rattle.protocol_laws.proofs.Puts.{put_other}
+use Rattle.protocol_laws.proofs.Tables.{put_same}
+
+-- the world with other bricks, clocks, packets and counted replies
+abbrev pub quiet_world : World → (ℕ → Node) → (ℕ → ℕ) → List Packet → (ℕ → ℕ → List Counted) → World
+quiet_world w nodes clocks packets replies =
+    record {
+      nodes = nodes;
+      up = w.up;
+      clocks = clocks;
+      packets = packets;
+      marks = w.marks;
+      begun = w.begun;
+      operations = w.operations;
+      numbers = w.numbers;
+      past = w.past;
+      contents = w.contents;
+      replies = replies;
+    }
+
+-- bricks that keep their calls and numbers keep the books
+pub books_quiet : (setting : Setting) (w : World) (nodes : ℕ → Node) (clocks : ℕ → ℕ) (packets : List Packet) (replies : ℕ → ℕ → List Counted)
+    → Books setting w
+    → ((i : ℕ) → KeepsNumbers (w.nodes i) (nodes i)) → ((i k : ℕ) → (nodes i).calls k ≡ (w.nodes i).calls k)
+    → Books setting (quiet_world w nodes clocks packets replies)
+books_quiet setting w nodes clocks packets replies books keeps calls =
+    let later : World = quiet_world w nodes clocks packets replies in
+    record {
+      well_formed = books.well_formed;
+      places = books.places;
+      boots = λ i. (let e : (nodes i).boot ≡ (w.nodes i).boot = (keeps i).boot in omega (arith, books.boots i));
+      all_begun = books.all_begun;
+      operations = λ n o is. (let mine : OperationBooks setting w n o = books.operations n o is in
+          let seqs : (nodes o.brick.0).seq ≡ (w.nodes o.brick.0).seq = (keeps o.brick.0).seq in
+          operation_kept setting w later n o mine (omega arith) refl (keeps o.brick.0).boot (omega arith) (Stays-refl (life_of w.marks n))
+          (λ boot c call. (c, calls o.brick.0 o.seq ∙ call)));
+      calls = λ i k c is. call_kept setting w later i k c (books.calls i k c (sym (calls i k) ∙ is)) refl (keeps i).boot
+          (ap (λ (b : ℕ). w.numbers i b k) (keeps i).boot) refl (keeps i).known
+          (Stays-refl (life_of w.marks (number_of w i k)))
+          (λ o at. ((books.operations (number_of w i k) o at).life, (books.operations (number_of w i k) o at).life_is));
+      fresh_calls = λ i k lt. (let seqs : (nodes i).seq ≡ (w.nodes i).seq = (keeps i).seq in
+          calls i k ∙ books.fresh_calls i k (omega arith));
+      lives = books.lives;
+    }
+
+-- a brick that is down is started again, its store having been opened so many times
+module _ (setting : Setting) (w : World) (brick : BrickId) (openings : ℕ) (books : Books setting w) (down : w.up brick.0 ≡ false)
+    (once : 1 ≤ openings) where
+  abbrev i : ℕ
+  i = brick.0
+
+  -- the brick as it starts
+  abbrev node : Node
+  node = record {
+    boot = (w.nodes i).boot + openings;
+    seq = 0;
+    known = 0;
+    busy = 0;
+    live = (w.nodes i).live;
+    replicas = (w.nodes i).replicas;
+    calls = no_calls;
+  }
+
+  -- the world once it has started
+  abbrev later : World
+  later = world_started w brick openings
+
+  -- another brick stays as it is
+  pub unstarted : (j : ℕ) → j ≢ i → later.nodes j ≡ w.nodes j
+  unfolding restarted
+  unstarted j other = put_other w.nodes i node j other
+
+  -- this one is as it starts
+  own_node : later.nodes i ≡ node
+  unfolding restarted
+  own_node = put_same w.nodes i node
+
+  -- its boot rises
+  own_boot : (later.nodes i).boot ≡ (w.nodes i).boot + openings
+  own_boot = ap (λ (x : Node). x.boot) own_node
+
+  -- it has no call
+  pub started_calls : (k : ℕ) → (later.nodes i).calls k ≡ None
+  started_calls k = ap (λ (x : Node). x.calls k) own_node
+
+  -- no time that a brick knew in a boot falls
+  pub started_known : (j b : ℕ) → b ≤ (w.nodes j).boot → known_in w j b ≤ known_in later j b
+  started_known j b begun = ⊎_elim
+      (λ (mine : j ≡ i). own_known j mine begun)
+      (λ (other : j ≢ i).
+      let nodes : later.nodes j ≡ w.nodes j = unstarted j other in
+      let past : later.past j b ≡ w.past j b = ap (λ (f : ℕ → ℕ). f b) (put_other w.past i _ j other) in
+      let same : known_in later j b ≡ known_in w j b = ap (λ (x : Node). if nat_eq b x.boot then x.known else later.past j b) nodes
+      ∙ ap (λ (y : ℕ). if nat_eq b (w.nodes j).boot then (w.nodes j).known else y) past in
+      omega arith)
+      (cases_eq j i)
+    where
+      own_known : (j : ℕ) → j ≡ i → b ≤ (w.nodes j).boot → known_in w j b ≤ known_in later j b
+      own_known j mine begun =
+          let boot : (later.nodes j).boot ≡ (w.nodes i).boot + openings = ap (λ (x : ℕ). (later.nodes x).boot) mine ∙ own_boot in
+          let before : (w.nodes j).boot ≡ (w.nodes i).boot = ap (λ (x : ℕ). (w.nodes x).boot) mine in
+          let old : b ≢ (later.nodes j).boot = λ same. omega arith in
+          let past : later.past j b ≡ known_in w j b = ap (λ (x : ℕ). later.past x b) mine
+          ∙ ap (λ (f : ℕ → ℕ). f b) (put_same w.past i (put (w.past i) (w.nodes i).boot (w.nodes i).known)) ∙ ap (λ (x : ℕ). known_in w x b)
+          (sym mine) in
+          let now : known_in later j b ≡ known_in w j b =
+          ap (λ (t : Bool). if t then (later.nodes j).known else later.past j b) (ne_eqb b (later.nodes j).boot old) ∙ past in
+          omega arith
+
+  -- another brick is up, or down, as before
+  other_up : (j : ℕ) → j ≢ i → later.up j ≡ w.up j
+  other_up j other = put_other w.up i true j other
+
+  -- it had no operation open
+  none_open : (k : ℕ) (c : Coordinator) → IsCall w i k c → ⊥
+  none_open k c is = both_ways (w.up i) down (books.calls i k c is).up
+
+  -- an operation of this brick is of an earlier boot
+  own_stays : (n : ℕ) (o : Operation) → OperationBooks setting w n o → o.brick.0 ≡ i → OperationBooks setting later n o
+  own_stays n o mine at =
+      let boot : (w.nodes o.brick.0).boot ≡ (w.nodes i).boot = ap (λ (j : ℕ). (w.nodes j).boot) at in
+      let now : (later.nodes o.brick.0).boot ≡ (w.nodes i).boot + openings = ap (λ (j : ℕ). (later.nodes j).boot) at ∙ own_boot in
+      let least : o.boot ≤ (w.nodes o.brick.0).boot = mine.booted.1 in
+      operation_stays setting w later n o mine (omega arith) refl (omega arith) (λ same. absurd (omega arith)) (Stays-refl (life_of w.marks n))
+      (λ life is open'.
+      let one : mine.life ≡ life = same_Some mine.life life (sym mine.life_is ∙ is) in
+      let call = (mine.open_call (subst (λ (x : Life). IsOpen (Some x)) (sym one) open')).1 in
+      absurd (none_open o.seq call.0 (subst (λ (j : ℕ). IsCall w j o.seq call.0) at call.1)))
+
+  -- an operation of another brick
+  other_stays : (n : ℕ) (o : Operation) → OperationBooks setting w n o → o.brick.0 ≢ i → OperationBooks setting later n o
+  other_stays n o mine other =
+      let same : later.nodes o.brick.0 ≡ w.nodes o.brick.0 = unstarted o.brick.0 other in
+      let seqs : (later.nodes o.brick.0).seq ≡ (w.nodes o.brick.0).seq = ap (λ (x : Node). x.seq) same in
+      operation_kept setting w later n o mine (omega arith) refl (ap (λ (x : Node). x.boot) same) (omega arith) (Stays-refl (life_of w.marks n))
+      (λ boot c call. (c, ap (λ (x : Node). x.calls o.seq) same ∙ call))
+
+  -- a call of another brick
+  other_call : (j k : ℕ) (c : Coordinator) → j ≢ i → IsCall later j k c → CallBooks setting later j k c
+  other_call j k c other is =
+      let same : later.nodes j ≡ w.nodes j = unstarted j other in
+      let boot : (later.nodes j).boot ≡ (w.nodes j).boot = ap (λ (x : Node). x.boot) same in
+      let knows : (later.nodes j).known ≡ (w.nodes j).known = ap (λ (x : Node). x.known) same in
+      let old : IsCall w j k c = sym (ap (λ (x : Node). x.calls k) same) ∙ is in
+      call_kept setting w later j k c (books.calls j k c old) (other_up j other) boot (ap (λ (b : ℕ). w.numbers j b k) boot) refl (omega arith)
+      (Stays-refl (life_of w.marks (number_of w j k)))
+      (λ o at. ((books.operations (number_of w j k) o at).life, (books.operations (number_of w j k) o at).life_is))
+
+  -- a start keeps the books
+  pub books_started : Books setting later
+  books_started = record {
+    well_formed = books.well_formed;
+    places = books.places;
+    boots = λ j. ⊎_elim
+        (λ (mine : j ≡ i). let boot : (later.nodes j).boot ≡ (w.nodes i).boot + openings = ap (λ (x : ℕ). (later.nodes x).boot) mine
+        ∙ own_boot in omega arith)
+        (λ (other : j ≢ i). let boot : (later.nodes j).boot ≡ (w.nodes j).boot = ap (λ (x : Node). x.boot) (unstarted j other) in
+        omega (arith, books.boots j))
+        (cases_eq j i);
+    all_begun = books.all_begun;
+    operations = λ n o is. ⊎_elim
+        (λ (mine : o.brick.0 ≡ i). own_stays n o (books.operations n o is) mine)
+        (λ (other : o.brick.0 ≢ i). other_stays n o (books.operations n o is) other)
+        (cases_eq o.brick.0 i);
+    calls = λ j k c is. ⊎_elim
+        (λ (mine : j ≡ i).
+        let none : (later.nodes j).calls k ≡ None = ap (λ (x : ℕ). (later.nodes x).calls k) mine ∙ started_calls k in
+        absurd (let never : None ≡ Some c = sym none ∙ is in cc))
+        (λ (other : j ≢ i). other_call j k c other is)
+        (cases_eq j i);
+    fresh_calls = λ j k lt. ⊎_elim
+        (λ (mine : j ≡ i). ap (λ (x : ℕ). (later.nodes x).calls k) mine ∙ started_calls k)
+        (λ (other : j ≢ i).
+        let same : later.nodes j ≡ w.nodes j = unstarted j other in
+        let seqs : (later.nodes j).seq ≡ (w.nodes j).seq = ap (λ (x : Node). x.seq) same in
+        ap (λ (x : Node). x.calls k) same ∙ books.fresh_calls j k (omega arith))
+        (cases_eq j i);
+    lives = books.lives;
+  }

@@ -1,0 +1,409 @@
+-- What was said stays said: nothing falls, messages and versions stay, and a version's content does not change.
+use Rattle.std.proofs.Common.{◌≡◌, ℕ, ◌≤◌, ◌⊎◌, inl, inr, true, false, not, List, length, Option, Some, None, refl, sym, ap, ◌∙◌, subst, ⊎_elim, arith}
+use Rattle.std.proofs.lemmas.Bool.{not-true, not_from_false, false≢true}
+use Rattle.fab_base.specs.declared.identities.BrickId.{BrickId}
+use Rattle.fab_base.specs.declared.stamps.Stamp.{Stamp}
+use Rattle.fab_base.specs.declared.asks.Op.TheVariants.{WriteStripe}
+use Rattle.fab_base.specs.declared.answers.Answer.{Answer}
+use Rattle.fab_base.specs.declared.answers.Answer.TheVariants.{Data, Done, Aborted}
+use Rattle.fab_base.specs.Stamps.{stamp_below}
+use Rattle.fab_base.proofs.StampOrder.{stamp_below_trans, stamp_not_below_trans}
+use Rattle.messages.specs.declared.calls.Call.{Call}
+use Rattle.messages.specs.declared.packets.Message.{Message}
+use Rattle.messages.specs.declared.packets.Packet.{Packet}
+use Rattle.messages.specs.declared.requests.Request.{Request}
+use Rattle.messages.specs.declared.requests.Look.TheVariants as Look
+use Rattle.messages.specs.declared.requests.Want.TheVariants as Want
+use Rattle.messages.specs.declared.requests.Version.{Version}
+use Rattle.messages.specs.declared.replies.Reply.{Reply}
+use Rattle.quorum.proofs.Counts.{count_monotone}
+use Rattle.fab_base.specs.Layouts.{Group}
+use Rattle.protocol.specs.Settings.{Setting}
+use Rattle.protocol.specs.Replicas.{top_of, is_held, stamp_max}
+use Rattle.protocol.specs.declared.phases.Phase.{Phase}
+use Rattle.protocol.specs.declared.phases.Phase.TheVariants.{Orders, Recovers, Descends, Stores}
+use Rattle.protocol.specs.declared.phases.Counted.{Counted}
+use Rattle.protocol.specs.Coordinators.{Coordinator, request_of}
+use Rattle.protocol.specs.Worlds.{World, Operation}
+use Rattle.fab_base.specs.Layouts.{brick_at}
+use Rattle.protocol_laws.specs.Laws.{WasSent, AskedAt, NeverFalls, part_of, IsGuarded}
+use Rattle.protocol_laws.proofs.Books.{Books, OperationBooks, IsOperation}
+use Rattle.protocol_laws.proofs.Blocking.{PartsStay, blocked_stays, stands_stays}
+use Rattle.protocol_laws.proofs.Said.{Stamping, IsBegun, IsStamped, IsRecovery, Stands, AreBlocked, IsContent, IsMadeOrFirst, IsKnown, IsCalled, IsBlockOf, VersionSays, WriteSays, RequestSays, OrderedSays, OrderedReadSays, FoundSays, ReplySays, MessageSays, PacketSays, HasVersion, WritesWhole, ReadsBack, OperationSays, CountedSays, CallSays, DataShown, EndShows}
+use Rattle.protocol_laws.proofs.Stampings.{StampsGrow, stays_begun, stays_stamped, stays_known}
+use Rattle.protocol_laws.proofs.Counting.{each_then}
+
+-- an operation goes on: it keeps what it is, and a version that it has
+pub record Continues (o p : Operation) : Type 0 where
+  pub brick : p.brick ≡ o.brick
+  pub boot : p.boot ≡ o.boot
+  pub seq : p.seq ≡ o.seq
+  pub begin : p.begin ≡ o.begin
+  pub ask : p.ask ≡ o.ask
+  pub floor : p.floor ≡ o.floor
+  pub version : (v : Stamp) → o.version ≡ Some v → p.version ≡ Some v
+  pub made : (v : Stamp) → o.version ≡ Some v → p.made ≡ o.made
+  pub base : (v : Stamp) → o.version ≡ Some v → p.base ≡ o.base
+
+-- an unchanged operation goes on
+pub continues_same : (o : Operation) → Continues o o
+continues_same o = record {
+  brick = refl;
+  boot = refl;
+  seq = refl;
+  begin = refl;
+  ask = refl;
+  floor = refl;
+  version = λ v is. is;
+  made = λ v is. refl;
+  base = λ v is. refl;
+}
+
+-- from one world to the next nothing that was said is lost
+pub record Grows (w next : World) (stamps later : Stamping) : Type 0 where
+  pub parts : PartsStay w next
+  pub sent : (packet : Packet) → WasSent w packet → WasSent next packet
+  pub operations : (n : ℕ) (o : Operation) → IsOperation w n o → (p : Operation) × IsOperation next n p × Continues o p
+  pub contents : (g s : ℕ) (t : Stamp) → IsMadeOrFirst w g s t → next.contents g s t ≡ w.contents g s t
+  pub grow : StampsGrow stamps later
+  pub numbered : (i b k : ℕ) → (b ≡ (w.nodes i).boot → k ≤ (w.nodes i).seq) → next.numbers i b k ≡ w.numbers i b k
+  pub marks : length w.marks ≤ length next.marks
+
+-- where no top falls, what is at or above t stays so
+pub above_stays : (w next : World) → NeverFalls w next → (g s i : ℕ) (t : Stamp) → stamp_below (top_of (part_of w g s i)) t ≡ false
+    → stamp_below (top_of (part_of next g s i)) t ≡ false
+above_stays w next tops g s i t above = stamp_not_below_trans t (top_of (part_of w g s i)) (top_of (part_of next g s i)) above (tops g s i)
+
+-- and what is guarded stays guarded
+pub guarded_stays : (w next : World) → NeverFalls w next → (g s : ℕ) (group : Group) (t : Stamp) → IsGuarded w g s group t
+    → IsGuarded next g s group t
+guarded_stays w next tops g s group t guarded =
+    let more = count_monotone (length group.members)
+    (λ seat. not (stamp_below (top_of (part_of w g s (brick_at group seat))) t))
+    (λ seat. not (stamp_below (top_of (part_of next g s (brick_at group seat))) t))
+    (λ k below is.
+    not_from_false (stamp_below (top_of (part_of next g s (brick_at group k))) t)
+    (above_stays w next tops g s (brick_at group k) t (not-true (stamp_below (top_of (part_of w g s (brick_at group k))) t) is))) in
+    omega (arith, guarded, more)
+
+module _ (setting : Setting) (w next : World) (stamps later : Stamping) (books : Books setting w) (grows : Grows w next stamps later) where
+  -- a version that was made stays made
+  pub stays_made : (g s : ℕ) (t : Stamp) → IsMadeOrFirst w g s t → IsMadeOrFirst next g s t
+  stays_made g s t (inl first) = inl first
+  stays_made g s t (inr made) =
+      let goes = grows.operations made.0 made.1 made.2 in
+      let on : Continues made.1 goes.0 = goes.2 in
+      inr (
+        made.0,
+        goes.0,
+        goes.1,
+        ap (λ a. a.group.0) on.ask ∙ made.3,
+        ap (λ a. a.stripe.0) on.ask ∙ made.4,
+        on.made t made.6 ∙ made.5,
+        on.version t made.6,
+      )
+
+  -- the number of an operation's call is one of its brick's, where it is of its present boot
+  pub called_within : (i : ℕ) (call : Call) (o : Operation) → IsCalled w i call o → call.boot ≡ (w.nodes i).boot → call.seq ≤ (w.nodes i).seq
+  called_within i call o called now =
+      let its : OperationBooks setting w (w.numbers i call.boot call.seq) o = books.operations (w.numbers i call.boot call.seq) o called.is in
+      let most : o.boot ≡ (w.nodes i).boot → o.seq ≤ (w.nodes i).seq
+      = subst (λ (j : ℕ). o.boot ≡ (w.nodes j).boot → o.seq ≤ (w.nodes j).seq) called.brick its.called.1 in
+      subst (λ (k : ℕ). k ≤ (w.nodes i).seq) called.seq (most (called.boot ∙ now))
+
+  -- an operation's call stays its
+  pub stays_called : (i : ℕ) (call : Call) (o : Operation) → IsCalled w i call o → (p : Operation) × IsCalled next i call p × Continues o p
+  stays_called i call o called =
+      let goes = grows.operations (w.numbers i call.boot call.seq) o called.is in
+      let p : Operation = goes.0 in
+      let on : Continues o p = goes.2 in
+      let number : next.numbers i call.boot call.seq ≡ w.numbers i call.boot call.seq
+      = grows.numbered i call.boot call.seq (called_within i call o called) in (
+        p,
+        record {
+          is = subst (λ (n : ℕ). IsOperation next n p) (sym number) goes.1;
+          brick = ap (λ b. b.0) on.brick ∙ called.brick;
+          boot = on.boot ∙ called.boot;
+          seq = on.seq ∙ called.seq;
+          group = ap (λ a. a.group.0) on.ask ∙ called.group;
+          stripe = ap (λ a. a.stripe.0) on.ask ∙ called.stripe;
+        },
+        on,
+      )
+
+  -- a phase keeps its stamp
+  pub stays_stamp : (i b k p : ℕ) (t : Stamp) → IsStamped stamps i b k p t → IsStamped later i b k p t
+  stays_stamp i b k p t is = stays_stamped stamps later grows.grow i b k p t is
+
+  -- a phase stays begun
+  pub stays_phase : (i b k p : ℕ) (phase : Phase) (t : Stamp) → IsBegun stamps i b k p phase t → IsBegun later i b k p phase t
+  stays_phase i b k p phase t is = stays_begun stamps later grows.grow i b k p phase t is
+
+  pub stays_recovery : (i b k p : ℕ) (bound t : Stamp) → IsRecovery stamps i b k p bound t → IsRecovery later i b k p bound t
+  stays_recovery i b k p bound t (inl own) = inl (own.0, stays_phase i b k p Recovers t own.1)
+  stays_recovery i b k p bound t (inr lower) = inr (lower.0, stays_phase i b k p (Descends bound) t lower.1)
+
+  -- what is at or above t stays so
+  pub stays_above : (g s i : ℕ) (t : Stamp) → stamp_below (top_of (part_of w g s i)) t ≡ false → stamp_below (top_of (part_of next g s i)) t ≡ false
+  stays_above g s i t above = above_stays w next grows.parts.tops g s i t above
+
+  -- what is guarded stays guarded
+  pub stays_guarded : (g s : ℕ) (group : Group) (t : Stamp) → IsGuarded w g s group t → IsGuarded next g s group t
+  stays_guarded g s group t guarded = guarded_stays w next grows.parts.tops g s group t guarded
+
+  -- what is blocked stays blocked
+  pub stay_blocked : (g s : ℕ) (Q : Stamp → Type 0) → AreBlocked setting w g s Q → AreBlocked setting next g s Q
+  stay_blocked g s Q blocked group is d has = blocked_stays w next grows.parts g s group d (blocked group is d has)
+
+  -- what stands goes on standing
+  pub stays_standing : (g s : ℕ) (v : Stamp) → Stands setting w g s v → Stands setting next g s v
+  stays_standing g s v stands group is = stands_stays w next grows.parts g s group v (stands group is)
+
+  -- a block stays the block of its version
+  pub stays_block : (g s i : ℕ) (t : Stamp) (block : List ℕ) → IsMadeOrFirst w g s t → IsBlockOf setting w g s i t block
+      → IsBlockOf setting next g s i t block
+  stays_block g s i t block made is group seat its at =
+      is group seat its at ∙ ap (λ content. setting.code.encode group.m content seat) (sym (grows.contents g s t made))
+
+  pub stays_version : (g s i : ℕ) (version : Version) → VersionSays setting w g s i version → VersionSays setting next g s i version
+  stays_version g s i version says = record {
+    made = stays_made g s version.stamp says.made;
+    block = stays_block g s i version.stamp version.block says.made says.block;
+  }
+
+  -- the version that a write carries was made by its operation
+  pub write_made : (from to : ℕ) (call : Call) (t : Stamp) (block : List ℕ) → WriteSays setting w stamps from to call t block
+      → IsMadeOrFirst w call.group.0 call.stripe.0 t
+  write_made from to call t block says =
+      inr (w.numbers from call.boot call.seq, says.operation, says.called.is, says.called.group, says.called.stripe, says.made, says.version)
+
+  pub stays_write : (from to : ℕ) (call : Call) (t : Stamp) (block : List ℕ) → WriteSays setting w stamps from to call t block
+      → WriteSays setting next later from to call t block
+  stays_write from to call t block says =
+      let goes = stays_called from call says.operation says.called in
+      record {
+        operation = goes.0;
+        called = goes.1;
+        begun = stays_phase from call.boot call.seq call.phase Stores t says.begun;
+        made = goes.2.made t says.version ∙ says.made;
+        version = goes.2.version t says.version;
+        member = says.member;
+        guarded = λ group is. stays_guarded call.group.0 call.stripe.0 group t (says.guarded group is);
+        is_block = stays_block call.group.0 call.stripe.0 to t block (write_made from to call t block says) says.is_block;
+      }
+
+  pub stays_request : (i j : ℕ) (call : Call) (request : Request) → RequestSays setting w stamps i j call request
+      → RequestSays setting next later i j call request
+  stays_request i j call (Request.Read want) says = let goes = stays_called i call says.1.0 says.1.1 in (says.0, (goes.0, goes.1))
+  stays_request i j call (Request.Order t) says =
+      let goes = stays_called i call says.1.0 says.1.1 in (stays_phase i call.boot call.seq call.phase Orders t says.0, (goes.0, goes.1))
+  stays_request i j call (Request.OrderRead t (Look.Below bound) want) says =
+      let goes = stays_called i call says.2.0 says.2.1 in
+      (says.0, stays_recovery i call.boot call.seq call.phase bound t says.1, (goes.0, goes.1))
+  stays_request i j call (Request.OrderRead t (Look.At u) want) says = says
+  stays_request i j call (Request.Write t block) says = stays_write i j call t block says
+  stays_request i j call request says = tt
+
+  pub stays_ordered : (j i : ℕ) (call : Call) → OrderedSays w stamps j i call → OrderedSays next later j i call
+  stays_ordered j i call says =
+      let goes = stays_called i call says.operation says.called in
+      record {
+        operation = goes.0;
+        called = goes.1;
+        stamp = says.stamp;
+        stamp_is = stays_phase i call.boot call.seq call.phase Orders says.stamp says.stamp_is;
+        promised = stays_above call.group.0 call.stripe.0 j says.stamp says.promised;
+        floor = subst (λ (f : ℕ → Stamp). stamp_below says.stamp (f j) ≡ false) (sym goes.2.floor) says.floor;
+      }
+
+  pub stays_found : (j i : ℕ) (call : Call) (order : Stamp) (version : Version) → FoundSays setting w j i call order version
+      → FoundSays setting next j i call order version
+  stays_found j i call order version says =
+      let goes = stays_called i call says.operation says.called in
+      record {
+        operation = goes.0;
+        called = goes.1;
+        top = stays_above call.group.0 call.stripe.0 j (stamp_max order version.stamp) says.top;
+        floor = subst (λ (f : ℕ → Stamp). stamp_below (stamp_max order version.stamp) (f j) ≡ false) (sym goes.2.floor) says.floor;
+        held = grows.parts.held call.group.0 call.stripe.0 j version.stamp says.held;
+        says = stays_version call.group.0 call.stripe.0 j version says.says;
+      }
+
+  -- the bound of a recovery is at most its stamp
+  bound_within : (i b k p : ℕ) (bound t d : Stamp) → IsRecovery stamps i b k p bound t → stamp_below d bound ≡ true → stamp_below d t ≡ true
+  bound_within i b k p bound t d (inl own) less = subst (λ (z : Stamp). stamp_below d z ≡ true) own.0 less
+  bound_within i b k p bound t d (inr lower) less = stamp_below_trans d bound t less lower.0
+
+  -- what was found below a bound stays the newest there, since nothing comes to be held below the stamp that was promised
+  pub stays_ordered_read : (j i : ℕ) (call : Call) (found : Option Version) → OrderedReadSays setting w stamps j i call found
+      → OrderedReadSays setting next later j i call found
+  stays_ordered_read j i call found says =
+      let goes = stays_called i call says.operation says.called in
+      record {
+        operation = goes.0;
+        called = goes.1;
+        stamp = says.stamp;
+        bound = says.bound;
+        recovers = stays_recovery i call.boot call.seq call.phase says.bound says.stamp says.recovers;
+        promised = stays_above call.group.0 call.stripe.0 j says.stamp says.promised;
+        floor = subst (λ (f : ℕ → Stamp). stamp_below says.stamp (f j) ≡ false) (sym goes.2.floor) says.floor;
+        newest = λ d held less. ⊎_elim
+            (λ (was : is_held d (part_of w call.group.0 call.stripe.0 j).log ≡ true). says.newest d was less)
+            (λ (new : stamp_below d (top_of (part_of w call.group.0 call.stripe.0 j)) ≡ false).
+            let above : stamp_below d says.stamp ≡ false = stamp_not_below_trans says.stamp
+            (top_of (part_of w call.group.0 call.stripe.0 j)) d says.promised new in
+            absurd (false≢true (sym above ∙ bound_within i call.boot call.seq call.phase says.bound says.stamp d says.recovers less)))
+            (grows.parts.newer call.group.0 call.stripe.0 j d held);
+        says = λ version is. stays_version call.group.0 call.stripe.0 j version (says.says version is);
+      }
+
+  -- what was asked stays asked
+  pub stays_asked : (call : Call) (from to : BrickId) (t : Stamp) → AskedAt w call from to t → AskedAt next call from to t
+  stays_asked call from to t (inl (inl sent)) =
+      inl (inl (grows.sent (record { from = from; to = to; message = Message.Request call (Request.Order t) }) sent))
+  stays_asked call from to t (inl (inr sent)) =
+      inl (inr (grows.sent (record { from = from; to = to; message = Message.Request call (Request.OrderRead t (Look.Below t) Want.All) }) sent))
+  stays_asked call from to t (inr (inl sent)) =
+      inr (inl (
+        sent.0,
+        grows.sent (record {
+          from = from;
+          to = to;
+          message = Message.Request call
+              (Request.OrderRead t (Look.Below sent.0) Want.All);
+        }) sent.1,
+      ))
+  stays_asked call from to t (inr (inr sent)) =
+      inr (inr (sent.0, grows.sent (record { from = from; to = to; message = Message.Request call (Request.Write t sent.0) }) sent.1))
+
+  pub stays_reply : (from to : BrickId) (call : Call) (reply : Reply) → ReplySays setting w stamps from to call reply
+      → ReplySays setting next later from to call reply
+  stays_reply from to call (Reply.Found order (Some version)) says = stays_found from.0 to.0 call order version says
+  stays_reply from to call Reply.Ordered says = stays_ordered from.0 to.0 call says
+  stays_reply from to call (Reply.OrderedRead found) says = stays_ordered_read from.0 to.0 call found says
+  stays_reply from to call Reply.Stored says = (
+    says.0,
+    says.1,
+    grows.sent (record { from = to; to = from; message = Message.Request call (Request.Write says.0 says.1) }) says.2,
+    grows.parts.held call.group.0 call.stripe.0 from.0 says.0 says.3,
+  )
+  stays_reply from to call (Reply.Later x) says = (says.0, stays_asked call to from says.0 says.1, says.2)
+  stays_reply from to call (Reply.Full live) says = says
+  stays_reply from to call reply says = tt
+
+  pub stays_message : (from to : BrickId) (message : Message) → MessageSays setting w stamps from to message
+      → MessageSays setting next later from to message
+  stays_message from to (Message.Request call request) says = stays_request from.0 to.0 call request says
+  stays_message from to (Message.Reply call reply) says = stays_reply from to call reply says
+  stays_message from to message says = tt
+
+  -- what a packet says stays said
+  pub stays_packet : (packet : Packet) → PacketSays setting w stamps packet → PacketSays setting next later packet
+  stays_packet packet says = stays_message packet.from packet.to packet.message says
+
+  pub stays_has_version : (o : Operation) (v : Stamp) → HasVersion setting w o v → HasVersion setting next o v
+  stays_has_version o v has = record {
+    made = stays_made o.ask.group.0 o.ask.stripe.0 v has.made;
+    reader = has.reader;
+    guarded = λ group is. stays_guarded o.ask.group.0 o.ask.stripe.0 group v (has.guarded group is);
+    floors = has.floors;
+  }
+
+  -- the content of a version that an operation made stays
+  stays_content : (n : ℕ) (o : Operation) (v : Stamp) → IsOperation w n o → o.made ≡ true → o.version ≡ Some v
+      → next.contents o.ask.group.0 o.ask.stripe.0 v ≡ w.contents o.ask.group.0 o.ask.stripe.0 v
+  stays_content n o v is made version = grows.contents o.ask.group.0 o.ask.stripe.0 v (inr (n, o, is, refl, refl, made, version))
+
+  -- and so does how it was made
+  stays_maker : (n : ℕ) (o : Operation) (v : Stamp) → IsOperation w n o → o.made ≡ true → o.version ≡ Some v → WritesWhole w o v
+      ⊎ ReadsBack setting w o v
+      → WritesWhole next o v ⊎ ReadsBack setting next o v
+  stays_maker n o v is made version (inl whole) =
+      inl (whole.0, whole.1 ∙ ap (λ (bytes : List ℕ). WriteStripe bytes) (sym (stays_content n o v is made version)))
+  stays_maker n o v is made version (inr back) = inr (record {
+    base = back.base;
+    base_is = back.base_is;
+    op = back.op;
+    below = back.below;
+    made = stays_made o.ask.group.0 o.ask.stripe.0 back.base back.made;
+    content = stays_content n o v is made version ∙ back.content ∙ sym (grows.contents o.ask.group.0 o.ask.stripe.0 back.base back.made);
+    blocked = stay_blocked o.ask.group.0 o.ask.stripe.0 (λ d. (stamp_below back.base d ≡ true) × (stamp_below d v ≡ true)) back.blocked;
+  })
+
+  -- what an operation says stays said
+  pub stays_operation : (n : ℕ) (o : Operation) → IsOperation w n o → OperationSays setting w stamps n o → OperationSays setting next later n o
+  stays_operation n o is says = record {
+    begin = omega (arith, says.begin, grows.marks);
+    floors = λ i. stays_above o.ask.group.0 o.ask.stripe.0 i (o.floor i) (says.floors i);
+    floors_known = λ i. stays_known stamps later grows.grow (o.floor i) (says.floors_known i);
+    fresh = λ i p stamped. ⊎_elim
+        (λ (own : (q : ℕ) × IsStamped stamps o.brick.0 o.boot o.seq q (o.floor i)). says.fresh i own.0 own.1)
+        (λ (unknown : IsKnown stamps (o.floor i) → ⊥). unknown (says.floors_known i))
+        (grows.grow.newer o.brick.0 o.boot o.seq p (o.floor i) stamped);
+    made = λ made.
+        let had = says.made made in (had.0, had.1, had.2, stays_stamp o.brick.0 o.boot o.seq had.1 had.0 had.3);
+    maker = λ v made version. stays_maker n o v is made version (says.maker v made version);
+    content = λ v made version group group_is.
+        subst (λ (content : List ℕ). IsContent group.m setting.layout.block content) (sym (stays_content n o v is made version))
+        (says.content v made version group group_is);
+    stands = λ v version how. stays_standing o.ask.group.0 o.ask.stripe.0 v (says.stands v version how);
+    version = λ v has. stays_has_version o v (says.version v has);
+    answered = says.answered;
+  }
+
+  pub stays_counted : (i : ℕ) (c : Coordinator) (x : Counted) → CountedSays setting w i c x → CountedSays setting next i c x
+  stays_counted i c x says = record {
+    sent = grows.sent (record { from = x.brick; to = record { 0 = i }; message = Message.Reply c.call x.reply }) says.sent;
+    answers = says.answers;
+    seat = says.seat;
+  }
+
+  -- what a coordinator says stays said, where its brick goes on, and its call has no new stamp
+  pub stays_call : (i k : ℕ) (c : Coordinator) → (next.nodes i).boot ≡ (w.nodes i).boot
+      → ((p : ℕ) → later i (w.nodes i).boot k p ≡ stamps i (w.nodes i).boot k p) → CallSays setting w stamps i k c
+      → CallSays setting next later i k c
+  stays_call i k c boot same says = record {
+    begun = subst (λ (b : ℕ). IsBegun later i b k c.call.phase c.phase c.stamp) (sym boot)
+        (stays_phase i (w.nodes i).boot k c.call.phase c.phase c.stamp says.begun);
+    last = λ p less. subst (λ (b : ℕ). later i b k p ≡ None) (sym boot) (same p ∙ says.last p less);
+    asked = λ group is seat member at.
+        grows.sent (record { from = record { 0 = i }; to = member; message = Message.Request c.call (request_of setting.code group.m c seat) })
+        (says.asked group is seat member at);
+    fits = says.fits;
+    unbased = says.unbased;
+    above = says.above;
+    below = says.below;
+    covered = λ bound is.
+        stay_blocked c.ask.group.0 c.ask.stripe.0 (λ d. (stamp_below d bound ≡ false) × (stamp_below d c.stamp ≡ true)) (says.covered bound is);
+    stores = λ is.
+        let stored = says.stores is in (
+          stays_made c.ask.group.0 c.ask.stripe.0 c.stamp stored.0,
+          stored.1 ∙ sym (grows.contents c.ask.group.0 c.ask.stripe.0 c.stamp stored.0),
+        );
+    counted = each_then (CountedSays setting w i c) (CountedSays setting next i c) c.counted (λ x h. stays_counted i c x h) says.counted;
+    once = says.once;
+  }
+
+  pub stays_shown : (said : (n : ℕ) (o : Operation) → IsOperation w n o → OperationSays setting w stamps n o) (n : ℕ) (bytes : List ℕ)
+      → DataShown w n bytes
+      → DataShown next n bytes
+  stays_shown said n bytes shown =
+      let goes = grows.operations n shown.operation shown.is in
+      let made : IsMadeOrFirst w shown.operation.ask.group.0 shown.operation.ask.stripe.0 shown.version
+      = ((said n shown.operation shown.is).version shown.version shown.version_is).made in
+      record {
+        operation = goes.0;
+        is = goes.1;
+        version = shown.version;
+        version_is = goes.2.version shown.version shown.version_is;
+        bytes_are = shown.bytes_are
+            ∙ sym (grows.contents shown.operation.ask.group.0 shown.operation.ask.stripe.0 shown.version made)
+            ∙ ap (λ a. next.contents a.group.0 a.stripe.0 shown.version) (sym goes.2.ask);
+      }
+
+  -- what an end shows stays shown
+  pub stays_end : (said : (n : ℕ) (o : Operation) → IsOperation w n o → OperationSays setting w stamps n o) (n : ℕ) (answer : Answer)
+      → EndShows w n answer → EndShows next n answer
+  stays_end said n (Data bytes) shows = stays_shown said n bytes shows
+  stays_end said n Done shows = tt
+  stays_end said n (Aborted cause) shows = tt

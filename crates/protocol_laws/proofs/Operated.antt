@@ -1,0 +1,155 @@
+-- One operation changes, with messages and marks beside it.
+use Rattle.std.proofs.Common.{◌≡◌, ◌≢◌, ℕ, ◌≤◌, ◌⊎◌, inl, inr, List, ◌++◌, length, Some, refl, sym, ap, ◌∙◌, subst, ⊎_elim, arith}
+use Rattle.std.specs.Prelude.{slice_get}
+use Rattle.fab_base.specs.declared.identities.BrickId.{BrickId}
+use Rattle.fab_base.specs.declared.stamps.Stamp.{Stamp}
+use Rattle.fab_base.specs.declared.answers.Answer.{Answer}
+use Rattle.messages.specs.declared.packets.Packet.{Packet}
+use Rattle.reg_model.specs.declared.marks.Mark.{Mark}
+use Rattle.reg_model.specs.declared.marks.Mark.TheVariants.{End}
+use Rattle.reg_model.specs.Marks.{life_of}
+use Rattle.reg_model.specs.Walk.{last_of}
+use Rattle.fab_base.specs.Layouts.{Group, group_of}
+use Rattle.protocol.specs.Settings.{Setting}
+use Rattle.protocol.specs.Replicas.{top_of}
+use Rattle.protocol.specs.Coordinators.{Coordinator}
+use Rattle.protocol.specs.Nodes.{Node, put}
+use Rattle.protocol.specs.Worlds.{World, Operation}
+use Rattle.protocol_laws.proofs.Books.{Books, IsOperation}
+use Rattle.protocol_laws.proofs.Said.{Stamping, Said, StampsSay, IsMadeOrFirst, PacketSays, OperationSays, CallSays, EndShows, IsInOrder, FloorsAtLeast}
+use Rattle.protocol_laws.proofs.Tables.{put_each, get_grown}
+use Rattle.protocol_laws.proofs.Stampings.{StampsGrow}
+use Rattle.protocol_laws.proofs.Growth.{Grows, Continues, continues_same}
+use Rattle.protocol_laws.proofs.Steps.{KeepsStamps, keeps_same, parts_by, sent_by, calls_by, said_after}
+
+-- the world after an operation changed
+abbrev pub operated : World → BrickId → Node → List Packet → List Mark → ℕ → Operation → (ℕ → ℕ → Stamp → List ℕ) → World
+operated w me node more marks n p contents =
+    record {
+      nodes = put w.nodes me.0 node;
+      up = w.up;
+      clocks = w.clocks;
+      packets = w.packets ++ more;
+      marks = marks;
+      begun = w.begun;
+      operations = put w.operations n (Some p);
+      numbers = w.numbers;
+      past = w.past;
+      contents = contents;
+      replies = w.replies;
+    }
+
+-- what such a change keeps: operation n was o, is open, and goes on as p
+pub record OperatedKeeps (w : World) (me : BrickId) (node : Node) (marks : List Mark) (n : ℕ) (o p : Operation)
+    (contents : ℕ → ℕ → Stamp → List ℕ) : Type 0 where
+  pub replicas : node.replicas ≡ (w.nodes me.0).replicas
+  pub boot : node.boot ≡ (w.nodes me.0).boot
+  pub is : IsOperation w n o
+  pub continues : Continues o p
+  pub kept : (g s : ℕ) (t : Stamp) → IsMadeOrFirst w g s t → contents g s t ≡ w.contents g s t
+  pub longer : length w.marks ≤ length marks
+  pub lasts : (a : ℕ) → last_of (life_of w.marks a) ≤ last_of (life_of marks a)
+  pub unended : length w.marks ≤ last_of (life_of marks n)
+
+module _ (setting : Setting) (w : World) (stamps later : Stamping) (me : BrickId) (node : Node) (more : List Packet) (marks : List Mark) (n : ℕ)
+    (o p : Operation)
+    (contents : ℕ → ℕ → Stamp → List ℕ) (keeps : OperatedKeeps w me node marks n o p contents) where
+  abbrev next : World
+  next = operated w me node more marks n p contents
+
+  -- each operation goes on
+  goes_on : (a : ℕ) (e : Operation) → IsOperation w a e → (d : Operation) × IsOperation next a d × Continues e d
+  goes_on a e =
+      put_each (λ i x. IsOperation w i e → (d : Operation) × (x ≡ Some d) × Continues e d) w.operations n (Some p)
+      (λ is. let same : o ≡ e = (let z : Some o ≡ Some e = sym keeps.is
+      ∙ is in cc) in (p, refl, subst (λ (z : Operation). Continues z p) same keeps.continues))
+      (λ i other is. (e, is, continues_same e)) a
+
+  -- each operation was there
+  came_from : (a : ℕ) (d : Operation) → IsOperation next a d → (e : Operation) × IsOperation w a e × Continues e d
+  came_from a d =
+      put_each (λ i x. x ≡ Some d → (e : Operation) × IsOperation w i e × Continues e d) w.operations n (Some p)
+      (λ is. let same : p ≡ d = cc in (o, keeps.is, subst (λ (z : Operation). Continues o z) same keeps.continues))
+      (λ i other is. (d, is, continues_same d)) a
+
+  pub operated_grows : StampsGrow stamps later → Grows w next stamps later
+  operated_grows grow = record {
+    parts = parts_by w next me.0 node refl (keeps_same (w.nodes me.0) node keeps.replicas);
+    sent = sent_by w next more refl;
+    operations = goes_on;
+    contents = keeps.kept;
+    grow = grow;
+    numbered = λ i b k within. refl;
+    marks = keeps.longer;
+  }
+
+  -- the operations stay in order: the one that changed is open
+  stays_in_order : Said setting w stamps → IsInOrder setting next
+  stays_in_order said a b earlier late u earlier_is late_is groups stripes version =
+      let e = came_from a earlier earlier_is in
+      let l = came_from b late late_is in
+      put_each (λ i x. x ≡ Some earlier → i ≡ a
+      → ((group : Group) → group_of setting.layout late.ask.group.0 ≡ Some group → FloorsAtLeast late group u)
+      ⊎ (late.begin ≤ last_of (life_of marks a))) w.operations n (Some p)
+      (λ is at. inr (begins_before b l.0 late l.1 l.2 at))
+      (λ i other is at.
+      let old : IsOperation w a earlier = subst (λ (j : ℕ). IsOperation w j earlier) at is in
+      ⊎_elim
+      (λ (floors : (group : Group) → group_of setting.layout l.0.ask.group.0 ≡ Some group → FloorsAtLeast l.0 group u).
+      inl (λ group group_is.
+      subst (λ (f : ℕ → Stamp). FloorsAtLeast (record late { floor = f }) group u) (sym l.2.floor)
+      (floors group (ap (λ x. group_of setting.layout x.group.0) (sym l.2.ask) ∙ group_is))))
+      (λ (before : l.0.begin ≤ last_of (life_of w.marks a)). inr (let begins : late.begin ≡ l.0.begin = l.2.begin in omega (arith, keeps.lasts a)))
+      (said.order a b earlier l.0 u old l.1 (groups ∙ ap (λ x. x.group.0) l.2.ask) (stripes ∙ ap (λ x. x.stripe.0) l.2.ask) version))
+      a earlier_is refl
+    where
+      begins_before : (b : ℕ) (l late : Operation) → IsOperation w b l → Continues l late → n ≡ a → late.begin ≤ last_of (life_of marks a)
+      begins_before b l late l_is on at =
+          let begin : l.begin ≤ length w.marks = (said.operations b l l_is).begin in
+          let same : late.begin ≡ l.begin = on.begin in
+          let last : length w.marks ≤ last_of (life_of marks a) = subst (λ (j : ℕ). length w.marks ≤ last_of (life_of marks j)) at keeps.unended in
+          omega arith
+
+-- what such a change owes
+pub record OperatedOwes (setting : Setting) (w next : World) (stamps later : Stamping) (me : BrickId) (node : Node) (more : List Packet) (n : ℕ)
+    (p : Operation) : Type 0 where
+  pub stamps_say : StampsSay next later
+  pub stamps_other : (i b k : ℕ) → i ≢ me.0 → KeepsStamps stamps later i b k
+  pub operation : OperationSays setting next later n p
+  pub calls : (k : ℕ) (c : Coordinator) → node.calls k ≡ Some c
+      → (((w.nodes me.0).calls k ≡ Some c) × KeepsStamps stamps later me.0 (w.nodes me.0).boot k) ⊎ CallSays setting next later me.0 k c
+  pub packets : (k : ℕ) (packet : Packet) → slice_get more k ≡ Some packet → PacketSays setting next later packet
+  pub ends : (k q a : ℕ) (answer : Answer) → slice_get next.marks k ≡ Some (End q a answer)
+      → (slice_get w.marks k ≡ Some (End q a answer)) ⊎ EndShows next a answer
+
+-- the invariant holds after an operation changed
+pub said_operated : (setting : Setting) (w : World) (stamps later : Stamping) (me : BrickId) (node : Node) (more : List Packet) (marks : List Mark)
+    (n : ℕ)
+    (o p : Operation) (contents : ℕ → ℕ → Stamp → List ℕ) → Books setting w → Said setting w stamps → StampsGrow stamps later
+    → OperatedKeeps w me node marks n o p contents
+    → OperatedOwes setting w (operated w me node more marks n p contents) stamps later me node more n p
+    → Said setting (operated w me node more marks n p contents) later
+said_operated setting w stamps later me node more marks n o p contents books said grow keeps owes =
+    let after : World = operated w me node more marks n p contents in
+    said_after setting w after stamps later books said (operated_grows setting w stamps later me node more marks n o p contents keeps grow) (record {
+      stamps_say = owes.stamps_say;
+      tops = λ g s i. inl (put_each (λ j x. top_of (x.replicas g s) ≡ top_of ((w.nodes j).replicas g s)) w.nodes me.0 node
+          (ap (λ r. top_of (r g s)) keeps.replicas) (λ j other. refl) i);
+      logs = λ g s i k version is. inl
+          (put_each (λ j x. slice_get (x.replicas g s).log k ≡ Some version
+          → slice_get ((w.nodes j).replicas g s).log k ≡ Some version) w.nodes me.0 node
+          (λ has. ap (λ r. slice_get (r g s).log k) (sym keeps.replicas) ∙ has) (λ j other has. has) i is);
+      packets = λ k packet is. ⊎_elim
+          (λ (old : slice_get w.packets k ≡ Some packet). inl old)
+          (λ (new : (j : ℕ) × (slice_get more j ≡ Some packet)). inr (owes.packets new.0 packet new.1))
+          (get_grown w.packets more k packet is);
+      operations = λ a e.
+          put_each (λ i x. x ≡ Some e → IsOperation w i e ⊎ OperationSays setting after later i e) w.operations n (Some p)
+          (λ is. let same : p ≡ e = cc in inr (subst (λ (z : Operation). OperationSays setting after later n z) same owes.operation))
+          (λ i other is. inl is) a;
+      calls = λ i k c.
+          calls_by setting w after stamps later me.0 node refl keeps.boot k c (owes.calls k c)
+          (λ j other. owes.stamps_other j (w.nodes j).boot k other) i;
+      ends = owes.ends;
+      order = stays_in_order setting w stamps later me node more marks n o p contents keeps said;
+    })

@@ -1,0 +1,235 @@
+-- What quorums make true of the versions of a world, for the walk along them.
+use Rattle.std.proofs.Common.{◌≡◌, ℕ, ◌≤◌, ◌⊎◌, inl, inr, true, false, not, List, length, Option, Some, None, sym, ap, ◌∙◌, subst, ⊎_elim, arith}
+use Rattle.std.specs.Prelude.{nat_eq}
+use Rattle.std.proofs.lemmas.Bool.{and_parts, cases_Bool, eqb-true, not-true}
+use Rattle.std.proofs.lemmas.Option.{same_Some}
+use Rattle.fab_base.specs.declared.identities.BrickId.{BrickId}
+use Rattle.fab_base.specs.declared.stamps.Stamp.{Stamp}
+use Rattle.fab_base.specs.declared.asks.Op.TheVariants.{ReadStripe, WriteStripe}
+use Rattle.fab_base.specs.declared.answers.Answer.TheVariants.{Data}
+use Rattle.fab_base.specs.Stamps.{stamp_below, first_stamp}
+use Rattle.fab_base.proofs.StampOrder.{stamp_not_below_trans, stamp_neither_below}
+use Rattle.messages.specs.declared.calls.Call.{Call}
+use Rattle.messages.specs.declared.packets.Message.TheVariants as Message
+use Rattle.messages.specs.declared.requests.Request.TheVariants as Request
+use Rattle.messages.specs.declared.requests.Version.{Version}
+use Rattle.messages.specs.declared.replies.Reply.{Reply}
+use Rattle.quorum.specs.Quorums.{IsWithinLimits, both}
+use Rattle.quorum.proofs.Counts.{count_some, quorums_share}
+use Rattle.reg_model.specs.Marks.{Life, life_of, Answered}
+use Rattle.reg_model.specs.Registers.{zero_registers}
+use Rattle.reg_model.specs.Walk.{last_of}
+use Rattle.fab_base.specs.Layouts.{Group, group_of, seat_in}
+use Rattle.protocol.specs.Settings.{Setting, IsSound}
+use Rattle.protocol.specs.Coordinators.{told_in}
+use Rattle.protocol.specs.Worlds.{World, Event, Operation, zero_content, first_world, run}
+use Rattle.fab_base.specs.Layouts.{brick_at}
+use Rattle.protocol_laws.specs.Laws.{OneContent, BasesAreNewest, WritesAreGuarded, StoredIsHeld, FollowsRealTime, FullIsFull, WriteSent, IsBlocked}
+use Rattle.protocol_laws.proofs.Books.{Books, OperationBooks, IsOperation}
+use Rattle.protocol_laws.proofs.Said.{Stamping, Said, IsSaid, IsStamped, IsMadeOrFirst, Stands, WritesWhole, ReadsBack, FloorsAtLeast, VersionSays, WriteSays, ReplySays, HasVersion, DataShown}
+use Rattle.protocol_laws.proofs.Blocking.{blocked_never_stands}
+use Rattle.fab_base.proofs.Seats.{seat_within, brick_at_seat}
+use Rattle.protocol_laws.proofs.Lives.{answered_has_end}
+use Rattle.protocol_laws.proofs.Stampings.{above_first}
+use Rattle.protocol_laws.proofs.OwnStamps.{maker_stamp, made_later, operation_unique}
+use Rattle.protocol_laws.proofs.SaidAlways.{said_first, said_run}
+
+-- an operation that made version t by reading its base back: the base is below it, was made itself or is the first, and is its content; and
+-- nothing that a quorum holds lies between the two
+pub record BaseSays (setting : Setting) (w : World) (o : Operation) (t : Stamp) : Type 0 where
+  pub base : Stamp
+  pub base_is : o.base ≡ Some base
+  pub op : o.ask.op ≡ ReadStripe
+  pub below : stamp_below base t ≡ true
+  pub made : IsMadeOrFirst w o.ask.group.0 o.ask.stripe.0 base
+  pub content : w.contents o.ask.group.0 o.ask.stripe.0 t ≡ w.contents o.ask.group.0 o.ask.stripe.0 base
+  pub none_between : (u : Stamp) → Stands setting w o.ask.group.0 o.ask.stripe.0 u → stamp_below base u ≡ true → stamp_below u t ≡ true → ⊥
+
+-- an operation that made version t wrote it whole, on no base, or read its base back
+pub record MakerFacts (setting : Setting) (w : World) (o : Operation) (t : Stamp) : Type 0 where
+  pub how : WritesWhole w o t ⊎ BaseSays setting w o t
+  pub later : stamp_below first_stamp t ≡ true
+
+-- an operation that read version t at once reads a stripe, and the version is the first one or was made
+pub record ReaderFacts (w : World) (o : Operation) (t : Stamp) : Type 0 where
+  pub op : o.ask.op ≡ ReadStripe
+  pub made : IsMadeOrFirst w o.ask.group.0 o.ask.stripe.0 t
+
+-- the facts on versions
+pub record QuorumFacts (setting : Setting) (w : World) : Type 0 where
+  pub real_time : (g s : ℕ) → FollowsRealTime w g s
+  pub maker_unique : (a b : ℕ) (one other : Operation) (t : Stamp) → IsOperation w a one → IsOperation w b other
+      → one.made ≡ true → other.made ≡ true → one.version ≡ Some t → other.version ≡ Some t → a ≡ b
+  pub made_version : (n : ℕ) (o : Operation) → IsOperation w n o → o.made ≡ true → (t : Stamp) × (o.version ≡ Some t)
+  pub maker : (n : ℕ) (o : Operation) (t : Stamp) → IsOperation w n o → o.made ≡ true → o.version ≡ Some t → MakerFacts setting w o t
+  pub reader : (n : ℕ) (o : Operation) (t : Stamp) → IsOperation w n o → o.made ≡ false → o.version ≡ Some t → ReaderFacts w o t
+  pub stands : (n : ℕ) (o : Operation) (t : Stamp) → IsOperation w n o → o.version ≡ Some t → (o.made ≡ false) ⊎ (o.answered ≡ true)
+      → Stands setting w o.ask.group.0 o.ask.stripe.0 t
+  pub answered_data : (n : ℕ) (o : Operation) (t : Stamp) (life : Life) (p : ℕ) (bytes : List ℕ) → IsOperation w n o → o.version ≡ Some t
+      → life_of w.marks n ≡ Some life → life.ending ≡ Answered p (Data bytes) → bytes ≡ w.contents o.ask.group.0 o.ask.stripe.0 t
+  pub answered_write : (n : ℕ) (o : Operation) (bytes : List ℕ) → IsOperation w n o → o.answered ≡ true → o.ask.op ≡ WriteStripe bytes
+      → o.made ≡ true
+  pub first : (g s : ℕ) (group : Group) → group_of setting.layout g ≡ Some group
+      → w.contents g s first_stamp ≡ zero_registers group.m setting.layout.block
+  pub one_content : OneContent setting w
+  pub bases : BasesAreNewest setting w
+  pub guarded : WritesAreGuarded setting w
+  pub stored : StoredIsHeld w
+  pub full : FullIsFull setting w
+
+module _ (setting : Setting) (sound : IsSound setting) (w : World) (stamps : Stamping) (books : Books setting w) (said : Said setting w stamps) where
+  -- of two versions between which a quorum's floors lie, the lower is not above the other, nor equal to it where the later operation made it
+  shared_floor : (b : ℕ) (later : Operation) (u v : Stamp) (i : ℕ) → IsOperation w b later → later.version ≡ Some v
+      → stamp_below (later.floor i) u ≡ false → stamp_below v (later.floor i) ≡ false → (stamp_below u v ≡ true) ⊎ ((u ≡ v) × (later.made ≡ false))
+  shared_floor b later u v i is version above below =
+      let not_above : stamp_below v u ≡ false = stamp_not_below_trans u (later.floor i) v above below in
+      ⊎_elim (λ (less : stamp_below u v ≡ true). inl less)
+      (λ (not_less : stamp_below u v ≡ false).
+      let same : u ≡ v = stamp_neither_below u v not_less not_above in
+      ⊎_elim
+      (λ (made : later.made ≡ true).
+      let own : (p : ℕ) × IsStamped stamps later.brick.0 later.boot later.seq p v
+      = maker_stamp setting w stamps books said b later v is made version in
+      let floor : later.floor i ≡ v
+      = stamp_neither_below (later.floor i) v (subst (λ (t : Stamp). stamp_below (later.floor i) t ≡ false) same above) below in
+      absurd ((said.operations b later is).fresh i own.0
+      (subst (λ (t : Stamp). IsStamped stamps later.brick.0 later.boot later.seq own.0 t) (sym floor) own.1)))
+      (λ (unmade : later.made ≡ false). inr (same, unmade))
+      (cases_Bool later.made))
+      (cases_Bool (stamp_below u v))
+
+  real_time_holds : (g s : ℕ) → FollowsRealTime w g s
+  real_time_holds g s a b earlier later u v a_is b_is a_of b_of a_version b_version ended =
+      let a_at = and_parts (nat_eq earlier.ask.group.0 g) (nat_eq earlier.ask.stripe.0 s) a_of in
+      let b_at = and_parts (nat_eq later.ask.group.0 g) (nat_eq later.ask.stripe.0 s) b_of in
+      let b_books : OperationBooks setting w b later = books.operations b later b_is in
+      let group : Group = b_books.group in
+      let limits : IsWithinLimits group.m (length group.members) = sound.limits later.ask.group.0 group b_books.group_is in
+      ⊎_elim
+      (λ (floors : (z : Group) → group_of setting.layout later.ask.group.0 ≡ Some z → FloorsAtLeast later z u).
+      let share = quorums_share group.m (length group.members) limits.enough_seats
+      (λ seat. not (stamp_below (later.floor (brick_at group seat)) u)) (λ seat. not (stamp_below v (later.floor (brick_at group seat))))
+      (floors group b_books.group_is) (((said.operations b later b_is).version v b_version).floors group b_books.group_is) in
+      let seat = count_some (length group.members)
+      (both (λ k. not (stamp_below (later.floor (brick_at group k)) u)) (λ k. not (stamp_below v (later.floor (brick_at group k)))))
+      (omega (arith, share, limits.some_block)) in
+      let tests = and_parts (not (stamp_below (later.floor (brick_at group seat.0)) u))
+      (not (stamp_below v (later.floor (brick_at group seat.0)))) seat.2 in
+      shared_floor b later u v (brick_at group seat.0) b_is b_version
+      (not-true (stamp_below (later.floor (brick_at group seat.0)) u) tests.0)
+      (not-true (stamp_below v (later.floor (brick_at group seat.0))) tests.1))
+      (λ (before : later.begin ≤ last_of (life_of w.marks a)). absurd (omega (arith, before, ended)))
+      (said.order a b earlier later u a_is b_is
+      (eqb-true earlier.ask.group.0 g a_at.0 ∙ sym (eqb-true later.ask.group.0 g b_at.0))
+      (eqb-true earlier.ask.stripe.0 s a_at.1 ∙ sym (eqb-true later.ask.stripe.0 s b_at.1)) a_version)
+
+  -- a version that was read back is the base
+  base_says : (n : ℕ) (o : Operation) (t : Stamp) → IsOperation w n o → ReadsBack setting w o t → BaseSays setting w o t
+  base_says n o t is back =
+      let its : OperationBooks setting w n o = books.operations n o is in
+      record {
+        base = back.base;
+        base_is = back.base_is;
+        op = back.op;
+        below = back.below;
+        made = back.made;
+        content = back.content;
+        none_between = λ u stands above less.
+            blocked_never_stands w o.ask.group.0 o.ask.stripe.0 its.group u (back.blocked its.group its.group_is u (above, less))
+            (stands its.group its.group_is);
+      }
+
+  maker_holds : (n : ℕ) (o : Operation) (t : Stamp) → IsOperation w n o → o.made ≡ true → o.version ≡ Some t → MakerFacts setting w o t
+  maker_holds n o t is made version = record {
+    how = ⊎_elim
+        (λ (whole : WritesWhole w o t). inl whole)
+        (λ (back : ReadsBack setting w o t). inr (base_says n o t is back))
+        ((said.operations n o is).maker t made version);
+    later = above_first t (made_later setting w stamps books said n o t is made version);
+  }
+
+  reader_holds : (n : ℕ) (o : Operation) (t : Stamp) → IsOperation w n o → o.made ≡ false → o.version ≡ Some t → ReaderFacts w o t
+  reader_holds n o t is unmade version =
+      let has : HasVersion setting w o t = (said.operations n o is).version t version in record { op = has.reader unmade; made = has.made }
+
+  answered_data_holds : (n : ℕ) (o : Operation) (t : Stamp) (life : Life) (p : ℕ) (bytes : List ℕ) → IsOperation w n o → o.version ≡ Some t
+      → life_of w.marks n ≡ Some life → life.ending ≡ Answered p (Data bytes) → bytes ≡ w.contents o.ask.group.0 o.ask.stripe.0 t
+  answered_data_holds n o t life p bytes is version life_is ending =
+      let end = answered_has_end w.marks n p (Data bytes) life life_is ending in
+      let shown : DataShown w n bytes = said.ends end.0 p n (Data bytes) end.1 in
+      let same : shown.operation ≡ o = same_Some shown.operation o (sym shown.is ∙ is) in
+      let stamp : shown.version ≡ t = same_Some shown.version t (sym shown.version_is ∙ ap (λ (z : Operation). z.version) same ∙ version) in
+      shown.bytes_are
+      ∙ ap (λ (z : Operation). w.contents z.ask.group.0 z.ask.stripe.0 shown.version) same
+      ∙ ap (λ (u : Stamp). w.contents o.ask.group.0 o.ask.stripe.0 u) stamp
+
+  -- an operation's base is the one that it read back
+  bases_hold : BasesAreNewest setting w
+  bases_hold n o t b group is group_is made version base = ⊎_elim
+      (λ (whole : WritesWhole w o t). absurd (let none : Some b ≡ None = sym base ∙ whole.0 in let never : ⊥ = cc in never))
+      (λ (back : ReadsBack setting w o t).
+      let same : back.base ≡ b = same_Some back.base b (sym back.base_is ∙ base) in
+      subst (λ (z : Stamp). (stamp_below z t ≡ true)
+      × (w.contents o.ask.group.0 o.ask.stripe.0 t ≡ w.contents o.ask.group.0 o.ask.stripe.0 z)
+      × ((d : Stamp) → stamp_below z d ≡ true → stamp_below d t ≡ true → IsBlocked w o.ask.group.0 o.ask.stripe.0 group d)) same
+      (back.below, back.content, (λ d above less. back.blocked group group_is d (above, less))))
+      ((said.operations n o is).maker t made version)
+
+  -- the version that a reply tells has its content
+  found_says : (from to : BrickId) (call : Call) (reply : Reply) (version : Version) → ReplySays setting w stamps from to call reply
+      → told_in reply ≡ Some version → VersionSays setting w call.group.0 call.stripe.0 from.0 version
+  found_says from to call (Reply.Found order (Some found)) version says told =
+      let same : found ≡ version = same_Some found version told in
+      subst (λ (z : Version). VersionSays setting w call.group.0 call.stripe.0 from.0 z) same says.says
+  found_says from to call (Reply.OrderedRead found) version says told = says.says version told
+  found_says from to call reply version says told = cc
+
+  -- a write that was sent says what it should
+  write_says : (call : Call) (from to : BrickId) (t : Stamp) (block : List ℕ) → WriteSent w call from to t block
+      → WriteSays setting w stamps from.0 to.0 call t block
+  write_says call from to t block sent =
+      said.packets sent.0 (record { from = from; to = to; message = Message.Request call (Request.Write t block) }) sent.1
+
+  -- what is said of a world makes these facts true
+  pub facts : QuorumFacts setting w
+  facts = record {
+    real_time = real_time_holds;
+    maker_unique = λ a b one other t one_is other_is one_made other_made one_version other_version.
+        let first = maker_stamp setting w stamps books said a one t one_is one_made one_version in
+        let second = maker_stamp setting w stamps books said b other t other_is other_made other_version in
+        operation_unique setting w stamps books said a b one other first.0 second.0 t one_is other_is first.1 second.1;
+    made_version = λ n o is made. let had = (said.operations n o is).made made in (had.0, had.2);
+    maker = maker_holds;
+    reader = reader_holds;
+    stands = λ n o t is version how. (said.operations n o is).stands t version how;
+    answered_data = answered_data_holds;
+    answered_write = λ n o bytes is answered op. (said.operations n o is).answered answered bytes op;
+    first = λ g s group group_is. said.first g s ∙ ap (λ (z : Option Group). zero_content setting.layout.block z) group_is;
+    one_content = record {
+      sent = λ call from to t block group group_is sent.
+          let says : WriteSays setting w stamps from.0 to.0 call t block = write_says call from to t block sent in
+          let seat : (k : ℕ) × (seat_in group.members to.0 ≡ Some k) = says.member group group_is in (
+            seat.0,
+            seat_within group to.0 seat.0 seat.1,
+            brick_at_seat group to.0 seat.0 seat.1,
+            says.is_block group seat.0 group_is seat.1,
+          );
+      found = λ call from to seat reply version group group_is at sent told.
+          (found_says from to call reply version
+          (said.packets sent.0 (record { from = from; to = to; message = Message.Reply call reply }) sent.1) told).block group seat group_is at;
+      kept = λ g s i seat k version group group_is seat_is at. (said.logs g s i k version at).block group seat group_is seat_is;
+    };
+    bases = bases_hold;
+    guarded = λ call from to t block group group_is sent. (write_says call from to t block sent).guarded group group_is;
+    stored = λ call from to sent. said.packets sent.0 (record { from = from; to = to; message = Message.Reply call Reply.Stored }) sent.1;
+    full = λ call from to live sent. said.packets sent.0 (record { from = from; to = to; message = Message.Reply call (Reply.Full live) }) sent.1;
+  }
+
+-- the facts hold in every world that a run reaches, where the books do
+pub quorum_facts : (setting : Setting) (events : List Event) → IsSound setting
+    → ((more : List Event) → Books setting (run setting more (first_world setting.layout)))
+    → QuorumFacts setting (run setting events (first_world setting.layout))
+quorum_facts setting events sound books =
+    let said : IsSaid setting (run setting events (first_world setting.layout))
+    = said_run setting events (first_world setting.layout) sound books (said_first setting sound) in
+    facts setting sound (run setting events (first_world setting.layout)) said.0 (books events) said.1

@@ -1,0 +1,287 @@
+-- What a quorum of replies to a recovery decides: nothing that a quorum holds, or ever will, lies between the greatest version found and the
+-- recovery's stamp; nor that version itself, where too few blocks of it were found.
+use Rattle.std.proofs.Common.{◌≡◌, ℕ, ◌+◌, ◌<◌, ◌≤◌, Bool, true, false, not, List, [], ◌∷◌, length, Option, Some, None, refl, sym, ap, ◌∙◌, subst, ⊎_elim, arith}
+use Rattle.std.specs.Prelude.{filter}
+use Rattle.std.specs.Option.{option_map}
+use Rattle.std.proofs.lemmas.Bool.{cond_both, false≢true, cases_Bool, not-true}
+use Rattle.std.proofs.lemmas.Option.{same_Some}
+use Rattle.std.proofs.lemmas.List.Filters.{length-filter_both}
+use Rattle.fab_base.specs.declared.identities.BrickId.{BrickId}
+use Rattle.fab_base.specs.declared.stamps.Stamp.{Stamp}
+use Rattle.fab_base.specs.Stamps.{stamp_below, stamp_same, first_stamp}
+use Rattle.fab_base.proofs.StampOrder.{stamp_not_below_trans, stamp_below_trans, stamp_neither_below, stamp_same_refl, stamp_same_true}
+use Rattle.fab_base.specs.declared.asks.Ask.{Ask}
+use Rattle.messages.specs.declared.requests.Version.{Version}
+use Rattle.messages.specs.declared.replies.Reply.{Reply}
+use Rattle.quorum.specs.Quorums.{count, IsWithinLimits}
+use Rattle.quorum.proofs.Counts.{count_full}
+use Rattle.fab_base.specs.Layouts.{Group, group_of}
+use Rattle.quorum.specs.Quorums.{quorum_of}
+use Rattle.protocol.specs.Settings.{Setting, IsSound}
+use Rattle.protocol.specs.Replicas.{Replica, top_of, is_held}
+use Rattle.protocol.specs.declared.phases.Counted.{Counted}
+use Rattle.protocol.specs.declared.phases.Phase.TheVariants.{Recovers, Descends}
+use Rattle.protocol.specs.Coordinators.{Coordinator, told_in, told_stamp, finds, bytes_of, pieces_at, greater_stamp, greatest_found}
+use Rattle.protocol.specs.Worlds.{World, Operation}
+use Rattle.fab_base.specs.Layouts.{brick_at}
+use Rattle.protocol_laws.specs.Laws.{part_of, IsBlocked}
+use Rattle.protocol_laws.proofs.Books.{Books, CallBooks, IsCall}
+use Rattle.protocol_laws.proofs.Logs.{IsWithin, below_above}
+use Rattle.protocol_laws.proofs.Blocking.{passes_by, passes, blocked_by, blocked_never_stands}
+use Rattle.protocol_laws.proofs.Said.{Stamping, Said, IsContent, IsMadeOrFirst, IsStampOf, CallSays, CountedSays, EachCounted, AreOnce}
+use Rattle.protocol_laws.proofs.Counting.{each_then, each_both, each_filter, once_filter, at_seats, TellsAtMost, found_most, found_one, IsPieceOf, are_pieces, pieces_length}
+use Rattle.protocol_laws.proofs.Stampings.{not_first, above_first}
+use Rattle.protocol_laws.proofs.Decisions.{quorum_enough, ReadsAt, LooksBelow, content_formed}
+
+-- the version that is told
+told_version_is : (x : Counted) (found : Option Version) (v : Stamp) → told_in x.reply ≡ found → told_stamp x.reply ≡ Some v
+    → (version : Version) × (found ≡ Some version) × (version.stamp ≡ v)
+told_version_is x None v is told = let none : None ≡ Some v = sym (ap (option_map (λ (z : Version). z.stamp)) is) ∙ told in cc
+told_version_is x (Some version) v is told =
+    let some : Some version.stamp ≡ Some v = sym (ap (option_map (λ (z : Version). z.stamp)) is) ∙ told in
+    (version, refl, same_Some version.stamp v some)
+
+-- a reply finds the version whose stamp it tells
+finds_told : (v : Stamp) (seat : ℕ) (brick : BrickId) (reply : Reply) → finds v (record { seat = seat; brick = brick; reply = reply }) ≡ true
+    → told_stamp reply ≡ Some v
+finds_told v seat brick (Reply.Found order (Some version)) is = ap (λ (t : Stamp). Some t) (stamp_same_true version.stamp v is)
+finds_told v seat brick (Reply.OrderedRead (Some version)) is = ap (λ (t : Stamp). Some t) (stamp_same_true version.stamp v is)
+finds_told v seat brick reply is = absurd (false≢true is)
+
+told_finds : (v : Stamp) (seat : ℕ) (brick : BrickId) (reply : Reply) → told_stamp reply ≡ Some v
+    → finds v (record { seat = seat; brick = brick; reply = reply }) ≡ true
+told_finds v seat brick (Reply.Found order (Some version)) is =
+    subst (λ (t : Stamp). stamp_same t v ≡ true) (sym (same_Some version.stamp v is)) (stamp_same_refl v)
+told_finds v seat brick (Reply.OrderedRead (Some version)) is =
+    subst (λ (t : Stamp). stamp_same t v ≡ true) (sym (same_Some version.stamp v is)) (stamp_same_refl v)
+told_finds v seat brick reply is = cc
+
+-- nothing is told where nothing is found
+none_told : (found : Option Version) → option_map (λ (z : Version). z.stamp) found ≡ None → found ≡ None
+none_told None is = refl
+none_told (Some version) is = cc
+
+-- neither of two stamps is there, where the greater is not
+none_greater : (a b : Option Stamp) → greater_stamp a b ≡ None → a ≡ None
+none_greater None b is = refl
+none_greater (Some a) None is = is
+none_greater (Some a) (Some b) is =
+    cond_both (stamp_below a b) (Some b) (Some a) (λ (z : Option Stamp). z ≡ None → Some a ≡ None) (λ less e. cc) (λ above e. cc) is
+
+module _ (setting : Setting) (sound : IsSound setting) (w : World) (stamps : Stamping) (me : BrickId) (c : Coordinator) (group : Group)
+    (books : Books setting w) (said : Said setting w stamps) (is : IsCall w me.0 c.call.seq c)
+    (group_is : group_of setting.layout c.ask.group.0 ≡ Some group)
+    (counted : List Counted) (each : EachCounted (CountedSays setting w me.0 c) counted) (once : AreOnce counted)
+    (many : quorum_of group ≤ length counted) (bound : Stamp) (looks : LooksBelow c bound)
+    (all : EachCounted (ReadsAt setting sound w stamps me c group books said is group_is counted each once many bound) counted) where
+  -- what a reply reads
+  abbrev Reading : Counted → Type 0
+  Reading x = ReadsAt setting sound w stamps me c group books said is group_is counted each once many bound x
+
+  -- the bound is above the first stamp
+  first_under : stamp_below first_stamp bound ≡ true
+  first_under = ⊎_elim
+      (λ (own : (c.phase ≡ Recovers) × (bound ≡ c.stamp)).
+      let its_stamp : IsStampOf (w.nodes me.0) me.0 (w.nodes me.0).boot c.stamp
+      = said.stamps_say.are me.0 (w.nodes me.0).boot c.call.seq c.call.phase c.stamp (c.phase, (said.calls me.0 c.call.seq c is).begun) in
+      subst (λ (t : Stamp). stamp_below first_stamp t ≡ true) (sym own.1)
+      (above_first c.stamp (not_first (w.nodes me.0) me.0 (w.nodes me.0).boot c.stamp its_stamp)))
+      (λ (lower : c.phase ≡ Descends bound). (said.calls me.0 c.call.seq c is).above bound lower)
+      looks
+
+  -- a reply tells some version, since each member holds the first
+  tells_some : (x : Counted) → Reading x → told_stamp x.reply ≡ None → ⊥
+  tells_some x reads nothing =
+      let none : reads.found ≡ None = none_told reads.found (sym (ap (option_map (λ (z : Version). z.stamp)) reads.found_is) ∙ nothing) in
+      subst (λ (z : Option Version). IsWithin z first_stamp) none
+      (reads.newest first_stamp
+      (said.first_held (books.calls me.0 c.call.seq c is).operation.ask.group.0 (books.calls me.0 c.call.seq c is).operation.ask.stripe.0
+      (brick_at group x.seat))
+      first_under)
+
+  each_some : (l : List Counted) → EachCounted Reading l → greatest_found l ≡ None → 1 ≤ length l → ⊥
+  each_some [] reads nothing some = absurd (omega arith)
+  each_some (x ∷ l) reads nothing some = tells_some x reads.0 (none_greater (told_stamp x.reply) (greatest_found l) nothing)
+
+  -- so a quorum of replies finds one
+  pub something_found : greatest_found counted ≡ None → ⊥
+  something_found nothing =
+      let limits : IsWithinLimits group.m (length group.members) = sound.limits c.ask.group.0 group group_is in
+      let enough : group.m ≤ quorum_of group = quorum_enough group.m (length group.members) limits.enough_seats in
+      each_some counted all nothing (omega (arith, limits.some_block, enough, many))
+
+module _ (setting : Setting) (sound : IsSound setting) (w : World) (stamps : Stamping) (me : BrickId) (c : Coordinator) (group : Group)
+    (books : Books setting w) (said : Said setting w stamps) (is : IsCall w me.0 c.call.seq c)
+    (group_is : group_of setting.layout c.ask.group.0 ≡ Some group)
+    (counted : List Counted) (each : EachCounted (CountedSays setting w me.0 c) counted) (once : AreOnce counted)
+    (many : quorum_of group ≤ length counted) (bound : Stamp) (looks : LooksBelow c bound)
+    (all : EachCounted (ReadsAt setting sound w stamps me c group books said is group_is counted each once many bound) counted)
+    (v : Stamp) (greatest : greatest_found counted ≡ Some v) where
+  abbrev its : CallBooks setting w me.0 c.call.seq c
+  its = books.calls me.0 c.call.seq c is
+
+  abbrev o : Operation
+  o = (books.calls me.0 c.call.seq c is).operation
+
+  says : CallSays setting w stamps me.0 c.call.seq c
+  says = said.calls me.0 c.call.seq c is
+
+  its_group : group_of setting.layout o.ask.group.0 ≡ Some group
+  its_group = ap (λ a. group_of setting.layout a.group.0) (sym its.ask) ∙ group_is
+
+  limits : IsWithinLimits group.m (length group.members)
+  limits = sound.limits o.ask.group.0 group its_group
+
+  -- what a reply reads
+  abbrev Reads : Counted → Type 0
+  Reads x = ReadsAt setting sound w stamps me c group books said is group_is counted each once many bound x
+
+  -- the part of the stripe at a seat
+  abbrev part : ℕ → Replica
+  part seat = part_of w o.ask.group.0 o.ask.stripe.0 (brick_at group seat)
+
+  -- what is below the bound is below the recovery's stamp
+  bound_most : (d : Stamp) → stamp_below d bound ≡ true → stamp_below d c.stamp ≡ true
+  bound_most d less = ⊎_elim
+      (λ (own : (c.phase ≡ Recovers) × (bound ≡ c.stamp)). subst (λ (t : Stamp). stamp_below d t ≡ true) own.1 less)
+      (λ (lower : c.phase ≡ Descends bound). stamp_below_trans d bound c.stamp less (says.below bound lower))
+      looks
+
+  each_tells : EachCounted (λ x. Reads x × TellsAtMost v (told_stamp x.reply)) counted
+  each_tells = each_both Reads (λ x. TellsAtMost v (told_stamp x.reply)) counted all (found_most counted v greatest)
+
+  -- a reply that tells the greatest version
+  one : (x : Counted) × Reads x × (told_stamp x.reply ≡ Some v)
+  one = found_one Reads counted v all greatest
+
+  v_told : (version : Version) × (one.1.found ≡ Some version) × (version.stamp ≡ v)
+  v_told = told_version_is one.0 one.1.found v one.1.found_is one.2
+
+  v_below : stamp_below v bound ≡ true
+  v_below = subst (λ (t : Stamp). stamp_below t bound ≡ true) v_told.2 (one.1.below v_told.0 v_told.1)
+
+  -- the version is below the recovery's stamp, and was made, or is the first
+  pub version_lower : stamp_below v c.stamp ≡ true
+  version_lower = bound_most v v_below
+
+  pub version_made : IsMadeOrFirst w o.ask.group.0 o.ask.stripe.0 v
+  version_made = subst (λ (t : Stamp). IsMadeOrFirst w o.ask.group.0 o.ask.stripe.0 t) v_told.2 (one.1.made v_told.0 v_told.1)
+
+  -- what is within what a reply tells is at most v
+  within_most : (x : Counted) (found : Option Version) (d : Stamp) → told_in x.reply ≡ found → IsWithin found d → TellsAtMost v (told_stamp x.reply)
+      → stamp_below v d ≡ false
+  within_most x None d told within most = absurd within
+  within_most x (Some version) d told within most =
+      stamp_not_below_trans d version.stamp v within
+      (subst (λ (z : Option Stamp). TellsAtMost v z) (ap (option_map (λ (z : Version). z.stamp)) told) most)
+
+  -- no member that replied holds a version above v and below the bound
+  not_held : (x : Counted) (d : Stamp) → Reads x → TellsAtMost v (told_stamp x.reply) → stamp_below d bound ≡ true → stamp_below v d ≡ true
+      → is_held d (part x.seat).log ≡ false
+  not_held x d reads most less above = ⊎_elim
+      (λ (held : is_held d (part x.seat).log ≡ true).
+      absurd (false≢true (sym (within_most x reads.found d reads.found_is (reads.newest d held less) most) ∙ above)))
+      (λ (isnt : is_held d (part x.seat).log ≡ false). isnt)
+      (cases_Bool (is_held d (part x.seat).log))
+
+  -- a member that promised the stamp passes by what it does not hold below that
+  pass_at : (x : Counted) (d : Stamp) → Reads x → stamp_below d c.stamp ≡ true → is_held d (part x.seat).log ≡ false
+      → (x.seat < length group.members) × (passes_by w o.ask.group.0 o.ask.stripe.0 group d x.seat ≡ true)
+  pass_at x d reads less isnt = (
+    reads.promises.within,
+    passes w o.ask.group.0 o.ask.stripe.0 group d x.seat (below_above d c.stamp (top_of (part x.seat)) less reads.promises.top) isnt,
+  )
+
+  -- nothing that a quorum holds lies between v and the bound
+  under_bound : (d : Stamp) → stamp_below v d ≡ true → stamp_below d bound ≡ true → IsBlocked w o.ask.group.0 o.ask.stripe.0 group d
+  under_bound d above less =
+      let seats : length counted ≤ count (length group.members) (passes_by w o.ask.group.0 o.ask.stripe.0 group d)
+      = at_seats (length group.members) counted (passes_by w o.ask.group.0 o.ask.stripe.0 group d)
+      (each_then (λ x. Reads x × TellsAtMost v (told_stamp x.reply))
+      (λ x. (x.seat < length group.members) × (passes_by w o.ask.group.0 o.ask.stripe.0 group d x.seat ≡ true)) counted
+      (λ x h. pass_at x d h.0 (bound_most d less) (not_held x d h.0 h.1 less above)) each_tells)
+      once in
+      blocked_by w o.ask.group.0 o.ask.stripe.0 group d limits (omega (arith, seats, many, limits.some_block))
+
+  -- nor from the bound up to the recovery's stamp
+  from_bound : (d : Stamp) → stamp_below d bound ≡ false → stamp_below d c.stamp ≡ true → IsBlocked w o.ask.group.0 o.ask.stripe.0 group d
+  from_bound d not_less less = ⊎_elim
+      (λ (own : (c.phase ≡ Recovers) × (bound ≡ c.stamp)).
+      absurd (false≢true (sym not_less ∙ subst (λ (t : Stamp). stamp_below d t ≡ true) (sym own.1) less)))
+      (λ (lower : c.phase ≡ Descends bound).
+      subst (λ (a : Ask). IsBlocked w a.group.0 a.stripe.0 group d) its.ask (says.covered bound lower group group_is d (not_less, less)))
+      looks
+
+  -- nothing that a quorum holds, or ever will, lies between the version and the recovery's stamp
+  pub between_blocked : (d : Stamp) → stamp_below v d ≡ true → stamp_below d c.stamp ≡ true → IsBlocked w o.ask.group.0 o.ask.stripe.0 group d
+  between_blocked d above less = ⊎_elim
+      (λ (lower : stamp_below d bound ≡ true). under_bound d above lower)
+      (λ (upper : stamp_below d bound ≡ false). from_bound d upper less)
+      (cases_Bool (stamp_below d bound))
+
+  -- a member whose reply does not find v does not hold it
+  not_found : (x : Counted) → Reads x → TellsAtMost v (told_stamp x.reply) → not (finds v x) ≡ true → is_held v (part x.seat).log ≡ false
+  not_found x reads most isnt = ⊎_elim
+      (λ (held : is_held v (part x.seat).log ≡ true). absurd (found_at reads.found reads.found_is (reads.newest v held v_below)))
+      (λ (never : is_held v (part x.seat).log ≡ false). never)
+      (cases_Bool (is_held v (part x.seat).log))
+    where
+      found_at : (found : Option Version) → told_in x.reply ≡ found → IsWithin found v → ⊥
+      found_at None told within = within
+      found_at (Some version) told within =
+          let stamp : told_stamp x.reply ≡ Some version.stamp = ap (option_map (λ (z : Version). z.stamp)) told in
+          let same : version.stamp ≡ v
+          = stamp_neither_below version.stamp v within (subst (λ (z : Option Stamp). TellsAtMost v z) stamp most) in
+          let finds_it : finds v x ≡ true = told_finds v x.seat x.brick x.reply (stamp ∙ ap (λ (t : Stamp). Some t) same) in
+          false≢true (sym (not-true (finds v x) isnt) ∙ finds_it)
+
+  -- a version of which too few blocks were found no quorum holds, or ever will
+  pub too_few_blocked : length (pieces_at v counted) < group.m → IsBlocked w o.ask.group.0 o.ask.stripe.0 group v
+  too_few_blocked few =
+      let test : Counted → Bool = λ x. not (finds v x) in
+      let others : List Counted = filter test counted in
+      let seats : length others ≤ count (length group.members) (passes_by w o.ask.group.0 o.ask.stripe.0 group v)
+      = at_seats (length group.members) others (passes_by w o.ask.group.0 o.ask.stripe.0 group v)
+      (each_then (λ x. (Reads x × TellsAtMost v (told_stamp x.reply)) × (test x ≡ true))
+      (λ x. (x.seat < length group.members) × (passes_by w o.ask.group.0 o.ask.stripe.0 group v x.seat ≡ true)) others
+      (λ x h. pass_at x v h.0.0 version_lower (not_found x h.0.0 h.0.1 h.1))
+      (each_filter (λ x. Reads x × TellsAtMost v (told_stamp x.reply)) test counted each_tells))
+      (once_filter test counted once) in
+      let split : length (filter (finds v) counted) + length others ≡ length counted = length-filter_both (finds v) test (λ x. refl) counted in
+      let pieces : length (pieces_at v counted) ≡ length (filter (finds v) counted) = pieces_length (filter (finds v) counted) in
+      blocked_by w o.ask.group.0 o.ask.stripe.0 group v limits (omega (arith, seats, split, pieces, few, many))
+
+  -- such a version is not the first, which each member holds
+  pub version_above : length (pieces_at v counted) < group.m → stamp_below first_stamp v ≡ true
+  version_above few =
+      above_first v (λ first.
+      blocked_never_stands w o.ask.group.0 o.ask.stripe.0 group first_stamp
+      (subst (λ (t : Stamp). IsBlocked w o.ask.group.0 o.ask.stripe.0 group t) first (too_few_blocked few))
+      (let full = count_full (length group.members) (λ seat. is_held first_stamp (part seat).log)
+      (λ k below. said.first_held o.ask.group.0 o.ask.stripe.0 (brick_at group k)) in
+      omega (arith, full)))
+
+  -- a reply that finds v tells its seat's block
+  piece_at : (x : Counted) → Reads x → finds v x ≡ true
+      → IsPieceOf setting.code group.m (length group.members) (w.contents o.ask.group.0 o.ask.stripe.0 v) x
+  piece_at x reads is_found =
+      let told = told_version_is x reads.found v reads.found_is (finds_told v x.seat x.brick x.reply is_found) in (
+        reads.promises.within,
+        ap bytes_of (reads.found_is ∙ told.1)
+            ∙ reads.block told.0 told.1
+            ∙ ap (λ (t : Stamp). setting.code.encode group.m (w.contents o.ask.group.0 o.ask.stripe.0 t) x.seat) told.2,
+      )
+
+  -- enough blocks of the version decode to its content
+  pub read_decodes : group.m ≤ length (pieces_at v counted)
+      → setting.code.decode group.m (pieces_at v counted) ≡ w.contents o.ask.group.0 o.ask.stripe.0 v
+  read_decodes enough =
+      let formed : IsContent group.m setting.layout.block (w.contents o.ask.group.0 o.ask.stripe.0 v)
+      = content_formed setting sound w stamps me c group books said is group_is counted each once many v version_made in
+      sound.decodes o.ask.group.0 group its_group (w.contents o.ask.group.0 o.ask.stripe.0 v) (pieces_at v counted) formed.0 formed.1
+      (are_pieces setting.code group.m (length group.members) (w.contents o.ask.group.0 o.ask.stripe.0 v) (filter (finds v) counted)
+      (each_then (λ x. Reads x × (finds v x ≡ true))
+      (IsPieceOf setting.code group.m (length group.members) (w.contents o.ask.group.0 o.ask.stripe.0 v)) (filter (finds v) counted)
+      (λ x h. piece_at x h.0 h.1) (each_filter Reads (finds v) counted all))
+      (once_filter (finds v) counted once))
+      enough

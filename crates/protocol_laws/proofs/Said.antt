@@ -1,0 +1,315 @@
+-- What the messages, the logs, the operations and the marks of a world say: the invariant behind the laws. The stamp of each phase of each
+-- brick's calls is remembered beside the world.
+use Rattle.std.proofs.Common.{◌≡◌, ℕ, ◌*◌, ◌<◌, ◌≤◌, ◌⊎◌, true, false, not, List, [], ◌∷◌, length, Option, Some, None}
+use Rattle.std.specs.Prelude.{slice_get}
+use Rattle.fab_base.specs.declared.identities.BrickId.{BrickId}
+use Rattle.fab_base.specs.declared.stamps.Stamp.{Stamp}
+use Rattle.fab_base.specs.declared.asks.Op.{Op}
+use Rattle.fab_base.specs.declared.asks.Op.TheVariants.{ReadStripe, WriteStripe}
+use Rattle.fab_base.specs.declared.answers.Answer.{Answer}
+use Rattle.fab_base.specs.declared.answers.Answer.TheVariants.{Data, Done, Aborted}
+use Rattle.fab_base.specs.Stamps.{stamp_below, first_stamp}
+use Rattle.messages.specs.declared.calls.Call.{Call}
+use Rattle.messages.specs.declared.packets.Message.{Message}
+use Rattle.messages.specs.declared.packets.Packet.{Packet}
+use Rattle.messages.specs.declared.requests.Request.{Request}
+use Rattle.messages.specs.declared.requests.Version.{Version}
+use Rattle.messages.specs.declared.requests.Look.TheVariants as Look
+use Rattle.messages.specs.declared.requests.Want.TheVariants as Want
+use Rattle.messages.specs.declared.replies.Reply.{Reply}
+use Rattle.reg_model.specs.declared.marks.Mark.TheVariants.{End}
+use Rattle.reg_model.specs.Marks.{life_of}
+use Rattle.reg_model.specs.Walk.{last_of}
+use Rattle.fab_base.specs.Layouts.{Group, group_of, seat_in}
+use Rattle.protocol.specs.Settings.{Setting, are_bytes}
+use Rattle.protocol.specs.Replicas.{top_of, is_held, stamp_max}
+use Rattle.protocol.specs.declared.phases.Phase.{Phase}
+use Rattle.protocol.specs.declared.phases.Phase.TheVariants.{Looks, Orders, Recovers, Descends, Stores}
+use Rattle.protocol.specs.declared.phases.Counted.{Counted}
+use Rattle.protocol.specs.Coordinators.{Coordinator, answers_phase, has_seat, stored_content, request_of}
+use Rattle.protocol.specs.Nodes.{Node}
+use Rattle.protocol.specs.Worlds.{World, Operation, zero_content}
+use Rattle.fab_base.specs.Layouts.{brick_at}
+use Rattle.protocol_laws.specs.Laws.{WasSent, WriteSent, AskedAt, part_of, AtQuorum, IsGuarded, IsBlocked}
+use Rattle.protocol_laws.proofs.Books.{IsOperation, IsCall}
+use Rattle.protocol_laws.proofs.Logs.{LogAscends, IsWithin}
+
+-- a phase that was begun: its stamp, and what it does
+pub record Begun : Type 0 where
+  pub stamp : Stamp
+  pub phase : Phase
+
+-- each phase that was begun, by brick, boot, call number and phase number
+abbrev pub Stamping : Type 0
+Stamping = ℕ → ℕ → ℕ → ℕ → Option Begun
+
+-- phase p of brick i's call k of boot b does this, with stamp t
+abbrev pub IsBegun : Stamping → ℕ → ℕ → ℕ → ℕ → Phase → Stamp → Type 0
+IsBegun stamps i b k p phase t = stamps i b k p ≡ Some (record { stamp = t; phase = phase })
+
+-- t is the stamp of phase p of brick i's call k of boot b
+abbrev pub IsStamped : Stamping → ℕ → ℕ → ℕ → ℕ → Stamp → Type 0
+IsStamped stamps i b k p t = (phase : Phase) × IsBegun stamps i b k p phase t
+
+-- phase p of the call is a recovery's: it looks below its own stamp t, or below a bound which is below t
+abbrev pub IsRecovery : Stamping → ℕ → ℕ → ℕ → ℕ → Stamp → Stamp → Type 0
+IsRecovery stamps i b k p bound t =
+    ((bound ≡ t) × IsBegun stamps i b k p Recovers t) ⊎ ((stamp_below bound t ≡ true) × IsBegun stamps i b k p (Descends bound) t)
+
+-- a quorum of the stripe's seats holds the version
+abbrev pub Stands : Setting → World → ℕ → ℕ → Stamp → Type 0
+Stands setting w g s v =
+    (group : Group) → group_of setting.layout g ≡ Some group → AtQuorum group (λ seat. is_held v (part_of w g s (brick_at group seat)).log)
+
+-- no quorum holds a stamp of these, or ever will
+abbrev pub AreBlocked : Setting → World → ℕ → ℕ → (Stamp → Type 0) → Type 0
+AreBlocked setting w g s Q = (group : Group) → group_of setting.layout g ≡ Some group → (d : Stamp) → Q d → IsBlocked w g s group d
+
+-- a stripe's content: the bytes of m blocks
+abbrev pub IsContent : ℕ → ℕ → List ℕ → Type 0
+IsContent m block content = (length content ≡ m * block) × (are_bytes content ≡ true)
+
+-- the version is the first one, or an operation of this stripe made it
+abbrev pub IsMadeOrFirst : World → ℕ → ℕ → Stamp → Type 0
+IsMadeOrFirst w g s t =
+    (t ≡ first_stamp)
+    ⊎ ((n : ℕ) × (o : Operation) × IsOperation w n o × (o.ask.group.0 ≡ g) × (o.ask.stripe.0 ≡ s) × (o.made ≡ true) × (o.version ≡ Some t))
+
+-- the stamp is the first one, or that of a phase which was begun
+abbrev pub IsKnown : Stamping → Stamp → Type 0
+IsKnown stamps t = (t ≡ first_stamp) ⊎ ((j b l p : ℕ) × IsStamped stamps j b l p t)
+
+-- a stamp of brick i's boot b: where that is its present boot, the brick knows this time
+pub record IsStampOf (node : Node) (i b : ℕ) (t : Stamp) : Type 0 where
+  pub view : t.view.0 ≡ 1
+  pub boot : t.boot ≡ b
+  pub booted : b ≤ node.boot
+  pub brick : t.brick.0 ≡ i
+  pub positive : 1 ≤ t.time
+  pub bounded : b ≡ node.boot → t.time ≤ node.known
+
+-- the stamps of a world: each is its brick's and its boot's, calls that have one were begun, and no two calls of a boot share one
+pub record StampsSay (w : World) (stamps : Stamping) : Type 0 where
+  pub are : (i b k p : ℕ) (t : Stamp) → IsStamped stamps i b k p t → IsStampOf (w.nodes i) i b t
+  pub begun : (i b k p : ℕ) (t : Stamp) → IsStamped stamps i b k p t → (1 ≤ k) × (b ≡ (w.nodes i).boot → k ≤ (w.nodes i).seq)
+  pub apart : (i b k l p q : ℕ) (t : Stamp) → IsStamped stamps i b k p t → IsStamped stamps i b l q t → k ≡ l
+
+-- at a quorum of seats the operation's floor is at most t
+abbrev pub FloorsAtMost : Operation → Group → Stamp → Type 0
+FloorsAtMost o group t = AtQuorum group (λ seat. not (stamp_below t (o.floor (brick_at group seat))))
+
+-- at a quorum of seats the operation's floor is at least t
+abbrev pub FloorsAtLeast : Operation → Group → Stamp → Type 0
+FloorsAtLeast o group t = AtQuorum group (λ seat. not (stamp_below (o.floor (brick_at group seat)) t))
+
+-- a request or reply's call is that of an operation of brick i
+pub record IsCalled (w : World) (i : ℕ) (call : Call) (o : Operation) : Type 0 where
+  pub is : IsOperation w (w.numbers i call.boot call.seq) o
+  pub brick : o.brick.0 ≡ i
+  pub boot : o.boot ≡ call.boot
+  pub seq : o.seq ≡ call.seq
+  pub group : o.ask.group.0 ≡ call.group.0
+  pub stripe : o.ask.stripe.0 ≡ call.stripe.0
+
+-- a block is the block of version t of a stripe at the seat of brick i
+abbrev pub IsBlockOf : Setting → World → ℕ → ℕ → ℕ → Stamp → List ℕ → Type 0
+IsBlockOf setting w g s i t block =
+    (group : Group) (seat : ℕ) → group_of setting.layout g ≡ Some group → seat_in group.members i ≡ Some seat
+    → block ≡ setting.code.encode group.m (w.contents g s t) seat
+
+-- a version that brick i keeps, or told
+pub record VersionSays (setting : Setting) (w : World) (g s i : ℕ) (version : Version) : Type 0 where
+  pub made : IsMadeOrFirst w g s version.stamp
+  pub block : IsBlockOf setting w g s i version.stamp version.block
+
+-- a write of a version
+pub record WriteSays (setting : Setting) (w : World) (stamps : Stamping) (from to : ℕ) (call : Call) (t : Stamp) (block : List ℕ) : Type 0 where
+  pub operation : Operation
+  pub called : IsCalled w from call operation
+  pub begun : IsBegun stamps from call.boot call.seq call.phase Stores t
+  pub made : operation.made ≡ true
+  pub version : operation.version ≡ Some t
+  pub member : (group : Group) → group_of setting.layout call.group.0 ≡ Some group → (seat : ℕ) × (seat_in group.members to ≡ Some seat)
+  pub guarded : (group : Group) → group_of setting.layout call.group.0 ≡ Some group → IsGuarded w call.group.0 call.stripe.0 group t
+  pub is_block : IsBlockOf setting w call.group.0 call.stripe.0 to t block
+
+-- what a request of brick i to brick j says
+abbrev pub RequestSays : Setting → World → Stamping → ℕ → ℕ → Call → Request → Type 0
+RequestSays setting w stamps i j call (Request.Read want) = (want ≡ Want.All) × ((o : Operation) × IsCalled w i call o)
+RequestSays setting w stamps i j call (Request.Order t) =
+    IsBegun stamps i call.boot call.seq call.phase Orders t × ((o : Operation) × IsCalled w i call o)
+RequestSays setting w stamps i j call (Request.OrderRead t (Look.Below bound) want) =
+    (want ≡ Want.All) × IsRecovery stamps i call.boot call.seq call.phase bound t × ((o : Operation) × IsCalled w i call o)
+RequestSays setting w stamps i j call (Request.OrderRead t (Look.At u) want) = ⊥
+RequestSays setting w stamps i j call (Request.Write t block) = WriteSays setting w stamps i j call t block
+RequestSays setting w stamps i j call request = Unit {0}
+
+-- an order that brick j answered
+pub record OrderedSays (w : World) (stamps : Stamping) (j i : ℕ) (call : Call) : Type 0 where
+  pub operation : Operation
+  pub called : IsCalled w i call operation
+  pub stamp : Stamp
+  pub stamp_is : IsBegun stamps i call.boot call.seq call.phase Orders stamp
+  pub promised : stamp_below (top_of (part_of w call.group.0 call.stripe.0 j)) stamp ≡ false
+  pub floor : stamp_below stamp (operation.floor j) ≡ false
+
+-- what brick j found below a bound, when it promised the stamp of a recovery: each version that it holds below the bound is at most that
+pub record OrderedReadSays (setting : Setting) (w : World) (stamps : Stamping) (j i : ℕ) (call : Call) (found : Option Version) : Type 0 where
+  pub operation : Operation
+  pub called : IsCalled w i call operation
+  pub stamp : Stamp
+  pub bound : Stamp
+  pub recovers : IsRecovery stamps i call.boot call.seq call.phase bound stamp
+  pub promised : stamp_below (top_of (part_of w call.group.0 call.stripe.0 j)) stamp ≡ false
+  pub floor : stamp_below stamp (operation.floor j) ≡ false
+  pub newest : (d : Stamp) → is_held d (part_of w call.group.0 call.stripe.0 j).log ≡ true → stamp_below d bound ≡ true → IsWithin found d
+  pub says : (version : Version) → found ≡ Some version → VersionSays setting w call.group.0 call.stripe.0 j version
+
+-- what brick j found
+pub record FoundSays (setting : Setting) (w : World) (j i : ℕ) (call : Call) (order : Stamp) (version : Version) : Type 0 where
+  pub operation : Operation
+  pub called : IsCalled w i call operation
+  pub top : stamp_below (top_of (part_of w call.group.0 call.stripe.0 j)) (stamp_max order version.stamp) ≡ false
+  pub floor : stamp_below (stamp_max order version.stamp) (operation.floor j) ≡ false
+  pub held : is_held version.stamp (part_of w call.group.0 call.stripe.0 j).log ≡ true
+  pub says : VersionSays setting w call.group.0 call.stripe.0 j version
+
+-- what a reply of brick `from` to brick `to` says
+abbrev pub ReplySays : Setting → World → Stamping → BrickId → BrickId → Call → Reply → Type 0
+ReplySays setting w stamps from to call (Reply.Found order (Some version)) = FoundSays setting w from.0 to.0 call order version
+ReplySays setting w stamps from to call Reply.Ordered = OrderedSays w stamps from.0 to.0 call
+ReplySays setting w stamps from to call (Reply.OrderedRead found) = OrderedReadSays setting w stamps from.0 to.0 call found
+ReplySays setting w stamps from to call Reply.Stored =
+    (t : Stamp) × (block : List ℕ) × WriteSent w call to from t block
+    × (is_held t (part_of w call.group.0 call.stripe.0 from.0).log ≡ true)
+ReplySays setting w stamps from to call (Reply.Later x) = (t : Stamp) × AskedAt w call to from t × (stamp_below t x ≡ true)
+ReplySays setting w stamps from to call (Reply.Full live) = live ≡ setting.layout.records
+ReplySays setting w stamps from to call reply = Unit {0}
+
+abbrev pub MessageSays : Setting → World → Stamping → BrickId → BrickId → Message → Type 0
+MessageSays setting w stamps from to (Message.Request call request) = RequestSays setting w stamps from.0 to.0 call request
+MessageSays setting w stamps from to (Message.Reply call reply) = ReplySays setting w stamps from to call reply
+MessageSays setting w stamps from to message = Unit {0}
+
+abbrev pub PacketSays : Setting → World → Stamping → Packet → Type 0
+PacketSays setting w stamps packet = MessageSays setting w stamps packet.from packet.to packet.message
+
+-- an operation's version
+pub record HasVersion (setting : Setting) (w : World) (o : Operation) (v : Stamp) : Type 0 where
+  pub made : IsMadeOrFirst w o.ask.group.0 o.ask.stripe.0 v
+  pub reader : o.made ≡ false → o.ask.op ≡ ReadStripe
+  pub guarded : (group : Group) → group_of setting.layout o.ask.group.0 ≡ Some group → IsGuarded w o.ask.group.0 o.ask.stripe.0 group v
+  pub floors : (group : Group) → group_of setting.layout o.ask.group.0 ≡ Some group → FloorsAtMost o group v
+
+-- the operation made version v by reading its base back
+pub record ReadsBack (setting : Setting) (w : World) (o : Operation) (v : Stamp) : Type 0 where
+  pub base : Stamp
+  pub base_is : o.base ≡ Some base
+  pub op : o.ask.op ≡ ReadStripe
+  pub below : stamp_below base v ≡ true
+  pub made : IsMadeOrFirst w o.ask.group.0 o.ask.stripe.0 base
+  pub content : w.contents o.ask.group.0 o.ask.stripe.0 v ≡ w.contents o.ask.group.0 o.ask.stripe.0 base
+  pub blocked : AreBlocked setting w o.ask.group.0 o.ask.stripe.0 (λ d. (stamp_below base d ≡ true) × (stamp_below d v ≡ true))
+
+-- the operation made version v by writing it whole
+abbrev pub WritesWhole : World → Operation → Stamp → Type 0
+WritesWhole w o v = (o.base ≡ None) × (o.ask.op ≡ WriteStripe (w.contents o.ask.group.0 o.ask.stripe.0 v))
+
+-- operation n
+pub record OperationSays (setting : Setting) (w : World) (stamps : Stamping) (n : ℕ) (o : Operation) : Type 0 where
+  pub begin : o.begin ≤ length w.marks
+  pub floors : (i : ℕ) → stamp_below (top_of (part_of w o.ask.group.0 o.ask.stripe.0 i)) (o.floor i) ≡ false
+  pub floors_known : (i : ℕ) → IsKnown stamps (o.floor i)
+  pub fresh : (i p : ℕ) → IsStamped stamps o.brick.0 o.boot o.seq p (o.floor i) → ⊥
+  pub made : o.made ≡ true → (v : Stamp) × (p : ℕ) × (o.version ≡ Some v) × IsStamped stamps o.brick.0 o.boot o.seq p v
+  pub maker : (v : Stamp) → o.made ≡ true → o.version ≡ Some v → WritesWhole w o v ⊎ ReadsBack setting w o v
+  pub content : (v : Stamp) → o.made ≡ true → o.version ≡ Some v → (group : Group) → group_of setting.layout o.ask.group.0 ≡ Some group
+      → IsContent group.m setting.layout.block (w.contents o.ask.group.0 o.ask.stripe.0 v)
+  pub stands : (v : Stamp) → o.version ≡ Some v → (o.made ≡ false) ⊎ (o.answered ≡ true) → Stands setting w o.ask.group.0 o.ask.stripe.0 v
+  pub version : (v : Stamp) → o.version ≡ Some v → HasVersion setting w o v
+  pub answered : o.answered ≡ true → (bytes : List ℕ) → o.ask.op ≡ WriteStripe bytes → o.made ≡ true
+
+-- a coordinator is in a phase of its operation
+abbrev pub FitsPhase : Phase → Op → Type 0
+FitsPhase Looks op = op ≡ ReadStripe
+FitsPhase Orders op = (bytes : List ℕ) × (op ≡ WriteStripe bytes)
+FitsPhase Recovers op = op ≡ ReadStripe
+FitsPhase (Descends bound) op = op ≡ ReadStripe
+FitsPhase Stores op = Unit {0}
+
+-- a reply that counts at a coordinator of brick i
+pub record CountedSays (setting : Setting) (w : World) (i : ℕ) (c : Coordinator) (x : Counted) : Type 0 where
+  pub sent : WasSent w (record { from = x.brick; to = record { 0 = i }; message = Message.Reply c.call x.reply })
+  pub answers : answers_phase setting.layout.block c.stamp c.phase x.reply ≡ true
+  pub seat : (group : Group) → group_of setting.layout c.ask.group.0 ≡ Some group → seat_in group.members x.brick.0 ≡ Some x.seat
+
+-- each reply that counts
+abbrev pub EachCounted : (Counted → Type 0) → List Counted → Type 0
+EachCounted P [] = Unit {0}
+EachCounted P (x ∷ counted) = P x × EachCounted P counted
+
+-- no seat counts twice
+abbrev pub AreOnce : List Counted → Type 0
+AreOnce [] = Unit {0}
+AreOnce (x ∷ counted) = (has_seat x.seat counted ≡ false) × AreOnce counted
+
+-- the open operation of brick i's call k. Its present phase is the last that was begun, and each member was sent its request; where it looks
+-- below a bound, which is above the first stamp, no quorum will ever hold a version from there up to its stamp; and where it stores, it stores
+-- the content of its version.
+pub record CallSays (setting : Setting) (w : World) (stamps : Stamping) (i k : ℕ) (c : Coordinator) : Type 0 where
+  pub begun : IsBegun stamps i (w.nodes i).boot k c.call.phase c.phase c.stamp
+  pub last : (p : ℕ) → c.call.phase < p → stamps i (w.nodes i).boot k p ≡ None
+  pub asked : (group : Group) → group_of setting.layout c.ask.group.0 ≡ Some group → (seat : ℕ) (member : BrickId)
+      → slice_get group.members seat ≡ Some member
+      → WasSent w
+      (record { from = record { 0 = i }; to = member; message = Message.Request c.call (request_of setting.code group.m c seat) })
+  pub fits : FitsPhase c.phase c.ask.op
+  pub unbased : c.phase ≡ Orders → c.base ≡ None
+  pub above : (bound : Stamp) → c.phase ≡ Descends bound → stamp_below first_stamp bound ≡ true
+  pub below : (bound : Stamp) → c.phase ≡ Descends bound → stamp_below bound c.stamp ≡ true
+  pub covered : (bound : Stamp) → c.phase ≡ Descends bound
+      → AreBlocked setting w c.ask.group.0 c.ask.stripe.0 (λ d. (stamp_below d bound ≡ false) × (stamp_below d c.stamp ≡ true))
+  pub stores : c.phase ≡ Stores
+      → IsMadeOrFirst w c.ask.group.0 c.ask.stripe.0 c.stamp × (stored_content c ≡ w.contents c.ask.group.0 c.ask.stripe.0 c.stamp)
+  pub counted : EachCounted (CountedSays setting w i c) c.counted
+  pub once : AreOnce c.counted
+
+-- the data that operation n was answered are its version's
+pub record DataShown (w : World) (n : ℕ) (bytes : List ℕ) : Type 0 where
+  pub operation : Operation
+  pub is : IsOperation w n operation
+  pub version : Stamp
+  pub version_is : operation.version ≡ Some version
+  pub bytes_are : bytes ≡ w.contents operation.ask.group.0 operation.ask.stripe.0 version
+
+-- the end of operation n by this answer
+abbrev pub EndShows : World → ℕ → Answer → Type 0
+EndShows w n (Data bytes) = DataShown w n bytes
+EndShows w n Done = Unit {0}
+EndShows w n (Aborted cause) = Unit {0}
+
+-- where one operation has a version, another of its stripe found that version below it at a quorum, or began no later than the first may end
+abbrev pub IsInOrder : Setting → World → Type 0
+IsInOrder setting w =
+    (a b : ℕ) (earlier later : Operation) (u : Stamp) → IsOperation w a earlier → IsOperation w b later
+    → earlier.ask.group.0 ≡ later.ask.group.0 → earlier.ask.stripe.0 ≡ later.ask.stripe.0 → earlier.version ≡ Some u
+    → ((group : Group) → group_of setting.layout later.ask.group.0 ≡ Some group → FloorsAtLeast later group u)
+    ⊎ (later.begin ≤ last_of (life_of w.marks a))
+
+-- The invariant.
+pub record Said (setting : Setting) (w : World) (stamps : Stamping) : Type 0 where
+  pub stamps_say : StampsSay w stamps
+  pub tops : (g s i : ℕ) → IsKnown stamps (top_of (part_of w g s i))
+  pub ascends : (g s i : ℕ) → LogAscends (part_of w g s i).log
+  pub first_held : (g s i : ℕ) → is_held first_stamp (part_of w g s i).log ≡ true
+  pub logs : (g s i k : ℕ) (version : Version) → slice_get (part_of w g s i).log k ≡ Some version → VersionSays setting w g s i version
+  pub packets : (k : ℕ) (packet : Packet) → slice_get w.packets k ≡ Some packet → PacketSays setting w stamps packet
+  pub operations : (n : ℕ) (o : Operation) → IsOperation w n o → OperationSays setting w stamps n o
+  pub calls : (i k : ℕ) (c : Coordinator) → IsCall w i k c → CallSays setting w stamps i k c
+  pub ends : (k p n : ℕ) (answer : Answer) → slice_get w.marks k ≡ Some (End p n answer) → EndShows w n answer
+  pub order : IsInOrder setting w
+  pub first : (g s : ℕ) → w.contents g s first_stamp ≡ zero_content setting.layout.block (group_of setting.layout g)
+
+-- what is said of a world, by some stamps of its phases
+abbrev pub IsSaid : Setting → World → Type 0
+IsSaid setting w = (stamps : Stamping) × Said setting w stamps

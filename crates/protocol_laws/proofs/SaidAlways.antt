@@ -1,0 +1,288 @@
+-- What is said is so in every world that a run reaches.
+use Rattle.std.proofs.Common.{◌≡◌, ℕ, ◌<◌, ◌≤◌, zero, suc, ◌+◌, inl, true, false, List, [], ◌∷◌, ◌++◌, length, replicate, Option, Some, None, refl, sym, ap, ◌∙◌, subst, ⊎_elim, arith}
+use Rattle.std.specs.Prelude.{slice_get}
+use Rattle.std.proofs.lemmas.List.{append-nil, length-append}
+use Rattle.std.proofs.lemmas.Bool.{cond_both, cond-false, false≢true, or_left}
+use Rattle.fab_base.specs.declared.identities.BrickId.{BrickId}
+use Rattle.fab_base.specs.declared.stamps.Stamp.{Stamp}
+use Rattle.fab_base.specs.declared.asks.Ask.{Ask}
+use Rattle.fab_base.specs.Stamps.{stamp_below, stamp_same, first_stamp}
+use Rattle.fab_base.proofs.StampOrder.{stamp_below_irrefl, stamp_same_refl}
+use Rattle.messages.specs.declared.calls.Call.{Call}
+use Rattle.messages.specs.declared.packets.Message.{Message}
+use Rattle.messages.specs.declared.packets.Packet.{Packet}
+use Rattle.messages.specs.declared.requests.Request.{Request}
+use Rattle.messages.specs.declared.requests.Version.{Version}
+use Rattle.messages.specs.declared.replies.Reply.{Reply}
+use Rattle.reg_model.specs.declared.marks.Mark.{Mark}
+use Rattle.reg_model.specs.declared.marks.Mark.TheVariants.{End, Crash}
+use Rattle.fab_base.specs.Layouts.{Group, group_of}
+use Rattle.protocol.specs.Settings.{Setting, IsSound}
+use Rattle.protocol.specs.Replicas.{Reaction, first_replica, top_of, handle}
+use Rattle.protocol.specs.declared.phases.Counted.{Counted}
+use Rattle.protocol.specs.Coordinators.{Coordinator}
+use Rattle.protocol.specs.Nodes.{Node, NodeStep, put, with_known, full_at, reply_packets, absorbed, ticked, stopped, restarted, new_stamp, fresh_stamp, no_step, began, invoked, requested, known_after, replied_to, replied_at, replied, received}
+use Rattle.protocol.specs.Worlds.{World, Event, Invokes, Delivers, Sets, Ticks, Crashes, Starts, Absorbs, replies_with, first_world, zero_content, is_brick, is_up, may_start, world_ticked, world_stopped, world_started, world_absorbed, may_begin, world_began, world_stepped, delivered, packet_of, happens, run}
+use Rattle.protocol_laws.specs.Laws.{WasSent, part_of}
+use Rattle.protocol_laws.proofs.Books.{Books, IsCall}
+use Rattle.protocol_laws.proofs.Said.{Stamping, Said, IsSaid, IsStampOf, VersionSays}
+use Rattle.protocol_laws.proofs.BooksQuiet.{books_quiet}
+use Rattle.protocol_laws.proofs.BooksEvents.{known_grows, fresh_is, BeginFits, begin_fits, start_fits}
+use Rattle.protocol_laws.proofs.Tables.{get_one, get_kept, get_grown}
+use Rattle.protocol_laws.proofs.Lives.{last_grows}
+use Rattle.protocol_laws.proofs.Stampings.{ages_within}
+use Rattle.protocol_laws.proofs.Reactions.{top_is, handle_after, handle_says}
+use Rattle.protocol_laws.proofs.Steps.{quiet, said_beside, said_added, said_idle}
+use Rattle.protocol_laws.proofs.Requests.{request_each, said_after_request, reply_packets_say}
+use Rattle.protocol_laws.proofs.Sends.{ticked_was_sent}
+use Rattle.protocol_laws.proofs.Replies.{said_known, said_after_reply}
+use Rattle.protocol_laws.proofs.Begins.{said_began}
+
+-- the world after a brick's step
+abbrev stepped : World → BrickId → NodeStep → World
+stepped w me step = world_stepped w me step step.told
+
+-- a step that does nothing
+nothing_said : (setting : Setting) (w : World) (stamps : Stamping) (me : BrickId) → Books setting w → Said setting w stamps
+    → Said setting (stepped w me (no_step (w.nodes me.0))) stamps
+nothing_said setting w stamps me books said = said_known setting w stamps me (w.nodes me.0).known books said (omega arith)
+
+-- a request is delivered
+request_said : (setting : Setting) (w : World) (stamps : Stamping) (me from : BrickId) (call : Call) (request : Request) → Books setting w
+    → Said setting w stamps → WasSent w (record { from = from; to = me; message = Message.Request call request })
+    → Said setting (stepped w me (requested setting me from (w.nodes me.0) call request)) stamps
+request_said setting w stamps me from call request books said sent =
+    request_each (λ step. Said setting (stepped w me step) stamps) setting me from (w.nodes me.0) call request
+    (nothing_said setting w stamps me books said)
+    (λ seat.
+    let full : Option ℕ = full_at setting.layout.records (w.nodes me.0) in
+    let reaction : Reaction = handle full seat (part_of w call.group.0 call.stripe.0 me.0) request in
+    let after = handle_after full seat (part_of w call.group.0 call.stripe.0 me.0) request in
+    said_after_request setting w stamps me from call request books said sent reaction (reply_packets me from call reaction.reply) after
+    (reply_packets_say setting w stamps me from call request books said sent reaction (reply_packets me from call reaction.reply) after
+    reaction.reply (handle_says full seat (part_of w call.group.0 call.stripe.0 me.0) request)))
+
+-- a request is handled, and its reply is lost
+request_kept : (setting : Setting) (w : World) (stamps : Stamping) (me from : BrickId) (call : Call) (request : Request) → Books setting w
+    → Said setting w stamps → WasSent w (record { from = from; to = me; message = Message.Request call request })
+    → Said setting (quiet w me (requested setting me from (w.nodes me.0) call request).node []) stamps
+request_kept setting w stamps me from call request books said sent =
+    request_each (λ step. Said setting (quiet w me step.node []) stamps) setting me from (w.nodes me.0) call request
+    (nothing_said setting w stamps me books said)
+    (λ seat.
+    let full : Option ℕ = full_at setting.layout.records (w.nodes me.0) in
+    said_after_request setting w stamps me from call request books said sent
+    (handle full seat (part_of w call.group.0 call.stripe.0 me.0) request) []
+    (handle_after full seat (part_of w call.group.0 call.stripe.0 me.0) request) (λ k packet at. cc))
+
+-- a fresh stamp is its brick's, and above all that it knows
+fresh_says : (setting : Setting) (w : World) (me : BrickId) (now known : ℕ) (t : Stamp) → Books setting w → (w.nodes me.0).known ≤ known
+    → fresh_stamp me now (w.nodes me.0).boot known ≡ Some t
+    → IsStampOf (with_known (w.nodes me.0) t.time) me.0 (w.nodes me.0).boot t × ((w.nodes me.0).known < t.time)
+fresh_says setting w me now known t books more is =
+    let new : Stamp = new_stamp me now (w.nodes me.0).boot known in
+    subst (λ (z : Stamp). IsStampOf (with_known (w.nodes me.0) z.time) me.0 (w.nodes me.0).boot z × ((w.nodes me.0).known < z.time))
+    (sym (fresh_is me now (w.nodes me.0).boot known t is).0)
+    (record { view = refl; boot = refl; booted = omega arith; brick = refl; positive = omega arith; bounded = λ now. omega arith }, omega arith)
+
+-- a reply is delivered
+reply_said : (setting : Setting) (w : World) (stamps : Stamping) (me from : BrickId) (now : ℕ) (call : Call) (reply : Reply) → IsSound setting
+    → Books setting w → Said setting w stamps → WasSent w (record { from = from; to = me; message = Message.Reply call reply })
+    → IsSaid setting (stepped w me (replied setting me now from (w.nodes me.0) call reply))
+unfolding replied
+reply_said setting w stamps me from now call reply sound books said sent = at_call ((w.nodes me.0).calls call.seq) refl
+  where
+    in_group : (c : Coordinator) → IsCall w me.0 c.call.seq c → (z : Option Group) → group_of setting.layout c.ask.group.0 ≡ z
+        → IsSaid setting (stepped w me (replied_to setting me now from (w.nodes me.0) call reply c z))
+    in_group c is None none = (stamps, nothing_said setting w stamps me books said)
+    in_group c is (Some group) group_is =
+        said_after_reply setting sound w stamps me c group (known_after (w.nodes me.0).known reply) books said is group_is
+        (known_grows (w.nodes me.0).known reply)
+        (fresh_stamp me now (w.nodes me.0).boot (known_after (w.nodes me.0).known reply))
+        (λ t new. fresh_says setting w me now (known_after (w.nodes me.0).known reply) t books
+        (known_grows (w.nodes me.0).known reply) new) from call reply sent
+
+    at_call : (z : Option Coordinator) → (w.nodes me.0).calls call.seq ≡ z
+        → IsSaid setting (stepped w me (replied_at setting me now from (w.nodes me.0) call reply z))
+    at_call None none = (
+      stamps,
+      said_known setting w stamps me (known_after (w.nodes me.0).known reply) books said
+          (known_grows (w.nodes me.0).known reply),
+    )
+    at_call (Some c) is =
+        let seq : c.call.seq ≡ call.seq = (books.calls me.0 call.seq c is).call_seq in
+        in_group c (subst (λ (k : ℕ). IsCall w me.0 k c) (sym seq) is) (group_of setting.layout c.ask.group.0) refl
+
+-- a message is delivered
+message_said : (setting : Setting) (w : World) (stamps : Stamping) (me from : BrickId) (now : ℕ) (message : Message) → IsSound setting
+    → Books setting w → Said setting w stamps → WasSent w (record { from = from; to = me; message = message })
+    → IsSaid setting (stepped w me (received setting me now (w.nodes me.0) (record { from = from; to = me; message = message })))
+unfolding received
+message_said setting w stamps me from now (Message.Request call request) sound books said sent =
+    (stamps, request_said setting w stamps me from call request books said sent)
+message_said setting w stamps me from now (Message.Reply call reply) sound books said sent =
+    reply_said setting w stamps me from now call reply sound books said sent
+message_said setting w stamps me from now message sound books said sent = (stamps, nothing_said setting w stamps me books said)
+
+-- a message is handled, and no reply is sent
+absorbed_said : (setting : Setting) (w : World) (stamps : Stamping) (me from to : BrickId) (message : Message) → Books setting w
+    → Said setting w stamps → WasSent w (record { from = from; to = me; message = message })
+    → Said setting (quiet w me (absorbed setting me (w.nodes me.0) (record { from = from; to = to; message = message })) []) stamps
+unfolding absorbed
+absorbed_said setting w stamps me from to (Message.Request call request) books said sent =
+    request_kept setting w stamps me from call request books said sent
+absorbed_said setting w stamps me from to message books said sent = nothing_said setting w stamps me books said
+
+-- the books do not change with the replies that count
+books_beside : (setting : Setting) (w : World) (replies : ℕ → ℕ → List Counted) → Books setting w → Books setting (record w { replies = replies })
+books_beside setting w replies books =
+    books_quiet setting w w.nodes w.clocks w.packets replies books (λ i. record { boot = refl; seq = refl; known = omega arith }) (λ i k. refl)
+
+delivered_said : (setting : Setting) (w : World) (stamps : Stamping) (z : Option Packet) → IsSound setting → Books setting w → Said setting w stamps
+    → ((packet : Packet) → z ≡ Some packet → WasSent w packet) → IsSaid setting (delivered setting w z)
+delivered_said setting w stamps None sound books said sent = (stamps, said)
+delivered_said setting w stamps (Some packet) sound books said sent =
+    let counted : World = record w { replies = replies_with setting w packet } in
+    cond_both (is_up setting.layout w packet.to)
+    (stepped counted packet.to (received setting packet.to (w.clocks packet.to.0) (w.nodes packet.to.0) packet)) w
+    (λ (next : World). IsSaid setting next)
+    (λ is. message_said setting counted stamps packet.to packet.from (w.clocks packet.to.0) packet.message sound
+    (books_beside setting w (replies_with setting w packet) books)
+    (said_beside setting w stamps w.clocks (replies_with setting w packet) books said)
+    (sent packet refl))
+    (λ isnt. (stamps, said))
+
+-- a packet is handled, and its reply is lost before it is sent
+lost_said : (setting : Setting) (w : World) (stamps : Stamping) (z : Option Packet) → Books setting w → Said setting w stamps
+    → ((packet : Packet) → z ≡ Some packet → WasSent w packet) → IsSaid setting (world_absorbed setting w z)
+lost_said setting w stamps None books said sent = (stamps, said)
+lost_said setting w stamps (Some packet) books said sent =
+    let node : Node = absorbed setting packet.to (w.nodes packet.to.0) packet in
+    cond_both (is_up setting.layout w packet.to) (record w { nodes = put w.nodes packet.to.0 node }) w (λ (next : World). IsSaid setting next)
+    (λ up. (
+      stamps,
+      subst (λ (l : List Packet). Said setting (record w { nodes = put w.nodes packet.to.0 node; packets = l }) stamps) (append-nil w.packets)
+          (absorbed_said setting w stamps packet.to packet.from packet.to packet.message books said (sent packet refl)),
+    ))
+    (λ down. (stamps, said))
+
+-- a brick's clock ticks
+ticked_said : (setting : Setting) (w : World) (stamps : Stamping) (me : BrickId) → Books setting w → Said setting w stamps
+    → Said setting (world_ticked setting w me) stamps
+ticked_said setting w stamps me books said =
+    let more : List Packet = ticked setting me (w.nodes me.0) in
+    said_added setting w stamps w.clocks w.replies (w.packets ++ more) books said
+    (λ packet sent. (sent.0, get_kept w.packets more sent.0 packet sent.1))
+    (λ packet sent. ⊎_elim
+    (λ (old : slice_get w.packets sent.0 ≡ Some packet). (sent.0, old))
+    (λ (new : (j : ℕ) × (slice_get more j ≡ Some packet)). ticked_was_sent setting w stamps me said new.0 packet new.1)
+    (get_grown w.packets more sent.0 packet sent.1))
+
+-- a brick stops
+stopped_said : (setting : Setting) (w : World) (stamps : Stamping) (me : BrickId) → Books setting w → Said setting w stamps
+    → Said setting (world_stopped w me) stamps
+unfolding stopped
+stopped_said setting w stamps me books said =
+    let crash : Mark = Crash (length w.marks) me in
+    let longer : length (w.marks ++ (crash ∷ [])) ≡ length w.marks + 1 = length-append w.marks (crash ∷ []) in
+    said_idle setting w stamps me.0 (stopped (w.nodes me.0)) (put w.up me.0 false) w.past (w.marks ++ (crash ∷ [])) books said refl (λ k. refl)
+    (ages_within (w.nodes me.0) (stopped (w.nodes me.0)) refl (omega arith) (omega arith)) (omega arith)
+    (λ a. last_grows w.marks crash a (λ k mark at. let place = books.places k mark at in omega (arith, place)) refl)
+    (λ k p n answer at. ⊎_elim
+    (λ (old : slice_get w.marks k ≡ Some (End p n answer)). old)
+    (λ (new : (j : ℕ) × (slice_get (crash ∷ []) j ≡ Some (End p n answer))).
+    let bad : crash ≡ End p n answer = get_one crash (End p n answer) new.0 new.1 in absurd (let never : ⊥ = cc in never))
+    (get_grown w.marks (crash ∷ []) k (End p n answer) at))
+
+-- a stopped brick is started again: no stamp of its new boot is known
+started_said : (setting : Setting) (w : World) (stamps : Stamping) (me : BrickId) (openings : ℕ) → Books setting w → Said setting w stamps
+    → 1 ≤ openings → Said setting (world_started w me openings) stamps
+unfolding restarted
+started_said setting w stamps me openings books said some =
+    said_idle setting w stamps me.0 (restarted openings (w.nodes me.0)) (put w.up me.0 true)
+    (put w.past me.0 (put (w.past me.0) (w.nodes me.0).boot (w.nodes me.0).known)) w.marks books said refl (λ k. refl)
+    (record { boot = omega arith; known = λ same. absurd (omega arith); seq = λ same. absurd (omega arith) }) (omega arith) (λ a. omega arith)
+    (λ k p n answer at. at)
+
+-- a packet of a number was sent
+pub packet_was_sent : (w : World) (number : ℕ) (packet : Packet) → packet_of w.packets number ≡ Some packet → WasSent w packet
+packet_was_sent w zero packet is = cc
+packet_was_sent w (suc k) packet is = (k, is)
+
+-- an operation is invoked
+invoked_said : (setting : Setting) (w : World) (stamps : Stamping) (me : BrickId) (ask : Ask) → Books setting w → Said setting w stamps
+    → may_begin setting w me ask ≡ true → IsSaid setting (world_began w me ask (invoked setting me (w.clocks me.0) (w.nodes me.0) ask))
+unfolding invoked
+invoked_said setting w stamps me ask books said may =
+    let fits : BeginFits setting ask = begin_fits setting w me ask may in
+    subst (λ (z : Option Group). IsSaid setting (world_began w me ask (began setting me (w.clocks me.0) (w.nodes me.0) ask z))) (sym fits.group_is)
+    (said_began setting w stamps me ask fits.group books said fits.group_is fits.is_stripe_op)
+
+-- every event keeps the invariant
+pub said_happens : (setting : Setting) (w : World) (event : Event) → IsSound setting → Books setting w → IsSaid setting w
+    → IsSaid setting (happens setting w event)
+unfolding happens
+said_happens setting w (Invokes brick ask) sound books said =
+    cond_both (may_begin setting w brick ask) (world_began w brick ask (invoked setting brick (w.clocks brick.0) (w.nodes brick.0) ask)) w
+    (λ (next : World). IsSaid setting next)
+    (λ may. invoked_said setting w said.0 brick ask books said.1 may)
+    (λ isnt. said)
+said_happens setting w (Delivers number) sound books said =
+    delivered_said setting w said.0 (packet_of w.packets number) sound books said.1 (packet_was_sent w number)
+said_happens setting w (Sets brick time) sound books said =
+    cond_both (is_brick setting.layout brick) (record w { clocks = put w.clocks brick.0 time }) w (λ (next : World). IsSaid setting next)
+    (λ is. (said.0, said_beside setting w said.0 (put w.clocks brick.0 time) w.replies books said.1))
+    (λ isnt. said)
+said_happens setting w (Ticks brick) sound books said =
+    cond_both (is_up setting.layout w brick) (world_ticked setting w brick) w (λ (next : World). IsSaid setting next)
+    (λ up. (said.0, ticked_said setting w said.0 brick books said.1))
+    (λ down. said)
+said_happens setting w (Crashes brick) sound books said =
+    cond_both (is_up setting.layout w brick) (world_stopped w brick) w (λ (next : World). IsSaid setting next)
+    (λ up. (said.0, stopped_said setting w said.0 brick books said.1))
+    (λ down. said)
+said_happens setting w (Starts brick openings) sound books said =
+    cond_both (may_start setting.layout w brick openings) (world_started w brick openings) w (λ (next : World). IsSaid setting next)
+    (λ may. (said.0, started_said setting w said.0 brick openings books said.1 (start_fits setting w brick openings may).1))
+    (λ cannot. said)
+said_happens setting w (Absorbs number) sound books said =
+    lost_said setting w said.0 (packet_of w.packets number) books said.1 (packet_was_sent w number)
+
+-- the first world
+first_top : (block : ℕ) → top_of (first_replica block) ≡ first_stamp
+first_top block =
+    top_is (first_replica block) (record { stamp = first_stamp; block = replicate block 0 }) refl
+    ∙ cond-false (stamp_below first_stamp first_stamp) first_stamp first_stamp (stamp_below_irrefl first_stamp)
+
+pub said_first : (setting : Setting) → IsSound setting → IsSaid setting (first_world setting.layout)
+said_first setting sound = (
+  (λ i b k p. None),
+  record {
+    stamps_say = record { are = λ i b k p t is. cc; begun = λ i b k p t is. cc; apart = λ i b k l p q t is its. cc };
+    tops = λ g s i. inl (first_top setting.layout.block);
+    ascends = λ g s i. ((λ d held. absurd (false≢true held)), tt);
+    first_held = λ g s i. or_left (stamp_same first_stamp first_stamp) false (stamp_same_refl first_stamp);
+    logs = λ g s i k version is.
+        let same : record { stamp = first_stamp; block = replicate setting.layout.block 0 } ≡ version
+        = get_one (record { stamp = first_stamp; block = replicate setting.layout.block 0 }) version k is in
+        subst (λ (z : Version). VersionSays setting (first_world setting.layout) g s i z) same (record {
+          made = inl refl;
+          block = λ group seat group_is at.
+              sym (sound.zero_blocks g group seat group_is)
+              ∙ ap (λ (z : Option Group). setting.code.encode group.m (zero_content setting.layout.block z) seat) (sym group_is);
+        });
+    packets = λ k packet is. cc;
+    operations = λ n o is. cc;
+    calls = λ i k c is. cc;
+    ends = λ k p n answer is. cc;
+    order = λ a b earlier late u earlier_is late_is groups stripes version. cc;
+    first = λ g s. refl;
+  },
+)
+
+-- every run keeps the invariant
+pub said_run : (setting : Setting) (events : List Event) (w : World) → IsSound setting → ((more : List Event) → Books setting (run setting more w))
+    → IsSaid setting w → IsSaid setting (run setting events w)
+said_run setting [] w sound books said = said
+said_run setting (event ∷ events) w sound books said =
+    said_run setting events (happens setting w event) sound (λ more. books (event ∷ more)) (said_happens setting w event sound (books []) said)

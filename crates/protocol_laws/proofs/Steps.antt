@@ -1,0 +1,340 @@
+-- What an event owes to the invariant: only what is new.
+use Rattle.std.proofs.Common.{◌≡◌, ◌≢◌, ℕ, ◌+◌, ◌≤◌, ◌⊎◌, inl, inr, true, false, List, ◌++◌, length, zero, suc, Bool, Some, None, [], ◌∷◌, refl, sym, ap, ◌∙◌, subst, ⊎_elim, arith}
+use Rattle.std.specs.Prelude.{slice_get}
+use Rattle.fab_base.specs.declared.identities.BrickId.{BrickId}
+use Rattle.fab_base.specs.declared.stamps.Stamp.{Stamp}
+use Rattle.fab_base.specs.declared.answers.Answer.{Answer}
+use Rattle.fab_base.specs.Stamps.{stamp_below, first_stamp}
+use Rattle.messages.specs.declared.calls.Call.{Call}
+use Rattle.messages.specs.declared.packets.Message.TheVariants as Message
+use Rattle.messages.specs.declared.packets.Packet.{Packet}
+use Rattle.messages.specs.declared.requests.Request.{Request}
+use Rattle.messages.specs.declared.requests.Version.{Version}
+use Rattle.reg_model.specs.declared.marks.Mark.{Mark}
+use Rattle.reg_model.specs.declared.marks.Mark.TheVariants.{End}
+use Rattle.reg_model.specs.Marks.{life_of}
+use Rattle.reg_model.specs.Walk.{last_of}
+use Rattle.fab_base.proofs.StampOrder.{stamp_below_irrefl}
+use Rattle.fab_base.specs.Layouts.{Group, group_of}
+use Rattle.protocol.specs.Settings.{Setting}
+use Rattle.protocol.specs.Replicas.{Replica, top_of, is_held}
+use Rattle.protocol.specs.declared.phases.Counted.{Counted}
+use Rattle.protocol.specs.Coordinators.{Coordinator, request_of}
+use Rattle.protocol.specs.declared.tellings.Told.TheVariants.{Nothing}
+use Rattle.protocol.specs.Nodes.{Node, put, to_members, phase_packets}
+use Rattle.protocol.specs.Worlds.{World, Operation, world_stepped}
+use Rattle.protocol_laws.specs.Laws.{WasSent, part_of}
+use Rattle.protocol_laws.proofs.Books.{Books, IsOperation, IsCall}
+use Rattle.protocol_laws.proofs.Logs.{LogAscends}
+use Rattle.protocol_laws.proofs.Blocking.{PartsStay}
+use Rattle.protocol_laws.proofs.Said.{Stamping, Said, StampsSay, IsKnown, VersionSays, PacketSays, OperationSays, CallSays, EndShows, IsInOrder, FloorsAtLeast}
+use Rattle.protocol_laws.proofs.Tables.{put_each, get_kept, get_grown, get_added}
+use Rattle.protocol_laws.proofs.Stampings.{StampsGrow, Ages, ages_within, stamps_same, stays_known, stamps_stay}
+use Rattle.protocol_laws.proofs.Growth.{Grows, continues_same, stays_version, stays_packet, stays_operation, stays_call, stays_end}
+
+-- call k of brick i's boot b has the stamps that it had
+abbrev pub KeepsStamps : Stamping → Stamping → ℕ → ℕ → ℕ → Type 0
+KeepsStamps stamps later i b k = (p : ℕ) → later i b k p ≡ stamps i b k p
+
+-- call k of brick i was open, in the boot that the brick has now, and has the stamps that it had
+abbrev pub StaysOpen : World → Stamping → Stamping → ℕ → ℕ → Coordinator → ℕ → Type 0
+StaysOpen w stamps later i k c boot = IsCall w i k c × (boot ≡ (w.nodes i).boot) × KeepsStamps stamps later i (w.nodes i).boot k
+
+-- what is new in the next world says what it should
+pub record Owes (setting : Setting) (w next : World) (stamps later : Stamping) : Type 0 where
+  pub stamps_say : StampsSay next later
+  pub tops : (g s i : ℕ) → (top_of (part_of next g s i) ≡ top_of (part_of w g s i)) ⊎ IsKnown later (top_of (part_of next g s i))
+  pub logs : (g s i k : ℕ) (version : Version) → slice_get (part_of next g s i).log k ≡ Some version
+      → (slice_get (part_of w g s i).log k ≡ Some version) ⊎ VersionSays setting next g s i version
+  pub packets : (k : ℕ) (packet : Packet) → slice_get next.packets k ≡ Some packet
+      → (slice_get w.packets k ≡ Some packet) ⊎ PacketSays setting next later packet
+  pub operations : (n : ℕ) (o : Operation) → IsOperation next n o → IsOperation w n o ⊎ OperationSays setting next later n o
+  pub calls : (i k : ℕ) (c : Coordinator) → IsCall next i k c
+      → StaysOpen w stamps later i k c (next.nodes i).boot ⊎ CallSays setting next later i k c
+  pub ends : (k p n : ℕ) (answer : Answer) → slice_get next.marks k ≡ Some (End p n answer)
+      → (slice_get w.marks k ≡ Some (End p n answer)) ⊎ EndShows next n answer
+  pub order : IsInOrder setting next
+
+-- the invariant holds after an event that pays what it owes
+pub said_after : (setting : Setting) (w next : World) (stamps later : Stamping) → Books setting w → Said setting w stamps
+    → Grows w next stamps later → Owes setting w next stamps later → Said setting next later
+said_after setting w next stamps later books said grows owes = record {
+  stamps_say = owes.stamps_say;
+  ascends = λ g s i. grows.parts.ascends g s i (said.ascends g s i);
+  first_held = λ g s i. grows.parts.held g s i first_stamp (said.first_held g s i);
+  tops = λ g s i. ⊎_elim
+      (λ (same : top_of (part_of next g s i) ≡ top_of (part_of w g s i)).
+      subst (λ (t : Stamp). IsKnown later t) (sym same) (stays_known stamps later grows.grow (top_of (part_of w g s i)) (said.tops g s i)))
+      (λ (new : IsKnown later (top_of (part_of next g s i))). new)
+      (owes.tops g s i);
+  logs = λ g s i k version is. ⊎_elim
+      (λ (old : slice_get (part_of w g s i).log k ≡ Some version).
+      stays_version setting w next stamps later books grows g s i version (said.logs g s i k version old))
+      (λ (new : VersionSays setting next g s i version). new)
+      (owes.logs g s i k version is);
+  packets = λ k packet is. ⊎_elim
+      (λ (old : slice_get w.packets k ≡ Some packet). stays_packet setting w next stamps later books grows packet (said.packets k packet old))
+      (λ (new : PacketSays setting next later packet). new)
+      (owes.packets k packet is);
+  operations = λ n o is. ⊎_elim
+      (λ (old : IsOperation w n o). stays_operation setting w next stamps later books grows n o old (said.operations n o old))
+      (λ (new : OperationSays setting next later n o). new)
+      (owes.operations n o is);
+  calls = λ i k c is. ⊎_elim
+      (λ (old : StaysOpen w stamps later i k c (next.nodes i).boot).
+      stays_call setting w next stamps later books grows i k c old.1 old.2 (said.calls i k c old.0))
+      (λ (new : CallSays setting next later i k c). new)
+      (owes.calls i k c is);
+  ends = λ k p n answer is. ⊎_elim
+      (λ (old : slice_get w.marks k ≡ Some (End p n answer)).
+      stays_end setting w next stamps later books grows said.operations n answer (said.ends k p n answer old))
+      (λ (new : EndShows next n answer). new)
+      (owes.ends k p n answer is);
+  order = owes.order;
+  first = λ g s. grows.contents g s first_stamp (inl refl) ∙ said.first g s;
+}
+
+-- one brick's parts of stripes do not fall, hold what they held, take nothing new below their stamps, and go on ascending
+pub record KeepsParts (node next : Node) : Type 0 where
+  pub tops : (g s : ℕ) → stamp_below (top_of (next.replicas g s)) (top_of (node.replicas g s)) ≡ false
+  pub held : (g s : ℕ) (t : Stamp) → is_held t (node.replicas g s).log ≡ true → is_held t (next.replicas g s).log ≡ true
+  pub newer : (g s : ℕ) (t : Stamp) → is_held t (next.replicas g s).log ≡ true
+      → (is_held t (node.replicas g s).log ≡ true) ⊎ (stamp_below t (top_of (node.replicas g s)) ≡ false)
+  pub ascends : (g s : ℕ) → LogAscends (node.replicas g s).log → LogAscends (next.replicas g s).log
+
+-- a brick that keeps its parts as they are
+pub keeps_same : (node next : Node) → next.replicas ≡ node.replicas → KeepsParts node next
+keeps_same node next same = record {
+  tops = λ g s.
+      subst (λ (r : ℕ → ℕ → Replica). stamp_below (top_of (r g s)) (top_of (node.replicas g s)) ≡ false) (sym same)
+      (stamp_below_irrefl (top_of (node.replicas g s)));
+  held = λ g s t held. subst (λ (r : ℕ → ℕ → Replica). is_held t (r g s).log ≡ true) (sym same) held;
+  newer = λ g s t held. inl (subst (λ (r : ℕ → ℕ → Replica). is_held t (r g s).log ≡ true) same held);
+  ascends = λ g s ascends. subst (λ (r : ℕ → ℕ → Replica). LogAscends (r g s).log) (sym same) ascends;
+}
+
+-- parts stay where one brick keeps its own
+pub parts_by : (w next : World) (me : ℕ) (node : Node) → next.nodes ≡ put w.nodes me node → KeepsParts (w.nodes me) node → PartsStay w next
+parts_by w next me node nodes keeps = record {
+  tops = λ g s i.
+      subst (λ (f : ℕ → Node). stamp_below (top_of ((f i).replicas g s)) (top_of ((w.nodes i).replicas g s)) ≡ false) (sym nodes)
+      (put_each (λ j x. stamp_below (top_of (x.replicas g s)) (top_of ((w.nodes j).replicas g s)) ≡ false) w.nodes me node
+      (keeps.tops g s) (λ j other. stamp_below_irrefl (top_of ((w.nodes j).replicas g s))) i);
+  held = λ g s i t.
+      subst (λ (f : ℕ → Node). is_held t ((w.nodes i).replicas g s).log ≡ true → is_held t ((f i).replicas g s).log ≡ true) (sym nodes)
+      (put_each (λ j x. is_held t ((w.nodes j).replicas g s).log ≡ true → is_held t (x.replicas g s).log ≡ true) w.nodes me node
+      (keeps.held g s t) (λ j other held. held) i);
+  newer = λ g s i t.
+      subst (λ (f : ℕ → Node). is_held t ((f i).replicas g s).log ≡ true
+      → (is_held t ((w.nodes i).replicas g s).log ≡ true) ⊎ (stamp_below t (top_of ((w.nodes i).replicas g s)) ≡ false)) (sym nodes)
+      (put_each (λ j x. is_held t (x.replicas g s).log ≡ true
+      → (is_held t ((w.nodes j).replicas g s).log ≡ true) ⊎ (stamp_below t (top_of ((w.nodes j).replicas g s)) ≡ false)) w.nodes me node
+      (keeps.newer g s t) (λ j other held. inl held) i);
+  ascends = λ g s i.
+      subst (λ (f : ℕ → Node). LogAscends ((w.nodes i).replicas g s).log → LogAscends ((f i).replicas g s).log) (sym nodes)
+      (put_each (λ j x. LogAscends ((w.nodes j).replicas g s).log → LogAscends (x.replicas g s).log) w.nodes me node
+      (keeps.ascends g s) (λ j other ascends. ascends) i);
+}
+
+-- a world whose bricks are the same
+pub parts_same : (w next : World) → next.nodes ≡ w.nodes → PartsStay w next
+parts_same w next nodes =
+    subst (λ (f : ℕ → Node). PartsStay w (record next { nodes = f })) (sym nodes) (record {
+      tops = λ g s i. stamp_below_irrefl (top_of (part_of w g s i));
+      held = λ g s i t held. held;
+      newer = λ g s i t held. inl held;
+      ascends = λ g s i ascends. ascends;
+    })
+
+-- what was sent stays sent where packets are added
+pub sent_by : (w next : World) (more : List Packet) → next.packets ≡ w.packets ++ more → (packet : Packet) → WasSent w packet → WasSent next packet
+sent_by w next more packets packet sent =
+    (sent.0, subst (λ (l : List Packet). slice_get l sent.0 ≡ Some packet) (sym packets) (get_kept w.packets more sent.0 packet sent.1))
+
+-- bricks age where the one that changes does
+pub ages_by : (w next : World) (me : ℕ) (node : Node) → next.nodes ≡ put w.nodes me node → Ages (w.nodes me) node → (i : ℕ)
+    → Ages (w.nodes i) (next.nodes i)
+ages_by w next me node nodes ages i =
+    subst (λ (f : ℕ → Node). Ages (w.nodes i) (f i)) (sym nodes)
+    (put_each (λ j x. Ages (w.nodes j) x) w.nodes me node ages
+    (λ j other. ages_within (w.nodes j) (w.nodes j) refl (omega arith) (omega arith)) i)
+
+-- what is owed for call k, where one brick changes within its boot
+pub calls_by : (setting : Setting) (w next : World) (stamps later : Stamping) (me : ℕ) (node : Node) → next.nodes ≡ put w.nodes me node
+    → node.boot ≡ (w.nodes me).boot → (k : ℕ) (c : Coordinator)
+    → (node.calls k ≡ Some c
+    → (((w.nodes me).calls k ≡ Some c) × KeepsStamps stamps later me (w.nodes me).boot k) ⊎ CallSays setting next later me k c)
+    → ((j : ℕ) → j ≢ me → KeepsStamps stamps later j (w.nodes j).boot k) → (i : ℕ) → IsCall next i k c
+    → StaysOpen w stamps later i k c (next.nodes i).boot ⊎ CallSays setting next later i k c
+calls_by setting w next stamps later me node nodes boot k c own others i =
+    subst (λ (f : ℕ → Node). (f i).calls k ≡ Some c → StaysOpen w stamps later i k c (f i).boot ⊎ CallSays setting next later i k c) (sym nodes)
+    (put_each (λ j x. x.calls k ≡ Some c → StaysOpen w stamps later j k c x.boot ⊎ CallSays setting next later j k c) w.nodes me node
+    (λ is. ⊎_elim
+    (λ (old : ((w.nodes me).calls k ≡ Some c) × KeepsStamps stamps later me (w.nodes me).boot k). inl (old.0, boot, old.1))
+    (λ (new : CallSays setting next later me k c). inr new)
+    (own is))
+    (λ j other is. inl (is, refl, others j other)) i)
+
+-- the world after a brick's step that is told of no operation
+abbrev pub quiet : World → BrickId → Node → List Packet → World
+quiet w me node more = world_stepped w me (record { node = node; packets = more; told = Nothing }) Nothing
+
+pub quiet_grows : (w : World) (stamps later : Stamping) (me : BrickId) (node : Node) (more : List Packet) → StampsGrow stamps later
+    → KeepsParts (w.nodes me.0) node → Grows w (quiet w me node more) stamps later
+quiet_grows w stamps later me node more grow keeps = record {
+  parts = parts_by w (quiet w me node more) me.0 node refl keeps;
+  sent = sent_by w (quiet w me node more) more refl;
+  operations = λ n o is. (o, is, continues_same o);
+  contents = λ g s t made. refl;
+  grow = grow;
+  numbered = λ i b k within. refl;
+  marks = omega arith;
+}
+
+-- what a quiet step owes
+pub record QuietOwes (setting : Setting) (w : World) (stamps later : Stamping) (me : BrickId) (node : Node) (more : List Packet) : Type 0 where
+  pub keeps : KeepsParts (w.nodes me.0) node
+  pub boot : node.boot ≡ (w.nodes me.0).boot
+  pub stamps_say : StampsSay (quiet w me node more) later
+  pub stamps_other : (i b k : ℕ) → i ≢ me.0 → KeepsStamps stamps later i b k
+  pub tops : (g s : ℕ) → (top_of (node.replicas g s) ≡ top_of ((w.nodes me.0).replicas g s)) ⊎ IsKnown later (top_of (node.replicas g s))
+  pub logs : (g s k : ℕ) (version : Version) → slice_get (node.replicas g s).log k ≡ Some version
+      → (slice_get ((w.nodes me.0).replicas g s).log k ≡ Some version) ⊎ VersionSays setting (quiet w me node more) g s me.0 version
+  pub calls : (k : ℕ) (c : Coordinator) → node.calls k ≡ Some c
+      → (((w.nodes me.0).calls k ≡ Some c) × KeepsStamps stamps later me.0 (w.nodes me.0).boot k)
+      ⊎ CallSays setting (quiet w me node more) later me.0 k c
+  pub packets : (k : ℕ) (packet : Packet) → slice_get more k ≡ Some packet → PacketSays setting (quiet w me node more) later packet
+
+pub said_quiet : (setting : Setting) (w : World) (stamps later : Stamping) (me : BrickId) (node : Node) (more : List Packet) → Books setting w
+    → Said setting w stamps → StampsGrow stamps later → QuietOwes setting w stamps later me node more → Said setting (quiet w me node more) later
+said_quiet setting w stamps later me node more books said grow owes =
+    let next : World = quiet w me node more in
+    said_after setting w next stamps later books said (quiet_grows w stamps later me node more grow owes.keeps) (record {
+      stamps_say = owes.stamps_say;
+      tops = λ g s i.
+          put_each (λ j x. (top_of (x.replicas g s) ≡ top_of ((w.nodes j).replicas g s)) ⊎ IsKnown later (top_of (x.replicas g s)))
+          w.nodes me.0 node (owes.tops g s) (λ j other. inl refl) i;
+      logs = λ g s i k version.
+          put_each (λ j x. slice_get (x.replicas g s).log k ≡ Some version
+          → (slice_get ((w.nodes j).replicas g s).log k ≡ Some version) ⊎ VersionSays setting (quiet w me node more) g s j version)
+          w.nodes me.0 node (owes.logs g s k version) (λ j other is. inl is) i;
+      packets = λ k packet is. ⊎_elim
+          (λ (old : slice_get w.packets k ≡ Some packet). inl old)
+          (λ (new : (j : ℕ) × (slice_get more j ≡ Some packet)). inr (owes.packets new.0 packet new.1))
+          (get_grown w.packets more k packet is);
+      operations = λ n o is. inl is;
+      calls = λ i k c.
+          calls_by setting w next stamps later me.0 node refl owes.boot k c (owes.calls k c)
+          (λ j other. owes.stamps_other j (w.nodes j).boot k other) i;
+      ends = λ k p n answer is. inl is;
+      order = said.order;
+    })
+
+-- what the stamps say where they stay, and one brick ages
+pub stamps_stay_by : (setting : Setting) (w next : World) (stamps : Stamping) (me : ℕ) (node : Node) → Said setting w stamps
+    → next.nodes ≡ put w.nodes me node
+    → Ages (w.nodes me) node → StampsSay next stamps
+stamps_stay_by setting w next stamps me node said nodes ages = stamps_stay w next stamps said.stamps_say (ages_by w next me node nodes ages)
+
+-- each member is sent its request
+pub member_sent : (me : BrickId) (call : Call) (request : ℕ → Request) (seat : ℕ) (members : List BrickId) (k : ℕ) (member : BrickId)
+    → slice_get members k ≡ Some member
+    → slice_get (to_members me call request seat members) k
+    ≡ Some (record { from = me; to = member; message = Message.Request call (request (seat + k)) })
+member_sent me call request seat [] k member at = cc
+member_sent me call request seat (other ∷ members) zero member at =
+    let same : other ≡ member = cc in
+    let place : seat ≡ seat + 0 = omega arith in
+    ap (λ (z : BrickId). Some (record { from = me; to = z; message = Message.Request call (request seat) })) same
+    ∙ ap (λ (j : ℕ). Some (record { from = me; to = member; message = Message.Request call (request j) })) place
+member_sent me call request seat (other ∷ members) (suc k) member at =
+    let place : seat + 1 + k ≡ seat + suc k = omega arith in
+    member_sent me call request (seat + 1) members k member at
+    ∙ ap (λ (j : ℕ). Some (record { from = me; to = member; message = Message.Request call (request j) })) place
+
+-- a phase that was just sent is asked of each member
+pub phase_asked : (setting : Setting) (w : World) (group : Group) (me : BrickId) (c : Coordinator) (packets : List Packet)
+    → w.packets ≡ packets ++ phase_packets setting group me c → (seat : ℕ) (member : BrickId) → slice_get group.members seat ≡ Some member
+    → WasSent w (record { from = me; to = member; message = Message.Request c.call (request_of setting.code group.m c seat) })
+phase_asked setting w group me c packets is seat member at =
+    let packet : Packet = record { from = me; to = member; message = Message.Request c.call (request_of setting.code group.m c (0 + seat)) } in
+    let sent = get_added packets (phase_packets setting group me c) seat packet
+    (member_sent me c.call (request_of setting.code group.m c) 0 group.members seat member at) in
+    let place : 0 + seat ≡ seat = omega arith in
+    subst (λ (j : ℕ). WasSent w (record { from = me; to = member; message = Message.Request c.call (request_of setting.code group.m c j) })) place
+    (sent.0, subst (λ (l : List Packet). slice_get l sent.0 ≡ Some packet) (sym is) sent.1)
+
+-- a world that sends again what was sent, and whose clocks and counted replies are other, says what was said
+pub said_added : (setting : Setting) (w : World) (stamps : Stamping) (clocks : ℕ → ℕ) (replies : ℕ → ℕ → List Counted) (packets : List Packet)
+    → Books setting w → Said setting w stamps → ((packet : Packet) → WasSent w packet → WasSent (record w { packets = packets }) packet)
+    → ((packet : Packet) → WasSent (record w { packets = packets }) packet → WasSent w packet)
+    → Said setting (record w { clocks = clocks; packets = packets; replies = replies }) stamps
+said_added setting w stamps clocks replies packets books said kept old =
+    let next : World = record w { clocks = clocks; packets = packets; replies = replies } in
+    let grows : Grows w next stamps stamps = record {
+      parts = parts_same w next refl;
+      sent = kept;
+      operations = λ n o is. (o, is, continues_same o);
+      contents = λ g s t made. refl;
+      grow = stamps_same stamps;
+      numbered = λ i b k within. refl;
+      marks = omega arith;
+    } in
+    said_after setting w next stamps stamps books said grows (record {
+      stamps_say = stamps_stay w next stamps said.stamps_say (λ i. ages_within (w.nodes i) (w.nodes i) refl (omega arith) (omega arith));
+      tops = λ g s i. inl refl;
+      logs = λ g s i k version is. inl is;
+      packets = λ k packet is.
+          let was = old packet (k, is) in
+          inr (stays_packet setting w next stamps stamps books grows packet (said.packets was.0 packet was.1));
+      operations = λ n o is. inl is;
+      calls = λ i k c is. inl (is, refl, (λ p. refl));
+      ends = λ k p n answer is. inl is;
+      order = said.order;
+    })
+
+-- other clocks, and other replies that count, change nothing of what is said
+pub said_beside : (setting : Setting) (w : World) (stamps : Stamping) (clocks : ℕ → ℕ) (replies : ℕ → ℕ → List Counted) → Books setting w
+    → Said setting w stamps → Said setting (record w { clocks = clocks; replies = replies }) stamps
+said_beside setting w stamps clocks replies books said =
+    said_added setting w stamps clocks replies w.packets books said (λ packet sent. sent) (λ packet sent. sent)
+
+-- a brick that has no operation open any more, as it stopped or was started again, changes nothing of what is said, where no operation's
+-- last position comes forward
+pub said_idle : (setting : Setting) (w : World) (stamps : Stamping) (me : ℕ) (node : Node) (up : ℕ → Bool) (past : ℕ → ℕ → ℕ) (marks : List Mark)
+    → Books setting w → Said setting w stamps → node.replicas ≡ (w.nodes me).replicas → ((k : ℕ) → node.calls k ≡ None) → Ages (w.nodes me) node
+    → length w.marks ≤ length marks → ((a : ℕ) → last_of (life_of w.marks a) ≤ last_of (life_of marks a))
+    → ((k p n : ℕ) (answer : Answer) → slice_get marks k ≡ Some (End p n answer) → slice_get w.marks k ≡ Some (End p n answer))
+    → Said setting (record w { nodes = put w.nodes me node; up = up; past = past; marks = marks }) stamps
+said_idle setting w stamps me node up past marks books said same none ages longer lasts ends =
+    let next : World = record w { nodes = put w.nodes me node; up = up; past = past; marks = marks } in
+    said_after setting w next stamps stamps books said
+    (record {
+      parts = parts_by w next me node refl (keeps_same (w.nodes me) node same);
+      sent = λ packet sent. sent;
+      operations = λ n o is. (o, is, continues_same o);
+      contents = λ g s t made. refl;
+      grow = stamps_same stamps;
+      numbered = λ i b k within. refl;
+      marks = longer;
+    })
+    (record {
+      stamps_say = stamps_stay_by setting w next stamps me node said refl ages;
+      tops = λ g s i. inl (put_each (λ j x. top_of (x.replicas g s) ≡ top_of ((w.nodes j).replicas g s)) w.nodes me node
+          (ap (λ r. top_of (r g s)) same) (λ j other. refl) i);
+      logs = λ g s i k version is. inl
+          (put_each (λ j x. slice_get (x.replicas g s).log k ≡ Some version
+          → slice_get ((w.nodes j).replicas g s).log k ≡ Some version) w.nodes me node
+          (λ has. ap (λ r. slice_get (r g s).log k) (sym same) ∙ has) (λ j other has. has) i is);
+      packets = λ k packet is. inl is;
+      operations = λ n o is. inl is;
+      calls = λ i k c.
+          put_each (λ j x. x.calls k ≡ Some c → StaysOpen w stamps stamps j k c x.boot ⊎ CallSays setting next stamps j k c) w.nodes me node
+          (λ is. absurd (let bad : Some c ≡ None = sym is ∙ none k in let never : ⊥ = cc in never))
+          (λ j other is. inl (is, refl, (λ p. refl))) i;
+      ends = λ k p n answer is. inl (ends k p n answer is);
+      order = λ a b earlier later u earlier_is later_is groups stripes version. ⊎_elim
+          (λ (floors : (group : Group) → group_of setting.layout later.ask.group.0 ≡ Some group → FloorsAtLeast later group u). inl floors)
+          (λ (before : later.begin ≤ last_of (life_of w.marks a)). inr (omega (arith, before, lasts a)))
+          (said.order a b earlier later u earlier_is later_is groups stripes version);
+    })

@@ -1,0 +1,454 @@
+-- A coordinator whose order was promised by a quorum makes its version, and sends it.
+use Rattle.std.proofs.Common.{◌≡◌, ℕ, ◌+◌, ◌*◌, ◌≤◌, ◌⊎◌, inl, inr, true, false, cond, List, [], ◌++◌, length, Option, Some, None, refl, sym, ap, ◌∙◌, subst, ⊎_elim, arith}
+use Rattle.std.specs.Prelude.{slice_get, nat_eq}
+use Rattle.std.proofs.lemmas.Bool.{cond_both, cond-true, true≢false, and_parts, eqb-true}
+use Rattle.std.proofs.lemmas.Option.{same_Some}
+use Rattle.fab_base.specs.declared.identities.BrickId.{BrickId}
+use Rattle.fab_base.specs.declared.stamps.Stamp.{Stamp}
+use Rattle.fab_base.specs.declared.asks.Ask.{Ask}
+use Rattle.fab_base.specs.declared.asks.Op.{Op}
+use Rattle.fab_base.specs.declared.asks.Op.TheVariants.{ReadStripe, WriteStripe}
+use Rattle.fab_base.specs.Stamps.{stamp_below, stamp_same}
+use Rattle.fab_base.proofs.StampOrder.{stamp_same_refl, stamp_same_true}
+use Rattle.messages.specs.declared.packets.Packet.{Packet}
+use Rattle.reg_model.specs.Marks.{life_of}
+use Rattle.reg_model.specs.Walk.{last_of}
+use Rattle.fab_base.specs.Layouts.{Group, group_of, seat_in}
+use Rattle.protocol.specs.Settings.{Setting, IsSound, are_bytes}
+use Rattle.protocol.specs.declared.phases.Phase.TheVariants.{Stores}
+use Rattle.protocol.specs.Coordinators.{Coordinator, next_phase, stored_by, request_of}
+use Rattle.protocol.specs.declared.tellings.Told.TheVariants.{Made}
+use Rattle.protocol.specs.Nodes.{Node, put, has_length, with_call, phase_packets}
+use Rattle.protocol.specs.Worlds.{World, Operation, number_of, world_stepped, with_made, with_content}
+use Rattle.protocol_laws.specs.Laws.{IsGuarded}
+use Rattle.protocol_laws.proofs.Books.{Books, OperationBooks, CallBooks, IsOperation, IsCall}
+use Rattle.protocol_laws.proofs.Said.{Begun, Stamping, Said, IsSaid, StampsSay, IsStampOf, IsBegun, IsStamped, AreBlocked, IsContent, IsMadeOrFirst, FloorsAtMost, WriteSays, PacketSays, HasVersion, WritesWhole, ReadsBack, OperationSays, CallSays}
+use Rattle.fab_base.proofs.Seats.{seat_of_member}
+use Rattle.protocol_laws.proofs.Tables.{put_each, put_same, sent_to_member}
+use Rattle.protocol_laws.proofs.Lives.{open_last}
+use Rattle.protocol_laws.proofs.Stampings.{ComesFrom, StampsGrow, Ages, ages_within, stamp_stays, stays_stamped, with_stamp, stamp_now, stamps_other, stamp_last, stamps_grow, stamps_say}
+use Rattle.protocol_laws.proofs.Steps.{KeepsStamps, ages_by, phase_asked}
+use Rattle.protocol_laws.proofs.Growth.{Grows, stays_guarded, stays_made, stay_blocked, stays_operation}
+use Rattle.protocol_laws.proofs.Operated.{operated, OperatedKeeps, operated_grows, said_operated}
+use Rattle.protocol_laws.proofs.OwnStamps.{not_made_yet}
+
+-- an open operation may happen up to one past the last mark
+pub open_until : (setting : Setting) (w : World) (i k : ℕ) (c : Coordinator) → Books setting w → IsCall w i k c
+    → length w.marks ≤ last_of (life_of w.marks (number_of w i k))
+open_until setting w i k c books is =
+    let its : CallBooks setting w i k c = books.calls i k c is in
+    let o_books : OperationBooks setting w (number_of w i k) its.operation = books.operations (number_of w i k) its.operation its.operation_is in
+    let last : last_of (life_of w.marks (number_of w i k)) ≡ length w.marks
+    = open_last w.marks (number_of w i k) o_books.life
+    (λ j mark at. let place = books.places j mark at in omega (arith, place)) o_books.life_is (its.unended o_books.life o_books.life_is) in
+    omega arith
+
+-- a recovery stores the content of the version that it read back: nothing that a quorum holds lies between that version and its stamp
+pub record Restores (setting : Setting) (w : World) (c : Coordinator) (group : Group) (base : Option Stamp) (content : List ℕ) : Type 0 where
+  pub version : Stamp
+  pub base_is : base ≡ Some version
+  pub op : c.ask.op ≡ ReadStripe
+  pub below : stamp_below version c.stamp ≡ true
+  pub made : IsMadeOrFirst w c.ask.group.0 c.ask.stripe.0 version
+  pub content_is : content ≡ w.contents c.ask.group.0 c.ask.stripe.0 version
+  pub formed : IsContent group.m setting.layout.block content
+  pub blocked : AreBlocked setting w c.ask.group.0 c.ask.stripe.0 (λ d. (stamp_below version d ≡ true) × (stamp_below d c.stamp ≡ true))
+
+-- a coordinator writes a stripe whole, on no base, or restores a version
+abbrev pub MakesVersion : Setting → World → Coordinator → Group → Option Stamp → List ℕ → Type 0
+MakesVersion setting w c group base content =
+    ((base ≡ None) × ((bytes : List ℕ) × (c.ask.op ≡ WriteStripe bytes))) ⊎ Restores setting w c group base content
+
+module _ (setting : Setting) (sound : IsSound setting) (w : World) (stamps : Stamping) (me : BrickId) (c : Coordinator) (group : Group) (known : ℕ)
+    (books : Books setting w) (said : Said setting w stamps) (is : IsCall w me.0 c.call.seq c)
+    (group_is : group_of setting.layout c.ask.group.0 ≡ Some group) (more_known : (w.nodes me.0).known ≤ known)
+    (base : Option Stamp) (content : List ℕ) where
+  abbrev its : CallBooks setting w me.0 c.call.seq c
+  its = books.calls me.0 c.call.seq c is
+
+  abbrev o : Operation
+  o = (books.calls me.0 c.call.seq c is).operation
+
+  -- its number
+  abbrev n : ℕ
+  n = number_of w me.0 c.call.seq
+
+  -- the brick's boot
+  abbrev boot : ℕ
+  boot = (w.nodes me.0).boot
+
+  -- the operation that made its version
+  abbrev made : Operation
+  made =
+      record {
+        brick = o.brick;
+        boot = o.boot;
+        seq = o.seq;
+        begin = o.begin;
+        ask = o.ask;
+        version = Some c.stamp;
+        made = true;
+        base = base;
+        answered = o.answered;
+        floor = o.floor;
+      }
+
+  -- the coordinator in its store phase
+  abbrev d : Coordinator
+  d =
+      record {
+        ask = c.ask;
+        stamp = c.stamp;
+        round = c.round;
+        base = base;
+        content = content;
+        call = next_phase c.call;
+        phase = Stores;
+        counted = [];
+      }
+
+  -- what it stores
+  abbrev stored : List ℕ
+  stored = stored_by c.ask.op content
+
+  abbrev node : Node
+  node = with_call (w.nodes me.0) known (w.nodes me.0).busy c.call.seq (Some d)
+
+  abbrev more : List Packet
+  more = phase_packets setting group me d
+
+  abbrev contents : ℕ → ℕ → Stamp → List ℕ
+  contents = with_content w.contents c.stamp (Some d)
+
+  abbrev begun : Begun
+  begun = record { stamp = c.stamp; phase = Stores }
+
+  -- the stamps after
+  abbrev later : Stamping
+  later = with_stamp stamps me.0 boot c.call.seq (c.call.phase + 1) begun
+
+  abbrev next : World
+  next = operated w me node more w.marks n made contents
+
+  -- the world that the step makes
+  next_is : world_stepped w me (record { node = node; packets = more; told = Made c.call.seq c.stamp base }) (Made c.call.seq c.stamp base) ≡ next
+  next_is =
+      ap (λ (x : Option Operation).
+      record {
+        nodes = put w.nodes me.0 node;
+        up = w.up;
+        clocks = w.clocks;
+        packets = w.packets ++ more;
+        marks = w.marks;
+        begun = w.begun;
+        operations = put w.operations n (with_made c.stamp base x);
+        numbers = w.numbers;
+        past = w.past;
+        contents = with_content w.contents c.stamp (node.calls c.call.seq);
+        replies = w.replies;
+      })
+      its.operation_is
+      ∙ ap (λ (x : Option Coordinator).
+      record {
+        nodes = put w.nodes me.0 node;
+        up = w.up;
+        clocks = w.clocks;
+        packets = w.packets ++ more;
+        marks = w.marks;
+        begun = w.begun;
+        operations = put w.operations n (Some made);
+        numbers = w.numbers;
+        past = w.past;
+        contents = with_content w.contents c.stamp x;
+        replies = w.replies;
+      })
+      (put_same (w.nodes me.0).calls c.call.seq (Some d))
+
+  says : CallSays setting w stamps me.0 c.call.seq c
+  says = said.calls me.0 c.call.seq c is
+
+  its_stamp : IsStamped stamps me.0 boot c.call.seq c.call.phase c.stamp
+  its_stamp = (c.phase, says.begun)
+
+  own : IsStamped stamps o.brick.0 o.boot o.seq c.call.phase c.stamp
+  own =
+      subst (λ (i : ℕ). IsStamped stamps i o.boot o.seq c.call.phase c.stamp) (sym its.brick)
+      (subst (λ (b : ℕ). IsStamped stamps me.0 b o.seq c.call.phase c.stamp) (sym its.boot)
+      (subst (λ (k : ℕ). IsStamped stamps me.0 boot k c.call.phase c.stamp) (sym its.seq) its_stamp))
+
+  none : (r : ℕ) → c.call.phase + 1 ≤ r → stamps me.0 boot c.call.seq r ≡ None
+  none r most = says.last r (omega arith)
+
+  from : ComesFrom stamps me.0 boot c.call.seq c.stamp
+  from = inl (c.call.phase, its_stamp)
+
+  grow : StampsGrow stamps later
+  grow = stamps_grow stamps me.0 boot c.call.seq (c.call.phase + 1) begun none from
+
+  begun_now : IsBegun later me.0 boot c.call.seq (c.call.phase + 1) Stores c.stamp
+  begun_now = stamp_now stamps me.0 boot c.call.seq (c.call.phase + 1) begun
+
+  -- the boot stays
+  boot_now : (next.nodes me.0).boot ≡ boot
+  boot_now = ap (λ (x : Node). x.boot) (put_same w.nodes me.0 node)
+
+  its_group : group_of setting.layout o.ask.group.0 ≡ Some group
+  its_group = ap (λ a. group_of setting.layout a.group.0) (sym its.ask) ∙ group_is
+
+  call_group : c.ask.group.0 ≡ c.call.group.0
+  call_group = ap (λ g. g.0) (sym its.call_group)
+
+  call_stripe : c.ask.stripe.0 ≡ c.call.stripe.0
+  call_stripe = ap (λ s. s.0) (sym its.call_stripe)
+
+  same_group : (other : Group) → group_of setting.layout c.ask.group.0 ≡ Some other → group ≡ other
+  same_group other other_is = same_Some group other (sym group_is ∙ other_is)
+
+  module _ (unmade : (o.version ≡ None) × (o.made ≡ false)) where
+    -- no version of its stamp was made
+    not_yet : (g s : ℕ) (u : Stamp) → u ≡ c.stamp → IsMadeOrFirst w g s u → ⊥
+    not_yet g s u same is_made =
+        not_made_yet setting w stamps books said n o c.call.phase c.stamp its.operation_is unmade.1 own g s
+        (subst (λ (t : Stamp). IsMadeOrFirst w g s t) same is_made)
+
+    -- the contents of versions stay
+    kept : (g s : ℕ) (u : Stamp) → IsMadeOrFirst w g s u → contents g s u ≡ w.contents g s u
+    kept =
+        put_each (λ h row. (r : ℕ) (u : Stamp) → IsMadeOrFirst w h r u → row r u ≡ w.contents h r u) w.contents c.ask.group.0
+        (put (w.contents c.ask.group.0) c.ask.stripe.0 (λ u. cond (stamp_same u c.stamp) stored (w.contents c.ask.group.0 c.ask.stripe.0 u)))
+        (put_each (λ r cell. (u : Stamp) → IsMadeOrFirst w c.ask.group.0 r u → cell u ≡ w.contents c.ask.group.0 r u)
+        (w.contents c.ask.group.0) c.ask.stripe.0
+        (λ u. cond (stamp_same u c.stamp) stored (w.contents c.ask.group.0 c.ask.stripe.0 u))
+        (λ u is_made. cond_both (stamp_same u c.stamp) stored (w.contents c.ask.group.0 c.ask.stripe.0 u)
+        (λ (z : List ℕ). z ≡ w.contents c.ask.group.0 c.ask.stripe.0 u)
+        (λ same. absurd (not_yet c.ask.group.0 c.ask.stripe.0 u (stamp_same_true u c.stamp same) is_made))
+        (λ other. refl))
+        (λ r other u is_made. refl))
+        (λ h other r u is_made. refl)
+
+    -- the content of its version
+    content_now : contents c.ask.group.0 c.ask.stripe.0 c.stamp ≡ stored
+    content_now =
+        ap (λ row. row c.ask.stripe.0 c.stamp)
+        (put_same w.contents c.ask.group.0
+        (put (w.contents c.ask.group.0) c.ask.stripe.0 (λ u. cond (stamp_same u c.stamp) stored (w.contents c.ask.group.0 c.ask.stripe.0 u))))
+        ∙ ap (λ cell. cell c.stamp)
+        (put_same (w.contents c.ask.group.0) c.ask.stripe.0 (λ u. cond (stamp_same u c.stamp) stored (w.contents c.ask.group.0 c.ask.stripe.0 u)))
+        ∙ cond-true (stamp_same c.stamp c.stamp) stored (w.contents c.ask.group.0 c.ask.stripe.0 c.stamp) (stamp_same_refl c.stamp)
+
+    keeps : OperatedKeeps w me node w.marks n o made contents
+    keeps = record {
+      replicas = refl;
+      boot = refl;
+      is = its.operation_is;
+      continues = record {
+        brick = refl;
+        boot = refl;
+        seq = refl;
+        begin = refl;
+        ask = refl;
+        floor = refl;
+        version = λ v has. let e : Some v ≡ None = sym has ∙ unmade.0 in cc;
+        made = λ v has. let e : Some v ≡ None = sym has ∙ unmade.0 in cc;
+        base = λ v has. let e : Some v ≡ None = sym has ∙ unmade.0 in cc;
+      };
+      kept = kept;
+      longer = omega arith;
+      lasts = λ a. omega arith;
+      unended = open_until setting w me.0 c.call.seq c books is;
+    }
+
+    grows : Grows w next stamps later
+    grows = operated_grows setting w stamps later me node more w.marks n o made contents keeps grow
+
+    -- the version was made
+    made_now : IsMadeOrFirst next o.ask.group.0 o.ask.stripe.0 c.stamp
+    made_now = inr (n, made, put_same w.operations n (Some made), refl, refl, refl, refl)
+
+    module _ (guarded : IsGuarded w c.ask.group.0 c.ask.stripe.0 group c.stamp) (floors : FloorsAtMost o group c.stamp)
+        (makes : MakesVersion setting w c group base content) where
+      guarded_by : (other : Group) → group_of setting.layout c.ask.group.0 ≡ Some other → IsGuarded next c.ask.group.0 c.ask.stripe.0 other c.stamp
+      guarded_by other other_is =
+          stays_guarded setting w next stamps later books grows c.ask.group.0 c.ask.stripe.0 other c.stamp
+          (subst (λ (z : Group). IsGuarded w c.ask.group.0 c.ask.stripe.0 z c.stamp) (same_group other other_is) guarded)
+
+      -- how its version was made
+      maker_of : (a : Ask) → c.ask ≡ a → MakesVersion setting w c group base content
+          → WritesWhole next (record made { ask = a }) c.stamp ⊎ ReadsBack setting next (record made { ask = a }) c.stamp
+      maker_of a same (inl whole) = inl (
+        whole.0,
+        ap (λ (z : Ask). z.op) (sym same) ∙ whole.1.1
+            ∙ ap (λ (bytes : List ℕ). WriteStripe bytes)
+            (ap (λ (op : Op). stored_by op content) (sym whole.1.1) ∙ sym content_now ∙ ap (λ (z : Ask). contents z.group.0 z.stripe.0 c.stamp) same),
+      )
+      maker_of a same (inr back) = inr (subst
+          (λ (z : Ask). ReadsBack setting next (record made { ask = z }) c.stamp) same
+          (record {
+            base = back.version;
+            base_is = back.base_is;
+            op = back.op;
+            below = back.below;
+            made = stays_made setting w next stamps later books grows c.ask.group.0 c.ask.stripe.0 back.version back.made;
+            content = content_now ∙ ap (λ (op : Op). stored_by op content) back.op ∙ back.content_is
+                ∙ sym (kept c.ask.group.0 c.ask.stripe.0 back.version back.made);
+            blocked = stay_blocked setting w next stamps later books grows c.ask.group.0 c.ask.stripe.0
+                (λ e. (stamp_below back.version e ≡ true) × (stamp_below e c.stamp ≡ true)) back.blocked;
+          }))
+
+      -- what it stores is the bytes of m blocks
+      stored_formed : MakesVersion setting w c group base content → IsContent group.m setting.layout.block stored
+      stored_formed (inl whole) =
+          let o_books : OperationBooks setting w n o = books.operations n o its.operation_is in
+          let same : o_books.group ≡ group = same_Some o_books.group group (sym o_books.group_is ∙ its_group) in
+          let writes : o.ask.op ≡ WriteStripe whole.1.0 = ap (λ a. a.op) (sym its.ask) ∙ whole.1.1 in
+          let fits : has_length group.m setting.layout.block (WriteStripe whole.1.0) ≡ true
+          = subst (λ (z : Group). has_length z.m setting.layout.block (WriteStripe whole.1.0) ≡ true) same
+          (subst (λ (op : Op). has_length o_books.group.m setting.layout.block op ≡ true) writes o_books.length_fits) in
+          let parts = and_parts (are_bytes whole.1.0) (nat_eq (length whole.1.0) (group.m * setting.layout.block)) fits in
+          subst (λ (op : Op). IsContent group.m setting.layout.block (stored_by op content)) (sym whole.1.1)
+          (eqb-true (length whole.1.0) (group.m * setting.layout.block) parts.1, parts.0)
+      stored_formed (inr back) = subst (λ (op : Op). IsContent group.m setting.layout.block (stored_by op content)) (sym back.op) back.formed
+
+      operation_says : OperationSays setting next later n made
+      operation_says =
+          let old : OperationSays setting next later n o
+          = stays_operation setting w next stamps later books grows n o its.operation_is (said.operations n o its.operation_is) in
+          record {
+            begin = old.begin;
+            floors = old.floors;
+            floors_known = old.floors_known;
+            fresh = old.fresh;
+            made = λ is_made. (c.stamp, c.call.phase, refl, stays_stamped stamps later grow o.brick.0 o.boot o.seq c.call.phase c.stamp own);
+            maker = λ v is_made has.
+                let same : c.stamp ≡ v = cc in
+                subst (λ (t : Stamp). WritesWhole next made t ⊎ ReadsBack setting next made t) same (maker_of o.ask its.ask makes);
+            content = λ v is_made has other other_is.
+                let same : c.stamp ≡ v = cc in
+                subst (λ (t : Stamp). IsContent other.m setting.layout.block (contents o.ask.group.0 o.ask.stripe.0 t)) same
+                (subst (λ (a : Ask). IsContent other.m setting.layout.block (contents a.group.0 a.stripe.0 c.stamp)) its.ask
+                (subst (λ (l : List ℕ). IsContent other.m setting.layout.block l) (sym content_now)
+                (subst (λ (z : Group). IsContent z.m setting.layout.block stored)
+                (same_group other (ap (λ a. group_of setting.layout a.group.0) its.ask ∙ other_is)) (stored_formed makes))));
+            stands = λ v has how. ⊎_elim
+                (λ (isnt : true ≡ false). absurd (true≢false isnt))
+                (λ (answered : o.answered ≡ true). absurd (true≢false (sym answered ∙ its.unanswered)))
+                how;
+            version = λ v has.
+                let same : c.stamp ≡ v = cc in
+                subst (λ (t : Stamp). HasVersion setting next made t) same (record {
+                  made = made_now;
+                  reader = λ isnt. absurd (true≢false isnt);
+                  guarded = λ other other_is.
+                      subst (λ (a : Ask). IsGuarded next a.group.0 a.stripe.0 other c.stamp) its.ask
+                      (guarded_by other (ap (λ a. group_of setting.layout a.group.0) its.ask ∙ other_is));
+                  floors = λ other other_is.
+                      subst (λ (z : Group). FloorsAtMost o z c.stamp)
+                      (same_group other (ap (λ a. group_of setting.layout a.group.0) its.ask ∙ other_is)) floors;
+                });
+            answered = λ answered bytes op. refl;
+          }
+
+      -- a write to a member
+      write_says : (k : ℕ) (member : BrickId) → slice_get group.members k ≡ Some member
+          → WriteSays setting next later me.0 member.0 d.call c.stamp (setting.code.encode group.m stored (0 + k))
+      write_says k member at =
+          let seat : seat_in group.members member.0 ≡ Some k = seat_of_member group.members k member
+          (sound.distinct c.ask.group.0 group group_is) at in
+          record {
+            operation = made;
+            called = record {
+              is = subst (λ (b : ℕ). IsOperation next (w.numbers me.0 b c.call.seq) made) (sym its.call_boot)
+                  (put_same w.operations n (Some made));
+              brick = its.brick;
+              boot = its.boot ∙ sym its.call_boot;
+              seq = its.seq;
+              group = ap (λ a. a.group.0) (sym its.ask) ∙ call_group;
+              stripe = ap (λ a. a.stripe.0) (sym its.ask) ∙ call_stripe;
+            };
+            begun = subst (λ (b : ℕ). IsBegun later me.0 b c.call.seq (c.call.phase + 1) Stores c.stamp) (sym its.call_boot) begun_now;
+            made = refl;
+            version = refl;
+            member = λ other other_is.
+                let same : group ≡ other = same_group other (ap (group_of setting.layout) call_group ∙ other_is) in
+                (k, subst (λ (z : Group). seat_in z.members member.0 ≡ Some k) same seat);
+            guarded = λ other other_is.
+                subst (λ (g : ℕ). IsGuarded next g c.call.stripe.0 other c.stamp) call_group
+                (subst (λ (s : ℕ). IsGuarded next c.ask.group.0 s other c.stamp) call_stripe
+                (guarded_by other (ap (group_of setting.layout) call_group ∙ other_is)));
+            is_block = λ other j other_is at_j.
+                let same : group ≡ other = same_group other (ap (group_of setting.layout) call_group ∙ other_is) in
+                let place : k ≡ j = same_Some k j (sym seat ∙ (ap (λ (z : Group). seat_in z.members member.0) same ∙ at_j)) in
+                let zero : 0 + k ≡ j = omega arith in
+                let told : stored ≡ contents c.call.group.0 c.call.stripe.0 c.stamp
+                = sym content_now ∙ ap (λ (g : ℕ). contents g c.ask.stripe.0 c.stamp) call_group
+                ∙ ap (λ (s : ℕ). contents c.call.group.0 s c.stamp) call_stripe in
+                ap (λ (z : Group). setting.code.encode z.m stored (0 + k)) same
+                ∙ ap (λ (z : List ℕ). setting.code.encode other.m z (0 + k)) told
+                ∙ ap (setting.code.encode other.m (contents c.call.group.0 c.call.stripe.0 c.stamp)) zero;
+          }
+
+      packets : (k : ℕ) (packet : Packet) → slice_get more k ≡ Some packet → PacketSays setting next later packet
+      unfolding request_of
+      packets k packet at =
+          let sent = sent_to_member me d.call (request_of setting.code group.m d) 0 group.members k packet at in
+          subst (λ (z : Packet). PacketSays setting next later z) (sym sent.2) (write_says k sent.0 sent.1)
+
+      d_says : CallSays setting next later me.0 c.call.seq d
+      d_says = record {
+        begun = subst (λ (b : ℕ). IsBegun later me.0 b c.call.seq (c.call.phase + 1) Stores c.stamp) (sym boot_now) begun_now;
+        last = λ p less.
+            subst (λ (b : ℕ). later me.0 b c.call.seq p ≡ None) (sym boot_now)
+            (stamp_last stamps me.0 boot c.call.seq (c.call.phase + 1) begun none from p less);
+        asked = λ other other_is seat member at.
+            phase_asked setting next other me d w.packets
+            (ap (λ (z : Group). w.packets ++ phase_packets setting z me d) (same_group other other_is)) seat member at;
+        fits = tt;
+        unbased = λ bad. cc;
+        above = λ bound bad. cc;
+        below = λ bound bad. cc;
+        covered = λ bound bad. absurd (let never : ⊥ = cc in never);
+        stores = λ stores. (subst (λ (a : Ask). IsMadeOrFirst next a.group.0 a.stripe.0 c.stamp) (sym its.ask) made_now, sym content_now);
+        counted = tt;
+        once = tt;
+      }
+
+      calls : (k : ℕ) (e : Coordinator) → node.calls k ≡ Some e
+          → (((w.nodes me.0).calls k ≡ Some e) × KeepsStamps stamps later me.0 boot k) ⊎ CallSays setting next later me.0 k e
+      calls k e =
+          put_each (λ j x. x ≡ Some e
+          → (((w.nodes me.0).calls j ≡ Some e) × KeepsStamps stamps later me.0 boot j) ⊎ CallSays setting next later me.0 j e)
+          (w.nodes me.0).calls c.call.seq (Some d)
+          (λ at. let same : d ≡ e = cc in inr (subst (λ (z : Coordinator). CallSays setting next later me.0 c.call.seq z) same d_says))
+          (λ j other at. inl (at, stamps_other stamps me.0 boot c.call.seq (c.call.phase + 1) begun me.0 boot j (λ brick same. other same))) k
+
+      -- what the stamps then say
+      say : StampsSay next later
+      say =
+          let at : IsStampOf (w.nodes me.0) me.0 boot c.stamp = said.stamps_say.are me.0 boot c.call.seq c.call.phase c.stamp its_stamp in
+          let was = said.stamps_say.begun me.0 boot c.call.seq c.call.phase c.stamp its_stamp in
+          let ages : Ages (w.nodes me.0) node = ages_within (w.nodes me.0) node refl more_known (omega arith) in
+          stamps_say stamps me.0 boot c.call.seq (c.call.phase + 1) begun none from w next said.stamps_say (ages_by w next me.0 node refl ages)
+          (subst (λ (x : Node). IsStampOf x me.0 boot c.stamp) (sym (put_same w.nodes me.0 node))
+          (stamp_stays (w.nodes me.0) node me.0 boot c.stamp ages at)) was.0
+          (λ now.
+          let most : c.call.seq ≤ (w.nodes me.0).seq = was.1 refl in
+          let seq : (next.nodes me.0).seq ≡ (w.nodes me.0).seq = ap (λ (x : Node). x.seq) (put_same w.nodes me.0 node) in
+          omega arith)
+
+      -- the invariant holds when a version was made
+      pub said_made : IsSaid setting
+          (world_stepped w me (record { node = node; packets = more; told = Made c.call.seq c.stamp base }) (Made c.call.seq c.stamp base))
+      said_made =
+          subst (λ (z : World). IsSaid setting z) (sym next_is) (
+            later,
+            said_operated setting w stamps later me node more w.marks n o made contents books said grow keeps
+                (record {
+                  stamps_say = say;
+                  stamps_other = λ i b k other.
+                      stamps_other stamps me.0 boot c.call.seq (c.call.phase + 1) begun i b k (λ brick same. other brick);
+                  operation = operation_says;
+                  calls = calls;
+                  packets = packets;
+                  ends = λ k q a answer at. inl at;
+                }),
+          )

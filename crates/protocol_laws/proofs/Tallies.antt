@@ -1,0 +1,90 @@
+-- The history of the replies that counted: what it says of each open operation, and what the marks show by it.
+use Rattle.std.proofs.Common.{◌≡◌, ℕ, ◌<◌, ◌≤◌, ◌⊎◌, true, List, [], ◌++◌, None, is_some}
+use Rattle.fab_base.specs.declared.identities.BrickId.{BrickId}
+use Rattle.fab_base.specs.declared.stamps.Stamp.{Stamp}
+use Rattle.fab_base.specs.Stamps.{stamp_below}
+use Rattle.messages.specs.declared.calls.Call.{Call}
+use Rattle.messages.specs.declared.packets.Message.TheVariants as Message
+use Rattle.messages.specs.declared.packets.Packet.{Packet}
+use Rattle.messages.specs.declared.requests.Look.TheVariants as Look
+use Rattle.messages.specs.declared.requests.Request.TheVariants as Request
+use Rattle.messages.specs.declared.requests.Want.TheVariants as Want
+use Rattle.messages.specs.declared.replies.Reply.TheVariants as Reply
+use Rattle.reg_model.specs.Marks.{life_of, IsOpen}
+use Rattle.protocol.specs.declared.phases.Counted.{Counted}
+use Rattle.protocol.specs.declared.phases.Phase.TheVariants.{Descends, Stores}
+use Rattle.protocol.specs.Coordinators.{Coordinator, greatest_refuser}
+use Rattle.protocol.specs.Worlds.{World, Operation, number_of, known_in}
+use Rattle.protocol_laws.specs.Laws.{WasSent, WriteSent, OrderSent, AskedAt, Evidence, IsCallOf, CountedWereSent, AbortsShow, FullAbortsShow}
+use Rattle.protocol_laws.proofs.Books.{Replies, IsOperation, IsCall}
+use Rattle.protocol_laws.proofs.Outcomes.{IsRound, first_round}
+use Rattle.protocol_laws.proofs.Said.{EachCounted}
+
+-- the replies of a phase are those that its coordinator has, after those that it forgot, of which none told a later stamp
+abbrev pub IsTally : List Counted → List Counted → Type 0
+IsTally replies counted = (forgotten : List Counted) × (replies ≡ forgotten ++ counted) × (greatest_refuser forgotten ≡ None)
+
+-- The open operation of number n at coordinator c: in its present phase those replies counted that c has, but for those that it forgot, and
+-- none in a later one; each round of ordering before the present one had counted a later stamp.
+pub record CallTallied (replies : Replies) (n : ℕ) (c : Coordinator) : Type 0 where
+  pub now : IsTally (replies n c.call.phase) c.counted
+  pub later : (p : ℕ) → c.call.phase < p → replies n p ≡ []
+  pub refused : IsRound c.phase → (p : ℕ) → first_round c.phase ≤ p → p < c.call.phase → is_some (greatest_refuser (replies n p)) ≡ true
+
+-- a reply that counted in a phase of operation n was sent to it
+abbrev pub CountedSent : World → ℕ → ℕ → Counted → Type 0
+CountedSent w n phase x =
+    (o : Operation) × IsOperation w n o
+    × ((call : Call) × IsCallOf call o × (call.phase ≡ phase)
+    × WasSent w (record { from = x.brick; to = o.brick; message = Message.Reply call x.reply }))
+
+-- the abort of operation n shows its evidence
+abbrev pub AbortShown : World → ℕ → BrickId → Stamp → Type 0
+AbortShown w n brick x = (o : Operation) × IsOperation w n o × Evidence w n o brick x
+
+-- the abort of operation n for a full store shows that its brick told so
+abbrev pub FullAbortShown : World → ℕ → BrickId → ℕ → Type 0
+FullAbortShown w n brick live =
+    (o : Operation) × IsOperation w n o
+    × ((call : Call) × IsCallOf call o × WasSent w (record { from = brick; to = o.brick; message = Message.Reply call (Reply.Full live) }))
+
+-- the history of a world
+pub record Tallied (w : World) : Type 0 where
+  pub calls : (i k : ℕ) (c : Coordinator) → IsCall w i k c → CallTallied w.replies (number_of w i k) c
+  pub unbegun : (n p : ℕ) → w.begun < n → w.replies n p ≡ []
+  pub counted : CountedWereSent w
+  pub aborts : AbortsShow w
+  pub full_aborts : FullAbortsShow w
+
+-- an order of stamp t that looks below a bound was sent
+abbrev pub DescentSent : World → Call → BrickId → BrickId → Stamp → Stamp → Type 0
+DescentSent w call from to t bound =
+    WasSent w (record { from = from; to = to; message = Message.Request call (Request.OrderRead t (Look.Below bound) Want.All) })
+
+-- What the messages of a world show: a later stamp answers what was asked at a lower one; what looks below a bound has it at its stamp, as an
+-- order, or below; no phase of a call both orders and writes, or looks further down; a store phase only writes, and a phase that looks further
+-- down does only that; and the replies that a coordinator has were sent to it.
+pub record MessagesShow (w : World) : Type 0 where
+  pub later : (call : Call) (from to : BrickId) (x : Stamp)
+      → WasSent w (record { from = from; to = to; message = Message.Reply call (Reply.Later x) })
+      → (t : Stamp) × AskedAt w call to from t × (stamp_below t x ≡ true)
+  pub order_or_write : (call : Call) (from to other : BrickId) (t u : Stamp) (block : List ℕ) → WriteSent w call from to t block
+      → OrderSent w call from other u → ⊥
+  pub bounds : (call : Call) (from to : BrickId) (t bound : Stamp) → DescentSent w call from to t bound → (bound ≡ t) ⊎ (stamp_below bound t ≡ true)
+  pub order_or_descent : (call : Call) (from to other : BrickId) (t u bound : Stamp) → stamp_below bound t ≡ true → DescentSent w call from to t bound
+      → OrderSent w call from other u → ⊥
+  pub stores_asked : (i k : ℕ) (c : Coordinator) (to : BrickId) (t : Stamp) → IsCall w i k c → c.phase ≡ Stores
+      → AskedAt w c.call (record { 0 = i }) to t → (block : List ℕ) × WriteSent w c.call (record { 0 = i }) to t block
+  pub descends_asked : (i k : ℕ) (c : Coordinator) (to : BrickId) (bound t : Stamp) → IsCall w i k c → c.phase ≡ Descends bound
+      → AskedAt w c.call (record { 0 = i }) to t → (stamp_below bound t ≡ true) × DescentSent w c.call (record { 0 = i }) to t bound
+  pub counted : (i k : ℕ) (c : Coordinator) → IsCall w i k c
+      → EachCounted (λ x. WasSent w (record { from = x.brick; to = record { 0 = i }; message = Message.Reply c.call x.reply })) c.counted
+
+-- From one world to the next: what was sent stays sent, no brick's time falls within a boot, operations stay who they are, and replies count only in
+-- operations that are open.
+pub record Furthers (w next : World) : Type 0 where
+  pub sent : (packet : Packet) → WasSent w packet → WasSent next packet
+  pub known : (i b : ℕ) → b ≤ (w.nodes i).boot → known_in w i b ≤ known_in next i b
+  pub operations : (n : ℕ) (o : Operation) → IsOperation w n o
+      → (p : Operation) × IsOperation next n p × (p.brick ≡ o.brick) × (p.boot ≡ o.boot) × (p.seq ≡ o.seq)
+  pub replies : (n : ℕ) → ((p : ℕ) → next.replies n p ≡ w.replies n p) ⊎ IsOpen (life_of w.marks n)

@@ -1,0 +1,506 @@
+-- A reply counts in an open operation: the history of replies in the world that follows.
+use Rattle.std.proofs.Common.{◌≡◌, ◌≢◌, ℕ, ◌+◌, ◌-◌, ◌<◌, ◌≤◌, ◌⊎◌, inl, inr, ⊎_elim, Bool, true, false, List, [], ◌∷◌, ◌++◌, length, Option, Some, None, is_some, refl, sym, ap, ◌∙◌, subst, append_assoc, arith}
+use Rattle.std.specs.Prelude.{slice_get, if◌then◌else◌, nat_lt, nat_eq, max}
+use Rattle.std.proofs.lemmas.Bool.{cond_both, cases_eq, eq-eqb}
+use Rattle.std.proofs.lemmas.List.{append-nil}
+use Rattle.std.proofs.lemmas.Option.{same_Some}
+use Rattle.fab_base.specs.declared.identities.BrickId.{BrickId}
+use Rattle.fab_base.specs.declared.stamps.Stamp.{Stamp}
+use Rattle.fab_base.specs.Stamps.{stamp_below}
+use Rattle.fab_base.specs.declared.answers.Answer.{Answer}
+use Rattle.fab_base.specs.declared.answers.Answer.TheVariants.{Aborted}
+use Rattle.fab_base.specs.declared.answers.Cause.TheVariants as Cause
+use Rattle.messages.specs.declared.calls.Call.{Call}
+use Rattle.messages.specs.declared.packets.Message.TheVariants as Message
+use Rattle.messages.specs.declared.packets.Packet.{Packet}
+use Rattle.messages.specs.declared.replies.Reply.{Reply}
+use Rattle.reg_model.specs.declared.marks.Mark.TheVariants.{End}
+use Rattle.reg_model.specs.Marks.{Life, life_of, IsOpen}
+use Rattle.fab_base.specs.Layouts.{Group}
+use Rattle.protocol.specs.Settings.{Setting}
+use Rattle.protocol.specs.declared.phases.Phase.{Phase}
+use Rattle.protocol.specs.declared.phases.Phase.TheVariants.{Looks, Orders, Recovers, Descends, Stores}
+use Rattle.protocol.specs.declared.phases.Counted.{Counted}
+use Rattle.protocol.specs.declared.phases.Refuser.{Refuser}
+use Rattle.protocol.specs.declared.phases.FullMember.{FullMember}
+use Rattle.protocol.specs.Coordinators.{Coordinator, Next, Ignores, Waits, Sends, Makes, Ends, refuser_of, greater_refuser, greatest_refuser, with_reply}
+use Rattle.protocol.specs.Nodes.{Node, put, has_later_time, new_stamp, fresh_stamp, with_call, phase_packets, collect_packets, carried_out}
+use Rattle.protocol.specs.Worlds.{World, Operation, number_of, known_in, with_made, with_answer, with_counted, world_stepped}
+use Rattle.protocol_laws.specs.Laws.{WasSent, WriteSent, OrderSent, AskedAt, IsLastRound}
+use Rattle.protocol_laws.proofs.Books.{Replies, Books, OperationBooks, CallBooks, IsOperation, IsCall, InRound}
+use Rattle.protocol_laws.proofs.BooksKept.{KeepsNumbers, calls_apart}
+use Rattle.protocol_laws.proofs.BooksEvents.{keeps_put, brick_of}
+use Rattle.protocol_laws.proofs.Outcomes.{IsRound, first_round, ReordersFits, RecoversFits, SendsFits, NoRoundFits, LastFits, AbortFits, FullFits, AnswerFits, NextFits}
+use Rattle.protocol_laws.proofs.Said.{EachCounted}
+use Rattle.protocol_laws.proofs.Counting.{each_more, refuser_counted, full_counted}
+use Rattle.protocol_laws.proofs.Puts.{put_other}
+use Rattle.protocol_laws.proofs.Tables.{put_each, put_same, get_grown, get_one}
+use Rattle.protocol_laws.proofs.Steps.{sent_by}
+use Rattle.protocol_laws.proofs.Tallies.{IsTally, CallTallied, CountedSent, AbortShown, FullAbortShown, Tallied, MessagesShow, Furthers}
+use Rattle.protocol_laws.proofs.TalliesKept.{call_tallied_on, known_kept, counted_on, descent_on, write_on, asked_on, tallied_on}
+
+-- where there is no fresh stamp no later time is left
+none_left : (me : BrickId) (now boot known : ℕ) → fresh_stamp me now boot known ≡ None → has_later_time known ≡ false
+none_left me now boot known is =
+    cond_both (has_later_time known) (Some (new_stamp me now boot known)) None
+    (λ (z : Option Stamp). z ≡ None → has_later_time known ≡ false)
+    (λ some e. absurd (let never : Some (new_stamp me now boot known) ≡ None = e in cc))
+    (λ none e. none)
+    is
+
+-- of two choices neither is one
+none_parts : (a b : Option Refuser) → greater_refuser a b ≡ None → (a ≡ None) × (b ≡ None)
+none_parts None b is = (refl, is)
+none_parts (Some a) None is = absurd (let never : Some a ≡ None = is in cc)
+none_parts (Some a) (Some b) is =
+    cond_both (stamp_below a.stamp b.stamp) (Some b)
+    (if stamp_below b.stamp a.stamp then Some a else (if nat_lt b.seat a.seat then Some b else Some a))
+    (λ (z : Option Refuser). z ≡ None → (Some a ≡ None) × (Some b ≡ None))
+    (λ under e. absurd (let never : Some b ≡ None = e in cc))
+    (λ over. cond_both (stamp_below b.stamp a.stamp) (Some a) (if nat_lt b.seat a.seat then Some b else Some a)
+    (λ (z : Option Refuser). z ≡ None → (Some a ≡ None) × (Some b ≡ None))
+    (λ under e. absurd (let never : Some a ≡ None = e in cc))
+    (λ same. cond_both (nat_lt b.seat a.seat) (Some b) (Some a) (λ (z : Option Refuser). z ≡ None → (Some a ≡ None) × (Some b ≡ None))
+    (λ low e. absurd (let never : Some b ≡ None = e in cc))
+    (λ high e. absurd (let never : Some a ≡ None = e in cc))))
+    is
+
+-- replies of which none told a later stamp do not change which one told the greatest
+refuser_after : (forgotten counted : List Counted) → greatest_refuser forgotten ≡ None
+    → greatest_refuser (forgotten ++ counted) ≡ greatest_refuser counted
+refuser_after [] counted none = refl
+refuser_after (x ∷ forgotten) counted none =
+    let parts = none_parts (refuser_of x) (greatest_refuser forgotten) none in
+    ap (λ (r : Option Refuser). greater_refuser r (greatest_refuser (forgotten ++ counted))) parts.0 ∙ refuser_after forgotten counted parts.1
+
+-- a phase's number, by the rounds before it
+round_of : (c : Coordinator) (p : Phase) → IsRound p → InRound c p → (c.call.phase + 1 ≡ c.round + first_round p) × (1 ≤ first_round p)
+round_of c Looks is within = absurd is
+round_of c Orders is within = (ap (λ (x : ℕ). x + 1) within, omega arith)
+round_of c Recovers is within = (omega (arith, within), omega arith)
+round_of c (Descends bound) is within = absurd is
+round_of c Stores is within = absurd is
+
+-- brick me took a reply to the open operation at coordinator c, which counts at this seat
+module _ (setting : Setting) (group : Group) (w : World) (me : BrickId) (now known : ℕ) (c : Coordinator) (from : BrickId) (reply : Reply) (seat : ℕ)
+    (books : Books setting w) (tallied : Tallied w) (shows : MessagesShow w) (is : IsCall w me.0 c.call.seq c)
+    (sent : WasSent w (record { from = from; to = me; message = Message.Reply c.call reply })) (grows : (w.nodes me.0).known ≤ known) where
+  abbrev i : ℕ
+  i = me.0
+
+  abbrev k : ℕ
+  k = c.call.seq
+
+  abbrev n : ℕ
+  n = number_of w me.0 c.call.seq
+
+  abbrev node : Node
+  node = w.nodes me.0
+
+  abbrev one : Counted
+  one = record { seat = seat; brick = from; reply = reply }
+
+  abbrev replies : Replies
+  replies = with_counted w.replies (number_of w me.0 c.call.seq) c.call.phase (record { seat = seat; brick = from; reply = reply })
+
+  abbrev fresh : Option Stamp
+  fresh = fresh_stamp me now (w.nodes me.0).boot known
+
+  abbrev mine : CallBooks setting w me.0 c.call.seq c
+  mine = books.calls me.0 c.call.seq c is
+
+  abbrev o : Operation
+  o = (books.calls me.0 c.call.seq c is).operation
+
+  own : OperationBooks setting w n o
+  own = books.operations n o (books.calls i k c is).operation_is
+
+  its : CallTallied w.replies n c
+  its = tallied.calls i k c is
+
+  -- the operation is open
+  open_now : IsOpen (life_of w.marks n)
+  open_now = subst (λ (l : Option Life). IsOpen l) (sym own.life_is) (mine.unended own.life own.life_is)
+
+  me_is : me ≡ o.brick
+  me_is = brick_of me o.brick (sym mine.brick)
+
+  -- another operation's replies stay
+  other_replies : (m : ℕ) → m ≢ n → (p : ℕ) → replies m p ≡ w.replies m p
+  other_replies m other p =
+      ap (λ (f : ℕ → List Counted). f p) (put_other w.replies n (put (w.replies n) c.call.phase (w.replies n c.call.phase ++ (one ∷ []))) m other)
+
+  own_replies : (p : ℕ) → replies n p ≡ put (w.replies n) c.call.phase (w.replies n c.call.phase ++ (one ∷ [])) p
+  own_replies p =
+      ap (λ (f : ℕ → List Counted). f p) (put_same w.replies n (put (w.replies n) c.call.phase (w.replies n c.call.phase ++ (one ∷ []))))
+
+  -- in another phase they stay
+  replies_else : (p : ℕ) → p ≢ c.call.phase → replies n p ≡ w.replies n p
+  replies_else p other = own_replies p ∙ put_other (w.replies n) c.call.phase (w.replies n c.call.phase ++ (one ∷ [])) p other
+
+  replies_later : (p : ℕ) → c.call.phase < p → replies n p ≡ []
+  replies_later p above = replies_else p (λ same. omega arith) ∙ its.later p above
+
+  -- in the present phase it is one more
+  replies_now : IsTally (replies n c.call.phase) (c.counted ++ (one ∷ []))
+  replies_now = (
+    its.now.0,
+    own_replies c.call.phase ∙ put_same (w.replies n) c.call.phase (w.replies n c.call.phase ++ (one ∷ []))
+        ∙ ap (λ (l : List Counted). l ++ (one ∷ [])) its.now.1 ∙ append_assoc its.now.0 c.counted (one ∷ []),
+    its.now.2,
+  )
+
+  -- which of them told the greatest later stamp is as of those that the coordinator has
+  refuser_now : greatest_refuser (replies n c.call.phase) ≡ greatest_refuser (c.counted ++ (one ∷ []))
+  refuser_now =
+      ap (λ (l : List Counted). greatest_refuser l) replies_now.1 ∙ refuser_after replies_now.0 (c.counted ++ (one ∷ [])) replies_now.2
+
+  -- the replies once the coordinator waits on
+  tally_waits : (counted : List Counted) → (counted ≡ c.counted ++ (one ∷ []))
+      ⊎ ((counted ≡ []) × (greatest_refuser (c.counted ++ (one ∷ [])) ≡ None))
+      → IsTally (replies n c.call.phase) counted
+  tally_waits counted (inl same) = subst (λ (l : List Counted). IsTally (replies n c.call.phase) l) (sym same) replies_now
+  tally_waits counted (inr (none, unrefused)) = (
+    replies n c.call.phase,
+    sym (ap (λ (l : List Counted). replies n c.call.phase ++ l) none ∙ append-nil (replies n c.call.phase)),
+    refuser_now ∙ unrefused,
+  )
+
+  -- the replies once it is in another phase
+  tally_begins : (p : ℕ) (counted : List Counted) → counted ≡ [] → c.call.phase < p → IsTally (replies n p) counted
+  tally_begins p counted none above = ([], replies_later p above ∙ sym none, refl)
+
+  -- a round of ordering before the present one had counted a later stamp
+  refused_before : IsRound c.phase → (p : ℕ) → first_round c.phase ≤ p → p < c.call.phase → is_some (greatest_refuser (replies n p)) ≡ true
+  refused_before round p low high =
+      ap (λ (l : List Counted). is_some (greatest_refuser l)) (replies_else p (λ same. omega arith)) ∙ its.refused round p low high
+
+  -- a round that was refused is the last of those before the next
+  refused_again : IsRound c.phase → is_some (greatest_refuser (c.counted ++ (one ∷ []))) ≡ true
+      → (p : ℕ) → first_round c.phase ≤ p → p < c.call.phase + 1 → is_some (greatest_refuser (replies n p)) ≡ true
+  refused_again round refused p low high = ⊎_elim
+      (λ (last : p ≡ c.call.phase).
+      ap (λ (q : ℕ). is_some (greatest_refuser (replies n q))) last ∙ ap (λ (r : Option Refuser). is_some r) refuser_now ∙ refused)
+      (λ (before : p ≢ c.call.phase). refused_before round p low (omega arith))
+      (cases_eq p c.call.phase)
+
+  -- what is sent next was refused before, in each round of ordering
+  refused_sends : (d : Coordinator) → SendsFits fresh (with_reply c seat from reply) d → d.call.phase ≡ c.call.phase + 1
+      → IsRound d.phase → (p : ℕ) → first_round d.phase ≤ p → p < d.call.phase → is_some (greatest_refuser (replies n p)) ≡ true
+  refused_sends d fits phase round p low high = by fits.how
+    where
+      recovers : ((c.phase ≡ Looks) × (d.phase ≡ Recovers)) ⊎ ((bound : Stamp) × (d.phase ≡ Descends bound))
+          → is_some (greatest_refuser (replies n p)) ≡ true
+      recovers (inl (was, is)) =
+          let first : (c.call.phase ≡ 1) × (c.round ≡ 1) = subst (λ (x : Phase). InRound c x) was mine.in_round in
+          let two : first_round d.phase ≡ 2 = ap (λ (x : Phase). first_round x) is in
+          absurd (omega (arith, first.0))
+      recovers (inr (bound, is)) = absurd (subst (λ (x : Phase). IsRound x) is round)
+
+      by : ReordersFits fresh (with_reply c seat from reply) d ⊎ RecoversFits (with_reply c seat from reply) d
+          → is_some (greatest_refuser (replies n p)) ≡ true
+      by (inl again) =
+          let same : first_round d.phase ≡ first_round c.phase = ap (λ (x : Phase). first_round x) again.phase in
+          refused_again again.was again.refused p (omega arith) (omega arith)
+      by (inr goes) = recovers goes.phase
+
+  -- the reply was sent to the operation
+  own_sent : CountedSent w n c.call.phase one
+  own_sent = (
+    o,
+    mine.operation_is,
+    (
+      c.call,
+      (mine.call_boot ∙ sym mine.boot, sym mine.seq),
+      refl,
+      subst (λ (b : BrickId). WasSent w (record { from = from; to = b; message = Message.Reply c.call reply })) me_is sent,
+    ),
+  )
+
+  -- each reply of the history is an old one, or was sent
+  counted_new : (m p a : ℕ) (x : Counted) → slice_get (replies m p) a ≡ Some x → (slice_get (w.replies m p) a ≡ Some x) ⊎ CountedSent w m p x
+  counted_new m p a x =
+      put_each (λ b f. slice_get (f p) a ≡ Some x → (slice_get (w.replies b p) a ≡ Some x) ⊎ CountedSent w b p x) w.replies n
+      (put (w.replies n) c.call.phase (w.replies n c.call.phase ++ (one ∷ [])))
+      (put_each (λ q l. slice_get l a ≡ Some x → (slice_get (w.replies n q) a ≡ Some x) ⊎ CountedSent w n q x) (w.replies n) c.call.phase
+      (w.replies n c.call.phase ++ (one ∷ []))
+      (λ at. ⊎_elim
+      (λ (old : slice_get (w.replies n c.call.phase) a ≡ Some x). inl old)
+      (λ (new : (j : ℕ) × (slice_get (one ∷ []) j ≡ Some x)).
+      inr (subst (λ (z : Counted). CountedSent w n c.call.phase z) (get_one one x new.0 new.1) own_sent))
+      (get_grown (w.replies n c.call.phase) (one ∷ []) a x at))
+      (λ q other at. inl at) p)
+      (λ b other at. inl at) m
+
+  counted_next : (next : World) → Furthers w next → (m p a : ℕ) (x : Counted) → slice_get (replies m p) a ≡ Some x
+      → (slice_get (w.replies m p) a ≡ Some x) ⊎ CountedSent next m p x
+  counted_next next on m p a x at = ⊎_elim
+      (λ (old : slice_get (w.replies m p) a ≡ Some x). inl old)
+      (λ (new : CountedSent w m p x). inr (counted_on w next on m p x new))
+      (counted_new m p a x at)
+
+  unbegun : (m p : ℕ) → w.begun < m → replies m p ≡ []
+  unbegun m p above = other_replies m (λ same. omega (arith, own.begun)) p ∙ tallied.unbegun m p above
+
+  -- the open operations, where this one is at d
+  call_at : (time busy : ℕ) (d : Option Coordinator) (j l : ℕ) (e : Coordinator) → (put w.nodes i (with_call node time busy k d) j).calls l ≡ Some e
+      → ((j ≡ i) × (l ≡ k) × (d ≡ Some e)) ⊎ (IsCall w j l e × (j ≡ i → l ≡ k → ⊥))
+  call_at time busy d j l e =
+      put_each (λ a y. y.calls l ≡ Some e → ((a ≡ i) × (l ≡ k) × (d ≡ Some e)) ⊎ (IsCall w a l e × (a ≡ i → l ≡ k → ⊥))) w.nodes i
+      (with_call node time busy k d)
+      (put_each (λ b z. z ≡ Some e → ((i ≡ i) × (b ≡ k) × (d ≡ Some e)) ⊎ (IsCall w i b e × (i ≡ i → b ≡ k → ⊥))) node.calls k d
+      (λ at. inl (refl, refl, at)) (λ b other at. inr (at, λ same seq. other seq)) l)
+      (λ a other at. inr (at, λ same seq. other same)) j
+
+  -- bricks keep their numbers
+  keeps : (time busy : ℕ) (d : Option Coordinator) → node.known ≤ time → (j : ℕ)
+      → KeepsNumbers (w.nodes j) (put w.nodes i (with_call node time busy k d) j)
+  keeps time busy d later = keeps_put w i (with_call node time busy k d) (record { boot = refl; seq = refl; known = later })
+
+  -- the number of a call, once this one is at d
+  abbrev number_next : ℕ → ℕ → Option Coordinator → ℕ → ℕ → ℕ
+  number_next time busy d j l = w.numbers j (put w.nodes i (with_call node time busy k d) j).boot l
+
+  -- the history of each open operation, where this one is at d, or has ended
+  calls_next : (time busy : ℕ) (d : Option Coordinator) → node.known ≤ time → ((e : Coordinator) → d ≡ Some e → CallTallied replies n e)
+      → (j l : ℕ) (e : Coordinator) → (put w.nodes i (with_call node time busy k d) j).calls l ≡ Some e
+      → CallTallied replies (number_next time busy d j l) e
+  calls_next time busy d later new j l e at =
+      subst (λ (b : ℕ). CallTallied replies (w.numbers j b l) e) (sym (keeps time busy d later j).boot)
+      (⊎_elim
+      (λ (own : (j ≡ i) × (l ≡ k) × (d ≡ Some e)).
+      subst (λ (a : ℕ). CallTallied replies (number_of w a l) e) (sym own.0) (subst (λ (b : ℕ). CallTallied replies (number_of w i b) e) (sym own.1)
+      (new e own.2)))
+      (λ (other : IsCall w j l e × (j ≡ i → l ≡ k → ⊥)).
+      let apart : number_of w j l ≢ n = λ same.
+      (let both : (j ≡ i) × (l ≡ k) = calls_apart setting w i k j l c e mine (books.calls j l e other.0) same in other.1 both.0 both.1) in
+      call_tallied_on w.replies replies (number_of w j l) (number_of w j l) e refl (other_replies (number_of w j l) apart)
+      (tallied.calls j l e other.0))
+      (call_at time busy d j l e at))
+
+  calls_by : (time busy : ℕ) (d : Coordinator) → node.known ≤ time → CallTallied replies n d
+      → (j l : ℕ) (e : Coordinator) → (put w.nodes i (with_call node time busy k (Some d)) j).calls l ≡ Some e
+      → CallTallied replies (number_next time busy (Some d) j l) e
+  calls_by time busy d later new =
+      calls_next time busy (Some d) later (λ e at. subst (λ (z : Coordinator). CallTallied replies n z) (same_Some d e at) new)
+
+  -- the next world goes on from this one
+  furthers : (next : World) (time busy : ℕ) (d : Option Coordinator) (more : List Packet) → next.nodes ≡ put w.nodes i (with_call node time busy k d)
+      → node.known ≤ time → next.packets ≡ w.packets ++ more → next.replies ≡ replies → ((j b : ℕ) → next.past j b ≡ w.past j b)
+      → ((m : ℕ) (e : Operation) → IsOperation w m e
+      → (p : Operation) × IsOperation next m p × (p.brick ≡ e.brick) × (p.boot ≡ e.boot) × (p.seq ≡ e.seq))
+      → Furthers w next
+  furthers next time busy d more nodes later packets same past operations =
+      let kept : (j : ℕ) → KeepsNumbers (w.nodes j) (next.nodes j) = λ j.
+      subst (λ (f : ℕ → Node). KeepsNumbers (w.nodes j) (f j)) (sym nodes) (keeps time busy d later j) in
+      record {
+        sent = sent_by w next more packets;
+        known = known_kept w next past (λ j. (kept j).boot) (λ j. (kept j).known);
+        operations = operations;
+        replies = λ m. ⊎_elim
+            (λ (at : m ≡ n). inr (subst (λ (x : ℕ). IsOpen (life_of w.marks x)) (sym at) open_now))
+            (λ (other : m ≢ n). inl (λ p. ap (λ (f : Replies). f m p) same ∙ other_replies m other p))
+            (cases_eq m n);
+      }
+
+  -- the world after what the coordinator decides
+  abbrev after : Next → World
+  after next =
+      world_stepped (record w {
+        replies = with_counted w.replies (number_of w me.0 c.call.seq) c.call.phase
+            (record { seat = seat; brick = from; reply = reply });
+      }) me
+      (carried_out setting group me (w.nodes me.0) known c next) (carried_out setting group me (w.nodes me.0) known c next).told
+
+  same_operations : (m : ℕ) (e : Operation) → IsOperation w m e → (p : Operation) × IsOperation w m p × (p.brick ≡ e.brick) × (p.boot ≡ e.boot)
+      × (p.seq ≡ e.seq)
+  same_operations m e at = (e, at, refl, refl, refl)
+
+  made_operations : (t : Stamp) (base : Option Stamp) (m : ℕ) (e : Operation) → IsOperation w m e
+      → (p : Operation) × (put w.operations n (with_made t base (w.operations n)) m ≡ Some p) × (p.brick ≡ e.brick) × (p.boot ≡ e.boot)
+      × (p.seq ≡ e.seq)
+  made_operations t base m e =
+      put_each (λ a y. IsOperation w a e → (p : Operation) × (y ≡ Some p) × (p.brick ≡ e.brick) × (p.boot ≡ e.boot) × (p.seq ≡ e.seq)) w.operations n
+      (with_made t base (w.operations n)) (λ at. (_, ap (λ (z : Option Operation). with_made t base z) at, refl, refl, refl))
+      (λ a other at. (e, at, refl, refl, refl)) m
+
+  answered_operations : (answer : Answer) (seen : Option Stamp) (m : ℕ) (e : Operation) → IsOperation w m e
+      → (p : Operation) × (put w.operations n (with_answer answer seen (w.operations n)) m ≡ Some p) × (p.brick ≡ e.brick) × (p.boot ≡ e.boot)
+      × (p.seq ≡ e.seq)
+  answered_operations answer seen m e =
+      put_each (λ a y. IsOperation w a e → (p : Operation) × (y ≡ Some p) × (p.brick ≡ e.brick) × (p.boot ≡ e.boot) × (p.seq ≡ e.seq)) w.operations n
+      (with_answer answer seen (w.operations n)) (λ at. (_, ap (λ (z : Option Operation). with_answer answer seen z) at, refl, refl, refl))
+      (λ a other at. (e, at, refl, refl, refl)) m
+
+  -- each reply that counts was sent
+  each_sent : EachCounted (λ y. WasSent w (record { from = y.brick; to = me; message = Message.Reply c.call y.reply })) (c.counted ++ (one ∷ []))
+  each_sent =
+      each_more (λ y. WasSent w (record { from = y.brick; to = me; message = Message.Reply c.call y.reply })) c.counted one
+      (shows.counted i k c is) sent
+
+  -- the brick whose full store aborts the operation told so
+  full_shown : (answer : Answer) (seen stored : Option Stamp) (brick : BrickId) (live : ℕ) → FullFits (with_reply c seat from reply) brick live
+      → Furthers w (after (Ends answer seen stored)) → FullAbortShown (after (Ends answer seen stored)) n brick live
+  full_shown answer seen stored brick live fits on =
+      let P : Counted → Type 0 = λ y. WasSent w (record { from = y.brick; to = me; message = Message.Reply c.call y.reply }) in
+      let f : FullMember = record { seat = fits.seat; brick = brick; live = live } in
+      let found = full_counted P (c.counted ++ (one ∷ [])) f each_sent fits.told in
+      let told : WasSent w (record { from = brick; to = me; message = Message.Reply c.call (Reply.Full live) })
+      = subst (λ (b : BrickId). WasSent w (record { from = b; to = me; message = Message.Reply c.call (Reply.Full live) })) found.3
+      (subst (λ (y : Reply). WasSent w (record { from = found.0.brick; to = me; message = Message.Reply c.call y })) found.2 found.1) in
+      let goes = on.operations n o mine.operation_is in (
+        goes.0,
+        goes.1,
+        (
+          c.call,
+          (mine.call_boot ∙ sym mine.boot ∙ sym goes.3, sym mine.seq ∙ sym goes.4),
+          subst (λ (b : BrickId).
+              WasSent (after (Ends answer seen stored)) (record { from = brick; to = b; message = Message.Reply c.call (Reply.Full live) }))
+              (me_is ∙ sym goes.2)
+              (on.sent (record { from = brick; to = me; message = Message.Reply c.call (Reply.Full live) }) told),
+        ),
+      )
+
+  -- the evidence of an abort
+  abort_shown : (answer : Answer) (seen stored : Option Stamp) (brick : BrickId) (x : Stamp) → AbortFits fresh (with_reply c seat from reply) brick x
+      → MessagesShow (after (Ends answer seen stored)) → Furthers w (after (Ends answer seen stored))
+      → AbortShown (after (Ends answer seen stored)) n brick x
+  abort_shown answer seen stored brick x fits later on =
+      let P : Counted → Type 0 = λ y. WasSent w (record { from = y.brick; to = me; message = Message.Reply c.call y.reply }) in
+      let r : Refuser = record { seat = fits.seat; brick = brick; stamp = x } in
+      let found = refuser_counted P (c.counted ++ (one ∷ [])) r each_sent fits.refused in
+      let told : WasSent w (record { from = brick; to = me; message = Message.Reply c.call (Reply.Later x) })
+      = subst (λ (b : BrickId). WasSent w (record { from = b; to = me; message = Message.Reply c.call (Reply.Later x) })) found.3
+      (subst (λ (y : Reply). WasSent w (record { from = found.0.brick; to = me; message = Message.Reply c.call y })) found.2 found.1) in
+      let low = shows.later c.call brick me x told in
+      let goes = on.operations n o mine.operation_is in
+      let by : me ≡ goes.0.brick = me_is ∙ sym goes.2 in
+      let boot : goes.0.boot ≡ node.boot = goes.3 ∙ mine.boot in (
+        goes.0,
+        goes.1,
+        record {
+          call = c.call;
+          stamp = low.0;
+          seat = fits.seat;
+          own = (mine.call_boot ∙ sym boot, sym mine.seq ∙ sym goes.4);
+          asked = subst (λ (b : BrickId). AskedAt (after (Ends answer seen stored)) c.call b brick low.0) by
+              (asked_on w (after (Ends answer seen stored)) on c.call me brick low.0 low.1);
+          told = subst (λ (b : BrickId). WasSent (after (Ends answer seen stored))
+              (record { from = brick; to = b; message = Message.Reply c.call (Reply.Later x) })) by
+              (on.sent (record { from = brick; to = me; message = Message.Reply c.call (Reply.Later x) }) told);
+          above = low.2;
+          greatest = refuser_now ∙ fits.refused;
+          last = λ order. last_by goes.0 by boot low.0 low.1 c.phase refl fits.last order;
+        },
+      )
+    where
+      -- the time that the brick knows in its present boot
+      known_now : known_in (after (Ends answer seen stored)) i node.boot ≡ known
+      known_now =
+          ap (λ (y : Node). if nat_eq node.boot y.boot then y.known else w.past i node.boot)
+          (put_same w.nodes i (with_call node known (node.busy - 1) k None))
+          ∙ ap (λ (t : Bool). if t then known else w.past i node.boot) (eq-eqb node.boot node.boot refl)
+
+      last_round : (e : Operation) → me ≡ e.brick → e.boot ≡ node.boot → IsRound c.phase → NoRoundFits fresh (with_reply c seat from reply)
+          → IsLastRound (after (Ends answer seen stored)) n e c.call.phase
+      last_round e by boot round (inl none) =
+          inr (subst (λ (b : BrickId). has_later_time (known_in (after (Ends answer seen stored)) b.0 e.boot) ≡ false) by
+          (subst (λ (b : ℕ). has_later_time (known_in (after (Ends answer seen stored)) i b) ≡ false) (sym boot)
+          (ap (λ (y : ℕ). has_later_time y) known_now ∙ none_left me now node.boot known none)))
+      last_round e by boot round (inr most) =
+          let facts = round_of c c.phase round mine.in_round in
+          inl (omega (arith, facts.0, facts.1), λ p few less. refused_before round p (omega (arith, facts.0)) less)
+
+      -- an order in a phase that only writes, or only looks further down
+      stored_order : (e : Operation) → me ≡ e.brick → (t : Stamp) → AskedAt w c.call me brick t → c.phase ≡ Stores
+          → OrderSent (after (Ends answer seen stored)) c.call e.brick brick t → ⊥
+      stored_order e by t asked stores order =
+          let write : (block : List ℕ) × WriteSent w c.call me brick t block = shows.stores_asked i k c brick t is stores asked in
+          later.order_or_write c.call me brick brick t t write.0 (write_on w (after (Ends answer seen stored)) on c.call me brick t write.0 write.1)
+          (subst (λ (b : BrickId). OrderSent (after (Ends answer seen stored)) c.call b brick t) (sym by) order)
+
+      descended_order : (e : Operation) → me ≡ e.brick → (t bound : Stamp) → AskedAt w c.call me brick t → c.phase ≡ Descends bound
+          → OrderSent (after (Ends answer seen stored)) c.call e.brick brick t → ⊥
+      descended_order e by t bound asked descends order =
+          let sent = shows.descends_asked i k c brick bound t is descends asked in
+          later.order_or_descent c.call me brick brick t t bound sent.0
+          (descent_on w (after (Ends answer seen stored)) on c.call me brick t bound sent.1)
+          (subst (λ (b : BrickId). OrderSent (after (Ends answer seen stored)) c.call b brick t) (sym by) order)
+
+      last_by : (e : Operation) → me ≡ e.brick → e.boot ≡ node.boot → (t : Stamp) → AskedAt w c.call me brick t → (p : Phase) → c.phase ≡ p
+          → LastFits fresh (with_reply c seat from reply) p → OrderSent (after (Ends answer seen stored)) c.call e.brick brick t
+          → IsLastRound (after (Ends answer seen stored)) n e c.call.phase
+      last_by e by boot t asked Looks at fits order = absurd fits
+      last_by e by boot t asked Orders at fits order = last_round e by boot (subst (λ (x : Phase). IsRound x) (sym at) tt) fits
+      last_by e by boot t asked Recovers at fits order = last_round e by boot (subst (λ (x : Phase). IsRound x) (sym at) tt) fits
+      last_by e by boot t asked (Descends bound) at fits order = absurd (descended_order e by t bound asked at order)
+      last_by e by boot t asked Stores at fits order = absurd (stored_order e by t asked at order)
+
+  -- the history of replies after what the coordinator decides
+  pub tallied_counted : (next : Next) → NextFits fresh (with_reply c seat from reply) next → MessagesShow (after next) → Tallied (after next)
+  tallied_counted Ignores fits later = absurd fits
+  tallied_counted (Waits d) fits later =
+      let on : Furthers w (after (Waits d)) = furthers (after (Waits d)) known node.busy (Some d) [] refl grows refl refl
+      (λ j b. refl) same_operations in
+      let phase : d.call.phase ≡ c.call.phase = ap (λ (x : Call). x.phase) fits.call in
+      let first : first_round d.phase ≡ first_round c.phase = ap (λ (x : Phase). first_round x) fits.phase in
+      tallied_on setting w (after (Waits d)) books tallied later on
+      (calls_by known node.busy d grows (record {
+        now = subst (λ (p : ℕ). IsTally (replies n p) d.counted) (sym phase) (tally_waits d.counted fits.counted);
+        later = λ p above. replies_later p (omega arith);
+        refused = λ round p low high. refused_before (subst (λ (x : Phase). IsRound x) fits.phase round) p (omega arith) (omega arith);
+      }))
+      unbegun (counted_next (after (Waits d)) on) (λ a p m brick x at. inl at) (λ a p m brick live at. inl at)
+  tallied_counted (Sends d) fits later =
+      let on : Furthers w (after (Sends d)) = furthers (after (Sends d)) (max known d.stamp.time) node.busy (Some d)
+      (phase_packets setting group me d) refl
+      (omega arith) refl refl (λ j b. refl) same_operations in
+      let phase : d.call.phase ≡ c.call.phase + 1 = ap (λ (x : Call). x.phase) fits.call in
+      tallied_on setting w (after (Sends d)) books tallied later on
+      (calls_by (max known d.stamp.time) node.busy d (omega arith) (record {
+        now = tally_begins d.call.phase d.counted fits.counted (omega arith);
+        later = λ p above. replies_later p (omega arith);
+        refused = refused_sends d fits phase;
+      }))
+      unbegun (counted_next (after (Sends d)) on) (λ a p m brick x at. inl at) (λ a p m brick live at. inl at)
+  tallied_counted (Makes d) fits later =
+      let on : Furthers w (after (Makes d)) = furthers (after (Makes d)) known node.busy (Some d)
+      (phase_packets setting group me d) refl grows refl refl
+      (λ j b. refl) (made_operations d.stamp d.base) in
+      let phase : d.call.phase ≡ c.call.phase + 1 = ap (λ (x : Call). x.phase) fits.call in
+      tallied_on setting w (after (Makes d)) books tallied later on
+      (calls_by known node.busy d grows (record {
+        now = tally_begins d.call.phase d.counted fits.counted (omega arith);
+        later = λ p above. replies_later p (omega arith);
+        refused = λ round p low high. absurd (subst (λ (x : Phase). IsRound x) fits.phase round);
+      }))
+      unbegun (counted_next (after (Makes d)) on) (λ a p m brick x at. inl at) (λ a p m brick live at. inl at)
+  tallied_counted (Ends answer seen stored) fits later =
+      let on : Furthers w (after (Ends answer seen stored)) = furthers (after (Ends answer seen stored)) known (node.busy - 1) None
+      (collect_packets group me c.call stored) refl grows refl refl (λ j b. refl) (answered_operations answer seen) in
+      tallied_on setting w (after (Ends answer seen stored)) books tallied later on
+      (calls_next known (node.busy - 1) None grows (λ e at. absurd (let never : None ≡ Some e = at in cc)))
+      unbegun (counted_next (after (Ends answer seen stored)) on)
+      (λ a p m brick x at. ⊎_elim
+      (λ (old : slice_get w.marks a ≡ Some (End p m (Aborted (Cause.Later brick x)))). inl old)
+      (λ (new : (j : ℕ) × (slice_get (End (length w.marks) n answer ∷ []) j ≡ Some (End p m (Aborted (Cause.Later brick x))))).
+      let mark : End (length w.marks) n answer ≡ End p m (Aborted (Cause.Later brick x))
+      = get_one (End (length w.marks) n answer) (End p m (Aborted (Cause.Later brick x))) new.0 new.1 in
+      let number : n ≡ m = cc in
+      let by : answer ≡ Aborted (Cause.Later brick x) = cc in
+      let abort : AbortFits fresh (with_reply c seat from reply) brick x
+      = subst (λ (z : Answer). AnswerFits fresh (with_reply c seat from reply) z) by fits.1 in
+      inr (subst (λ (z : ℕ). AbortShown (after (Ends answer seen stored)) z brick x) number (abort_shown answer seen stored brick x abort later on)))
+      (get_grown w.marks (End (length w.marks) n answer ∷ []) a (End p m (Aborted (Cause.Later brick x))) at))
+      (λ a p m brick live at. ⊎_elim
+      (λ (old : slice_get w.marks a ≡ Some (End p m (Aborted (Cause.Full brick live)))). inl old)
+      (λ (new : (j : ℕ) × (slice_get (End (length w.marks) n answer ∷ []) j ≡ Some (End p m (Aborted (Cause.Full brick live))))).
+      let mark : End (length w.marks) n answer ≡ End p m (Aborted (Cause.Full brick live))
+      = get_one (End (length w.marks) n answer) (End p m (Aborted (Cause.Full brick live))) new.0 new.1 in
+      let number : n ≡ m = cc in
+      let by : answer ≡ Aborted (Cause.Full brick live) = cc in
+      let told : FullFits (with_reply c seat from reply) brick live
+      = subst (λ (z : Answer). AnswerFits fresh (with_reply c seat from reply) z) by fits.1 in
+      inr (subst (λ (z : ℕ). FullAbortShown (after (Ends answer seen stored)) z brick live) number
+      (full_shown answer seen stored brick live told on)))
+      (get_grown w.marks (End (length w.marks) n answer ∷ []) a (End p m (Aborted (Cause.Full brick live))) at))

@@ -1,0 +1,417 @@
+-- Every event keeps the history of replies.
+use Rattle.std.proofs.Common.{◌≡◌, ◌≢◌, ℕ, ◌+◌, ◌≤◌, ◌⊎◌, inl, inr, ⊎_elim, true, false, ◌&&◌, ap, Option, Some, None, List, [], ◌∷◌, ◌++◌, length, refl, sym, ◌∙◌, subst, arith}
+use Rattle.std.specs.Prelude.{slice_get}
+use Rattle.std.proofs.lemmas.Bool.{cond_both, cases_eq}
+use Rattle.std.proofs.lemmas.Option.{same_Some}
+use Rattle.fab_base.specs.declared.identities.BrickId.{BrickId}
+use Rattle.fab_base.specs.declared.asks.Ask.{Ask}
+use Rattle.fab_base.specs.declared.stamps.Stamp.{Stamp}
+use Rattle.fab_base.specs.Stamps.{stamp_below}
+use Rattle.fab_base.specs.declared.answers.Answer.TheVariants.{Aborted}
+use Rattle.fab_base.specs.declared.answers.Cause.TheVariants as Cause
+use Rattle.messages.specs.declared.calls.Call.{Call}
+use Rattle.messages.specs.declared.packets.Message.{Message}
+use Rattle.messages.specs.declared.packets.Packet.{Packet}
+use Rattle.messages.specs.declared.requests.Look.TheVariants as Look
+use Rattle.messages.specs.declared.requests.Request.{Request}
+use Rattle.messages.specs.declared.requests.Want.TheVariants as Want
+use Rattle.messages.specs.declared.replies.Reply.{Reply}
+use Rattle.reg_model.specs.declared.marks.Mark.TheVariants.{Begin, End, Crash}
+use Rattle.fab_base.specs.Layouts.{Group, group_of, seat_in}
+use Rattle.protocol.specs.Settings.{Setting, IsSound}
+use Rattle.protocol.specs.Replicas.{handle}
+use Rattle.protocol.specs.Coordinators.{Coordinator, with_reply, once_full, counted_at, counts_at, on_reply}
+use Rattle.protocol.specs.declared.tellings.Told.TheVariants.{Nothing}
+use Rattle.protocol.specs.Nodes.{Node, NodeStep, is_served, fits_block, absorbed, ticked, new_coordinator, put, no_step, fresh_stamp, began_in, began, invoked, with_replica, replica_at, full_at, reply_packets, requested_at, requested_in, requested, known_after, with_known, carried_out, replied_to, replied_at, replied, received}
+use Rattle.protocol.specs.Worlds.{World, Event, Invokes, Delivers, Sets, Ticks, Crashes, Starts, Absorbs, first_world, is_brick, is_up, may_begin, may_start, number_of, world_absorbed, world_stopped, world_started, world_began, counted_after, replies_in, replies_at, replies_with, delivered, packet_of, happens, run}
+use Rattle.protocol_laws.specs.Laws.{WasSent}
+use Rattle.protocol_laws.proofs.Books.{Books, IsCall}
+use Rattle.protocol_laws.proofs.BooksKept.{KeepsNumbers, cases_call}
+use Rattle.protocol_laws.proofs.BooksQuiet.{quiet_world, started_calls, unstarted, started_known}
+use Rattle.protocol_laws.proofs.BooksEnds.{stopped_keeps, stopped_calls, unstopped_calls}
+use Rattle.protocol_laws.proofs.BooksBegins.{call_is, other_calls, same_boots, call_number, other_number, other_operations, knows}
+use Rattle.protocol_laws.proofs.BooksEvents.{keeps_put, stepped, known_grows, BeginFits, begin_fits, begin_up, KeepsCalls, absorbed_keeps, start_fits}
+use Rattle.protocol_laws.proofs.Outcomes.{first_round_above, once_full_fits}
+use Rattle.protocol_laws.proofs.Said.{Stamping, Said, IsSaid, IsRecovery, CountedSays}
+use Rattle.protocol_laws.proofs.SaidAlways.{packet_was_sent, said_first, said_run}
+use Rattle.protocol_laws.proofs.OwnStamps.{order_or_write, order_or_descent, stores_asked, descends_asked}
+use Rattle.protocol_laws.proofs.Counting.{each_then}
+use Rattle.protocol.proofs.CountsAt.{CountsAt, counts_facts}
+use Rattle.protocol_laws.proofs.Tables.{put_each, get_kept, get_grown, get_one}
+use Rattle.protocol_laws.proofs.Tallies.{CallTallied, Tallied, MessagesShow}
+use Rattle.protocol_laws.proofs.TalliesKept.{call_tallied_on, known_kept, tallied_on}
+use Rattle.protocol_laws.proofs.TalliesCounts.{tallied_counted}
+
+-- a step that changes no operation
+tallied_quiet : (setting : Setting) (w : World) (nodes : ℕ → Node) (clocks : ℕ → ℕ) (packets : List Packet) → Books setting w → Tallied w
+    → MessagesShow (quiet_world w nodes clocks packets w.replies) → ((i : ℕ) → KeepsNumbers (w.nodes i) (nodes i))
+    → ((i k : ℕ) → (nodes i).calls k ≡ (w.nodes i).calls k)
+    → ((packet : Packet) → WasSent w packet → WasSent (quiet_world w nodes clocks packets w.replies) packet)
+    → Tallied (quiet_world w nodes clocks packets w.replies)
+tallied_quiet setting w nodes clocks packets books tallied shows keeps calls sent =
+    tallied_on setting w (quiet_world w nodes clocks packets w.replies) books tallied shows
+    (record {
+      sent = sent;
+      known = known_kept w (quiet_world w nodes clocks packets w.replies) (λ i b. refl) (λ i. (keeps i).boot) (λ i. (keeps i).known);
+      operations = λ n o is. (o, is, refl, refl, refl);
+      replies = λ n. inl (λ p. refl);
+    })
+    (λ i k c is. call_tallied_on w.replies w.replies (number_of w i k) (w.numbers i (nodes i).boot k) c
+    (ap (λ (b : ℕ). w.numbers i b k) (keeps i).boot) (λ p. refl) (tallied.calls i k c (sym (calls i k) ∙ is)))
+    tallied.unbegun (λ n phase k x is. inl is) (λ k p n brick x is. inl is) (λ k p n brick live is. inl is)
+
+tallied_nothing : (setting : Setting) (w : World) (me : BrickId) (node : Node) (packets : List Packet) → Books setting w → Tallied w
+    → MessagesShow (stepped w w.replies me (record { node = node; packets = packets; told = Nothing })) → KeepsNumbers (w.nodes me.0) node
+    → ((l : ℕ) → node.calls l ≡ (w.nodes me.0).calls l) → Tallied (stepped w w.replies me (record { node = node; packets = packets; told = Nothing }))
+tallied_nothing setting w me node packets books tallied shows keeps calls =
+    tallied_quiet setting w (put w.nodes me.0 node) w.clocks (w.packets ++ packets) books tallied shows (keeps_put w me.0 node keeps)
+    (λ j l. put_each (λ (x : ℕ) (y : Node). y.calls l ≡ (w.nodes x).calls l) w.nodes me.0 node (calls l) (λ x other. refl) j)
+    (λ packet sent. (sent.0, get_kept w.packets packets sent.0 packet sent.1))
+
+tallied_no_step : (setting : Setting) (w : World) (me : BrickId) → Books setting w → Tallied w
+    → MessagesShow (stepped w w.replies me (no_step (w.nodes me.0))) → Tallied (stepped w w.replies me (no_step (w.nodes me.0)))
+tallied_no_step setting w me books tallied shows =
+    tallied_nothing setting w me (w.nodes me.0) [] books tallied shows (record { boot = refl; seq = refl; known = omega arith }) (λ l. refl)
+
+-- a brick learns of a time
+tallied_known : (setting : Setting) (w : World) (me : BrickId) (known : ℕ) → Books setting w → Tallied w → (w.nodes me.0).known ≤ known
+    → MessagesShow (stepped w w.replies me (no_step (with_known (w.nodes me.0) known)))
+    → Tallied (stepped w w.replies me (no_step (with_known (w.nodes me.0) known)))
+tallied_known setting w me known books tallied grows shows =
+    tallied_nothing setting w me (with_known (w.nodes me.0) known) [] books tallied shows (record { boot = refl; seq = refl; known = grows })
+    (λ l. refl)
+
+-- a request
+tallied_requested : (setting : Setting) (w : World) (me from : BrickId) (call : Call) (request : Request) → Books setting w → Tallied w
+    → MessagesShow (stepped w w.replies me (requested setting me from (w.nodes me.0) call request))
+    → Tallied (stepped w w.replies me (requested setting me from (w.nodes me.0) call request))
+unfolding requested
+tallied_requested setting w me from call request books tallied = in_group (group_of setting.layout call.group.0)
+  where
+    at_seat : (z : Option ℕ) → MessagesShow (stepped w w.replies me (requested_at setting.layout.records me from (w.nodes me.0) call request z))
+        → Tallied (stepped w w.replies me (requested_at setting.layout.records me from (w.nodes me.0) call request z))
+    at_seat None shows = tallied_no_step setting w me books tallied shows
+    at_seat (Some seat) shows =
+        let reaction = handle (full_at setting.layout.records (w.nodes me.0)) seat (replica_at (w.nodes me.0) call) request in
+        tallied_nothing setting w me (with_replica (w.nodes me.0) call reaction) (reply_packets me from call reaction.reply) books tallied shows
+        (record { boot = refl; seq = refl; known = omega arith }) (λ l. refl)
+
+    in_group : (z : Option Group) → MessagesShow (stepped w w.replies me (requested_in setting.layout me from (w.nodes me.0) call request z))
+        → Tallied (stepped w w.replies me (requested_in setting.layout me from (w.nodes me.0) call request z))
+    in_group None shows = tallied_no_step setting w me books tallied shows
+    in_group (Some group) shows =
+        cond_both (is_served group call && fits_block setting.layout.block request) _ _
+        (λ (step : NodeStep). MessagesShow (stepped w w.replies me step) → Tallied (stepped w w.replies me step))
+        (λ is. at_seat (seat_in group.members me.0)) (λ isnt. tallied_no_step setting w me books tallied) shows
+
+-- a reply
+tallied_replied : (setting : Setting) (w : World) (me : BrickId) (now : ℕ) (from : BrickId) (call : Call) (reply : Reply) → Books setting w
+    → Tallied w
+    → MessagesShow w → WasSent w (record { from = from; to = me; message = Message.Reply call reply })
+    → MessagesShow (stepped w (replies_at setting w me from call reply ((w.nodes me.0).calls call.seq)) me
+    (replied setting me now from (w.nodes me.0) call reply))
+    → Tallied (stepped w (replies_at setting w me from call reply ((w.nodes me.0).calls call.seq)) me
+    (replied setting me now from (w.nodes me.0) call reply))
+unfolding replied on_reply
+tallied_replied setting w me now from call reply books tallied shows sent = at_call ((w.nodes me.0).calls call.seq) refl
+  where
+    at_seat : (c : Coordinator) (group : Group) → IsCall w me.0 call.seq c → (z : Option ℕ)
+        → counts_at setting.layout.block group c from.0 call reply ≡ z
+        → MessagesShow (stepped w (counted_after w.replies (number_of w me.0 call.seq) from call reply z) me
+        (carried_out setting group me (w.nodes me.0) (known_after (w.nodes me.0).known reply) c
+        (counted_at setting.code group (fresh_stamp me now (w.nodes me.0).boot (known_after (w.nodes me.0).known reply)) c from reply z)))
+        → Tallied (stepped w (counted_after w.replies (number_of w me.0 call.seq) from call reply z) me
+        (carried_out setting group me (w.nodes me.0) (known_after (w.nodes me.0).known reply) c
+        (counted_at setting.code group (fresh_stamp me now (w.nodes me.0).boot (known_after (w.nodes me.0).known reply)) c from reply z)))
+    at_seat c group is None none later =
+        tallied_known setting w me (known_after (w.nodes me.0).known reply) books tallied (known_grows (w.nodes me.0).known reply) later
+    at_seat c group is (Some seat) counts later =
+        let facts : CountsAt setting.layout.block group c from.0 call reply seat = counts_facts setting.layout.block group c from.0 call reply seat counts in
+        let time : ℕ = known_after (w.nodes me.0).known reply in
+        let fresh : Option Stamp = fresh_stamp me now (w.nodes me.0).boot time in
+        let after : Call → World = λ k. stepped w (counted_after w.replies (number_of w me.0 k.seq) from k reply (Some seat)) me
+        (carried_out setting group me (w.nodes me.0) time c (once_full setting.code group fresh (with_reply c seat from reply))) in
+        subst (λ (k : Call). MessagesShow (after k) → Tallied (after k)) (sym facts.call_is)
+        (tallied_counted setting group w me now time c from reply seat books tallied shows
+        (subst (λ (k : Call). IsCall w me.0 k.seq c) facts.call_is is)
+        (subst (λ (k : Call). WasSent w (record { from = from; to = me; message = Message.Reply k reply })) facts.call_is sent)
+        (known_grows (w.nodes me.0).known reply) (once_full setting.code group fresh (with_reply c seat from reply))
+        (once_full_fits setting.code group fresh (with_reply c seat from reply)))
+        later
+
+    in_group : (c : Coordinator) → IsCall w me.0 call.seq c → (z : Option Group)
+        → MessagesShow (stepped w (replies_in setting w me from call reply c z) me (replied_to setting me now from (w.nodes me.0) call reply c z))
+        → Tallied (stepped w (replies_in setting w me from call reply c z) me (replied_to setting me now from (w.nodes me.0) call reply c z))
+    in_group c is None later = tallied_no_step setting w me books tallied later
+    in_group c is (Some group) later = at_seat c group is (counts_at setting.layout.block group c from.0 call reply) refl later
+
+    at_call : (z : Option Coordinator) → (w.nodes me.0).calls call.seq ≡ z
+        → MessagesShow (stepped w (replies_at setting w me from call reply z) me (replied_at setting me now from (w.nodes me.0) call reply z))
+        → Tallied (stepped w (replies_at setting w me from call reply z) me (replied_at setting me now from (w.nodes me.0) call reply z))
+    at_call None none later =
+        tallied_known setting w me (known_after (w.nodes me.0).known reply) books tallied (known_grows (w.nodes me.0).known reply) later
+    at_call (Some c) is later = in_group c is (group_of setting.layout c.ask.group.0) later
+
+-- a message
+tallied_received : (setting : Setting) (w : World) (now : ℕ) (from to : BrickId) (message : Message) → Books setting w → Tallied w → MessagesShow w
+    → WasSent w (record { from = from; to = to; message = message })
+    → (let packet : Packet = record { from = from; to = to; message = message } in
+    MessagesShow (stepped w (replies_with setting w packet) to (received setting to now (w.nodes to.0) packet))
+    → Tallied (stepped w (replies_with setting w packet) to (received setting to now (w.nodes to.0) packet)))
+unfolding received
+tallied_received setting w now from to (Message.Request call request) books tallied shows sent =
+    tallied_requested setting w to from call request books tallied
+tallied_received setting w now from to (Message.Reply call reply) books tallied shows sent =
+    tallied_replied setting w to now from call reply books tallied shows sent
+tallied_received setting w now from to message books tallied shows sent = tallied_no_step setting w to books tallied
+
+tallied_delivered : (setting : Setting) (w : World) (packet : Option Packet) → Books setting w → Tallied w → MessagesShow w
+    → ((sent : Packet) → packet ≡ Some sent → WasSent w sent) → MessagesShow (delivered setting w packet) → Tallied (delivered setting w packet)
+tallied_delivered setting w None books tallied shows sent shown = tallied
+tallied_delivered setting w (Some packet) books tallied shows sent shown =
+    cond_both (is_up setting.layout w packet.to) _ _ (λ (x : World). MessagesShow x → Tallied x)
+    (λ member. tallied_received setting w (w.clocks packet.to.0) packet.from packet.to packet.message books tallied shows (sent packet refl))
+    (λ stranger same. tallied)
+    shown
+
+-- an operation begins
+tallied_began : (setting : Setting) (w : World) (brick : BrickId) (now : ℕ) (ask : Ask) (fits : BeginFits setting ask) → w.up brick.0 ≡ true
+    → Books setting w → Tallied w
+    → MessagesShow (world_began w brick ask (began_in setting fits.group brick (w.nodes brick.0) (new_coordinator brick now (w.nodes brick.0) ask)))
+    → Tallied (world_began w brick ask (began_in setting fits.group brick (w.nodes brick.0) (new_coordinator brick now (w.nodes brick.0) ask)))
+tallied_began setting w brick now ask fits up books tallied shows =
+    let next : World = world_began w brick ask (began_in setting fits.group brick (w.nodes brick.0)
+    (new_coordinator brick now (w.nodes brick.0) ask)) in
+    let i : ℕ = brick.0 in
+    let k : ℕ = (w.nodes brick.0).seq + 1 in
+    let n : ℕ = w.begun + 1 in
+    let c : Coordinator = new_coordinator brick now (w.nodes brick.0) ask in
+    let new : CallTallied w.replies n c = record {
+      now = ([], tallied.unbegun n 1 (omega arith), refl);
+      later = λ p above. tallied.unbegun n p (omega arith);
+      refused = λ round p low high. absurd (omega (arith, first_round_above c.phase));
+    } in
+    tallied_on setting w next books tallied shows
+    (record {
+      sent = λ packet sent. (sent.0, get_kept w.packets _ sent.0 packet sent.1);
+      known = known_kept w next (λ j b. refl)
+          (same_boots setting w brick now ask fits.group books fits.is_stripe_op fits.group_is fits.stripe up fits.length_fits)
+          (knows setting w brick now ask fits.group books fits.is_stripe_op fits.group_is fits.stripe up fits.length_fits);
+      operations = λ m o is. (
+        o,
+        other_operations setting w brick now ask fits.group books fits.is_stripe_op fits.group_is fits.stripe up fits.length_fits m
+            (λ same. omega (arith, (books.operations m o is).begun)) ∙ is,
+        refl,
+        refl,
+        refl,
+      );
+      replies = λ m. inl (λ p. refl);
+    })
+    (λ j l e is. ⊎_elim
+    (λ (mine : (j ≡ i) × (l ≡ k)).
+    let at : (next.nodes i).calls k ≡ Some e
+    = subst (λ (x : ℕ). (next.nodes x).calls k ≡ Some e) mine.0 (subst (λ (y : ℕ). (next.nodes j).calls y ≡ Some e) mine.1 is) in
+    let one : c ≡ e = same_Some c e
+    (sym (call_is setting w brick now ask fits.group books fits.is_stripe_op fits.group_is fits.stripe up fits.length_fits) ∙ at) in
+    let number : number_of next i k ≡ n = call_number setting w brick now ask fits.group books fits.is_stripe_op fits.group_is fits.stripe up fits.length_fits in
+    subst (λ (x : ℕ). CallTallied w.replies (number_of next x l) e) (sym mine.0) (subst (λ (y : ℕ). CallTallied w.replies (number_of next i y) e)
+    (sym mine.1)
+    (subst (λ (x : ℕ). CallTallied w.replies x e) (sym number) (subst (λ (z : Coordinator). CallTallied w.replies n z) one new))))
+    (λ (other : j ≡ i → l ≡ k → ⊥).
+    let old : IsCall w j l e
+    = sym (other_calls setting w brick now ask fits.group books fits.is_stripe_op fits.group_is fits.stripe up fits.length_fits j l other) ∙ is in
+    call_tallied_on w.replies w.replies (number_of w j l) (number_of next j l) e
+    (other_number setting w brick now ask fits.group books fits.is_stripe_op fits.group_is fits.stripe up fits.length_fits j l other)
+    (λ p. refl) (tallied.calls j l e old))
+    (cases_call i k j l))
+    (λ m p above. tallied.unbegun m p (omega arith))
+    (λ m phase a x is. inl is)
+    (λ a p m by x is. ⊎_elim
+    (λ (old : slice_get w.marks a ≡ Some (End p m (Aborted (Cause.Later by x)))). inl old)
+    (λ (new : (q : ℕ) × (slice_get (Begin (length w.marks) n brick ask ∷ []) q ≡ Some (End p m (Aborted (Cause.Later by x))))).
+    absurd (let never : Begin (length w.marks) n brick ask ≡ End p m (Aborted (Cause.Later by x))
+    = get_one (Begin (length w.marks) n brick ask) (End p m (Aborted (Cause.Later by x))) new.0 new.1 in cc))
+    (get_grown w.marks (Begin (length w.marks) n brick ask ∷ []) a (End p m (Aborted (Cause.Later by x))) is))
+    (λ a p m by live is. ⊎_elim
+    (λ (old : slice_get w.marks a ≡ Some (End p m (Aborted (Cause.Full by live)))). inl old)
+    (λ (new : (q : ℕ) × (slice_get (Begin (length w.marks) n brick ask ∷ []) q ≡ Some (End p m (Aborted (Cause.Full by live))))).
+    absurd (let never : Begin (length w.marks) n brick ask ≡ End p m (Aborted (Cause.Full by live))
+    = get_one (Begin (length w.marks) n brick ask) (End p m (Aborted (Cause.Full by live))) new.0 new.1 in cc))
+    (get_grown w.marks (Begin (length w.marks) n brick ask ∷ []) a (End p m (Aborted (Cause.Full by live))) is))
+
+tallied_invoked : (setting : Setting) (w : World) (brick : BrickId) (now : ℕ) (ask : Ask) → Books setting w → Tallied w
+    → may_begin setting w brick ask ≡ true
+    → MessagesShow (world_began w brick ask (invoked setting brick now (w.nodes brick.0) ask))
+    → Tallied (world_began w brick ask (invoked setting brick now (w.nodes brick.0) ask))
+unfolding invoked
+tallied_invoked setting w brick now ask books tallied may =
+    let fits : BeginFits setting ask = begin_fits setting w brick ask may in
+    subst (λ (found : Option Group). MessagesShow (world_began w brick ask (began setting brick now (w.nodes brick.0) ask found))
+    → Tallied (world_began w brick ask (began setting brick now (w.nodes brick.0) ask found))) (sym fits.group_is)
+    (tallied_began setting w brick now ask fits (begin_up setting w brick ask may) books tallied)
+
+-- a brick stops
+tallied_stopped : (setting : Setting) (w : World) (brick : BrickId) → Books setting w → Tallied w → MessagesShow (world_stopped w brick)
+    → Tallied (world_stopped w brick)
+tallied_stopped setting w brick books tallied shows =
+    let next : World = world_stopped w brick in
+    let keeps : (i : ℕ) → KeepsNumbers (w.nodes i) (next.nodes i) = stopped_keeps setting w brick books in
+    tallied_on setting w next books tallied shows
+    (record {
+      sent = λ packet sent. sent;
+      known = known_kept w next (λ i b. refl) (λ i. (keeps i).boot) (λ i. (keeps i).known);
+      operations = λ n o is. (o, is, refl, refl, refl);
+      replies = λ n. inl (λ p. refl);
+    })
+    (λ i k c is. ⊎_elim
+    (λ (mine : i ≡ brick.0).
+    let none : (next.nodes i).calls k ≡ None = ap (λ (x : ℕ). (next.nodes x).calls k) mine ∙ stopped_calls setting w brick books k in
+    absurd (let never : None ≡ Some c = sym none ∙ is in cc))
+    (λ (other : i ≢ brick.0).
+    let old : IsCall w i k c = sym (unstopped_calls setting w brick books i k other) ∙ is in
+    call_tallied_on w.replies w.replies (number_of w i k) (number_of next i k) c (ap (λ (b : ℕ). w.numbers i b k) (keeps i).boot) (λ p. refl)
+    (tallied.calls i k c old))
+    (cases_eq i brick.0))
+    tallied.unbegun (λ n phase k x is. inl is)
+    (λ k p n by x is. ⊎_elim
+    (λ (old : slice_get w.marks k ≡ Some (End p n (Aborted (Cause.Later by x)))). inl old)
+    (λ (new : (q : ℕ) × (slice_get (Crash (length w.marks) brick ∷ []) q ≡ Some (End p n (Aborted (Cause.Later by x))))).
+    absurd (let never : Crash (length w.marks) brick ≡ End p n (Aborted (Cause.Later by x))
+    = get_one (Crash (length w.marks) brick) (End p n (Aborted (Cause.Later by x))) new.0 new.1 in cc))
+    (get_grown w.marks (Crash (length w.marks) brick ∷ []) k (End p n (Aborted (Cause.Later by x))) is))
+    (λ k p n by live is. ⊎_elim
+    (λ (old : slice_get w.marks k ≡ Some (End p n (Aborted (Cause.Full by live)))). inl old)
+    (λ (new : (q : ℕ) × (slice_get (Crash (length w.marks) brick ∷ []) q ≡ Some (End p n (Aborted (Cause.Full by live))))).
+    absurd (let never : Crash (length w.marks) brick ≡ End p n (Aborted (Cause.Full by live))
+    = get_one (Crash (length w.marks) brick) (End p n (Aborted (Cause.Full by live))) new.0 new.1 in cc))
+    (get_grown w.marks (Crash (length w.marks) brick ∷ []) k (End p n (Aborted (Cause.Full by live))) is))
+
+-- a stopped brick is started again
+tallied_started : (setting : Setting) (w : World) (brick : BrickId) (openings : ℕ) → w.up brick.0 ≡ false → 1 ≤ openings → Books setting w → Tallied w
+    → MessagesShow (world_started w brick openings) → Tallied (world_started w brick openings)
+tallied_started setting w brick openings down once books tallied shows =
+    let next : World = world_started w brick openings in
+    tallied_on setting w next books tallied shows
+    (record {
+      sent = λ packet sent. sent;
+      known = started_known setting w brick openings books down once;
+      operations = λ n o is. (o, is, refl, refl, refl);
+      replies = λ n. inl (λ p. refl);
+    })
+    (λ i k c is. ⊎_elim
+    (λ (mine : i ≡ brick.0).
+    let none : (next.nodes i).calls k ≡ None = ap (λ (x : ℕ). (next.nodes x).calls k) mine
+    ∙ started_calls setting w brick openings books down once k in
+    absurd (let never : None ≡ Some c = sym none ∙ is in cc))
+    (λ (other : i ≢ brick.0).
+    let same : next.nodes i ≡ w.nodes i = unstarted setting w brick openings books down once i other in
+    let old : IsCall w i k c = sym (ap (λ (x : Node). x.calls k) same) ∙ is in
+    call_tallied_on w.replies w.replies (number_of w i k) (number_of next i k) c (ap (λ (x : Node). w.numbers i x.boot k) same) (λ p. refl)
+    (tallied.calls i k c old))
+    (cases_eq i brick.0))
+    tallied.unbegun (λ n phase k x is. inl is) (λ k p n by x is. inl is) (λ k p n by live is. inl is)
+
+-- a message is handled, and the reply is lost
+tallied_absorbed : (setting : Setting) (w : World) (packet : Option Packet) → Books setting w → Tallied w
+    → MessagesShow (world_absorbed setting w packet) → Tallied (world_absorbed setting w packet)
+tallied_absorbed setting w None books tallied shown = tallied
+tallied_absorbed setting w (Some packet) books tallied shown =
+    let me : ℕ = packet.to.0 in
+    let node : Node = absorbed setting packet.to (w.nodes packet.to.0) packet in
+    let keeps : KeepsCalls (w.nodes packet.to.0) node = absorbed_keeps setting packet.to (w.nodes packet.to.0) packet.from packet.to packet.message in
+    cond_both (is_up setting.layout w packet.to) _ _ (λ (x : World). MessagesShow x → Tallied x)
+    (λ up shows. tallied_quiet setting w (put w.nodes me node) w.clocks w.packets books tallied shows (keeps_put w me node keeps.0)
+    (λ j l. put_each (λ (x : ℕ) (y : Node). y.calls l ≡ (w.nodes x).calls l) w.nodes me node (keeps.1 l) (λ x other. refl) j)
+    (λ packet sent. sent))
+    (λ down same. tallied)
+    shown
+
+-- every event keeps the history of replies
+tallied_happens : (setting : Setting) (w : World) (event : Event) → Books setting w → Tallied w → MessagesShow w
+    → MessagesShow (happens setting w event) → Tallied (happens setting w event)
+unfolding happens
+tallied_happens setting w (Invokes brick ask) books tallied shows later =
+    cond_both (may_begin setting w brick ask) _ _ (λ (x : World). MessagesShow x → Tallied x)
+    (λ may. tallied_invoked setting w brick (w.clocks brick.0) ask books tallied may) (λ refused same. tallied) later
+tallied_happens setting w (Delivers number) books tallied shows later =
+    tallied_delivered setting w (packet_of w.packets number) books tallied shows (packet_was_sent w number) later
+tallied_happens setting w (Sets brick time) books tallied shows later =
+    cond_both (is_brick setting.layout brick) _ _ (λ (x : World). MessagesShow x → Tallied x)
+    (λ member more. tallied_quiet setting w w.nodes (put w.clocks brick.0 time) w.packets books tallied more
+    (λ i. record { boot = refl; seq = refl; known = omega arith }) (λ i k. refl) (λ packet sent. sent))
+    (λ stranger same. tallied) later
+tallied_happens setting w (Ticks brick) books tallied shows later =
+    let more : List Packet = ticked setting brick (w.nodes brick.0) in
+    cond_both (is_up setting.layout w brick) _ _ (λ (x : World). MessagesShow x → Tallied x)
+    (λ up shown. tallied_quiet setting w w.nodes w.clocks (w.packets ++ more) books tallied shown
+    (λ i. record { boot = refl; seq = refl; known = omega arith }) (λ i k. refl)
+    (λ packet sent. (sent.0, get_kept w.packets more sent.0 packet sent.1)))
+    (λ down same. tallied) later
+tallied_happens setting w (Crashes brick) books tallied shows later =
+    cond_both (is_up setting.layout w brick) _ _ (λ (x : World). MessagesShow x → Tallied x)
+    (λ up. tallied_stopped setting w brick books tallied) (λ down same. tallied) later
+tallied_happens setting w (Starts brick openings) books tallied shows later =
+    cond_both (may_start setting.layout w brick openings) _ _ (λ (x : World). MessagesShow x → Tallied x)
+    (λ may. (let fits = start_fits setting w brick openings may in tallied_started setting w brick openings fits.0 fits.1 books tallied))
+    (λ cannot same. tallied) later
+tallied_happens setting w (Absorbs number) books tallied shows later = tallied_absorbed setting w (packet_of w.packets number) books tallied later
+
+-- at first no reply has counted
+tallied_first : (setting : Setting) → Tallied (first_world setting.layout)
+tallied_first setting = record {
+  calls = λ i k c is. absurd (let never : None ≡ Some c = is in cc);
+  unbegun = λ n p above. refl;
+  counted = λ n phase k x is. absurd (let never : None ≡ Some x = is in cc);
+  aborts = λ k p n brick x is. absurd (let never : None ≡ Some (End p n (Aborted (Cause.Later brick x))) = is in cc);
+  full_aborts = λ k p n brick live is. absurd (let never : None ≡ Some (End p n (Aborted (Cause.Full brick live))) = is in cc);
+}
+
+-- every run keeps the history of replies, where each of its worlds has its books and its messages show what they should
+tallied_run : (setting : Setting) (events : List Event) (w : World) → ((more : List Event) → Books setting (run setting more w))
+    → ((more : List Event) → MessagesShow (run setting more w)) → Tallied w → Tallied (run setting events w)
+tallied_run setting [] w books shows tallied = tallied
+tallied_run setting (event ∷ events) w books shows tallied =
+    tallied_run setting events (happens setting w event) (λ more. books (event ∷ more)) (λ more. shows (event ∷ more))
+    (tallied_happens setting w event (books []) tallied (shows []) (shows (event ∷ [])))
+
+-- what looks below a bound has it at its stamp, or below
+bound_of : (stamps : Stamping) (i b k p : ℕ) (bound t : Stamp) → IsRecovery stamps i b k p bound t → (bound ≡ t) ⊎ (stamp_below bound t ≡ true)
+bound_of stamps i b k p bound t (inl own) = inl own.0
+bound_of stamps i b k p bound t (inr below) = inr below.0
+
+-- what is said of a world is what its messages should show
+messages_show : (setting : Setting) (w : World) (stamps : Stamping) → Books setting w → Said setting w stamps → MessagesShow w
+messages_show setting w stamps books said = record {
+  later = λ call from to x sent. said.packets sent.0 (record { from = from; to = to; message = Message.Reply call (Reply.Later x) }) sent.1;
+  order_or_write = order_or_write setting w stamps books said;
+  bounds = λ call from to t bound sent.
+      bound_of stamps from.0 call.boot call.seq call.phase bound t
+      (said.packets sent.0 (record {
+        from = from;
+        to = to;
+        message = Message.Request call
+            (Request.OrderRead t (Look.Below bound) Want.All);
+      }) sent.1).1;
+  order_or_descent = λ call from to other t u bound below sent order. order_or_descent setting w stamps books said call from to other t u bound below sent order;
+  stores_asked = λ i k c to t is stores asked. stores_asked setting w stamps books said (record { 0 = i }) to c t (at_call i k c is) stores asked;
+  descends_asked = λ i k c to bound t is descends asked.
+      descends_asked setting w stamps books said (record { 0 = i }) to c bound t (at_call i k c is) descends asked;
+  counted = λ i k c is.
+      each_then (CountedSays setting w i c) (λ x. WasSent w
+      (record { from = x.brick; to = record { 0 = i }; message = Message.Reply c.call x.reply }))
+      c.counted (λ x says. says.sent) (said.calls i k c is).counted;
+}
+  where
+    at_call : (i k : ℕ) (c : Coordinator) → IsCall w i k c → IsCall w i c.call.seq c
+    at_call i k c is = (let seq : c.call.seq ≡ k = (books.calls i k c is).call_seq in subst (λ (l : ℕ). IsCall w i l c) (sym seq) is)
+
+-- the history of replies holds in every world that a run reaches, where the books do
+pub tallied : (setting : Setting) (events : List Event) → IsSound setting
+    → ((more : List Event) → Books setting (run setting more (first_world setting.layout)))
+    → Tallied (run setting events (first_world setting.layout))
+tallied setting events sound books =
+    let first : World = first_world setting.layout in
+    tallied_run setting events first books
+    (λ more. (let said : IsSaid setting (run setting more first) = said_run setting more first sound books (said_first setting sound) in
+    messages_show setting (run setting more first) said.0 (books more) said.1))
+    (tallied_first setting)

@@ -1,0 +1,189 @@
+-- What the history of replies has shown stays shown.
+use Rattle.std.proofs.Common.{◌≡◌, ℕ, ◌<◌, ◌≤◌, ◌⊎◌, inl, inr, ⊎_elim, Bool, true, false, List, [], Some, is_some, sym, ap, ◌∙◌, subst, arith}
+use Rattle.std.specs.Prelude.{slice_get, nat_lt, nat_eq, if◌then◌else◌}
+use Rattle.std.proofs.lemmas.Bool.{ltb-false, le-ltb}
+use Rattle.fab_base.specs.declared.identities.BrickId.{BrickId}
+use Rattle.fab_base.specs.declared.stamps.Stamp.{Stamp}
+use Rattle.fab_base.specs.Stamps.{stamp_below}
+use Rattle.fab_base.specs.declared.answers.Answer.TheVariants.{Aborted}
+use Rattle.fab_base.specs.declared.answers.Cause.TheVariants as Cause
+use Rattle.messages.specs.declared.calls.Call.{Call}
+use Rattle.messages.specs.declared.packets.Message.TheVariants as Message
+use Rattle.messages.specs.declared.requests.Look.TheVariants as Look
+use Rattle.messages.specs.declared.requests.Request.TheVariants as Request
+use Rattle.messages.specs.declared.requests.Want.TheVariants as Want
+use Rattle.messages.specs.declared.replies.Reply.TheVariants as Reply
+use Rattle.reg_model.specs.declared.marks.Mark.TheVariants.{End}
+use Rattle.reg_model.specs.Marks.{life_of, IsOpen}
+use Rattle.protocol.specs.Settings.{Setting}
+use Rattle.protocol.specs.declared.phases.Counted.{Counted}
+use Rattle.protocol.specs.Coordinators.{Coordinator, greatest_refuser}
+use Rattle.protocol.specs.Nodes.{has_later_time}
+use Rattle.protocol.specs.Worlds.{World, Operation, number_of, known_in}
+use Rattle.protocol_laws.specs.Laws.{WasSent, WriteSent, OrderSent, AskedAt, IsLastRound, Evidence}
+use Rattle.protocol_laws.proofs.Books.{Replies, Books, IsCall}
+use Rattle.protocol_laws.proofs.Lives.{ended_not_open}
+use Rattle.protocol_laws.proofs.Tallies.{CallTallied, CountedSent, AbortShown, FullAbortShown, DescentSent, Tallied, MessagesShow, Furthers}
+
+-- an operation whose replies stay
+pub call_tallied_on : (replies later : Replies) (n m : ℕ) (c : Coordinator) → m ≡ n → ((p : ℕ) → later n p ≡ replies n p)
+    → CallTallied replies n c → CallTallied later m c
+call_tallied_on replies later n m c number same tallied =
+    subst (λ (x : ℕ). CallTallied later x c) (sym number) (record {
+      now = (tallied.now.0, same c.call.phase ∙ tallied.now.1, tallied.now.2);
+      later = λ p above. same p ∙ tallied.later p above;
+      refused = λ round p low high. ap (λ (l : List Counted). is_some (greatest_refuser l)) (same p) ∙ tallied.refused round p low high;
+    })
+
+-- what is not below a limit stays so as it grows
+not_below : (limit known later : ℕ) → known ≤ later → nat_lt known limit ≡ false → nat_lt later limit ≡ false
+not_below limit known later more isnt =
+    let at : limit ≤ known = ltb-false known limit isnt in le-ltb later limit (omega arith)
+
+-- no brick's time falls within a boot, where bricks keep their boots and know no less
+pub known_kept : (w next : World) → ((i b : ℕ) → next.past i b ≡ w.past i b) → ((i : ℕ) → (next.nodes i).boot ≡ (w.nodes i).boot)
+    → ((i : ℕ) → (w.nodes i).known ≤ (next.nodes i).known) → (i b : ℕ) → b ≤ (w.nodes i).boot → known_in w i b ≤ known_in next i b
+known_kept w next past boots knows i b begun =
+    subst (λ (x : ℕ). known_in w i b ≤ (if nat_eq b x then (next.nodes i).known else next.past i b)) (sym (boots i))
+    (choose_most (nat_eq b (w.nodes i).boot))
+  where
+    choose_most : (t : Bool) → (if t then (w.nodes i).known else w.past i b) ≤ (if t then (next.nodes i).known else next.past i b)
+    choose_most true = knows i
+    choose_most false = let same : next.past i b ≡ w.past i b = past i b in omega arith
+
+module _ (w next : World) (on : Furthers w next) where
+  pub counted_on : (n phase : ℕ) (x : Counted) → CountedSent w n phase x → CountedSent next n phase x
+  counted_on n phase x was =
+      let goes = on.operations n was.0 was.1 in
+      let call : Call = was.2.0 in (
+        goes.0,
+        goes.1,
+        (
+          call,
+          (was.2.1.0 ∙ sym goes.3, was.2.1.1 ∙ sym goes.4),
+          was.2.2,
+          subst (λ (b : BrickId). WasSent next (record { from = x.brick; to = b; message = Message.Reply call x.reply })) (sym goes.2)
+              (on.sent (record { from = x.brick; to = was.0.brick; message = Message.Reply call x.reply }) was.2.3),
+        ),
+      )
+
+  -- what an abort for a full store shows stays
+  full_on : (n : ℕ) (brick : BrickId) (live : ℕ) → FullAbortShown w n brick live → FullAbortShown next n brick live
+  full_on n brick live was =
+      let goes = on.operations n was.0 was.1 in
+      let call : Call = was.2.0 in (
+        goes.0,
+        goes.1,
+        (
+          call,
+          (was.2.1.0 ∙ sym goes.3, was.2.1.1 ∙ sym goes.4),
+          subst (λ (b : BrickId). WasSent next (record { from = brick; to = b; message = Message.Reply call (Reply.Full live) })) (sym goes.2)
+              (on.sent (record { from = brick; to = was.0.brick; message = Message.Reply call (Reply.Full live) }) was.2.2),
+        ),
+      )
+
+  pub order_on : (call : Call) (from to : BrickId) (t : Stamp) → OrderSent w call from to t → OrderSent next call from to t
+  order_on call from to t (inl order) = inl (on.sent (record { from = from; to = to; message = Message.Request call (Request.Order t) }) order)
+  order_on call from to t (inr read) =
+      inr (on.sent (record { from = from; to = to; message = Message.Request call (Request.OrderRead t (Look.Below t) Want.All) }) read)
+
+  pub descent_on : (call : Call) (from to : BrickId) (t bound : Stamp) → DescentSent w call from to t bound → DescentSent next call from to t bound
+  descent_on call from to t bound sent =
+      on.sent (record { from = from; to = to; message = Message.Request call (Request.OrderRead t (Look.Below bound) Want.All) }) sent
+
+  pub write_on : (call : Call) (from to : BrickId) (t : Stamp) (block : List ℕ) → WriteSent w call from to t block
+      → WriteSent next call from to t block
+  write_on call from to t block sent = on.sent (record { from = from; to = to; message = Message.Request call (Request.Write t block) }) sent
+
+  pub asked_on : (call : Call) (from to : BrickId) (t : Stamp) → AskedAt w call from to t → AskedAt next call from to t
+  asked_on call from to t (inl order) = inl (order_on call from to t order)
+  asked_on call from to t (inr (inl descent)) = inr (inl (descent.0, descent_on call from to t descent.0 descent.1))
+  asked_on call from to t (inr (inr write)) = inr (inr (write.0, write_on call from to t write.0 write.1))
+
+  last_round_on : (n : ℕ) (o p : Operation) (phase : ℕ) → p.brick ≡ o.brick → p.boot ≡ o.boot → o.boot ≤ (w.nodes o.brick.0).boot
+      → ((q : ℕ) → next.replies n q ≡ w.replies n q) → IsLastRound w n o phase → IsLastRound next n p phase
+  last_round_on n o p phase brick boot begun same (inl most) =
+      inl (most.0, λ e few less. ap (λ (l : List Counted). is_some (greatest_refuser l)) (same e) ∙ most.1 e few less)
+  last_round_on n o p phase brick boot begun same (inr none) =
+      inr (subst (λ (b : BrickId). has_later_time (known_in next b.0 p.boot) ≡ false) (sym brick)
+      (subst (λ (b : ℕ). has_later_time (known_in next o.brick.0 b) ≡ false) (sym boot)
+      (not_below _ (known_in w o.brick.0 o.boot) (known_in next o.brick.0 o.boot) (on.known o.brick.0 o.boot begun) none)))
+
+  -- the evidence of an abort stays, where the replies of its operation do
+  evidence_on : MessagesShow next → (n : ℕ) (o p : Operation) (brick : BrickId) (x : Stamp) → p.brick ≡ o.brick → p.boot ≡ o.boot → p.seq ≡ o.seq
+      → o.boot ≤ (w.nodes o.brick.0).boot → ((q : ℕ) → next.replies n q ≡ w.replies n q) → Evidence w n o brick x → Evidence next n p brick x
+  evidence_on shows n o p brick x brick_is boot seq begun same was =
+      let call : Call = was.call in
+      let t : Stamp = was.stamp in
+      let asked : AskedAt next call p.brick brick t
+      = subst (λ (b : BrickId). AskedAt next call b brick t) (sym brick_is) (asked_on call o.brick brick t was.asked) in
+      record {
+        call = call;
+        stamp = t;
+        seat = was.seat;
+        own = (was.own.0 ∙ sym boot, was.own.1 ∙ sym seq);
+        asked = asked;
+        told = subst (λ (b : BrickId). WasSent next (record { from = brick; to = b; message = Message.Reply call (Reply.Later x) })) (sym brick_is)
+            (on.sent (record { from = brick; to = o.brick; message = Message.Reply call (Reply.Later x) }) was.told);
+        above = was.above;
+        greatest = ap (λ (l : List Counted). greatest_refuser l) (same call.phase) ∙ was.greatest;
+        last = λ sent. last_by sent was.asked;
+      }
+    where
+      by_order : OrderSent w was.call o.brick brick was.stamp → IsLastRound next n p was.call.phase
+      by_order order = last_round_on n o p was.call.phase brick_is boot begun same (was.last order)
+
+      by_descent : OrderSent next was.call p.brick brick was.stamp → (bound : Stamp) → DescentSent w was.call o.brick brick was.stamp bound
+          → (bound ≡ was.stamp) ⊎ (stamp_below bound was.stamp ≡ true) → IsLastRound next n p was.call.phase
+      by_descent sent bound descent (inl own) =
+          by_order (inr (subst (λ (b : Stamp). DescentSent w was.call o.brick brick was.stamp b) own descent))
+      by_descent sent bound descent (inr below) =
+          absurd (shows.order_or_descent was.call o.brick brick brick was.stamp was.stamp bound below
+          (descent_on was.call o.brick brick was.stamp bound descent)
+          (subst (λ (b : BrickId). OrderSent next was.call b brick was.stamp) brick_is sent))
+
+      last_by : OrderSent next was.call p.brick brick was.stamp → AskedAt w was.call o.brick brick was.stamp → IsLastRound next n p was.call.phase
+      last_by sent (inl order) = by_order order
+      last_by sent (inr (inl (bound, descent))) =
+          by_descent sent bound descent (shows.bounds was.call o.brick brick was.stamp bound
+          (descent_on was.call o.brick brick was.stamp bound descent))
+      last_by sent (inr (inr (block, write))) =
+          absurd (shows.order_or_write was.call o.brick brick brick was.stamp was.stamp block (write_on was.call o.brick brick was.stamp block write)
+          (subst (λ (b : BrickId). OrderSent next was.call b brick was.stamp) brick_is sent))
+
+-- the history of the next world: what is new in it is shown
+pub tallied_on : (setting : Setting) (w next : World) → Books setting w → Tallied w → MessagesShow next → Furthers w next
+    → ((i k : ℕ) (c : Coordinator) → IsCall next i k c → CallTallied next.replies (number_of next i k) c)
+    → ((n p : ℕ) → next.begun < n → next.replies n p ≡ [])
+    → ((n phase k : ℕ) (x : Counted) → slice_get (next.replies n phase) k ≡ Some x
+    → (slice_get (w.replies n phase) k ≡ Some x) ⊎ CountedSent next n phase x)
+    → ((k p n : ℕ) (brick : BrickId) (x : Stamp) → slice_get next.marks k ≡ Some (End p n (Aborted (Cause.Later brick x)))
+    → (slice_get w.marks k ≡ Some (End p n (Aborted (Cause.Later brick x)))) ⊎ AbortShown next n brick x)
+    → ((k p n : ℕ) (brick : BrickId) (live : ℕ) → slice_get next.marks k ≡ Some (End p n (Aborted (Cause.Full brick live)))
+    → (slice_get w.marks k ≡ Some (End p n (Aborted (Cause.Full brick live)))) ⊎ FullAbortShown next n brick live)
+    → Tallied next
+tallied_on setting w next books tallied shows on calls unbegun counted aborts full_aborts = record {
+  calls = calls;
+  unbegun = unbegun;
+  counted = λ n phase k x is. ⊎_elim
+      (λ (old : slice_get (w.replies n phase) k ≡ Some x). counted_on w next on n phase x (tallied.counted n phase k x old))
+      (λ (new : CountedSent next n phase x). new)
+      (counted n phase k x is);
+  aborts = λ k p n brick x is. ⊎_elim
+      (λ (old : slice_get w.marks k ≡ Some (End p n (Aborted (Cause.Later brick x)))).
+      let was : AbortShown w n brick x = tallied.aborts k p n brick x old in
+      let goes = on.operations n was.0 was.1 in
+      ⊎_elim
+      (λ (same : (q : ℕ) → next.replies n q ≡ w.replies n q).
+      (goes.0, goes.1, evidence_on w next on shows n was.0 goes.0 brick x goes.2 goes.3 goes.4 (books.operations n was.0 was.1).booted.1 same was.2))
+      (λ (open' : IsOpen (life_of w.marks n)).
+      absurd (ended_not_open w.marks k p n (Aborted (Cause.Later brick x)) books.well_formed old open'))
+      (on.replies n))
+      (λ (new : AbortShown next n brick x). new)
+      (aborts k p n brick x is);
+  full_aborts = λ k p n brick live is. ⊎_elim
+      (λ (old : slice_get w.marks k ≡ Some (End p n (Aborted (Cause.Full brick live)))).
+      full_on w next on n brick live (tallied.full_aborts k p n brick live old))
+      (λ (new : FullAbortShown next n brick live). new)
+      (full_aborts k p n brick live is);
+}

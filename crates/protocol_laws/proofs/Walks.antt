@@ -1,0 +1,426 @@
+-- The walk along a stripe's effective versions, and why its happenings are strict.
+use Rattle.std.proofs.Common.{◌≡◌, ◌≢◌, ℕ, ◌<◌, ◌≤◌, ◌⊎◌, inl, inr, ⊎_elim, Bool, true, false, not, ◌&&◌, ◌||◌, nat_eq, List, length, get_or, map, Option, Some, None, refl, sym, ap, ◌∙◌, subst, arith}
+use Rattle.std.specs.List.{All, AllPairs, Contains}
+use Rattle.std.proofs.lemmas.Bool.{cases_Bool, cases_eq, cases_lt, both_ways, or_parts, or_left, or_right, or_from, and_cases, ltb-false}
+use Rattle.std.proofs.lemmas.Option.{none-some, same_Some}
+use Rattle.std.proofs.lemmas.List.Elements.{All-weaker, All-contains, All-contains_itself}
+use Rattle.std.proofs.lemmas.List.Sorted.{sorted_far}
+use Rattle.fab_base.specs.declared.stamps.Stamp.{Stamp}
+use Rattle.fab_base.specs.declared.asks.Op.{Op}
+use Rattle.fab_base.specs.declared.asks.Op.TheVariants.{ReadStripe}
+use Rattle.fab_base.specs.declared.answers.Answer.{Answer}
+use Rattle.fab_base.specs.declared.answers.Answer.TheVariants.{Data, Done, Aborted}
+use Rattle.fab_base.specs.Stamps.{stamp_below, stamp_same, first_stamp}
+use Rattle.fab_base.proofs.StampOrder.{stamp_below_first, stamp_neither_below, stamp_same_refl}
+use Rattle.reg_model.specs.declared.marks.Mark.{Mark}
+use Rattle.reg_model.specs.declared.entries.Entry.{Entry}
+use Rattle.reg_model.specs.Marks.{Ending, Answered, Interrupted, Unended, Life, life_of, IsUnended, end_of, is_of_stripe, concerns, stripe_marks}
+use Rattle.reg_model.specs.Strict.{IsAnswered, WasAnswered, IsRead, data_of, after_life, IsStrict}
+use Rattle.reg_model.specs.Registers.{after_op, read_of}
+use Rattle.reg_model.specs.Chains.{EachNext, IsMadeOn, IsEffective, AreEffective, versions_of}
+use Rattle.reg_model.specs.Walk.{turn_below, entry_below, begin_of, last_of, OnlyReads, HasTurn, IsMade, IsOfVersion, Follows, WalkFacts}
+use Rattle.reg_model.proofs.Chains.{each_next_from_made}
+use Rattle.reg_model.proofs.EntryOrder.{entry_order}
+use Rattle.reg_model.proofs.Walk.{walk_is_strict}
+use Rattle.fab_base.specs.Layouts.{Group, group_of}
+use Rattle.protocol.specs.Settings.{Setting}
+use Rattle.protocol.specs.Worlds.{World, Operation}
+use Rattle.protocol.specs.Happenings.{is_of, entries_to, was_answered, writes, is_told, base_of, ascending, Effect, effect_of, walk_of, happenings_of}
+use Rattle.protocol_laws.proofs.Books.{Books, OperationBooks, IsOperation}
+use Rattle.protocol_laws.proofs.Chains.{above_first, base_in, base_is, entries_ours, has_entry, stripe_of, maker_facts, one_maker, IsAnsweredVersion, base_facts, maker_swept, versions_effective, MadeVersion, maker_entry, maker_reads, complete, are_effective, version_made}
+use Rattle.protocol_laws.proofs.Effects.{IsSwept, answered_swept, told_all, told_pairs, told_told, told_versions}
+use Rattle.protocol_laws.proofs.Entries.{AreApart, IsEntryOf, entry_of, entries_apart, numbers_distinct, Contains-number}
+use Rattle.protocol_laws.proofs.Lives.{EndingStays, EndingStays-answered_before, LifeStays}
+use Rattle.protocol_laws.proofs.QuorumFacts.{QuorumFacts, MakerFacts, BaseSays}
+use Rattle.protocol_laws.proofs.RisingMarks.{RisesFrom, RisesFrom-increasing, RisesFrom-filter, NumbersRise, NumbersRise-increasing, NumbersRise-filter, life_within, begins_before_open, begins_in_order}
+use Rattle.protocol_laws.proofs.Said.{WritesWhole}
+use Rattle.protocol_laws.proofs.Sorting.{InOrder, ascending_order, ascending_apart, IsSortedBy-from_order}
+use Rattle.protocol_laws.proofs.StripeLives.{life_filtered, none_filtered, others_filtered, numbers_from_one}
+
+-- what an answered read of the stripe was answered is its content
+reads_data : (content : List ℕ) (ending : Ending) → ((p : ℕ) (bytes : List ℕ) → ending ≡ Answered p (Data bytes) → bytes ≡ content)
+    → IsRead (Some content) (data_of ending)
+reads_data content (Answered p (Data bytes)) h = h p bytes refl
+reads_data content (Answered p Done) h = tt
+reads_data content (Answered p (Aborted cause)) h = tt
+reads_data content (Interrupted p) h = tt
+reads_data content (Unended past) h = tt
+
+-- an ending in the stripe's marks that is an answer is that answer in all marks
+answer_before : (e later : Ending) (p : ℕ) (answer : Answer) → EndingStays e later → later ≡ Answered p answer → e ≡ Answered p answer
+answer_before (Answered q a) later p answer stays is = sym stays ∙ is
+answer_before (Interrupted q) later p answer stays is = absurd (let never : Interrupted q ≡ Answered p answer = sym stays ∙ is in cc)
+answer_before (Unended past) later p answer stays is = absurd (subst (λ (x : Ending). IsUnended x) is stays)
+
+interrupted_before : (e later : Ending) (p : ℕ) → EndingStays e later → later ≡ Interrupted p → e ≡ Interrupted p
+interrupted_before (Answered q a) later p stays is = absurd (let never : Answered q a ≡ Interrupted p = sym stays ∙ is in cc)
+interrupted_before (Interrupted q) later p stays is = sym stays ∙ is
+interrupted_before (Unended past) later p stays is = absurd (subst (λ (x : Ending). IsUnended x) is stays)
+
+-- what is not before an entry has no smaller stamp, and of the same version no earlier turn
+not_before : (a b : Entry) → entry_below b a ≡ false
+    → (stamp_below b.stamp a.stamp ≡ false) × (b.stamp ≡ a.stamp → turn_below b.reader b.operation a.reader a.operation ≡ false)
+unfolding entry_below
+not_before a b h =
+    let parts = or_parts _ _ h in (
+      parts.0,
+      λ same. ⊎_elim
+          (λ (differ : stamp_same b.stamp a.stamp ≡ false). absurd (both_ways (stamp_same b.stamp a.stamp) differ
+          (subst (λ (t : Stamp). stamp_same b.stamp t ≡ true) same (stamp_same_refl b.stamp))))
+          (λ (turn : turn_below b.reader b.operation a.reader a.operation ≡ false). turn)
+          (and_cases _ _ parts.1),
+    )
+
+-- of two readers of one version, the later is of no smaller number; no maker is after a reader
+reader_after : (reader : Bool) (k n : ℕ) → turn_below reader k true n ≡ false → n ≤ k
+reader_after false k n h = absurd (let never : true ≡ false = h in cc)
+reader_after true k n h = ltb-false k n h
+
+module _ (setting : Setting) (w : World) (g s : ℕ) (books : Books setting w) (facts : QuorumFacts setting w) where
+  -- the stripe's marks, its entries in order, what the sweep finds of them, and the walk
+  abbrev marks : List Mark
+  marks = stripe_marks g s w.marks
+
+  abbrev entries : List Entry
+  entries = ascending (entries_to w.operations g s w.begun)
+
+  abbrev effect : Effect
+  effect = effect_of w.operations (ascending (entries_to w.operations g s w.begun))
+
+  abbrev walk : List Entry
+  walk = (effect_of w.operations (ascending (entries_to w.operations g s w.begun))).told
+
+  abbrev content : Stamp → List ℕ
+  content = w.contents g s
+
+  abbrev versions : List Stamp
+  versions = versions_of (effect_of w.operations (ascending (entries_to w.operations g s w.begun))).versions
+
+  abbrev base : Stamp → Option Stamp
+  base t = base_in w.operations (ascending (entries_to w.operations g s w.begun)) t
+
+  abbrev IsOurs : Entry → Type 0
+  IsOurs e = IsEntryOf w.operations g s e
+
+  all_rise : RisesFrom 0 w.marks
+  all_rise = RisesFrom-increasing w.marks books.well_formed.positions_rise
+
+  all_numbers : NumbersRise 0 w.marks
+  all_numbers = NumbersRise-increasing w.marks (numbers_from_one w.marks (λ n life is. (books.lives n life is).0)) books.well_formed.numbers_rise
+
+  rise : RisesFrom 0 marks
+  rise = RisesFrom-filter (concerns g s w.marks) w.marks 0 all_rise
+
+  numbers : NumbersRise 0 marks
+  numbers = NumbersRise-filter (concerns g s w.marks) w.marks 0 all_numbers
+
+  -- the life of an operation of the stripe, in all marks and in the stripe's
+  record StripeLife (n : ℕ) (o : Operation) : Type 0 where
+    full : Life
+    full_is : life_of w.marks n ≡ Some full
+    begin : full.begin ≡ o.begin
+    ask : full.ask ≡ o.ask
+    life : Life
+    life_is : life_of marks n ≡ Some life
+    stays : LifeStays full life
+    answered : IsAnswered full.ending → o.answered ≡ true
+
+  stripe_life : (n : ℕ) (o : Operation) → IsOperation w n o → is_of g s o ≡ true → StripeLife n o
+  stripe_life n o is of =
+      let mine : OperationBooks setting w n o = books.operations n o is in
+      let own : is_of_stripe g s (Some mine.life) ≡ true = ap (λ a. nat_eq a.group.0 g && nat_eq a.stripe.0 s) mine.ask ∙ of in
+      let found = life_filtered g s w.marks n (ap (is_of_stripe g s) mine.life_is ∙ own) w.marks mine.life mine.life_is own in
+      record { full = mine.life; full_is = mine.life_is; begin = mine.begin; ask = mine.ask; life = found.0; life_is = found.1; stays = found.2; answered = mine.answered_only }
+
+  -- an operation with a life in the stripe's marks is of the stripe
+  stripe_operation : (n : ℕ) (l : Life) → life_of marks n ≡ Some l → (o : Operation) × IsOperation w n o × (is_of g s o ≡ true)
+  stripe_operation n l is = found (life_of w.marks n) refl
+    where
+      found : (x : Option Life) → life_of w.marks n ≡ x → (o : Operation) × IsOperation w n o × (is_of g s o ≡ true)
+      found None none = absurd (none-some l (sym (none_filtered (concerns g s w.marks) w.marks n none) ∙ is))
+      found (Some life) at =
+          let bounds = books.lives n life at in
+          let begun : (o : Operation) × IsOperation w n o = books.all_begun n bounds.0 bounds.1 in
+          let mine : OperationBooks setting w n begun.0 = books.operations n begun.0 begun.1 in
+          ⊎_elim
+          (λ (of : is_of g s begun.0 ≡ true). (begun.0, begun.1, of))
+          (λ (other : is_of g s begun.0 ≡ false).
+          let foreign : is_of_stripe g s (Some mine.life) ≡ false = ap (λ a. nat_eq a.group.0 g && nat_eq a.stripe.0 s) mine.ask ∙ other in
+          absurd (none-some l (sym (others_filtered g s w.marks w.marks 0 n mine.life all_numbers mine.life_is foreign) ∙ is)))
+          (cases_Bool (is_of g s begun.0))
+
+  -- each entry of the walk is one of the stripe's
+  walk_ours : All IsOurs walk
+  walk_ours = told_all w.operations IsOurs entries (entries_ours setting w g s books facts)
+
+  -- each entry of the walk stands among all entries
+  walk_entries : All (Contains entries) walk
+  walk_entries = told_all w.operations (Contains entries) entries (All-contains_itself entries)
+
+  -- the walk is in order
+  walk_order : InOrder walk
+  walk_order =
+      told_pairs w.operations (λ a b. entry_below b a ≡ false) entries (ascending_order (entries_to w.operations g s w.begun))
+
+  -- and no two of its entries are of one operation
+  walk_apart : AllPairs AreApart walk
+  walk_apart =
+      told_pairs w.operations AreApart entries
+      (ascending_apart (entries_to w.operations g s w.begun) (entries_apart w.operations g s w.begun))
+
+  -- what a read of the stripe was answered is its version's content
+  reads_right : (n : ℕ) (o : Operation) (t : Stamp) (l : StripeLife n o) → IsOperation w n o → is_of g s o ≡ true → o.version ≡ Some t
+      → IsRead (Some (w.contents g s t)) (data_of l.life.ending)
+  reads_right n o t l is of version =
+      let at : (o.ask.group.0 ≡ g) × (o.ask.stripe.0 ≡ s) = stripe_of setting w g s books facts o of in
+      let same : w.contents o.ask.group.0 o.ask.stripe.0 t ≡ w.contents g s t
+      = ap (λ (x : ℕ). w.contents x o.ask.stripe.0 t) at.0 ∙ ap (λ (y : ℕ). w.contents g y t) at.1 in
+      reads_data (w.contents g s t) l.life.ending
+      (λ p bytes ending.
+      facts.answered_data n o t l.full p bytes is version l.full_is (answer_before l.full.ending l.life.ending p (Data bytes) l.stays.ending ending)
+      ∙ same)
+
+  -- what an operation's life asks
+  life_op : (n : ℕ) (o : Operation) (l : StripeLife n o) → l.life.ask.op ≡ o.ask.op
+  life_op n o l = ap (λ a. a.op) (l.stays.ask ∙ l.ask)
+
+  -- an operation makes or reads its version's content
+  made_turn : (n : ℕ) (o : Operation) (t : Stamp) (l : StripeLife n o) → IsOperation w n o → is_of g s o ≡ true → o.version ≡ Some t
+      → WritesWhole w o t ⊎ BaseSays setting w o t → HasTurn setting.layout.block (w.contents g s t) false (Some l.life)
+  made_turn n o t l is of version (inl whole) =
+      subst (λ (x : Op). IsRead (read_of setting.layout.block x (w.contents g s t)) (data_of l.life.ending)) (sym (life_op n o l ∙ whole.1)) tt
+  made_turn n o t l is of version (inr says) =
+      subst (λ (x : Op). IsRead (read_of setting.layout.block x (w.contents g s t)) (data_of l.life.ending)) (sym (life_op n o l ∙ says.op))
+      (reads_right n o t l is of version)
+
+  turn_of : (n : ℕ) (o : Operation) (t : Stamp) (l : StripeLife n o) (made : Bool) → IsOperation w n o → is_of g s o ≡ true → o.version ≡ Some t
+      → o.made ≡ made
+      → HasTurn setting.layout.block (w.contents g s t) (not made) (Some l.life)
+  turn_of n o t l true is of version made = made_turn n o t l is of version (facts.maker n o t is made version).how
+  turn_of n o t l false is of version made =
+      subst (λ (x : Op). OnlyReads x × IsRead (read_of setting.layout.block x (w.contents g s t)) (data_of l.life.ending))
+      (sym (life_op n o l ∙ (facts.reader n o t is made version).op)) (tt, reads_right n o t l is of version)
+
+  walk_turns : All (λ (e : Entry). HasTurn setting.layout.block (w.contents g s e.stamp) e.reader (life_of marks e.operation)) walk
+  walk_turns = All-weaker IsOurs (λ (e : Entry). HasTurn setting.layout.block (w.contents g s e.stamp) e.reader (life_of marks e.operation))
+      (λ e ours.
+      let l : StripeLife e.operation ours.operation = stripe_life e.operation ours.operation ours.is ours.of in
+      subst (λ (x : Option Life). HasTurn setting.layout.block (w.contents g s e.stamp) e.reader x) (sym l.life_is)
+      (subst (λ (x : Bool). HasTurn setting.layout.block (w.contents g s e.stamp) x (Some l.life)) (sym ours.reader)
+      (turn_of e.operation ours.operation e.stamp l ours.operation.made ours.is ours.of ours.version refl)))
+      walk walk_ours
+
+  -- an entry of the walk is of an effective version, or reads the first one
+  walk_versions : All (IsOfVersion versions) walk
+  walk_versions k d lt =
+      let e : Entry = get_or walk k d in
+      let ours : IsOurs e = walk_ours k d lt in
+      let effective = All-contains (λ (t : Stamp). IsEffective (IsAnsweredVersion setting w g s books facts) base t) effect.versions e.stamp
+      (versions_effective setting w g s books facts) (told_versions w.operations entries k d lt) in
+      ⊎_elim
+      (λ (above : stamp_below first_stamp e.stamp ≡ true). inl ((are_effective setting w g s books facts).complete e.stamp effective above))
+      (λ (not_above : stamp_below first_stamp e.stamp ≡ false). inr (
+        sym (stamp_neither_below first_stamp e.stamp not_above (stamp_below_first e.stamp)),
+        ⊎_elim (λ (reads : e.reader ≡ true). reads)
+            (λ (maker : e.reader ≡ false).
+            absurd (both_ways (stamp_below first_stamp e.stamp) not_above (maker_facts setting w g s books facts e ours maker).later))
+            (cases_Bool e.reader),
+      ))
+      (cases_Bool (stamp_below first_stamp e.stamp))
+
+  -- how an effective version came from the one before it, by its maker that the sweep found
+  follows_by : (u v : Stamp) → IsMadeOn base u v → (r : Entry) → Contains entries r → r.reader ≡ false → r.stamp ≡ v
+      → IsSwept w.operations effect r → Follows setting.layout.block marks (w.contents g s) walk u v
+  follows_by u v on r has maker stamp swept = subst (λ (t : Stamp). Follows setting.layout.block marks (w.contents g s) walk u t) stamp
+      (by facts_of.how)
+    where
+      mine : IsOurs r
+      mine = All-contains IsOurs entries r (entries_ours setting w g s books facts) has
+
+      facts_of : MakerFacts setting w mine.operation r.stamp
+      facts_of = maker_facts setting w g s books facts r mine maker
+
+      its : StripeLife r.operation mine.operation
+      its = stripe_life r.operation mine.operation mine.is mine.of
+
+      at : (mine.operation.ask.group.0 ≡ g) × (mine.operation.ask.stripe.0 ≡ s)
+      at = stripe_of setting w g s books facts mine.operation mine.of
+
+      content_of : (t : Stamp) → w.contents mine.operation.ask.group.0 mine.operation.ask.stripe.0 t ≡ w.contents g s t
+      content_of t = ap (λ (x : ℕ). w.contents x mine.operation.ask.stripe.0 t) at.0 ∙ ap (λ (y : ℕ). w.contents g y t) at.1
+
+      -- the maker stands in the walk, and changes the content so
+      made_from : is_told (Some mine.operation) ≡ true → w.contents g s r.stamp ≡ after_op setting.layout.block its.life.ask.op (w.contents g s u)
+          → Follows setting.layout.block marks (w.contents g s) walk u r.stamp
+      made_from told changes =
+          let stands : Contains walk r = swept.told (ap (λ (o : Option Operation). is_told o) mine.is ∙ told) in
+          inl (
+            stands.0,
+            r,
+            stands.1,
+            stands.2,
+            (
+              (maker, refl),
+              subst (λ (x : Option Life). w.contents g s r.stamp ≡ after_life setting.layout.block (w.contents g s u) x) (sym its.life_is) changes,
+            ),
+          )
+
+      -- what was read back is the version before
+      base_is_u : (says : BaseSays setting w mine.operation r.stamp) → says.base ≡ u
+      base_is_u says =
+          let is : base r.stamp ≡ Some says.base
+          = base_is setting w g s books facts r has maker ∙ ap (λ (o : Option Operation). base_of o) mine.is ∙ says.base_is in
+          ⊎_elim
+          (λ (none : base v ≡ None). absurd (let never : None ≡ Some says.base = sym none ∙ ap (λ (t : Stamp). base t) (sym stamp) ∙ is in cc))
+          (λ (some : base v ≡ Some u). same_Some says.base u (sym is ∙ ap (λ (t : Stamp). base t) stamp ∙ some))
+          on
+
+      -- no other operation made the version
+      unmade : mine.operation.answered ≡ false → mine.operation.ask.op ≡ ReadStripe → IsMade walk r.stamp → ⊥
+      unmade unanswered op (k, e, lt, is, made) =
+          let e_has : Contains entries e = All-contains (Contains entries) walk e walk_entries (k, lt, is) in
+          let one : e.operation ≡ r.operation = one_maker setting w g s books facts e r e_has has made.0 maker made.1 in
+          let told : is_told (w.operations e.operation) ≡ true
+          = All-contains (λ (x : Entry). is_told (w.operations x.operation) ≡ true) walk e (told_told w.operations entries) (k, lt, is) in
+          let same : is_told (Some mine.operation) ≡ true
+          = sym (ap (λ (o : Option Operation). is_told o) (ap w.operations one ∙ mine.is)) ∙ told in
+          let reads : writes mine.operation.ask.op ≡ false = ap (λ (x : Op). writes x) op in
+          both_ways (mine.operation.answered || writes mine.operation.ask.op) (or_from _ _ unanswered reads) same
+
+      by : WritesWhole w mine.operation r.stamp ⊎ BaseSays setting w mine.operation r.stamp → Follows setting.layout.block marks
+          (w.contents g s) walk u r.stamp
+      by (inl whole) =
+          made_from (or_right mine.operation.answered _ (ap (λ (x : Op). writes x) whole.1))
+          (sym (ap (λ (x : Op). after_op setting.layout.block x (w.contents g s u)) (life_op r.operation mine.operation its ∙ whole.1)
+          ∙ content_of r.stamp))
+      by (inr says) =
+          let same : w.contents g s r.stamp ≡ w.contents g s u
+          = sym (content_of r.stamp) ∙ says.content ∙ content_of says.base ∙ ap (λ (t : Stamp). w.contents g s t) (base_is_u says) in
+          ⊎_elim
+          (λ (answered : mine.operation.answered ≡ true).
+          made_from (or_left mine.operation.answered _ answered)
+          (same ∙ sym (ap (λ (x : Op). after_op setting.layout.block x (w.contents g s u)) (life_op r.operation mine.operation its ∙ says.op))))
+          (λ (unanswered : mine.operation.answered ≡ false). inr (unmade unanswered says.op, same))
+          (cases_Bool mine.operation.answered)
+
+  -- each effective version came so from the one before it
+  follows : (u v : Stamp) → IsEffective (IsAnsweredVersion setting w g s books facts) base v → IsMadeOn base u v → stamp_below first_stamp v ≡ true
+      → Follows setting.layout.block marks (w.contents g s) walk u v
+  follows u v effective on above =
+      let has : Contains effect.versions v = complete setting w g s books facts v effective above in
+      let made : MadeVersion setting w g s books facts v = version_made setting w g s books facts v has above in
+      let swept = maker_swept setting w g s books facts v has (entry_of made.number made.operation v) (maker_entry setting w g s books facts v made)
+      (maker_reads setting w g s books facts v made) refl in
+      follows_by u v on swept.0 swept.1 swept.2 swept.3 swept.4
+
+  each_follows : EachNext (Follows setting.layout.block marks (w.contents g s) walk) versions
+  each_follows k d inside =
+      let are : AreEffective (IsAnsweredVersion setting w g s books facts) base versions = are_effective setting w g s books facts in
+      each_next_from_made (IsAnsweredVersion setting w g s books facts) base (base_facts setting w g s books facts)
+      (λ (u v : Stamp). stamp_below first_stamp v ≡ true → Follows setting.layout.block marks (w.contents g s) walk u v) versions are
+      (λ u v effective on above. follows u v effective on above) k d inside
+      (above_first _ _ (are.ascend k d inside))
+
+  walk_answered : (n : ℕ) → WasAnswered (life_of marks n) → Contains (map (λ (e : Entry). e.operation) walk) n
+  walk_answered n answered = stands (life_of marks n) refl answered
+    where
+      stands : (x : Option Life) → life_of marks n ≡ x → WasAnswered x → Contains (map (λ (e : Entry). e.operation) walk) n
+      stands None none never = absurd never
+      stands (Some life) is ended =
+          let o = stripe_operation n life is in
+          let l : StripeLife n o.0 = stripe_life n o.0 o.1 o.2 in
+          let same : life ≡ l.life = same_Some life l.life (sym is ∙ l.life_is) in
+          let was : o.0.answered ≡ true = l.answered (EndingStays-answered_before l.full.ending l.life.ending l.stays.ending
+          (subst (λ (x : Life). IsAnswered x.ending) same ended)) in
+          let version = (books.operations n o.0 o.1).answered_version was in
+          let e : Entry = entry_of n o.0 version.0 in
+          let swept : IsSwept w.operations effect e = answered_swept w.operations entries e
+          (has_entry setting w g s books facts n o.0 version.0 o.1 o.2 version.1)
+          (ap (λ (x : Option Operation). was_answered x) o.1 ∙ was) in
+          Contains-number walk e (swept.told (ap (λ (x : Option Operation). is_told x) o.1 ∙ or_left o.0.answered _ was))
+
+  -- an operation that ended did not end before one that stands no later in the walk began
+  in_time_ended : (a b : Entry) (first : IsOurs a) (second : IsOurs b) (one : StripeLife a.operation first.operation)
+      (other : StripeLife b.operation second.operation)
+      → entry_below b a ≡ false → end_of other.life.ending ≡ end_of other.full.ending → one.life.begin ≤ end_of other.life.ending
+  in_time_ended a b first second one other order ends = ⊎_elim
+      (λ (late : end_of other.life.ending < one.life.begin).
+      let last : last_of (life_of w.marks b.operation) ≡ end_of other.life.ending = ap last_of other.full_is ∙ sym ends in
+      let begin : one.life.begin ≡ first.operation.begin = one.stays.begin ∙ one.begin in
+      let parts = not_before a b order in
+      ⊎_elim
+      (λ (below : stamp_below b.stamp a.stamp ≡ true). absurd (both_ways (stamp_below b.stamp a.stamp) parts.0 below))
+      (λ (same : (b.stamp ≡ a.stamp) × (first.operation.made ≡ false)).
+      let reads : a.reader ≡ true = first.reader ∙ ap not same.1 in
+      let turn : turn_below b.reader b.operation true a.operation ≡ false =
+      subst (λ (x : Bool). turn_below b.reader b.operation x a.operation ≡ false) reads (parts.1 same.0) in
+      let numbered : a.operation ≤ b.operation = reader_after b.reader b.operation a.operation turn in
+      let within : (0 ≤ other.life.begin) × (other.life.begin < end_of other.life.ending) = life_within marks 0 b.operation other.life rise other.life_is in
+      ⊎_elim
+      (λ (equal : a.operation ≡ b.operation).
+      let alike : one.life ≡ other.life = same_Some one.life other.life (sym one.life_is ∙ ap (λ (n : ℕ). life_of marks n) equal ∙ other.life_is) in
+      let begins : one.life.begin ≡ other.life.begin = ap (λ (x : Life). x.begin) alike in
+      omega (arith, within.1))
+      (λ (differ : a.operation ≢ b.operation).
+      let begins : one.life.begin < other.life.begin =
+      begins_in_order marks 0 0 a.operation b.operation one.life other.life rise numbers (omega arith) one.life_is other.life_is in
+      omega (arith, within.1))
+      (cases_eq a.operation b.operation))
+      (facts.real_time g s b.operation a.operation second.operation first.operation b.stamp a.stamp second.is first.is second.of first.of second.version first.version
+      (omega arith)))
+      (λ (early : one.life.begin ≤ end_of other.life.ending). early)
+      (cases_lt (end_of other.life.ending) one.life.begin)
+
+  in_time : (a b : Entry) (first : IsOurs a) (second : IsOurs b) (one : StripeLife a.operation first.operation)
+      (other : StripeLife b.operation second.operation)
+      → entry_below b a ≡ false → (e : Ending) → other.life.ending ≡ e → one.life.begin ≤ end_of other.life.ending
+  in_time a b first second one other order (Answered p answer) ends =
+      in_time_ended a b first second one other order
+      (ap end_of ends ∙ sym (ap end_of (answer_before other.full.ending other.life.ending p answer other.stays.ending ends)))
+  in_time a b first second one other order (Interrupted p) ends =
+      in_time_ended a b first second one other order
+      (ap end_of ends ∙ sym (ap end_of (interrupted_before other.full.ending other.life.ending p other.stays.ending ends)))
+  in_time a b first second one other order (Unended past) ends =
+      let before : one.life.begin < past =
+      begins_before_open marks 0 b.operation past a.operation other.life one.life rise other.life_is ends one.life_is in
+      let at : end_of other.life.ending ≡ past = ap end_of ends in
+      omega arith
+
+  walk_real_time : (i j : ℕ) (d : Entry) → i ≤ j → j < length walk
+      → begin_of (life_of marks (get_or walk i d).operation) ≤ last_of (life_of marks (get_or walk j d).operation)
+  walk_real_time i j d le lt =
+      let a : Entry = get_or walk i d in
+      let b : Entry = get_or walk j d in
+      let first : IsOurs a = walk_ours i d (omega arith) in
+      let second : IsOurs b = walk_ours j d lt in
+      let one : StripeLife a.operation first.operation = stripe_life a.operation first.operation first.is first.of in
+      let other : StripeLife b.operation second.operation = stripe_life b.operation second.operation second.is second.of in
+      let order : entry_below b a ≡ false = sorted_far entry_below entry_order walk (IsSortedBy-from_order walk walk_order) i j d le lt in
+      subst (λ (x : Option Life). begin_of x ≤ last_of (life_of marks b.operation)) (sym one.life_is)
+      (subst (λ (x : Option Life). one.life.begin ≤ last_of x) (sym other.life_is)
+      (in_time a b first second one other order other.life.ending refl))
+
+  -- what is known of the walk
+  walk_facts : (group : Group) → group_of setting.layout g ≡ Some group
+      → WalkFacts group.m setting.layout.block marks (w.contents g s) versions (walk_of w g s)
+  unfolding walk_of
+  walk_facts group is = record {
+    ascending = IsSortedBy-from_order walk walk_order;
+    once = numbers_distinct walk walk_apart;
+    versions_ascend = (are_effective setting w g s books facts).ascend;
+    of_versions = walk_versions;
+    one_maker = λ stamp a b a_has b_has a_makes b_makes.
+        one_maker setting w g s books facts a b (All-contains (Contains entries) walk a walk_entries a_has)
+        (All-contains (Contains entries) walk b walk_entries b_has) a_makes.0 b_makes.0 (a_makes.1 ∙ sym b_makes.1);
+    turns = walk_turns;
+    first_is_zero = facts.first g s group is;
+    each_follows = each_follows;
+    answered_stand = walk_answered;
+    real_time = walk_real_time;
+  }
+
+  -- the stripe's happenings are strict
+  pub happenings_strict : (group : Group) → group_of setting.layout g ≡ Some group
+      → IsStrict group.m setting.layout.block marks (happenings_of w g s)
+  unfolding happenings_of
+  happenings_strict group is = walk_is_strict group.m setting.layout.block marks (w.contents g s) versions (walk_of w g s) (walk_facts group is)

@@ -1,0 +1,231 @@
+-- The laws of the disk, as they hold in every world that a run reaches. Quorums are counted by seat.
+use Rattle.std.specs.Prelude.{◌≡◌, ℕ, ◌+◌, ◌<◌, ◌≤◌, Bool, true, false, not, ◌&&◌, List, length, ◌⊎◌, Some, is_some, slice_get, slice_index_or}
+use Rattle.fab_base.specs.declared.identities.BrickId.{BrickId}
+use Rattle.fab_base.specs.declared.stamps.Stamp.{Stamp}
+use Rattle.fab_base.specs.declared.asks.Op.TheVariants.{WriteStripe}
+use Rattle.fab_base.specs.declared.answers.Answer.TheVariants.{Aborted}
+use Rattle.fab_base.specs.declared.answers.Cause.TheVariants as Cause
+use Rattle.fab_base.specs.Stamps.{stamp_below}
+use Rattle.messages.specs.declared.calls.Call.{Call}
+use Rattle.messages.specs.declared.packets.Message.{Message}
+use Rattle.messages.specs.declared.packets.Packet.{Packet}
+use Rattle.messages.specs.declared.requests.Version.{Version}
+use Rattle.messages.specs.declared.requests.Request.TheVariants as Request
+use Rattle.messages.specs.declared.requests.Look.TheVariants as Look
+use Rattle.messages.specs.declared.requests.Want.TheVariants as Want
+use Rattle.messages.specs.declared.replies.Reply.{Reply}
+use Rattle.quorum.specs.Quorums.{count}
+use Rattle.reg_model.specs.declared.marks.Mark.TheVariants.{End}
+use Rattle.reg_model.specs.Marks.{life_of, stripe_marks, IsWellFormed}
+use Rattle.reg_model.specs.Strict.{IsStrict}
+use Rattle.reg_model.specs.Walk.{last_of}
+use Rattle.fab_base.specs.Layouts.{Group, group_of, seat_in, brick_at}
+use Rattle.quorum.specs.Quorums.{quorum_of}
+use Rattle.protocol.specs.Settings.{Setting, IsSound}
+use Rattle.protocol.specs.Replicas.{Replica, top_of, is_held}
+use Rattle.protocol.specs.declared.phases.Counted.{Counted}
+use Rattle.protocol.specs.Coordinators.{most_rounds, greatest_refuser, told_in}
+use Rattle.protocol.specs.Nodes.{has_later_time}
+use Rattle.protocol.specs.Worlds.{World, Event, Operation, first_world, known_in, happens, run}
+use Rattle.protocol.specs.Happenings.{is_of, effect_in, happenings_of}
+
+-- the packet was sent
+abbrev pub WasSent : World → Packet → Type 0
+WasSent w packet = (k : ℕ) × (slice_get w.packets k ≡ Some packet)
+
+-- a brick's part of a stripe
+abbrev pub part_of : World → ℕ → ℕ → ℕ → Replica
+part_of w g s i = (w.nodes i).replicas g s
+
+-- a test holds at a quorum of the group's seats
+abbrev pub AtQuorum : Group → (ℕ → Bool) → Type 0
+AtQuorum group test = quorum_of group ≤ count (length group.members) test
+
+-- at a quorum of the group's seats, the stripe's order stamp or newest version is at or above t
+abbrev pub IsGuarded : World → ℕ → ℕ → Group → Stamp → Type 0
+IsGuarded w g s group t = AtQuorum group (λ seat. not (stamp_below (top_of (part_of w g s (brick_at group seat))) t))
+
+-- a write of version t of this stripe was sent, under a call, to a brick, with this block
+abbrev pub WriteSent : World → Call → BrickId → BrickId → Stamp → List ℕ → Type 0
+WriteSent w call from to t block = WasSent w (record { from = from; to = to; message = Message.Request call (Request.Write t block) })
+
+-- One stamp has one content: each block of version t that was sent, or was found, or is kept is its seat's block of the content of t.
+pub record OneContent (setting : Setting) (w : World) : Type 0 where
+  pub sent : (call : Call) (from to : BrickId) (t : Stamp) (block : List ℕ) (group : Group)
+      → group_of setting.layout call.group.0 ≡ Some group → WriteSent w call from to t block
+      → (seat : ℕ) × (seat < length group.members) × (brick_at group seat ≡ to.0)
+      × (block ≡ setting.code.encode group.m (w.contents call.group.0 call.stripe.0 t) seat)
+  pub found : (call : Call) (from to : BrickId) (seat : ℕ) (reply : Reply) (version : Version) (group : Group)
+      → group_of setting.layout call.group.0 ≡ Some group → seat_in group.members from.0 ≡ Some seat
+      → WasSent w (record { from = from; to = to; message = Message.Reply call reply }) → told_in reply ≡ Some version
+      → version.block ≡ setting.code.encode group.m (w.contents call.group.0 call.stripe.0 version.stamp) seat
+  pub kept : (g s i seat k : ℕ) (version : Version) (group : Group) → group_of setting.layout g ≡ Some group → seat_in group.members i ≡ Some seat
+      → slice_get (part_of w g s i).log k ≡ Some version → version.block ≡ setting.code.encode group.m (w.contents g s version.stamp) seat
+
+-- At so many seats that with a quorum they are more than all, the stripe's stamps are above version d, and d is not held: no quorum holds d, or
+-- ever will.
+abbrev pub IsBlocked : World → ℕ → ℕ → Group → Stamp → Type 0
+IsBlocked w g s group d =
+    length group.members < quorum_of group
+    + count (length group.members) (λ seat. stamp_below d (top_of (part_of w g s (brick_at group seat)))
+    && not (is_held d (part_of w g s (brick_at group seat)).log))
+
+-- An operation that made a version on a base, a version that was read back: the base is below it, and is its content; and no quorum holds
+-- a version between the two, or ever will.
+abbrev pub BasesAreNewest : Setting → World → Type 0
+BasesAreNewest setting w =
+    (n : ℕ) (o : Operation) (t b : Stamp) (group : Group) → w.operations n ≡ Some o → group_of setting.layout o.ask.group.0 ≡ Some group
+    → o.made ≡ true → o.version ≡ Some t → o.base ≡ Some b
+    → (stamp_below b t ≡ true)
+    × (w.contents o.ask.group.0 o.ask.stripe.0 t ≡ w.contents o.ask.group.0 o.ask.stripe.0 b)
+    × ((d : Stamp) → stamp_below b d ≡ true → stamp_below d t ≡ true → IsBlocked w o.ask.group.0 o.ask.stripe.0 group d)
+
+-- an operation of the stripe made this version: it is a stripe write, which has no base, or its base is u
+abbrev pub IsMadeOn : World → ℕ → ℕ → Stamp → Stamp → Type 0
+IsMadeOn w g s u t =
+    (n : ℕ) × (o : Operation) × (w.operations n ≡ Some o) × (is_of g s o ≡ true) × (o.made ≡ true) × (o.version ≡ Some t)
+    × (((bytes : List ℕ) × (o.ask.op ≡ WriteStripe bytes)) ⊎ (o.base ≡ Some u))
+
+-- of two neighbours among the effective versions, the upper was written whole, or was made on the lower
+abbrev pub NeighboursFollow : World → ℕ → ℕ → Type 0
+NeighboursFollow w g s =
+    (k : ℕ) (u t : Stamp) → slice_get (effect_in w g s).versions k ≡ Some u → slice_get (effect_in w g s).versions (k + 1) ≡ Some t
+    → (u ≡ t) ⊎ IsMadeOn w g s u t
+
+-- Before a write of version t was sent, a quorum had promised t, or stored something later, and has so ever since.
+abbrev pub WritesAreGuarded : Setting → World → Type 0
+WritesAreGuarded setting w =
+    (call : Call) (from to : BrickId) (t : Stamp) (block : List ℕ) (group : Group)
+    → group_of setting.layout call.group.0 ≡ Some group → WriteSent w call from to t block → IsGuarded w call.group.0 call.stripe.0 group t
+
+-- no step lowers what a brick has promised or stored
+abbrev pub NeverFalls : World → World → Type 0
+NeverFalls old new = (g s i : ℕ) → stamp_below (top_of (part_of new g s i)) (top_of (part_of old g s i)) ≡ false
+
+-- a member says that it stored a version only where it was asked to, and holds it
+abbrev pub StoredIsHeld : World → Type 0
+StoredIsHeld w =
+    (call : Call) (from to : BrickId) → WasSent w (record { from = from; to = to; message = Message.Reply call Reply.Stored })
+    → (t : Stamp) × (block : List ℕ) × WriteSent w call to from t block
+    × (is_held t (part_of w call.group.0 call.stripe.0 from.0).log ≡ true)
+
+-- Versions follow real time: where one operation of a stripe ended before another began, its version is below the other's, or it is the
+-- version that the other read.
+abbrev pub FollowsRealTime : World → ℕ → ℕ → Type 0
+FollowsRealTime w g s =
+    (a b : ℕ) (earlier later : Operation) (u v : Stamp) → w.operations a ≡ Some earlier → w.operations b ≡ Some later
+    → is_of g s earlier ≡ true → is_of g s later ≡ true → earlier.version ≡ Some u → later.version ≡ Some v
+    → last_of (life_of w.marks a) < later.begin
+    → (stamp_below u v ≡ true) ⊎ ((u ≡ v) × (later.made ≡ false))
+
+-- an order of stamp t was sent, a write's or a recovery's
+abbrev pub OrderSent : World → Call → BrickId → BrickId → Stamp → Type 0
+OrderSent w call from to t =
+    WasSent w (record { from = from; to = to; message = Message.Request call (Request.Order t) })
+    ⊎ WasSent w (record { from = from; to = to; message = Message.Request call (Request.OrderRead t (Look.Below t) Want.All) })
+
+-- an order or a write of stamp t was sent, or an order that looks below another version
+abbrev pub AskedAt : World → Call → BrickId → BrickId → Stamp → Type 0
+AskedAt w call from to t =
+    OrderSent w call from to t
+    ⊎ (((bound : Stamp) × WasSent w (record { from = from; to = to; message = Message.Request call (Request.OrderRead t (Look.Below bound) Want.All) }))
+    ⊎ ((block : List ℕ) × WriteSent w call from to t block))
+
+-- a message's call is the operation's
+abbrev pub IsCallOf : Call → Operation → Type 0
+IsCallOf call o = (call.boot ≡ o.boot) × (call.seq ≡ o.seq)
+
+-- A phase of operation n is its last round of ordering: each of the three phases before it had counted a later stamp, or the brick that
+-- coordinates it knew no later time.
+abbrev pub IsLastRound : World → ℕ → Operation → ℕ → Type 0
+IsLastRound w n o phase =
+    ((most_rounds ≤ phase)
+    × ((earlier : ℕ) → phase < earlier + most_rounds → earlier < phase → is_some (greatest_refuser (w.replies n earlier)) ≡ true))
+    ⊎ (has_later_time (known_in w o.brick.0 o.boot) ≡ false)
+
+-- What the abort of operation n shows: in a phase of this very operation, which asked at a lower stamp, the brick had told the coordinator of
+-- the later stamp; no reply that counted in that phase told a greater one; and if it was a round of ordering, it was the last.
+pub record Evidence (w : World) (n : ℕ) (o : Operation) (brick : BrickId) (x : Stamp) : Type 0 where
+  pub call : Call
+  pub stamp : Stamp
+  pub seat : ℕ
+  pub own : IsCallOf call o
+  pub asked : AskedAt w call o.brick brick stamp
+  pub told : WasSent w (record { from = brick; to = o.brick; message = Message.Reply call (Reply.Later x) })
+  pub above : stamp_below stamp x ≡ true
+  pub greatest : greatest_refuser (w.replies n call.phase) ≡ Some (record { seat = seat; brick = brick; stamp = x })
+  pub last : OrderSent w call o.brick brick stamp → IsLastRound w n o call.phase
+
+-- each reply that counted in a phase of an operation was sent to it, as a reply to that phase
+abbrev pub CountedWereSent : World → Type 0
+CountedWereSent w =
+    (n phase k : ℕ) (x : Counted) → slice_get (w.replies n phase) k ≡ Some x
+    → (o : Operation) × (w.operations n ≡ Some o)
+    × ((call : Call) × IsCallOf call o × (call.phase ≡ phase)
+    × WasSent w (record { from = x.brick; to = o.brick; message = Message.Reply call x.reply }))
+
+-- every abort shows its evidence
+abbrev pub AbortsShow : World → Type 0
+AbortsShow w =
+    (k p n : ℕ) (brick : BrickId) (x : Stamp) → slice_get w.marks k ≡ Some (End p n (Aborted (Cause.Later brick x)))
+    → (o : Operation) × (w.operations n ≡ Some o) × Evidence w n o brick x
+
+-- a member says that its store is full only with as many live records as a brick may keep
+abbrev pub FullIsFull : Setting → World → Type 0
+FullIsFull setting w =
+    (call : Call) (from to : BrickId) (live : ℕ) → WasSent w (record { from = from; to = to; message = Message.Reply call (Reply.Full live) })
+    → live ≡ setting.layout.records
+
+-- every abort for a full store shows that its brick told so, with that many live records, in a phase of this very operation
+abbrev pub FullAbortsShow : World → Type 0
+FullAbortsShow w =
+    (k p n : ℕ) (brick : BrickId) (live : ℕ) → slice_get w.marks k ≡ Some (End p n (Aborted (Cause.Full brick live)))
+    → (o : Operation) × (w.operations n ≡ Some o)
+    × ((call : Call) × IsCallOf call o × WasSent w (record { from = brick; to = o.brick; message = Message.Reply call (Reply.Full live) }))
+
+-- The laws of a world.
+pub record Laws (setting : Setting) (w : World) : Type 0 where
+  pub one_content : OneContent setting w
+  pub guarded : WritesAreGuarded setting w
+  pub stored : StoredIsHeld w
+  pub bases : BasesAreNewest setting w
+  pub neighbours : (g s : ℕ) → NeighboursFollow w g s
+  pub real_time : (g s : ℕ) → FollowsRealTime w g s
+  pub counted : CountedWereSent w
+  pub aborts : AbortsShow w
+  pub full_aborts : FullAbortsShow w
+  pub full : FullIsFull setting w
+  pub well_formed : IsWellFormed w.marks
+  pub stripe_well_formed : (g s : ℕ) → IsWellFormed (stripe_marks g s w.marks)
+  pub strict : (g s : ℕ) (group : Group) → group_of setting.layout g ≡ Some group
+      → IsStrict group.m setting.layout.block (stripe_marks g s w.marks) (happenings_of w g s)
+
+-- a quorum of the group holds version v of the stripe
+abbrev pub IsHeldByQuorum : World → ℕ → ℕ → Group → Stamp → Type 0
+IsHeldByQuorum w g s group v = AtQuorum group (λ seat. is_held v (part_of w g s (brick_at group seat)).log)
+
+-- Version v of the stripe is lost: at a quorum of the group's seats the stripe's stamps are at or above one that is above v, and fewer than m of
+-- these seats hold v.
+pub record IsLost (w : World) (g s : ℕ) (group : Group) (v : Stamp) : Type 0 where
+  pub seats : ℕ → Bool
+  pub stamp : Stamp
+  pub quorum : AtQuorum group seats
+  pub passed : (seat : ℕ) → seats seat ≡ true → stamp_below (top_of (part_of w g s (brick_at group seat))) stamp ≡ false
+  pub above : stamp_below v stamp ≡ true
+  pub few : count (length group.members) (λ seat. seats seat && is_held v (part_of w g s (brick_at group seat)).log) < group.m
+
+-- whatever happens after a version was lost, no quorum ever holds it
+abbrev pub NeverSurfaces : Type 0
+NeverSurfaces =
+    (setting : Setting) (events more : List Event) (g s : ℕ) (group : Group) (v : Stamp) → IsSound setting → group_of setting.layout g ≡ Some group
+    → (let w = run setting events (first_world setting.layout) in IsLost w g s group v → IsHeldByQuorum (run setting more w) g s group v → ⊥)
+
+-- the laws hold in every world that a run reaches, for every layout within the limits and every code that gives back what it encodes
+abbrev pub EveryRunKeepsTheLaws : Type 0
+EveryRunKeepsTheLaws = (setting : Setting) (events : List Event) → IsSound setting → Laws setting (run setting events (first_world setting.layout))
+
+-- no event of any run lowers what a brick has promised or stored
+abbrev pub NoEventLowers : Type 0
+NoEventLowers =
+    (setting : Setting) (events : List Event) (event : Event) → IsSound setting
+    → (let w = run setting events (first_world setting.layout) in NeverFalls w (happens setting w event))

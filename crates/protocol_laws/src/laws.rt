@@ -1,0 +1,46 @@
+//! The laws of the disk. Each call does nothing: its contract is the law.
+
+ghost use Rattle.protocol_laws.specs.Laws.{EveryRunKeepsTheLaws, NeverSurfaces, NoEventLowers};
+
+/// Every run of the disk keeps its laws, whatever is asked of it, whatever its clocks read, whichever of its bricks stop and
+/// start again, and whichever of its messages are delivered, lost, repeated or overtaken.
+///
+/// This holds for every layout whose groups are within the limits of a quorum, and for every code that gives back what it
+/// encodes. The laws are these.
+///
+/// - Each stripe is strictly linearizable (Aguilera and Frølund, "Strict Linearizability and the Power of Aborting", 2003):
+///   its happenings, each between the begin and the end of its operation, make its blocks plain registers, and every operation
+///   that was answered is among them.
+/// - Versions follow real time (Frølund et al., "A Decentralized Algorithm for Erasure-Coded Virtual Disks", DSN 2004).
+/// - One stamp has one content: every block that was sent to be written under a stamp, that was found under it, or that a member
+///   keeps under it, is its seat's block of that content.
+/// - Before a version was sent to be written, a quorum had promised to take nothing below its stamp.
+/// - A member says that it stored a version only where it was asked to, and holds it.
+/// - A recovery makes its version on a base: the base is below it, and is its content; and no quorum holds a version between the
+///   two, or ever will (Frølund et al., DSN 2004).
+/// - Of two neighbours among the versions that take effect, the upper was written whole, or was made on the lower.
+/// - Each reply that counted in a phase of an operation was sent to its coordinator, as a reply to that phase.
+/// - An operation is aborted for a later stamp only where a member had told its coordinator of a later stamp than the one that it
+///   was asked at, and no reply that counted in that phase told a greater one. A round of ordering, of which an operation has
+///   four at most, aborts only where it is the last: the three rounds before it had each counted a later stamp, or its
+///   coordinator knows no later time.
+/// - A member says that its store is full only with as many live records as a brick may keep.
+/// - An operation is aborted for a full store only where that member had told its coordinator so, with that many live records,
+///   in a phase of this very operation.
+/// - Marks are well formed: positions and numbers rise, and only an operation that is open ends.
+pub fn every_run_keeps_the_laws()
+    ensures { EveryRunKeepsTheLaws }
+{}
+
+/// No event of any run lowers what a brick has promised or stored: the greater of a stripe's order stamp and its newest
+/// version's stamp never falls (Frølund et al., DSN 2004).
+pub fn no_event_lowers()
+    ensures { NoEventLowers }
+{}
+
+/// A version that is lost never surfaces: where a quorum has promised a stamp, or stored something as late, and fewer than m of
+/// it hold a version below that stamp, no quorum holds that version at any later time (Frølund et al., DSN 2004; Aguilera and
+/// Frølund 2003).
+pub fn no_lost_version_surfaces()
+    ensures { NeverSurfaces }
+{}
