@@ -4,6 +4,7 @@
 #![tactic(auto)]
 
 mod counting;
+mod deciding;
 mod forgetting;
 mod sending;
 pub mod operations;
@@ -11,5 +12,6 @@ mod refusals;
 mod stages;
 mod versions;
 
+pub use deciding::Decide;
 pub use operations::{Operation, Stage};
 pub use stages::MOST_ROUNDS;
