@@ -66,6 +66,7 @@ impl Operation {
     ghost use Rattle.std.specs.Prelude.{◌≡◌, ◌-◌, ◌<◌, ◌≤◌, ◌^◌, not, nat_lt, true, None, Some, IfSome, IfOk, OnOk, OnErr, length};
     ghost use Rattle.quorum.specs.Quorums.{quorum_of};
     ghost use Rattle.protocol.specs.Coordinators.{counts_at, with_reply};
+    ghost use Rattle.protocol.specs.Nodes.{has_length};
     ghost use Rattle.coord_phase.specs.Operations.{with_state, without_last, counts, heard};
 
     /// The seat at which a reply counts: it is to this very phase, answers it, and is its seat's first.
@@ -132,6 +133,7 @@ impl Operation {
     pub(crate) fn is_full(&self) -> bool
         ensures full { result ≡ not (nat_lt (length self.now.state.counted) (quorum_of self.now.group)) }
         ensures enough { result ≡ true → self.now.group.m ≤ length self.now.state.counted }
+        ensures long { has_length self.now.group.m self.now.block self.now.state.ask.op ≡ true }
     {
         self.counted.len() >= self.group.policy().q() as usize
     }

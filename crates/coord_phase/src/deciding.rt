@@ -12,6 +12,7 @@ use std::alloc::Global;
 pub trait Decide {
     ghost use Rattle.std.specs.Prelude.{◌≡◌, ◌-◌, ◌<◌, ◌≤◌, ◌^◌, true, IfOk, OnOk, OnErr, length};
     ghost use Rattle.protocol.specs.Coordinators.{decided};
+    ghost use Rattle.protocol.specs.Nodes.{has_length};
     ghost use Rattle.stripe_code.specs.Codes.{block_code};
     ghost use Rattle.coord_phase.specs.Operations.{StaysAsked};
     ghost use Rattle.coord_phase.specs.Decisions.{SendsPhase, AsksRecovery, decision, note_told};
@@ -29,6 +30,7 @@ pub trait Decide {
     /// `NoMemory` where no memory was left; then nothing has changed.
     fn decide(op: &mut Operation, alloc: Global, fresh: Option<Stamp>) -> Result<Next, NoMem>
         requires own { is_own op.old.state.phase ≡ true }
+        requires long { has_length op.old.group.m op.old.block op.old.state.ask.op ≡ true }
         requires enough { op.old.group.m ≤ length op.old.state.counted }
         requires few { op.old.state.call.phase < 2 ^ 32 - 1 }
         ensures next { IfOk result (λ next. decision op.new next ≡ decided (block_code op.old.block) op.old.group.m fresh op.old.state) }

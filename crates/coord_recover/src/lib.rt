@@ -7,6 +7,3 @@ mod greatest;
 pub mod recoveries;
 
 pub use recoveries::Recovery;
-
-#[cfg(test)]
-mod tests;
