@@ -8,7 +8,7 @@ mod deciding;
 mod forgetting;
 mod sending;
 pub mod operations;
-mod refusals;
+mod reports;
 mod stages;
 mod versions;
 

@@ -8,7 +8,6 @@ ghost use Rattle.coord_phase.specs.Operations.{StaysAsked};
 ghost use Rattle.coord_phase.specs.Decisions.{SendsPhase, NeverRecovers, decision, note_told};
 ghost use Rattle.coord_recover.specs.Recoveries.{is_of_recovery, looks_for_version};
 
-use crate::greatest::greatest_found;
 use coord_phase::{Decide, Operation, Stage};
 use fab_base::{Ask, BrickId, Bytes, CallId, NoMem, Note, Stamp, View};
 use messages::{Call, Message, Next, Turn};
@@ -52,7 +51,7 @@ fn read_back(op: &mut Operation, alloc: Global) -> Result<Next, NoMem>
     ensures stays { OnOk result (StaysAsked op.old op.new) }
     ensures err { OnErr result (op.new ≡ op.old) }
 {
-    let Some(version) = greatest_found(op.counted()) else {
+    let Some(version) = op.greatest_version() else {
         op.forget();
         return Ok(op.wait());
     };
