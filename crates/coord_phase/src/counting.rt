@@ -101,7 +101,12 @@ impl Operation {
 
     /// Counts a reply, if it counts, and says whether it did. Where memory runs out nothing has changed.
     #[tactic(auto, unfolding(crate::specs::Operations::seat_told))]
-    pub(crate) fn count(&mut self, alloc: Global, from: BrickId, message: &Message) -> Result<bool, NoMem>
+    pub(crate) fn count(
+        &mut self,
+        alloc: Global,
+        from: BrickId,
+        message: &Message,
+    ) -> Result<bool, NoMem>
         ensures counted { IfOk result (λ counted. counted ≡ counts self.old from message.now) }
         ensures heard { OnOk result (self.new ≡ heard self.old from message.now) }
         ensures few { IfOk result (λ counted. counted ≡ true → self.new.state.call.phase < 2 ^ 32 - 1) }

@@ -6,9 +6,9 @@
 mod counting;
 mod deciding;
 mod forgetting;
-mod sending;
 pub mod operations;
 mod reports;
+mod sending;
 mod stages;
 mod versions;
 

@@ -10,8 +10,8 @@ ghost use Rattle.coord_recover.specs.Recoveries.{is_of_recovery, looks_for_versi
 
 use coord_phase::{Decide, Operation, Stage};
 use fab_base::{Ask, BrickId, Bytes, CallId, NoMem, Note, Stamp, View};
-use messages::{Call, Message, Next, Turn};
 use layout::{Group, Layout};
+use messages::{Call, Message, Next, Turn};
 use protocol::Phase;
 use std::alloc::Global;
 use std::marker::Model;

@@ -11,8 +11,8 @@ ghost use Rattle.coord_stripe.specs.StripeOps.{is_of_stripe};
 
 use coord_phase::{Decide, Operation, Stage};
 use fab_base::{Ask, BrickId, Bytes, CallId, NoMem, Note, Op, Stamp, View};
-use messages::{Call, Message, Next, Reply, Turn};
 use layout::{Group, Layout};
+use messages::{Call, Message, Next, Reply, Turn};
 use protocol::{Counted, Phase};
 use std::alloc::Global;
 use std::marker::Model;

@@ -1,5 +1,5 @@
 -- What is answered, by whether the message counts and whether a quorum then counts.
-use Rattle.std.proofs.Common.{◌≡◌, ap, ◌∙◌, sym}
+use Rattle.std.proofs.Common.{ap, ◌∙◌, sym}
 use Rattle.coord_phase.specs.Operations.{Operation, with_state, without_last}
 use Rattle.coord_phase.proofs.Answered.{answers_ignored, answers_waiting, answers_decided, asked_as_before, taken_back}
 use Rattle.coord_phase.proofs.operations.Operation.on_reply.Goals as goal
