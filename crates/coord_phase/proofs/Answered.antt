@@ -10,14 +10,14 @@ use Rattle.messages.specs.declared.packets.Message.{Message}
 use Rattle.messages.specs.declared.packets.Message.TheVariants as messages
 use Rattle.messages.specs.declared.replies.Reply.{Reply}
 use Rattle.messages.specs.declared.turns.Next.{Next as Answer}
-use Rattle.messages.specs.declared.turns.Next.TheVariants.{Wait}
+use Rattle.messages.specs.declared.turns.Next.TheVariants.{Wait, Send, End, Recover}
 use Rattle.fab_base.specs.declared.notes.Note.{Note}
 use Rattle.quorum.specs.Quorums.{quorum_of}
 use Rattle.protocol.specs.declared.phases.Counted.{Counted}
 use Rattle.protocol.specs.Coordinators.{Next, Ignores, Waits, counts_at, decided, on_reply, counted_at}
 use Rattle.stripe_code.specs.Codes.{block_code}
-use Rattle.coord_phase.specs.Operations.{Operation, StaysAsked, with_state, telling, seat_told, counts, heard, heard_at}
-use Rattle.coord_phase.specs.Decisions.{decided_on, decision, Answers, SendsPhase, IsWait, note_told}
+use Rattle.coord_phase.specs.Operations.{Operation, StaysAsked, with_state, without_last, telling, seat_told, counts, heard, heard_at}
+use Rattle.coord_phase.specs.Decisions.{decided_on, decision, Answers, AsksRecovery, SendsPhase, IsWait, note_told}
 
 -- what is decided, by whether the message counts, and whether a quorum then counts
 abbrev pub after_hearing : Option Stamp → Operation → Bool → Next
@@ -33,7 +33,7 @@ record Heard (fresh : Option Stamp) (before : Operation) (after : Operation) (ne
   heard : counted ≡ true → next ≡ after_hearing fresh after (is_full after)
   unchanged : counted ≡ false → after ≡ before
   uncounted : counted ≡ true
-      → with_state after (record after.state { counted = take (length after.state.counted - 1) after.state.counted }) ≡ before
+      → with_state after (without_last after.state) ≡ before
   stays : StaysAsked before after
   call : after.state.call ≡ before.state.call
   note : after.note ≡ before.note
@@ -108,10 +108,7 @@ decided_with fresh op from message full some is =
 
 -- once its reply is taken back, nothing has changed
 pub taken_back : (op : Operation) (from : BrickId) (message : Message) → counts op from message ≡ true
-    → with_state (heard op from message) (record (heard op from message).state {
-      counted = take (length (heard op from message).state.counted - 1)
-          (heard op from message).state.counted;
-    }) ≡ op
+    → with_state (heard op from message) (without_last (heard op from message).state) ≡ op
 taken_back op from message some = (heard_message None op from message).uncounted some
 
 -- a message changes neither what is asked nor the call
@@ -195,3 +192,13 @@ answers_decided fresh before from message mid after answered full heard_is some 
           ∙ sym (ap (note_told before.state.call) machine);
       stays = heard_then before from message mid after heard_is stays;
     }
+
+-- a recovery that is asked for once a reply counted is asked for by the operation as it was before the reply
+pub asked_as_before : (before : Operation) (from : BrickId) (message : Message) (mid after : Operation) (may : Bool) (answered : Answer)
+    → mid ≡ heard before from message → counts before from message ≡ true → AsksRecovery may answered mid.state after.state
+    → AsksRecovery may answered before.state (without_last after.state)
+asked_as_before before from message mid after may (Recover turn) heard_is some asks =
+    (asks.0, ap without_last (asks.1 ∙ ap (λ (op : Operation). op.state) heard_is) ∙ ap (λ (op : Operation). op.state) (taken_back before from message some))
+asked_as_before before from message mid after may (Send messages) heard_is some asks = tt
+asked_as_before before from message mid after may Wait heard_is some asks = tt
+asked_as_before before from message mid after may (End answer) heard_is some asks = tt

@@ -1,5 +1,5 @@
 -- How what a coordinator answers its brick, what it holds then and what it tells stand for what the machine decides.
-use Rattle.std.specs.Prelude.{◌≡◌, false, if◌then◌else◌, Option, Some, None}
+use Rattle.std.specs.Prelude.{◌≡◌, Bool, true, false, if◌then◌else◌, Option, Some, None}
 use Rattle.fab_base.specs.declared.identities.BrickId.{BrickId}
 use Rattle.fab_base.specs.declared.identities.CallId.{CallId}
 use Rattle.fab_base.specs.declared.stamps.Stamp.{Stamp}
@@ -61,6 +61,13 @@ NeverRecovers (Send messages) = Unit {0}
 NeverRecovers Wait = Unit {0}
 NeverRecovers (End answer) = Unit {0}
 NeverRecovers (Recover turn) = ⊥
+
+-- a recovery is asked for only where it may be, and by a coordinator that is as it was
+abbrev pub AsksRecovery : Bool → Next → Coordinator → Coordinator → Type 0
+AsksRecovery may (Send messages) before after = Unit {0}
+AsksRecovery may Wait before after = Unit {0}
+AsksRecovery may (End answer) before after = Unit {0}
+AsksRecovery may (Recover turn) before after = (may ≡ true) × (after ≡ before)
 
 -- nothing is done
 abbrev pub IsWait : Next → Type 0

@@ -1,3 +1,4 @@
 pub mod Decisions
 pub mod Messages
 pub mod Operations
+pub mod Foremost

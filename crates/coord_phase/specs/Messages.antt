@@ -5,17 +5,10 @@ use Rattle.messages.specs.declared.calls.Call.{Call}
 use Rattle.messages.specs.declared.packets.Message.{Message}
 use Rattle.messages.specs.declared.packets.Packet.{Packet}
 use Rattle.messages.specs.declared.requests.Request.{Request}
-use Rattle.messages.specs.declared.requests.Request.TheVariants.{Read, Order, OrderRead, Write}
-use Rattle.messages.specs.declared.requests.Look.TheVariants.{Below}
-use Rattle.messages.specs.declared.requests.Want.TheVariants.{All}
 use Rattle.fab_base.specs.Layouts.{Group}
-use Rattle.protocol.specs.Settings.{Code}
-use Rattle.protocol.specs.declared.phases.Phase.{Phase}
-use Rattle.protocol.specs.declared.phases.Phase.TheVariants.{Looks, Orders, Recovers, Descends, Stores}
 use Rattle.protocol.specs.declared.phases.Counted.{Counted}
 use Rattle.protocol.specs.Coordinators.{Coordinator, has_seat, request_of}
 use Rattle.stripe_code.specs.Codes.{block_code}
-use Rattle.coord_phase.specs.declared.operations.Stage.{Stage}
 use Rattle.coord_phase.specs.Operations.{Operation}
 
 -- one request to each member whose reply is not counted, in the order of seats, the first of them at this seat
@@ -24,17 +17,6 @@ to_silent counted call request seat [] = []
 to_silent counted call request seat (member ∷ members) =
     if has_seat seat counted then to_silent counted call request (seat + 1) members
     else ((member, Message.Request call (request seat)) ∷ to_silent counted call request (seat + 1) members)
-
--- what a stage asks of the member at a seat, where the operation stores this content
-abbrev pub stage_request : Code → ℕ → Stage → List ℕ → ℕ → Request
-stage_request code m stage content seat = asked_in stage.phase
-  where
-    asked_in : Phase → Request
-    asked_in Looks = Read All
-    asked_in Orders = Order stage.stamp
-    asked_in Recovers = OrderRead stage.stamp (Below stage.stamp) All
-    asked_in (Descends bound) = OrderRead stage.stamp (Below bound) All
-    asked_in Stores = Write stage.stamp (code.encode m content seat)
 
 -- what a coordinator asks in its phase of the members of a group, blocks of this many bytes: each whose reply is not counted
 abbrev pub asked_of : ℕ → Group → Coordinator → List (BrickId × Message)

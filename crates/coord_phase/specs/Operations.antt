@@ -1,5 +1,5 @@
 -- An operation in a phase, at its coordinator.
-use Rattle.std.specs.Prelude.{◌≡◌, ℕ, ◌*◌, Bool, true, false, not, nat_lt, ◌&&◌, List, [], ◌∷◌, length, Option, Some, None, is_some}
+use Rattle.std.specs.Prelude.{◌≡◌, ℕ, ◌-◌, ◌*◌, Bool, true, false, not, nat_lt, ◌&&◌, List, [], ◌∷◌, length, take, Option, Some, None, is_some}
 use Rattle.std.specs.List.{list_all}
 use Rattle.fab_base.specs.declared.identities.BrickId.{BrickId}
 use Rattle.fab_base.specs.declared.identities.CallId.{CallId}
@@ -33,6 +33,10 @@ with_state op c = record { block = op.block; group = op.group; state = c; note =
 -- the operation, once its coordinator is this far, with what it tells
 abbrev pub telling : Operation → Coordinator → Option Note → Operation
 telling op c note = record { block = op.block; group = op.group; state = c; note = note; made = None }
+
+-- the coordinator without the last reply that counts
+abbrev pub without_last : Coordinator → Coordinator
+without_last c = record c { counted = take (length c.counted - 1) c.counted }
 
 -- an operation stays what it is: its blocks' length, its group, and what it is asked
 pub record StaysAsked (before after : Operation) : Type 0 where

@@ -63,10 +63,11 @@ pub(crate) fn has_reply(seat: u8, counted: &[Counted]) -> bool
 }
 
 impl Operation {
-    ghost use Rattle.std.specs.Prelude.{◌≡◌, ◌-◌, ◌<◌, ◌≤◌, ◌^◌, not, nat_lt, true, None, Some, IfSome, IfOk, OnOk, OnErr, length, take};
+    ghost use Rattle.std.specs.Prelude.{◌≡◌, ◌-◌, ◌<◌, ◌≤◌, ◌^◌, not, nat_lt, true, None, Some, IfSome, IfOk, OnOk, OnErr, length};
     ghost use Rattle.quorum.specs.Quorums.{quorum_of};
     ghost use Rattle.protocol.specs.Coordinators.{counts_at, with_reply};
-    ghost use Rattle.coord_phase.specs.Operations.{with_state, counts, heard};
+    ghost use Rattle.protocol.specs.Nodes.{has_length};
+    ghost use Rattle.coord_phase.specs.Operations.{with_state, without_last, counts, heard};
 
     /// The seat at which a reply counts: it is to this very phase, answers it, and is its seat's first.
     #[tactic(auto, unfolding(protocol::specs::Coordinators::counts_at))]
@@ -100,7 +101,12 @@ impl Operation {
 
     /// Counts a reply, if it counts, and says whether it did. Where memory runs out nothing has changed.
     #[tactic(auto, unfolding(crate::specs::Operations::seat_told))]
-    pub fn count(&mut self, alloc: Global, from: BrickId, message: &Message) -> Result<bool, NoMem>
+    pub(crate) fn count(
+        &mut self,
+        alloc: Global,
+        from: BrickId,
+        message: &Message,
+    ) -> Result<bool, NoMem>
         ensures counted { IfOk result (λ counted. counted ≡ counts self.old from message.now) }
         ensures heard { OnOk result (self.new ≡ heard self.old from message.now) }
         ensures few { IfOk result (λ counted. counted ≡ true → self.new.state.call.phase < 2 ^ 32 - 1) }
@@ -120,21 +126,19 @@ impl Operation {
         Ok(true)
     }
 
-    /// Forgets the last reply that counted.
-    pub fn uncount(&mut self)
-        ensures { self.new ≡ with_state self.old (record self.old.state {
-          counted = take
-              (length self.old.state.counted - 1) self.old.state.counted;
-        }) }
+    /// Takes the last reply that counted back.
+    pub fn take_back(&mut self)
+        ensures { self.new ≡ with_state self.old (without_last self.old.state) }
     {
         let count = self.counted.len();
         self.counted.truncate(count.saturating_sub(1));
     }
 
     /// Whether a quorum of replies counts.
-    pub fn is_full(&self) -> bool
+    pub(crate) fn is_full(&self) -> bool
         ensures full { result ≡ not (nat_lt (length self.now.state.counted) (quorum_of self.now.group)) }
         ensures enough { result ≡ true → self.now.group.m ≤ length self.now.state.counted }
+        ensures long { has_length self.now.group.m self.now.block self.now.state.ask.op ≡ true }
     {
         self.counted.len() >= self.group.policy().q() as usize
     }

@@ -4,12 +4,14 @@
 #![tactic(auto)]
 
 mod counting;
+mod deciding;
 mod forgetting;
-mod sending;
 pub mod operations;
-mod refusals;
+mod reports;
+mod sending;
 mod stages;
 mod versions;
 
+pub use deciding::Decide;
 pub use operations::{Operation, Stage};
 pub use stages::MOST_ROUNDS;

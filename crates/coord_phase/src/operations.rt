@@ -7,8 +7,8 @@ ghost use Rattle.protocol.specs.Nodes.{has_length};
 ghost use Rattle.coord_phase.specs.Operations.{group_in_view, StoresBlocks};
 
 use fab_base::{Ask, Bytes, GroupId, Members, NoMem, Note, Op, Stamp, View};
-use messages::Call;
 use layout::{Group, Layout};
+use messages::Call;
 use protocol::{Counted, Phase};
 use std::alloc::Global;
 use std::marker::Model;

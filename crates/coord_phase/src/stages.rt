@@ -2,12 +2,12 @@
 
 ghost use Rattle.std.specs.Prelude.{◌≡◌, length};
 
-use crate::sending::messages;
 use crate::operations::{Operation, Stage, stored};
 use fab_base::{Answer, Bytes, CallId, Cause, NoMem, Note, Op, Stamp};
 use messages::{Messages, Next, Turn};
 use protocol::{FullMember, Phase, Refuser};
 use std::alloc::Global;
+use std::mem;
 
 /// How many rounds of ordering an operation may begin.
 pub const MOST_ROUNDS: u8 = 4;
@@ -84,12 +84,20 @@ impl Operation {
         ensures messages { IfOk result (λ messages. messages.items ≡ phase_messages self.new) }
         ensures err { OnErr result (self.new ≡ self.old) }
     {
-        let messages = messages(alloc, self.block, &self.group, stage, self.stored(), &[])?;
-        self.stage = stage;
-        self.counted = Vec::new(alloc);
-        self.note = None;
-        self.made = None;
-        Ok(messages)
+        let before = mem::replace(&mut self.stage, stage);
+        let counted = mem::replace(&mut self.counted, Vec::new(alloc));
+        match self.messages(alloc) {
+            Ok(messages) => {
+                self.note = None;
+                self.made = None;
+                Ok(messages)
+            }
+            Err(fault) => {
+                self.stage = before;
+                self.counted = counted;
+                Err(fault)
+            }
+        }
     }
 
     /// Begins to store what the operation stores, in the call's next phase: it makes its version, and tells it. Where memory runs out
@@ -118,13 +126,16 @@ impl Operation {
         ensures err { OnErr result (self.new ≡ self.old) }
     {
         let told = Bytes::from_slice(alloc, stored(&self.ask.op, &content))?;
-        let stage = self.next_stage(Phase::Stores);
-        let messages = messages(alloc, self.block, &self.group, stage, told.as_slice(), &[])?;
-        self.stage = stage;
-        self.base = Some(base);
-        self.content = content;
-        self.counted = Vec::new(alloc);
-        self.made = None;
+        let base = mem::replace(&mut self.base, Some(base));
+        let before = mem::replace(&mut self.content, content);
+        let messages = match self.begin(alloc, self.next_stage(Phase::Stores)) {
+            Ok(messages) => messages,
+            Err(fault) => {
+                self.base = base;
+                self.content = before;
+                return Err(fault);
+            }
+        };
         self.note = Some(self.note_of(told));
         Ok(messages)
     }

@@ -1,5 +1,5 @@
 -- The recovery of a stripe.
-use Rattle.std.specs.Prelude.{◌≡◌, ℕ, Bool, true, false, List, [], Option, Some, None}
+use Rattle.std.specs.Prelude.{ℕ, Bool, true, false, List, [], Option, Some, None}
 use Rattle.fab_base.specs.declared.identities.CallId.{CallId}
 use Rattle.fab_base.specs.declared.stamps.Stamp.{Stamp}
 use Rattle.fab_base.specs.declared.asks.Ask.{Ask}
@@ -11,7 +11,6 @@ use Rattle.protocol.specs.declared.phases.Phase.{Phase}
 use Rattle.protocol.specs.declared.phases.Phase.TheVariants.{Looks, Orders, Recovers, Descends, Stores}
 use Rattle.fab_base.specs.Layouts.{Layout}
 use Rattle.protocol.specs.Coordinators.{Coordinator}
-use Rattle.protocol.specs.Nodes.{has_length}
 use Rattle.coord_phase.specs.Operations.{Operation, group_in_view, call_in}
 use Rattle.coord_phase.specs.Decisions.{note_of}
 
@@ -30,11 +29,6 @@ looks_for_version Orders = false
 looks_for_version Recovers = true
 looks_for_version (Descends bound) = true
 looks_for_version Stores = false
-
--- what is true of a recovery in each phase: it is in one of its own, and what its operation is given to write has its length
-pub record IsRecovery (op : Operation) : Type 0 where
-  pub phase : is_of_recovery op.state.phase ≡ true
-  pub long : has_length op.group.m op.block op.state.ask.op ≡ true
 
 -- the phase that a recovery begins with
 abbrev pub turn_phase : Turn → Phase

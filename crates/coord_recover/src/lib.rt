@@ -3,10 +3,6 @@
 //! Erasure-Coded Virtual Disks", DSN 2004, recover).
 #![tactic(auto)]
 
-mod greatest;
 pub mod recoveries;
 
 pub use recoveries::Recovery;
-
-#[cfg(test)]
-mod tests;

@@ -1,12 +1,17 @@
 //! Recoveries.
 
-ghost use Rattle.std.specs.Prelude.{◌≡◌};
+ghost use Rattle.std.specs.Prelude.{◌≡◌, ◌-◌, ◌<◌, ◌^◌, true, false, IfOk, OnOk, OnErr};
+ghost use Rattle.protocol.specs.Coordinators.{read_back, greatest_found};
+ghost use Rattle.protocol.specs.Nodes.{has_length};
+ghost use Rattle.stripe_code.specs.Codes.{block_code};
+ghost use Rattle.coord_phase.specs.Operations.{StaysAsked};
+ghost use Rattle.coord_phase.specs.Decisions.{SendsPhase, NeverRecovers, decision, note_told};
+ghost use Rattle.coord_recover.specs.Recoveries.{is_of_recovery, looks_for_version};
 
-use crate::greatest::greatest_found;
-use coord_phase::{Operation, Stage};
+use coord_phase::{Decide, Operation, Stage};
 use fab_base::{Ask, BrickId, Bytes, CallId, NoMem, Note, Stamp, View};
-use messages::{Call, Message, Next, Turn};
 use layout::{Group, Layout};
+use messages::{Call, Message, Next, Turn};
 use protocol::Phase;
 use std::alloc::Global;
 use std::marker::Model;
@@ -20,23 +25,74 @@ pub struct Recovery {
 
 impl Model for Recovery {
     ghost use Rattle.coord_phase.specs.Operations.{Operation};
-    ghost use Rattle.coord_recover.specs.Recoveries.{IsRecovery};
+    ghost use Rattle.std.specs.Prelude.{◌≡◌, true};
+    ghost use Rattle.coord_recover.specs.Recoveries.{is_of_recovery};
 
     ghost Value = { Operation };
 
     ghost view = { λ recovery. recovery.op };
 
-    ghost invariant = { λ recovery. IsRecovery recovery.op };
+    ghost invariant = { λ recovery. is_of_recovery recovery.op.state.phase ≡ true };
+}
+
+/// Reads back the greatest version that the replies tell, and begins to store it, where they tell m blocks of it; else looks for
+/// the greatest version below it. Where they tell none, forgets them, and waits for more. After want of memory nothing has changed.
+fn read_back(op: &mut Operation, alloc: Global) -> Result<Next, NoMem>
+    requires phase { op.old.state.call.phase < 2 ^ 32 - 1 }
+    requires looks { looks_for_version op.old.state.phase ≡ true }
+    requires long { has_length op.old.group.m op.old.block op.old.state.ask.op ≡ true }
+    ensures next { IfOk result (λ next. decision op.new next ≡ read_back (block_code op.old.block) op.old.group.m op.old.state
+        (greatest_found op.old.state.counted)) }
+    ensures sent { IfOk result (λ next. SendsPhase op.new next) }
+    ensures never { IfOk result NeverRecovers }
+    ensures own { OnOk result (is_of_recovery op.new.state.phase ≡ true) }
+    ensures told { OnOk result (op.new.note ≡ note_told op.old.state.call
+        (read_back (block_code op.old.block) op.old.group.m op.old.state (greatest_found op.old.state.counted))) }
+    ensures stays { OnOk result (StaysAsked op.old op.new) }
+    ensures err { OnErr result (op.new ≡ op.old) }
+{
+    let Some(version) = op.greatest_version() else {
+        op.forget();
+        return Ok(op.wait());
+    };
+    if op.blocks_of(version) < op.group().m() as usize {
+        let stage = op.next_stage(Phase::Descends(version));
+        let messages = op.begin(alloc, stage)?;
+        return Ok(Next::Send(messages));
+    }
+    let content = op.content_of(alloc, version)?;
+    let messages = op.restore(alloc, version, content)?;
+    Ok(Next::Send(messages))
+}
+
+impl Decide for Recovery {
+    ghost is_own = { is_of_recovery };
+
+    ghost may_recover = { false };
+
+    /// What a quorum of replies decides. A member's full store aborts the operation, whatever the others told.
+    fn decide(op: &mut Operation, alloc: Global, fresh: Option<Stamp>) -> Result<Next, NoMem> {
+        if let Some(member) = op.full_member() {
+            return Ok(op.abort_full(member));
+        }
+        match (op.stage().phase, op.refuser()) {
+            (Phase::Stores, _) => op.end_store(alloc),
+            (Phase::Recovers, Some(refuser)) => op.order_again(alloc, fresh, refuser),
+            (Phase::Descends(_), Some(refuser)) => Ok(op.abort(refuser)),
+            (Phase::Recovers, None) => read_back(op, alloc),
+            (Phase::Descends(_), None) => read_back(op, alloc),
+            (Phase::Looks | Phase::Orders, _) => unreachable!(),
+        }
+    }
 }
 
 impl Recovery {
-    ghost use Rattle.std.specs.Prelude.{◌≡◌, ◌-◌, ◌<◌, ◌≤◌, ◌^◌, true, [], None, IfOk, OnErr, OnOk, length, option_copied};
+    ghost use Rattle.std.specs.Prelude.{◌≡◌, ◌≤◌, true, [], None, IfOk, OnErr, length, option_copied};
     ghost use Rattle.quorum.specs.Quorums.{IsWithinLimits};
-    ghost use Rattle.stripe_code.specs.Codes.{block_code};
     ghost use Rattle.protocol.specs.Nodes.{has_length};
-    ghost use Rattle.protocol.specs.Coordinators.{stored_by, decided, read_back, greatest_found};
-    ghost use Rattle.coord_phase.specs.Operations.{group_in_view, counts, StoresBlocks, StaysAsked};
-    ghost use Rattle.coord_phase.specs.Decisions.{Answers, SendsPhase, NeverRecovers, IsSend, decision, note_told};
+    ghost use Rattle.protocol.specs.Coordinators.{stored_by};
+    ghost use Rattle.coord_phase.specs.Operations.{group_in_view, counts, StoresBlocks};
+    ghost use Rattle.coord_phase.specs.Decisions.{Answers, SendsPhase, NeverRecovers, IsSend};
     ghost use Rattle.coord_recover.specs.Recoveries.{begun_op, turn_phase, turn_content, looks_for_version};
 
     /// Begins the recovery of the stripe of an operation, with its stamp, in this phase of its call, the first of which is 1: with the
@@ -130,58 +186,6 @@ impl Recovery {
         self.op.counts(from, reply)
     }
 
-    /// Reads back the greatest version that the replies tell, and begins to store it, where they tell m blocks of it; else looks for
-    /// the greatest version below it. Where they tell none, forgets them, and waits for more. After want of memory nothing has changed.
-    fn read_back(&mut self) -> Result<Next, NoMem>
-        requires phase { self.old.state.call.phase < 2 ^ 32 - 1 }
-        ensures next { IfOk result (λ next. decision self.new next ≡ read_back (block_code self.old.block) self.old.group.m self.old.state
-            (greatest_found self.old.state.counted)) }
-        ensures sent { IfOk result (λ next. SendsPhase self.new next) }
-        ensures never { IfOk result NeverRecovers }
-        ensures told { OnOk result (self.new.note ≡ note_told self.old.state.call
-            (read_back (block_code self.old.block) self.old.group.m self.old.state (greatest_found self.old.state.counted))) }
-        ensures stays { OnOk result (StaysAsked self.old self.new) }
-        ensures err { OnErr result (self.new ≡ self.old) }
-    {
-        let Some(version) = greatest_found(self.op.counted()) else {
-            self.op.forget();
-            return Ok(self.op.wait());
-        };
-        if self.op.blocks_of(version) < self.op.group().m() as usize {
-            let stage = self.op.next_stage(Phase::Descends(version));
-            let messages = self.op.begin(self.alloc, stage)?;
-            return Ok(Next::Send(messages));
-        }
-        let content = self.op.content_of(self.alloc, version)?;
-        let messages = self.op.restore(self.alloc, version, content)?;
-        Ok(Next::Send(messages))
-    }
-
-    /// What a quorum of replies decides, where a new round would have the fresh stamp. A member's full store aborts the operation,
-    /// whatever the others told. After want of memory nothing has changed.
-    fn decide(&mut self, fresh: Option<Stamp>) -> Result<Next, NoMem>
-        requires phase { self.old.state.call.phase < 2 ^ 32 - 1 }
-        ensures next { IfOk result (λ next. decision self.new next ≡ decided (block_code self.old.block) self.old.group.m fresh self.old.state) }
-        ensures sent { IfOk result (λ next. SendsPhase self.new next) }
-        ensures never { IfOk result NeverRecovers }
-        ensures told { OnOk result (self.new.note ≡ note_told self.old.state.call
-            (decided (block_code self.old.block) self.old.group.m fresh self.old.state)) }
-        ensures stays { OnOk result (StaysAsked self.old self.new) }
-        ensures err { OnErr result (self.new ≡ self.old) }
-    {
-        if let Some(member) = self.op.full_member() {
-            return Ok(self.op.abort_full(member));
-        }
-        match (self.op.stage().phase, self.op.refuser()) {
-            (Phase::Stores, _) => self.op.end_store(self.alloc),
-            (Phase::Recovers, Some(refuser)) => self.op.order_again(self.alloc, fresh, refuser),
-            (Phase::Descends(_), Some(refuser)) => Ok(self.op.abort(refuser)),
-            (Phase::Recovers, None) => self.read_back(),
-            (Phase::Descends(_), None) => self.read_back(),
-            (Phase::Looks | Phase::Orders, _) => unreachable!(),
-        }
-    }
-
     /// What the recovery does with a message. A new round of ordering would have the fresh stamp; there is none where no later time is
     /// left.
     ///
@@ -198,19 +202,7 @@ impl Recovery {
         ensures never { IfOk result NeverRecovers }
         ensures err { OnErr result (self.new ≡ self.old) }
     {
-        if !self.op.count(self.alloc, from, reply)? {
-            return Ok(self.op.wait());
-        }
-        if !self.op.is_full() {
-            return Ok(self.op.wait());
-        }
-        match self.decide(fresh) {
-            Ok(next) => Ok(next),
-            Err(fault) => {
-                self.op.uncount();
-                Err(fault)
-            }
-        }
+        self.op.on_reply::<Recovery>(self.alloc, from, reply, fresh)
     }
 
     /// The phase again, to each member without a counted reply.
@@ -223,8 +215,7 @@ impl Recovery {
         ensures sent { IfOk result (λ next. SendsPhase self.old next) }
         ensures same { self.new ≡ self.old }
     {
-        let messages = self.op.messages(self.alloc)?;
-        Ok(Next::Send(messages))
+        self.op.on_tick(self.alloc)
     }
 
     /// The number of the present phase.

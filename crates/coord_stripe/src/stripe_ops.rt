@@ -1,13 +1,18 @@
 //! Operations on whole stripes.
 
-ghost use Rattle.std.specs.Prelude.{◌≡◌, true, IfSome, length};
-ghost use Rattle.protocol.specs.Coordinators.{tells, all_tell, fast_version};
+ghost use Rattle.std.specs.Prelude.{◌≡◌, ◌-◌, ◌<◌, ◌≤◌, ◌^◌, true, IfSome, IfOk, OnOk, OnErr, length};
+ghost use Rattle.protocol.specs.declared.phases.Phase.TheVariants.{Looks, Orders, Stores};
+ghost use Rattle.protocol.specs.Coordinators.{tells, all_tell, fast_version, in_phase, greatest_refuser, once_ordered, answered_fast, Makes};
 ghost use Rattle.protocol.specs.Nodes.{first_phase};
+ghost use Rattle.stripe_code.specs.Codes.{block_code};
+ghost use Rattle.coord_phase.specs.Operations.{StaysAsked};
+ghost use Rattle.coord_phase.specs.Decisions.{SendsPhase, NeverRecovers, decision, note_told};
+ghost use Rattle.coord_stripe.specs.StripeOps.{is_of_stripe};
 
-use coord_phase::{Operation, Stage};
+use coord_phase::{Decide, Operation, Stage};
 use fab_base::{Ask, BrickId, Bytes, CallId, NoMem, Note, Op, Stamp, View};
-use messages::{Call, Message, Next, Reply, Turn};
 use layout::{Group, Layout};
+use messages::{Call, Message, Next, Reply, Turn};
 use protocol::{Counted, Phase};
 use std::alloc::Global;
 use std::marker::Model;
@@ -90,15 +95,72 @@ fn version_told_by_all(counted: &[Counted]) -> Option<Stamp>
     }
 }
 
+/// Answers a read whose version all replies tell, and has the stripe of another read recovered.
+fn end_look(op: &mut Operation, alloc: Global) -> Result<Next, NoMem>
+    requires phase { op.old.state.phase ≡ Looks }
+    requires enough { op.old.group.m ≤ length op.old.state.counted }
+    ensures next { IfOk result (λ next. decision op.new next ≡ answered_fast (block_code op.old.block) op.old.group.m op.old.state
+        (fast_version op.old.state.counted)) }
+    ensures sent { IfOk result (λ next. SendsPhase op.new next) }
+    ensures told { OnOk result (op.new.note ≡ note_told op.old.state.call
+        (answered_fast (block_code op.old.block) op.old.group.m op.old.state (fast_version op.old.state.counted))) }
+    ensures stays { OnOk result (StaysAsked op.old op.new) }
+    ensures state { OnOk result (op.new.state ≡ op.old.state) }
+    ensures err { OnErr result (op.new ≡ op.old) }
+{
+    let Some(version) = version_told_by_all(op.counted()) else {
+        return Ok(op.recover(Turn::Order));
+    };
+    let content = op.content_of(alloc, version)?;
+    Ok(op.end_look(version, content))
+}
+
+/// Goes on to store, or to another round of ordering where a member told a later stamp.
+fn end_order(op: &mut Operation, alloc: Global, fresh: Option<Stamp>) -> Result<Next, NoMem>
+    requires phase { op.old.state.phase ≡ Orders }
+    requires few { op.old.state.call.phase < 2 ^ 32 - 1 }
+    ensures next { IfOk result (λ next. decision op.new next ≡ once_ordered fresh op.old.state (greatest_refuser op.old.state.counted)
+        (Makes (in_phase op.old.state Stores))) }
+    ensures sent { IfOk result (λ next. SendsPhase op.new next) }
+    ensures told { OnOk result (op.new.note ≡ note_told op.old.state.call
+        (once_ordered fresh op.old.state (greatest_refuser op.old.state.counted) (Makes (in_phase op.old.state Stores)))) }
+    ensures stays { OnOk result (StaysAsked op.old op.new) }
+    ensures own { OnOk result (is_of_stripe op.new.state.phase ≡ true) }
+    ensures never { IfOk result NeverRecovers }
+    ensures err { OnErr result (op.new ≡ op.old) }
+{
+    match op.refuser() {
+        Some(refuser) => op.order_again(alloc, fresh, refuser),
+        None => Ok(Next::Send(op.make(alloc)?)),
+    }
+}
+
+impl Decide for StripeOp {
+    ghost is_own = { is_of_stripe };
+
+    ghost may_recover = { true };
+
+    /// What a quorum of replies decides. A member's full store aborts the operation, whatever the others told.
+    #[tactic(auto, unfolding(protocol::specs::Coordinators::decided))]
+    fn decide(op: &mut Operation, alloc: Global, fresh: Option<Stamp>) -> Result<Next, NoMem> {
+        if let Some(member) = op.full_member() {
+            return Ok(op.abort_full(member));
+        }
+        match op.stage().phase {
+            Phase::Looks => end_look(op, alloc),
+            Phase::Orders => end_order(op, alloc, fresh),
+            Phase::Stores => op.end_store(alloc),
+            Phase::Recovers | Phase::Descends(_) => unreachable!(),
+        }
+    }
+}
+
 impl StripeOp {
-    ghost use Rattle.std.specs.Prelude.{◌≡◌, ◌-◌, ◌<◌, ◌≤◌, ◌^◌, true, None, IfOk, OnErr, OnOk, length, option_copied};
+    ghost use Rattle.std.specs.Prelude.{◌≡◌, true, IfOk, OnErr, OnOk, length, option_copied};
     ghost use Rattle.quorum.specs.Quorums.{IsWithinLimits};
-    ghost use Rattle.protocol.specs.declared.phases.Phase.TheVariants.{Looks, Orders, Stores};
-    ghost use Rattle.protocol.specs.Coordinators.{in_phase, greatest_refuser, once_ordered, fast_version, answered_fast, decided, Makes};
     ghost use Rattle.protocol.specs.Nodes.{is_stripe_op, has_length};
-    ghost use Rattle.stripe_code.specs.Codes.{block_code};
-    ghost use Rattle.coord_phase.specs.Operations.{group_in_view, counts, StaysAsked};
-    ghost use Rattle.coord_phase.specs.Decisions.{Answers, SendsPhase, IsSend, decision, note_told};
+    ghost use Rattle.coord_phase.specs.Operations.{group_in_view, counts, with_state, without_last};
+    ghost use Rattle.coord_phase.specs.Decisions.{Answers, AsksRecovery, SendsPhase, IsSend};
     ghost use Rattle.coord_stripe.specs.StripeOps.{first_op, is_of_stripe};
 
     /// Begins an operation on a whole stripe, with its stamp: a read looks, and a write orders. It is asked of the members of the view,
@@ -147,67 +209,6 @@ impl StripeOp {
         self.op.counts(from, reply)
     }
 
-    /// Answers a read whose version all replies tell, and has the stripe of another read recovered.
-    fn end_look(&mut self) -> Result<Next, NoMem>
-        requires phase { self.old.state.phase ≡ Looks }
-        requires enough { self.old.group.m ≤ length self.old.state.counted }
-        ensures next { IfOk result (λ next. decision self.new next ≡ answered_fast (block_code self.old.block) self.old.group.m self.old.state
-            (fast_version self.old.state.counted)) }
-        ensures sent { IfOk result (λ next. SendsPhase self.new next) }
-        ensures told { OnOk result (self.new.note ≡ note_told self.old.state.call
-            (answered_fast (block_code self.old.block) self.old.group.m self.old.state (fast_version self.old.state.counted))) }
-        ensures stays { OnOk result (StaysAsked self.old self.new) }
-        ensures err { OnErr result (self.new ≡ self.old) }
-    {
-        let Some(version) = version_told_by_all(self.op.counted()) else {
-            return Ok(self.op.recover(Turn::Order));
-        };
-        let content = self.op.content_of(self.alloc, version)?;
-        Ok(self.op.end_look(version, content))
-    }
-
-    /// Goes on to store, or to another round of ordering where a member told a later stamp.
-    fn end_order(&mut self, fresh: Option<Stamp>) -> Result<Next, NoMem>
-        requires phase { self.old.state.phase ≡ Orders }
-        requires few { self.old.state.call.phase < 2 ^ 32 - 1 }
-        ensures next { IfOk result (λ next. decision self.new next ≡ once_ordered fresh self.old.state (greatest_refuser self.old.state.counted)
-            (Makes (in_phase self.old.state Stores))) }
-        ensures sent { IfOk result (λ next. SendsPhase self.new next) }
-        ensures told { OnOk result (self.new.note ≡ note_told self.old.state.call
-            (once_ordered fresh self.old.state (greatest_refuser self.old.state.counted) (Makes (in_phase self.old.state Stores)))) }
-        ensures stays { OnOk result (StaysAsked self.old self.new) }
-        ensures err { OnErr result (self.new ≡ self.old) }
-    {
-        match self.op.refuser() {
-            Some(refuser) => self.op.order_again(self.alloc, fresh, refuser),
-            None => Ok(Next::Send(self.op.make(self.alloc)?)),
-        }
-    }
-
-    /// What a quorum of replies decides, where a new round would have this fresh stamp. A member's full store aborts the operation,
-    /// whatever the others told.
-    #[tactic(auto, unfolding(protocol::specs::Coordinators::decided))]
-    fn decide(&mut self, fresh: Option<Stamp>) -> Result<Next, NoMem>
-        requires enough { self.old.group.m ≤ length self.old.state.counted }
-        requires few { self.old.state.call.phase < 2 ^ 32 - 1 }
-        ensures next { IfOk result (λ next. decision self.new next ≡ decided (block_code self.old.block) self.old.group.m fresh self.old.state) }
-        ensures sent { IfOk result (λ next. SendsPhase self.new next) }
-        ensures told { OnOk result (self.new.note ≡ note_told self.old.state.call
-            (decided (block_code self.old.block) self.old.group.m fresh self.old.state)) }
-        ensures stays { OnOk result (StaysAsked self.old self.new) }
-        ensures err { OnErr result (self.new ≡ self.old) }
-    {
-        if let Some(member) = self.op.full_member() {
-            return Ok(self.op.abort_full(member));
-        }
-        match self.op.stage().phase {
-            Phase::Looks => self.end_look(),
-            Phase::Orders => self.end_order(fresh),
-            Phase::Stores => self.op.end_store(self.alloc),
-            Phase::Recovers | Phase::Descends(_) => unreachable!(),
-        }
-    }
-
     /// What the operation does with a message. A new round of ordering would have the fresh stamp; there is none where no later time is
     /// left.
     ///
@@ -222,21 +223,18 @@ impl StripeOp {
     ) -> Result<Next, NoMem>
         ensures answers { IfOk result (λ next. Answers fresh self.old from reply.now next self.new) }
         ensures kind { OnOk result (is_of_stripe self.new.state.phase ≡ true) }
+        ensures recovery { IfOk result (λ next. AsksRecovery true next self.old.state (without_last self.new.state)) }
         ensures err { OnErr result (self.new ≡ self.old) }
     {
-        if !self.op.count(self.alloc, from, reply)? {
-            return Ok(self.op.wait());
-        }
-        if !self.op.is_full() {
-            return Ok(self.op.wait());
-        }
-        match self.decide(fresh) {
-            Ok(next) => Ok(next),
-            Err(error) => {
-                self.op.uncount();
-                Err(error)
-            }
-        }
+        self.op.on_reply::<StripeOp>(self.alloc, from, reply, fresh)
+    }
+
+    /// Takes the last reply that counted back: after a reply upon which the operation asked for a recovery, its coordinator is as it
+    /// was before.
+    pub fn take_back(&mut self)
+        ensures { self.new ≡ with_state self.old (without_last self.old.state) }
+    {
+        self.op.take_back();
     }
 
     /// The phase again, to each member without a counted reply.
@@ -249,8 +247,7 @@ impl StripeOp {
         ensures sent { IfOk result (λ next. SendsPhase self.old next) }
         ensures same { self.new ≡ self.old }
     {
-        let messages = self.op.messages(self.alloc)?;
-        Ok(Next::Send(messages))
+        self.op.on_tick(self.alloc)
     }
 
     /// The number of the present phase.
@@ -272,6 +269,13 @@ impl StripeOp {
         ensures { result ≡ self.now.made }
     {
         self.op.made()
+    }
+
+    /// What is asked.
+    pub fn ask(&self) -> &Ask
+        ensures { result.now ≡ self.now.state.ask }
+    {
+        self.op.ask()
     }
 
     /// What was asked.

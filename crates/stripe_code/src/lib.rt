@@ -6,6 +6,3 @@ mod blocks;
 pub mod laws;
 
 pub use blocks::{decode, encode};
-
-#[cfg(test)]
-mod tests;

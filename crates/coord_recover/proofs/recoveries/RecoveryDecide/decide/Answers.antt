@@ -11,7 +11,7 @@ use Rattle.coord_phase.specs.Operations.{Operation}
 use Rattle.coord_phase.specs.declared.operations.Stage.{Stage}
 use Rattle.coord_phase.specs.Decisions.{decision, note_told}
 use Rattle.coord_recover.proofs.Decided.{told_full, decided_storing, refused_recovering, unrefused_recovering, refused_descending, unrefused_descending, nothing_told_at_end, nothing_told_again}
-use Rattle.coord_recover.proofs.recoveries.Recovery.decide.Goals as goal
+use Rattle.coord_recover.proofs.recoveries.RecoveryDecide.decide.Goals as goal
 
 -- the machine's decision on an operation
 abbrev decided_of : Option Stamp → Operation → machine.Next
@@ -36,108 +36,98 @@ told_is result after fresh before told is h = subst (λ (n : Option Note). OnOk 
 
 pub returns-in-Some-clause-next : goal.returns-in-Some-clause-next
 returns-in-Some-clause-next c =
-    let op = c.self.inside.op in
+    let op = c.args.op.now in
     let is = told_full (block_code op.block) op.group.m c.args.fresh op.state c.in-Some.member (sym c.full_member.ensures ∙ c.in-Some.is) in
-    c.abort_full.ensures.next ∙ sym is ∙ ap (decided_of c.args.fresh) c.self.view_is
+    c.abort_full.ensures.next ∙ sym is
 
 pub returns-in-Some-clause-told : goal.returns-in-Some-clause-told
 returns-in-Some-clause-told c =
-    let op = c.self.inside.op in
+    let op = c.args.op.now in
     let is = told_full (block_code op.block) op.group.m c.args.fresh op.state c.in-Some.member (sym c.full_member.ensures ∙ c.in-Some.is) in
     ap (λ (o : Operation). o.note) c.abort_full.ensures.state ∙ sym (ap (note_told op.state.call) is)
-    ∙ ap (λ (o : Operation). note_told o.state.call (decided_of c.args.fresh o)) c.self.view_is
 
 pub returns-in-Stores-default-clause-next : goal.returns-in-Stores-default-clause-next
 returns-in-Stores-default-clause-next c =
-    let op = c.self.inside.op in
+    let op = c.args.op.now in
     let is = decided_storing (block_code op.block) op.group.m c.args.fresh op.state (sym c.full_member.ensures ∙ c.in_default.is)
     (sym (ap (λ (s : Stage). s.phase) c.stage.ensures) ∙ c.in-Stores-default.is-0) in
-    subst (λ (before : Operation). NextIs c.end_store.result c.end_store.new.self c.args.fresh before) c.self.view_is
-    (next_is c.end_store.result c.end_store.new.self c.args.fresh op _ is c.end_store.ensures.next)
+    next_is c.end_store.result c.end_store.new.self c.args.fresh op _ is c.end_store.ensures.next
 
 pub returns-in-Stores-default-clause-told : goal.returns-in-Stores-default-clause-told
 returns-in-Stores-default-clause-told c =
-    let op = c.self.inside.op in
+    let op = c.args.op.now in
     let is = decided_storing (block_code op.block) op.group.m c.args.fresh op.state (sym c.full_member.ensures ∙ c.in_default.is)
     (sym (ap (λ (s : Stage). s.phase) c.stage.ensures) ∙ c.in-Stores-default.is-0) in
-    subst (λ (before : Operation). ToldIs c.end_store.result c.end_store.new.self c.args.fresh before) c.self.view_is
-    (told_is c.end_store.result c.end_store.new.self c.args.fresh op None
+    told_is c.end_store.result c.end_store.new.self c.args.fresh op None
     (ap (note_told op.state.call) is ∙ nothing_told_at_end op.state.call (greatest_refuser op.state.counted)
     (answer_of op.state.ask.op op.state.content) (Some op.state.stamp))
-    c.end_store.ensures.told)
+    c.end_store.ensures.told
 
 pub returns-in-Recovers-Some-clause-next : goal.returns-in-Recovers-Some-clause-next
 returns-in-Recovers-Some-clause-next c =
-    let op = c.self.inside.op in
+    let op = c.args.op.now in
     let is = refused_recovering (block_code op.block) op.group.m c.args.fresh op.state c.in-Recovers-Some.refuser
     (sym c.full_member.ensures ∙ c.in_default.is)
     (sym (ap (λ (s : Stage). s.phase) c.stage.ensures) ∙ c.in-Recovers-Some.is-0) (sym c.refuser.ensures ∙ c.in-Recovers-Some.is-1) in
-    subst (λ (before : Operation). NextIs c.order_again.result c.order_again.new.self c.args.fresh before) c.self.view_is
-    (next_is c.order_again.result c.order_again.new.self c.args.fresh op _ is c.order_again.ensures.next)
+    next_is c.order_again.result c.order_again.new.self c.args.fresh op _ is c.order_again.ensures.next
 
 pub returns-in-Recovers-Some-clause-told : goal.returns-in-Recovers-Some-clause-told
 returns-in-Recovers-Some-clause-told c =
-    let op = c.self.inside.op in
+    let op = c.args.op.now in
     let is = refused_recovering (block_code op.block) op.group.m c.args.fresh op.state c.in-Recovers-Some.refuser
     (sym c.full_member.ensures ∙ c.in_default.is)
     (sym (ap (λ (s : Stage). s.phase) c.stage.ensures) ∙ c.in-Recovers-Some.is-0) (sym c.refuser.ensures ∙ c.in-Recovers-Some.is-1) in
-    subst (λ (before : Operation). ToldIs c.order_again.result c.order_again.new.self c.args.fresh before) c.self.view_is
-    (told_is c.order_again.result c.order_again.new.self c.args.fresh op None
-    (ap (note_told op.state.call) is ∙ nothing_told_again op.state.call c.args.fresh op.state c.in-Recovers-Some.refuser) c.order_again.ensures.told)
+    told_is c.order_again.result c.order_again.new.self c.args.fresh op None
+    (ap (note_told op.state.call) is ∙ nothing_told_again op.state.call c.args.fresh op.state c.in-Recovers-Some.refuser) c.order_again.ensures.told
 
 pub returns-in-Descends-Some-clause-next : goal.returns-in-Descends-Some-clause-next
 returns-in-Descends-Some-clause-next c =
-    let op = c.self.inside.op in
+    let op = c.args.op.now in
     let is = refused_descending (block_code op.block) op.group.m c.args.fresh op.state c.in-Descends-Some.field-0-0 c.in-Descends-Some.refuser
     (sym c.full_member.ensures ∙ c.in_default.is)
     (sym (ap (λ (s : Stage). s.phase) c.stage.ensures) ∙ c.in-Descends-Some.is-0) (sym c.refuser.ensures ∙ c.in-Descends-Some.is-1) in
-    c.abort.ensures.next ∙ sym is ∙ ap (decided_of c.args.fresh) c.self.view_is
+    c.abort.ensures.next ∙ sym is
 
 pub returns-in-Descends-Some-clause-told : goal.returns-in-Descends-Some-clause-told
 returns-in-Descends-Some-clause-told c =
-    let op = c.self.inside.op in
+    let op = c.args.op.now in
     let is = refused_descending (block_code op.block) op.group.m c.args.fresh op.state c.in-Descends-Some.field-0-0 c.in-Descends-Some.refuser
     (sym c.full_member.ensures ∙ c.in_default.is)
     (sym (ap (λ (s : Stage). s.phase) c.stage.ensures) ∙ c.in-Descends-Some.is-0) (sym c.refuser.ensures ∙ c.in-Descends-Some.is-1) in
     ap (λ (o : Operation). o.note) c.abort.ensures.state ∙ sym (ap (note_told op.state.call) is)
-    ∙ ap (λ (o : Operation). note_told o.state.call (decided_of c.args.fresh o)) c.self.view_is
-
--- with no refusal it reads back
-abbrev ReadsBack : Option Stamp → Operation → Type 0
-ReadsBack fresh op = decided_of fresh op ≡ read_back (block_code op.block) op.group.m op.state (greatest_found op.state.counted)
 
 pub returns-in-Recovers-None-clause-next : goal.returns-in-Recovers-None-clause-next
 returns-in-Recovers-None-clause-next c =
-    let op = c.self.inside.op in
+    let op = c.args.op.now in
     let is = unrefused_recovering (block_code op.block) op.group.m c.args.fresh op.state
     (sym c.full_member.ensures ∙ c.in_default.is)
     (sym (ap (λ (s : Stage). s.phase) c.stage.ensures) ∙ c.in-Recovers-None.is-0) (sym c.refuser.ensures ∙ c.in-Recovers-None.is-1) in
-    next_is c.read_back.result c.read_back.new.self c.args.fresh c.args.self.now _
-    (subst (ReadsBack c.args.fresh) c.self.view_is is) c.read_back.ensures.next
+    next_is c.read_back.result c.read_back.new.op c.args.fresh c.args.op.now _
+    is c.read_back.ensures.next
 
 pub returns-in-Recovers-None-clause-told : goal.returns-in-Recovers-None-clause-told
 returns-in-Recovers-None-clause-told c =
-    let op = c.self.inside.op in
+    let op = c.args.op.now in
     let is = unrefused_recovering (block_code op.block) op.group.m c.args.fresh op.state
     (sym c.full_member.ensures ∙ c.in_default.is)
     (sym (ap (λ (s : Stage). s.phase) c.stage.ensures) ∙ c.in-Recovers-None.is-0) (sym c.refuser.ensures ∙ c.in-Recovers-None.is-1) in
-    told_is c.read_back.result c.read_back.new.self c.args.fresh c.args.self.now _
-    (ap (note_told c.args.self.now.state.call) (subst (ReadsBack c.args.fresh) c.self.view_is is)) c.read_back.ensures.told
+    told_is c.read_back.result c.read_back.new.op c.args.fresh c.args.op.now _
+    (ap (note_told c.args.op.now.state.call) is) c.read_back.ensures.told
 
 pub returns-in-Descends-None-clause-next : goal.returns-in-Descends-None-clause-next
 returns-in-Descends-None-clause-next c =
-    let op = c.self.inside.op in
+    let op = c.args.op.now in
     let is = unrefused_descending (block_code op.block) op.group.m c.args.fresh op.state c.in-Descends-None.field-0-0
     (sym c.full_member.ensures ∙ c.in_default.is)
     (sym (ap (λ (s : Stage). s.phase) c.stage.ensures) ∙ c.in-Descends-None.is-0) (sym c.refuser.ensures ∙ c.in-Descends-None.is-1) in
-    next_is c.read_back-in-Descends-None.result c.read_back-in-Descends-None.new.self c.args.fresh c.args.self.now _
-    (subst (ReadsBack c.args.fresh) c.self.view_is is) c.read_back-in-Descends-None.ensures.next
+    next_is c.read_back-in-Descends-None.result c.read_back-in-Descends-None.new.op c.args.fresh c.args.op.now _
+    is c.read_back-in-Descends-None.ensures.next
 
 pub returns-in-Descends-None-clause-told : goal.returns-in-Descends-None-clause-told
 returns-in-Descends-None-clause-told c =
-    let op = c.self.inside.op in
+    let op = c.args.op.now in
     let is = unrefused_descending (block_code op.block) op.group.m c.args.fresh op.state c.in-Descends-None.field-0-0
     (sym c.full_member.ensures ∙ c.in_default.is)
     (sym (ap (λ (s : Stage). s.phase) c.stage.ensures) ∙ c.in-Descends-None.is-0) (sym c.refuser.ensures ∙ c.in-Descends-None.is-1) in
-    told_is c.read_back-in-Descends-None.result c.read_back-in-Descends-None.new.self c.args.fresh c.args.self.now _
-    (ap (note_told c.args.self.now.state.call) (subst (ReadsBack c.args.fresh) c.self.view_is is)) c.read_back-in-Descends-None.ensures.told
+    told_is c.read_back-in-Descends-None.result c.read_back-in-Descends-None.new.op c.args.fresh c.args.op.now _
+    (ap (note_told c.args.op.now.state.call) is) c.read_back-in-Descends-None.ensures.told

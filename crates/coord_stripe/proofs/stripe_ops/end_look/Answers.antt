@@ -1,25 +1,21 @@
 -- What all replies tell is decoded from the blocks that they tell.
-use Rattle.std.proofs.Common.{◌≡◌, ℕ, ◌≤◌, true, List, length, Some, None, ap, ◌∙◌, sym, subst}
+use Rattle.std.proofs.Common.{◌≡◌, ℕ, true, List, Some, None, ap, ◌∙◌, subst}
 use Rattle.fab_base.specs.declared.answers.Answer.TheVariants.{Data}
 use Rattle.protocol.specs.declared.phases.Counted.{Counted}
 use Rattle.protocol.specs.Coordinators.{Ends, all_tell, fast_version, answered_fast, pieces_of}
 use Rattle.stripe_code.specs.Codes.{block_code, decoded}
-use Rattle.coord_phase.specs.Operations.{Operation}
 use Rattle.coord_stripe.proofs.FastReads.{all_pieces, enough_pieces}
-use Rattle.coord_stripe.proofs.stripe_ops.StripeOp.end_look.Goals as goal
+use Rattle.coord_stripe.proofs.stripe_ops.end_look.Goals as goal
 
 pub content_of-requires : goal.content_of-requires
 content_of-requires c =
-    let op = c.self.inside.op in
-    let told : all_tell c.in-Some.version op.state.counted ≡ true =
+    let told : all_tell c.in-Some.version c.args.op.now.state.counted ≡ true =
     subst (λ (counted : List Counted). all_tell c.in-Some.version counted ≡ true) c.counted.ensures c.in-Some.ensures.all in
-    let enough : op.group.m ≤ length op.state.counted = subst (λ (z : Operation). z.group.m ≤ length z.state.counted)
-    (sym c.self.view_is) c.requires.enough in
-    enough_pieces _ _ _ enough told
+    enough_pieces _ _ _ c.requires.enough told
 
 pub returns-clause-next : goal.returns-clause-next
 returns-clause-next c =
-    let op = c.self.inside.op in
+    let op = c.args.op.now in
     let version = c.in-Some.version in
     let told : all_tell version op.state.counted ≡ true =
     subst (λ (counted : List Counted). all_tell version counted ≡ true) c.counted.ensures c.in-Some.ensures.all in
@@ -29,4 +25,3 @@ returns-clause-next c =
     c.end_look.ensures.next
     ∙ ap (λ (z : List ℕ). Ends (Data z) (Some version) None) content
     ∙ ap (answered_fast (block_code op.block) op.group.m op.state) fast
-    ∙ ap (λ (z : Operation). answered_fast (block_code z.block) z.group.m z.state (fast_version z.state.counted)) c.self.view_is

@@ -1,0 +1,96 @@
+//! What an operation does with a reply.
+
+ghost use Rattle.std.specs.Prelude.{◌≡◌, Bool};
+ghost use Rattle.protocol.specs.declared.phases.Phase.{Phase};
+
+use crate::operations::Operation;
+use fab_base::{BrickId, NoMem, Stamp};
+use messages::{Message, Next};
+use std::alloc::Global;
+
+/// How the operations of one kind go on once a quorum of replies counts.
+pub trait Decide {
+    ghost use Rattle.std.specs.Prelude.{◌≡◌, ◌-◌, ◌<◌, ◌≤◌, ◌^◌, true, IfOk, OnOk, OnErr, length};
+    ghost use Rattle.protocol.specs.Coordinators.{decided};
+    ghost use Rattle.protocol.specs.Nodes.{has_length};
+    ghost use Rattle.stripe_code.specs.Codes.{block_code};
+    ghost use Rattle.coord_phase.specs.Operations.{StaysAsked};
+    ghost use Rattle.coord_phase.specs.Decisions.{SendsPhase, AsksRecovery, decision, note_told};
+
+    // whether operations of this kind may be in a phase
+    ghost is_own: { Phase → Bool };
+
+    // whether they may ask that their stripe be recovered
+    ghost may_recover: { Bool };
+
+    /// What a quorum of replies decides, where a new round of ordering would have the fresh stamp.
+    ///
+    /// # Errors
+    ///
+    /// `NoMemory` where no memory was left; then nothing has changed.
+    fn decide(op: &mut Operation, alloc: Global, fresh: Option<Stamp>) -> Result<Next, NoMem>
+        requires own { is_own op.old.state.phase ≡ true }
+        requires long { has_length op.old.group.m op.old.block op.old.state.ask.op ≡ true }
+        requires enough { op.old.group.m ≤ length op.old.state.counted }
+        requires few { op.old.state.call.phase < 2 ^ 32 - 1 }
+        ensures next { IfOk result (λ next. decision op.new next ≡ decided (block_code op.old.block) op.old.group.m fresh op.old.state) }
+        ensures sent { IfOk result (λ next. SendsPhase op.new next) }
+        ensures told { OnOk result (op.new.note ≡ note_told op.old.state.call
+            (decided (block_code op.old.block) op.old.group.m fresh op.old.state)) }
+        ensures stays { OnOk result (StaysAsked op.old op.new) }
+        ensures own { OnOk result (is_own op.new.state.phase ≡ true) }
+        ensures recovery { IfOk result (λ next. AsksRecovery may_recover next op.old.state op.new.state) }
+        ensures err { OnErr result (op.new ≡ op.old) };
+}
+
+impl Operation {
+    ghost use Rattle.std.specs.Prelude.{◌≡◌, true, IfOk, OnOk, OnErr};
+    ghost use Rattle.coord_phase.specs.Operations.{without_last};
+    ghost use Rattle.coord_phase.specs.Decisions.{Answers, SendsPhase, IsSend, AsksRecovery};
+
+    /// What an operation of this kind does with a message: it counts a reply, and decides once a quorum counts. A new round of ordering
+    /// would have the fresh stamp; there is none where no later time is left.
+    ///
+    /// # Errors
+    ///
+    /// `NoMemory` where no memory was left; then nothing has changed.
+    pub fn on_reply<D: Decide>(
+        &mut self,
+        alloc: Global,
+        from: BrickId,
+        message: &Message,
+        fresh: Option<Stamp>,
+    ) -> Result<Next, NoMem>
+        requires own { D.is_own self.old.state.phase ≡ true }
+        ensures answers { IfOk result (λ next. Answers fresh self.old from message.now next self.new) }
+        ensures own { OnOk result (D.is_own self.new.state.phase ≡ true) }
+        ensures recovery { IfOk result (λ next. AsksRecovery D.may_recover next self.old.state (without_last self.new.state)) }
+        ensures err { OnErr result (self.new ≡ self.old) }
+    {
+        if !self.count(alloc, from, message)? {
+            return Ok(self.wait());
+        }
+        if !self.is_full() {
+            return Ok(self.wait());
+        }
+        match D::decide(self, alloc, fresh) {
+            Ok(next) => Ok(next),
+            Err(fault) => {
+                self.take_back();
+                Err(fault)
+            }
+        }
+    }
+
+    /// The phase again, to each member without a counted reply.
+    ///
+    /// # Errors
+    ///
+    /// `NoMemory` where no memory was left.
+    pub fn on_tick(&self, alloc: Global) -> Result<Next, NoMem>
+        ensures send { IfOk result (λ next. IsSend next) }
+        ensures sent { IfOk result (λ next. SendsPhase self.now next) }
+    {
+        Ok(Next::Send(self.messages(alloc)?))
+    }
+}
