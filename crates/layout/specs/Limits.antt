@@ -22,6 +22,8 @@ pub record IsLayout (layout : Layout) : Type 0 where
   pub few_bricks : layout.bricks ≤ 64
   pub some_record : 1 ≤ layout.records
   pub few_records : layout.records ≤ 1048576
+  pub some_port : 1 ≤ layout.port
+  pub few_ports : layout.port ≤ 65472
   pub some_group : 1 ≤ length layout.groups
   pub few_groups : length layout.groups ≤ 64
   pub each : (g : ℕ) (group : Group) → group_of layout g ≡ Some group → IsGroup layout.block layout.bricks group

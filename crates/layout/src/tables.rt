@@ -3,10 +3,10 @@
 ghost use Rattle.std.specs.Prelude.{◌≡◌, ◌≢◌, ◌≤◌, Some, None, Ok, Err, IfOk, IfErr, IfSome, length, map, option_map, option_copied};
 ghost use Rattle.toml.specs.Data.{get_member};
 ghost use Rattle.toml.specs.View.{view, array_view, table_view};
+ghost use Rattle.layout.specs.Limits.{IsLayout};
 ghost use Rattle.layout.specs.Names.{key_text};
-ghost use Rattle.layout.specs.Checks.{integer_at, array_at, brick_in, natural, within, number_at, port_at, least_other, keys_of, integers_in, bricks_in, stands_in, are_distinct, members_at, blocks_at, group_in, tables_in, tables_at, groups_in, is_known, description_in};
+ghost use Rattle.layout.specs.Checks.{integer_at, array_at, brick_in, natural, within, number_at, port_at, least_other, keys_of, integers_in, bricks_in, stands_in, are_distinct, members_at, blocks_at, group_in, tables_in, tables_at, groups_in, is_known, layout_in};
 
-use crate::descriptions::Description;
 use crate::faults::{FieldName, Key, KeyText, LayoutFault};
 use crate::groups::Group;
 use crate::layouts::Layout;
@@ -276,10 +276,11 @@ fn groups_in(
     Ok(groups)
 }
 
-/// What the table of a layout text says.
-pub fn description_in(alloc: Global, table: &Table) -> Result<Description, LayoutFault>
-    ensures ok { IfOk result (λ description. description_in (table_view table.now) ≡ Ok description) }
-    ensures err { IfErr result (λ fault. fault ≢ LayoutFault.NoMemory → description_in (table_view table.now) ≡ Err fault) }
+/// The layout that the table of a text says.
+pub fn layout_in(alloc: Global, table: &Table) -> Result<Layout, LayoutFault>
+    ensures ok { IfOk result (λ layout. layout_in (table_view table.now) ≡ Ok layout) }
+    ensures err { IfErr result (λ fault. fault ≢ LayoutFault.NoMemory → layout_in (table_view table.now) ≡ Err fault) }
+    ensures limits { IfOk result IsLayout }
 {
     let block = number_at(table, Key::Block, 1, 4096)? as u16;
     let bricks = number_at(table, Key::Bricks, 1, 64)? as u16;
@@ -292,8 +293,5 @@ pub fn description_in(alloc: Global, table: &Table) -> Result<Description, Layou
             name: FieldName::Other(KeyText::from_str(alloc, text)?),
         });
     }
-    Ok(Description {
-        layout: Layout::new(block, bricks, records, groups),
-        port,
-    })
+    Ok(Layout::new(alloc, block, bricks, records, port, groups))
 }
