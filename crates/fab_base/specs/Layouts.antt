@@ -15,8 +15,8 @@ pub record Volume : Type 0 where
   pub name : List ℕ
   pub segments : List Segment
 
--- The bytes of a block, the number of bricks, how many live records a brick may keep, the UDP port of brick 0 (brick b has the port b above
--- it), the form of a store, the bricks that may replace a member, the groups by number, and the volumes.
+-- The bytes of a block, the number of bricks, how many live records a brick may keep, the UDP port of brick 0 (brick b has the
+-- port b above it), the form of a store, the bricks that may replace a member, the groups by number, and the volumes.
 pub record Layout : Type 0 where
   pub block : ℕ
   pub bricks : ℕ

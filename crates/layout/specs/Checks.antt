@@ -183,7 +183,16 @@ top_keys = keys.Block ∷ (keys.Bricks ∷ (keys.Records ∷ (keys.Port ∷ (key
 -- the layout of these keys, with what holds where the others are missing: stores of form 2, no spares and no volumes
 abbrev pub layout_with : ℕ → ℕ → ℕ → ℕ → List Group → Layout
 layout_with block bricks records port groups =
-    record { block = block; bricks = bricks; records = records; port = port; store = 2; spares = []; groups = groups; volumes = [] }
+    record {
+      block = block;
+      bricks = bricks;
+      records = records;
+      port = port;
+      store = 2;
+      spares = [];
+      groups = groups;
+      volumes = [];
+    }
 
 -- the layout that the table of a text says
 abbrev pub layout_in : Members → Result Layout LayoutFault

@@ -4,8 +4,8 @@ use Rattle.std.specs.List.{IsDistinct, AllByRecursion}
 use Rattle.fab_base.specs.Layouts.{Group, Layout, group_of}
 use Rattle.quorum.specs.Quorums.{IsWithinLimits}
 
--- A group of a disk with blocks of this many bytes and this many bricks: its stripes and blocks are within the limits, and its members are
--- distinct bricks of the disk.
+-- A group of a disk with blocks of this many bytes and this many bricks: its stripes and blocks are within the limits, and its
+-- members are distinct bricks of the disk.
 pub record IsGroup (block bricks : ℕ) (group : Group) : Type 0 where
   pub limits : IsWithinLimits group.m (length group.members)
   pub room : group.m * block ≤ 32768

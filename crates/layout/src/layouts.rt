@@ -76,8 +76,8 @@ fn copy_volumes(alloc: Global, volumes: &[Volume]) -> Result<Vec<Volume>, NoMem>
 }
 
 impl Layout {
-    // A layout of blocks of this many bytes, this many bricks, each with room for so many live records, the port of brick 0, and these
-    // groups. Its stores have form 2, and it has no spares and no volumes.
+    // A layout of blocks of this many bytes, this many bricks, each with room for so many live records, the port of brick 0,
+    // and these groups. Its stores have form 2, and it has no spares and no volumes.
     pub(crate) fn new(
         alloc: Global,
         block: u16,

@@ -153,7 +153,8 @@ fn are_distinct(members: &[BrickId]) -> bool
 // The members of a group: a list of whole numbers, and then m to 32 distinct bricks of the disk.
 fn members_at(alloc: Global, table: &Table, m: u8, bricks: u16) -> Result<Members, LayoutFault>
     ensures ok { IfOk result (λ members. members_at m bricks (table_view table.now) ≡ Ok members) }
-    ensures err { IfErr result (λ fault. fault ≢ LayoutFault.NoMemory → members_at m bricks (table_view table.now) ≡ Err fault) }
+    ensures err { IfErr result (λ fault. fault ≢ LayoutFault.NoMemory
+        → members_at m bricks (table_view table.now) ≡ Err fault) }
     ensures seats { IfOk result (λ members. (m ≤ length members) × (length members ≤ 32)) }
 {
     let limit = LayoutFault::Limit {
@@ -225,8 +226,10 @@ fn tables_in(alloc: Global, array: &Array) -> Result<Option<Vec<&Table>>, NoMem>
 
 // The tables of the groups: a list of tables, and then 1 to 64 of them.
 fn tables_at(alloc: Global, table: &Table) -> Result<Vec<&Table>, LayoutFault>
-    ensures ok { IfOk result (λ tables. tables_at (table_view table.now) ≡ Ok (map (λ table. table_view table.now) tables.items)) }
-    ensures err { IfErr result (λ fault. fault ≢ LayoutFault.NoMemory → tables_at (table_view table.now) ≡ Err fault) }
+    ensures ok { IfOk result (λ tables. tables_at (table_view table.now)
+        ≡ Ok (map (λ table. table_view table.now) tables.items)) }
+    ensures err { IfErr result (λ fault. fault ≢ LayoutFault.NoMemory
+        → tables_at (table_view table.now) ≡ Err fault) }
 {
     let Some(array) = array_at(table, Key::Group) else {
         return Err(no_field(Key::Group));
@@ -244,7 +247,8 @@ fn tables_at(alloc: Global, table: &Table) -> Result<Vec<&Table>, LayoutFault>
 fn group_in(alloc: Global, block: u16, bricks: u16, table: &Table) -> Result<Group, LayoutFault>
     requires { block ≤ 4096 }
     ensures ok { IfOk result (λ group. group_in block bricks (table_view table.now) ≡ Ok group) }
-    ensures err { IfErr result (λ fault. fault ≢ LayoutFault.NoMemory → group_in block bricks (table_view table.now) ≡ Err fault) }
+    ensures err { IfErr result (λ fault. fault ≢ LayoutFault.NoMemory
+        → group_in block bricks (table_view table.now) ≡ Err fault) }
 {
     let m = blocks_at(table, block)?;
     let members = members_at(alloc, table, m, bricks)?;
@@ -265,7 +269,8 @@ fn groups_in(
     tables: &[&Table],
 ) -> Result<Vec<Group>, LayoutFault>
     requires { block ≤ 4096 }
-    ensures ok { IfOk result (λ groups. groups_in block bricks (map (λ table. table_view table.now) tables.now) ≡ Ok groups.items) }
+    ensures ok { IfOk result (λ groups. groups_in block bricks (map (λ table. table_view table.now) tables.now)
+        ≡ Ok groups.items) }
     ensures err { IfErr result (λ fault. fault ≢ LayoutFault.NoMemory
         → groups_in block bricks (map (λ table. table_view table.now) tables.now) ≡ Err fault) }
 {
@@ -279,7 +284,8 @@ fn groups_in(
 /// The layout that the table of a text says.
 pub fn layout_in(alloc: Global, table: &Table) -> Result<Layout, LayoutFault>
     ensures ok { IfOk result (λ layout. layout_in (table_view table.now) ≡ Ok layout) }
-    ensures err { IfErr result (λ fault. fault ≢ LayoutFault.NoMemory → layout_in (table_view table.now) ≡ Err fault) }
+    ensures err { IfErr result (λ fault. fault ≢ LayoutFault.NoMemory
+        → layout_in (table_view table.now) ≡ Err fault) }
     ensures limits { IfOk result IsLayout }
 {
     let block = number_at(table, Key::Block, 1, 4096)? as u16;

@@ -49,8 +49,9 @@ impl Layout {
     ///
     /// # Errors
     ///
-    /// The fault of the first check that fails: `Toml` exactly where the text is no TOML document, `Field` where a key is missing,
-    /// of a wrong type or none of the format's, `Limit` where a value is outside its limits; `NoMemory` where no memory was left.
+    /// The fault of the first check that fails: `Toml` exactly where the text is no TOML document, `Field` where a key is
+    /// missing, of a wrong type or none of the format's, `Limit` where a value is outside its limits; `NoMemory` where no
+    /// memory was left.
     pub fn read(alloc: Global, text: &[u8]) -> Result<Layout, LayoutFault>
         ensures read { IfOk result (λ layout. layout_of text.now ≡ Ok layout) }
         ensures refused { IfErr result (λ fault. fault ≢ LayoutFault.NoMemory → layout_of text.now ≡ Err fault) }
