@@ -1,8 +1,9 @@
--- The order of stamps is a strict total order, and its tests mean what they say.
+-- The orders of stamps and of ballots are strict total orders, and their tests mean what they say.
 use Rattle.std.proofs.Common.{◌≡◌, ℕ, Bool, true, false, ◌&&◌, ◌||◌, nat_lt, nat_eq, refl, sym, ◌∙◌, arith}
 use Rattle.std.proofs.lemmas.Bool.Decides.{nat_tests}
 use Rattle.fab_base.specs.declared.stamps.Stamp.{Stamp}
-use Rattle.fab_base.specs.Stamps.{stamp_below, stamp_same, first_stamp}
+use Rattle.fab_base.specs.declared.stamps.Ballot.{Ballot}
+use Rattle.fab_base.specs.Stamps.{stamp_below, stamp_same, first_stamp, ballot_below, IsStrictOrder}
 
 -- one field before the rest keeps the order transitive
 below_rest : (x y z : ℕ) (p q r : Bool) → (p ≡ true → q ≡ true → r ≡ true)
@@ -102,3 +103,41 @@ stamp_neither_below a b h k =
     let bricks = same_field a.brick.0 b.brick.0 _ _ times.1 times.2 in
     let boots : a.boot ≡ b.boot = grind (arith, nat_tests, bricks.1, bricks.2) in
     stamp_of_fields a b views.0 times.0 bricks.0 boots
+
+-- the order of stamps is a strict total order
+pub stamp_below_order : IsStrictOrder stamp_below
+stamp_below_order = record { irreflexive = stamp_below_irrefl; transitive = stamp_below_trans; total = stamp_neither_below }
+
+-- the ballot of these fields
+ballot_of : ℕ → ℕ → ℕ → Ballot
+ballot_of r k o = record { round = r; brick = record { 0 = k }; boot = o }
+
+-- equal fields make equal ballots
+ballot_of_fields : (a b : Ballot) → a.round ≡ b.round → a.brick.0 ≡ b.brick.0 → a.boot ≡ b.boot → a ≡ b
+unfolding ballot_of
+ballot_of_fields a b r k o =
+    let e : ballot_of a.round a.brick.0 a.boot ≡ ballot_of b.round b.brick.0 b.boot = cc in e
+
+-- no ballot is below itself
+ballot_below_irrefl : (a : Ballot) → ballot_below a a ≡ false
+unfolding ballot_below
+ballot_below_irrefl a = grind (arith, nat_tests)
+
+-- the order of ballots is transitive
+ballot_below_trans : (a b c : Ballot) → ballot_below a b ≡ true → ballot_below b c ≡ true → ballot_below a c ≡ true
+unfolding ballot_below
+ballot_below_trans a b c =
+    below_rest a.round b.round c.round _ _ _ (below_rest a.brick.0 b.brick.0 c.brick.0 _ _ _ (lt_trans a.boot b.boot c.boot))
+
+-- of two ballots neither of which is below the other, both are the same
+ballot_neither_below : (a b : Ballot) → ballot_below a b ≡ false → ballot_below b a ≡ false → a ≡ b
+unfolding ballot_below
+ballot_neither_below a b h k =
+    let rounds = same_field a.round b.round _ _ h k in
+    let bricks = same_field a.brick.0 b.brick.0 _ _ rounds.1 rounds.2 in
+    let boots : a.boot ≡ b.boot = grind (arith, nat_tests, bricks.1, bricks.2) in
+    ballot_of_fields a b rounds.0 bricks.0 boots
+
+-- the order of ballots is a strict total order
+pub ballot_below_order : IsStrictOrder ballot_below
+ballot_below_order = record { irreflexive = ballot_below_irrefl; transitive = ballot_below_trans; total = ballot_neither_below }

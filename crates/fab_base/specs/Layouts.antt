@@ -1,7 +1,8 @@
--- A disk's layout, as the machine and its text speak of it: its bricks, and its groups of stripes.
+-- A disk's layout, as the machine and its text speak of it: its bricks, its groups of stripes, and its volumes.
 use Rattle.std.specs.Prelude.{ℕ, ◌+◌, nat_eq, if◌then◌else◌, List, [], ◌∷◌, Option, Some, None, slice_get, slice_index_or}
 use Rattle.std.specs.Option.{option_map}
 use Rattle.fab_base.specs.declared.identities.BrickId.{BrickId}
+use Rattle.fab_base.specs.declared.segments.Segment.{Segment}
 
 -- a group: the members of its view 1, by seat; the data blocks of a stripe; and how many stripes
 pub record Group : Type 0 where
@@ -9,12 +10,22 @@ pub record Group : Type 0 where
   pub m : ℕ
   pub stripes : ℕ
 
--- the bytes of a block, the number of bricks, how many live records a brick may keep, and the groups by number
+-- a volume: its name in ASCII, and the runs of stripes that its bytes stand in, in order
+pub record Volume : Type 0 where
+  pub name : List ℕ
+  pub segments : List Segment
+
+-- The bytes of a block, the number of bricks, how many live records a brick may keep, the UDP port of brick 0 (brick b has the
+-- port b above it), the form of a store, the bricks that may replace a member, the groups by number, and the volumes.
 pub record Layout : Type 0 where
   pub block : ℕ
   pub bricks : ℕ
   pub records : ℕ
+  pub port : ℕ
+  pub store : ℕ
+  pub spares : List BrickId
   pub groups : List Group
+  pub volumes : List Volume
 
 -- the group of a number, if there is one
 abbrev pub group_of : Layout → ℕ → Option Group

@@ -12,6 +12,7 @@ pub mod faults;
 pub mod identities;
 pub mod member_lists;
 pub mod notes;
+pub mod segments;
 pub mod stamps;
 
 pub use answers::{Answer, Cause, Refusal};
@@ -21,4 +22,5 @@ pub use faults::NoMem;
 pub use identities::{BrickId, CallId, GroupId, StripeNo, ViewNo};
 pub use member_lists::{Members, View};
 pub use notes::Note;
+pub use segments::Segment;
 pub use stamps::{Ballot, Stamp};

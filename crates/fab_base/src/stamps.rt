@@ -1,9 +1,10 @@
 //! Stamps, which order the versions of a stripe, and ballots, which order proposals of a view.
 
-ghost use Rattle.std.specs.Prelude.{◌≡◌};
-ghost use Rattle.fab_base.specs.Stamps.{stamp_below, stamp_same, first_stamp, stamp_text, ballot_text};
+ghost use Rattle.std.specs.Prelude.{◌≡◌, ◌↔◌, true};
+ghost use Rattle.fab_base.specs.Stamps.{stamp_below, stamp_same, ballot_below, IsStrictOrder};
 
 use crate::identities::{BrickId, ViewNo};
+use std::cmp::Ordering;
 use std::fmt;
 
 /// When a version of a stripe was made: compared field by field, from the first (Frølund 2004, timestamps). No two operations
@@ -42,6 +43,16 @@ impl Stamp {
     {
         self == other
     }
+
+    /// How this stamp stands to the other in their strict total order.
+    pub fn compare(self, other: Stamp) -> Ordering
+        ensures less { (result ≡ Ordering.Less) ↔ (stamp_below self other ≡ true) }
+        ensures equal { (result ≡ Ordering.Equal) ↔ (self ≡ other) }
+        ensures greater { (result ≡ Ordering.Greater) ↔ (stamp_below other self ≡ true) }
+        ensures order { IsStrictOrder stamp_below }
+    {
+        self.cmp(&other)
+    }
 }
 
 impl fmt::Display for Stamp {
@@ -68,6 +79,16 @@ pub struct Ballot {
     pub brick: BrickId,
     /// How often the proposer's store had been opened.
     pub boot: u32,
+}
+
+impl Ballot {
+    /// Whether this ballot is below the other, by the first field that differs.
+    pub fn is_below(self, other: Ballot) -> bool
+        ensures value { result ≡ ballot_below self other }
+        ensures order { IsStrictOrder ballot_below }
+    {
+        self.lt(&other)
+    }
 }
 
 impl fmt::Display for Ballot {

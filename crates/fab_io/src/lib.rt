@@ -10,8 +10,6 @@ mod ends;
 mod fault;
 mod memory;
 mod standard;
-#[cfg(test)]
-mod tests;
 
 pub use ends::{Sink, Source};
 pub use fault::IoFault;

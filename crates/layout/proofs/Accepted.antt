@@ -6,16 +6,16 @@ use Rattle.std.proofs.lemmas.Bool.{and_parts, not-true}
 use Rattle.std.proofs.lemmas.Bool.Decides.{nat_tests}
 use Rattle.fab_base.specs.declared.identities.BrickId.{BrickId}
 use Rattle.fab_base.specs.Layouts.{Group, Layout}
-use Rattle.toml.specs.Data.{Members}
+use Rattle.toml.specs.Data.{Data, Members, as_integer, get_member}
+use Rattle.layout.specs.Names.{key_text}
 use Rattle.layout.specs.declared.faults.Key.{Key}
 use Rattle.layout.specs.declared.faults.Key.TheVariants as keys
 use Rattle.layout.specs.declared.faults.LayoutFault.{LayoutFault}
 use Rattle.layout.specs.declared.faults.LayoutFault.TheVariants.{Toml, Limit}
 use Rattle.layout.specs.declared.faults.FieldName.TheVariants.{Other, OtherOfGroup}
-use Rattle.layout.specs.declared.descriptions.Description.{Description}
 use Rattle.layout.specs.Limits.{IsGroup, IsLayout}
-use Rattle.layout.specs.Texts.{document_of, description_or, layout_of}
-use Rattle.layout.specs.Checks.{◌>>=◌, no_field, integer_at, array_at, integers_in, tables_in, no_other, group_keys, top_keys, port_at, natural, within, number_at, blocks_in, blocks_at, brick_in, bricks_in, stands_in, are_distinct, seats_in, members_at, group_in, few_tables, tables_at, groups_in, description_in}
+use Rattle.layout.specs.Texts.{document_of, layout_or, layout_of}
+use Rattle.layout.specs.Checks.{◌>>=◌, no_field, integer_at, array_at, integers_in, tables_in, no_other, group_keys, top_keys, port_in, port_at, natural, within, number_at, blocks_in, blocks_at, brick_in, bricks_in, stands_in, are_distinct, seats_in, members_at, group_in, few_tables, tables_at, groups_in, layout_with, layout_in}
 
 -- checks that pass: each one passed
 passed : {A B : Type 0} (first : Result A LayoutFault) (next : A → Result B LayoutFault) (b : B) → (first >>= next) ≡ Ok b
@@ -46,6 +46,14 @@ natural_range low high (negsuc k) n is = let never : None ≡ Some n = is in cc
 within_range : (key : Key) (low high : ℕ) (o : Option ℤ) (n : ℕ) → within key low high o ≡ Ok n → (low ≤ n) × (n ≤ high)
 within_range key low high None n is = cc
 within_range key low high (Some z) n is = natural_range low high z n (there (natural low high z) _ n is)
+
+-- the port is between its limits, the default too
+port_range : (o : Option Data) (port : ℕ) → port_in o ≡ Ok port → (1 ≤ port) × (port ≤ 65472)
+port_range None port is =
+    let same : Ok 17000 ≡ Ok port = is in
+    let e : 17000 ≡ port = cc in
+    (omega (arith, e), omega (arith, e))
+port_range (Some value) port is = within_range keys.Port 1 65472 (as_integer value) port is
 
 -- neither test holds
 or_both : (a b : Bool) → (a || b) ≡ false → (a ≡ false) × (b ≡ false)
@@ -228,24 +236,23 @@ tables_are table tables is =
     few false all sizes same = let never : None ≡ Some tables = same in cc
 
 -- an accepted layout is within the limits
-pub layout_is : (table : Members) (description : Description) → description_in table ≡ Ok description → IsLayout description.layout
-layout_is table description is =
-    let (block, block_read, after_block) = passed (number_at table keys.Block 1 4096) _ description is in
-    let (bricks, bricks_read, after_bricks) = passed (number_at table keys.Bricks 1 64) _ description after_block in
-    let (records, records_read, after_records) = passed (number_at table keys.Records 1 1048576) _ description after_bricks in
-    let (port, port_read, after_port) = passed (port_at table) _ description after_records in
-    let (tables, tables_read, after_tables) = passed (tables_at table) _ description after_port in
-    let (groups, groups_read, after_groups) = passed (groups_in block bricks tables) _ description after_tables in
-    let (known, known_read, last) = passed (no_other Other top_keys table) _ description after_groups in
+pub layout_is : (table : Members) (layout : Layout) → layout_in table ≡ Ok layout → IsLayout layout
+layout_is table layout is =
+    let (block, block_read, after_block) = passed (number_at table keys.Block 1 4096) _ layout is in
+    let (bricks, bricks_read, after_bricks) = passed (number_at table keys.Bricks 1 64) _ layout after_block in
+    let (records, records_read, after_records) = passed (number_at table keys.Records 1 1048576) _ layout after_bricks in
+    let (port, port_read, after_port) = passed (port_at table) _ layout after_records in
+    let (tables, tables_read, after_tables) = passed (tables_at table) _ layout after_port in
+    let (groups, groups_read, after_groups) = passed (groups_in block bricks tables) _ layout after_tables in
+    let (known, known_read, last) = passed (no_other Other top_keys table) _ layout after_groups in
     let bytes = within_range keys.Block 1 4096 (integer_at table keys.Block) block block_read in
     let disk = within_range keys.Bricks 1 64 (integer_at table keys.Bricks) bricks bricks_read in
     let room = within_range keys.Records 1 1048576 (integer_at table keys.Records) records records_read in
+    let ports = port_range (get_member (key_text keys.Port) table) port port_read in
     let count = tables_are table tables tables_read in
     let all = groups_are block bricks tables groups groups_read in
-    let same : Ok (record { layout = record { block = block; bricks = bricks; records = records; groups = groups }; port = port }) ≡ Ok description = last in
-    let layout_same : record { block = block; bricks = bricks; records = records; groups = groups } ≡ description.layout =
-    ap (λ (d : Description). d.layout)
-    (let e : record { layout = record { block = block; bricks = bricks; records = records; groups = groups }; port = port } ≡ description = cc in e) in
+    let same : Ok (layout_with block bricks records port groups) ≡ Ok layout = last in
+    let layout_same : layout_with block bricks records port groups ≡ layout = cc in
     subst IsLayout layout_same (record {
       some_byte = bytes.0;
       few_bytes = bytes.1;
@@ -253,6 +260,8 @@ layout_is table description is =
       few_bricks = disk.1;
       some_record = room.0;
       few_records = room.1;
+      some_port = ports.0;
+      few_ports = ports.1;
       some_group = omega (arith, all.count);
       few_groups = omega (arith, all.count);
       each = all.each;
@@ -262,10 +271,6 @@ layout_is table description is =
 pub accepted_is : (text : List ℕ) (layout : Layout) → layout_of text ≡ Ok layout → IsLayout layout
 accepted_is text layout is = by_document (document_of text) is
   where
-    by_document : (document : Option Members) → (description_or document >>= λ description. Ok description.layout) ≡ Ok layout → IsLayout layout
+    by_document : (document : Option Members) → layout_or document ≡ Ok layout → IsLayout layout
     by_document None same = let never : Err Toml ≡ Ok layout = same in cc
-    by_document (Some table) same =
-        let (description, read, last) = passed (description_in table) (λ (description : Description). Ok description.layout) layout same in
-        let e : Ok description.layout ≡ Ok layout = last in
-        let layout_same : description.layout ≡ layout = cc in
-        subst IsLayout layout_same (layout_is table description read)
+    by_document (Some table) same = layout_is table layout same

@@ -7,10 +7,8 @@ use Rattle.toml.specs.Data.{Members, no_members, member, no_items, item, integer
 use Rattle.toml.specs.Parse.{parse_document}
 use Rattle.toml.proofs.OnLiterals.{toml_on_literals}
 use Rattle.layout.specs.declared.texts.TheConstants.{THREE_COPIES}
-use Rattle.layout.specs.Texts.{document_of, description_or, layout_of, three_copies}
-use Rattle.layout.specs.Checks.{◌>>=◌, description_in}
-use Rattle.layout.specs.declared.faults.LayoutFault.{LayoutFault}
-use Rattle.layout.specs.declared.descriptions.Description.{Description}
+use Rattle.layout.specs.Texts.{document_of, layout_or, layout_of, three_copies}
+use Rattle.layout.specs.Checks.{layout_in}
 
 -- the table of a document
 pub document_of-read : (text : List ℕ) (document : Members) → IsUtf8 text → parse_document text ≡ Some document → document_of text ≡ Some document
@@ -41,13 +39,12 @@ three_copies-document : parse_document THREE_COPIES.now ≡ Some three_copies-ta
 unfolding toml_on_literals three_copies-table
 three_copies-document = refl
 
-three_copies-checks : description_in three_copies-table ≡ Ok (record { layout = three_copies; port = 17000 })
+three_copies-checks : layout_in three_copies-table ≡ Ok three_copies
 unfolding three_copies-table
 three_copies-checks = refl
 
 -- what the text of three copies says
 pub three_copies-read : layout_of THREE_COPIES.now ≡ Ok three_copies
 three_copies-read =
-    ap (λ (document : Option Members). description_or document >>= λ description. Ok description.layout)
-    (document_of-read THREE_COPIES.now three_copies-table (IsUtf8-from_is_utf8 THREE_COPIES.now three_copies-utf8) three_copies-document)
-    ∙ ap (λ (read : Result Description LayoutFault). read >>= λ description. Ok description.layout) three_copies-checks
+    ap layout_or (document_of-read THREE_COPIES.now three_copies-table (IsUtf8-from_is_utf8 THREE_COPIES.now three_copies-utf8) three_copies-document)
+    ∙ three_copies-checks

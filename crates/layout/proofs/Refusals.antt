@@ -8,10 +8,10 @@ use Rattle.layout.specs.declared.faults.FieldName.{FieldName}
 use Rattle.layout.specs.declared.faults.FieldName.TheVariants.{Other, OtherOfGroup}
 use Rattle.layout.specs.declared.faults.LayoutFault.{LayoutFault}
 use Rattle.layout.specs.declared.faults.LayoutFault.TheVariants.{Toml, Field, Limit, NoMemory}
-use Rattle.layout.specs.declared.descriptions.Description.{Description}
+use Rattle.fab_base.specs.Layouts.{Layout}
 use Rattle.layout.specs.Names.{key_text}
-use Rattle.layout.specs.Checks.{◌>>=◌, no_field, natural, within, integer_at, array_at, number_at, port_in, port_at, least_other, keys_of, refused_key, no_other, integers_in, bricks_in, seats_in, members_at, blocks_in, blocks_at, group_keys, group_in, tables_in, few_tables, tables_at, groups_in, top_keys, description_in}
-use Rattle.layout.specs.Texts.{document_of, description_or, description_of}
+use Rattle.layout.specs.Checks.{◌>>=◌, no_field, natural, within, integer_at, array_at, number_at, port_in, port_at, least_other, keys_of, refused_key, no_other, integers_in, bricks_in, seats_in, members_at, blocks_in, blocks_at, group_keys, group_in, tables_in, few_tables, tables_at, groups_in, top_keys, layout_in}
+use Rattle.layout.specs.Texts.{document_of, layout_or, layout_of}
 
 -- a fault of a field or a limit
 abbrev pub IsOfTable : LayoutFault → Type 0
@@ -78,8 +78,8 @@ tables_checks table =
     (λ (tables : List Members). or_checks (few_tables tables) (Limit keys.Group) tt)
 
 -- the checks of a whole table
-pub description_checks : (table : Members) → ChecksTable (description_in table)
-description_checks table =
+pub layout_checks : (table : Members) → ChecksTable (layout_in table)
+layout_checks table =
     then_checks (number_at table keys.Block 1 4096) _ (within_checks keys.Block 1 4096 (integer_at table keys.Block)) (λ (block : ℕ).
     then_checks (number_at table keys.Bricks 1 64) _ (within_checks keys.Bricks 1 64 (integer_at table keys.Bricks)) (λ (bricks : ℕ).
     then_checks (number_at table keys.Records 1 1048576) _ (within_checks keys.Records 1 1048576 (integer_at table keys.Records)) (λ (records : ℕ).
@@ -89,30 +89,30 @@ description_checks table =
     then_checks (no_other Other top_keys table) _ (key_checks Other (least_other top_keys (keys_of table))) (λ known. tt)))))))
 
 -- a fault of the checks is one of a field or a limit
-pub fault_of_table : (table : Members) (fault : LayoutFault) → description_in table ≡ Err fault → IsOfTable fault
-fault_of_table table fault is = subst (λ (r : Result Description LayoutFault). ChecksTable r) is (description_checks table)
+pub fault_of_table : (table : Members) (fault : LayoutFault) → layout_in table ≡ Err fault → IsOfTable fault
+fault_of_table table fault is = subst (λ (r : Result Layout LayoutFault). ChecksTable r) is (layout_checks table)
 
 -- no document is what `Toml` says
-pub toml-none : (text : List ℕ) → description_of text ≡ Err Toml → document_of text ≡ None
+pub toml-none : (text : List ℕ) → layout_of text ≡ Err Toml → document_of text ≡ None
 toml-none text is = by_document (document_of text) is
   where
-    by_document : (document : Option Members) → description_or document ≡ Err Toml → document ≡ None
+    by_document : (document : Option Members) → layout_or document ≡ Err Toml → document ≡ None
     by_document None same = refl
     by_document (Some table) same = absurd (fault_of_table table Toml same)
 
 -- no text says that memory ran out
-pub never_memory : (text : List ℕ) → description_of text ≢ Err NoMemory
+pub never_memory : (text : List ℕ) → layout_of text ≢ Err NoMemory
 never_memory text = by_document (document_of text)
   where
-    by_document : (document : Option Members) → description_or document ≡ Err NoMemory → ⊥
+    by_document : (document : Option Members) → layout_or document ≡ Err NoMemory → ⊥
     by_document None same = let never : Err Toml ≡ Err NoMemory = same in cc
     by_document (Some table) same = fault_of_table table NoMemory same
 
 -- the reading of a table does not say that the text is no document
-pub never_toml : (table : Members) (r : Result Description LayoutFault)
-    → IfErr r (λ (fault : LayoutFault). fault ≢ NoMemory → description_in table ≡ Err fault)
+pub never_toml : (table : Members) (r : Result Layout LayoutFault)
+    → IfErr r (λ (fault : LayoutFault). fault ≢ NoMemory → layout_in table ≡ Err fault)
     → r ≡ Err Toml → ⊥
 never_toml table r refused is =
-    let read = subst (λ (x : Result Description LayoutFault). IfErr x (λ (fault : LayoutFault). fault ≢ NoMemory
-    → description_in table ≡ Err fault)) is refused in
+    let read = subst (λ (x : Result Layout LayoutFault). IfErr x (λ (fault : LayoutFault). fault ≢ NoMemory
+    → layout_in table ≡ Err fault)) is refused in
     fault_of_table table Toml (read (λ (same : Toml ≡ NoMemory). cc))

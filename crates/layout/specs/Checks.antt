@@ -7,7 +7,7 @@ use Rattle.std.specs.Ordering.{nat_cmp, is_lt}
 use Rattle.std.specs.Cmp.Lexicographic.{slice_cmp}
 use Rattle.std.specs.Str.{bytes_eq}
 use Rattle.fab_base.specs.declared.identities.BrickId.{BrickId}
-use Rattle.fab_base.specs.Layouts.{Group}
+use Rattle.fab_base.specs.Layouts.{Group, Layout}
 use Rattle.toml.specs.Data.{Data, Items, no_items, item, Members, no_members, member, get_member, as_integer, as_array, as_table}
 use Rattle.layout.specs.declared.faults.Key.{Key}
 use Rattle.layout.specs.declared.faults.Key.TheVariants as keys
@@ -15,7 +15,6 @@ use Rattle.layout.specs.declared.faults.FieldName.{FieldName}
 use Rattle.layout.specs.declared.faults.FieldName.TheVariants.{Known, Other, OtherOfGroup}
 use Rattle.layout.specs.declared.faults.LayoutFault.{LayoutFault}
 use Rattle.layout.specs.declared.faults.LayoutFault.TheVariants.{Field, Limit}
-use Rattle.layout.specs.declared.descriptions.Description.{Description}
 use Rattle.layout.specs.Names.{key_text}
 
 infixl 10 ◌>>=◌
@@ -181,9 +180,23 @@ groups_in block bricks (table ∷ tables) = do
 abbrev pub top_keys : List Key
 top_keys = keys.Block ∷ (keys.Bricks ∷ (keys.Records ∷ (keys.Port ∷ (keys.Group ∷ []))))
 
--- what the table of a layout text says
-abbrev pub description_in : Members → Result Description LayoutFault
-description_in table = do
+-- the layout of these keys, with what holds where the others are missing: stores of form 2, no spares and no volumes
+abbrev pub layout_with : ℕ → ℕ → ℕ → ℕ → List Group → Layout
+layout_with block bricks records port groups =
+    record {
+      block = block;
+      bricks = bricks;
+      records = records;
+      port = port;
+      store = 2;
+      spares = [];
+      groups = groups;
+      volumes = [];
+    }
+
+-- the layout that the table of a text says
+abbrev pub layout_in : Members → Result Layout LayoutFault
+layout_in table = do
   block ← number_at table keys.Block 1 4096
   bricks ← number_at table keys.Bricks 1 64
   records ← number_at table keys.Records 1 1048576
@@ -191,4 +204,4 @@ description_in table = do
   tables ← tables_at table
   groups ← groups_in block bricks tables
   known ← no_other Other top_keys table
-  Ok (record { layout = record { block = block; bricks = bricks; records = records; groups = groups }; port = port })
+  Ok (layout_with block bricks records port groups)

@@ -4,8 +4,8 @@ use Rattle.std.specs.List.{IsDistinct, AllByRecursion}
 use Rattle.fab_base.specs.Layouts.{Group, Layout, group_of}
 use Rattle.quorum.specs.Quorums.{IsWithinLimits}
 
--- A group of a disk with blocks of this many bytes and this many bricks: its stripes and blocks are within the limits, and its members are
--- distinct bricks of the disk.
+-- A group of a disk with blocks of this many bytes and this many bricks: its stripes and blocks are within the limits, and its
+-- members are distinct bricks of the disk.
 pub record IsGroup (block bricks : ℕ) (group : Group) : Type 0 where
   pub limits : IsWithinLimits group.m (length group.members)
   pub room : group.m * block ≤ 32768
@@ -22,6 +22,8 @@ pub record IsLayout (layout : Layout) : Type 0 where
   pub few_bricks : layout.bricks ≤ 64
   pub some_record : 1 ≤ layout.records
   pub few_records : layout.records ≤ 1048576
+  pub some_port : 1 ≤ layout.port
+  pub few_ports : layout.port ≤ 65472
   pub some_group : 1 ≤ length layout.groups
   pub few_groups : length layout.groups ≤ 64
   pub each : (g : ℕ) (group : Group) → group_of layout g ≡ Some group → IsGroup layout.block layout.bricks group

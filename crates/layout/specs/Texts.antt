@@ -6,25 +6,20 @@ use Rattle.toml.specs.Data.{Members}
 use Rattle.toml.specs.Parse.{parse_document}
 use Rattle.layout.specs.declared.faults.LayoutFault.{LayoutFault}
 use Rattle.layout.specs.declared.faults.LayoutFault.TheVariants.{Toml}
-use Rattle.layout.specs.declared.descriptions.Description.{Description}
-use Rattle.layout.specs.Checks.{◌>>=◌, description_in}
+use Rattle.layout.specs.Checks.{layout_with, layout_in}
 
 -- the table that a text is as a TOML document, if it is one
 abbrev pub document_of : List ℕ → Option Members
 document_of text = if is_utf8 text then parse_document text else None
 
 -- a document, and then its checks
-abbrev pub description_or : Option Members → Result Description LayoutFault
-description_or None = Err Toml
-description_or (Some table) = description_in table
-
--- what a text says, or the fault of the first check that it fails
-abbrev pub description_of : List ℕ → Result Description LayoutFault
-description_of text = description_or (document_of text)
+abbrev pub layout_or : Option Members → Result Layout LayoutFault
+layout_or None = Err Toml
+layout_or (Some table) = layout_in table
 
 -- the layout that a text says, or the fault of the first check that it fails
 abbrev pub layout_of : List ℕ → Result Layout LayoutFault
-layout_of text = description_of text >>= λ description. Ok description.layout
+layout_of text = layout_or (document_of text)
 
 -- one group of four stripes of one data block, whose members are the bricks 0, 1 and 2
 abbrev pub three_members : Group
@@ -32,4 +27,4 @@ three_members = record { members = record { 0 = 0 } ∷ (record { 0 = 1 } ∷ (r
 
 -- three bricks with blocks of one byte, each with room for 100 live records
 abbrev pub three_copies : Layout
-three_copies = record { block = 1; bricks = 3; records = 100; groups = three_members ∷ [] }
+three_copies = layout_with 1 3 100 17000 (three_members ∷ [])

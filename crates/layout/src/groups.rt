@@ -1,9 +1,8 @@
 //! Groups.
 
 ghost use Rattle.std.specs.Prelude.{◌≡◌, ◌↔◌, ◌<◌, IsSome, IfSome, length};
-ghost use Rattle.quorum.specs.Quorums.{IsWithinLimits};
 ghost use Rattle.fab_base.specs.Layouts.{seat_in};
-ghost use Rattle.quorum.specs.Quorums.{quorum_of};
+ghost use Rattle.quorum.specs.Quorums.{IsWithinLimits, quorum_of};
 
 use fab_base::{BrickId, Members};
 use quorum::Policy;
@@ -67,7 +66,6 @@ impl Group {
         ensures seat { result ≡ seat_in self.now.members brick.0 }
         ensures within { IfSome result (λ seat. seat < length self.now.members) }
     {
-        let _ = self.policy.m();
         for (seat, member) in self.members.as_slice().iter().enumerate() {
             if member.0 == brick.0 {
                 return Some(seat as u8);
@@ -82,6 +80,7 @@ impl Group {
         ensures n { result.n ≡ length self.now.members }
         ensures limits { IsWithinLimits self.now.m (length self.now.members) }
     {
+        // The call tells the proof the policy's limits, which `policy` promises.
         let _ = self.policy.m();
         self.policy
     }

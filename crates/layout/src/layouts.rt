@@ -2,10 +2,12 @@
 
 ghost use Rattle.std.specs.Prelude.{◌≡◌, ◌<◌, length, option_copied, IfSome, IfOk};
 ghost use Rattle.fab_base.specs.Layouts.{group_of};
+ghost use Rattle.layout.specs.Checks.{layout_with};
 ghost use Rattle.layout.specs.Limits.{IsLayout};
 
 use crate::groups::Group;
-use fab_base::{GroupId, NoMem};
+use crate::volumes::Volume;
+use fab_base::{BrickId, GroupId, NoMem};
 use std::alloc::Global;
 use std::marker::Model;
 
@@ -15,7 +17,11 @@ pub struct Layout {
     block: u16,
     bricks: u16,
     records: u32,
+    port: u16,
+    store: u8,
+    spares: Vec<BrickId>,
     groups: Vec<Group>,
+    volumes: Vec<Volume>,
 }
 
 impl Model for Layout {
@@ -24,9 +30,27 @@ impl Model for Layout {
 
     ghost Value = { Layout };
 
-    ghost view = { λ layout. record { block = layout.block; bricks = layout.bricks; records = layout.records; groups = layout.groups.items } };
+    ghost view = { λ layout. record {
+      block = layout.block;
+      bricks = layout.bricks;
+      records = layout.records;
+      port = layout.port;
+      store = layout.store;
+      spares = layout.spares.items;
+      groups = layout.groups.items;
+      volumes = layout.volumes.items;
+    } };
 
-    ghost invariant = { λ layout. IsLayout (record { block = layout.block; bricks = layout.bricks; records = layout.records; groups = layout.groups.items }) };
+    ghost invariant = { λ layout. IsLayout (record {
+      block = layout.block;
+      bricks = layout.bricks;
+      records = layout.records;
+      port = layout.port;
+      store = layout.store;
+      spares = layout.spares.items;
+      groups = layout.groups.items;
+      volumes = layout.volumes.items;
+    }) };
 }
 
 // Equal groups, in the same order.
@@ -40,17 +64,40 @@ fn copy_groups(alloc: Global, groups: &[Group]) -> Result<Vec<Group>, NoMem>
     Ok(made)
 }
 
+// Equal volumes, in the same order.
+fn copy_volumes(alloc: Global, volumes: &[Volume]) -> Result<Vec<Volume>, NoMem>
+    ensures { IfOk result (λ made. made.items ≡ volumes.now) }
+{
+    let mut made = Vec::new(alloc);
+    for volume in volumes {
+        made.push(volume.copy(alloc)?)?;
+    }
+    Ok(made)
+}
+
 impl Layout {
-    // A layout of blocks of this many bytes, this many bricks, each with room for so many live records, and these groups.
-    pub(crate) fn new(block: u16, bricks: u16, records: u32, groups: Vec<Group>) -> Layout
-        requires { IsLayout (record { block = block; bricks = bricks; records = records; groups = groups.items }) }
-        ensures { result ≡ record { block = block; bricks = bricks; records = records; groups = groups.items } }
+    // A layout of blocks of this many bytes, this many bricks, each with room for so many live records, the port of brick 0,
+    // and these groups. Its stores have form 2, and it has no spares and no volumes.
+    pub(crate) fn new(
+        alloc: Global,
+        block: u16,
+        bricks: u16,
+        records: u32,
+        port: u16,
+        groups: Vec<Group>,
+    ) -> Layout
+        requires { IsLayout (layout_with block bricks records port groups.items) }
+        ensures { result ≡ layout_with block bricks records port groups.items }
     {
         Layout {
             block,
             bricks,
             records,
+            port,
+            store: 2,
+            spares: Vec::new(alloc),
             groups,
+            volumes: Vec::new(alloc),
         }
     }
 
@@ -66,7 +113,11 @@ impl Layout {
             block: self.block,
             bricks: self.bricks,
             records: self.records,
+            port: self.port,
+            store: self.store,
+            spares: Vec::from_slice(alloc, &self.spares)?,
             groups: copy_groups(alloc, &self.groups)?,
+            volumes: copy_volumes(alloc, &self.volumes)?,
         })
     }
 
@@ -91,6 +142,35 @@ impl Layout {
         ensures limits { IsLayout self.now }
     {
         self.records
+    }
+
+    /// The UDP port of brick 0, 1 to 65,472: brick b has the port b above it.
+    pub fn port(&self) -> u16
+        ensures value { result ≡ self.now.port }
+        ensures limits { IsLayout self.now }
+    {
+        self.port
+    }
+
+    /// The form of the bricks' stores, 1 or 2.
+    pub fn store(&self) -> u8
+        ensures { result ≡ self.now.store }
+    {
+        self.store
+    }
+
+    /// The bricks that may take a member's place, in the order in which they do.
+    pub fn spares(&self) -> &[BrickId]
+        ensures { result.now ≡ self.now.spares }
+    {
+        self.spares.as_slice()
+    }
+
+    /// The volumes, in the order of the text.
+    pub fn volumes(&self) -> &[Volume]
+        ensures { result.now ≡ self.now.volumes }
+    {
+        self.volumes.as_slice()
     }
 
     /// How many groups there are: numbers 0 to one below this.

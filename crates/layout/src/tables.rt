@@ -3,10 +3,10 @@
 ghost use Rattle.std.specs.Prelude.{◌≡◌, ◌≢◌, ◌≤◌, Some, None, Ok, Err, IfOk, IfErr, IfSome, length, map, option_map, option_copied};
 ghost use Rattle.toml.specs.Data.{get_member};
 ghost use Rattle.toml.specs.View.{view, array_view, table_view};
+ghost use Rattle.layout.specs.Limits.{IsLayout};
 ghost use Rattle.layout.specs.Names.{key_text};
-ghost use Rattle.layout.specs.Checks.{integer_at, array_at, brick_in, natural, within, number_at, port_at, least_other, keys_of, integers_in, bricks_in, stands_in, are_distinct, members_at, blocks_at, group_in, tables_in, tables_at, groups_in, is_known, description_in};
+ghost use Rattle.layout.specs.Checks.{integer_at, array_at, brick_in, natural, within, number_at, port_at, least_other, keys_of, integers_in, bricks_in, stands_in, are_distinct, members_at, blocks_at, group_in, tables_in, tables_at, groups_in, is_known, layout_in};
 
-use crate::descriptions::Description;
 use crate::faults::{FieldName, Key, KeyText, LayoutFault};
 use crate::groups::Group;
 use crate::layouts::Layout;
@@ -153,7 +153,8 @@ fn are_distinct(members: &[BrickId]) -> bool
 // The members of a group: a list of whole numbers, and then m to 32 distinct bricks of the disk.
 fn members_at(alloc: Global, table: &Table, m: u8, bricks: u16) -> Result<Members, LayoutFault>
     ensures ok { IfOk result (λ members. members_at m bricks (table_view table.now) ≡ Ok members) }
-    ensures err { IfErr result (λ fault. fault ≢ LayoutFault.NoMemory → members_at m bricks (table_view table.now) ≡ Err fault) }
+    ensures err { IfErr result (λ fault. fault ≢ LayoutFault.NoMemory
+        → members_at m bricks (table_view table.now) ≡ Err fault) }
     ensures seats { IfOk result (λ members. (m ≤ length members) × (length members ≤ 32)) }
 {
     let limit = LayoutFault::Limit {
@@ -225,8 +226,10 @@ fn tables_in(alloc: Global, array: &Array) -> Result<Option<Vec<&Table>>, NoMem>
 
 // The tables of the groups: a list of tables, and then 1 to 64 of them.
 fn tables_at(alloc: Global, table: &Table) -> Result<Vec<&Table>, LayoutFault>
-    ensures ok { IfOk result (λ tables. tables_at (table_view table.now) ≡ Ok (map (λ table. table_view table.now) tables.items)) }
-    ensures err { IfErr result (λ fault. fault ≢ LayoutFault.NoMemory → tables_at (table_view table.now) ≡ Err fault) }
+    ensures ok { IfOk result (λ tables. tables_at (table_view table.now)
+        ≡ Ok (map (λ table. table_view table.now) tables.items)) }
+    ensures err { IfErr result (λ fault. fault ≢ LayoutFault.NoMemory
+        → tables_at (table_view table.now) ≡ Err fault) }
 {
     let Some(array) = array_at(table, Key::Group) else {
         return Err(no_field(Key::Group));
@@ -244,7 +247,8 @@ fn tables_at(alloc: Global, table: &Table) -> Result<Vec<&Table>, LayoutFault>
 fn group_in(alloc: Global, block: u16, bricks: u16, table: &Table) -> Result<Group, LayoutFault>
     requires { block ≤ 4096 }
     ensures ok { IfOk result (λ group. group_in block bricks (table_view table.now) ≡ Ok group) }
-    ensures err { IfErr result (λ fault. fault ≢ LayoutFault.NoMemory → group_in block bricks (table_view table.now) ≡ Err fault) }
+    ensures err { IfErr result (λ fault. fault ≢ LayoutFault.NoMemory
+        → group_in block bricks (table_view table.now) ≡ Err fault) }
 {
     let m = blocks_at(table, block)?;
     let members = members_at(alloc, table, m, bricks)?;
@@ -265,7 +269,8 @@ fn groups_in(
     tables: &[&Table],
 ) -> Result<Vec<Group>, LayoutFault>
     requires { block ≤ 4096 }
-    ensures ok { IfOk result (λ groups. groups_in block bricks (map (λ table. table_view table.now) tables.now) ≡ Ok groups.items) }
+    ensures ok { IfOk result (λ groups. groups_in block bricks (map (λ table. table_view table.now) tables.now)
+        ≡ Ok groups.items) }
     ensures err { IfErr result (λ fault. fault ≢ LayoutFault.NoMemory
         → groups_in block bricks (map (λ table. table_view table.now) tables.now) ≡ Err fault) }
 {
@@ -276,10 +281,12 @@ fn groups_in(
     Ok(groups)
 }
 
-/// What the table of a layout text says.
-pub fn description_in(alloc: Global, table: &Table) -> Result<Description, LayoutFault>
-    ensures ok { IfOk result (λ description. description_in (table_view table.now) ≡ Ok description) }
-    ensures err { IfErr result (λ fault. fault ≢ LayoutFault.NoMemory → description_in (table_view table.now) ≡ Err fault) }
+/// The layout that the table of a text says.
+pub fn layout_in(alloc: Global, table: &Table) -> Result<Layout, LayoutFault>
+    ensures ok { IfOk result (λ layout. layout_in (table_view table.now) ≡ Ok layout) }
+    ensures err { IfErr result (λ fault. fault ≢ LayoutFault.NoMemory
+        → layout_in (table_view table.now) ≡ Err fault) }
+    ensures limits { IfOk result IsLayout }
 {
     let block = number_at(table, Key::Block, 1, 4096)? as u16;
     let bricks = number_at(table, Key::Bricks, 1, 64)? as u16;
@@ -292,8 +299,5 @@ pub fn description_in(alloc: Global, table: &Table) -> Result<Description, Layou
             name: FieldName::Other(KeyText::from_str(alloc, text)?),
         });
     }
-    Ok(Description {
-        layout: Layout::new(block, bricks, records, groups),
-        port,
-    })
+    Ok(Layout::new(alloc, block, bricks, records, port, groups))
 }

@@ -4,6 +4,7 @@ pub mod Arguments
 pub mod FirstWords
 pub mod LineLengths
 pub mod RawLines
+mod Scanning
 pub mod Passing
 pub mod Answering
 pub mod HeadLines

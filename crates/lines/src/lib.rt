@@ -4,8 +4,6 @@
 mod contents;
 mod forms;
 mod reader;
-#[cfg(test)]
-mod tests;
 mod tokens;
 
 pub use contents::{content_of, is_layout_end};

@@ -1,5 +1,5 @@
 // Reading an input line by line.
-ghost use Rattle.std.specs.Prelude.{◌≡◌, ◌+◌, ◌<◌, ◌≤◌, [], ◌==◌, length, IfOk, OnOk, OnErr, position, max};
+ghost use Rattle.std.specs.Prelude.{◌≡◌, ◌+◌, ◌<◌, ◌≤◌, [], ◌==◌, length, IfOk, OnOk, OnErr, IfSome, None, position, take, max};
 ghost use Rattle.std.specs.Io.KnownBytes.{Keeps, IsAtEnd, prepend_known};
 ghost use Rattle.fab_io.specs.Ends.{Kept};
 ghost use Rattle.lines.specs.Lines.{is_line_feed};
@@ -71,14 +71,16 @@ impl Unread {
         ensures kept { Kept (S.faults source.old) (S.faults source.new) (S.sound source.old) (S.sound source.new)
             (result ≡ Err IoFault.Failed) }
     {
+        let mut scanned = 0;
         loop {
-            if let Some(at) = first_line_feed(self.as_slice()) {
+            let held = self.as_slice().len();
+            if let Some(at) = self.first_line_feed(scanned) {
                 return Ok(self.take(at + 1, limit)?);
             }
-            let held = self.as_slice().len();
             if held.saturating_sub(2) > limit {
                 return Ok(Piece::Long);
             }
+            scanned = held;
             if self.fill(source)? == 0 {
                 return Ok(self.take_last(limit)?);
             }
@@ -91,6 +93,20 @@ impl Unread {
         ensures len { length result.now ≡ length self.now }
     {
         &self.bytes[self.taken..]
+    }
+
+    /// The place of the first line feed, which is not among the bytes that were scanned before.
+    fn first_line_feed(&self, scanned: usize) -> Option<usize>
+        requires scanned { scanned ≤ length self.now }
+        requires none { position is_line_feed (take scanned self.now) ≡ None }
+        ensures value { result ≡ position is_line_feed self.now }
+        ensures within { IfSome result (λ at. at < length self.now) }
+    {
+        let (_, rest) = self.as_slice().split_at(scanned);
+        match line_feed_in(rest) {
+            None => None,
+            Some(at) => Some(scanned + at),
+        }
     }
 
     /// Takes the first bytes, as a line, where that is within the limit.
@@ -124,6 +140,7 @@ impl Unread {
     /// Reads once more, and answers how many bytes came.
     fn fill<S: Source>(&mut self, source: &mut S) -> Result<usize, IoFault>
         ensures content { Keeps (prepend_known self.old (S.told source.old)) (prepend_known self.new (S.told source.new)) }
+        ensures front { IfOk result (λ came. take (length self.old) self.new ≡ self.old) }
         ensures grows { IfOk result (λ came. length self.new ≡ length self.old + came) }
         ensures within { IfOk result (λ came. came ≤ READ_LEN) }
         ensures end { IfOk result (λ came. came ≡ 0 → (self.new ≡ self.old) × IsAtEnd (S.told source.new)) }
@@ -151,7 +168,7 @@ impl Unread {
 }
 
 /// The place of the first line feed.
-fn first_line_feed(bytes: &[u8]) -> Option<usize>
+fn line_feed_in(bytes: &[u8]) -> Option<usize>
     ensures { result ≡ position is_line_feed bytes.now }
 {
     bytes.iter().position(|byte| *byte == b'\n')

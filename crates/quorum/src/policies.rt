@@ -79,29 +79,3 @@ pub fn quorums_meet(m: u8, n: u8)
     requires { IsWithinLimits m n }
     ensures { QuorumsMeet m n }
 {}
-
-#[cfg(test)]
-mod tests {
-    use super::*;
-    use std::test::Fail;
-
-    #[test]
-    fn quorum_sizes(rt: HostRuntime) -> Result<(), Fail> {
-        for (n, m, q) in [
-            (3, 1, 2),
-            (4, 2, 3),
-            (5, 3, 4),
-            (6, 2, 4),
-            (5, 2, 4),
-            (1, 1, 1),
-        ] {
-            assert_eq!(rt;
-                Policy::new(m, n).ok_or("limits")?.q(),
-                q,
-                "{n} seats, {m} blocks"
-            );
-        }
-        assert_eq!(rt; Policy::new(2, 1), None);
-        Ok(())
-    }
-}

@@ -102,23 +102,3 @@ impl Tally {
         &self.seats[..usize::from(self.n)]
     }
 }
-
-#[cfg(test)]
-mod tests {
-    use super::*;
-    use std::test::Fail;
-
-    #[test]
-    fn counts_first_replies(rt: HostRuntime) -> Result<(), Fail> {
-        let mut tally = Tally::new(Policy::new(2, 4).ok_or("limits")?);
-        assert!(rt; !tally.unanimous() && !tally.full());
-        tally.add(3, Some(Stamp::FIRST));
-        tally.add(0, Some(Stamp::FIRST));
-        tally.add(0, None);
-        assert!(rt; tally.unanimous() && !tally.full());
-        tally.add(1, None);
-        assert!(rt; !tally.unanimous() && tally.full());
-        assert_eq!(rt; tally.with_stamp(Stamp::FIRST), 2);
-        Ok(())
-    }
-}

@@ -38,7 +38,8 @@ pub record Life : Type 0 where
 abbrev pub life_of : List Mark → ℕ → Option Life
 life_of [] n = None
 life_of (Begin p k b ask ∷ marks) n =
-    if nat_eq k n then Some (record { begin = p; brick = b.0; ask = ask; ending = ending_of marks n b.0 (p + 1) }) else life_of marks n
+    if nat_eq k n then Some (record { begin = p; brick = b.0; ask = ask; ending = ending_of marks n b.0 (p + 1) })
+    else life_of marks n
 life_of (End p k answer ∷ marks) n = life_of marks n
 life_of (Crash p b ∷ marks) n = life_of marks n
 
@@ -65,12 +66,13 @@ begun_numbers (Begin p n b ask ∷ marks) = n ∷ begun_numbers marks
 begun_numbers (End p n answer ∷ marks) = begun_numbers marks
 begun_numbers (Crash p b ∷ marks) = begun_numbers marks
 
--- Positions rise, operations are numbered in the order of their Begins, and each End is of an operation that is open just before it:
--- so an operation has at most one End, after its Begin and before any later Crash of its brick.
+-- Positions rise, operations are numbered in the order of their Begins, and each End is of an operation that is open just
+-- before it: so an operation has at most one End, after its Begin and before any later Crash of its brick.
 pub record IsWellFormed (marks : List Mark) : Type 0 where
   pub positions_rise : IsStrictlyIncreasing (map position_of marks)
   pub numbers_rise : IsStrictlyIncreasing (begun_numbers marks)
-  pub ends_are_of_open : (i p n : ℕ) (answer : Answer) → slice_get marks i ≡ Some (End p n answer) → IsOpen (life_of (take i marks) n)
+  pub ends_are_of_open : (i p n : ℕ) (answer : Answer) → slice_get marks i ≡ Some (End p n answer)
+      → IsOpen (life_of (take i marks) n)
 
 -- what an operation asks is of this stripe
 abbrev pub is_of_stripe : ℕ → ℕ → Option Life → Bool

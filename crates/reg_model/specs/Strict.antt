@@ -61,8 +61,8 @@ ReadsRightAlong block marks (h ∷ happenings) registers =
     ReadsRight block registers (life_of marks h.operation)
     × ReadsRightAlong block marks happenings (after_life block registers (life_of marks h.operation))
 
--- The happenings are strict for a stripe's marks: positions never fall; no operation stands twice; each is between its begin and its end;
--- every answered operation stands among them; and along them, from zero, each answered read gives what the registers hold.
+-- The happenings are strict for a stripe's marks: positions never fall; no operation stands twice; each is between its begin and
+-- its end; every answered operation stands among them; and along them, from zero, each answered read gives what the registers hold.
 pub record IsStrict (m block : ℕ) (marks : List Mark) (happenings : List Happening) : Type 0 where
   pub never_back : IsNonDecreasing (map (λ h. h.position) happenings)
   pub once : IsDistinct eqb (map (λ h. h.operation) happenings)

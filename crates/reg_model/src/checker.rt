@@ -33,6 +33,3 @@ pub fn check(
 {
     is_well_formed(marks) && is_strict(marks, happenings, m, block, scratch)
 }
-
-#[cfg(test)]
-mod tests;

@@ -89,7 +89,8 @@ fn is_in_time(marks: &[Mark], happening: Happening) -> bool
 
 /// Whether every answered operation stands among the happenings.
 fn answered_happen(marks: &[Mark], happenings: &[Happening]) -> bool
-    ensures { IsTrue result ↔ ((n : ℕ) → WasAnswered (life_of marks.now n) → Contains (map (λ h. h.operation) happenings.now) n) }
+    ensures { IsTrue result ↔ ((n : ℕ) → WasAnswered (life_of marks.now n)
+        → Contains (map (λ h. h.operation) happenings.now) n) }
 {
     for mark in marks {
         if let Mark::Begin { operation, .. } = mark {
@@ -103,7 +104,8 @@ fn answered_happen(marks: &[Mark], happenings: &[Happening]) -> bool
 
 /// Whether the operation stands among the happenings, if it was answered.
 fn happens_if_answered(marks: &[Mark], happenings: &[Happening], operation: u64) -> bool
-    ensures { IsTrue result ↔ (WasAnswered (life_of marks.now operation) → Contains (map (λ h. h.operation) happenings.now) operation) }
+    ensures { IsTrue result ↔ (WasAnswered (life_of marks.now operation)
+        → Contains (map (λ h. h.operation) happenings.now) operation) }
 {
     !was_answered(marks, operation) || has_happened(happenings, operation)
 }

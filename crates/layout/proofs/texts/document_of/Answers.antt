@@ -2,7 +2,7 @@
 use Rattle.std.proofs.Common.{sym, ◌∙◌}
 use Rattle.std.proofs.lemmas.Bool.{false≢true}
 use Rattle.layout.proofs.Documents.{document_of-read, document_of-none}
-use Rattle.layout.proofs.descriptions.document_of.Goals as goal
+use Rattle.layout.proofs.texts.document_of.Goals as goal
 
 pub returns-in-Ok-clause-ok : goal.returns-in-Ok-clause-ok
 returns-in-Ok-clause-ok c = document_of-read c.args.text.now _ c.in-Ok.ensures.ok.0 c.in-Ok.ensures.ok.1
