@@ -53,17 +53,17 @@ sums-stored n at weights blocks old first second all room low high =
     let first_long = low.long in
     let second_long = high.long in
     let each : (t : ℕ) → at ≤ t → t < at + 64 → get_or (put_chunk (at + 32) mid second) t 0 ≡ sum_to n (length old) weights blocks t =
-      λ t from to. elim (cases_lt t (at + 32)) as (λ _. get_or (put_chunk (at + 32) mid second) t 0 ≡ sum_to n (length old) weights blocks t) [
-        | inl before ↦
-            let place : at + (t - at) ≡ t = omega arith in
-            get_or-put_chunk_below (at + 32) mid second t 0 before
-            ∙ subst (λ j. get_or mid j 0 ≡ sum_to n (length old) weights blocks j) place
-            (get_or-put_chunk_at at old first (t - at) 0 (omega arith) (omega arith) ∙ low.each (t - at) (omega arith))
-        | inr behind ↦
-            let place : at + 32 + (t - (at + 32)) ≡ t = omega arith in
-            subst (λ j. get_or (put_chunk (at + 32) mid second) j 0 ≡ sum_to n (length old) weights blocks j) place
-            (get_or-put_chunk_at (at + 32) mid second (t - (at + 32)) 0 (omega arith) (omega arith) ∙ high.each (t - (at + 32)) (omega arith))
-      ] in
+    λ t from to. elim (cases_lt t (at + 32)) as (λ _. get_or (put_chunk (at + 32) mid second) t 0 ≡ sum_to n (length old) weights blocks t) [
+      | inl before ↦
+          let place : at + (t - at) ≡ t = omega arith in
+          get_or-put_chunk_below (at + 32) mid second t 0 before
+          ∙ subst (λ j. get_or mid j 0 ≡ sum_to n (length old) weights blocks j) place
+          (get_or-put_chunk_at at old first (t - at) 0 (omega arith) (omega arith) ∙ low.each (t - at) (omega arith))
+      | inr behind ↦
+          let place : at + 32 + (t - (at + 32)) ≡ t = omega arith in
+          subst (λ j. get_or (put_chunk (at + 32) mid second) j 0 ≡ sum_to n (length old) weights blocks j) place
+          (get_or-put_chunk_at (at + 32) mid second (t - (at + 32)) 0 (omega arith) (omega arith) ∙ high.each (t - (at + 32)) (omega arith))
+    ] in
     record {
       each = λ t from to. each t from to ∙ ap (λ m. sum_to m (length old) weights blocks t) all;
       below = λ t before. get_or-put_chunk_below (at + 32) mid second t 0 (omega arith) ∙ get_or-put_chunk_below at old first t 0 before;
@@ -128,6 +128,6 @@ pub values-made : (factors : List Factor) (weights : List ℕ) (n : ℕ) → len
     → ((k : ℕ) → k < n → get_or (values_of factors) k 0 ≡ get_or weights k 0) → take n (values_of factors) ≡ weights
 values-made factors weights n long room each =
     let taken : length (take n (values_of factors)) ≡ n =
-      length-take-le n (values_of factors) (omega (arith, length-map factors (λ (f : Factor). f.value))) in
+    length-take-le n (values_of factors) (omega (arith, length-map factors (λ (f : Factor). f.value))) in
     ext_get_or 0 (take n (values_of factors)) weights (taken ∙ sym long)
     (λ k lt. get_or-take n (values_of factors) k 0 (omega arith) ∙ each k (omega arith))

@@ -3,8 +3,8 @@ ghost use Rattle.std.specs.Prelude.{◌≡◌, ◌+◌, ◌*◌, ◌≤◌, ◌<
 ghost use Rattle.gf_lanes.specs.Lanes.{HasLanes};
 ghost use Rattle.gf_lanes.specs.Sums.{IsCombination, IsCombinedWithin, sum_of_products, values_of};
 
-use crate::factor::Factor;
 use crate::LANES;
+use crate::factor::Factor;
 use std::simd::prelude::*;
 
 /// The most blocks that are added.

@@ -13,7 +13,6 @@ mod factor;
 
 pub use combine::{MAX_WEIGHTS, combine_into};
 pub use factor::Factor;
-
 use std::simd::prelude::*;
 
 const LANES: usize = 32;

@@ -13,9 +13,9 @@ loop-step-preserved c =
     let mid = c.loop-step.into in
     let at = c.loop-step.step * 64 in
     let values : values_of (take (length weights) c.factors_of-factors.result) ≡ weights =
-      sym (take-map (λ (f : Factor). f.value) (length weights) c.factors_of-factors.result) ∙ c.factors_of-factors.ensures in
+    sym (take-map (λ (f : Factor). f.value) (length weights) c.factors_of-factors.result) ∙ c.factors_of-factors.ensures in
     let further : IsCombinedWithin at (at + 64) weights blocks mid c.combine_step.new.into =
-      subst (λ (w : List ℕ). IsCombinedWithin at (at + 64) w blocks mid c.combine_step.new.into) values c.combine_step.ensures in
+    subst (λ (w : List ℕ). IsCombinedWithin at (at + 64) w blocks mid c.combine_step.new.into) values c.combine_step.ensures in
     let next : at + 64 ≡ (c.loop-step.step + 1) * 64 = omega arith in
     record {
       done =
