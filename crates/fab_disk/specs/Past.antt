@@ -27,6 +27,12 @@ IsImage [] content image = image ≡ content
 IsImage (synced ∷ older) content image = image ≡ content
 IsImage (wrote w ∷ older) content image = (d : List ℕ) × IsImage older (undone w content) d × Torn w.at w.len d image
 
+-- nothing that was written may still be lost
+abbrev pub IsSettled : List Past → Type 0
+IsSettled [] = Unit {0}
+IsSettled (synced ∷ older) = Unit {0}
+IsSettled (wrote w ∷ older) = ⊥
+
 -- the content before the newest call
 abbrev pub content_before : Past → List ℕ → List ℕ
 content_before synced content = content

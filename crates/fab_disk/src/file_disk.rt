@@ -93,6 +93,7 @@ impl Disk for FileDisk {
         self.count(outcome)
     }
 
+    /// Asks the system to bring all to the medium. What a file holds is told by no clause, so one that did nothing would pass.
     fn sync(&mut self) -> Result<(), IoFault> {
         let outcome = self.file.sync_all();
         self.count(outcome)

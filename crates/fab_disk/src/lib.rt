@@ -16,6 +16,3 @@ mod mem_disk;
 pub use disk::{Armed, Disk, IoFault, MAX_END, Plan};
 pub use file_disk::FileDisk;
 pub use mem_disk::MemDisk;
-
-#[cfg(test)]
-mod tests;

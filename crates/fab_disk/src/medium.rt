@@ -46,7 +46,7 @@ pub struct Medium {
 impl Medium {
     ghost use Rattle.std.specs.Prelude.{ℕ, List, ◌≤◌, ◌<◌, ◌+◌, ◌∷◌, [], take, drop, length};
     ghost use Rattle.fab_disk.specs.Disk.{written, KeepsRoom};
-    ghost use Rattle.fab_disk.specs.Past.{wrote, synced, IsImage};
+    ghost use Rattle.fab_disk.specs.Past.{wrote, synced, IsImage, IsSettled};
     ghost use Rattle.fab_disk.specs.Settled.{rolled_back, settled_at};
     ghost use Rattle.fab_disk.specs.Medium.{past, HasRoom, IsWrittenOver};
 
@@ -115,6 +115,7 @@ impl Medium {
         ensures content { self.new.content.items ≡ self.old.content.items }
         ensures crash { (image : List ℕ) → IsImage (past self.new) self.new.content.items image
             → IsImage (past self.old) self.old.content.items image }
+        ensures settled { IsSettled (past self.old) → past self.new ≡ [] }
         ensures room { KeepsRoom (HasRoom self.old) (HasRoom self.new) }
     {
         if let Some((Step::Wrote(_), _)) = self.steps.split_last() {

@@ -1,6 +1,6 @@
 // A disk in memory, which can be made to fail or to stop.
 ghost use Rattle.std.specs.Prelude.{◌≡◌, ◌≢◌, ◌+◌, ◌≤◌, ◌^◌, [], List, ℕ, length, slice_range, IsTrue, IfOk, OnOk, IsOkUnless};
-ghost use Rattle.fab_disk.specs.Disk.{Kept, KeepsRoom, KeepsPlan, CountsDown};
+ghost use Rattle.fab_disk.specs.Disk.{written, Torn, Follows, Elapses, IsUntouched, Kept, KeepsRoom, TakesRoom, KeepsPlan, CountsDown};
 
 use crate::disk::Fate;
 use crate::failing_calls::FailingCalls;
@@ -21,12 +21,13 @@ pub struct MemDisk {
 
 impl MemDisk {
     ghost use Rattle.std.specs.Prelude.{◌≡◌, ◌≢◌, ◌<◌, ◌-◌, ◌^◌, [], List, ℕ};
-    ghost use Rattle.fab_disk.specs.Disk.{Kept, CountsDown};
-    ghost use Rattle.fab_disk.specs.Past.{IsImage};
+    ghost use Rattle.fab_disk.specs.Disk.{Kept, KeepsRoom, CountsDown};
+    ghost use Rattle.fab_disk.specs.Past.{IsImage, IsSettled};
+    ghost use Rattle.fab_disk.specs.Medium.{HasRoom};
     ghost use Rattle.fab_disk.specs.Settled.{settled_at};
     ghost use Rattle.fab_disk.specs.Plan.{IsPlanned};
     ghost use Rattle.fab_disk.specs.FailingCalls.{FailsNext};
-    ghost use Rattle.fab_disk.specs.MemDisk.{content_of, past_of_disk, IsSound, Lists};
+    ghost use Rattle.fab_disk.specs.MemDisk.{content_of, past_of_disk, FailsWhole, IsSound, Lists};
 
     /// A sound disk that holds these bytes. A crash leaves them.
     pub fn new(alloc: Global, content: Vec<u8>) -> MemDisk
@@ -73,6 +74,21 @@ impl MemDisk {
         self.medium.settle(pick);
     }
 
+    /// Lets go of what is kept to undo calls, where the newest call that changed the disk was a sync; else nothing happens. What
+    /// is held, planned and listed stays, and what a crash might have left is told from now on. Undo data grows until then.
+    pub fn forget(&mut self)
+        ensures content { content_of self.new ≡ content_of self.old }
+        ensures crash { (image : List ℕ) → IsImage (past_of_disk self.new) (content_of self.new) image
+            → IsImage (past_of_disk self.old) (content_of self.old) image }
+        ensures settled { IsSettled (past_of_disk self.old) → past_of_disk self.new ≡ [] }
+        ensures room { KeepsRoom (HasRoom self.old.medium) (HasRoom self.new.medium) }
+        ensures plan { self.new.plan ≡ self.old.plan }
+        ensures sound { IsSound self.old → IsSound self.new }
+        ensures faults { self.new.faults ≡ self.old.faults }
+    {
+        self.medium.forget();
+    }
+
     // Counts a call that only looks. `Failed` where it is to fail.
     fn look(&mut self) -> Result<(), IoFault>
         ensures medium { self.new.medium ≡ self.old.medium }
@@ -93,6 +109,7 @@ impl MemDisk {
         ensures medium { self.new.medium ≡ self.old.medium }
         ensures cause { Kept self.old.faults self.new.faults (IsSound self.old) (IsSound self.new) (result ≢ Fate.Goes) }
         ensures plan { result ≡ Fate.Goes → CountsDown (IsPlanned self.old.plan) (IsPlanned self.new.plan) }
+        ensures whole { FailsWhole self.old.plan self.old.failing → result ≡ Fate.Fails }
         ensures listed { self.old.failing.made < 2 ^ 64 - 1 → FailsNext self.old.failing → result ≢ Fate.Goes }
     {
         let (planned, left) = self.plan.next();
@@ -106,31 +123,27 @@ impl MemDisk {
 }
 
 impl Disk for MemDisk {
-    ghost use Rattle.std.specs.Prelude.{◌≡◌, length};
-    ghost use Rattle.fab_disk.specs.Past.{IsImage, HadImage};
     ghost use Rattle.fab_disk.specs.PastLaws.{content_is_image, image_had, had_now};
-    ghost use Rattle.fab_disk.specs.Medium.{HasRoom};
     ghost use Rattle.fab_disk.specs.MediumLaws.{room_for_less};
-    ghost use Rattle.fab_disk.specs.Plan.{IsPlanned};
-    ghost use Rattle.fab_disk.specs.MemDisk.{content_of, past_of_disk, IsSound};
+    ghost use Rattle.fab_disk.specs.MemDisk.{content_of, past_of_disk, may_be_left, was_left_since, moment_of, is_planned, room_of, FailsWhole, HoldsAsBefore, IsSound};
 
     ghost tells = { Unit {0} };
 
     ghost seen = { content_of };
 
-    ghost may_leave = { λ disk image. IsImage (past_of_disk disk) (content_of disk) image };
+    ghost may_leave = { may_be_left };
 
-    ghost moment = { λ disk. length (past_of_disk disk) };
+    ghost moment = { moment_of };
 
-    ghost left_since = { λ disk t image. HadImage (past_of_disk disk) (content_of disk) t image };
+    ghost left_since = { was_left_since };
 
     ghost faults = { λ disk. disk.faults };
 
     ghost sound = { IsSound };
 
-    ghost fails_in = { λ disk n. IsPlanned disk.plan n };
+    ghost fails_in = { is_planned };
 
-    ghost has_room = { λ disk calls bytes end. HasRoom disk.medium calls bytes end };
+    ghost has_room = { room_of };
 
     ghost room_for_less = { λ disk calls bytes end fewer less nearer c b e room. room_for_less disk.medium calls bytes end fewer less nearer c b e room };
 
@@ -157,7 +170,18 @@ impl Disk for MemDisk {
         Ok(())
     }
 
-    fn write_at(&mut self, at: u64, from: &[u8]) -> Result<(), IoFault> {
+    fn write_at(&mut self, at: u64, from: &[u8]) -> Result<(), IoFault>
+        requires { at + length from.now ≤ 2 ^ 48 }
+        ensures written { OnOk result (content_of self.new ≡ written at from.now (content_of self.old)) }
+        ensures crash { Follows (Torn at (length from.now)) (may_be_left self.old) (may_be_left self.new) }
+        ensures time { Elapses (moment_of self.old) (moment_of self.new) (was_left_since self.old) (was_left_since self.new) (may_be_left self.new) }
+        ensures counted { OnOk result (moment_of self.new ≡ moment_of self.old + 1) }
+        ensures no_memory { result ≡ Err IoFault.NoMemory → IsUntouched content_of may_be_left moment_of was_left_since self.old self.new }
+        ensures room { TakesRoom (length from.now) (at + length from.now) (room_of self.old) (room_of self.new) (result ≡ Err IoFault.NoMemory) }
+        ensures plan { OnOk result (CountsDown (is_planned self.old) (is_planned self.new)) }
+        ensures cause { Kept self.old.faults self.new.faults (IsSound self.old) (IsSound self.new) (result ≡ Err IoFault.Failed) }
+        ensures whole { FailsWhole self.old.plan self.old.failing → HoldsAsBefore self.old self.new }
+    {
         let at = at as usize;
         self.medium.reserve(1, from.len(), at + from.len())?;
         match self.next_fate() {

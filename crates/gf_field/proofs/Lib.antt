@@ -3,4 +3,5 @@ pub mod FieldLaws
 pub mod Inverses
 pub mod Lagrange
 pub mod PolynomialLaws
+pub mod PowerLaws
 pub mod Roots

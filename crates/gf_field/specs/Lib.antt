@@ -1,3 +1,4 @@
 pub mod BitPolynomials
 pub mod Field
 pub mod Polynomials
+pub mod Powers

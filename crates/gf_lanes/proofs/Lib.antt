@@ -1,1 +1,2 @@
+mod CombineLaws
 mod LaneLaws

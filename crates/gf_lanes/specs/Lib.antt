@@ -1,2 +1,3 @@
 pub mod Lanes
+pub mod Sums
 pub use Rattle.gf_field.specs.Field

@@ -1,13 +1,18 @@
-//! Products in the field of 256 elements, 32 bytes at a time.
+//! Products in the field of 256 elements, 32 bytes at a time, and sums of them.
 //!
-//! A product by `c` is the sum of the doublings of the other factor that the bits of `c` choose, so one run of doublings
-//! serves 32 lanes. No call takes memory.
+//! A byte is the sum of its low and its high half, so a product by one factor is the sum of two of 32 products, which are
+//! made once and then looked up in vectors. No call takes memory.
 #![tactic(auto)]
 
-ghost use Rattle.std.specs.Prelude.{◌≡◌, ◌+◌, ◌≤◌, ℕ, ◌<◌, length, slice_index, bit_xor};
+ghost use Rattle.std.specs.Prelude.{◌≡◌, ◌+◌, ◌*◌, ◌≤◌, ◌<◌, ℕ, length, slice_index, bit_xor};
 ghost use Rattle.gf_field.specs.Field.{field_mul};
 ghost use Rattle.gf_lanes.specs.Lanes.{HasLanes, AddsProduct, AddsProductWithin};
 
+mod combine;
+mod factor;
+
+pub use combine::{MAX_WEIGHTS, combine_into};
+pub use factor::Factor;
 use std::simd::prelude::*;
 
 const LANES: usize = 32;
@@ -33,23 +38,24 @@ pub fn mul_add(dst: &mut [u8], src: &[u8], c: u8)
     requires { length src.now ≡ length dst.old }
     ensures { AddsProduct c src.now dst.old dst.new }
 {
+    let factor = Factor::new(c);
     let whole = dst.len() / LANES;
     for block in 0..whole {
-        mul_add_lanes(dst, src, c, block * LANES);
+        mul_add_lanes(dst, src, &factor, block * LANES);
     }
     for i in whole * LANES..dst.len() {
         dst[i] = gf_field::add(dst[i], gf_field::mul(c, src[i]));
     }
 }
 
-// Adds `c` times `src` to `dst` at the 32 bytes from `at` on.
+// Adds `factor` times `src` to `dst` at the 32 bytes from `at` on.
 #[inline(always)]
-fn mul_add_lanes(dst: &mut [u8], src: &[u8], c: u8, at: usize)
+fn mul_add_lanes(dst: &mut [u8], src: &[u8], factor: &Factor, at: usize)
     requires dst_room { at + LANES ≤ length dst.old }
     requires src_room { at + LANES ≤ length src.now }
-    ensures { AddsProductWithin at (at + LANES) c src.now dst.old dst.new }
+    ensures { AddsProductWithin at (at + LANES) factor.now.value src.now dst.old dst.new }
 {
-    let product = mul_lanes(u8x32::from_slice(&src[at..]), c);
+    let product = factor.times(u8x32::from_slice(&src[at..]));
     let sum = u8x32::from_slice(&dst[at..]) ^ product;
     sum.copy_to_slice(&mut dst[at..]);
 }
@@ -63,37 +69,4 @@ fn double_lanes(v: u8x32) -> u8x32
         .simd_ge(u8x32::splat(0x80))
         .select(u8x32::splat(0x1D), u8x32::splat(0));
     (v << u8x32::splat(1)) ^ reduced
-}
-
-#[cfg(test)]
-mod tests {
-    use super::*;
-
-    #[test]
-    fn a_vector_times_x(rt: HostRuntime) {
-        let lanes = mul_lanes(u8x32::splat(0x80), 2).to_array();
-        assert!(&rt; lanes == [0x1D; 32]);
-    }
-
-    #[test]
-    fn a_whole_vector_and_one_byte(rt: HostRuntime) {
-        let mut sum = [0u8; 33];
-        mul_add(&mut sum, &[0x80; 33], 2);
-        assert!(&rt; sum == [0x1D; 33]);
-    }
-
-    // Around the width of a vector, for each c: the same as byte by byte.
-    #[test]
-    fn each_length_and_factor(rt: HostRuntime) {
-        let src: [u8; 4096] = [0xA7; 4096];
-        for length in [0usize, 1, 31, 32, 33, 4096] {
-            for c in 0..=255u8 {
-                let mut sum = [0x5Cu8; 4096];
-                mul_add(&mut sum[..length], &src[..length], c);
-                let byte = gf_field::add(0x5C, gf_field::mul(c, 0xA7));
-                assert!(&rt; sum[..length].iter().all(|x| *x == byte));
-                assert!(&rt; sum[length..].iter().all(|x| *x == 0x5C));
-            }
-        }
-    }
 }

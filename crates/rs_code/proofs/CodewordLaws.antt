@@ -1,9 +1,9 @@
 -- Interpolation: Lagrange's formula gives the one polynomial of degree below m through m points.
-use Rattle.std.proofs.Common.{◌≡◌, ◌≢◌, ℕ, zero, suc, ◌+◌, ◌<◌, ◌≤◌, List, get_or, replicate, refl, sym, ap, ◌∙◌, arith, add-one, inl, inr}
+use Rattle.std.proofs.Common.{◌≡◌, ◌≢◌, ℕ, zero, suc, ◌+◌, ◌*◌, ◌<◌, ◌≤◌, List, length, take, get_or, replicate, refl, sym, ap, ◌∙◌, arith, add-one, inl, inr}
 use Rattle.std.specs.Prelude.{bit_xor}
 use lib.Bits.{xor_zero_r, xor_lt}
 use Rattle.std.proofs.lemmas.Bool.{cases_eq}
-use Rattle.std.proofs.lemmas.List.{length-replicate}
+use Rattle.std.proofs.lemmas.List.{length-replicate, length-take-le, get_or-take}
 use Rattle.std.proofs.lemmas.List.Elements.{All-replicate}
 use Rattle.gf_field.specs.Field.{field_mul}
 use Rattle.gf_field.specs.Polynomials.{value, weight_of, AreDistinct, HasDegreeBelow}
@@ -11,6 +11,7 @@ use Rattle.gf_field.proofs.FieldLaws.{field_mul-lt, field_mul-comm, field_mul-on
 use Rattle.gf_field.proofs.PolynomialLaws.{sum_of, value-sum_of, length-sum_of, bytes-sum_of, scaled, value-scaled, length-scaled, bytes-scaled}
 use Rattle.gf_field.proofs.Lagrange.{lagrange, value-lagrange, lagrange_IsOneAt, weight_at_own, weight_at_other, numbers_AreDistinct}
 use Rattle.gf_field.proofs.Roots.{same_polynomial}
+use Rattle.gf_lanes.specs.Sums.{sum_of_products, combined}
 use Rattle.rs_code.specs.Codewords.{PassesThrough, IsCodedByte, weighted_sum, AreSeats}
 
 -- a polynomial plus d times the one that is 1 at point j and 0 at the others
@@ -213,3 +214,20 @@ weighted_sum_zeros m zero point column x zeros = refl
 weighted_sum_zeros m (suc i) point column x zeros =
     (λ k. bit_xor (weighted_sum_zeros m i point column x zeros k) (field_mul (weight_of m point i x) (zeros i k)))
     ∙ field_mul-zero_right (weight_of m point i x)
+
+-- a sum of products by these weights
+pub sum_of_products-weighted : (m n : ℕ) (point weight column : ℕ → ℕ) (x : ℕ) → ((i : ℕ) → i < n → weight i ≡ weight_of m point i x)
+    → sum_of_products n weight column ≡ weighted_sum m n point column x
+unfolding sum_of_products weighted_sum
+sum_of_products-weighted m zero point weight column x same = refl
+sum_of_products-weighted m (suc n) point weight column x same =
+    (λ t. bit_xor (sum_of_products-weighted m n point weight column x (λ i h. same i (omega arith)) t) (field_mul (same n (omega arith) t) (column n)))
+
+-- and of blocks that lie one after the other, each times its weight
+pub combined-weighted : (m size t : ℕ) (point : ℕ → ℕ) (weights blocks : List ℕ) (x : ℕ) → m ≤ length weights
+    → ((i : ℕ) → i < m → get_or weights i 0 ≡ weight_of m point i x)
+    → combined size (take m weights) blocks t ≡ weighted_sum m m point (λ i. get_or blocks (i * size + t) 0) x
+combined-weighted m size t point weights blocks x room same =
+    ap (λ n. sum_of_products n (λ i. get_or (take m weights) i 0) (λ i. get_or blocks (i * size + t) 0)) (length-take-le m weights room)
+    ∙ sum_of_products-weighted m m point (λ i. get_or (take m weights) i 0) (λ i. get_or blocks (i * size + t) 0) x
+    (λ i h. get_or-take m weights i 0 h ∙ same i h)

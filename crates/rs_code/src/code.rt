@@ -1,10 +1,11 @@
 //! The code's limits and its three calls.
-ghost use Rattle.std.specs.Prelude.{◌≡◌, ◌↔◌, ℕ, ◌+◌, ◌*◌, ◌<◌, ◌≤◌, List, length, slice_index, bit_xor, IsSome, IfSome, IfNone, Contains};
-ghost use Rattle.gf_field.specs.Field.{field_mul};
-ghost use Rattle.gf_field.specs.Polynomials.{weight_of};
+ghost use Rattle.std.specs.Prelude.{◌≡◌, ◌↔◌, ℕ, ◌+◌, ◌*◌, ◌<◌, ◌≤◌, List, length, slice_index, IsSome, IfSome, IfNone, Contains};
+ghost use Rattle.gf_field.specs.Polynomials.{weight_of, AreDistinct};
 ghost use Rattle.gf_lanes.specs.Lanes.{AddsProduct};
 ghost use Rattle.rs_code.specs.Codewords.{AreSeats};
-ghost use Rattle.rs_code.specs.Stripes.{block_of, byte_of, coded_block, ChangesBlock, IsCodedBlock, IsDecoded};
+ghost use Rattle.rs_code.specs.Stripes.{block_of, coded_block, ChangesBlock, IsCodedBlock, IsDecoded};
+
+use gf_lanes::MAX_WEIGHTS;
 
 /// The most data blocks of a stripe.
 pub const MAX_DATA_BLOCKS: u8 = 16;
@@ -26,7 +27,7 @@ pub struct Code {
 impl Code {
     /// The code of `m` data blocks and `n` coded blocks, or `None` outside the limits 1 <= m <= 16, m <= n <= 32.
     pub fn new(m: u8, n: u8) -> Option<Code>
-        ensures limits { IsSome result ↔ ((0 < m) × (m ≤ MAX_DATA_BLOCKS) × (m ≤ n) × (n ≤ MAX_BLOCKS)) }
+        ensures limits { IsSome result ↔ ((0 < m) × (m ≤ 16) × (m ≤ n) × (n ≤ 32)) }
         ensures code { IfSome result (λ c. (c.m ≡ m) × (c.n ≡ n)) }
     {
         if 0 < m && m <= MAX_DATA_BLOCKS && m <= n && n <= MAX_BLOCKS {
@@ -49,10 +50,8 @@ impl Code {
             copy_block(into, stripe, k as usize);
             return;
         }
-        into.fill(0);
-        for j in 0..self.m {
-            add_block(into, stripe, j as usize, gf_field::weight(self.m, j, k));
-        }
+        let weights = data_weights(self.m, k);
+        gf_lanes::combine_into(into, &weights[..self.m as usize], stripe);
     }
 
     /// Writes data block `j` of the one stripe whose codeword has these blocks at these seats to `into`. There are `m`
@@ -67,10 +66,8 @@ impl Code {
             copy_block(into, blocks, i);
             return;
         }
-        into.fill(0);
-        for i in 0..seats.len() {
-            add_block(into, blocks, i, gf_field::weight_among(seats, i, j));
-        }
+        let weights = seat_weights(seats, j);
+        gf_lanes::combine_into(into, &weights[..seats.len()], blocks);
     }
 
     /// Changes `block`, block `k` of a codeword, as data block `j` of its stripe changes by `delta`, the sum of its old and
@@ -106,16 +103,27 @@ fn copy_block(into: &mut [u8], blocks: &[u8], i: usize)
     into.copy_from_slice(&blocks[start..start + size]);
 }
 
-// Adds `weight` times block `i` of `blocks` to `into`.
-fn add_block(into: &mut [u8], blocks: &[u8], i: usize, weight: u8)
-    requires { (i + 1) * length into.old ≤ length blocks.now }
-    ensures { (t : ℕ) → t < length into.old
-        → slice_index into.new t ≡ bit_xor (slice_index into.old t) (field_mul weight (byte_of (length into.old) blocks.now t i)) }
+// The weights of the data blocks at point `k`.
+fn data_weights(m: u8, k: u8) -> [u8; MAX_WEIGHTS]
+    requires { m ≤ 16 }
+    ensures { (j : ℕ) → j < m → slice_index result j ≡ weight_of m (λ i. i) j k }
 {
-    let size = into.len();
-    let start = i * size;
-    gf_lanes::mul_add(into, &blocks[start..start + size], weight);
+    let mut weights = [0u8; MAX_WEIGHTS];
+    for j in 0..m {
+        weights[j as usize] = gf_field::weight(m, j, k);
+    }
+    weights
 }
 
-#[cfg(test)]
-mod tests;
+// The weights of the seats at point `j`.
+fn seat_weights(seats: &[u8], j: u8) -> [u8; MAX_WEIGHTS]
+    requires few { length seats.now ≤ 16 }
+    requires distinct { AreDistinct (length seats.now) (slice_index seats.now) }
+    ensures { (i : ℕ) → i < length seats.now → slice_index result i ≡ weight_of (length seats.now) (slice_index seats.now) i j }
+{
+    let mut weights = [0u8; MAX_WEIGHTS];
+    for i in 0..seats.len() {
+        weights[i] = gf_field::weight_among(seats, i, j);
+    }
+    weights
+}
