@@ -1,0 +1,117 @@
+#!/usr/bin/env python3
+"""How much processor time `replay run` takes a line, and how much memory.
+
+    bench/replay/run.py [PROGRAM] [--beside COMMAND].. [--lines N].. [--seconds S]
+
+It makes schedules of 20,000, 100,000 and 1,000,000 lines (or of those that --lines names), runs the built program on each, and prints a
+row: the processor time of the run, user and system, divided by the number of lines, and the most memory that it held at one time.
+PROGRAM is crates/replay_main/out/replay_main where none is named; `cd crates/replay_main && rt run -- run < stdin` builds it.
+
+Each COMMAND, split at its spaces, is run beside it on the same input, as another program that prints the same or an older build:
+
+    bench/replay/run.py --beside "/old/replay_main run" --beside "python3 /elsewhere/model.py run" --lines 20000
+
+The row of a COMMAND also says whether it printed what the program printed. A run is ended after S seconds (300 where none are named).
+Its row then says so, and a longer schedule is not tried with that command. Let nothing else run on the machine meanwhile.
+
+The schedule: four bricks keep 64 stripes of two data blocks of 64 bytes (any two of a stripe's four blocks give its data back, and three
+bricks are a quorum). Stripe after stripe, in turn, is written whole and then read, each time by one brick and over bricks 0, 1 and 2, and
+each operation ends before the next one begins. So every line does work, and none is idle. Blocks differ from one write to the next.
+No store is ever full: it has room for 1,048,576 records, of which a write takes one version, and an order at a stripe's first write.
+
+A write takes 13 lines and sends 18 messages. With f the number of the first of them:
+
+    f .. f+3        Order, to bricks 0 to 3        deliver f, f+1, f+2
+    f+4 .. f+6      Ordered                        deliver each
+    f+7 .. f+10     Write, to bricks 0 to 3        deliver f+7, f+8, f+9
+    f+11 .. f+13    Stored                         deliver each; the write ends
+    f+14 .. f+17    Collect, never delivered
+
+A read takes 7 lines and sends 7 messages:
+
+    f .. f+3        Read, to bricks 0 to 3         deliver f, f+1, f+2
+    f+4 .. f+6      Found                          deliver each; the read ends
+"""
+
+import argparse
+import os
+import pathlib
+import signal
+import subprocess
+import sys
+import tempfile
+import time
+
+ROOT = pathlib.Path(__file__).resolve().parents[2]
+LAYOUT = "block = 64\nbricks = 4\nrecords = 1048576\n[[group]]\nm = 2\nmembers = [0, 1, 2, 3]\nstripes = 64\n---\n"
+WRITE_STEPS = [0, 1, 2, 4, 5, 6, 7, 8, 9, 11, 12, 13]
+READ_STEPS = [0, 1, 2, 4, 5, 6]
+
+
+def schedule(lines):
+    """The input of so many lines: whole pairs of a write and a read, as far as they go."""
+    rows, first, pair = [], 1, 0
+    while len(rows) < lines:
+        stripe, brick = pair % 64, pair % 4
+        data = pair.to_bytes(8, "big").hex() * 16
+        rows.append(f"writeall {brick} 0 {stripe} {data}")
+        rows += [f"deliver {first + step}" for step in WRITE_STEPS]
+        first += 18
+        rows.append(f"readall {brick} 0 {stripe}")
+        rows += [f"deliver {first + step}" for step in READ_STEPS]
+        first += 7
+        pair += 1
+    return LAYOUT + "".join(row + "\n" for row in rows[:lines])
+
+
+def run(command, given, printed, seconds):
+    """Runs a command; gives its status (None where it was ended), processor seconds and kilobytes."""
+    with open(given, "rb") as source, open(printed, "wb") as sink:
+        child = subprocess.Popen(command, stdin=source, stdout=sink)
+    end = time.monotonic() + seconds
+    ended = False
+    while True:
+        pid, state, used = os.wait4(child.pid, os.WNOHANG)
+        if pid:
+            child.returncode = os.waitstatus_to_exitcode(state)
+            break
+        if not ended and time.monotonic() > end:
+            os.kill(child.pid, signal.SIGKILL)
+            ended = True
+        time.sleep(0.01)
+    return None if ended else child.returncode, used.ru_utime + used.ru_stime, used.ru_maxrss
+
+
+def main():
+    words = argparse.ArgumentParser(description=__doc__.splitlines()[0])
+    words.add_argument("program", nargs="?", default=str(ROOT / "crates/replay_main/out/replay_main"))
+    words.add_argument("--beside", action="append", default=[], metavar="COMMAND")
+    words.add_argument("--lines", action="append", type=int, metavar="N")
+    words.add_argument("--seconds", type=float, default=300)
+    asked = words.parse_args()
+    commands = [[asked.program, "run"]] + [command.split() for command in asked.beside]
+    slow = set()
+    with tempfile.TemporaryDirectory() as folder:
+        for lines in asked.lines or [20_000, 100_000, 1_000_000]:
+            given = pathlib.Path(folder, "given")
+            given.write_text(schedule(lines))
+            wanted = None
+            for place, command in enumerate(commands):
+                if place in slow:
+                    continue
+                printed = pathlib.Path(folder, "printed")
+                status, seconds, kilobytes = run(command, given, printed, asked.seconds)
+                text = printed.read_bytes()
+                note = f"status {status}" if status is not None else f"ended after {asked.seconds:g} s"
+                if status is None:
+                    slow.add(place)
+                elif place == 0:
+                    wanted = text
+                elif wanted is not None:
+                    note += ", prints the same" if text == wanted else ", PRINTS SOMETHING ELSE"
+                print(f"{lines:9} lines  {1e6 * seconds / lines:8.2f} us a line  {kilobytes / 1024:8.1f} MB  {note}: {' '.join(command)}")
+                sys.stdout.flush()
+
+
+if __name__ == "__main__":
+    main()

@@ -1,0 +1,195 @@
+//! Runs inputs of the program `replay`, each a file in `data/`, and says whether each prints and ends as it should.
+//!
+//! A line of standard input names a case: `NAME`, `NAME STATUS` or `NAME STATUS WORD..`. The file NAME.in is run over ends in
+//! memory, with the words given or else the word `run`. It must end with the status given or else with 0, and must print what stands
+//! in NAME.out. The line `faults NAME` runs a case again and again: each read of its input in turn fails, and each write of its
+//! output. Such a run must end with the status of that fault, and print no more than a prefix of the output.
+#![tactic(auto)]
+
+use fab_io::{MemSink, MemSource};
+use replay::replay;
+use std::alloc::{AllocError, Global};
+use std::rt::Files;
+use std::{fmt, fs, io};
+
+/// A source that fails gives its bytes in pieces of this length, so that a short input takes several reads.
+const PIECE: usize = 64;
+
+/// A sink takes so many bytes of the piece whose write fails.
+const PART: usize = 3;
+
+/// More reads, or writes, than a case with faults makes.
+const MOST_CALLS: u32 = 10_000;
+
+/// The call that fails, by its number from 1.
+#[derive(Clone, Copy)]
+enum Fault {
+    Read(u64),
+    Write(u64),
+}
+
+impl Fault {
+    /// The status of a run that meets the fault.
+    fn status(self) -> u8 {
+        match self {
+            Fault::Read(_) => 5,
+            Fault::Write(_) => 6,
+        }
+    }
+
+    /// The fault one call later.
+    fn next(self) -> Fault {
+        match self {
+            Fault::Read(call) => Fault::Read(call.saturating_add(1)),
+            Fault::Write(call) => Fault::Write(call.saturating_add(1)),
+        }
+    }
+}
+
+/// How a run ended: its status and all that it printed.
+#[derive(Drop)]
+struct Ending {
+    status: u8,
+    sink: MemSink,
+}
+
+/// What is run, and what is wanted of it.
+#[derive(Drop)]
+struct Case {
+    name: String,
+    has_faults: bool,
+    words: Vec<String>,
+    input: Vec<u8>,
+    status: u8,
+    output: Vec<u8>,
+}
+
+/// What is wrong with a case: another status, another output, or another end where a fault comes.
+#[derive(Drop)]
+enum Trouble {
+    Status(u8),
+    Output,
+    After(Fault),
+}
+
+impl fmt::Display for Trouble {
+    fn fmt<W: fmt::Write>(&self, f: &mut fmt::Formatter<W>) -> fmt::Result {
+        match self {
+            Trouble::Status(found) => write!(f, "ends with {found}"),
+            Trouble::Output => write!(f, "prints something else"),
+            Trouble::After(Fault::Read(call)) => write!(f, "ends badly where read {call} fails"),
+            Trouble::After(Fault::Write(call)) => write!(f, "ends badly where write {call} fails"),
+        }
+    }
+}
+
+impl Case {
+    /// What a line says, with the files that it names.
+    fn read(rt: &(impl Files + AllocGlobal), line: &str) -> io::Result<Case> {
+        let alloc = rt.alloc();
+        let mut tokens = line.split_whitespace();
+        let first = tokens.next().unwrap_or("");
+        let has_faults = first == "faults";
+        let name = if has_faults {
+            tokens.next().unwrap_or("")
+        } else {
+            first
+        };
+        let status = tokens.next().unwrap_or("0").parse().unwrap_or(u8::MAX);
+        let mut words = Vec::new(alloc);
+        for token in tokens {
+            words.push(String::from_str(alloc, token)?)?;
+        }
+        if words.is_empty() {
+            words.push(String::from_str(alloc, "run")?)?;
+        }
+        let input = fs::read(rt, format!(in alloc; "{name}.in")?)?;
+        let output = fs::read(rt, format!(in alloc; "{name}.out")?)?;
+        let name = String::from_str(alloc, name)?;
+        Ok(Case {
+            name,
+            has_faults,
+            words,
+            input,
+            status,
+            output,
+        })
+    }
+
+    /// Runs the case, with a fault or with none.
+    fn run(&self, alloc: Global, fault: Option<Fault>) -> Result<Ending, AllocError> {
+        let mut source = MemSource::new(self.input.clone()?);
+        let mut sink = MemSink::new(alloc);
+        match fault {
+            Some(Fault::Read(call)) => {
+                source.in_pieces_of(PIECE);
+                source.fail_at(vec![in alloc; call]?);
+            }
+            Some(Fault::Write(call)) => {
+                sink.take_where_failing(PART);
+                sink.fail_at(vec![in alloc; call]?);
+            }
+            None => (),
+        }
+        let status = replay(alloc, self.words.as_slice(), &mut source, &mut sink);
+        Ok(Ending { status, sink })
+    }
+
+    /// What is wrong where no end fails.
+    fn trouble(&self, alloc: Global) -> Result<Option<Trouble>, AllocError> {
+        let ending = self.run(alloc, None)?;
+        if ending.status != self.status {
+            return Ok(Some(Trouble::Status(ending.status)));
+        }
+        if ending.sink.taken() != self.output.as_slice() {
+            return Ok(Some(Trouble::Output));
+        }
+        Ok(None)
+    }
+
+    /// What is wrong where this fault comes, or the one a call later, and so on up to the first that the run doesn't reach.
+    fn trouble_from(&self, alloc: Global, first: Fault) -> Result<Option<Trouble>, AllocError> {
+        let mut fault = first;
+        for number in 0..MOST_CALLS {
+            let ending = self.run(alloc, Some(fault))?;
+            let printed = ending.sink.taken();
+            if ending.status != fault.status() {
+                let is_past = ending.status == self.status && printed == self.output.as_slice();
+                return Ok(if number > 0 && is_past {
+                    None
+                } else {
+                    Some(Trouble::After(fault))
+                });
+            }
+            if !self.output.starts_with(printed) {
+                break;
+            }
+            fault = fault.next();
+        }
+        Ok(Some(Trouble::After(fault)))
+    }
+
+    /// The first thing that is wrong: without a fault, and then with those that the case asks for.
+    fn first_trouble(&self, alloc: Global) -> Result<Option<Trouble>, AllocError> {
+        let mut found = self.trouble(alloc)?;
+        for first in [Fault::Read(1), Fault::Write(1)] {
+            if found.is_none() && self.has_faults {
+                found = self.trouble_from(alloc, first)?;
+            }
+        }
+        Ok(found)
+    }
+}
+
+fn main(rt: HostRuntime) -> io::Result<()> {
+    for line in rt.lines(rt.alloc()) {
+        let case = Case::read(&rt, line?.as_str())?;
+        let name = case.name.as_str();
+        let with = if case.has_faults { " with faults" } else { "" };
+        match case.first_trouble(rt.alloc())? {
+            None => println!(rt; "{name}{with} ok")?,
+            Some(trouble) => println!(rt; "{name}{with} {trouble}")?,
+        }
+    }
+    Ok(())
+}
