@@ -23,52 +23,52 @@ use Rattle.protocol_laws.proofs.Effects.{told_all}
 use Rattle.protocol_laws.proofs.Entries.{IsEntryOf, entries_of}
 use Rattle.protocol_laws.proofs.Sorting.{ascending_permutation}
 use Rattle.protocol_laws.proofs.StripeLives.{life_filtered}
-use Rattle.world.specs.declared.histories.Known.{Known}
-use Rattle.world.specs.States.{IsKnown}
+use Rattle.world.specs.declared.histories.KeptOperation.{KeptOperation}
+use Rattle.world.specs.Shown.{TellsOperation}
 use Rattle.world.specs.Walks.{AreKnown, BeginsAgree, op_that, operation_of, operations_of, begin_at, rising_to, walk_to, placed}
 
 -- stands for an operation of which nothing is kept
-abbrev pub nothing_known : Known
-nothing_known = record { begin = 0; group = record { 0 = 0 }; stripe = record { 0 = 0 }; version = None; made = false; base = None; writes = false; answered = false }
+abbrev pub nothing_kept : KeptOperation
+nothing_kept = record { begin = 0; group = record { 0 = 0 }; stripe = record { 0 = 0 }; version = None; made = false; base = None; writes = false; answered = false }
 
 -- the entries of one operation more
-pub entries_more : (operations : List Known) (g s i : ℕ) (d : Known) → i < length operations
+pub entries_more : (operations : List KeptOperation) (g s i : ℕ) (d : KeptOperation) → i < length operations
     → entries_to (operations_of operations) g s (i + 1)
     ≡ entries_to (operations_of operations) g s i ++ entry_at g s (i + 1) (Some (operation_of (get_or operations i d)))
 entries_more operations g s i d within =
-    let known : Known = get_or operations i d in
+    let known : KeptOperation = get_or operations i d in
     subst (λ (m : ℕ). entries_to (operations_of operations) g s m ≡ entries_to (operations_of operations) g s i ++ entry_at g s m
     (Some (operation_of known)))
     (sym (add-one i))
-    (ap (λ (o : Option Known). entries_to (operations_of operations) g s i ++ entry_at g s (suc i) (option_map operation_of o))
+    (ap (λ (o : Option KeptOperation). entries_to (operations_of operations) g s i ++ entry_at g s (suc i) (option_map operation_of o))
     (slice_get-get_or operations i d within))
 
 -- the entry of an operation that is kept is the machine's
-known_entry : (g s n : ℕ) (known : Known) (o : Operation) → IsKnown known o → entry_at g s n (Some (operation_of known)) ≡ entry_at g s n (Some o)
-known_entry g s n known o is =
+kept_entry : (g s n : ℕ) (known : KeptOperation) (o : Operation) → TellsOperation known o → entry_at g s n (Some (operation_of known)) ≡ entry_at g s n (Some o)
+kept_entry g s n known o is =
     ap (λ (x : GroupId). cond (nat_eq x.0 g && nat_eq known.stripe.0 s) (entry_with n (not known.made) known.version) []) is.group
     ∙ ap (λ (x : StripeNo). cond (nat_eq o.ask.group.0 g && nat_eq x.0 s) (entry_with n (not known.made) known.version) []) is.stripe
     ∙ ap (λ (x : Bool). cond (is_of g s o) (entry_with n (not x) known.version) []) is.made
     ∙ ap (λ (x : Option Stamp). cond (is_of g s o) (entry_with n (not o.made) x) []) is.version
 
 -- operation k, as it is kept and as the machine has it
-record Agrees (operations : List Known) (w : World) (k : ℕ) : Type 0 where
-  known : Known
+record Agrees (operations : List KeptOperation) (w : World) (k : ℕ) : Type 0 where
+  known : KeptOperation
   operation : Operation
   kept : operations_of operations k ≡ Some (operation_of known)
   is : w.operations k ≡ Some operation
-  same : IsKnown known operation
+  same : TellsOperation known operation
 
-agrees : (operations : List Known) (w : World) → AreKnown operations w → (d : Known) (k : ℕ) → 1 ≤ k → k ≤ length operations → Agrees operations w k
+agrees : (operations : List KeptOperation) (w : World) → AreKnown operations w → (d : KeptOperation) (k : ℕ) → 1 ≤ k → k ≤ length operations → Agrees operations w k
 agrees operations w are d zero low high = absurd (omega arith)
 agrees operations w are d (suc i) low high =
-    let known : Known = get_or operations i d in
+    let known : KeptOperation = get_or operations i d in
     let at : slice_get operations i ≡ Some known = slice_get-get_or operations i d (omega arith) in
     let mine = are.each i known at in
     record {
       known = known;
       operation = mine.0;
-      kept = ap (λ (o : Option Known). option_map operation_of o) at;
+      kept = ap (λ (o : Option KeptOperation). option_map operation_of o) at;
       is = subst (λ (m : ℕ). w.operations m ≡ Some mine.0) (add-one i) mine.1;
       same = mine.2;
     }
@@ -134,14 +134,14 @@ effect_same f g (e ∷ entries) same =
     ap (λ (above : Effect). with_entry (f e.operation) e above) (effect_same f g entries (All-tail AreSame e entries same))
     ∙ with_entry_same (f e.operation) (g e.operation) e (effect_of g entries) first.0 first.1 first.2
 
-module _ (operations : List Known) (w : World) (are : AreKnown operations w) (d : Known) (g s : ℕ) where
+module _ (operations : List KeptOperation) (w : World) (are : AreKnown operations w) (d : KeptOperation) (g s : ℕ) where
   -- the entries are the same
   entries_same : (n : ℕ) → n ≤ length operations → entries_to (operations_of operations) g s n ≡ entries_to w.operations g s n
   entries_same zero within = refl
   entries_same (suc n) within =
       let mine : Agrees operations w (suc n) = agrees operations w are d (suc n) (omega arith) within in
       let one : entry_at g s (suc n) (operations_of operations (suc n)) ≡ entry_at g s (suc n) (w.operations (suc n)) =
-      ap (λ (o : Option Operation). entry_at g s (suc n) o) mine.kept ∙ known_entry g s (suc n) mine.known mine.operation mine.same
+      ap (λ (o : Option Operation). entry_at g s (suc n) o) mine.kept ∙ kept_entry g s (suc n) mine.known mine.operation mine.same
       ∙ sym (ap (λ (o : Option Operation). entry_at g s (suc n) o) mine.is) in
       ap₂ (λ (a b : List Entry). a ++ b) (entries_same n (omega arith)) one
 
@@ -231,11 +231,11 @@ module _ (operations : List Known) (w : World) (are : AreKnown operations w) (d 
       (let near : IsUpTo w.begun (get_or walk k e) = upto k e lt in (near.0, (let begun = are.begun in omega (arith, near.1)))) (ours k e lt))
 
 -- from the operations that a world keeps come its happenings
-pub kept_happenings : (operations : List Known) (w : World) (g s : ℕ) → AreKnown operations w → BeginsAgree w
+pub kept_happenings : (operations : List KeptOperation) (w : World) (g s : ℕ) → AreKnown operations w → BeginsAgree w
     → placed (operations_of operations) 0 (walk_to (operations_of operations) g s (length operations)) ≡ happenings_of w g s
 kept_happenings operations w g s are begins =
     happenings_same operations w are
-    nothing_known g s begins
+    nothing_kept g s begins
 
 -- where the books hold, operations begin where the marks of their stripes say
 pub begins_from_books : (setting : Setting) (w : World) → Books setting w → BeginsAgree w

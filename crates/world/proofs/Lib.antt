@@ -4,9 +4,9 @@ pub mod KeptOperations
 pub mod LineLemmas
 pub mod MachineBegins
 pub mod MachineSteps
-pub mod NodeLemmas
+pub mod BrickListLemmas
 pub mod Orders
 pub mod Places
 pub mod RunLaws
 pub mod RunLemmas
-pub mod StateLemmas
+pub mod SimulationLemmas

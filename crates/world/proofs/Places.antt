@@ -8,7 +8,7 @@ use Rattle.std.specs.BTreeMap.{is_at}
 use Rattle.std.proofs.lemmas.Bool.{cond_both, eqb-true, eqb-false, eq-eqb, ne_eqb}
 use Rattle.std.proofs.lemmas.Bool.Decides.{nat_tests}
 use Rattle.protocol.specs.Nodes.{put}
-use Rattle.world.specs.States.{call_cmp}
+use Rattle.world.specs.Shown.{call_cmp}
 
 -- an element of a list that grew by one is an old one, or the one at the end
 pub grown : {A : Type 0} (xs : List A) (x : A) (n : ℕ) (y : A) → slice_get (xs ++ x ∷ []) n ≡ Some y

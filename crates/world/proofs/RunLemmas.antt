@@ -15,12 +15,12 @@ use Rattle.protocol.specs.Nodes.{put}
 use Rattle.protocol.specs.Worlds.{World, Sets, Ticks, Starts, first_world, is_brick, is_up, may_start, packet_of, number_of, world_ticked, world_started, happens, run}
 use Rattle.protocol_laws.proofs.Books.{Books}
 use Rattle.world.specs.Runs.{Run, after_line, after_lines, world_of, events_of, brick_of, ask_of, refusal_at}
-use Rattle.world.specs.States.{IsNumbered, Shows, outcome_of, refused_or_begun}
+use Rattle.world.specs.Shown.{IsNumbered, Shows, outcome_of, refused_or_begun}
 use Rattle.world.specs.Steps.{outcome_text, with_line, is_stripe, log_at}
 use Rattle.world.specs.Texts.{text_of, marks_text, idle_text, is_deliverable, new_marks, refused_or_marks}
-use Rattle.world.specs.declared.states.Outcome.{Outcome}
-use Rattle.world.specs.declared.states.Outcome.TheVariants.{Marks, Idle}
-use Rattle.world.specs.declared.states.State.{State}
+use Rattle.world.specs.declared.simulations.Outcome.{Outcome}
+use Rattle.world.specs.declared.simulations.Outcome.TheVariants.{Marks, Idle}
+use Rattle.world.specs.declared.simulations.Simulation.{Simulation}
 
 -- one line more
 pub after_lines-append : (setting : Setting) (w : World) (lines : List Line) (line : Line)
@@ -33,7 +33,7 @@ pub world_of-with_line : (r : Run) (line : Line) → world_of (with_line r line)
 world_of-with_line r line = after_lines-append (coding r.layout) (first_world r.layout) r.lines line
 
 -- the state that shows the world after a line shows the world of the run with that line
-pub shows_line : (layout : Layout) (state : State) (old new : List Line) (line : Line) → new ≡ old ++ line ∷ []
+pub shows_line : (layout : Layout) (state : Simulation) (old new : List Line) (line : Line) → new ≡ old ++ line ∷ []
     → Shows layout state (after_line (coding layout) (world_of (record { layout = layout; lines = old })) line)
     → Shows layout state (world_of (record { layout = layout; lines = new }))
 shows_line layout state old new line grown shows =

@@ -9,8 +9,8 @@ use Rattle.fab_base.specs.Layouts.{Group, group_of}
 use Rattle.protocol.specs.Worlds.{is_up}
 use Rattle.world.specs.Runs.{Run, world_of, brick_of}
 use Rattle.world.specs.Texts.{text_of, marks_text, refusal_text, idle_text}
-use Rattle.world.specs.declared.states.Outcome.{Outcome}
-use Rattle.world.specs.declared.states.Outcome.TheVariants.{Marks, Refused, Idle}
+use Rattle.world.specs.declared.simulations.Outcome.{Outcome}
+use Rattle.world.specs.declared.simulations.Outcome.TheVariants.{Marks, Refused, Idle}
 use Rattle.world.specs.declared.worlds.StepFault.{StepFault}
 use Rattle.world.specs.declared.worlds.StepFault.TheVariants.{BadLine, NoMemory}
 

@@ -9,15 +9,15 @@ use Rattle.reg_model.specs.Marks.{life_of, stripe_marks}
 use Rattle.reg_model.specs.Walk.{begin_of}
 use Rattle.protocol.specs.Worlds.{World, Operation}
 use Rattle.protocol.specs.Happenings.{Effect, effect_of, entries_to, ascending}
-use Rattle.world.specs.declared.histories.Known.{Known}
+use Rattle.world.specs.declared.histories.KeptOperation.{KeptOperation}
 use Rattle.world.specs.declared.walks.Sweep.{Sweep}
-use Rattle.world.specs.States.{IsKnown}
+use Rattle.world.specs.Shown.{TellsOperation}
 
 -- these are the operations of a world, number n at place n - 1
-pub record AreKnown (operations : List Known) (w : World) : Type 0 where
+pub record AreKnown (operations : List KeptOperation) (w : World) : Type 0 where
   pub begun : length operations ≡ w.begun
-  pub each : (n : ℕ) (known : Known) → slice_get operations n ≡ Some known
-      → (o : Operation) × (w.operations (n + 1) ≡ Some o) × IsKnown known o
+  pub each : (n : ℕ) (known : KeptOperation) → slice_get operations n ≡ Some known
+      → (o : Operation) × (w.operations (n + 1) ≡ Some o) × TellsOperation known o
 
 -- each operation begins where the marks of its stripe say
 pub record BeginsAgree (w : World) : Type 0 where
@@ -29,7 +29,7 @@ abbrev pub op_that : Bool → Op
 op_that writes = if writes then WriteStripe [] else ReadStripe
 
 -- an operation of which no more is known than is kept: what is not kept is filled in
-abbrev pub operation_of : Known → Operation
+abbrev pub operation_of : KeptOperation → Operation
 operation_of known =
     record {
       brick = record { 0 = 0 };
@@ -45,7 +45,7 @@ operation_of known =
     }
 
 -- the operations that are kept, by number from 1
-abbrev pub operations_of : List Known → ℕ → Option Operation
+abbrev pub operations_of : List KeptOperation → ℕ → Option Operation
 operations_of operations zero = None
 operations_of operations (suc k) = option_map operation_of (slice_get operations k)
 

@@ -4,7 +4,7 @@
 mod bricks;
 mod histories;
 mod rooms;
-mod states;
+mod simulations;
 mod texts;
 mod walks;
 mod worlds;

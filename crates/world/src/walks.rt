@@ -5,7 +5,7 @@ ghost use Rattle.protocol.specs.Worlds.{World};
 ghost use Rattle.protocol.specs.Happenings.{entry_at, entries_to, effect_of, was_answered, is_told, base_of, is_among, happenings_of};
 ghost use Rattle.world.specs.Walks.{AreKnown, BeginsAgree, HasSwept, operation_of, operations_of, begin_at, rising_to, walk_to, placed};
 
-use crate::histories::Known;
+use crate::histories::KeptOperation;
 use fab_base::{GroupId, NoMem, Stamp, StripeNo};
 use reg_model::{Entry, Happening};
 use std::alloc::Global;
@@ -20,7 +20,7 @@ pub struct Sweep {
 }
 
 /// The entry of the operation of a number, where it is of this stripe and made or read a version.
-fn entry_of(known: &Known, number: u64, group: GroupId, stripe: StripeNo) -> Option<Entry>
+fn entry_of(known: &KeptOperation, number: u64, group: GroupId, stripe: StripeNo) -> Option<Entry>
     ensures { option_to_list result ≡ entry_at group.0 stripe.0 number (Some (operation_of known.now)) }
 {
     if known.group.0 != group.0 || known.stripe.0 != stripe.0 {
@@ -37,7 +37,7 @@ fn entry_of(known: &Known, number: u64, group: GroupId, stripe: StripeNo) -> Opt
 /// The entries of a stripe's operations, by number.
 fn entries(
     alloc: Global,
-    operations: &[Known],
+    operations: &[KeptOperation],
     group: GroupId,
     stripe: StripeNo,
 ) -> Result<Vec<Entry>, NoMem>
@@ -53,7 +53,7 @@ fn entries(
 }
 
 /// What is kept of the operation of a number.
-fn known_of(operations: &[Known], number: u64) -> Option<&Known>
+fn known_of(operations: &[KeptOperation], number: u64) -> Option<&KeptOperation>
     ensures { option_map operation_of (option_copied result) ≡ operations_of operations.now number }
 {
     let place = number.checked_sub(1)?;
@@ -61,28 +61,28 @@ fn known_of(operations: &[Known], number: u64) -> Option<&Known>
 }
 
 /// Whether the operation of a number was answered, and not aborted.
-fn was_answered(operations: &[Known], number: u64) -> bool
+fn was_answered(operations: &[KeptOperation], number: u64) -> bool
     ensures { result ≡ was_answered (operations_of operations.now number) }
 {
     known_of(operations, number).is_some_and(|known| known.answered)
 }
 
 /// Whether the operation of a number, where it is effective, is told: it was answered, or it writes.
-fn is_told(operations: &[Known], number: u64) -> bool
+fn is_told(operations: &[KeptOperation], number: u64) -> bool
     ensures { result ≡ is_told (operations_of operations.now number) }
 {
     known_of(operations, number).is_some_and(|known| known.answered || known.writes)
 }
 
 /// The version that the version of the operation of a number was made on.
-fn base_of(operations: &[Known], number: u64) -> Option<Stamp>
+fn base_of(operations: &[KeptOperation], number: u64) -> Option<Stamp>
     ensures { result ≡ base_of (operations_of operations.now number) }
 {
     known_of(operations, number)?.base
 }
 
 /// Where the operation of a number begins.
-fn begin_of(operations: &[Known], number: u64) -> u64
+fn begin_of(operations: &[KeptOperation], number: u64) -> u64
     ensures { result ≡ begin_at (operations_of operations.now number) }
 {
     known_of(operations, number).map_or(0, |known| known.begin)
@@ -98,7 +98,7 @@ fn is_among(stamp: Stamp, stamps: &[Stamp]) -> bool
 /// The entries of a stripe's operations, as they ascend.
 fn rising(
     alloc: Global,
-    operations: &[Known],
+    operations: &[KeptOperation],
     group: GroupId,
     stripe: StripeNo,
 ) -> Result<Vec<Entry>, NoMem>
@@ -132,7 +132,7 @@ impl Sweep {
     }
 
     /// Tells an effective entry, where its operation is told.
-    fn tell(&mut self, operations: &[Known], entry: Entry) -> Result<(), NoMem>
+    fn tell(&mut self, operations: &[KeptOperation], entry: Entry) -> Result<(), NoMem>
         ensures told { OnOk result ((told : _) → self.old.told.items ≡ reverse told
             → self.new.told.items ≡ reverse (if is_told (operations_of operations.now entry.operation) then entry ∷ told else told)) }
         ensures needed { self.new.needed ≡ self.old.needed }
@@ -144,7 +144,7 @@ impl Sweep {
     }
 
     /// Notes the version that an effective entry reads, or that its own was made on.
-    fn need(&mut self, operations: &[Known], entry: Entry) -> Result<(), NoMem>
+    fn need(&mut self, operations: &[KeptOperation], entry: Entry) -> Result<(), NoMem>
         ensures needed { OnOk result ((needed : _) → self.old.needed.items ≡ reverse needed
             → self.new.needed.items ≡ reverse (needs (operations_of operations.now entry.operation) entry ++ needed)) }
         ensures told { self.new.told ≡ self.old.told }
@@ -161,7 +161,7 @@ impl Sweep {
     }
 
     /// Takes the entry below those so far. It is effective where its operation was answered, or where its version is needed.
-    fn take(&mut self, operations: &[Known], entry: Entry) -> Result<(), NoMem>
+    fn take(&mut self, operations: &[KeptOperation], entry: Entry) -> Result<(), NoMem>
         ensures { OnOk result ((above : Effect) → HasSwept self.old above
             → HasSwept self.new (with_entry (operations_of operations.now entry.operation) entry above)) }
     {
@@ -174,7 +174,7 @@ impl Sweep {
 }
 
 /// The sweep of entries that ascend, from the greatest down.
-fn sweep_down(alloc: Global, operations: &[Known], entries: &[Entry]) -> Result<Sweep, NoMem>
+fn sweep_down(alloc: Global, operations: &[KeptOperation], entries: &[Entry]) -> Result<Sweep, NoMem>
     ensures { IfOk result (λ sweep. HasSwept sweep (effect_of (operations_of operations.now) entries.now)) }
 {
     let mut sweep = Sweep::new(alloc);
@@ -187,7 +187,7 @@ fn sweep_down(alloc: Global, operations: &[Known], entries: &[Entry]) -> Result<
 /// The walk along a stripe's effective versions.
 fn walk(
     alloc: Global,
-    operations: &[Known],
+    operations: &[KeptOperation],
     group: GroupId,
     stripe: StripeNo,
 ) -> Result<Vec<Entry>, NoMem>
@@ -200,7 +200,7 @@ fn walk(
 }
 
 /// The happenings along a walk: each at the greatest begin so far.
-fn along(alloc: Global, operations: &[Known], walk: &[Entry]) -> Result<Vec<Happening>, NoMem>
+fn along(alloc: Global, operations: &[KeptOperation], walk: &[Entry]) -> Result<Vec<Happening>, NoMem>
     ensures { IfOk result (λ happenings. happenings.items ≡ placed (operations_of operations.now) 0 walk.now) }
 {
     let mut happenings = Vec::new(alloc);
@@ -219,7 +219,7 @@ fn along(alloc: Global, operations: &[Known], walk: &[Entry]) -> Result<Vec<Happ
 /// that answered it at once, by number, each at the greatest begin so far.
 pub fn happenings(
     alloc: Global,
-    operations: &[Known],
+    operations: &[KeptOperation],
     group: GroupId,
     stripe: StripeNo,
 ) -> Result<Vec<Happening>, NoMem>

@@ -4,7 +4,7 @@ use Rattle.std.proofs.lemmas.Option.{same_Some}
 use Rattle.std.proofs.lemmas.Result.{on_ok_weaker}
 use Rattle.std.specs.BTreeMap.{get}
 use Rattle.protocol.specs.Worlds.{World}
-use Rattle.world.specs.States.{Tells, call_cmp}
+use Rattle.world.specs.Shown.{Tells, call_cmp}
 use Rattle.world.proofs.histories.History.expect_call.Goals as goal
 
 pub returns-in_err-make_room-clause-same : goal.returns-in_err-make_room-clause-same

@@ -6,14 +6,14 @@ use Rattle.protocol.specs.Happenings.{happenings_of}
 use Rattle.world.specs.Runs.{Run, world_of}
 use Rattle.world.specs.Standing.{run_of}
 use Rattle.world.specs.Walks.{AreKnown}
-use Rattle.world.specs.declared.histories.Known.{Known}
+use Rattle.world.specs.declared.histories.KeptOperation.{KeptOperation}
 use Rattle.world.proofs.RunLaws.{begins_agree}
 use Rattle.world.proofs.worlds.World.happenings.Goals as goal
 
 pub returns : goal.returns
 returns c =
     let are : AreKnown c.as_slice.result.now (world_of (run_of c.self.inside)) =
-    subst (λ (kept : List Known). AreKnown kept (world_of (run_of c.self.inside))) (sym c.as_slice.ensures.value)
+    subst (λ (kept : List KeptOperation). AreKnown kept (world_of (run_of c.self.inside))) (sym c.as_slice.ensures.value)
     (record { begun = c.self.invariant.shows.history.begun; each = c.self.invariant.shows.history.operations })
     in
     subst (λ (r : Run). IfOk c.happenings.result (λ happenings. happenings.items ≡ happenings_of
