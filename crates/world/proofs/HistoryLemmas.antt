@@ -18,7 +18,7 @@ use Rattle.protocol.specs.Worlds.{World, Operation, number_of, with_number, worl
 use Rattle.protocol.specs.Happenings.{writes}
 use Rattle.world.specs.declared.histories.History.{History}
 use Rattle.world.specs.declared.histories.KeptOperation.{KeptOperation}
-use Rattle.world.specs.Shown.{TellsOperations, ChangesAt, TellsOperation, IsOfCall, Tells, call_cmp, made_kept, ended_kept}
+use Rattle.world.specs.Shown.{TellsOperations, ChangesAt, TellsOperation, IsOfCall, Tells, pair_cmp, made_kept, ended_kept}
 use Rattle.world.proofs.Places.{grown, each_value, value_here, value_elsewhere, call_apart, set_here, set_elsewhere}
 
 -- room alone changes nothing that is told
@@ -29,13 +29,13 @@ tells_same old new w sent marks operations numbers tells = record {
   marks = marks ∙ tells.marks;
   begun = ap length operations ∙ tells.begun;
   operations = subst (λ (kept : List KeptOperation). TellsOperations kept w.operations) (sym operations) tells.operations;
-  numbers = λ i k low high. subst (λ (map : BTreeMap (ℕ × ℕ) ℕ). get call_cmp map (i, k) ≡ Some (number_of w i k)) (sym numbers)
+  numbers = λ i k low high. subst (λ (map : BTreeMap (ℕ × ℕ) ℕ). get pair_cmp map (i, k) ≡ Some (number_of w i k)) (sym numbers)
       (tells.numbers i k low high);
 }
 
 -- the number of a call that is none so far changes nothing that is told
 pub tells_numbered : (old : History) (map : BTreeMap (ℕ × ℕ) ℕ) (w : World) (b s : ℕ) → (w.nodes b).seq < s
-    → ((q : ℕ × ℕ) → is_at (call_cmp (b, s)) q ≡ false → get call_cmp map q ≡ get call_cmp old.numbers q)
+    → ((q : ℕ × ℕ) → is_at (pair_cmp (b, s)) q ≡ false → get pair_cmp map q ≡ get pair_cmp old.numbers q)
     → Tells old w → Tells (record old { numbers = map }) w
 tells_numbered old map w b s above others tells = record {
   packets = tells.packets;
@@ -175,20 +175,20 @@ tells_changed old new w number kept after change next tells are become alike cha
   operations = subst (λ (x : List KeptOperation). TellsOperations x (put w.operations number (next (w.operations number)))) (sym become)
       (known_changed kept after w.operations number change next alike changed
       (subst (λ (x : List KeptOperation). TellsOperations x w.operations) (sym are) tells.operations));
-  numbers = λ i k low high. subst (λ (map : BTreeMap (ℕ × ℕ) ℕ). get call_cmp map (i, k) ≡ Some (number_of w i k)) (sym numbers)
+  numbers = λ i k low high. subst (λ (map : BTreeMap (ℕ × ℕ) ℕ). get pair_cmp map (i, k) ≡ Some (number_of w i k)) (sym numbers)
       (tells.numbers i k low high);
 }
 
 -- the numbers of calls with one call more
 numbers_grow : (w : World) (map : BTreeMap (ℕ × ℕ) ℕ) (b number : ℕ) (node : Node) → node.boot ≡ (w.nodes b).boot → node.seq ≡ (w.nodes b).seq + 1
-    → get call_cmp map (b, node.seq) ≡ Some number
-    → ((i k : ℕ) → 1 ≤ k → k ≤ (w.nodes i).seq → get call_cmp map (i, k) ≡ Some (number_of w i k))
+    → get pair_cmp map (b, node.seq) ≡ Some number
+    → ((i k : ℕ) → 1 ≤ k → k ≤ (w.nodes i).seq → get pair_cmp map (i, k) ≡ Some (number_of w i k))
     → (i k : ℕ) → 1 ≤ k → k ≤ (put w.nodes b node i).seq
-    → get call_cmp map (i, k) ≡ Some (with_number w.numbers b node number i (put w.nodes b node i).boot k)
+    → get pair_cmp map (i, k) ≡ Some (with_number w.numbers b node number i (put w.nodes b node i).boot k)
 numbers_grow w map b number node boot next here old i k low = by_brick (nat_eq i b) refl
   where
-    by_call : (y : Bool) → nat_eq k node.seq ≡ y → k ≤ node.seq → get call_cmp map (b, k) ≡ Some (cond y number (w.numbers b node.boot k))
-    by_call true this high = ap (λ j. get call_cmp map (b, j)) (eqb-true k node.seq this) ∙ here
+    by_call : (y : Bool) → nat_eq k node.seq ≡ y → k ≤ node.seq → get pair_cmp map (b, k) ≡ Some (cond y number (w.numbers b node.boot k))
+    by_call true this high = ap (λ j. get pair_cmp map (b, j)) (eqb-true k node.seq this) ∙ here
     by_call false other high =
         let apart : k ≢ node.seq = eqb-false k node.seq other in
         old b k low (omega arith) ∙ ap (λ x. Some (w.numbers b x k)) (sym boot)
@@ -197,9 +197,9 @@ numbers_grow w map b number node boot next here old i k low = by_brick (nat_eq i
     of_boot = put (w.numbers b node.boot) node.seq number
 
     by_brick : (x : Bool) → nat_eq i b ≡ x → k ≤ (cond x node (w.nodes i)).seq
-        → get call_cmp map (i, k) ≡ Some (cond x (put (w.numbers b) node.boot of_boot) (w.numbers i) (cond x node (w.nodes i)).boot k)
+        → get pair_cmp map (i, k) ≡ Some (cond x (put (w.numbers b) node.boot of_boot) (w.numbers i) (cond x node (w.nodes i)).boot k)
     by_brick true same high =
-        ap (λ j. get call_cmp map (j, k)) (eqb-true i b same) ∙ by_call (nat_eq k node.seq) refl high
+        ap (λ j. get pair_cmp map (j, k)) (eqb-true i b same) ∙ by_call (nat_eq k node.seq) refl high
         ∙ ap (λ (f : ℕ → ℕ). Some (f k)) (sym (value_here (w.numbers b) node.boot node.boot of_boot refl))
     by_brick false other high = old i k low high
 
@@ -239,7 +239,7 @@ pub tells_began : (old new : History) (w : World) (brick : BrickId) (ask : Ask) 
     → new.operations.items ≡ old.operations.items ++ begun_kept (length old.marks.items) ask ∷ []
     → new.numbers ≡ old.numbers
     → step.node.boot ≡ (w.nodes brick.0).boot → step.node.seq ≡ (w.nodes brick.0).seq + 1
-    → get call_cmp old.numbers (brick.0, step.node.seq) ≡ Some (w.begun + 1)
+    → get pair_cmp old.numbers (brick.0, step.node.seq) ≡ Some (w.begun + 1)
     → Tells new (world_began w brick ask step)
 tells_began old new w brick ask step tells sent marks operations numbers boot next number = record {
   packets = sent ∙ ap (λ xs. xs ++ step.packets) tells.packets;
@@ -259,7 +259,7 @@ tells_began old new w brick ask step tells sent marks operations numbers boot ne
         answered = refl;
       }) tells.operations);
   numbers = subst (λ (map : BTreeMap (ℕ × ℕ) ℕ). (i k : ℕ) → 1 ≤ k → k ≤ (put w.nodes brick.0 step.node i).seq
-      → get call_cmp map (i, k) ≡ Some (with_number w.numbers brick.0 step.node (w.begun + 1) i (put w.nodes brick.0 step.node i).boot k))
+      → get pair_cmp map (i, k) ≡ Some (with_number w.numbers brick.0 step.node (w.begun + 1) i (put w.nodes brick.0 step.node i).boot k))
       (sym numbers)
       (numbers_grow w old.numbers brick.0 (w.begun + 1) step.node boot next number tells.numbers);
 }
@@ -319,7 +319,7 @@ changes_to kept number default value change some within is =
 
 -- the number of a call is that of its operation
 pub number_is : (history : History) (w : World) (b seq number : ℕ) → Tells history w → 1 ≤ seq → seq ≤ (w.nodes b).seq
-    → number ≡ unwrap_or (get call_cmp history.numbers (b, seq)) 0 → number ≡ number_of w b seq
+    → number ≡ unwrap_or (get pair_cmp history.numbers (b, seq)) 0 → number ≡ number_of w b seq
 number_is history w b seq number tells low high is = is ∙ ap (λ o. unwrap_or o 0) (tells.numbers b seq low high)
 
 -- an operation made a version

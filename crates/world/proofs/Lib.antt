@@ -1,4 +1,5 @@
 pub mod BrickLemmas
+pub mod EntryMaps
 pub mod HistoryLemmas
 pub mod KeptOperations
 pub mod LineLemmas

@@ -35,52 +35,33 @@ use Rattle.world.specs.declared.simulations.Simulation.{Simulation}
 use Rattle.world.specs.declared.simulations.Outcome.{Outcome}
 use Rattle.world.specs.declared.simulations.Outcome.TheVariants.{Marks, Refused, Idle}
 
--- calls since a brick was started last compare by brick, and then by number
-abbrev pub call_cmp : ℕ × ℕ → ℕ × ℕ → Ordering
-call_cmp x y = ordering_then (nat_cmp x.0 y.0) (nat_cmp x.1 y.1)
+-- pairs of numbers compare by the first, and then by the second
+abbrev pub pair_cmp : ℕ × ℕ → ℕ × ℕ → Ordering
+pair_cmp x y = ordering_then (nat_cmp x.0 y.0) (nat_cmp x.1 y.1)
 
 -- what is kept of an operation is the machine's
-pub record TellsOperation (known : KeptOperation) (o : Operation) : Type 0 where
-  pub begin : known.begin ≡ o.begin
-  pub group : known.group ≡ o.ask.group
-  pub stripe : known.stripe ≡ o.ask.stripe
-  pub version : known.version ≡ o.version
-  pub made : known.made ≡ o.made
-  pub base : known.base ≡ o.base
-  pub writes : known.writes ≡ writes o.ask.op
-  pub answered : known.answered ≡ o.answered
+pub record TellsOperation (kept : KeptOperation) (o : Operation) : Type 0 where
+  pub begin : kept.begin ≡ o.begin
+  pub group : kept.group ≡ o.ask.group
+  pub stripe : kept.stripe ≡ o.ask.stripe
+  pub version : kept.version ≡ o.version
+  pub made : kept.made ≡ o.made
+  pub base : kept.base ≡ o.base
+  pub writes : kept.writes ≡ writes o.ask.op
+  pub answered : kept.answered ≡ o.answered
 
 -- what is kept of the operations, from the first, is the machine's
 abbrev pub TellsOperations : List KeptOperation → (ℕ → Option Operation) → Type 0
-TellsOperations kept operations = (n : ℕ) (known : KeptOperation) → slice_get kept n ≡ Some known → (o : Operation) × (operations (n + 1) ≡ Some o) × TellsOperation known o
+TellsOperations kept operations =
+    (n : ℕ) (one : KeptOperation) → slice_get kept n ≡ Some one → (o : Operation) × (operations (n + 1) ≡ Some o) × TellsOperation one o
 
 -- what is kept of an operation that made a version, on this base
 abbrev pub made_kept : Stamp → Option Stamp → KeptOperation → KeptOperation
-made_kept stamp base known =
-    record {
-      begin = known.begin;
-      group = known.group;
-      stripe = known.stripe;
-      version = Some stamp;
-      made = true;
-      base = base;
-      writes = known.writes;
-      answered = known.answered;
-    }
+made_kept stamp base kept = record kept { version = Some stamp; made = true; base = base }
 
 -- what is kept of an operation that ended
 abbrev pub ended_kept : Bool → Option Stamp → KeptOperation → KeptOperation
-ended_kept answered seen known =
-    record {
-      begin = known.begin;
-      group = known.group;
-      stripe = known.stripe;
-      version = version_after known.version seen;
-      made = known.made;
-      base = known.base;
-      writes = known.writes;
-      answered = answered;
-    }
+ended_kept answered seen kept = record kept { version = version_after kept.version seen; answered = answered }
 
 -- what is kept of the operation of a number changed, and of no other
 abbrev pub ChangesAt : List KeptOperation → List KeptOperation → ℕ → (KeptOperation → KeptOperation) → Type 0
@@ -172,7 +153,7 @@ pub record Tells (history : History) (w : World) : Type 0 where
   pub marks : history.marks.items ≡ w.marks
   pub begun : length history.operations.items ≡ w.begun
   pub operations : TellsOperations history.operations.items w.operations
-  pub numbers : (i k : ℕ) → 1 ≤ k → k ≤ (w.nodes i).seq → get call_cmp history.numbers (i, k) ≡ Some (number_of w i k)
+  pub numbers : (i k : ℕ) → 1 ≤ k → k ≤ (w.nodes i).seq → get pair_cmp history.numbers (i, k) ≡ Some (number_of w i k)
 
 -- The state shows the machine's world.
 pub record Shows (layout : Layout) (state : Simulation) (w : World) : Type 0 where

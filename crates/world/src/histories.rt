@@ -90,10 +90,10 @@ fn note_made(operations: &mut [KeptOperation], number: u64, stamp: Stamp, base: 
     if place >= operations.len() {
         return;
     }
-    let known = &mut operations[place];
-    known.version = Some(stamp);
-    known.made = true;
-    known.base = base;
+    let kept = &mut operations[place];
+    kept.version = Some(stamp);
+    kept.made = true;
+    kept.base = base;
 }
 
 /// The operation of a number ended: answered, or aborted; a read may have seen a version.
@@ -107,9 +107,9 @@ fn note_answer(operations: &mut [KeptOperation], number: u64, answered: bool, se
     if place >= operations.len() {
         return;
     }
-    let known = &mut operations[place];
-    known.version = seen.or(known.version);
-    known.answered = answered;
+    let kept = &mut operations[place];
+    kept.version = seen.or(kept.version);
+    kept.answered = answered;
 }
 
 impl History {
@@ -121,7 +121,7 @@ impl History {
     ghost use Rattle.protocol.specs.Nodes.{put as changed};
     ghost use Rattle.protocol.specs.Worlds.{World, first_world, number_of, world_began, world_stepped, world_stopped, with_made, with_answer};
     ghost use Rattle.reg_model.specs.declared.marks.Mark.TheVariants.{End};
-    ghost use Rattle.world.specs.Shown.{Tells, HasStepRoom, call_cmp, IsOfCall};
+    ghost use Rattle.world.specs.Shown.{Tells, HasStepRoom, pair_cmp, IsOfCall};
 
     /// Nothing yet.
     pub fn new(alloc: Global) -> History
@@ -152,7 +152,7 @@ impl History {
         requires { HasStepRoom self.old }
         ensures room { HasStepRoom self.new }
         ensures number { OnOk result ((w : World) → Tells self.old w
-            → get call_cmp self.new.numbers (brick.0, seq) ≡ Some (w.begun + 1)) }
+            → get pair_cmp self.new.numbers (brick.0, seq) ≡ Some (w.begun + 1)) }
         ensures same { (w : World) → (w.nodes brick.0).seq < seq → Tells self.old w → Tells self.new w }
         ensures marks { vec_len self.new.marks ≡ vec_len self.old.marks }
     {
@@ -165,7 +165,7 @@ impl History {
     pub fn expect_call(&mut self, brick: BrickId, next: Option<u64>) -> Result<(), NoMem>
         ensures room { OnOk result (HasStepRoom self.new) }
         ensures number { OnOk result (ForSome next (λ seq. (w : World) → Tells self.old w
-            → get call_cmp self.new.numbers (brick.0, seq) ≡ Some (w.begun + 1))) }
+            → get pair_cmp self.new.numbers (brick.0, seq) ≡ Some (w.begun + 1))) }
         ensures same { (w : World) → ForSome next (λ seq. (w.nodes brick.0).seq < seq) → Tells self.old w → Tells self.new w }
         ensures marks { vec_len self.new.marks ≡ vec_len self.old.marks }
     {
@@ -178,7 +178,7 @@ impl History {
 
     /// The number of the operation of a brick's call; 0 where there is none.
     fn number(&self, brick: BrickId, seq: u64) -> u64
-        ensures { result ≡ unwrap_or (get call_cmp self.now.numbers (brick.0, seq)) 0 }
+        ensures { result ≡ unwrap_or (get pair_cmp self.now.numbers (brick.0, seq)) 0 }
     {
         match self.numbers.get(&(brick.0, seq)) {
             Some(number) => *number,
@@ -224,7 +224,7 @@ impl History {
         requires few { vec_len packets ≤ 32 }
         ensures begun { (w : World) (step : NodeStep) → Tells self.old w
             → packets.items ≡ step.packets → step.node.boot ≡ (w.nodes brick.0).boot → step.node.seq ≡ (w.nodes brick.0).seq + 1
-            → get call_cmp self.old.numbers (brick.0, step.node.seq) ≡ Some (w.begun + 1) → Tells self.new (world_began w brick ask step) }
+            → get pair_cmp self.old.numbers (brick.0, step.node.seq) ≡ Some (w.begun + 1) → Tells self.new (world_began w brick ask step) }
         ensures marks { vec_len self.old.marks ≤ vec_len self.new.marks }
     {
         let position = self.marks.len() as u64;

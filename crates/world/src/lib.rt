@@ -5,8 +5,10 @@ mod bricks;
 mod histories;
 mod rooms;
 mod simulations;
+mod stripe_entries;
 mod texts;
 mod walks;
 mod worlds;
 
+pub use stripe_entries::StripeEntries;
 pub use worlds::{StepFault, World};

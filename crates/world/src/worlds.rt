@@ -6,6 +6,7 @@ ghost use Rattle.world.specs.Steps.{outcome_text};
 use crate::bricks::Power;
 use crate::rooms::put;
 use crate::simulations::{Outcome, Simulation};
+use crate::stripe_entries::StripeEntries;
 use crate::texts::{idle_text, marks_text, refusal_text};
 use crate::walks;
 use fab_base::{BrickId, Bytes, GroupId, NoMem, StripeNo};
@@ -80,6 +81,7 @@ impl World {
     ghost use Rattle.world.specs.Runs.{world_of};
     ghost use Rattle.world.specs.Shown.{outcome_of, IsOfStripes};
     ghost use Rattle.world.specs.Steps.{Ran, Stands, with_line, log_at};
+    ghost use Rattle.world.specs.Walks.{AreEntriesOf};
 
     /// All bricks up, their stores fresh, their clocks at 0, and nothing sent.
     pub fn new(alloc: Global, layout: Layout) -> Result<World, NoMem>
@@ -170,15 +172,35 @@ impl World {
         }
     }
 
-    /// The happenings of a stripe, in order.
-    pub fn happenings(&self, group: GroupId, stripe: StripeNo) -> Result<Vec<Happening>, NoMem>
+    /// The entries of all stripes' operations, for `happenings_among`.
+    pub fn stripe_entries(&self) -> Result<StripeEntries, NoMem>
+        ensures { IfOk result (λ entries. AreEntriesOf entries (world_of self.now)) }
+    {
+        StripeEntries::gather(self.alloc, self.simulation.history.operations.as_slice())
+    }
+
+    /// The happenings of a stripe, in order, from the entries of all stripes' operations.
+    pub fn happenings_among(
+        &self,
+        entries: &StripeEntries,
+        group: GroupId,
+        stripe: StripeNo,
+    ) -> Result<Vec<Happening>, NoMem>
+        requires { AreEntriesOf entries.now (world_of self.now) }
         ensures { IfOk result (λ happenings. happenings.items ≡ happenings_of (world_of self.now) group.0 stripe.0) }
     {
         walks::happenings(
             self.alloc,
             self.simulation.history.operations.as_slice(),
-            group,
-            stripe,
+            entries.of(group, stripe),
         )
+    }
+
+    /// The happenings of a stripe, in order. For those of many stripes, `stripe_entries` is to be called once.
+    pub fn happenings(&self, group: GroupId, stripe: StripeNo) -> Result<Vec<Happening>, NoMem>
+        ensures { IfOk result (λ happenings. happenings.items ≡ happenings_of (world_of self.now) group.0 stripe.0) }
+    {
+        let entries = self.stripe_entries()?;
+        self.happenings_among(&entries, group, stripe)
     }
 }

@@ -14,4 +14,4 @@ returns-then-place-operations c =
 pub returns : goal.returns
 returns c =
     changes_to c.args.operations.now c.args.number _ _ (ended_kept c.args.answered c.args.seen) c.if-number-eq0.false c.if-place-operations.false
-    (ended_fields c.args.answered c.args.seen c.or-known.result (get_or c.args.operations.now (c.args.number - 1) _) c.or-known.ensures)
+    (ended_fields c.args.answered c.args.seen c.or-kept.result (get_or c.args.operations.now (c.args.number - 1) _) c.or-kept.ensures)
