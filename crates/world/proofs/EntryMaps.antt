@@ -9,7 +9,6 @@ use Rattle.std.proofs.lemmas.List.{append-nil}
 use Rattle.fab_base.specs.declared.stamps.Stamp.{Stamp}
 use Rattle.fab_base.specs.Stamps.{stamp_same}
 use Rattle.reg_model.specs.declared.entries.Entry.{Entry}
-use Rattle.protocol.specs.Happenings.{is_among, entry_with}
 use Rattle.world.specs.Shown.{pair_cmp}
 use Rattle.world.specs.Walks.{Holds, stamp_cmp}
 use Rattle.world.proofs.Places.{is_at_call}

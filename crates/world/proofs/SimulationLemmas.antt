@@ -15,7 +15,8 @@ use Rattle.protocol.specs.declared.tellings.Told.{Told}
 use Rattle.protocol.specs.declared.tellings.Told.TheVariants.{Nothing, Made, Answers}
 use Rattle.protocol.specs.Worlds.{World, Invokes, Delivers, Sets, Ticks, Crashes, Starts, is_up, may_start, packet_of, replies_with, world_began, world_stepped, world_stopped, world_started, happens}
 use Rattle.world.specs.Runs.{ask_of, brick_of}
-use Rattle.world.specs.Shown.{Shows, ShowsPower, ShowsBricks, ShowsStarted, Tells, handled_or_idle, set_or_idle, done_or_idle, started_or_idle}
+use Rattle.world.specs.Shown.{Shows, ShowsPower, ShowsBricks, ShowsStarted, Tells}
+use Rattle.world.specs.Texts.{handled_or_idle, set_or_idle, done_or_idle, started_or_idle}
 use Rattle.world.specs.declared.simulations.Outcome.TheVariants.{Marks, Idle}
 use Rattle.world.specs.declared.histories.History.{History}
 use Rattle.world.specs.declared.bricks.Brick.{Brick}

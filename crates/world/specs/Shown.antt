@@ -4,11 +4,9 @@ use Rattle.std.specs.declared.cmp.Ordering.{Ordering}
 use Rattle.std.specs.Ordering.{nat_cmp, ordering_then}
 use Rattle.std.specs.BTreeMap.{get}
 use Rattle.std.specs.Option.{option_map}
-use Rattle.fab_base.specs.declared.answers.Refusal.{Refusal}
 use Rattle.fab_base.specs.declared.faults.NoMem.{NoMem}
 use Rattle.fab_base.specs.declared.identities.BrickId.{BrickId}
 use Rattle.fab_base.specs.declared.stamps.Stamp.{Stamp}
-use Rattle.messages.specs.declared.packets.Packet.{Packet}
 use Rattle.lines.specs.declared.forms.Line.{Line}
 use Rattle.lines.specs.declared.forms.Line.TheVariants.{Nothing, Invoke, Deliver, SetClock, Tick, Crash, Start}
 use Rattle.fab_disk.specs.Past.{IsImage}
@@ -16,24 +14,20 @@ use Rattle.fab_disk.specs.MemDisk.{content_of, past_of_disk, IsSound}
 use Rattle.fab_disk.specs.declared.mem_disk.MemDisk.{MemDisk}
 use Rattle.node.specs.Running.{Running, state_of, ImageShows, LeavesBrick}
 use Rattle.fab_base.specs.Layouts.{Layout}
-use Rattle.protocol.specs.Settings.{Setting}
 use Rattle.protocol.specs.Replicas.{first_replica}
 use Rattle.protocol.specs.Coordinators.{Coordinator}
 use Rattle.protocol.specs.Nodes as machine
 use Rattle.protocol.specs.declared.tellings.Told.{Told}
 use Rattle.protocol.specs.declared.tellings.Told.TheVariants as told
-use Rattle.protocol.specs.Worlds.{World, Operation, is_brick, is_up, may_start, number_of, packet_of, version_after}
+use Rattle.protocol.specs.Worlds.{World, Operation, is_up, may_start, number_of, version_after}
 use Rattle.protocol.specs.Happenings.{writes}
-use Rattle.world.specs.Runs.{brick_of, ask_of, refusal_at}
-use Rattle.world.specs.Texts.{is_deliverable}
+use Rattle.world.specs.Runs.{brick_of}
 use Rattle.world.specs.declared.histories.History.{History}
 use Rattle.world.specs.declared.histories.KeptOperation.{KeptOperation}
 use Rattle.world.specs.declared.bricks.Brick.{Brick}
 use Rattle.world.specs.declared.bricks.Power.{Power}
 use Rattle.world.specs.declared.bricks.Power.TheVariants.{Up, Down}
 use Rattle.world.specs.declared.simulations.Simulation.{Simulation}
-use Rattle.world.specs.declared.simulations.Outcome.{Outcome}
-use Rattle.world.specs.declared.simulations.Outcome.TheVariants.{Marks, Refused, Idle}
 
 -- pairs of numbers compare by the first, and then by the second
 abbrev pub pair_cmp : ℕ × ℕ → ℕ × ℕ → Ordering
@@ -176,11 +170,6 @@ IsOfCall node told.Nothing = Unit {0}
 IsOfCall node (told.Made seq stamp base) = (1 ≤ seq) × (seq ≤ node.seq)
 IsOfCall node (told.Answers seq answer seen) = (1 ≤ seq) × (seq ≤ node.seq)
 
--- an operation was refused, or begun
-abbrev pub refused_or_begun : Option Refusal → Outcome
-refused_or_begun None = Marks
-refused_or_begun (Some refusal) = Refused refusal
-
 -- a line asks for a whole stripe, where it asks for an operation
 abbrev pub IsOfStripes : Line → Type 0
 IsOfStripes Nothing = Unit {0}
@@ -190,29 +179,3 @@ IsOfStripes (SetClock b v) = Unit {0}
 IsOfStripes (Tick b) = Unit {0}
 IsOfStripes (Crash b) = Unit {0}
 IsOfStripes (Start b) = Unit {0}
-
--- a message was handled, or there was none
-abbrev pub handled_or_idle : Setting → World → Option Packet → Outcome
-handled_or_idle setting w packet = if is_deliverable setting w packet then Marks else Idle
-
--- a clock was set, or there is no such brick
-abbrev pub set_or_idle : Layout → BrickId → Outcome
-set_or_idle layout brick = if is_brick layout brick then Marks else Idle
-
--- a brick ticked or stopped, or there is none that is up
-abbrev pub done_or_idle : Layout → World → BrickId → Outcome
-done_or_idle layout w brick = if is_up layout w brick then Marks else Idle
-
--- a brick started, or it may not
-abbrev pub started_or_idle : Layout → World → BrickId → Outcome
-started_or_idle layout w brick = if may_start layout w brick 1 then Marks else Idle
-
--- what a line comes to
-abbrev pub outcome_of : Setting → World → Line → Outcome
-outcome_of setting w Nothing = Marks
-outcome_of setting w (Invoke b g s op) = refused_or_begun (refusal_at setting w (brick_of b) (ask_of g s op))
-outcome_of setting w (Deliver k) = handled_or_idle setting w (packet_of w.packets k)
-outcome_of setting w (SetClock b v) = set_or_idle setting.layout (brick_of b)
-outcome_of setting w (Tick b) = done_or_idle setting.layout w (brick_of b)
-outcome_of setting w (Crash b) = done_or_idle setting.layout w (brick_of b)
-outcome_of setting w (Start b) = started_or_idle setting.layout w (brick_of b)

@@ -48,13 +48,14 @@ fn place_of(layout: &Layout, group: u64, stripe: u64) -> Option<(GroupId, Stripe
 }
 
 impl Simulation {
-    ghost use Rattle.std.specs.Prelude.{◌≡◌, ℕ, ◌<◌, ◌≤◌, true, vec_len, IfOk, OnOk, OnErr};
+    ghost use Rattle.std.specs.Prelude.{◌≡◌, ◌<◌, ◌≤◌, true, vec_len, IfOk, OnOk, OnErr};
     ghost use Rattle.protocol.specs.Nodes.{is_stripe_op};
     ghost use Rattle.protocol.specs.Worlds.{World, first_world, happens, packet_of};
     ghost use Rattle.protocol.specs.Worlds.Event.{Invokes, Delivers, Sets, Ticks, Crashes, Starts};
     ghost use Rattle.stripe_code.specs.Codes.{coding};
     ghost use Rattle.world.specs.Runs.{brick_of, ask_of, refusal_at, after_line};
-    ghost use Rattle.world.specs.Shown.{AreNodesOf, Shows, IsUp, IsNumbered, refused_or_begun, handled_or_idle, set_or_idle, done_or_idle, started_or_idle, outcome_of, IsOfStripes};
+    ghost use Rattle.world.specs.Shown.{AreNodesOf, Shows, IsUp, IsNumbered, IsOfStripes};
+    ghost use Rattle.world.specs.Texts.{refused_or_begun, handled_or_idle, set_or_idle, done_or_idle, started_or_idle, outcome_of};
 
     /// All bricks up, their stores fresh, their clocks at 0, and nothing sent.
     pub fn new(alloc: Global, layout: &Layout) -> Result<Simulation, NoMem>

@@ -1,7 +1,7 @@
 //! The world: a run of lines over the disk of a layout.
 
 ghost use Rattle.std.specs.Prelude.{◌≡◌, IfOk};
-ghost use Rattle.world.specs.Steps.{outcome_text};
+ghost use Rattle.world.specs.Texts.{outcome_text};
 
 use crate::bricks::Power;
 use crate::rooms::put;
@@ -79,7 +79,8 @@ impl World {
     ghost use Rattle.stripe_code.specs.Codes.{coding};
     ghost use Rattle.protocol.specs.Happenings.{happenings_of};
     ghost use Rattle.world.specs.Runs.{world_of};
-    ghost use Rattle.world.specs.Shown.{outcome_of, IsOfStripes};
+    ghost use Rattle.world.specs.Shown.{IsOfStripes};
+    ghost use Rattle.world.specs.Texts.{outcome_of};
     ghost use Rattle.world.specs.Steps.{Ran, Stands, with_line, log_at};
     ghost use Rattle.world.specs.Walks.{AreEntriesOf};
 

@@ -5,7 +5,7 @@ use Rattle.messages.specs.declared.packets.Packet.{Packet}
 use Rattle.stripe_code.specs.Codes.{coding}
 use Rattle.protocol.specs.Nodes.{NodeStep, received}
 use Rattle.protocol.specs.Worlds.{is_up, packet_of, replies_with}
-use Rattle.world.specs.Shown.{handled_or_idle}
+use Rattle.world.specs.Texts.{handled_or_idle}
 use Rattle.world.proofs.MachineSteps.{received_opens_none}
 use Rattle.world.proofs.BrickListLemmas.{down_at, up_at}
 use Rattle.world.proofs.SimulationLemmas.{on_err_always, shows_unsent, shows_astray, shows_delivered, tells_replies, handled_astray, handled_here}

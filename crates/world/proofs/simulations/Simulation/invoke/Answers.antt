@@ -6,7 +6,8 @@ use Rattle.fab_base.specs.declared.identities.BrickId.{BrickId}
 use Rattle.stripe_code.specs.Codes.{coding}
 use Rattle.protocol.specs.Worlds.{World, Invokes, is_up, happens}
 use Rattle.world.specs.Runs.{brick_of, ask_of, refusal_at}
-use Rattle.world.specs.Shown.{Shows, refused_or_begun}
+use Rattle.world.specs.Shown.{Shows}
+use Rattle.world.specs.Texts.{refused_or_begun}
 use Rattle.world.proofs.MachineBegins.{refusal_down, refusal_here}
 use Rattle.world.proofs.BrickListLemmas.{down_at, up_at}
 use Rattle.world.proofs.SimulationLemmas.{ask_is, shows_down, shows_refused}

@@ -1,6 +1,5 @@
 -- the stripe's entries are put back with one more
-use Rattle.std.proofs.Common.{List, Option, Vec, ◌∷◌, [], ◌++◌, unwrap_or, ap, ◌∙◌}
-use Rattle.reg_model.specs.declared.entries.Entry.{Entry}
+use Rattle.std.proofs.Common.{◌∷◌, [], ◌++◌, unwrap_or, ap, ◌∙◌}
 use Rattle.world.proofs.EntryMaps.{added_at}
 use Rattle.world.proofs.stripe_entries.StripeEntries.add.Goals as goal
 

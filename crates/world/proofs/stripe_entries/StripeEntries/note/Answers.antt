@@ -1,5 +1,5 @@
 -- the entry of an operation that made or read a version, or none
-use Rattle.std.proofs.Common.{Option, List, not, nat_eq, ◌&&◌, ◌++◌, cond, [], ap, sym, ◌∙◌}
+use Rattle.std.proofs.Common.{Option, not, nat_eq, ◌&&◌, ◌++◌, cond, [], ap, sym, ◌∙◌}
 use Rattle.std.proofs.lemmas.Result.{on_ok_weaker}
 use Rattle.fab_base.specs.declared.stamps.Stamp.{Stamp}
 use Rattle.protocol.specs.Happenings.{entry_with}

@@ -1,5 +1,5 @@
 -- The set has one version more, or none.
-use Rattle.std.proofs.Common.{List, ◌++◌, subst, sym, ◌∙◌}
+use Rattle.std.proofs.Common.{List, ◌++◌, subst}
 use Rattle.fab_base.specs.declared.stamps.Stamp.{Stamp}
 use Rattle.world.specs.Walks.{Holds}
 use Rattle.world.proofs.EntryMaps.{holds_more}

@@ -1,5 +1,5 @@
 -- The operations that are kept are those of the world that the run leaves.
-use Rattle.std.proofs.Common.{◌≡◌, sym, subst, List, ◌∙◌}
+use Rattle.std.proofs.Common.{sym, subst, List, ◌∙◌}
 use Rattle.std.specs.Prelude.{IfOk}
 use Rattle.std.proofs.lemmas.Result.{IfOk-weaker}
 use Rattle.world.specs.Runs.{Run, world_of}
