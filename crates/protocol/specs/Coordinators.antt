@@ -229,17 +229,7 @@ next_phase call = record call { phase = call.phase + 1 }
 
 -- the coordinator in its next phase
 abbrev pub in_phase : Coordinator → Phase → Coordinator
-in_phase c phase =
-    record {
-      ask = c.ask;
-      stamp = c.stamp;
-      round = c.round;
-      base = c.base;
-      content = c.content;
-      call = next_phase c.call;
-      phase = phase;
-      counted = [];
-    }
+in_phase c phase = record c { call = next_phase c.call; phase = phase; counted = [] }
 
 -- the coordinator in its store phase, where it read this version back
 abbrev pub restoring : Coordinator → Stamp → List ℕ → Coordinator

@@ -144,15 +144,7 @@ new_coordinator me now node ask =
 -- the brick with a new open operation
 abbrev pub opened : Node → Coordinator → Node
 opened node c =
-    record {
-      boot = node.boot;
-      seq = c.call.seq;
-      known = c.stamp.time;
-      busy = node.busy + 1;
-      live = node.live;
-      replicas = node.replicas;
-      calls = put node.calls c.call.seq (Some c);
-    }
+    record node { seq = c.call.seq; known = c.stamp.time; busy = node.busy + 1; calls = put node.calls c.call.seq (Some c) }
 
 abbrev pub began_in : Setting → Group → BrickId → Node → Coordinator → NodeStep
 began_in setting group me node c = record { node = opened node c; packets = phase_packets setting group me c; told = Nothing }
@@ -172,14 +164,9 @@ replica_at node call = node.replicas call.group.0 call.stripe.0
 -- the brick with its part of a stripe changed, and a live record more where that adds one
 abbrev pub with_replica : Node → Call → Reaction → Node
 with_replica node call reaction =
-    record {
-      boot = node.boot;
-      seq = node.seq;
-      known = node.known;
-      busy = node.busy;
+    record node {
       live = if reaction.adds then node.live + 1 else node.live;
       replicas = put node.replicas call.group.0 (put (node.replicas call.group.0) call.stripe.0 reaction.replica);
-      calls = node.calls;
     }
 
 -- how many live records the brick keeps, where those are as many as it may
@@ -230,21 +217,11 @@ known_after known reply = known
 
 -- the brick knows this time, and has this operation open, or ended
 abbrev pub with_call : Node → ℕ → ℕ → ℕ → Option Coordinator → Node
-with_call node known busy seq call =
-    record {
-      boot = node.boot;
-      seq = node.seq;
-      known = known;
-      busy = busy;
-      live = node.live;
-      replicas = node.replicas;
-      calls = put node.calls seq call;
-    }
+with_call node known busy seq call = record node { known = known; busy = busy; calls = put node.calls seq call }
 
 -- the brick knows this time
 abbrev pub with_known : Node → ℕ → Node
-with_known node known =
-    record { boot = node.boot; seq = node.seq; known = known; busy = node.busy; live = node.live; replicas = node.replicas; calls = node.calls }
+with_known node known = record node { known = known }
 
 -- what a brick does with what its coordinator decided
 abbrev pub carried_out : Setting → Group → BrickId → Node → ℕ → Coordinator → Next → NodeStep
@@ -326,13 +303,11 @@ no_calls k = None
 
 -- a brick that stopped: its open operations are gone, and what it keeps of stripes stays
 unfoldable pub stopped : Node → Node
-stopped node =
-    record { boot = node.boot; seq = node.seq; known = node.known; busy = 0; live = node.live; replicas = node.replicas; calls = no_calls }
+stopped node = record node { busy = 0; calls = no_calls }
 
 -- a stopped brick whose store was opened so many times since, the last time to run: it has made no call, and knows no time
 unfoldable pub restarted : ℕ → Node → Node
-restarted openings node =
-    record { boot = node.boot + openings; seq = 0; known = 0; busy = 0; live = node.live; replicas = node.replicas; calls = no_calls }
+restarted openings node = record node { boot = node.boot + openings; seq = 0; known = 0; busy = 0; calls = no_calls }
 
 -- the store can be opened so many times, at least once: it counts its openings, up to 2^32 - 1
 abbrev pub may_open : ℕ → Node → Bool

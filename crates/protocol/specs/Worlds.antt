@@ -106,10 +106,8 @@ with_number numbers i node n = put numbers i (put (numbers i) node.boot (put (nu
 -- the world after a brick began an operation
 abbrev pub world_began : World → BrickId → Ask → NodeStep → World
 world_began w brick ask step =
-    record {
+    record w {
       nodes = put w.nodes brick.0 step.node;
-      up = w.up;
-      clocks = w.clocks;
       packets = w.packets ++ step.packets;
       marks = w.marks ++ (Begin (length w.marks) (w.begun + 1) brick ask ∷ []);
       begun = w.begun + 1;
@@ -126,9 +124,6 @@ world_began w brick ask step =
         floor = λ i. top_of ((w.nodes i).replicas ask.group.0 ask.stripe.0);
       }));
       numbers = with_number w.numbers brick.0 step.node (w.begun + 1);
-      past = w.past;
-      contents = w.contents;
-      replies = w.replies;
     }
 
 -- an operation was answered, and not aborted
@@ -166,46 +161,23 @@ number_of w i seq = w.numbers i (w.nodes i).boot seq
 -- the world after a brick's step on a message
 abbrev pub world_stepped : World → BrickId → NodeStep → Told → World
 world_stepped w brick step Nothing =
-    record {
+    record w {
       nodes = put w.nodes brick.0 step.node;
-      up = w.up;
-      clocks = w.clocks;
       packets = w.packets ++ step.packets;
-      marks = w.marks;
-      begun = w.begun;
-      operations = w.operations;
-      numbers = w.numbers;
-      past = w.past;
-      contents = w.contents;
-      replies = w.replies;
     }
 world_stepped w brick step (Made seq t base) =
-    record {
+    record w {
       nodes = put w.nodes brick.0 step.node;
-      up = w.up;
-      clocks = w.clocks;
       packets = w.packets ++ step.packets;
-      marks = w.marks;
-      begun = w.begun;
       operations = put w.operations (number_of w brick.0 seq) (with_made t base (w.operations (number_of w brick.0 seq)));
-      numbers = w.numbers;
-      past = w.past;
       contents = with_content w.contents t (step.node.calls seq);
-      replies = w.replies;
     }
 world_stepped w brick step (Answers seq answer seen) =
-    record {
+    record w {
       nodes = put w.nodes brick.0 step.node;
-      up = w.up;
-      clocks = w.clocks;
       packets = w.packets ++ step.packets;
       marks = w.marks ++ (End (length w.marks) (number_of w brick.0 seq) answer ∷ []);
-      begun = w.begun;
       operations = put w.operations (number_of w brick.0 seq) (with_answer answer seen (w.operations (number_of w brick.0 seq)));
-      numbers = w.numbers;
-      past = w.past;
-      contents = w.contents;
-      replies = w.replies;
     }
 
 -- the replies that have counted, with one more

@@ -3,12 +3,13 @@
 ghost use Rattle.std.specs.Prelude.{◌≡◌, ◌++◌, IfOk, codes, count_by, string_bytes};
 ghost use Rattle.fab_base.specs.Layouts.{group_of};
 ghost use Rattle.world.specs.Runs.{world_of};
+ghost use Rattle.world.specs.Walks.{AreEntriesOf};
 ghost use Rattle.replay.specs.Outputs.{happened_text, stripes_text, stripes_of, groups_text, most_groups, count_text, closing_text, is_begin, is_answered, is_aborted, is_crash};
 
 use fab_base::{Answer, GroupId, NoMem, StripeNo};
 use reg_model::{Happening, Mark};
 use std::alloc::Global;
-use world::World;
+use world::{StripeEntries, World};
 
 /// The most groups of a layout.
 const MOST_GROUPS: u32 = 64;
@@ -100,13 +101,20 @@ fn happened_text(
 
 /// The lines of a group's stripes.
 #[tactic(auto, using(crate::proofs::StripeTexts::stripes_rules))]
-fn stripes_text(alloc: Global, world: &World, group: GroupId, stripes: u32) -> Result<String, NoMem>
+fn stripes_text(
+    alloc: Global,
+    world: &World,
+    entries: &StripeEntries,
+    group: GroupId,
+    stripes: u32,
+) -> Result<String, NoMem>
+    requires { AreEntriesOf entries.now (world_of world.now) }
     ensures { IfOk result (λ text. string_bytes text ≡ stripes_text (world_of world.now) group.0 stripes) }
 {
     let mut text = String::new(alloc);
     for number in 0..stripes {
         let stripe = StripeNo(number);
-        let happenings = world.happenings(group, stripe)?;
+        let happenings = world.happenings_among(entries, group, stripe)?;
         let line = happened_text(alloc, group, stripe, happenings.as_slice())?;
         text.push_str(line.as_str())?;
     }
@@ -114,12 +122,18 @@ fn stripes_text(alloc: Global, world: &World, group: GroupId, stripes: u32) -> R
 }
 
 /// The lines of the stripes of the group of this number, if there is one.
-fn group_text(alloc: Global, world: &World, group: GroupId) -> Result<String, NoMem>
+fn group_text(
+    alloc: Global,
+    world: &World,
+    entries: &StripeEntries,
+    group: GroupId,
+) -> Result<String, NoMem>
+    requires { AreEntriesOf entries.now (world_of world.now) }
     ensures { IfOk result (λ text. string_bytes text
         ≡ stripes_text (world_of world.now) group.0 (stripes_of (group_of world.now.layout group.0))) }
 {
     match world.layout().group(group) {
-        Some(found) => stripes_text(alloc, world, group, found.stripes()),
+        Some(found) => stripes_text(alloc, world, entries, group, found.stripes()),
         None => Ok(String::new(alloc)),
     }
 }
@@ -129,9 +143,10 @@ fn group_text(alloc: Global, world: &World, group: GroupId) -> Result<String, No
 fn groups_text(alloc: Global, world: &World) -> Result<String, NoMem>
     ensures { IfOk result (λ text. string_bytes text ≡ groups_text world.now.layout (world_of world.now) most_groups) }
 {
+    let entries = world.stripe_entries()?;
     let mut text = String::new(alloc);
     for number in 0..MOST_GROUPS {
-        let lines = group_text(alloc, world, GroupId(number))?;
+        let lines = group_text(alloc, world, &entries, GroupId(number))?;
         text.push_str(lines.as_str())?;
     }
     Ok(text)

@@ -18,7 +18,7 @@ use Rattle.replica.specs.Parts.{IsFirstView}
 use Rattle.node.specs.Running.{Running, state_of, shape_at, ImageShows, LeavesBrick, IsSameBrick}
 use Rattle.fab_base.specs.Layouts.{Layout}
 use Rattle.protocol.specs.Nodes as machine
-use Rattle.world.specs.States.{Runs, Rests, ShowsPower, TurnsOn, unopened}
+use Rattle.world.specs.Shown.{IsRunning, Rests, ShowsPower, TurnsOn, unopened}
 use Rattle.world.specs.declared.bricks.Power.{Power}
 
 -- an image is found as the one state that it stands for
@@ -60,7 +60,7 @@ rests_stopped layout me state disk rests = record {
 }
 
 -- what an image shows of a running brick
-shown : (layout : Layout) (me : BrickId) (state : machine.Node) (node : Running MemDisk) (image : List ℕ) → Runs layout me state node
+shown : (layout : Layout) (me : BrickId) (state : machine.Node) (node : Running MemDisk) (image : List ℕ) → IsRunning layout me state node
     → ImageShows node.layout node.me (state_of node) image → ImageShows layout me state image
 shown layout me state node image runs shows =
     subst (λ (l : Layout). ImageShows l me state image) runs.layout_is
@@ -68,7 +68,7 @@ shown layout me state node image runs shows =
     (subst (λ (s : machine.Node). ImageShows node.layout node.me s image) runs.state_is shows))
 
 -- the disk of a brick that stops
-pub rests_off : (layout : Layout) (me : BrickId) (state : machine.Node) (node : Running MemDisk) (disk : MemDisk) → Runs layout me state node
+pub rests_off : (layout : Layout) (me : BrickId) (state : machine.Node) (node : Running MemDisk) (disk : MemDisk) → IsRunning layout me state node
     → disk ≡ node.brick.disk → ImageShows node.layout node.me (state_of node) (content_of disk)
     → LeavesBrick node.layout node.me (state_of node) (λ image. IsImage (past_of_disk disk) (content_of disk) image)
     → Rests layout me (machine.stopped state) disk
@@ -129,7 +129,7 @@ pub runs_over : (layout made : Layout) (me : BrickId) (disk : MemDisk) (node : R
     → ((before : machine.Node) → ImageShows made me before (content_of disk) → state_of node ≡ machine.restarted 1 before)
     → ((st : StateOf Version) × IsFound (shape_at made me) st (content_of disk) × (st.boot < 2 ^ 32 - 1)
     × (node.brick.state ≡ booted (st.boot + 1) st))
-    → (IsSound disk → IsSound node.brick.disk) → (machine.may_open 1 state ≡ true) × Runs layout me (machine.restarted 1 state) node
+    → (IsSound disk → IsSound node.brick.disk) → (machine.may_open 1 state ≡ true) × IsRunning layout me (machine.restarted 1 state) node
 runs_over layout made me disk node state same rests layout_is me_is runs state_is found sound =
     let seen : ImageShows made me state (content_of disk) =
     subst (λ (l : Layout). ImageShows l me state (content_of disk)) (sym same) rests.seen
@@ -140,9 +140,9 @@ runs_over layout made me disk node state same rests layout_is me_is runs state_i
     )
 
 -- a brick that took a step
-pub still_runs : (layout : Layout) (me : BrickId) (state next : machine.Node) (node new : Running MemDisk) → Runs layout me state node
+pub still_runs : (layout : Layout) (me : BrickId) (state next : machine.Node) (node new : Running MemDisk) → IsRunning layout me state node
     → IsSameBrick node new
-    → state_of new ≡ next → new.brick.halted ≡ false → IsSound new.brick.disk → Runs layout me next new
+    → state_of new ≡ next → new.brick.halted ≡ false → IsSound new.brick.disk → IsRunning layout me next new
 still_runs layout me state next node new runs same state_is halted sound =
     record { layout_is = same.layout ∙ runs.layout_is; me_is = same.me ∙ runs.me_is; state_is = state_is; runs = halted; sound = sound }
 

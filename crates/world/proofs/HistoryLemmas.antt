@@ -17,8 +17,8 @@ use Rattle.protocol.specs.declared.tellings.Told.TheVariants.{Made, Answers}
 use Rattle.protocol.specs.Worlds.{World, Operation, number_of, with_number, world_began, world_stepped, world_stopped, world_started, with_made, with_answer, version_after, is_answer}
 use Rattle.protocol.specs.Happenings.{writes}
 use Rattle.world.specs.declared.histories.History.{History}
-use Rattle.world.specs.declared.histories.Known.{Known}
-use Rattle.world.specs.States.{StandFor, ChangesAt, IsKnown, IsOfCall, Tells, call_cmp, made_known, ended_known}
+use Rattle.world.specs.declared.histories.KeptOperation.{KeptOperation}
+use Rattle.world.specs.Shown.{TellsOperations, ChangesAt, TellsOperation, IsOfCall, Tells, pair_cmp, made_kept, ended_kept}
 use Rattle.world.proofs.Places.{grown, each_value, value_here, value_elsewhere, call_apart, set_here, set_elsewhere}
 
 -- room alone changes nothing that is told
@@ -28,14 +28,14 @@ tells_same old new w sent marks operations numbers tells = record {
   packets = sent ∙ tells.packets;
   marks = marks ∙ tells.marks;
   begun = ap length operations ∙ tells.begun;
-  operations = subst (λ (kept : List Known). StandFor kept w.operations) (sym operations) tells.operations;
-  numbers = λ i k low high. subst (λ (map : BTreeMap (ℕ × ℕ) ℕ). get call_cmp map (i, k) ≡ Some (number_of w i k)) (sym numbers)
+  operations = subst (λ (kept : List KeptOperation). TellsOperations kept w.operations) (sym operations) tells.operations;
+  numbers = λ i k low high. subst (λ (map : BTreeMap (ℕ × ℕ) ℕ). get pair_cmp map (i, k) ≡ Some (number_of w i k)) (sym numbers)
       (tells.numbers i k low high);
 }
 
 -- the number of a call that is none so far changes nothing that is told
 pub tells_numbered : (old : History) (map : BTreeMap (ℕ × ℕ) ℕ) (w : World) (b s : ℕ) → (w.nodes b).seq < s
-    → ((q : ℕ × ℕ) → is_at (call_cmp (b, s)) q ≡ false → get call_cmp map q ≡ get call_cmp old.numbers q)
+    → ((q : ℕ × ℕ) → is_at (pair_cmp (b, s)) q ≡ false → get pair_cmp map q ≡ get pair_cmp old.numbers q)
     → Tells old w → Tells (record old { numbers = map }) w
 tells_numbered old map w b s above others tells = record {
   packets = tells.packets;
@@ -70,7 +70,7 @@ tells_other history w v packets marks begun operations calls tells = record {
   packets = tells.packets ∙ sym packets;
   marks = tells.marks ∙ sym marks;
   begun = tells.begun ∙ sym begun;
-  operations = subst (λ (o : ℕ → Option Operation). StandFor history.operations.items o) (sym operations) tells.operations;
+  operations = subst (λ (o : ℕ → Option Operation). TellsOperations history.operations.items o) (sym operations) tells.operations;
   numbers = λ i k low high. (let kept = calls.each i k low high in tells.numbers i k low kept.0 ∙ ap (λ n. Some n) (sym kept.1));
 }
 
@@ -84,21 +84,21 @@ pub seqs_stay : (w : World) (brick : BrickId) (node : Node) → node.seq ≡ (w.
 seqs_stay w brick node same = each_value (λ i x. x.seq ≡ (w.nodes i).seq) w.nodes brick.0 node same (λ i other. refl)
 
 -- what is kept of the operations is the machine's where both change alike at one number
-pub known_changed : (old new : List Known) (operations : ℕ → Option Operation) (number : ℕ) (change : Known → Known)
+pub known_changed : (old new : List KeptOperation) (operations : ℕ → Option Operation) (number : ℕ) (change : KeptOperation → KeptOperation)
     (next : Option Operation → Option Operation)
-    → ((known : Known) (o : Operation) → IsKnown known o → (p : Operation) × (next (Some o) ≡ Some p) × IsKnown (change known) p)
+    → ((known : KeptOperation) (o : Operation) → TellsOperation known o → (p : Operation) × (next (Some o) ≡ Some p) × TellsOperation (change known) p)
     → ChangesAt old new number change
-    → StandFor old operations → StandFor new (put operations number (next (operations number)))
+    → TellsOperations old operations → TellsOperations new (put operations number (next (operations number)))
 known_changed old new operations number change next alike changed known n k is =
     cond_both (nat_eq (n + 1) number) (option_map change (slice_get old n)) (slice_get old n)
-    (λ (x : Option Known). x ≡ Some k → (o : Operation) × (put operations number (next (operations number)) (n + 1) ≡ Some o) × IsKnown k o)
+    (λ (x : Option KeptOperation). x ≡ Some k → (o : Operation) × (put operations number (next (operations number)) (n + 1) ≡ Some o) × TellsOperation k o)
     (λ here found. at_place (eqb-true (n + 1) number here) (slice_get old n) refl found)
     (λ there found. let old_one = known n k found in
     (old_one.0, value_elsewhere operations number (n + 1) (next (operations number)) (eqb-false (n + 1) number there) ∙ old_one.1, old_one.2))
     (sym (changed n) ∙ is)
   where
-    at_place : n + 1 ≡ number → (found : Option Known) → slice_get old n ≡ found → option_map change found ≡ Some k
-        → (o : Operation) × (put operations number (next (operations number)) (n + 1) ≡ Some o) × IsKnown k o
+    at_place : n + 1 ≡ number → (found : Option KeptOperation) → slice_get old n ≡ found → option_map change found ≡ Some k
+        → (o : Operation) × (put operations number (next (operations number)) (n + 1) ≡ Some o) × TellsOperation k o
     at_place here None was e = let never : None ≡ Some k = e in cc
     at_place here (Some x) was e =
         let before = known n x was in
@@ -107,12 +107,12 @@ known_changed old new operations number change next alike changed known n k is =
         let becomes : change x ≡ k = cc in (
           after.0,
           value_here operations number (n + 1) (next (operations number)) here ∙ ap next same ∙ after.1,
-          subst (λ (kept : Known). IsKnown kept after.0) becomes after.2,
+          subst (λ (kept : KeptOperation). TellsOperation kept after.0) becomes after.2,
         )
 
 -- an operation that made a version
-pub made_alike : (stamp : Stamp) (base : Option Stamp) (known : Known) (o : Operation) → IsKnown known o
-    → (p : Operation) × (with_made stamp base (Some o) ≡ Some p) × IsKnown (made_known stamp base known) p
+pub made_alike : (stamp : Stamp) (base : Option Stamp) (known : KeptOperation) (o : Operation) → TellsOperation known o
+    → (p : Operation) × (with_made stamp base (Some o) ≡ Some p) × TellsOperation (made_kept stamp base known) p
 made_alike stamp base known o is = (
   _,
   refl,
@@ -129,9 +129,9 @@ made_alike stamp base known o is = (
 )
 
 -- an operation that ended
-pub ended_alike : (answer : Answer) (seen : Option Stamp) (known : Known) (o : Operation) → IsKnown known o
+pub ended_alike : (answer : Answer) (seen : Option Stamp) (known : KeptOperation) (o : Operation) → TellsOperation known o
     → (p : Operation) × (with_answer answer seen (Some o) ≡ Some p)
-    × IsKnown (ended_known (is_answer answer) seen known) p
+    × TellsOperation (ended_kept (is_answer answer) seen known) p
 ended_alike answer seen known o is = (
   _,
   refl,
@@ -161,10 +161,10 @@ unfolding restarted
 restarted_seq openings node = refl
 
 -- one operation changed, and some marks came
-tells_changed : (old new : History) (w : World) (number : ℕ) (kept after : List Known) (change : Known → Known)
+tells_changed : (old new : History) (w : World) (number : ℕ) (kept after : List KeptOperation) (change : KeptOperation → KeptOperation)
     (next : Option Operation → Option Operation)
     → Tells old w → kept ≡ old.operations.items → new.operations.items ≡ after
-    → ((known : Known) (o : Operation) → IsKnown known o → (p : Operation) × (next (Some o) ≡ Some p) × IsKnown (change known) p)
+    → ((known : KeptOperation) (o : Operation) → TellsOperation known o → (p : Operation) × (next (Some o) ≡ Some p) × TellsOperation (change known) p)
     → ChangesAt kept after number change → length after ≡ length kept
     → new.sent.items ≡ old.sent.items → new.numbers ≡ old.numbers → (marks : List Mark) → new.marks.items ≡ marks
     → Tells new (record w { marks = marks; operations = put w.operations number (next (w.operations number)) })
@@ -172,23 +172,23 @@ tells_changed old new w number kept after change next tells are become alike cha
   packets = sent ∙ tells.packets;
   marks = marked;
   begun = ap length become ∙ count ∙ ap length are ∙ tells.begun;
-  operations = subst (λ (x : List Known). StandFor x (put w.operations number (next (w.operations number)))) (sym become)
+  operations = subst (λ (x : List KeptOperation). TellsOperations x (put w.operations number (next (w.operations number)))) (sym become)
       (known_changed kept after w.operations number change next alike changed
-      (subst (λ (x : List Known). StandFor x w.operations) (sym are) tells.operations));
-  numbers = λ i k low high. subst (λ (map : BTreeMap (ℕ × ℕ) ℕ). get call_cmp map (i, k) ≡ Some (number_of w i k)) (sym numbers)
+      (subst (λ (x : List KeptOperation). TellsOperations x w.operations) (sym are) tells.operations));
+  numbers = λ i k low high. subst (λ (map : BTreeMap (ℕ × ℕ) ℕ). get pair_cmp map (i, k) ≡ Some (number_of w i k)) (sym numbers)
       (tells.numbers i k low high);
 }
 
 -- the numbers of calls with one call more
 numbers_grow : (w : World) (map : BTreeMap (ℕ × ℕ) ℕ) (b number : ℕ) (node : Node) → node.boot ≡ (w.nodes b).boot → node.seq ≡ (w.nodes b).seq + 1
-    → get call_cmp map (b, node.seq) ≡ Some number
-    → ((i k : ℕ) → 1 ≤ k → k ≤ (w.nodes i).seq → get call_cmp map (i, k) ≡ Some (number_of w i k))
+    → get pair_cmp map (b, node.seq) ≡ Some number
+    → ((i k : ℕ) → 1 ≤ k → k ≤ (w.nodes i).seq → get pair_cmp map (i, k) ≡ Some (number_of w i k))
     → (i k : ℕ) → 1 ≤ k → k ≤ (put w.nodes b node i).seq
-    → get call_cmp map (i, k) ≡ Some (with_number w.numbers b node number i (put w.nodes b node i).boot k)
+    → get pair_cmp map (i, k) ≡ Some (with_number w.numbers b node number i (put w.nodes b node i).boot k)
 numbers_grow w map b number node boot next here old i k low = by_brick (nat_eq i b) refl
   where
-    by_call : (y : Bool) → nat_eq k node.seq ≡ y → k ≤ node.seq → get call_cmp map (b, k) ≡ Some (cond y number (w.numbers b node.boot k))
-    by_call true this high = ap (λ j. get call_cmp map (b, j)) (eqb-true k node.seq this) ∙ here
+    by_call : (y : Bool) → nat_eq k node.seq ≡ y → k ≤ node.seq → get pair_cmp map (b, k) ≡ Some (cond y number (w.numbers b node.boot k))
+    by_call true this high = ap (λ j. get pair_cmp map (b, j)) (eqb-true k node.seq this) ∙ here
     by_call false other high =
         let apart : k ≢ node.seq = eqb-false k node.seq other in
         old b k low (omega arith) ∙ ap (λ x. Some (w.numbers b x k)) (sym boot)
@@ -197,15 +197,15 @@ numbers_grow w map b number node boot next here old i k low = by_brick (nat_eq i
     of_boot = put (w.numbers b node.boot) node.seq number
 
     by_brick : (x : Bool) → nat_eq i b ≡ x → k ≤ (cond x node (w.nodes i)).seq
-        → get call_cmp map (i, k) ≡ Some (cond x (put (w.numbers b) node.boot of_boot) (w.numbers i) (cond x node (w.nodes i)).boot k)
+        → get pair_cmp map (i, k) ≡ Some (cond x (put (w.numbers b) node.boot of_boot) (w.numbers i) (cond x node (w.nodes i)).boot k)
     by_brick true same high =
-        ap (λ j. get call_cmp map (j, k)) (eqb-true i b same) ∙ by_call (nat_eq k node.seq) refl high
+        ap (λ j. get pair_cmp map (j, k)) (eqb-true i b same) ∙ by_call (nat_eq k node.seq) refl high
         ∙ ap (λ (f : ℕ → ℕ). Some (f k)) (sym (value_here (w.numbers b) node.boot node.boot of_boot refl))
     by_brick false other high = old i k low high
 
 -- what is kept of the operations with one more
-known_begun : (kept : List Known) (operations : ℕ → Option Operation) (begun : ℕ) (known : Known) (o : Operation)
-    → length kept ≡ begun → IsKnown known o → StandFor kept operations → StandFor (kept ++ known ∷ []) (put operations (begun + 1) (Some o))
+known_begun : (kept : List KeptOperation) (operations : ℕ → Option Operation) (begun : ℕ) (known : KeptOperation) (o : Operation)
+    → length kept ≡ begun → TellsOperation known o → TellsOperations kept operations → TellsOperations (kept ++ known ∷ []) (put operations (begun + 1) (Some o))
 known_begun kept operations begun known o count is old n k found =
     ⊎_elim
     (λ (was : slice_get kept n ≡ Some k).
@@ -215,12 +215,12 @@ known_begun kept operations begun known o count is old n k found =
     (one.0, value_elsewhere operations (begun + 1) (n + 1) (Some o) apart ∙ one.1, one.2))
     (λ (new : (n ≡ length kept) × (known ≡ k)).
     let here : n + 1 ≡ begun + 1 = omega (arith, new.0) in
-    (o, value_here operations (begun + 1) (n + 1) (Some o) here, subst (λ (x : Known). IsKnown x o) new.1 is))
+    (o, value_here operations (begun + 1) (n + 1) (Some o) here, subst (λ (x : KeptOperation). TellsOperation x o) new.1 is))
     (grown kept known n k found)
 
 -- what is kept of an operation that began at a position
-abbrev pub begun_known : ℕ → Ask → Known
-begun_known begin ask =
+abbrev pub begun_kept : ℕ → Ask → KeptOperation
+begun_kept begin ask =
     record {
       begin = begin;
       group = ask.group;
@@ -236,17 +236,17 @@ begun_known begin ask =
 pub tells_began : (old new : History) (w : World) (brick : BrickId) (ask : Ask) (step : NodeStep) → Tells old w
     → new.sent.items ≡ old.sent.items ++ step.packets
     → new.marks.items ≡ old.marks.items ++ Begin (length old.marks.items) (length old.operations.items + 1) brick ask ∷ []
-    → new.operations.items ≡ old.operations.items ++ begun_known (length old.marks.items) ask ∷ []
+    → new.operations.items ≡ old.operations.items ++ begun_kept (length old.marks.items) ask ∷ []
     → new.numbers ≡ old.numbers
     → step.node.boot ≡ (w.nodes brick.0).boot → step.node.seq ≡ (w.nodes brick.0).seq + 1
-    → get call_cmp old.numbers (brick.0, step.node.seq) ≡ Some (w.begun + 1)
+    → get pair_cmp old.numbers (brick.0, step.node.seq) ≡ Some (w.begun + 1)
     → Tells new (world_began w brick ask step)
 tells_began old new w brick ask step tells sent marks operations numbers boot next number = record {
   packets = sent ∙ ap (λ xs. xs ++ step.packets) tells.packets;
   marks = marks ∙ ap (λ (xs : List Mark). xs ++ Begin (length xs) (length old.operations.items + 1) brick ask ∷ []) tells.marks
       ∙ ap (λ n. w.marks ++ Begin (length w.marks) (n + 1) brick ask ∷ []) tells.begun;
   begun = ap length operations ∙ length-append old.operations.items _ ∙ ap (λ n. n + 1) tells.begun;
-  operations = subst (λ (kept : List Known). StandFor kept (world_began w brick ask step).operations) (sym operations)
+  operations = subst (λ (kept : List KeptOperation). TellsOperations kept (world_began w brick ask step).operations) (sym operations)
       (known_begun old.operations.items w.operations w.begun _ _ tells.begun
       (record {
         begin = ap length tells.marks;
@@ -259,22 +259,22 @@ tells_began old new w brick ask step tells sent marks operations numbers boot ne
         answered = refl;
       }) tells.operations);
   numbers = subst (λ (map : BTreeMap (ℕ × ℕ) ℕ). (i k : ℕ) → 1 ≤ k → k ≤ (put w.nodes brick.0 step.node i).seq
-      → get call_cmp map (i, k) ≡ Some (with_number w.numbers brick.0 step.node (w.begun + 1) i (put w.nodes brick.0 step.node i).boot k))
+      → get pair_cmp map (i, k) ≡ Some (with_number w.numbers brick.0 step.node (w.begun + 1) i (put w.nodes brick.0 step.node i).boot k))
       (sym numbers)
       (numbers_grow w old.numbers brick.0 (w.begun + 1) step.node boot next number tells.numbers);
 }
 
 -- there is no operation 0
-pub changes_none : (kept : List Known) (number : ℕ) (change : Known → Known) → number ≡ 0 → ChangesAt kept kept number change
+pub changes_none : (kept : List KeptOperation) (number : ℕ) (change : KeptOperation → KeptOperation) → number ≡ 0 → ChangesAt kept kept number change
 changes_none kept number change none n =
     sym (ap (λ b. if b then option_map change (slice_get kept n) else slice_get kept n)
     (let apart : n + 1 ≢ number = (λ e. omega arith) in ne_eqb (n + 1) number apart))
 
 -- there is no operation past the last
-pub changes_past : (kept : List Known) (number : ℕ) (change : Known → Known) → number ≢ 0 → length kept ≤ number - 1
+pub changes_past : (kept : List KeptOperation) (number : ℕ) (change : KeptOperation → KeptOperation) → number ≢ 0 → length kept ≤ number - 1
     → ChangesAt kept kept number change
 changes_past kept number change some past n =
-    cond_both (nat_eq (n + 1) number) (option_map change (slice_get kept n)) (slice_get kept n) (λ (x : Option Known). slice_get kept n ≡ x)
+    cond_both (nat_eq (n + 1) number) (option_map change (slice_get kept n)) (slice_get kept n) (λ (x : Option KeptOperation). slice_get kept n ≡ x)
     (λ here.
     let at : n + 1 ≡ number = eqb-true (n + 1) number here in
     let none : slice_get kept n ≡ None = slice_get_past kept n (omega arith) in
@@ -282,11 +282,11 @@ changes_past kept number change some past n =
     (λ there. refl)
 
 -- the operation of a number changed
-pub changes_at : (kept : List Known) (number : ℕ) (default : Known) (change : Known → Known) → number ≢ 0 → number - 1 < length kept
+pub changes_at : (kept : List KeptOperation) (number : ℕ) (default : KeptOperation) (change : KeptOperation → KeptOperation) → number ≢ 0 → number - 1 < length kept
     → ChangesAt kept (set kept (number - 1) (change (get_or kept (number - 1) default))) number change
 changes_at kept number default change some within n =
     cond_both (nat_eq (n + 1) number) (option_map change (slice_get kept n)) (slice_get kept n)
-    (λ (y : Option Known). slice_get (set kept (number - 1) (change (get_or kept (number - 1) default))) n ≡ y)
+    (λ (y : Option KeptOperation). slice_get (set kept (number - 1) (change (get_or kept (number - 1) default))) n ≡ y)
     (λ here.
     let at : n + 1 ≡ number = eqb-true (n + 1) number here in
     let place : n ≡ number - 1 = omega arith in
@@ -300,8 +300,8 @@ changes_at kept number default change some within n =
     set_elsewhere kept (number - 1) (change (get_or kept (number - 1) default)) n other)
 
 -- what is kept of an operation that ended, field by field
-pub ended_fields : (answered : Bool) (seen version : Option Stamp) (known : Known) → version ≡ option_or seen known.version
-    → ended_known answered seen known
+pub ended_fields : (answered : Bool) (seen version : Option Stamp) (known : KeptOperation) → version ≡ option_or seen known.version
+    → ended_kept answered seen known
     ≡ record known { version = version; answered = answered }
 ended_fields answered seen version known is =
     ap (λ (v : Option Stamp). record known { version = v; answered = answered })
@@ -312,42 +312,42 @@ ended_fields answered seen version known is =
     by_seen (Some v) = refl
 
 -- the operation of a number became this
-pub changes_to : (kept : List Known) (number : ℕ) (default value : Known) (change : Known → Known) → number ≢ 0 → number - 1 < length kept
+pub changes_to : (kept : List KeptOperation) (number : ℕ) (default value : KeptOperation) (change : KeptOperation → KeptOperation) → number ≢ 0 → number - 1 < length kept
     → change (get_or kept (number - 1) default) ≡ value → ChangesAt kept (set kept (number - 1) value) number change
 changes_to kept number default value change some within is =
-    subst (λ (x : Known). ChangesAt kept (set kept (number - 1) x) number change) is (changes_at kept number default change some within)
+    subst (λ (x : KeptOperation). ChangesAt kept (set kept (number - 1) x) number change) is (changes_at kept number default change some within)
 
 -- the number of a call is that of its operation
 pub number_is : (history : History) (w : World) (b seq number : ℕ) → Tells history w → 1 ≤ seq → seq ≤ (w.nodes b).seq
-    → number ≡ unwrap_or (get call_cmp history.numbers (b, seq)) 0 → number ≡ number_of w b seq
+    → number ≡ unwrap_or (get pair_cmp history.numbers (b, seq)) 0 → number ≡ number_of w b seq
 number_is history w b seq number tells low high is = is ∙ ap (λ o. unwrap_or o 0) (tells.numbers b seq low high)
 
 -- an operation made a version
-pub tells_made : (old new : History) (w : World) (b seq number : ℕ) (stamp : Stamp) (base : Option Stamp) (kept after : List Known) → Tells old w
+pub tells_made : (old new : History) (w : World) (b seq number : ℕ) (stamp : Stamp) (base : Option Stamp) (kept after : List KeptOperation) → Tells old w
     → number ≡ number_of w b seq → kept ≡ old.operations.items → new.operations.items ≡ after
     → new.sent.items ≡ old.sent.items → new.marks.items ≡ old.marks.items
-    → ChangesAt kept after number (made_known stamp base) → length after ≡ length kept → new.numbers ≡ old.numbers
+    → ChangesAt kept after number (made_kept stamp base) → length after ≡ length kept → new.numbers ≡ old.numbers
     → Tells new (record w { operations = put w.operations (number_of w b seq) (with_made stamp base (w.operations (number_of w b seq))) })
 tells_made old new w b seq number stamp base kept after tells is are become sent marks changed count numbers =
-    tells_changed old new w (number_of w b seq) kept after (made_known stamp base) (with_made stamp base) tells are become (made_alike stamp base)
-    (subst (λ n. ChangesAt kept after n (made_known stamp base)) is changed) count sent numbers w.marks (marks ∙ tells.marks)
+    tells_changed old new w (number_of w b seq) kept after (made_kept stamp base) (with_made stamp base) tells are become (made_alike stamp base)
+    (subst (λ n. ChangesAt kept after n (made_kept stamp base)) is changed) count sent numbers w.marks (marks ∙ tells.marks)
 
 -- an operation ended
 pub tells_ended : (old new : History) (w : World) (b seq number : ℕ) (answer : Answer) (answered : Bool) (seen : Option Stamp)
-    (kept after : List Known)
+    (kept after : List KeptOperation)
     → Tells old w → number ≡ number_of w b seq → kept ≡ old.operations.items → new.operations.items ≡ after → answered ≡ is_answer answer
     → new.sent.items ≡ old.sent.items → new.marks.items ≡ old.marks.items ++ End (length old.marks.items) number answer ∷ []
-    → ChangesAt kept after number (ended_known answered seen) → length after ≡ length kept → new.numbers ≡ old.numbers
+    → ChangesAt kept after number (ended_kept answered seen) → length after ≡ length kept → new.numbers ≡ old.numbers
     → Tells new (record w {
       marks = w.marks ++ End (length w.marks) (number_of w b seq) answer ∷ [];
       operations = put w.operations (number_of w b seq) (with_answer answer seen (w.operations (number_of w b seq)));
     })
 tells_ended old new w b seq number answer answered seen kept after tells is are become right sent marks changed count numbers =
-    let at : ChangesAt kept after (number_of w b seq) (ended_known answered seen) =
-    subst (λ n. ChangesAt kept after n (ended_known answered seen)) is changed in
-    tells_changed old new w (number_of w b seq) kept after (ended_known (is_answer answer) seen) (with_answer answer seen) tells are become
+    let at : ChangesAt kept after (number_of w b seq) (ended_kept answered seen) =
+    subst (λ n. ChangesAt kept after n (ended_kept answered seen)) is changed in
+    tells_changed old new w (number_of w b seq) kept after (ended_kept (is_answer answer) seen) (with_answer answer seen) tells are become
     (ended_alike answer seen)
-    (subst (λ (x : Bool). ChangesAt kept after (number_of w b seq) (ended_known x seen)) right at) count sent numbers _
+    (subst (λ (x : Bool). ChangesAt kept after (number_of w b seq) (ended_kept x seen)) right at) count sent numbers _
     (marks ∙ ap (λ n. old.marks.items ++ End (length old.marks.items) n answer ∷ []) is
     ∙ ap (λ (xs : List Mark). xs ++ End (length xs) (number_of w b seq) answer ∷ []) tells.marks)
 

@@ -1,5 +1,5 @@
 -- The operations that a world keeps, and the machine's: the same walks and the same happenings.
-use Rattle.std.proofs.Common.{◌≡◌, ℕ, zero, suc, ◌+◌, ◌<◌, ◌≤◌, Bool, true, false, not, ◌&&◌, ◌||◌, cond, max, nat_eq, List, [], ◌∷◌, ◌++◌, length, get_or, Option, Some, None, option_map, refl, sym, ap, ap₂, ◌∙◌, subst, arith, add-one}
+use Rattle.std.proofs.Common.{◌≡◌, ℕ, zero, suc, ◌+◌, ◌<◌, ◌≤◌, Bool, true, false, not, ◌&&◌, ◌||◌, cond, max, nat_eq, List, [], ◌∷◌, ◌++◌, length, get_or, Option, Some, None, option_map, drop, refl, sym, ap, ap₂, ◌∙◌, subst, arith, add-one, append_assoc, drop-cons}
 use Rattle.std.specs.Prelude.{slice_get, option_to_list}
 use Rattle.std.specs.List.{All}
 use Rattle.std.proofs.lemmas.Bool.{cond_both, and_parts, and_from, eqb-true, eq-eqb}
@@ -23,52 +23,52 @@ use Rattle.protocol_laws.proofs.Effects.{told_all}
 use Rattle.protocol_laws.proofs.Entries.{IsEntryOf, entries_of}
 use Rattle.protocol_laws.proofs.Sorting.{ascending_permutation}
 use Rattle.protocol_laws.proofs.StripeLives.{life_filtered}
-use Rattle.world.specs.declared.histories.Known.{Known}
-use Rattle.world.specs.States.{IsKnown}
-use Rattle.world.specs.Walks.{AreKnown, BeginsAgree, op_that, operation_of, operations_of, begin_at, rising_to, walk_to, placed}
+use Rattle.world.specs.declared.histories.KeptOperation.{KeptOperation}
+use Rattle.world.specs.Shown.{TellsOperation}
+use Rattle.world.specs.Walks.{KeepsAll, BeginsAgree, BeginAsMarked, op_that, operation_of, operations_of, begin_at}
 
 -- stands for an operation of which nothing is kept
-abbrev pub nothing_known : Known
-nothing_known = record { begin = 0; group = record { 0 = 0 }; stripe = record { 0 = 0 }; version = None; made = false; base = None; writes = false; answered = false }
+abbrev pub nothing_kept : KeptOperation
+nothing_kept = record { begin = 0; group = record { 0 = 0 }; stripe = record { 0 = 0 }; version = None; made = false; base = None; writes = false; answered = false }
 
 -- the entries of one operation more
-pub entries_more : (operations : List Known) (g s i : ℕ) (d : Known) → i < length operations
+pub entries_more : (operations : List KeptOperation) (g s i : ℕ) (d : KeptOperation) → i < length operations
     → entries_to (operations_of operations) g s (i + 1)
     ≡ entries_to (operations_of operations) g s i ++ entry_at g s (i + 1) (Some (operation_of (get_or operations i d)))
 entries_more operations g s i d within =
-    let known : Known = get_or operations i d in
+    let known : KeptOperation = get_or operations i d in
     subst (λ (m : ℕ). entries_to (operations_of operations) g s m ≡ entries_to (operations_of operations) g s i ++ entry_at g s m
     (Some (operation_of known)))
     (sym (add-one i))
-    (ap (λ (o : Option Known). entries_to (operations_of operations) g s i ++ entry_at g s (suc i) (option_map operation_of o))
+    (ap (λ (o : Option KeptOperation). entries_to (operations_of operations) g s i ++ entry_at g s (suc i) (option_map operation_of o))
     (slice_get-get_or operations i d within))
 
 -- the entry of an operation that is kept is the machine's
-known_entry : (g s n : ℕ) (known : Known) (o : Operation) → IsKnown known o → entry_at g s n (Some (operation_of known)) ≡ entry_at g s n (Some o)
-known_entry g s n known o is =
+kept_entry : (g s n : ℕ) (known : KeptOperation) (o : Operation) → TellsOperation known o → entry_at g s n (Some (operation_of known)) ≡ entry_at g s n (Some o)
+kept_entry g s n known o is =
     ap (λ (x : GroupId). cond (nat_eq x.0 g && nat_eq known.stripe.0 s) (entry_with n (not known.made) known.version) []) is.group
     ∙ ap (λ (x : StripeNo). cond (nat_eq o.ask.group.0 g && nat_eq x.0 s) (entry_with n (not known.made) known.version) []) is.stripe
     ∙ ap (λ (x : Bool). cond (is_of g s o) (entry_with n (not x) known.version) []) is.made
     ∙ ap (λ (x : Option Stamp). cond (is_of g s o) (entry_with n (not o.made) x) []) is.version
 
 -- operation k, as it is kept and as the machine has it
-record Agrees (operations : List Known) (w : World) (k : ℕ) : Type 0 where
-  known : Known
+record Agrees (operations : List KeptOperation) (w : World) (k : ℕ) : Type 0 where
+  known : KeptOperation
   operation : Operation
   kept : operations_of operations k ≡ Some (operation_of known)
   is : w.operations k ≡ Some operation
-  same : IsKnown known operation
+  same : TellsOperation known operation
 
-agrees : (operations : List Known) (w : World) → AreKnown operations w → (d : Known) (k : ℕ) → 1 ≤ k → k ≤ length operations → Agrees operations w k
+agrees : (operations : List KeptOperation) (w : World) → KeepsAll operations w → (d : KeptOperation) (k : ℕ) → 1 ≤ k → k ≤ length operations → Agrees operations w k
 agrees operations w are d zero low high = absurd (omega arith)
 agrees operations w are d (suc i) low high =
-    let known : Known = get_or operations i d in
+    let known : KeptOperation = get_or operations i d in
     let at : slice_get operations i ≡ Some known = slice_get-get_or operations i d (omega arith) in
     let mine = are.each i known at in
     record {
       known = known;
       operation = mine.0;
-      kept = ap (λ (o : Option Known). option_map operation_of o) at;
+      kept = ap (λ (o : Option KeptOperation). option_map operation_of o) at;
       is = subst (λ (m : ℕ). w.operations m ≡ Some mine.0) (add-one i) mine.1;
       same = mine.2;
     }
@@ -134,14 +134,14 @@ effect_same f g (e ∷ entries) same =
     ap (λ (above : Effect). with_entry (f e.operation) e above) (effect_same f g entries (All-tail AreSame e entries same))
     ∙ with_entry_same (f e.operation) (g e.operation) e (effect_of g entries) first.0 first.1 first.2
 
-module _ (operations : List Known) (w : World) (are : AreKnown operations w) (d : Known) (g s : ℕ) where
+module _ (operations : List KeptOperation) (w : World) (are : KeepsAll operations w) (d : KeptOperation) (g s : ℕ) where
   -- the entries are the same
   entries_same : (n : ℕ) → n ≤ length operations → entries_to (operations_of operations) g s n ≡ entries_to w.operations g s n
   entries_same zero within = refl
   entries_same (suc n) within =
       let mine : Agrees operations w (suc n) = agrees operations w are d (suc n) (omega arith) within in
       let one : entry_at g s (suc n) (operations_of operations (suc n)) ≡ entry_at g s (suc n) (w.operations (suc n)) =
-      ap (λ (o : Option Operation). entry_at g s (suc n) o) mine.kept ∙ known_entry g s (suc n) mine.known mine.operation mine.same
+      ap (λ (o : Option Operation). entry_at g s (suc n) o) mine.kept ∙ kept_entry g s (suc n) mine.known mine.operation mine.same
       ∙ sym (ap (λ (o : Option Operation). entry_at g s (suc n) o) mine.is) in
       ap₂ (λ (a b : List Entry). a ++ b) (entries_same n (omega arith)) one
 
@@ -159,25 +159,21 @@ module _ (operations : List Known) (w : World) (are : AreKnown operations w) (d 
       )
 
   -- what holds of each entry of the stripe's operations holds of each as they ascend
-  rising_all : (P : Entry → Type 0) → All P (entries_to w.operations g s w.begun) → All P (rising_to w.operations g s w.begun)
+  rising_all : (P : Entry → Type 0) → All P (entries_to w.operations g s w.begun) → All P (ascending (entries_to w.operations g s w.begun))
   rising_all P all =
       let entries : List Entry = entries_to w.operations g s w.begun in
       All-permutation P entries (ascending entries) (ascending_permutation entries) all
 
   -- the walks are the same
-  walk_same : walk_to (operations_of operations) g s (length operations) ≡ walk_of w g s
+  walk_same : (effect_of (operations_of operations) (ascending (entries_to w.operations g s w.begun))).told ≡ walk_of w g s
   unfolding walk_of
   walk_same =
-      let n : ℕ = length operations in
-      let kept : List Entry = entries_to (operations_of operations) g s n in
       let entries : List Entry = entries_to w.operations g s w.begun in
-      let same : kept ≡ entries = entries_same n (omega arith) ∙ ap (λ (m : ℕ). entries_to w.operations g s m) are.begun in
       let AreSame : Entry → Type 0 = λ e.
       (was_answered (operations_of operations e.operation) ≡ was_answered (w.operations e.operation))
       × (is_told (operations_of operations e.operation) ≡ is_told (w.operations e.operation))
       × (base_of (operations_of operations e.operation) ≡ base_of (w.operations e.operation)) in
-      ap (λ (l : List Entry). (effect_of (operations_of operations) (ascending l)).told) same
-      ∙ ap (λ (x : Effect). x.told) (effect_same (operations_of operations) w.operations (ascending entries)
+      ap (λ (x : Effect). x.told) (effect_same (operations_of operations) w.operations (ascending entries)
       (rising_all AreSame
       (All-weaker (IsUpTo w.begun) AreSame
       (λ e upto. known_same e.operation upto.0 (let begun = are.begun in omega (arith, upto.1))) entries
@@ -199,43 +195,54 @@ module _ (operations : List Known) (w : World) (are : AreKnown operations w) (d 
       (begins.each e.operation o ours.is)) in
       ap begin_at mine.kept ∙ mine.same.begin ∙ ap (λ (x : Operation). x.begin) one ∙ sym agree
 
-  -- entries that begin alike happen alike
-  placed_same : (marks : List Mark) (p : ℕ) (entries : List Entry)
-      → All (λ (e : Entry). begin_at (operations_of operations e.operation) ≡ begin_of (life_of marks e.operation)) entries
-      → placed (operations_of operations) p entries ≡ positioned marks p entries
-  placed_same marks p [] same = refl
-  placed_same marks p (e ∷ entries) same =
-      let Begins : Entry → Type 0 = λ x. begin_at (operations_of operations x.operation) ≡ begin_of (life_of marks x.operation) in
-      let one : max p (begin_at (operations_of operations e.operation)) ≡ max p (begin_of (life_of marks e.operation)) =
-      ap (λ (b : ℕ). max p b) (All-head Begins e entries same) in
-      ap (λ (q : ℕ). let h : Happening = record { operation = e.operation; position = q } in h ∷ placed (operations_of operations) q entries) one
-      ∙ ap (λ (l : List Happening). record { operation = e.operation; position = max p (begin_of (life_of marks e.operation)) } ∷ l)
-      (placed_same marks (max p (begin_of (life_of marks e.operation))) entries (All-tail Begins e entries same))
-
   -- what holds of each entry of the stripe's operations holds of each that stands in the walk
   walk_all : (P : Entry → Type 0) → All P (entries_to w.operations g s w.begun) → All P (walk_of w g s)
   unfolding walk_of
-  walk_all P all = told_all w.operations P (rising_to w.operations g s w.begun) (rising_all P all)
+  walk_all P all = told_all w.operations P (ascending (entries_to w.operations g s w.begun)) (rising_all P all)
 
-  -- the happenings are the same
-  happenings_same : BeginsAgree w → placed (operations_of operations) 0
-      (walk_to (operations_of operations) g s (length operations)) ≡ happenings_of w g s
-  unfolding happenings_of
-  happenings_same begins =
+  -- the operations of the walk begin where the marks of the stripe say
+  walk_begins : BeginsAgree w → BeginAsMarked (operations_of operations) (stripe_marks g s w.marks) (walk_of w g s)
+  walk_begins begins =
       let walk : List Entry = walk_of w g s in
       let upto : All (IsUpTo w.begun) walk = walk_all (IsUpTo w.begun) (entries_numbered w.operations g s w.begun) in
       let ours : All (IsEntryOf w.operations g s) walk = walk_all (IsEntryOf w.operations g s) (entries_of w.operations g s w.begun) in
-      ap (λ (l : List Entry). placed (operations_of operations) 0 l) walk_same
-      ∙ placed_same (stripe_marks g s w.marks) 0 walk
-      (λ k e lt. begin_same begins (get_or walk k e)
-      (let near : IsUpTo w.begun (get_or walk k e) = upto k e lt in (near.0, (let begun = are.begun in omega (arith, near.1)))) (ours k e lt))
+      λ k e lt. begin_same begins (get_or walk k e)
+          (let near : IsUpTo w.begun (get_or walk k e) = upto k e lt in (near.0, (let begun = are.begun in omega (arith, near.1)))) (ours k e lt)
 
--- from the operations that a world keeps come its happenings
-pub kept_happenings : (operations : List Known) (w : World) (g s : ℕ) → AreKnown operations w → BeginsAgree w
-    → placed (operations_of operations) 0 (walk_to (operations_of operations) g s (length operations)) ≡ happenings_of w g s
-kept_happenings operations w g s are begins =
-    happenings_same operations w are
-    nothing_known g s begins
+-- from the operations that a world keeps, and the entries of a stripe, comes the walk along its versions
+pub kept_walk : (operations : List KeptOperation) (w : World) (g s : ℕ) → KeepsAll operations w
+    → (effect_of (operations_of operations) (ascending (entries_to w.operations g s w.begun))).told ≡ walk_of w g s
+kept_walk operations w g s are = walk_same operations w are nothing_kept g s
+
+-- and the operations of the walk begin where the marks of the stripe say
+pub kept_begins : (operations : List KeptOperation) (w : World) (g s : ℕ) → KeepsAll operations w → BeginsAgree w
+    → BeginAsMarked (operations_of operations) (stripe_marks g s w.marks) (walk_of w g s)
+kept_begins operations w g s are begins = walk_begins operations w are nothing_kept g s begins
+
+-- the entries of a world, from the operations that are kept
+pub kept_entries : (operations : List KeptOperation) (w : World) (g s : ℕ) → KeepsAll operations w
+    → entries_to (operations_of operations) g s (length operations) ≡ entries_to w.operations g s w.begun
+kept_entries operations w g s are =
+    entries_same operations w are nothing_kept g s (length operations) (omega arith)
+    ∙ ap (λ (m : ℕ). entries_to w.operations g s m) are.begun
+
+-- the happenings of a stripe, along its walk
+pub happenings_are : (w : World) (g s : ℕ) → positioned (stripe_marks g s w.marks) 0 (walk_of w g s) ≡ happenings_of w g s
+unfolding happenings_of
+happenings_are w g s = refl
+
+-- one happening more, along a walk
+pub positioned_more : (marks : List Mark) (done : List Happening) (p q b : ℕ) (walk : List Entry) (i : ℕ) (e : Entry) → i < length walk
+    → b ≡ begin_of (life_of marks (get_or walk i e).operation) → q ≡ max p b
+    → (done ++ record { operation = (get_or walk i e).operation; position = q } ∷ []) ++ positioned marks q (drop (i + 1) walk)
+    ≡ done ++ positioned marks p (drop i walk)
+positioned_more marks done p q b walk i e within begins greatest =
+    let next : Entry = get_or walk i e in
+    let place : q ≡ max p (begin_of (life_of marks next.operation)) = greatest ∙ ap (λ (n : ℕ). max p n) begins in
+    append_assoc done _ _
+    ∙ ap (λ (n : ℕ). done ++ (record { operation = next.operation; position = n } ∷ positioned marks n (drop (i + 1) walk))) place
+    ∙ ap (λ (n : ℕ). done ++ (positioned marks p (next ∷ drop n walk))) (add-one i)
+    ∙ ap (λ (l : List Entry). done ++ positioned marks p l) (sym (drop-cons walk i e within))
 
 -- where the books hold, operations begin where the marks of their stripes say
 pub begins_from_books : (setting : Setting) (w : World) → Books setting w → BeginsAgree w

@@ -1,12 +1,13 @@
 pub mod BrickLemmas
+pub mod EntryMaps
 pub mod HistoryLemmas
 pub mod KeptOperations
 pub mod LineLemmas
 pub mod MachineBegins
 pub mod MachineSteps
-pub mod NodeLemmas
+pub mod BrickListLemmas
 pub mod Orders
 pub mod Places
 pub mod RunLaws
 pub mod RunLemmas
-pub mod StateLemmas
+pub mod SimulationLemmas

@@ -12,7 +12,7 @@ use Rattle.lines.specs.Tokens.{tokens, number, bytes_of_hex}
 use Rattle.lines.specs.declared.forms.Line.{Line}
 use Rattle.lines.specs.declared.forms.Line.TheVariants.{Nothing, Invoke, Deliver, SetClock, Tick, Crash, Start}
 use Rattle.protocol.specs.Nodes.{is_stripe_op}
-use Rattle.world.specs.States.{IsOfStripes}
+use Rattle.world.specs.Shown.{IsOfStripes}
 
 -- a line, where there is one, asks for whole stripes only
 abbrev AsksStripes : Option Line → Type 0

@@ -11,7 +11,7 @@ use Rattle.fab_base.specs.Layouts.{Layout, Group, group_of, seat_in}
 use Rattle.protocol.specs.Settings.{Setting}
 use Rattle.protocol.specs.Coordinators.{Coordinator, Next, Ignores, Waits, Sends, Makes, Ends, on_reply}
 use Rattle.protocol.specs.Nodes.{Node, NodeStep, known_after, fresh_stamp, no_step, is_served, fits_block, requested_at, requested_in, requested, carried_out, replied_to, replied_at, replied, received}
-use Rattle.world.specs.States.{IsOfCall}
+use Rattle.world.specs.Shown.{IsOfCall}
 
 -- each open call knows its number, and is one of the brick's calls so far
 abbrev pub CallsAreNumbered : Node → Type 0

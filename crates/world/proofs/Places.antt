@@ -8,7 +8,7 @@ use Rattle.std.specs.BTreeMap.{is_at}
 use Rattle.std.proofs.lemmas.Bool.{cond_both, eqb-true, eqb-false, eq-eqb, ne_eqb}
 use Rattle.std.proofs.lemmas.Bool.Decides.{nat_tests}
 use Rattle.protocol.specs.Nodes.{put}
-use Rattle.world.specs.States.{call_cmp}
+use Rattle.world.specs.Shown.{pair_cmp}
 
 -- an element of a list that grew by one is an old one, or the one at the end
 pub grown : {A : Type 0} (xs : List A) (x : A) (n : ℕ) (y : A) → slice_get (xs ++ x ∷ []) n ≡ Some y
@@ -58,12 +58,12 @@ then_is_eq Equal b = refl
 then_is_eq Greater b = refl
 
 -- a query for a call is at its own brick and number
-is_at_call : (b s i k : ℕ) → is_at (call_cmp (b, s)) (i, k) ≡ nat_eq i b && nat_eq k s
+pub is_at_call : (b s i k : ℕ) → is_at (pair_cmp (b, s)) (i, k) ≡ nat_eq i b && nat_eq k s
 is_at_call b s i k =
     then_is_eq (nat_cmp b i) (nat_cmp s k) ∙ ap (λ x. x && is_eq (nat_cmp s k)) (is_at_number b i) ∙ ap (λ x. nat_eq i b && x) (is_at_number s k)
 
 -- another call is not there
-pub call_apart : (b s i k : ℕ) → (i ≡ b → k ≢ s) → is_at (call_cmp (b, s)) (i, k) ≡ false
+pub call_apart : (b s i k : ℕ) → (i ≡ b → k ≢ s) → is_at (pair_cmp (b, s)) (i, k) ≡ false
 call_apart b s i k apart = is_at_call b s i k ∙ not_both (nat_eq i b) (nat_eq k s) refl refl
   where
     not_both : (x y : Bool) → nat_eq i b ≡ x → nat_eq k s ≡ y → x && y ≡ false

@@ -8,7 +8,7 @@ use Rattle.protocol_laws.proofs.Books.{Books}
 use Rattle.protocol_laws.proofs.BooksEvents.{books}
 use Rattle.protocol_laws.proofs.EveryRun.{every_run}
 use Rattle.world.specs.Runs.{Run, world_of, events_of}
-use Rattle.world.specs.States.{IsNumbered}
+use Rattle.world.specs.Shown.{IsNumbered}
 use Rattle.world.specs.Walks.{BeginsAgree}
 use Rattle.world.proofs.KeptOperations.{begins_from_books}
 use Rattle.world.proofs.RunLemmas.{world_of-run, numbered_from_books}

@@ -1,26 +1,21 @@
 -- The world that a run leaves.
 use Rattle.std.proofs.Common.{◌≡◌, ℕ, ◌<◌, ◌-◌, Bool, true, false, cond, nat_lt, ◌&&◌, List, [], ◌∷◌, ◌++◌, length, take, drop, take_all, length-drop, Option, Some, None, refl, sym, ap, ◌∙◌, subst, arith}
-use Rattle.std.proofs.lemmas.Bool.{cond_both}
+use Rattle.std.specs.Prelude.{option_to_list}
 use Rattle.std.proofs.lemmas.Bool.Decides.{nat_tests}
-use Rattle.fab_base.specs.declared.identities.BrickId.{BrickId}
-use Rattle.fab_base.specs.declared.answers.Refusal.{Refusal}
 use Rattle.messages.specs.declared.requests.Version.{Version}
 use Rattle.reg_model.specs.declared.marks.Mark.{Mark}
 use Rattle.lines.specs.declared.forms.Line.{Line}
-use Rattle.lines.specs.declared.forms.Line.TheVariants.{Nothing, Invoke, Deliver, SetClock, Tick, Crash, Start}
 use Rattle.stripe_code.specs.Codes.{coding}
 use Rattle.fab_base.specs.Layouts.{Layout, Group, group_of}
 use Rattle.protocol.specs.Settings.{Setting}
-use Rattle.protocol.specs.Nodes.{put}
-use Rattle.protocol.specs.Worlds.{World, Sets, Ticks, Starts, first_world, is_brick, is_up, may_start, packet_of, number_of, world_ticked, world_started, happens, run}
+use Rattle.protocol.specs.Worlds.{World, Event, first_world, is_up, number_of, happens, run}
 use Rattle.protocol_laws.proofs.Books.{Books}
-use Rattle.world.specs.Runs.{Run, after_line, after_lines, world_of, events_of, brick_of, ask_of, refusal_at}
-use Rattle.world.specs.States.{IsNumbered, Shows, outcome_of, refused_or_begun}
-use Rattle.world.specs.Steps.{outcome_text, with_line, is_stripe, log_at}
-use Rattle.world.specs.Texts.{text_of, marks_text, idle_text, is_deliverable, new_marks, refused_or_marks}
-use Rattle.world.specs.declared.states.Outcome.{Outcome}
-use Rattle.world.specs.declared.states.Outcome.TheVariants.{Marks, Idle}
-use Rattle.world.specs.declared.states.State.{State}
+use Rattle.world.specs.Runs.{Run, event_of, after_event, after_line, after_lines, world_of, events_of, brick_of}
+use Rattle.world.specs.Shown.{IsNumbered, Shows}
+use Rattle.world.specs.Steps.{with_line, is_stripe, log_at}
+use Rattle.world.specs.Texts.{text_of, outcome_text, outcome_of, new_marks}
+use Rattle.world.specs.declared.simulations.Outcome.{Outcome}
+use Rattle.world.specs.declared.simulations.Simulation.{Simulation}
 
 -- one line more
 pub after_lines-append : (setting : Setting) (w : World) (lines : List Line) (line : Line)
@@ -33,7 +28,7 @@ pub world_of-with_line : (r : Run) (line : Line) → world_of (with_line r line)
 world_of-with_line r line = after_lines-append (coding r.layout) (first_world r.layout) r.lines line
 
 -- the state that shows the world after a line shows the world of the run with that line
-pub shows_line : (layout : Layout) (state : State) (old new : List Line) (line : Line) → new ≡ old ++ line ∷ []
+pub shows_line : (layout : Layout) (state : Simulation) (old new : List Line) (line : Line) → new ≡ old ++ line ∷ []
     → Shows layout state (after_line (coding layout) (world_of (record { layout = layout; lines = old })) line)
     → Shows layout state (world_of (record { layout = layout; lines = new }))
 shows_line layout state old new line grown shows =
@@ -67,16 +62,17 @@ log_at_down r b g s down =
     never true = refl
     never false = refl
 
+-- a line does what its event does, where the lines behind it do so
+after_event-run : (setting : Setting) (lines : List Line) → ((v : World) → after_lines setting v lines ≡ run setting (events_of lines) v)
+    → (w : World) (event : Option Event)
+    → after_lines setting (after_event setting w event) lines ≡ run setting (option_to_list event ++ events_of lines) w
+after_event-run setting lines behind w None = behind w
+after_event-run setting lines behind w (Some event) = behind (happens setting w event)
+
 -- lines do what their events do
 pub after_lines-run : (setting : Setting) (w : World) (lines : List Line) → after_lines setting w lines ≡ run setting (events_of lines) w
 after_lines-run setting w [] = refl
-after_lines-run setting w (Nothing ∷ lines) = after_lines-run setting w lines
-after_lines-run setting w (Invoke b g s op ∷ lines) = after_lines-run setting (after_line setting w (Invoke b g s op)) lines
-after_lines-run setting w (Deliver k ∷ lines) = after_lines-run setting (after_line setting w (Deliver k)) lines
-after_lines-run setting w (SetClock b v ∷ lines) = after_lines-run setting (after_line setting w (SetClock b v)) lines
-after_lines-run setting w (Tick b ∷ lines) = after_lines-run setting (after_line setting w (Tick b)) lines
-after_lines-run setting w (Crash b ∷ lines) = after_lines-run setting (after_line setting w (Crash b)) lines
-after_lines-run setting w (Start b ∷ lines) = after_lines-run setting (after_line setting w (Start b)) lines
+after_lines-run setting w (line ∷ lines) = after_event-run setting lines (λ v. after_lines-run setting v lines) w (event_of line)
 
 -- the world that a run leaves is one that a schedule of events reaches
 pub world_of-run : (r : Run) → world_of r ≡ run (coding r.layout) (events_of r.lines) (first_world r.layout)
@@ -90,68 +86,6 @@ numbered_from_books setting w books i k c is =
     let boot : call.operation.boot ≡ (w.nodes call.operation.brick.0).boot = call.boot ∙ sym (ap (λ j. (w.nodes j).boot) call.brick) in
     let seq : (w.nodes call.operation.brick.0).seq ≡ (w.nodes i).seq = ap (λ j. (w.nodes j).seq) call.brick in
     (call.call_seq, omega (arith, operation.called.0, call.seq), omega (arith, operation.called.1 boot, call.seq, seq))
-
--- past the end there is nothing
-drop_all : {A : Type 0} (xs : List A) → drop (length xs) xs ≡ []
-drop_all [] = refl
-drop_all (x ∷ xs) = drop_all xs
-
--- a clock that is set marks nothing
-no_mark : (setting : Setting) (w : World) (brick : BrickId) (time : ℕ) → new_marks w (happens setting w (Sets brick time)) ≡ []
-unfolding happens
-no_mark setting w brick time =
-    cond_both (is_brick setting.layout brick) (record w { clocks = put w.clocks brick.0 time }) w (λ (v : World). new_marks w v ≡ [])
-    (λ here. drop_all w.marks) (λ nowhere. drop_all w.marks)
-
--- nor does a tick, nor a start
-no_mark_ticked : (setting : Setting) (w : World) (brick : BrickId) → new_marks w (happens setting w (Ticks brick)) ≡ []
-unfolding happens
-no_mark_ticked setting w brick =
-    cond_both (is_up setting.layout w brick) (world_ticked setting w brick) w (λ (v : World). new_marks w v ≡ [])
-    (λ up. drop_all w.marks) (λ down. drop_all w.marks)
-
-no_mark_started : (setting : Setting) (w : World) (brick : BrickId) → new_marks w (happens setting w (Starts brick 1)) ≡ []
-unfolding happens
-no_mark_started setting w brick =
-    cond_both (may_start setting.layout w brick 1) (world_started w brick 1) w (λ (v : World). new_marks w v ≡ [])
-    (λ may. drop_all w.marks) (λ may_not. drop_all w.marks)
-
-refused_text : (refusal : Option Refusal) (marks : List Mark) → outcome_text (refused_or_begun refusal) marks ≡ refused_or_marks refusal marks
-refused_text None marks = refl
-refused_text (Some refusal) marks = refl
-
--- what a line comes to, with its marks, is what it prints
-pub outcome_text-text_of : (setting : Setting) (w : World) (line : Line)
-    → outcome_text (outcome_of setting w line) (new_marks w (after_line setting w line)) ≡ text_of setting w line
-outcome_text-text_of setting w Nothing = ap marks_text (drop_all w.marks)
-outcome_text-text_of setting w (Invoke b g s op) = refused_text (refusal_at setting w (brick_of b) (ask_of g s op)) _
-outcome_text-text_of setting w (Deliver k) = by_test (is_deliverable setting w (packet_of w.packets k))
-  where
-    by_test : (b : Bool) → outcome_text (cond b Marks Idle) (new_marks w (after_line setting w (Deliver k)))
-        ≡ cond b (marks_text (new_marks w (after_line setting w (Deliver k)))) idle_text
-    by_test true = refl
-    by_test false = refl
-outcome_text-text_of setting w (SetClock b v) = by_brick (is_brick setting.layout (brick_of b))
-  where
-    by_brick : (x : Bool) → outcome_text (cond x Marks Idle) (new_marks w (after_line setting w (SetClock b v))) ≡ cond x [] idle_text
-    by_brick true = ap marks_text (no_mark setting w (brick_of b) v)
-    by_brick false = refl
-outcome_text-text_of setting w (Tick b) = by_test (is_up setting.layout w (brick_of b))
-  where
-    by_test : (x : Bool) → outcome_text (cond x Marks Idle) (new_marks w (after_line setting w (Tick b))) ≡ cond x [] idle_text
-    by_test true = ap marks_text (no_mark_ticked setting w (brick_of b))
-    by_test false = refl
-outcome_text-text_of setting w (Crash b) = by_test (is_up setting.layout w (brick_of b))
-  where
-    by_test : (x : Bool) → outcome_text (cond x Marks Idle) (new_marks w (after_line setting w (Crash b)))
-        ≡ cond x (marks_text (new_marks w (after_line setting w (Crash b)))) idle_text
-    by_test true = refl
-    by_test false = refl
-outcome_text-text_of setting w (Start b) = by_test (may_start setting.layout w (brick_of b) 1)
-  where
-    by_test : (x : Bool) → outcome_text (cond x Marks Idle) (new_marks w (after_line setting w (Start b))) ≡ cond x [] idle_text
-    by_test true = ap marks_text (no_mark_started setting w (brick_of b))
-    by_test false = refl
 
 -- what a line came to, with the marks behind those before it, is what it prints
 pub text_is : (old new : Run) (line : Line) (outcome : Outcome) (marks : List Mark) (before : ℕ) (text : List ℕ)
@@ -170,4 +104,3 @@ text_is old new line outcome marks before text grown came are count is =
     in
     is ∙ ap (λ (xs : List Mark). outcome_text outcome xs) (rest ∙ made)
     ∙ ap (λ (x : Outcome). outcome_text x (new_marks (world_of old) (after_line (coding old.layout) (world_of old) line))) came
-    ∙ outcome_text-text_of (coding old.layout) (world_of old) line

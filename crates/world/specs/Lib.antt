@@ -1,6 +1,6 @@
 pub mod Runs
 pub mod Texts
-pub mod States
+pub mod Shown
 pub mod Walks
 pub mod Steps
 pub mod Standing

@@ -1,5 +1,5 @@
 -- A run: the lines of a schedule, one after another, over the disk of a layout.
-use Rattle.std.specs.Prelude.{ℕ, if◌then◌else◌, List, [], ◌∷◌, Option, Some}
+use Rattle.std.specs.Prelude.{ℕ, if◌then◌else◌, List, [], ◌∷◌, ◌++◌, Option, Some, None, option_to_list}
 use Rattle.fab_base.specs.declared.identities.BrickId.{BrickId}
 use Rattle.fab_base.specs.declared.asks.Ask.{Ask}
 use Rattle.fab_base.specs.declared.asks.Op.{Op}
@@ -26,30 +26,34 @@ brick_of b = record { 0 = b }
 abbrev pub ask_of : ℕ → ℕ → Op → Ask
 ask_of g s op = record { group = record { 0 = g }; stripe = record { 0 = s }; op = op }
 
--- the world after a line: each line is at most one event; a brick that starts opens its store once
-abbrev pub after_line : Setting → World → Line → World
-after_line setting w Nothing = w
-after_line setting w (Invoke b g s op) = happens setting w (Invokes (brick_of b) (ask_of g s op))
-after_line setting w (Deliver k) = happens setting w (Delivers k)
-after_line setting w (SetClock b v) = happens setting w (Sets (brick_of b) v)
-after_line setting w (Tick b) = happens setting w (Ticks (brick_of b))
-after_line setting w (Crash b) = happens setting w (Crashes (brick_of b))
-after_line setting w (Start b) = happens setting w (Starts (brick_of b) 1)
+-- the event of a line, if it is one: a brick that starts opens its store once
+abbrev pub event_of : Line → Option Event
+event_of Nothing = None
+event_of (Invoke b g s op) = Some (Invokes (brick_of b) (ask_of g s op))
+event_of (Deliver k) = Some (Delivers k)
+event_of (SetClock b v) = Some (Sets (brick_of b) v)
+event_of (Tick b) = Some (Ticks (brick_of b))
+event_of (Crash b) = Some (Crashes (brick_of b))
+event_of (Start b) = Some (Starts (brick_of b) 1)
 
+-- the world after an event, if there is one
+abbrev pub after_event : Setting → World → Option Event → World
+after_event setting w None = w
+after_event setting w (Some event) = happens setting w event
+
+-- the world after a line
+abbrev pub after_line : Setting → World → Line → World
+after_line setting w line = after_event setting w (event_of line)
+
+-- the world after lines
 abbrev pub after_lines : Setting → World → List Line → World
 after_lines setting w [] = w
 after_lines setting w (line ∷ lines) = after_lines setting (after_line setting w line) lines
 
--- the events of lines, at most one each
+-- the events of lines
 abbrev pub events_of : List Line → List Event
 events_of [] = []
-events_of (Nothing ∷ lines) = events_of lines
-events_of (Invoke b g s op ∷ lines) = Invokes (brick_of b) (ask_of g s op) ∷ events_of lines
-events_of (Deliver k ∷ lines) = Delivers k ∷ events_of lines
-events_of (SetClock b v ∷ lines) = Sets (brick_of b) v ∷ events_of lines
-events_of (Tick b ∷ lines) = Ticks (brick_of b) ∷ events_of lines
-events_of (Crash b ∷ lines) = Crashes (brick_of b) ∷ events_of lines
-events_of (Start b ∷ lines) = Starts (brick_of b) 1 ∷ events_of lines
+events_of (line ∷ lines) = option_to_list (event_of line) ++ events_of lines
 
 -- the world that a run leaves
 abbrev pub world_of : Run → World

@@ -1,6 +1,6 @@
 -- What a world always keeps.
 use Rattle.world.specs.Runs.{Run, world_of}
-use Rattle.world.specs.States.{Shows}
+use Rattle.world.specs.Shown.{Shows}
 use Rattle.world.specs.declared.worlds.World.TheInside.{Inside}
 
 -- the run of a world's lines over its layout
@@ -9,4 +9,4 @@ run_of inside = record { layout = inside.layout; lines = inside.lines.items }
 
 -- its state shows the world that its run leaves
 pub record IsStanding (inside : Inside) : Type 0 where
-  pub shows : Shows inside.layout inside.state (world_of (run_of inside))
+  pub shows : Shows inside.layout inside.simulation (world_of (run_of inside))

@@ -1,24 +1,15 @@
 -- What a step of a run comes to.
 use Rattle.std.specs.Prelude.{◌≡◌, ℕ, ◌⊎◌, nat_lt, ◌&&◌, if◌then◌else◌, Bool, false, List, [], ◌∷◌, ◌++◌, Option, Some, None, Result, Ok, Err}
 use Rattle.messages.specs.declared.requests.Version.{Version}
-use Rattle.reg_model.specs.declared.marks.Mark.{Mark}
 use Rattle.lines.specs.Grammar.{line_of}
 use Rattle.lines.specs.declared.forms.Line.{Line}
 use Rattle.stripe_code.specs.Codes.{coding}
 use Rattle.fab_base.specs.Layouts.{Group, group_of}
 use Rattle.protocol.specs.Worlds.{is_up}
 use Rattle.world.specs.Runs.{Run, world_of, brick_of}
-use Rattle.world.specs.Texts.{text_of, marks_text, refusal_text, idle_text}
-use Rattle.world.specs.declared.states.Outcome.{Outcome}
-use Rattle.world.specs.declared.states.Outcome.TheVariants.{Marks, Refused, Idle}
+use Rattle.world.specs.Texts.{text_of}
 use Rattle.world.specs.declared.worlds.StepFault.{StepFault}
 use Rattle.world.specs.declared.worlds.StepFault.TheVariants.{BadLine, NoMemory}
-
--- the text of what a line came to, with the marks that it made
-abbrev pub outcome_text : Outcome → List Mark → List ℕ
-outcome_text Marks marks = marks_text marks
-outcome_text (Refused refusal) marks = refusal_text refusal
-outcome_text Idle marks = idle_text
 
 -- a run with one line more
 abbrev pub with_line : Run → Line → Run

@@ -15,11 +15,15 @@ use Rattle.fab_base.specs.Stamps.{stamp_text}
 use Rattle.reg_model.specs.declared.marks.Mark.{Mark}
 use Rattle.reg_model.specs.declared.marks.Mark.TheVariants.{Begin, End}
 use Rattle.lines.specs.declared.forms.Line.{Line}
-use Rattle.lines.specs.declared.forms.Line.TheVariants.{Nothing, Invoke, Deliver, SetClock, Tick, Start}
+use Rattle.lines.specs.declared.forms.Line.TheVariants.{Nothing, Invoke, Deliver, SetClock, Tick, Crash, Start}
 use Rattle.messages.specs.declared.packets.Packet.{Packet}
 use Rattle.protocol.specs.Settings.{Setting}
 use Rattle.protocol.specs.Worlds.{World, is_brick, is_up, may_start, packet_of}
+use Rattle.fab_base.specs.Layouts.{Layout}
+use Rattle.fab_base.specs.declared.identities.BrickId.{BrickId}
 use Rattle.world.specs.Runs.{after_line, brick_of, ask_of, refusal_at}
+use Rattle.world.specs.declared.simulations.Outcome.{Outcome}
+use Rattle.world.specs.declared.simulations.Outcome.TheVariants.{Marks, Refused, Idle}
 
 -- the end of a line
 abbrev pub newline : List ℕ
@@ -88,20 +92,43 @@ is_deliverable setting w (Some packet) = is_up setting.layout w packet.to
 abbrev pub new_marks : World → World → List Mark
 new_marks old new = drop (length old.marks) new.marks
 
--- a refusal, or the marks that the line made
-abbrev pub refused_or_marks : Option Refusal → List Mark → List ℕ
-refused_or_marks None marks = marks_text marks
-refused_or_marks (Some refusal) marks = refusal_text refusal
+-- an operation was refused, or begun
+abbrev pub refused_or_begun : Option Refusal → Outcome
+refused_or_begun None = Marks
+refused_or_begun (Some refusal) = Refused refusal
+
+-- a message was handled, or there was none
+abbrev pub handled_or_idle : Setting → World → Option Packet → Outcome
+handled_or_idle setting w packet = if is_deliverable setting w packet then Marks else Idle
+
+-- a clock was set, or there is no such brick
+abbrev pub set_or_idle : Layout → BrickId → Outcome
+set_or_idle layout brick = if is_brick layout brick then Marks else Idle
+
+-- a brick ticked or stopped, or there is none that is up
+abbrev pub done_or_idle : Layout → World → BrickId → Outcome
+done_or_idle layout w brick = if is_up layout w brick then Marks else Idle
+
+-- a brick started, or it may not
+abbrev pub started_or_idle : Layout → World → BrickId → Outcome
+started_or_idle layout w brick = if may_start layout w brick 1 then Marks else Idle
+
+-- what a line comes to
+abbrev pub outcome_of : Setting → World → Line → Outcome
+outcome_of setting w Nothing = Marks
+outcome_of setting w (Invoke b g s op) = refused_or_begun (refusal_at setting w (brick_of b) (ask_of g s op))
+outcome_of setting w (Deliver k) = handled_or_idle setting w (packet_of w.packets k)
+outcome_of setting w (SetClock b v) = set_or_idle setting.layout (brick_of b)
+outcome_of setting w (Tick b) = done_or_idle setting.layout w (brick_of b)
+outcome_of setting w (Crash b) = done_or_idle setting.layout w (brick_of b)
+outcome_of setting w (Start b) = started_or_idle setting.layout w (brick_of b)
+
+-- the text of what a line came to, with the marks that it made
+abbrev pub outcome_text : Outcome → List Mark → List ℕ
+outcome_text Marks marks = marks_text marks
+outcome_text (Refused refusal) marks = refusal_text refusal
+outcome_text Idle marks = idle_text
 
 -- What a line prints: its marks; or why it was refused; or that it found nothing to do.
 abbrev pub text_of : Setting → World → Line → List ℕ
-text_of setting w Nothing = []
-text_of setting w (Invoke b g s op) =
-    refused_or_marks (refusal_at setting w (brick_of b) (ask_of g s op)) (new_marks w (after_line setting w (Invoke b g s op)))
-text_of setting w (Deliver k) =
-    if is_deliverable setting w (packet_of w.packets k) then marks_text (new_marks w (after_line setting w (Deliver k))) else idle_text
-text_of setting w (SetClock b v) = if is_brick setting.layout (brick_of b) then [] else idle_text
-text_of setting w (Tick b) = if is_up setting.layout w (brick_of b) then [] else idle_text
-text_of setting w (Line.Crash b) =
-    if is_up setting.layout w (brick_of b) then marks_text (new_marks w (after_line setting w (Line.Crash b))) else idle_text
-text_of setting w (Start b) = if may_start setting.layout w (brick_of b) 1 then [] else idle_text
+text_of setting w line = outcome_text (outcome_of setting w line) (new_marks w (after_line setting w line))

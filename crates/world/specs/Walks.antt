@@ -1,23 +1,29 @@
 -- What the operations that a world keeps say of the machine's world: enough to tell the happenings of a stripe.
-use Rattle.std.specs.Prelude.{◌≡◌, ℕ, zero, suc, ◌+◌, max, Bool, if◌then◌else◌, List, [], ◌∷◌, length, reverse, Option, Some, None, option_map, slice_get}
+use Rattle.std.specs.Prelude.{◌≡◌, ℕ, zero, suc, Bool, if◌then◌else◌, List, [], length, reverse, Option, Some, None, option_map, unwrap_or, slice_get}
+use Rattle.std.specs.declared.cmp.Ordering.{Ordering}
+use Rattle.std.specs.Ordering.{nat_cmp, ordering_then}
+use Rattle.std.specs.BTreeMap.{get}
+use Rattle.std.specs.BTreeSet.{BTreeSet, contains}
+use Rattle.std.specs.List.{All}
 use Rattle.fab_base.specs.declared.asks.Op.{Op}
 use Rattle.fab_base.specs.declared.asks.Op.TheVariants.{ReadStripe, WriteStripe}
 use Rattle.fab_base.specs.Stamps.{first_stamp}
 use Rattle.reg_model.specs.declared.entries.Entry.{Entry}
-use Rattle.reg_model.specs.declared.marks.Happening.{Happening}
+use Rattle.reg_model.specs.declared.marks.Mark.{Mark}
+use Rattle.fab_base.specs.declared.stamps.Stamp.{Stamp}
 use Rattle.reg_model.specs.Marks.{life_of, stripe_marks}
 use Rattle.reg_model.specs.Walk.{begin_of}
 use Rattle.protocol.specs.Worlds.{World, Operation}
-use Rattle.protocol.specs.Happenings.{Effect, effect_of, entries_to, ascending}
-use Rattle.world.specs.declared.histories.Known.{Known}
+use Rattle.protocol.specs.Happenings.{Effect, entries_to, is_among}
+use Rattle.world.specs.declared.histories.KeptOperation.{KeptOperation}
+use Rattle.world.specs.declared.stripe_entries.StripeEntries.{StripeEntries}
 use Rattle.world.specs.declared.walks.Sweep.{Sweep}
-use Rattle.world.specs.States.{IsKnown}
+use Rattle.world.specs.Shown.{TellsOperations, pair_cmp}
 
 -- these are the operations of a world, number n at place n - 1
-pub record AreKnown (operations : List Known) (w : World) : Type 0 where
+pub record KeepsAll (operations : List KeptOperation) (w : World) : Type 0 where
   pub begun : length operations ≡ w.begun
-  pub each : (n : ℕ) (known : Known) → slice_get operations n ≡ Some known
-      → (o : Operation) × (w.operations (n + 1) ≡ Some o) × IsKnown known o
+  pub each : TellsOperations operations w.operations
 
 -- each operation begins where the marks of its stripe say
 pub record BeginsAgree (w : World) : Type 0 where
@@ -29,23 +35,23 @@ abbrev pub op_that : Bool → Op
 op_that writes = if writes then WriteStripe [] else ReadStripe
 
 -- an operation of which no more is known than is kept: what is not kept is filled in
-abbrev pub operation_of : Known → Operation
-operation_of known =
+abbrev pub operation_of : KeptOperation → Operation
+operation_of kept =
     record {
       brick = record { 0 = 0 };
       boot = 0;
       seq = 0;
-      begin = known.begin;
-      ask = record { group = known.group; stripe = known.stripe; op = op_that known.writes };
-      version = known.version;
-      made = known.made;
-      base = known.base;
-      answered = known.answered;
+      begin = kept.begin;
+      ask = record { group = kept.group; stripe = kept.stripe; op = op_that kept.writes };
+      version = kept.version;
+      made = kept.made;
+      base = kept.base;
+      answered = kept.answered;
       floor = λ i. first_stamp;
     }
 
 -- the operations that are kept, by number from 1
-abbrev pub operations_of : List Known → ℕ → Option Operation
+abbrev pub operations_of : List KeptOperation → ℕ → Option Operation
 operations_of operations zero = None
 operations_of operations (suc k) = option_map operation_of (slice_get operations k)
 
@@ -54,23 +60,30 @@ abbrev pub begin_at : Option Operation → ℕ
 begin_at None = 0
 begin_at (Some o) = o.begin
 
--- the entries of a stripe's operations, of the operations 1 to n, as they ascend
-abbrev pub rising_to : (ℕ → Option Operation) → ℕ → ℕ → ℕ → List Entry
-rising_to operations g s n = ascending (entries_to operations g s n)
+-- each entry's operation begins where the marks say
+abbrev pub BeginAsMarked : (ℕ → Option Operation) → List Mark → List Entry → Type 0
+BeginAsMarked operations marks entries = All (λ (e : Entry). begin_at (operations e.operation) ≡ begin_of (life_of marks e.operation)) entries
 
--- A sweep has come to an effect, from the greatest entry down: it has put each thing that is told, and each version that is needed, behind those
--- of the entries above.
+-- the entries of a stripe among those that were gathered
+abbrev pub entries_at : StripeEntries → ℕ → ℕ → List Entry
+entries_at gathered g s = unwrap_or (option_map (λ entries. entries.items) (get pair_cmp gathered.entries (g, s))) []
+
+-- the entries that were gathered are those of a world's operations
+abbrev pub AreEntriesOf : StripeEntries → World → Type 0
+AreEntriesOf gathered w = (g s : ℕ) → entries_at gathered g s ≡ entries_to w.operations g s w.begun
+
+-- stamps compare field by field
+abbrev pub stamp_cmp : Stamp → Stamp → Ordering
+stamp_cmp a b =
+    ordering_then (nat_cmp a.view.0 b.view.0) (ordering_then (nat_cmp a.time b.time)
+    (ordering_then (nat_cmp a.brick.0 b.brick.0) (nat_cmp a.boot b.boot)))
+
+-- a set has just these stamps
+abbrev pub Holds : BTreeSet Stamp → List Stamp → Type 0
+Holds set stamps = (t : Stamp) → contains stamp_cmp set t ≡ is_among t stamps
+
+-- A sweep has come to an effect, from the greatest entry down: it has put each thing that is told behind those of the entries above, and has
+-- the versions that are needed.
 pub record HasSwept (sweep : Sweep) (effect : Effect) : Type 0 where
   pub told : sweep.told.items ≡ reverse effect.told
-  pub needed : sweep.needed.items ≡ reverse effect.needed
-
--- the walk along the effective versions of a stripe, of the operations 1 to n
-abbrev pub walk_to : (ℕ → Option Operation) → ℕ → ℕ → ℕ → List Entry
-walk_to operations g s n = (effect_of operations (rising_to operations g s n)).told
-
--- each entry's operation happens at the greatest begin so far, p or one of those up to its own
-abbrev pub placed : (ℕ → Option Operation) → ℕ → List Entry → List Happening
-placed operations p [] = []
-placed operations p (e ∷ entries) =
-    record { operation = e.operation; position = max p (begin_at (operations e.operation)) }
-    ∷ placed operations (max p (begin_at (operations e.operation))) entries
+  pub needed : Holds sweep.needed effect.needed

@@ -1,14 +1,14 @@
 //! The bricks of a world: each is a disk in memory, and the brick that runs over it while it is up.
 
-ghost use Rattle.std.specs.Prelude.{◌≡◌, ◌≢◌, ◌≤◌, true, false, Err, IfOk, OnErr, vec_len};
-ghost use Rattle.fab_disk.specs.MemDisk.{IsSound};
+ghost use Rattle.std.specs.Prelude.{◌≡◌, ◌≢◌, ◌+◌, ◌^◌, ◌<◌, ◌≤◌, true, false, Err, IfOk, OnErr, vec_len, length};
+ghost use Rattle.std.specs.Option.{SomeIff};
 ghost use Rattle.protocol.specs.Nodes as machine;
 ghost use Rattle.protocol.specs.Nodes.{first_node, is_stripe_op, refusal_of, invoked, received, ticked, stopped};
+ghost use Rattle.protocol.specs.Nodes.{put as changed};
+ghost use Rattle.protocol.specs.Worlds.{World, first_world};
 ghost use Rattle.stripe_code.specs.Codes.{coding};
 ghost use Rattle.node.specs.Faults.{RefusesAs};
-ghost use Rattle.node.specs.Running.{state_of, IsSameBrick};
-ghost use Rattle.node.specs.States.{BeginsAs, StepsAs};
-ghost use Rattle.world.specs.States.{Rests, ShowsBrick, TurnsOn, unopened};
+ghost use Rattle.world.specs.Shown.{Rests, ShowsBrick, ShowsBricks, ShowsStarted, TurnsOn, FindsUp, IsUp, AreNodesOf, unopened};
 
 use brick_store::StoreFault;
 use fab_base::{Ask, BrickId, NoMem};
@@ -17,6 +17,7 @@ use messages::Packet;
 use layout::Layout;
 use node::{Begun, Node, NodeFault, Outs};
 use std::alloc::Global;
+use std::mem;
 
 /// Whether a brick is up.
 #[derive(Drop)]
@@ -37,7 +38,7 @@ pub struct Brick {
 impl Power {
     ghost use Rattle.std.specs.Prelude.{false};
     ghost use Rattle.protocol.specs.Nodes.{stopped};
-    ghost use Rattle.world.specs.States.{ShowsPower, IsNodeOf, TurnsOn};
+    ghost use Rattle.world.specs.Shown.{ShowsPower, IsNodeOf, TurnsOn};
 
     /// What is left where the brick stops.
     pub fn off(self) -> Power
@@ -112,7 +113,7 @@ fn fresh_disk(alloc: Global, layout: &Layout, me: BrickId) -> Result<MemDisk, No
 }
 
 /// A brick that is up, its store fresh and its clock at 0.
-pub fn fresh_brick(alloc: Global, layout: &Layout, me: BrickId) -> Result<Brick, NoMem>
+fn fresh_brick(alloc: Global, layout: &Layout, me: BrickId) -> Result<Brick, NoMem>
     ensures { IfOk result (λ brick. ShowsBrick layout.now me.0 brick (first_node layout.now.block) true 0) }
 {
     let disk = fresh_disk(alloc, layout, me)?;
@@ -121,48 +122,136 @@ pub fn fresh_brick(alloc: Global, layout: &Layout, me: BrickId) -> Result<Brick,
     Ok(Brick { power, clock: 0 })
 }
 
-/// A running brick is asked for an operation.
-pub fn invoke(node: &mut Node<MemDisk>, now: u64, ask: &Ask) -> Result<Begun, NodeFault>
-    requires runs { node.old.brick.halted ≡ false }
+/// All bricks of a layout, their stores fresh, their clocks at 0.
+pub fn fresh_bricks(alloc: Global, layout: &Layout) -> Result<Vec<Brick>, NoMem>
+    ensures { IfOk result (λ bricks. ShowsBricks layout.now bricks.items (first_world layout.now).nodes (first_world layout.now).up
+        (first_world layout.now).clocks) }
+{
+    let mut bricks = Vec::new(alloc);
+    for number in 0..layout.bricks() {
+        bricks.push(fresh_brick(alloc, layout, BrickId(number))?)?;
+    }
+    Ok(bricks)
+}
+
+/// The brick of a number, where there is one and it is up.
+pub fn find_up(bricks: &[Brick], layout: &Layout, number: u64) -> Option<BrickId>
+    requires nodes { AreNodesOf layout.now bricks.now }
+    requires bricks { length bricks.now ≡ layout.now.bricks }
+    ensures { FindsUp layout.now bricks.now number result }
+{
+    if number >= u64::from(layout.bricks()) {
+        return None;
+    }
+    match &bricks[number as usize].power {
+        Power::Up(_) => Some(BrickId(number as u16)),
+        Power::Down(_) => None,
+    }
+}
+
+/// The number of the next call of a brick that is up. None where no number is left.
+pub fn next_of(bricks: &[Brick], number: BrickId) -> Option<u64>
+    requires { (layout : _) × IsUp layout bricks.now number }
+    ensures { (layout : _) (w : World) → ShowsBricks layout bricks.now w.nodes w.up w.clocks
+        → SomeIff result ((w.nodes number.0).seq + 1 < 2 ^ 64) ((w.nodes number.0).seq + 1) }
+{
+    match &bricks[number.0 as usize].power {
+        Power::Up(node) => node.next_seq(),
+        Power::Down(_) => unreachable!(),
+    }
+}
+
+/// A brick that is up is asked for an operation. After a refusal of any kind no brick has changed.
+pub fn ask_brick(bricks: &mut Vec<Brick>, number: BrickId, ask: &Ask) -> Result<Begun, NodeFault>
+    requires brick { (layout : _) × IsUp layout bricks.old.items number }
     requires stripes { is_stripe_op ask.now.op ≡ true }
-    ensures refused { RefusesAs result (refusal_of node.old.layout (state_of node.old) ask.now) }
-    ensures begun { IfOk result (BeginsAs (state_of node.new) (invoked (coding node.old.layout) node.old.me now (state_of node.old) ask.now)) }
+    ensures refused { (layout : _) (w : World) → ShowsBricks layout bricks.old.items w.nodes w.up w.clocks
+        → RefusesAs result (refusal_of layout (w.nodes number.0) ask.now) }
+    ensures begun { IfOk result (λ begun. (layout : _) (w : World) → ShowsBricks layout bricks.old.items w.nodes w.up w.clocks
+        → (let step = invoked (coding layout) number (w.clocks number.0) (w.nodes number.0) ask.now in
+        (begun.packets.items ≡ step.packets) × (begun.seq ≡ step.node.seq)
+        × ShowsBricks layout bricks.new.items (changed w.nodes number.0 step.node) w.up w.clocks)) }
     ensures few { IfOk result (λ begun. vec_len begun.packets ≤ 32) }
-    ensures err { OnErr result (state_of node.new ≡ state_of node.old) }
-    ensures same { IsSameBrick node.old node.new }
-    ensures brick { node.new.brick ≡ node.old.brick }
+    ensures err { OnErr result ((layout : _) (w : World) → ShowsBricks layout bricks.old.items w.nodes w.up w.clocks
+        → ShowsBricks layout bricks.new.items w.nodes w.up w.clocks) }
     ensures not_halted { result ≢ Err NodeFault.Halted }
     ensures not_disk { result ≢ Err NodeFault.Disk }
 {
-    node.invoke(now, ask)
+    let brick = &mut bricks[number.0 as usize];
+    match &mut brick.power {
+        Power::Up(node) => node.invoke(brick.clock, ask),
+        Power::Down(_) => unreachable!(),
+    }
 }
 
-/// A running brick handles a message.
-pub fn deliver(node: &mut Node<MemDisk>, now: u64, packet: &Packet) -> Result<Outs, NoMem>
-    requires runs { node.old.brick.halted ≡ false }
-    requires sound { IsSound node.old.brick.disk }
-    ensures step { IfOk result (StepsAs (state_of node.new) (received (coding node.old.layout) node.old.me now (state_of node.old) packet.now)) }
+/// A brick that is up is handed a message. After a refusal for want of memory no brick has changed.
+pub fn hand_over(bricks: &mut Vec<Brick>, number: BrickId, packet: &Packet) -> Result<Outs, NoMem>
+    requires { (layout : _) × IsUp layout bricks.old.items number }
+    ensures stepped { IfOk result (λ outs. (layout : _) (w : World) → ShowsBricks layout bricks.old.items w.nodes w.up w.clocks
+        → (let step = received (coding layout) number (w.clocks number.0) (w.nodes number.0) packet.now in
+        (outs.packets.items ≡ step.packets) × (outs.told ≡ step.told)
+        × ShowsBricks layout bricks.new.items (changed w.nodes number.0 step.node) w.up w.clocks)) }
     ensures few { IfOk result (λ outs. vec_len outs.packets ≤ 32) }
-    ensures err { OnErr result (state_of node.new ≡ state_of node.old) }
-    ensures same { IsSameBrick node.old node.new }
-    ensures runs { node.new.brick.halted ≡ false }
-    ensures sound { IsSound node.new.brick.disk }
+    ensures err { OnErr result ((layout : _) (w : World) → ShowsBricks layout bricks.old.items w.nodes w.up w.clocks
+        → ShowsBricks layout bricks.new.items w.nodes w.up w.clocks) }
 {
-    match node.on_message(now, packet) {
-        Ok(outs) => Ok(outs),
-        Err(NodeFault::NoMemory) => Err(NoMem::NoMemory),
-        Err(NodeFault::Halted | NodeFault::Refused(_) | NodeFault::Disk) => unreachable!(),
+    let brick = &mut bricks[number.0 as usize];
+    match &mut brick.power {
+        Power::Up(node) => match node.on_message(brick.clock, packet) {
+            Ok(outs) => Ok(outs),
+            Err(NodeFault::NoMemory) => Err(NoMem::NoMemory),
+            Err(NodeFault::Halted | NodeFault::Refused(_) | NodeFault::Disk) => unreachable!(),
+        },
+        Power::Down(_) => unreachable!(),
     }
 }
 
-/// What a running brick sends at a tick of its clock.
-pub fn tick(node: &Node<MemDisk>) -> Result<Vec<Packet>, NoMem>
-    requires { node.now.brick.halted ≡ false }
-    ensures { IfOk result (λ packets. packets.items ≡ ticked (coding node.now.layout) node.now.me (state_of node.now)) }
+/// What a brick that is up sends at a tick of its clock.
+pub fn tick_brick(bricks: &[Brick], number: BrickId) -> Result<Vec<Packet>, NoMem>
+    requires { (layout : _) × IsUp layout bricks.now number }
+    ensures { IfOk result (λ packets. (layout : _) (w : World) → ShowsBricks layout bricks.now w.nodes w.up w.clocks
+        → packets.items ≡ ticked (coding layout) number (w.nodes number.0)) }
 {
-    match node.on_tick() {
-        Ok(packets) => Ok(packets),
-        Err(NodeFault::NoMemory) => Err(NoMem::NoMemory),
-        Err(NodeFault::Halted | NodeFault::Refused(_) | NodeFault::Disk) => unreachable!(),
+    match &bricks[number.0 as usize].power {
+        Power::Up(node) => match node.on_tick() {
+            Ok(packets) => Ok(packets),
+            Err(NodeFault::NoMemory) => Err(NoMem::NoMemory),
+            Err(NodeFault::Halted | NodeFault::Refused(_) | NodeFault::Disk) => unreachable!(),
+        },
+        Power::Down(_) => unreachable!(),
     }
+}
+
+/// A brick stops: its disk is all that is left of it.
+pub fn stop_brick(bricks: &mut Vec<Brick>, alloc: Global, number: BrickId)
+    requires { number.0 < vec_len bricks.old }
+    ensures { (layout : _) (w : World) → ShowsBricks layout bricks.old.items w.nodes w.up w.clocks
+        → ShowsBricks layout bricks.new.items (changed w.nodes number.0 (stopped (w.nodes number.0))) (changed w.up number.0 false) w.clocks }
+{
+    let brick = &mut bricks[number.0 as usize];
+    let nothing = Power::Down(MemDisk::new(alloc, Vec::new(alloc)));
+    let power = mem::replace(&mut brick.power, nothing);
+    brick.power = power.off();
+}
+
+/// Starts a brick, where it is down and its store can be opened once more. Answers whether it did; the bricks show what they showed
+/// where it did not, and where memory is refused.
+pub fn start_brick(
+    bricks: &mut Vec<Brick>,
+    alloc: Global,
+    layout: &Layout,
+    number: BrickId,
+) -> Result<bool, NoMem>
+    requires nodes { AreNodesOf layout.now bricks.old.items }
+    requires brick { number.0 < vec_len bricks.old }
+    ensures started { IfOk result (λ started. (w : World) → ShowsBricks layout.now bricks.old.items w.nodes w.up w.clocks
+        → ShowsStarted layout.now number w bricks.new.items started) }
+    ensures err { OnErr result ((w : World) → ShowsBricks layout.now bricks.old.items w.nodes w.up w.clocks
+        → ShowsBricks layout.now bricks.new.items w.nodes w.up w.clocks) }
+{
+    let brick = &mut bricks[number.0 as usize];
+    let nothing = Power::Down(MemDisk::new(alloc, Vec::new(alloc)));
+    let (power, started) = mem::replace(&mut brick.power, nothing).on(alloc, layout, number);
+    brick.power = power;
+    started
 }

@@ -4,7 +4,7 @@ ghost use Rattle.std.specs.Prelude.{◌≡◌};
 ghost use Rattle.std.specs.Option.{option_copied};
 ghost use Rattle.protocol.specs.Worlds.{packet_of, is_answer};
 ghost use Rattle.protocol.specs.Happenings.{writes};
-ghost use Rattle.world.specs.States.{ChangesAt, made_known, ended_known};
+ghost use Rattle.world.specs.Shown.{ChangesAt, made_kept, ended_kept};
 
 use crate::rooms::{put, put_all};
 use fab_base::{Answer, Ask, BrickId, GroupId, NoMem, Op, Stamp, StripeNo};
@@ -20,7 +20,7 @@ const MOST_PACKETS: usize = 32;
 
 /// What is kept of an operation.
 #[derive(Clone, Copy, Debug)]
-pub struct Known {
+pub struct KeptOperation {
     /// The position of its Begin.
     pub begin: u64,
     /// The group that is asked.
@@ -45,7 +45,7 @@ pub struct Known {
 pub struct History {
     pub sent: Vec<Packet>,
     pub marks: Vec<Mark>,
-    pub operations: Vec<Known>,
+    pub operations: Vec<KeptOperation>,
     pub numbers: BTreeMap<(u16, u64), u64>,
 }
 
@@ -80,8 +80,8 @@ fn writes(op: &Op) -> bool
 }
 
 /// The operation of a number made a version, on this base.
-fn note_made(operations: &mut [Known], number: u64, stamp: Stamp, base: Option<Stamp>)
-    ensures { ChangesAt operations.old operations.new number (made_known stamp base) }
+fn note_made(operations: &mut [KeptOperation], number: u64, stamp: Stamp, base: Option<Stamp>)
+    ensures { ChangesAt operations.old operations.new number (made_kept stamp base) }
 {
     if number == 0 {
         return;
@@ -90,15 +90,15 @@ fn note_made(operations: &mut [Known], number: u64, stamp: Stamp, base: Option<S
     if place >= operations.len() {
         return;
     }
-    let known = &mut operations[place];
-    known.version = Some(stamp);
-    known.made = true;
-    known.base = base;
+    let kept = &mut operations[place];
+    kept.version = Some(stamp);
+    kept.made = true;
+    kept.base = base;
 }
 
 /// The operation of a number ended: answered, or aborted; a read may have seen a version.
-fn note_answer(operations: &mut [Known], number: u64, answered: bool, seen: Option<Stamp>)
-    ensures { ChangesAt operations.old operations.new number (ended_known answered seen) }
+fn note_answer(operations: &mut [KeptOperation], number: u64, answered: bool, seen: Option<Stamp>)
+    ensures { ChangesAt operations.old operations.new number (ended_kept answered seen) }
 {
     if number == 0 {
         return;
@@ -107,13 +107,13 @@ fn note_answer(operations: &mut [Known], number: u64, answered: bool, seen: Opti
     if place >= operations.len() {
         return;
     }
-    let known = &mut operations[place];
-    known.version = seen.or(known.version);
-    known.answered = answered;
+    let kept = &mut operations[place];
+    kept.version = seen.or(kept.version);
+    kept.answered = answered;
 }
 
 impl History {
-    ghost use Rattle.std.specs.Prelude.{◌≡◌, ℕ, ◌+◌, ◌<◌, ◌≤◌, [], ◌∷◌, ◌++◌, Some, length, unwrap_or, OnOk, OnErr, vec_len, vec_capacity};
+    ghost use Rattle.std.specs.Prelude.{◌≡◌, ◌+◌, ◌<◌, ◌≤◌, [], ◌∷◌, ◌++◌, Some, length, unwrap_or, OnOk, OnErr, vec_len, vec_capacity};
     ghost use Rattle.std.specs.BTreeMap.{get};
     ghost use Rattle.std.specs.Option.{ForSome};
     ghost use Rattle.fab_base.specs.Layouts.{Layout};
@@ -121,7 +121,7 @@ impl History {
     ghost use Rattle.protocol.specs.Nodes.{put as changed};
     ghost use Rattle.protocol.specs.Worlds.{World, first_world, number_of, world_began, world_stepped, world_stopped, with_made, with_answer};
     ghost use Rattle.reg_model.specs.declared.marks.Mark.TheVariants.{End};
-    ghost use Rattle.world.specs.States.{Tells, HasRoom, call_cmp, IsOfCall};
+    ghost use Rattle.world.specs.Shown.{Tells, HasStepRoom, pair_cmp, IsOfCall};
 
     /// Nothing yet.
     pub fn new(alloc: Global) -> History
@@ -137,7 +137,7 @@ impl History {
 
     /// Makes room for what one step of a brick adds.
     pub fn make_room(&mut self) -> Result<(), NoMem>
-        ensures room { OnOk result (HasRoom self.new) }
+        ensures room { OnOk result (HasStepRoom self.new) }
         ensures same { (w : World) → Tells self.old w → Tells self.new w }
         ensures marks { vec_len self.new.marks ≡ vec_len self.old.marks }
     {
@@ -149,10 +149,10 @@ impl History {
 
     /// Gives the number of the next operation to a call, which is none so far.
     pub fn number_call(&mut self, brick: BrickId, seq: u64) -> Result<(), NoMem>
-        requires { HasRoom self.old }
-        ensures room { HasRoom self.new }
+        requires { HasStepRoom self.old }
+        ensures room { HasStepRoom self.new }
         ensures number { OnOk result ((w : World) → Tells self.old w
-            → get call_cmp self.new.numbers (brick.0, seq) ≡ Some (w.begun + 1)) }
+            → get pair_cmp self.new.numbers (brick.0, seq) ≡ Some (w.begun + 1)) }
         ensures same { (w : World) → (w.nodes brick.0).seq < seq → Tells self.old w → Tells self.new w }
         ensures marks { vec_len self.new.marks ≡ vec_len self.old.marks }
     {
@@ -163,9 +163,9 @@ impl History {
 
     /// Makes room for what one step of a brick adds, and gives the number of the next operation to the brick's next call, if one is left.
     pub fn expect_call(&mut self, brick: BrickId, next: Option<u64>) -> Result<(), NoMem>
-        ensures room { OnOk result (HasRoom self.new) }
+        ensures room { OnOk result (HasStepRoom self.new) }
         ensures number { OnOk result (ForSome next (λ seq. (w : World) → Tells self.old w
-            → get call_cmp self.new.numbers (brick.0, seq) ≡ Some (w.begun + 1))) }
+            → get pair_cmp self.new.numbers (brick.0, seq) ≡ Some (w.begun + 1))) }
         ensures same { (w : World) → ForSome next (λ seq. (w.nodes brick.0).seq < seq) → Tells self.old w → Tells self.new w }
         ensures marks { vec_len self.new.marks ≡ vec_len self.old.marks }
     {
@@ -178,7 +178,7 @@ impl History {
 
     /// The number of the operation of a brick's call; 0 where there is none.
     fn number(&self, brick: BrickId, seq: u64) -> u64
-        ensures { result ≡ unwrap_or (get call_cmp self.now.numbers (brick.0, seq)) 0 }
+        ensures { result ≡ unwrap_or (get pair_cmp self.now.numbers (brick.0, seq)) 0 }
     {
         match self.numbers.get(&(brick.0, seq)) {
             Some(number) => *number,
@@ -210,7 +210,7 @@ impl History {
 
     /// Notes that a brick stops.
     pub fn crash(&mut self, brick: BrickId)
-        requires { HasRoom self.old }
+        requires { HasStepRoom self.old }
         ensures crashed { (w : World) → Tells self.old w → Tells self.new (world_stopped w brick) }
         ensures marks { vec_len self.old.marks ≤ vec_len self.new.marks }
     {
@@ -220,11 +220,11 @@ impl History {
 
     /// Notes an operation that begins, and what it sends.
     pub fn begin(&mut self, brick: BrickId, ask: Ask, packets: Vec<Packet>)
-        requires room { HasRoom self.old }
+        requires room { HasStepRoom self.old }
         requires few { vec_len packets ≤ 32 }
         ensures begun { (w : World) (step : NodeStep) → Tells self.old w
             → packets.items ≡ step.packets → step.node.boot ≡ (w.nodes brick.0).boot → step.node.seq ≡ (w.nodes brick.0).seq + 1
-            → get call_cmp self.old.numbers (brick.0, step.node.seq) ≡ Some (w.begun + 1) → Tells self.new (world_began w brick ask step) }
+            → get pair_cmp self.old.numbers (brick.0, step.node.seq) ≡ Some (w.begun + 1) → Tells self.new (world_began w brick ask step) }
         ensures marks { vec_len self.old.marks ≤ vec_len self.new.marks }
     {
         let position = self.marks.len() as u64;
@@ -233,7 +233,7 @@ impl History {
         put_all(&mut self.sent, packets);
         put(
             &mut self.operations,
-            Known {
+            KeptOperation {
                 begin: position,
                 group: ask.group,
                 stripe: ask.stripe,
@@ -291,7 +291,7 @@ impl History {
 
     /// Notes what a step sent and told.
     pub fn step(&mut self, brick: BrickId, outs: Outs)
-        requires room { HasRoom self.old }
+        requires room { HasStepRoom self.old }
         requires few { vec_len outs.packets ≤ 32 }
         ensures stepped { (w : World) (step : NodeStep) → Tells self.old w
             → outs.packets.items ≡ step.packets → outs.told ≡ step.told

@@ -4,9 +4,11 @@
 mod bricks;
 mod histories;
 mod rooms;
-mod states;
+mod simulations;
+mod stripe_entries;
 mod texts;
 mod walks;
 mod worlds;
 
+pub use stripe_entries::StripeEntries;
 pub use worlds::{StepFault, World};

@@ -1,11 +1,12 @@
 //! The world: a run of lines over the disk of a layout.
 
 ghost use Rattle.std.specs.Prelude.{◌≡◌, IfOk};
-ghost use Rattle.world.specs.Steps.{outcome_text};
+ghost use Rattle.world.specs.Texts.{outcome_text};
 
 use crate::bricks::Power;
 use crate::rooms::put;
-use crate::states::{Outcome, State};
+use crate::simulations::{Outcome, Simulation};
+use crate::stripe_entries::StripeEntries;
 use crate::texts::{idle_text, marks_text, refusal_text};
 use crate::walks;
 use fab_base::{BrickId, Bytes, GroupId, NoMem, StripeNo};
@@ -22,7 +23,7 @@ pub struct World {
     alloc: Global,
     layout: Layout,
     lines: Vec<Line>,
-    state: State,
+    simulation: Simulation,
 }
 
 impl Model for World {
@@ -78,19 +79,21 @@ impl World {
     ghost use Rattle.stripe_code.specs.Codes.{coding};
     ghost use Rattle.protocol.specs.Happenings.{happenings_of};
     ghost use Rattle.world.specs.Runs.{world_of};
-    ghost use Rattle.world.specs.States.{outcome_of, IsOfStripes};
+    ghost use Rattle.world.specs.Shown.{IsOfStripes};
+    ghost use Rattle.world.specs.Texts.{outcome_of};
     ghost use Rattle.world.specs.Steps.{Ran, Stands, with_line, log_at};
+    ghost use Rattle.world.specs.Walks.{AreEntriesOf};
 
     /// All bricks up, their stores fresh, their clocks at 0, and nothing sent.
     pub fn new(alloc: Global, layout: Layout) -> Result<World, NoMem>
         ensures { IfOk result (λ world. world ≡ record { layout = layout; lines = [] }) }
     {
-        let state = State::new(alloc, &layout)?;
+        let simulation = Simulation::new(alloc, &layout)?;
         Ok(World {
             alloc,
             layout,
             lines: Vec::new(alloc),
-            state,
+            simulation,
         })
     }
 
@@ -109,9 +112,9 @@ impl World {
             Some(line) => line,
             None => return Err(StepFault::BadLine),
         };
-        let before = self.state.history.marks.len();
+        let before = self.simulation.history.marks.len();
         let outcome = self.run(line)?;
-        Ok(print(self.alloc, outcome, &self.state.history.marks[before..])?)
+        Ok(print(self.alloc, outcome, &self.simulation.history.marks[before..])?)
     }
 
     /// Runs a line.
@@ -123,7 +126,7 @@ impl World {
         ensures err { OnErr result (self.new ≡ self.old) }
     {
         self.lines.reserve(1)?;
-        let outcome = self.state.run(self.alloc, &self.layout, &line)?;
+        let outcome = self.simulation.run(self.alloc, &self.layout, &line)?;
         put(&mut self.lines, line);
         Ok(outcome)
     }
@@ -139,14 +142,14 @@ impl World {
     pub fn marks(&self) -> &[Mark]
         ensures { result.now ≡ (world_of self.now).marks }
     {
-        self.state.history.marks.as_slice()
+        self.simulation.history.marks.as_slice()
     }
 
     /// Every packet that was ever sent, in order.
     pub fn sent(&self) -> &[Packet]
         ensures { result.now ≡ (world_of self.now).packets }
     {
-        self.state.history.sent.as_slice()
+        self.simulation.history.sent.as_slice()
     }
 
     /// A brick's part of a stripe, with its log, oldest version first. None exactly where there is no such group or stripe, or no such brick
@@ -163,22 +166,42 @@ impl World {
         if stripe.0 >= stripes {
             return None;
         }
-        let brick = self.state.bricks.get(brick.0 as usize)?;
+        let brick = self.simulation.bricks.get(brick.0 as usize)?;
         match &brick.power {
             Power::Up(node) => Some(node.log(group, stripe)),
             Power::Down(_) => None,
         }
     }
 
-    /// The happenings of a stripe, in order.
-    pub fn happenings(&self, group: GroupId, stripe: StripeNo) -> Result<Vec<Happening>, NoMem>
+    /// The entries of all stripes' operations, for `happenings_among`.
+    pub fn stripe_entries(&self) -> Result<StripeEntries, NoMem>
+        ensures { IfOk result (λ entries. AreEntriesOf entries (world_of self.now)) }
+    {
+        StripeEntries::gather(self.alloc, self.simulation.history.operations.as_slice())
+    }
+
+    /// The happenings of a stripe, in order, from the entries of all stripes' operations.
+    pub fn happenings_among(
+        &self,
+        entries: &StripeEntries,
+        group: GroupId,
+        stripe: StripeNo,
+    ) -> Result<Vec<Happening>, NoMem>
+        requires { AreEntriesOf entries.now (world_of self.now) }
         ensures { IfOk result (λ happenings. happenings.items ≡ happenings_of (world_of self.now) group.0 stripe.0) }
     {
         walks::happenings(
             self.alloc,
-            self.state.history.operations.as_slice(),
-            group,
-            stripe,
+            self.simulation.history.operations.as_slice(),
+            entries.of(group, stripe),
         )
+    }
+
+    /// The happenings of a stripe, in order. For those of many stripes, `stripe_entries` is to be called once.
+    pub fn happenings(&self, group: GroupId, stripe: StripeNo) -> Result<Vec<Happening>, NoMem>
+        ensures { IfOk result (λ happenings. happenings.items ≡ happenings_of (world_of self.now) group.0 stripe.0) }
+    {
+        let entries = self.stripe_entries()?;
+        self.happenings_among(&entries, group, stripe)
     }
 }

@@ -1,6 +1,6 @@
 -- A fresh store was not opened yet, and is opened once.
 use Rattle.std.proofs.Common.{refl}
-use Rattle.world.specs.States.{unopened}
+use Rattle.world.specs.Shown.{unopened}
 use Rattle.world.proofs.BrickLemmas.{fresh_runs}
 use Rattle.world.proofs.bricks.fresh_brick.Goals as goal
 

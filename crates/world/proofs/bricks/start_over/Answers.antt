@@ -1,6 +1,6 @@
 -- The brick runs over its disk.
 use Rattle.std.proofs.Common.{refl}
-use Rattle.world.proofs.BrickLemmas.{runs_over, is_spent, rests_still}
+use Rattle.world.proofs.BrickLemmas.{runs_over}
 use Rattle.world.proofs.bricks.start_over.Goals as goal
 
 pub returns-in-Ok-start : goal.returns-in-Ok-start

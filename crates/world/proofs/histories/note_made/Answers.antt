@@ -1,14 +1,14 @@
 -- The operation of the number changed, where there is one.
-use Rattle.world.specs.States.{made_known}
+use Rattle.world.specs.Shown.{made_kept}
 use Rattle.world.proofs.HistoryLemmas.{changes_none, changes_past, changes_at}
 use Rattle.world.proofs.histories.note_made.Goals as goal
 
 pub returns-then-number-eq0 : goal.returns-then-number-eq0
-returns-then-number-eq0 c = changes_none c.args.operations.now c.args.number (made_known c.args.stamp c.args.base) c.if-number-eq0.true
+returns-then-number-eq0 c = changes_none c.args.operations.now c.args.number (made_kept c.args.stamp c.args.base) c.if-number-eq0.true
 
 pub returns-then-place-operations : goal.returns-then-place-operations
 returns-then-place-operations c = changes_past c.args.operations.now c.args.number
-    (made_known c.args.stamp c.args.base) c.if-number-eq0.false c.if-place-operations.true
+    (made_kept c.args.stamp c.args.base) c.if-number-eq0.false c.if-place-operations.true
 
 pub returns : goal.returns
-returns c = changes_at c.args.operations.now c.args.number _ (made_known c.args.stamp c.args.base) c.if-number-eq0.false c.if-place-operations.false
+returns c = changes_at c.args.operations.now c.args.number _ (made_kept c.args.stamp c.args.base) c.if-number-eq0.false c.if-place-operations.false

@@ -6,5 +6,5 @@ use Rattle.world.proofs.walks.rising.Goals as goal
 
 pub returns : goal.returns
 returns c =
-    sorted_ascends c.in_ok-entries.entries.items c.sort.new.self.items c.sort.ensures.permutation c.in_ok-sort.ensures.sorted
-    ∙ ap ascending c.in_ok-entries.ensures
+    sorted_ascends c.in_ok-rising.rising.items c.sort.new.self.items c.sort.ensures.permutation c.in_ok-sort.ensures.sorted
+    ∙ ap ascending c.in_ok-rising.ensures.items

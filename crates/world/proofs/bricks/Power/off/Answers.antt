@@ -1,7 +1,7 @@
 -- The disk of the brick is at rest.
 use Rattle.std.proofs.Common.{refl, subst}
 use Rattle.world.specs.declared.bricks.Power.{Power}
-use Rattle.world.specs.States.{ShowsPower}
+use Rattle.world.specs.Shown.{ShowsPower}
 use Rattle.world.proofs.BrickLemmas.{rests_off, rests_stopped}
 use Rattle.world.proofs.bricks.Power.off.Goals as goal
 

@@ -1,6 +1,6 @@
 -- A brick that is down starts over its disk.
 use Rattle.std.proofs.Common.{Bool, sym, subst}
-use Rattle.world.specs.States.{ShowsPower, TurnsOn}
+use Rattle.world.specs.Shown.{ShowsPower, TurnsOn}
 use Rattle.world.specs.declared.bricks.Power.{Power}
 use Rattle.world.proofs.bricks.Power.on.Goals as goal
 

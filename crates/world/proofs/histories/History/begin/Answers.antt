@@ -1,7 +1,7 @@
 -- What is put is what the machine notes.
 use Rattle.std.proofs.Common.{◌+◌, [], ◌∷◌, ◌++◌, length, refl, ap, ◌∙◌}
 use Rattle.reg_model.specs.declared.marks.Mark.TheVariants.{Begin}
-use Rattle.world.proofs.HistoryLemmas.{begun_known, tells_began}
+use Rattle.world.proofs.HistoryLemmas.{begun_kept, tells_began}
 use Rattle.world.proofs.histories.History.begin.Goals as goal
 
 pub returns-clause-begun : goal.returns-clause-begun
@@ -12,6 +12,6 @@ returns-clause-begun c w step tells sent boot next number =
     (c.put_all.ensures ∙ ap (λ xs. c.args.self.now.sent.items ++ xs) sent)
     (c.put-2.ensures ∙ ap (λ p. c.args.self.now.marks.items ++ Begin p (c.len.result + 1) c.args.brick c.args.ask ∷ []) place
     ∙ ap (λ n. c.args.self.now.marks.items ++ Begin (length c.args.self.now.marks.items) (n + 1) c.args.brick c.args.ask ∷ []) count)
-    (c.put.ensures ∙ ap (λ writes. c.args.self.now.operations.items ++ record (begun_known c.len-position.result c.args.ask) { writes = writes } ∷ []) c.writes-writes.ensures
-    ∙ ap (λ p. c.args.self.now.operations.items ++ begun_known p c.args.ask ∷ []) place)
+    (c.put.ensures ∙ ap (λ writes. c.args.self.now.operations.items ++ record (begun_kept c.len-position.result c.args.ask) { writes = writes } ∷ []) c.writes-writes.ensures
+    ∙ ap (λ p. c.args.self.now.operations.items ++ begun_kept p c.args.ask ∷ []) place)
     refl boot next number

@@ -4,7 +4,7 @@ use Rattle.std.proofs.lemmas.Option.{same_Some}
 use Rattle.std.proofs.lemmas.Result.{on_ok_weaker}
 use Rattle.std.specs.BTreeMap.{get}
 use Rattle.protocol.specs.Worlds.{World}
-use Rattle.world.specs.States.{Tells, call_cmp}
+use Rattle.world.specs.Shown.{Tells, pair_cmp}
 use Rattle.world.proofs.histories.History.expect_call.Goals as goal
 
 pub returns-in_err-make_room-clause-same : goal.returns-in_err-make_room-clause-same
@@ -13,10 +13,10 @@ returns-in_err-make_room-clause-same c w next tells = c.make_room.ensures.same w
 pub returns-in-Some-clause-number : goal.returns-in-Some-clause-number
 returns-in-Some-clause-number c =
     on_ok_weaker c.number_call.result
-    (λ (numbered : (w : World) → Tells c.make_room.new.self w → get call_cmp c.number_call.new.self.numbers (c.args.brick.0, c.in-Some.seq) ≡ Some
+    (λ (numbered : (w : World) → Tells c.make_room.new.self w → get pair_cmp c.number_call.new.self.numbers (c.args.brick.0, c.in-Some.seq) ≡ Some
     (w.begun + 1))
     (seq : ℕ) (is : c.args.next ≡ Some seq) (w : World) (tells : Tells c.args.self.now w).
-    subst (λ (k : ℕ). get call_cmp c.number_call.new.self.numbers (c.args.brick.0, k) ≡ Some (w.begun + 1)) (same_Some _ _ (sym c.in-Some.is ∙ is))
+    subst (λ (k : ℕ). get pair_cmp c.number_call.new.self.numbers (c.args.brick.0, k) ≡ Some (w.begun + 1)) (same_Some _ _ (sym c.in-Some.is ∙ is))
     (numbered w (c.make_room.ensures.same w tells)))
     c.number_call.ensures.number
 

@@ -3,8 +3,8 @@ use Rattle.std.proofs.Common.{List, [], ◌∷◌, ◌++◌, length, arith, sym,
 use Rattle.lines.specs.declared.forms.Line.{Line}
 use Rattle.world.specs.Runs.{Run, world_of}
 use Rattle.world.specs.Standing.{run_of}
-use Rattle.world.specs.States.{Shows}
-use Rattle.world.proofs.NodeLemmas.{nodes_of}
+use Rattle.world.specs.Shown.{Shows}
+use Rattle.world.proofs.BrickListLemmas.{nodes_of}
 use Rattle.world.proofs.RunLaws.{numbered}
 use Rattle.world.proofs.RunLemmas.{shows_line}
 use Rattle.world.proofs.worlds.World.run.Goals as goal
@@ -36,7 +36,7 @@ returns-clause-marks c =
       arith,
       before,
       ap length after.history.marks,
-      c.self.inside.state.history.marks.ok.0,
+      c.self.inside.simulation.history.marks.ok.0,
       c.run.new.self.history.marks.ok.0,
       c.run.ensures.marks,
     )

@@ -1,0 +1,386 @@
+-- What the bricks show, after a step of one of them.
+use Rattle.std.proofs.Common.{◌≡◌, ◌≢◌, ℕ, ◌+◌, ◌^◌, ◌<◌, ◌≤◌, ◌&&◌, Bool, true, false, not, ⊎_elim, List, [], ◌∷◌, ◌++◌, length, set, get_or, Option, Some, None, refl, sym, ap, ◌∙◌, subst, arith, length-append}
+use Rattle.std.specs.Prelude.{slice_get, Result, Ok, Err, IfOk, OnErr}
+use Rattle.std.specs.Option.{ForSome, SomeIff}
+use Rattle.std.proofs.lemmas.Bool.Decides.{nat_tests}
+use Rattle.std.proofs.lemmas.List.{length-set}
+use Rattle.std.proofs.lemmas.Option.{slice_get_read}
+use Rattle.std.proofs.lemmas.Result.{IfOk-weaker, on_err_weaker}
+use Rattle.fab_base.specs.declared.asks.Ask.{Ask}
+use Rattle.fab_base.specs.declared.faults.NoMem.{NoMem}
+use Rattle.fab_base.specs.declared.identities.BrickId.{BrickId}
+use Rattle.fab_disk.specs.MemDisk.{IsSound}
+use Rattle.fab_disk.specs.declared.mem_disk.MemDisk.{MemDisk}
+use Rattle.messages.specs.declared.packets.Packet.{Packet}
+use Rattle.brick_store.specs.Bricks.{Brick as Store}
+use Rattle.node.specs.declared.outs.Begun.{Begun}
+use Rattle.node.specs.declared.outs.Outs.{Outs}
+use Rattle.node.specs.declared.faults.NodeFault.{NodeFault}
+use Rattle.stripe_code.specs.Codes.{coding}
+use Rattle.node.specs.Faults.{RefusesAs}
+use Rattle.node.specs.Running.{Running, state_of, IsSameBrick}
+use Rattle.node.specs.States.{BeginsAs, StepsAs}
+use Rattle.protocol.specs.Worlds.{World, first_world, is_brick, is_up, may_start}
+use Rattle.fab_base.specs.Layouts.{Layout}
+use Rattle.protocol.specs.Nodes as machine
+use Rattle.world.specs.Runs.{brick_of}
+use Rattle.world.specs.Shown.{IsRunning, Rests, ShowsPower, ShowsBrick, ShowsBricks, ShowsStarted, IsNodeOf, IsOn, IsUp, FindsUp, AreNodesOf, TurnsOn}
+use Rattle.world.specs.declared.bricks.Brick.{Brick}
+use Rattle.world.specs.declared.bricks.Power.{Power}
+use Rattle.world.specs.declared.bricks.Power.TheVariants.{Up, Down}
+use Rattle.world.proofs.BrickLemmas.{still_runs}
+use Rattle.world.proofs.Places.{grown, replaced, value_here, value_elsewhere}
+
+-- one brick changed, and no other
+shows_after : (layout : Layout) (bricks : List Brick) (b : ℕ) (brick : Brick) (w v : World) → ShowsBrick layout b brick (v.nodes b) (v.up b)
+    (v.clocks b)
+    → ((i : ℕ) → i ≢ b → (v.nodes i ≡ w.nodes i) × (v.up i ≡ w.up i) × (v.clocks i ≡ w.clocks i))
+    → ShowsBricks layout bricks w.nodes w.up w.clocks → ShowsBricks layout (set bricks b brick) v.nodes v.up v.clocks
+shows_after layout bricks b brick w v is stay shows = record {
+  count = length-set bricks b brick ∙ shows.count;
+  each = λ i x at.
+      ⊎_elim
+      (λ (here : (i ≡ b) × (brick ≡ x)).
+      subst (λ (y : Brick). ShowsBrick layout i y (v.nodes i) (v.up i) (v.clocks i)) here.1
+      (subst (λ (k : ℕ). ShowsBrick layout k brick (v.nodes k) (v.up k) (v.clocks k)) (sym here.0) is))
+      (λ (there : (i ≢ b) × (slice_get bricks i ≡ Some x)).
+      let kept = stay i there.0 in
+      subst (λ (node : machine.Node). ShowsBrick layout i x node (v.up i) (v.clocks i)) (sym kept.0)
+      (subst (λ (up : Bool). ShowsBrick layout i x (w.nodes i) up (v.clocks i)) (sym kept.1)
+      (subst (λ (time : ℕ). ShowsBrick layout i x (w.nodes i) (w.up i) time) (sym kept.2) (shows.each i x there.1))))
+      (replaced bricks b brick i x at);
+}
+
+-- what the brick of a number is
+brick_at : (layout : Layout) (bricks : List Brick) (w : World) (b : ℕ) (brick : Brick) → b < length bricks
+    → brick ≡ get_or bricks b brick → ShowsBricks layout bricks w.nodes w.up w.clocks → ShowsBrick layout b brick (w.nodes b) (w.up b) (w.clocks b)
+brick_at layout bricks w b brick within is shows = shows.each b brick (slice_get_read bricks (length bricks) b brick refl within is)
+
+-- what a brick is that runs
+runs_at : (layout : Layout) (bricks : List Brick) (w : World) (b : ℕ) (brick : Brick) (node : Running MemDisk) → b < length bricks
+    → brick ≡ get_or bricks b brick → brick.power ≡ Up node → ShowsBricks layout bricks w.nodes w.up w.clocks
+    → (w.up b ≡ true) × IsRunning layout (brick_of b) (w.nodes b) node
+runs_at layout bricks w b brick node within is on shows =
+    subst (λ (power : Power). ShowsPower layout (brick_of b) (w.nodes b) (w.up b) power) on (brick_at layout bricks w b brick within is shows).power
+
+-- what a brick is that is down
+rests_at : (layout : Layout) (bricks : List Brick) (w : World) (b : ℕ) (brick : Brick) (disk : MemDisk) → b < length bricks
+    → brick ≡ get_or bricks b brick → brick.power ≡ Down disk → ShowsBricks layout bricks w.nodes w.up w.clocks
+    → (w.up b ≡ false) × Rests layout (brick_of b) (w.nodes b) disk
+rests_at layout bricks w b brick disk within is off shows =
+    subst (λ (power : Power). ShowsPower layout (brick_of b) (w.nodes b) (w.up b) power) off (brick_at layout bricks w b brick within is shows).power
+
+-- the brick with this power
+abbrev with_power : Brick → Power → Brick
+with_power brick power = record { power = power; clock = brick.clock }
+
+-- a brick that took a step
+shows_step : (layout : Layout) (bricks : List Brick) (b : ℕ) (old : Brick) (new : Running MemDisk) (w : World) (next : machine.Node)
+    → old.clock ≡ w.clocks b → w.up b ≡ true → IsRunning layout (brick_of b) next new
+    → ShowsBricks layout bricks w.nodes w.up w.clocks → ShowsBricks layout (set bricks b (with_power old (Up new)))
+    (machine.put w.nodes b next) w.up w.clocks
+shows_step layout bricks b old new w next clock up runs shows =
+    shows_after layout bricks b (with_power old (Up new)) w (record w { nodes = machine.put w.nodes b next })
+    (record {
+      power = (up, subst (λ (state : machine.Node). IsRunning layout (brick_of b) state new) (sym (value_here w.nodes b b next refl)) runs);
+      clock = clock;
+    })
+    (λ i other. (value_elsewhere w.nodes b i next other, refl, refl)) shows
+
+-- a brick that is up or down now
+shows_turned : (layout : Layout) (bricks : List Brick) (b : ℕ) (old : Brick) (power : Power) (up : Bool) (w : World) (next : machine.Node)
+    → old.clock ≡ w.clocks b → ShowsPower layout (brick_of b) next up power → ShowsBricks layout bricks w.nodes w.up w.clocks
+    → ShowsBricks layout (set bricks b (with_power old power)) (machine.put w.nodes b next) (machine.put w.up b up) w.clocks
+shows_turned layout bricks b old power up w next clock is shows =
+    shows_after layout bricks b (with_power old power) w (record w { nodes = machine.put w.nodes b next; up = machine.put w.up b up })
+    (record {
+      power = subst (λ (state : machine.Node). ShowsPower layout (brick_of b) state (machine.put w.up b up b) power)
+          (sym (value_here w.nodes b b next refl))
+          (subst (λ (on : Bool). ShowsPower layout (brick_of b) next on power) (sym (value_here w.up b b up refl)) is);
+      clock = clock;
+    })
+    (λ i other. (value_elsewhere w.nodes b i next other, value_elsewhere w.up b i up other, refl)) shows
+
+-- a brick stopped
+pub shows_stopped : (layout : Layout) (bricks : List Brick) (b : ℕ) (old : Brick) (power : Power) (w : World) → b < length bricks
+    → old ≡ get_or bricks b old
+    → ((me : BrickId) (state : machine.Node) (up : Bool) → ShowsPower layout me state up old.power
+    → ShowsPower layout me (machine.stopped state) false power)
+    → ShowsBricks layout bricks w.nodes w.up w.clocks
+    → ShowsBricks layout (set bricks b (with_power old power)) (machine.put w.nodes b (machine.stopped (w.nodes b)))
+    (machine.put w.up b false) w.clocks
+shows_stopped layout bricks b old power w within is off shows =
+    let was = brick_at layout bricks w b old within is shows in
+    shows_turned layout bricks b old power false w (machine.stopped (w.nodes b)) was.clock (off (brick_of b) (w.nodes b) (w.up b) was.power) shows
+
+-- whether a brick of the layout may start
+may_start_is : (layout : Layout) (bricks : List Brick) (b : ℕ) (w : World) → b < length bricks → ShowsBricks layout bricks w.nodes w.up w.clocks
+    → may_start layout w (brick_of b) 1 ≡ not (w.up b) && machine.may_open 1 (w.nodes b)
+may_start_is layout bricks b w within shows =
+    let here : is_brick layout (brick_of b) ≡ true = (let count = shows.count in grind (arith, nat_tests)) in
+    ap (λ (x : Bool). x && (not (w.up b) && machine.may_open 1 (w.nodes b))) here
+
+-- a brick that is as it was
+shows_kept : (layout : Layout) (bricks : List Brick) (b : ℕ) (old : Brick) (power : Power) (w : World) → b < length bricks → old ≡ get_or bricks b old
+    → ShowsPower layout (brick_of b) (w.nodes b) (w.up b) power → ShowsBricks layout bricks w.nodes w.up w.clocks
+    → ShowsBricks layout (set bricks b (with_power old power)) w.nodes w.up w.clocks
+shows_kept layout bricks b old power w within is power_shows shows =
+    let was = brick_at layout bricks w b old within is shows in
+    shows_after layout bricks b (with_power old power) w w (record { power = power_shows; clock = was.clock }) (λ i other. (refl, refl, refl)) shows
+
+-- a brick that was to start
+module _ (layout : Layout) (bricks : List Brick) (b : ℕ) (old : Brick) (power : Power) (within : b < length bricks)
+    (is : old ≡ get_or bricks b old) where
+  pub shows_turned_on : (result : Result Bool NoMem) → ((state : machine.Node) (up : Bool) → ShowsPower layout (brick_of b) state up old.power
+      → TurnsOn layout (brick_of b) state up power result)
+      → IfOk result (λ started. (w : World) → ShowsBricks layout bricks w.nodes w.up w.clocks → ShowsStarted layout (brick_of b) w
+      (set bricks b (with_power old power)) started)
+  shows_turned_on (Ok true) turns = λ w shows.
+      let was = brick_at layout bricks w b old within is shows in
+      let runs = turns (w.nodes b) (w.up b) was.power in
+      record {
+        may = sym (may_start_is layout bricks b w within shows ∙ runs.0);
+        after = shows_turned layout bricks b old power true w (machine.restarted 1 (w.nodes b)) was.clock runs.1 shows;
+      }
+  shows_turned_on (Ok false) turns = λ w shows.
+      let was = brick_at layout bricks w b old within is shows in
+      let kept = turns (w.nodes b) (w.up b) was.power in
+      record {
+        may = sym (may_start_is layout bricks b w within shows ∙ kept.0);
+        after = shows_kept layout bricks b old power w within is kept.1 shows;
+      }
+  shows_turned_on (Err refused) turns = tt
+
+  pub shows_not_on : (result : Result Bool NoMem) → ((state : machine.Node) (up : Bool) → ShowsPower layout (brick_of b) state up old.power
+      → TurnsOn layout (brick_of b) state up power result)
+      → OnErr result ((w : World) → ShowsBricks layout bricks w.nodes w.up w.clocks
+      → ShowsBricks layout (set bricks b (with_power old power)) w.nodes w.up w.clocks)
+  shows_not_on (Ok started) turns = tt
+  shows_not_on (Err refused) turns = λ w shows.
+      shows_kept layout bricks b old power w within is (turns (w.nodes b) (w.up b) (brick_at layout bricks w b old within is shows).power) shows
+
+-- what a brick sends at a tick is what the machine's sends
+pub ticks_as : (layout : Layout) (bricks : List Brick) (b : ℕ) (brick : Brick) (node : Running MemDisk) (packets : List Packet) → b < length bricks
+    → brick ≡ get_or bricks b brick → brick.power ≡ Up node → packets ≡ machine.ticked (coding node.layout) node.me (state_of node)
+    → (w : World) → ShowsBricks layout bricks w.nodes w.up w.clocks → packets ≡ machine.ticked (coding layout) (brick_of b) (w.nodes b)
+ticks_as layout bricks b brick node packets within is on sent w shows =
+    let runs = (runs_at layout bricks w b brick node within is on shows).1 in
+    sent ∙ ap (λ (l : Layout). machine.ticked (coding l) node.me (state_of node)) runs.layout_is
+    ∙ ap (λ (x : BrickId). machine.ticked (coding layout) x (state_of node)) runs.me_is
+    ∙ ap (λ (x : machine.Node). machine.ticked (coding layout) (brick_of b) x) runs.state_is
+
+-- a brick's clock was set
+pub shows_clock : (layout : Layout) (bricks : List Brick) (b : ℕ) (old : Brick) (time : ℕ) (w : World) → b < length bricks → old ≡ get_or bricks b old
+    → ShowsBricks layout bricks w.nodes w.up w.clocks
+    → ShowsBricks layout (set bricks b (record { power = old.power; clock = time })) w.nodes w.up (machine.put w.clocks b time)
+shows_clock layout bricks b old time w within is shows =
+    let was = brick_at layout bricks w b old within is shows in
+    shows_after layout bricks b (record { power = old.power; clock = time }) w (record w { clocks = machine.put w.clocks b time })
+    (record { power = was.power; clock = sym (value_here w.clocks b b time refl) })
+    (λ i other. (refl, refl, value_elsewhere w.clocks b i time other)) shows
+
+-- a brick refuses as the machine's does
+pub asked_refused : (layout : Layout) (bricks : List Brick) (b : ℕ) (brick : Brick) (node : Running MemDisk) (ask : Ask)
+    (result : Result Begun NodeFault)
+    → b < length bricks → brick ≡ get_or bricks b brick → brick.power ≡ Up node
+    → RefusesAs result (machine.refusal_of node.layout (state_of node) ask)
+    → (w : World) → ShowsBricks layout bricks w.nodes w.up w.clocks → RefusesAs result (machine.refusal_of layout (w.nodes b) ask)
+asked_refused layout bricks b brick node ask result within is on refuses w shows =
+    let runs = (runs_at layout bricks w b brick node within is on shows).1 in
+    subst (λ (x : machine.Node). RefusesAs result (machine.refusal_of layout x ask)) runs.state_is
+    (subst (λ (l : Layout). RefusesAs result (machine.refusal_of l (state_of node) ask)) runs.layout_is refuses)
+
+-- a brick begins as the machine's does
+pub asked_begun : (bricks : List Brick) (b : ℕ) (old : Brick) (node new : Running MemDisk) (ask : Ask) (result : Result Begun NodeFault)
+    → b < length bricks → old ≡ get_or bricks b old → old.power ≡ Up node → IsSameBrick node new → new.brick ≡ node.brick
+    → IfOk result (BeginsAs (state_of new) (machine.invoked (coding node.layout) node.me old.clock (state_of node) ask))
+    → IfOk result (λ begun. (layout : Layout) (w : World) → ShowsBricks layout bricks w.nodes w.up w.clocks
+    → (let step = machine.invoked (coding layout) (brick_of b) (w.clocks b) (w.nodes b) ask in
+    (begun.packets.items ≡ step.packets) × (begun.seq ≡ step.node.seq)
+    × ShowsBricks layout (set bricks b (with_power old (Up new))) (machine.put w.nodes b step.node) w.up w.clocks))
+asked_begun bricks b old node new ask result within is on same store begins =
+    IfOk-weaker result (BeginsAs (state_of new) (machine.invoked (coding node.layout) node.me old.clock (state_of node) ask)) _
+    (λ begun as_machine layout w shows.
+    let at = brick_at layout bricks w b old within is shows in
+    let up = runs_at layout bricks w b old node within is on shows in
+    let runs = up.1 in
+    let alike : machine.invoked (coding node.layout) node.me old.clock (state_of node) ask
+    ≡ machine.invoked (coding layout) (brick_of b) (w.clocks b) (w.nodes b) ask =
+    ap (λ (l : Layout). machine.invoked (coding l) node.me old.clock (state_of node) ask) runs.layout_is
+    ∙ ap (λ (x : BrickId). machine.invoked (coding layout) x old.clock (state_of node) ask) runs.me_is
+    ∙ ap (λ (t : ℕ). machine.invoked (coding layout) (brick_of b) t (state_of node) ask) at.clock
+    ∙ ap (λ (x : machine.Node). machine.invoked (coding layout) (brick_of b) (w.clocks b) x ask) runs.state_is
+    in
+    let next : machine.Node = (machine.invoked (coding layout) (brick_of b) (w.clocks b) (w.nodes b) ask).node in (
+      as_machine.packets ∙ ap (λ (x : machine.NodeStep). x.packets) alike,
+      as_machine.seq ∙ ap (λ (x : machine.NodeStep). x.node.seq) alike,
+      shows_step layout bricks b old new w next at.clock up.0
+          (still_runs layout (brick_of b) (w.nodes b) next node new runs same (as_machine.state_is ∙ ap (λ (x : machine.NodeStep). x.node) alike)
+          (ap (λ (x : Store MemDisk). x.halted) store ∙ runs.runs) (subst (λ (x : Store MemDisk). IsSound x.disk) (sym store) runs.sound))
+          shows,
+    ))
+    begins
+
+-- a brick of which the machine sees the same
+pub same_shown : (bricks : List Brick) (b : ℕ) (old : Brick) (node new : Running MemDisk)
+    → b < length bricks → old ≡ get_or bricks b old → old.power ≡ Up node → IsSameBrick node new → new.brick.halted ≡ false → IsSound new.brick.disk
+    → state_of new ≡ state_of node
+    → (layout : Layout) (w : World) → ShowsBricks layout bricks w.nodes w.up w.clocks
+    → ShowsBricks layout (set bricks b (with_power old (Up new))) w.nodes w.up w.clocks
+same_shown bricks b old node new within is on same halted sound state layout w shows =
+    let at = brick_at layout bricks w b old within is shows in
+    let up = runs_at layout bricks w b old node within is on shows in
+    shows_after layout bricks b (with_power old (Up new)) w w
+    (record {
+      power = (up.0, still_runs layout (brick_of b) (w.nodes b) (w.nodes b) node new up.1 same (state ∙ up.1.state_is) halted sound);
+      clock = at.clock;
+    })
+    (λ i other. (refl, refl, refl)) shows
+
+pub asked_same : {T E : Type 0} (bricks : List Brick) (b : ℕ) (old : Brick) (node new : Running MemDisk) (result : Result T E)
+    → b < length bricks → old ≡ get_or bricks b old → old.power ≡ Up node → IsSameBrick node new → new.brick.halted ≡ false → IsSound new.brick.disk
+    → OnErr result (state_of new ≡ state_of node)
+    → OnErr result ((layout : Layout) (w : World) → ShowsBricks layout bricks w.nodes w.up w.clocks
+    → ShowsBricks layout (set bricks b (with_power old (Up new))) w.nodes w.up w.clocks)
+asked_same bricks b old node new result within is on same halted sound err =
+    on_err_weaker result (same_shown bricks b old node new within is on same halted sound) err
+
+-- a brick handles a message as the machine's does
+pub handed_over : (bricks : List Brick) (b : ℕ) (old : Brick) (node new : Running MemDisk) (packet : Packet) (outs : Outs)
+    → b < length bricks → old ≡ get_or bricks b old → old.power ≡ Up node → IsSameBrick node new → new.brick.halted ≡ false → IsSound new.brick.disk
+    → StepsAs (state_of new) (machine.received (coding node.layout) node.me old.clock (state_of node) packet) outs
+    → (layout : Layout) (w : World) → ShowsBricks layout bricks w.nodes w.up w.clocks
+    → (let step = machine.received (coding layout) (brick_of b) (w.clocks b) (w.nodes b) packet in
+    (outs.packets.items ≡ step.packets) × (outs.told ≡ step.told)
+    × ShowsBricks layout (set bricks b (with_power old (Up new))) (machine.put w.nodes b step.node) w.up w.clocks)
+handed_over bricks b old node new packet outs within is on same halted sound as_machine layout w shows =
+    let at = brick_at layout bricks w b old within is shows in
+    let up = runs_at layout bricks w b old node within is on shows in
+    let runs = up.1 in
+    let alike : machine.received (coding node.layout) node.me old.clock (state_of node) packet
+    ≡ machine.received (coding layout) (brick_of b) (w.clocks b) (w.nodes b) packet =
+    ap (λ (l : Layout). machine.received (coding l) node.me old.clock (state_of node) packet) runs.layout_is
+    ∙ ap (λ (x : BrickId). machine.received (coding layout) x old.clock (state_of node) packet) runs.me_is
+    ∙ ap (λ (t : ℕ). machine.received (coding layout) (brick_of b) t (state_of node) packet) at.clock
+    ∙ ap (λ (x : machine.Node). machine.received (coding layout) (brick_of b) (w.clocks b) x packet) runs.state_is
+    in
+    let next : machine.Node = (machine.received (coding layout) (brick_of b) (w.clocks b) (w.nodes b) packet).node in (
+      as_machine.packets ∙ ap (λ (x : machine.NodeStep). x.packets) alike,
+      as_machine.told ∙ ap (λ (x : machine.NodeStep). x.told) alike,
+      shows_step layout bricks b old new w next at.clock up.0
+          (still_runs layout (brick_of b) (w.nodes b) next node new runs same
+          (as_machine.state_is ∙ ap (λ (x : machine.NodeStep). x.node) alike) halted sound)
+          shows,
+    )
+
+-- the number of a brick's next call, by what the brick says
+pub next_shown : (layout : Layout) (bricks : List Brick) (b : ℕ) (brick : Brick) (node : Running MemDisk) (next : Option ℕ) → b < length bricks
+    → brick ≡ get_or bricks b brick → brick.power ≡ Up node → SomeIff next ((state_of node).seq + 1 < 2 ^ 64) ((state_of node).seq + 1)
+    → (w : World) → ShowsBricks layout bricks w.nodes w.up w.clocks → SomeIff next ((w.nodes b).seq + 1 < 2 ^ 64) ((w.nodes b).seq + 1)
+next_shown layout bricks b brick node next within is on gives w shows =
+    subst (λ (x : machine.Node). SomeIff next (x.seq + 1 < 2 ^ 64) (x.seq + 1))
+    (runs_at layout bricks w b brick node within is on shows).1.state_is gives
+
+-- it is above those so far
+pub next_above : (seq : ℕ) (next : Option ℕ) → SomeIff next (seq + 1 < 2 ^ 64) (seq + 1) → ForSome next (λ n. seq < n)
+next_above seq None gives = λ n never. let e : None ≡ Some n = never in cc
+next_above seq (Some next) gives = λ n at.
+    let here : next ≡ n = let e : Some next ≡ Some n = at in cc in
+    let value : next ≡ seq + 1 = gives.1 in
+    omega arith
+
+-- and there is one where a number is left
+pub next_is : (seq : ℕ) (next : Option ℕ) → SomeIff next (seq + 1 < 2 ^ 64) (seq + 1) → seq + 1 < 2 ^ 64 → next ≡ Some (seq + 1)
+next_is seq None gives left = absurd (gives left)
+next_is seq (Some next) gives left = ap (λ n. Some n) gives.1
+
+-- bricks of the first world
+pub record AreFresh (layout : Layout) (bricks : List Brick) (n : ℕ) : Type 0 where
+  pub count : length bricks ≡ n
+  pub each : (i : ℕ) (brick : Brick) → slice_get bricks i ≡ Some brick → ShowsBrick layout i brick (machine.first_node layout.block) true 0
+
+-- no brick yet
+pub fresh_none : (layout : Layout) → AreFresh layout [] 0
+fresh_none layout = record { count = refl; each = λ i brick is. let e : None ≡ Some brick = is in cc }
+
+-- one more
+pub fresh_more : (layout : Layout) (bricks : List Brick) (n : ℕ) (brick : Brick) → AreFresh layout bricks n
+    → ShowsBrick layout n brick (machine.first_node layout.block) true 0 → AreFresh layout (bricks ++ brick ∷ []) (n + 1)
+fresh_more layout bricks n brick fresh one = record {
+  count = length-append bricks _ ∙ ap (λ k. k + 1) fresh.count;
+  each = λ i x is.
+      ⊎_elim
+      (λ (old : slice_get bricks i ≡ Some x). fresh.each i x old)
+      (λ (new : (i ≡ length bricks) × (brick ≡ x)).
+      subst (λ (y : Brick). ShowsBrick layout i y (machine.first_node layout.block) true 0) new.1
+      (subst (λ (k : ℕ). ShowsBrick layout k brick (machine.first_node layout.block) true 0) (sym (new.0 ∙ fresh.count)) one))
+      (grown bricks brick i x is);
+}
+
+-- fresh bricks are those of the first world
+pub shows_fresh : (layout : Layout) (bricks : List Brick) (n : ℕ) → n ≡ layout.bricks → AreFresh layout bricks n
+    → ShowsBricks layout bricks (first_world layout).nodes (first_world layout).up (first_world layout).clocks
+shows_fresh layout bricks n all fresh = record { count = fresh.count ∙ all; each = fresh.each }
+
+-- each brick that is shown is one of the layout
+pub nodes_of : (layout : Layout) (bricks : List Brick) (nodes : ℕ → machine.Node) (up : ℕ → Bool) (clocks : ℕ → ℕ)
+    → ShowsBricks layout bricks nodes up clocks
+    → AreNodesOf layout bricks
+nodes_of layout bricks nodes up clocks shows = λ i brick at. record { state = nodes i; up = up i; shows = (shows.each i brick at).power }
+
+-- the brick of a number is one of the layout
+pub node_at : (layout : Layout) (bricks : List Brick) (b : ℕ) (brick : Brick) → b < length bricks → brick ≡ get_or bricks b brick
+    → AreNodesOf layout bricks
+    → IsNodeOf layout b brick.power
+node_at layout bricks b brick within is of = of b brick (slice_get_read bricks (length bricks) b brick refl within is)
+
+-- the brick of a number that is up is on
+pub on_at : (layout : Layout) (bricks : List Brick) (number : BrickId) (brick : Brick) (power : Power) → brick ≡ get_or bricks number.0 brick
+    → brick.power ≡ power → IsUp layout bricks number → IsOn power
+on_at layout bricks number brick power is same up =
+    subst IsOn same (up.on brick (slice_get_read bricks (length bricks) number.0 brick refl up.within is))
+
+-- a brick is up in each world that is shown, or down
+up_is : (layout : Layout) (bricks : List Brick) (b : ℕ) (brick : Brick) (w : World) → b < length bricks → brick ≡ get_or bricks b brick
+    → ShowsBricks layout bricks w.nodes w.up w.clocks → is_up layout w (brick_of b) ≡ w.up b
+up_is layout bricks b brick w within is shows =
+    let here : is_brick layout (brick_of b) ≡ true = (let count = shows.count in grind (arith, nat_tests)) in
+    ap (λ (x : Bool). x && w.up b) here
+
+pub found_up : (layout : Layout) (bricks : List Brick) (b : ℕ) (brick : Brick) (node : Running MemDisk) → b < length bricks
+    → brick ≡ get_or bricks b brick → brick.power ≡ Up node → AreNodesOf layout bricks → FindsUp layout bricks b (Some (brick_of b))
+found_up layout bricks b brick node within is on of =
+    let at : slice_get bricks b ≡ Some brick = slice_get_read bricks (length bricks) b brick refl within is in
+    let one = node_at layout bricks b brick within is of in
+    let runs = (subst (λ (power : Power). ShowsPower layout (brick_of b) one.state one.up power) on one.shows).1 in (
+      refl,
+      record {
+        within = within;
+        on = λ x here.
+            let same : brick ≡ x = (let e : Some brick ≡ Some x = sym at ∙ here in cc) in
+            subst (λ (y : Brick). IsOn y.power) same (subst IsOn (sym on) (runs.runs, runs.sound));
+        up = λ w shows. up_is layout bricks b brick w within is shows ∙ (runs_at layout bricks w b brick node within is on shows).0;
+      },
+    )
+
+pub found_down : (layout : Layout) (bricks : List Brick) (b : ℕ) (brick : Brick) (disk : MemDisk) → b < length bricks → brick ≡ get_or bricks b brick
+    → brick.power ≡ Down disk → FindsUp layout bricks b None
+found_down layout bricks b brick disk within is off = λ w shows.
+    up_is layout bricks b brick w within is shows ∙ (rests_at layout bricks w b brick disk within is off shows).0
+
+-- there is no brick of a number past the last
+pub found_none : (layout : Layout) (bricks : List Brick) (b : ℕ) → layout.bricks ≤ b → FindsUp layout bricks b None
+found_none layout bricks b past = λ w shows. let there : is_brick layout (brick_of b) ≡ false = grind (arith, nat_tests) in ap
+    (λ (x : Bool). x && w.up b) there
+
+-- what was found of the bricks behind a slice
+pub down_at : (layout : Layout) (slice bricks : List Brick) (b : ℕ) (brick : BrickId) → slice ≡ bricks → b ≡ brick.0 → FindsUp layout slice b None
+    → (w : World) → ShowsBricks layout bricks w.nodes w.up w.clocks → is_up layout w brick ≡ false
+down_at layout slice bricks b brick same here found w shows =
+    ap (λ (k : ℕ). is_up layout w (brick_of k)) (sym here)
+    ∙ found w (subst (λ (xs : List Brick). ShowsBricks layout xs w.nodes w.up w.clocks) (sym same) shows)
+
+pub up_at : (layout : Layout) (slice bricks : List Brick) (b : ℕ) (brick found : BrickId) → slice ≡ bricks → b ≡ brick.0
+    → FindsUp layout slice b (Some found) → (found ≡ brick) × IsUp layout bricks found
+up_at layout slice bricks b brick found same here is =
+    (is.0 ∙ ap brick_of here, subst (λ (xs : List Brick). IsUp layout xs found) same is.1)

@@ -1,0 +1,264 @@
+-- What a state shows, line by line.
+use Rattle.std.proofs.Common.{◌≡◌, ℕ, ◌<◌, ◌≤◌, Bool, true, false, not, ◌&&◌, cond, nat_lt, List, ◌++◌, Option, Some, None, refl, sym, ap, ◌∙◌, subst, arith}
+use Rattle.std.specs.Prelude.{Result, Ok, Err, IfNone, OnErr, slice_get}
+use Rattle.std.proofs.lemmas.Bool.Decides.{nat_tests}
+use Rattle.fab_base.specs.declared.asks.Ask.{Ask}
+use Rattle.fab_base.specs.declared.asks.Op.{Op}
+use Rattle.fab_base.specs.declared.answers.Refusal.{Refusal}
+use Rattle.fab_base.specs.declared.identities.BrickId.{BrickId}
+use Rattle.messages.specs.declared.packets.Packet.{Packet}
+use Rattle.stripe_code.specs.Codes.{coding}
+use Rattle.node.specs.Running.{Running, state_of}
+use Rattle.fab_base.specs.Layouts.{Layout}
+use Rattle.protocol.specs.Nodes.{Node, NodeStep, put, is_stripe_op, refusal_of, invoked, received, ticked, stopped, may_open}
+use Rattle.protocol.specs.declared.tellings.Told.{Told}
+use Rattle.protocol.specs.declared.tellings.Told.TheVariants.{Nothing, Made, Answers}
+use Rattle.protocol.specs.Worlds.{World, Invokes, Delivers, Sets, Ticks, Crashes, Starts, is_up, may_start, packet_of, replies_with, world_began, world_stepped, world_stopped, world_started, happens}
+use Rattle.world.specs.Runs.{ask_of, brick_of}
+use Rattle.world.specs.Shown.{Shows, ShowsPower, ShowsBricks, ShowsStarted, Tells}
+use Rattle.world.specs.Texts.{handled_or_idle, set_or_idle, done_or_idle, started_or_idle}
+use Rattle.world.specs.declared.simulations.Outcome.TheVariants.{Marks, Idle}
+use Rattle.world.specs.declared.histories.History.{History}
+use Rattle.world.specs.declared.bricks.Brick.{Brick}
+use Rattle.world.specs.declared.bricks.Power.{Power}
+use Rattle.world.specs.declared.bricks.Power.TheVariants.{Up, Down}
+use Rattle.fab_disk.specs.declared.mem_disk.MemDisk.{MemDisk}
+use Rattle.world.specs.declared.simulations.Simulation.{Simulation}
+use Rattle.world.proofs.MachineBegins.{happens_refused, happens_down, happens_begun, happens_unsent, happens_astray, happens_handled, happens_set, happens_unset, happens_ticked, happens_unticked, happens_stopped, happens_unstopped, happens_started, happens_unstarted, after_message}
+use Rattle.world.proofs.HistoryLemmas.{tells_other, calls_same, tells_started}
+
+-- what holds anyway holds where there is an error
+pub on_err_always : {T E P : Type 0} (r : Result T E) → P → OnErr r P
+on_err_always (Ok x) p = tt
+on_err_always (Err e) p = p
+
+-- what holds anyway holds where there is no value
+pub if_none_always : {T P : Type 0} (o : Option T) → P → IfNone o P
+if_none_always None p = p
+if_none_always (Some x) p = tt
+
+-- an operation on the stripe of these numbers
+pub ask_is : (ask : Ask) (g s : ℕ) (op : Op) → ask.group.0 ≡ g → ask.stripe.0 ≡ s → ask.op ≡ op → ask ≡ ask_of g s op
+ask_is ask g s op group stripe same =
+    ap (λ x. ask_of x ask.stripe.0 ask.op) group ∙ ap (λ x. ask_of g x ask.op) stripe ∙ ap (λ x. ask_of g s x) same
+
+-- a brick of the layout that runs, and what it keeps of stripes
+pub up_shown : (layout : Layout) (state : Simulation) (w : World) (b : ℕ) (brick : Brick) (node : Running MemDisk) → Shows layout state w
+    → slice_get state.bricks.items b ≡ Some brick → brick.power ≡ Up node → b < layout.bricks
+    → (is_up layout w (brick_of b) ≡ true) × (state_of node ≡ w.nodes b)
+up_shown layout state w b brick node shows at on within =
+    let is = subst (λ (power : Power). ShowsPower layout (brick_of b) (w.nodes b) (w.up b) power) on (shows.bricks.each b brick at).power in (
+      ap (λ (x : Bool). x && w.up b) (let e : nat_lt b layout.bricks ≡ true = grind (arith, nat_tests) in e) ∙ is.0,
+      is.1.state_is,
+    )
+
+-- one that is down
+pub down_shown : (layout : Layout) (state : Simulation) (w : World) (b : ℕ) (brick : Brick) (disk : MemDisk) → Shows layout state w
+    → slice_get state.bricks.items b ≡ Some brick → brick.power ≡ Down disk → b < layout.bricks → is_up layout w (brick_of b) ≡ false
+down_shown layout state w b brick disk shows at off within =
+    let is = subst (λ (power : Power). ShowsPower layout (brick_of b) (w.nodes b) (w.up b) power) off (shows.bricks.each b brick at).power in
+    ap (λ (x : Bool). x && w.up b) (let e : nat_lt b layout.bricks ≡ true = grind (arith, nat_tests) in e) ∙ is.0
+
+-- an operation that began
+pub shows_begun : (layout : Layout) (state : Simulation) (w : World) (brick : BrickId) (ask : Ask) → is_up layout w brick ≡ true
+    → is_stripe_op ask.op ≡ true
+    → refusal_of layout (w.nodes brick.0) ask ≡ None
+    → ShowsBricks layout state.bricks.items (put w.nodes brick.0
+    (invoked (coding layout) brick (w.clocks brick.0) (w.nodes brick.0) ask).node) w.up w.clocks
+    → Tells state.history (world_began w brick ask (invoked (coding layout) brick (w.clocks brick.0) (w.nodes brick.0) ask))
+    → Shows layout state (happens (coding layout) w (Invokes brick ask))
+shows_begun layout state w brick ask up stripe none bricks history =
+    subst (λ (v : World). Shows layout state v) (sym (happens_begun (coding layout) w brick ask up stripe none))
+    (record { bricks = bricks; history = history })
+
+-- an operation that was refused
+pub shows_refused : (layout : Layout) (state : Simulation) (w : World) (brick : BrickId) (ask : Ask) (reason : Refusal)
+    → refusal_of layout (w.nodes brick.0) ask ≡ Some reason → Shows layout state w
+    → Shows layout state (happens (coding layout) w (Invokes brick ask))
+shows_refused layout state w brick ask reason is shows =
+    subst (λ (v : World). Shows layout state v) (sym (happens_refused (coding layout) w brick ask reason is)) shows
+
+-- an operation of a brick that is not up
+pub shows_down : (layout : Layout) (state : Simulation) (w : World) (brick : BrickId) (ask : Ask) → is_up layout w brick ≡ false
+    → Shows layout state w → Shows layout state (happens (coding layout) w (Invokes brick ask))
+shows_down layout state w brick ask down shows =
+    subst (λ (v : World). Shows layout state v) (sym (happens_down (coding layout) w brick ask down)) shows
+
+-- a number that was not sent
+pub shows_unsent : (layout : Layout) (state : Simulation) (w : World) (number : ℕ) → packet_of w.packets number ≡ None
+    → Shows layout state w → Shows layout state (happens (coding layout) w (Delivers number))
+shows_unsent layout state w number none shows =
+    subst (λ (v : World). Shows layout state v) (sym (happens_unsent (coding layout) w number none)) shows
+
+-- a message to a brick that is not up
+pub shows_astray : (layout : Layout) (state : Simulation) (w : World) (number : ℕ) (packet : Packet) → packet_of w.packets number ≡ Some packet
+    → is_up layout w packet.to ≡ false → Shows layout state w → Shows layout state (happens (coding layout) w (Delivers number))
+shows_astray layout state w number packet sent down shows =
+    subst (λ (v : World). Shows layout state v) (sym (happens_astray (coding layout) w number packet sent down)) shows
+
+-- a step changes its brick alone, whatever is told
+nodes_stepped : (w : World) (brick : BrickId) (step : NodeStep) (told : Told)
+    → (world_stepped w brick step told).nodes ≡ put w.nodes brick.0 step.node
+nodes_stepped w brick step Nothing = refl
+nodes_stepped w brick step (Made seq stamp base) = refl
+nodes_stepped w brick step (Answers seq answer seen) = refl
+
+-- and no clock
+clocks_stepped : (w : World) (brick : BrickId) (step : NodeStep) (told : Told) → (world_stepped w brick step told).clocks ≡ w.clocks
+clocks_stepped w brick step Nothing = refl
+clocks_stepped w brick step (Made seq stamp base) = refl
+clocks_stepped w brick step (Answers seq answer seen) = refl
+
+-- nor whether a brick is up
+up_stepped : (w : World) (brick : BrickId) (step : NodeStep) (told : Told) → (world_stepped w brick step told).up ≡ w.up
+up_stepped w brick step Nothing = refl
+up_stepped w brick step (Made seq stamp base) = refl
+up_stepped w brick step (Answers seq answer seen) = refl
+
+-- which replies count is told by no history
+pub tells_replies : (layout : Layout) (history : History) (w : World) (packet : Packet) → Tells history w
+    → Tells history (record w { replies = replies_with (coding layout) w packet })
+tells_replies layout history w packet tells =
+    let v : World = record w { replies = replies_with (coding layout) w packet } in
+    tells_other history w v refl refl refl refl (calls_same w v (λ i. refl) (λ i. refl) refl) tells
+
+-- a message that was handled
+pub shows_handled : (layout : Layout) (state : Simulation) (w : World) (number : ℕ) (packet : Packet) → packet_of w.packets number ≡ Some packet
+    → is_up layout w packet.to ≡ true
+    → ShowsBricks layout state.bricks.items
+    (put w.nodes packet.to.0 (received (coding layout) packet.to (w.clocks packet.to.0) (w.nodes packet.to.0) packet).node) w.up w.clocks
+    → Tells state.history (after_message (coding layout) w packet)
+    → Shows layout state (happens (coding layout) w (Delivers number))
+shows_handled layout state w number packet sent up bricks history =
+    let step : NodeStep = received (coding layout) packet.to (w.clocks packet.to.0) (w.nodes packet.to.0) packet in
+    let v : World = record w { replies = replies_with (coding layout) w packet } in
+    subst (λ (x : World). Shows layout state x) (sym (happens_handled (coding layout) w number packet sent up))
+    (record {
+      bricks = subst (λ (f : ℕ → ℕ). ShowsBricks layout state.bricks.items (after_message (coding layout) w packet).nodes
+          (after_message (coding layout) w packet).up f)
+          (sym (clocks_stepped v packet.to step step.told))
+          (subst (λ (f : ℕ → Bool). ShowsBricks layout state.bricks.items (after_message (coding layout) w packet).nodes f w.clocks)
+          (sym (up_stepped v packet.to step step.told))
+          (subst (λ (f : ℕ → Node). ShowsBricks layout state.bricks.items f w.up w.clocks) (sym (nodes_stepped v packet.to step step.told)) bricks));
+      history = history;
+    })
+
+-- a message that was handled by the brick that it was sent to
+pub shows_delivered : (layout : Layout) (state : Simulation) (w : World) (number : ℕ) (packet : Packet) (to : BrickId) → to ≡ packet.to
+    → packet_of w.packets number ≡ Some packet → is_up layout w to ≡ true
+    → (let step = received (coding layout) to (w.clocks to.0) (w.nodes to.0) packet in
+    ShowsBricks layout state.bricks.items (put w.nodes to.0 step.node) w.up w.clocks
+    → Tells state.history (world_stepped (record w { replies = replies_with (coding layout) w packet }) to step step.told)
+    → Shows layout state (happens (coding layout) w (Delivers number)))
+shows_delivered layout state w number packet to same sent up bricks history =
+    shows_handled layout state w number packet sent (subst (λ (b : BrickId). is_up layout w b ≡ true) same up)
+    (subst (λ (b : BrickId). ShowsBricks layout state.bricks.items
+    (put w.nodes b.0 (received (coding layout) b (w.clocks b.0) (w.nodes b.0) packet).node) w.up w.clocks) same bricks)
+    (subst (λ (b : BrickId). let step = received (coding layout) b (w.clocks b.0) (w.nodes b.0) packet in
+    Tells state.history (world_stepped (record w { replies = replies_with (coding layout) w packet }) b step step.told)) same history)
+
+-- a clock that was set
+pub shows_set : (layout : Layout) (old new : Simulation) (w : World) (brick : BrickId) (time : ℕ) → brick.0 < layout.bricks
+    → ShowsBricks layout new.bricks.items w.nodes w.up (put w.clocks brick.0 time) → new.history ≡ old.history
+    → Shows layout old w → Shows layout new (happens (coding layout) w (Sets brick time))
+shows_set layout old new w brick time within bricks same shows =
+    subst (λ (v : World). Shows layout new v) (sym (happens_set (coding layout) w brick time within))
+    (record {
+      bricks = bricks;
+      history = subst (λ (h : History). Tells h (record w { clocks = put w.clocks brick.0 time })) (sym same)
+          (tells_other old.history w (record w { clocks = put w.clocks brick.0 time }) refl refl refl refl
+          (calls_same w (record w { clocks = put w.clocks brick.0 time }) (λ i. refl) (λ i. refl) refl) shows.history);
+    })
+
+-- a clock that there is not
+pub shows_unset : (layout : Layout) (state : Simulation) (w : World) (brick : BrickId) (time : ℕ) → layout.bricks ≤ brick.0
+    → Shows layout state w → Shows layout state (happens (coding layout) w (Sets brick time))
+shows_unset layout state w brick time past shows =
+    subst (λ (v : World). Shows layout state v) (sym (happens_unset (coding layout) w brick time past)) shows
+
+-- no brick starts that there is not
+started_nowhere : (layout : Layout) (w : World) (brick : BrickId) → layout.bricks ≤ brick.0 → may_start layout w brick 1 ≡ false
+started_nowhere layout w brick past =
+    ap (λ b. b && (not (w.up brick.0) && may_open 1 (w.nodes brick.0)))
+    (let e : nat_lt brick.0 layout.bricks ≡ false = grind (arith, nat_tests) in e)
+
+-- what setting a clock comes to
+pub set_here : (layout : Layout) (brick : BrickId) → brick.0 < layout.bricks → Marks ≡ set_or_idle layout brick
+set_here layout brick within =
+    sym (ap (λ b. cond b Marks Idle) (let e : nat_lt brick.0 layout.bricks ≡ true = grind (arith, nat_tests) in e))
+
+pub set_nowhere : (layout : Layout) (brick : BrickId) → layout.bricks ≤ brick.0 → Idle ≡ set_or_idle layout brick
+set_nowhere layout brick past =
+    sym (ap (λ b. cond b Marks Idle) (let e : nat_lt brick.0 layout.bricks ≡ false = grind (arith, nat_tests) in e))
+
+-- a message to a brick that is not up comes to nothing
+pub handled_astray : (layout : Layout) (w : World) (packet : Packet) (found : Option Packet) → found ≡ Some packet → is_up layout w packet.to ≡ false
+    → Idle ≡ handled_or_idle (coding layout) w found
+handled_astray layout w packet found is down = sym (ap (handled_or_idle (coding layout) w) is ∙ ap (λ b. cond b Marks Idle) down)
+
+-- a message to a brick that is up is handled
+pub handled_here : (layout : Layout) (w : World) (packet : Packet) (found : Option Packet) → found ≡ Some packet → is_up layout w packet.to ≡ true
+    → Marks ≡ handled_or_idle (coding layout) w found
+handled_here layout w packet found is up = sym (ap (handled_or_idle (coding layout) w) is ∙ ap (λ b. cond b Marks Idle) up)
+
+-- a tick, a crash or a start at no brick that it may happen to
+pub shows_unticked : (layout : Layout) (state : Simulation) (w : World) (brick : BrickId) → is_up layout w brick ≡ false
+    → Shows layout state w → Shows layout state (happens (coding layout) w (Ticks brick))
+shows_unticked layout state w brick down shows = subst (λ (v : World). Shows layout state v)
+    (sym (happens_unticked (coding layout) w brick down)) shows
+
+pub shows_unstopped : (layout : Layout) (state : Simulation) (w : World) (brick : BrickId) → is_up layout w brick ≡ false
+    → Shows layout state w → Shows layout state (happens (coding layout) w (Crashes brick))
+shows_unstopped layout state w brick down shows = subst (λ (v : World). Shows layout state v)
+    (sym (happens_unstopped (coding layout) w brick down)) shows
+
+pub shows_nowhere : (layout : Layout) (state : Simulation) (w : World) (brick : BrickId) → layout.bricks ≤ brick.0
+    → Shows layout state w → Shows layout state (happens (coding layout) w (Starts brick 1))
+shows_nowhere layout state w brick past shows =
+    subst (λ (v : World). Shows layout state v) (sym (happens_unstarted (coding layout) w brick (started_nowhere layout w brick past))) shows
+
+-- a brick that ticked
+pub shows_ticked : (layout : Layout) (state : Simulation) (w : World) (brick : BrickId) → is_up layout w brick ≡ true
+    → ShowsBricks layout state.bricks.items w.nodes w.up w.clocks
+    → Tells state.history (record w { packets = w.packets ++ ticked (coding layout) brick (w.nodes brick.0) })
+    → Shows layout state (happens (coding layout) w (Ticks brick))
+shows_ticked layout state w brick up bricks history =
+    subst (λ (v : World). Shows layout state v) (sym (happens_ticked (coding layout) w brick up)) (record { bricks = bricks; history = history })
+
+-- a brick that stopped
+pub shows_crashed : (layout : Layout) (state : Simulation) (w : World) (brick : BrickId) → is_up layout w brick ≡ true
+    → ShowsBricks layout state.bricks.items (put w.nodes brick.0 (stopped (w.nodes brick.0))) (put w.up brick.0 false) w.clocks
+    → Tells state.history (world_stopped w brick)
+    → Shows layout state (happens (coding layout) w (Crashes brick))
+shows_crashed layout state w brick up bricks history =
+    subst (λ (v : World). Shows layout state v) (sym (happens_stopped (coding layout) w brick up)) (record { bricks = bricks; history = history })
+
+-- a brick that was to start
+pub shows_start : (layout : Layout) (old new : Simulation) (w : World) (brick : BrickId) (started : Bool)
+    → ShowsStarted layout brick w new.bricks.items started → new.history ≡ old.history → Shows layout old w
+    → Shows layout new (happens (coding layout) w (Starts brick 1))
+shows_start layout old new w brick true is same shows =
+    subst (λ (v : World). Shows layout new v) (sym (happens_started (coding layout) w brick (sym is.may)))
+    (record {
+      bricks = is.after;
+      history = subst (λ (h : History). Tells h (world_started w brick 1)) (sym same)
+          (tells_started old.history w brick 1 shows.history);
+    })
+shows_start layout old new w brick false is same shows =
+    subst (λ (v : World). Shows layout new v) (sym (happens_unstarted (coding layout) w brick (sym is.may)))
+    (record { bricks = is.after; history = subst (λ (h : History). Tells h w) (sym same) shows.history })
+
+-- what a tick and a crash come to
+pub done_here : (layout : Layout) (w : World) (brick : BrickId) → is_up layout w brick ≡ true → Marks ≡ done_or_idle layout w brick
+done_here layout w brick up = sym (ap (λ b. cond b Marks Idle) up)
+
+pub done_nowhere : (layout : Layout) (w : World) (brick : BrickId) → is_up layout w brick ≡ false → Idle ≡ done_or_idle layout w brick
+done_nowhere layout w brick down = sym (ap (λ b. cond b Marks Idle) down)
+
+-- what a start comes to
+pub start_came : (layout : Layout) (w : World) (brick : BrickId) (bricks : List Brick) (started : Bool) → ShowsStarted layout brick w bricks started
+    → cond started Marks Idle ≡ started_or_idle layout w brick
+start_came layout w brick bricks started is = ap (λ b. cond b Marks Idle) is.may
+
+pub start_nowhere : (layout : Layout) (w : World) (brick : BrickId) → layout.bricks ≤ brick.0 → Idle ≡ started_or_idle layout w brick
+start_nowhere layout w brick past = sym (ap (λ b. cond b Marks Idle) (started_nowhere layout w brick past))

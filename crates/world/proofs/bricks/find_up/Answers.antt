@@ -1,0 +1,20 @@
+-- The brick of the number says whether it is up.
+use Rattle.std.proofs.Common.{arith, ap, ◌∙◌}
+use Rattle.world.specs.declared.bricks.Brick.{Brick}
+use Rattle.world.proofs.BrickListLemmas.{found_up, found_down, found_none}
+use Rattle.world.proofs.bricks.find_up.Goals as goal
+
+pub returns-then-number-from : goal.returns-then-number-from
+returns-then-number-from c = found_none c.args.layout.now c.args.bricks.now c.args.number (omega arith)
+
+pub returns-in-Up : goal.returns-in-Up
+returns-in-Up c =
+    found_up c.args.layout.now c.args.bricks.now c.args.number c.index-bricks-number.result _
+    (omega (arith, c.requires.bricks)) c.index-bricks-number.is
+    (ap (λ (x : Brick). x.power) c.index-bricks-number.is ∙ c.in-Up.is) c.requires.nodes
+
+pub returns-in-Down : goal.returns-in-Down
+returns-in-Down c =
+    found_down c.args.layout.now c.args.bricks.now c.args.number c.index-bricks-number.result _
+    (omega (arith, c.requires.bricks)) c.index-bricks-number.is
+    (ap (λ (x : Brick). x.power) c.index-bricks-number.is ∙ c.in-Down.is)

@@ -1,0 +1,31 @@
+-- The brick of the number does what the machine's does.
+use Rattle.std.proofs.Common.{rules}
+use Rattle.world.proofs.BrickListLemmas.{on_at, handed_over, same_shown}
+use Rattle.world.proofs.bricks.hand_over.Goals as goal
+
+pub unreachable-requires : goal.unreachable-requires
+unreachable-requires c =
+    let on =
+    on_at c.requires.0 c.args.bricks.now.items c.args.number c.index_mut-brick.result.now _ c.index_mut-brick.ensures.value c.in-Up.is c.requires.1
+    in
+    let runs = on.0 in
+    let sound = on.1 in
+    search rules
+
+pub returns-in-Ok-clause-stepped : goal.returns-in-Ok-clause-stepped
+returns-in-Ok-clause-stepped c =
+    let on =
+    on_at c.requires.0 c.args.bricks.now.items c.args.number c.index_mut-brick.result.now _ c.index_mut-brick.ensures.value c.in-Up.is c.requires.1
+    in
+    handed_over c.args.bricks.now.items c.args.number.0 c.index_mut-brick.result.now c.in-Up.node c.on_message.new.self c.args.packet.now c.in-Ok.outs
+    c.requires.1.within c.index_mut-brick.ensures.value c.in-Up.is c.on_message.ensures.same (let runs = on.0 in let sound = on.1 in search rules)
+    (let runs = on.0 in let sound = on.1 in search rules) c.in-Ok.ensures.step
+
+pub returns-in-Err-NoMemory-clause-err : goal.returns-in-Err-NoMemory-clause-err
+returns-in-Err-NoMemory-clause-err c =
+    let on =
+    on_at c.requires.0 c.args.bricks.now.items c.args.number c.index_mut-brick.result.now _ c.index_mut-brick.ensures.value c.in-Up.is c.requires.1
+    in
+    same_shown c.args.bricks.now.items c.args.number.0 c.index_mut-brick.result.now c.in-Up.node c.on_message.new.self
+    c.requires.1.within c.index_mut-brick.ensures.value c.in-Up.is c.on_message.ensures.same (let runs = on.0 in let sound = on.1 in search rules)
+    (let runs = on.0 in let sound = on.1 in search rules) c.in-Err-NoMemory.ensures.err

@@ -1,0 +1,22 @@
+-- The brick of the number sends what the machine's does.
+use Rattle.std.proofs.Common.{get_or, ap, rules}
+use Rattle.world.specs.declared.bricks.Brick.{Brick}
+use Rattle.world.proofs.BrickListLemmas.{on_at, ticks_as}
+use Rattle.world.proofs.bricks.tick_brick.Goals as goal
+
+pub unreachable-requires : goal.unreachable-requires
+unreachable-requires c =
+    let brick : Brick = get_or c.args.bricks.now c.args.number.0 c.index-bricks-number.result in
+    let on =
+    on_at c.requires.0 c.args.bricks.now c.args.number brick _
+    (ap (λ (x : Brick). get_or c.args.bricks.now c.args.number.0 x) c.index-bricks-number.is)
+    c.in-Up.is c.requires.1
+    in
+    let runs = on.0 in
+    search rules
+
+pub returns-in-Ok : goal.returns-in-Ok
+returns-in-Ok c =
+    let brick : Brick = get_or c.args.bricks.now c.args.number.0 c.index-bricks-number.result in
+    λ layout w shows. ticks_as layout c.args.bricks.now c.args.number.0 brick c.in-Up.node c.in-Ok.packets.items c.requires.1.within
+    (ap (λ (x : Brick). get_or c.args.bricks.now c.args.number.0 x) c.index-bricks-number.is) c.in-Up.is c.in-Ok.ensures.packets w shows

@@ -1,0 +1,79 @@
+-- The brick begins, or refuses, as the machine's does.
+use Rattle.std.proofs.Common.{◌≡◌, ◌+◌, ◌<◌, ◌^◌, List, Some, arith, sym, ap, ◌∙◌, subst}
+use Rattle.std.specs.Prelude.{Err}
+use Rattle.stripe_code.specs.Codes.{coding}
+use Rattle.node.specs.Faults.{RefusesAs}
+use Rattle.node.specs.declared.faults.NodeFault.{NodeFault}
+use Rattle.node.specs.declared.outs.Begun.{Begun}
+use Rattle.protocol.specs.Nodes.{NodeStep, invoked, refusal_of}
+use Rattle.world.specs.Shown.{IsUp, ShowsBricks}
+use Rattle.world.specs.declared.bricks.Brick.{Brick}
+use Rattle.world.proofs.MachineBegins.{invoked_boot, invoked_next}
+use Rattle.world.proofs.BrickListLemmas.{next_above, next_is}
+use Rattle.world.proofs.SimulationLemmas.{on_err_always, shows_begun, shows_refused}
+use Rattle.world.proofs.simulations.Simulation.begin.Goals as goal
+
+pub next_of-next-requires : goal.next_of-next-requires
+next_of-next-requires c = (
+  c.args.layout.now,
+  subst (λ (bricks : List Brick). IsUp c.args.layout.now bricks c.args.brick)
+      (sym c.deref.ensures.value) c.requires.brick,
+)
+
+pub ask_brick-requires-clause-brick : goal.ask_brick-requires-clause-brick
+ask_brick-requires-clause-brick c = (c.args.layout.now, c.requires.brick)
+
+pub returns-in_err-expect_call-clause-err : goal.returns-in_err-expect_call-clause-err
+returns-in_err-expect_call-clause-err c =
+    on_err_always c.from_residual.result
+    (λ w shows.
+    let next = c.next_of-next.ensures c.args.layout.now w
+    (subst (λ (bricks : List Brick). ShowsBricks c.args.layout.now bricks w.nodes w.up w.clocks) (sym c.deref.ensures.value) shows.bricks)
+    in
+    record {
+      bricks = shows.bricks;
+      history = c.expect_call.ensures.same w
+          (next_above (w.nodes c.args.brick.0).seq c.next_of-next.result next) shows.history;
+    })
+
+pub returns-in-Ok-clause-shows : goal.returns-in-Ok-clause-shows
+returns-in-Ok-clause-shows c w shows =
+    let step : NodeStep = invoked (coding c.args.layout.now) c.args.brick (w.clocks c.args.brick.0) (w.nodes c.args.brick.0) c.args.ask in
+    let none = c.in-Ok.ensures.refused c.args.layout.now w shows.bricks in
+    let begun = c.in-Ok.ensures.begun c.args.layout.now w shows.bricks in
+    let next : step.node.seq ≡ (w.nodes c.args.brick.0).seq + 1 = invoked_next (coding c.args.layout.now) c.args.brick (w.clocks c.args.brick.0)
+    (w.nodes c.args.brick.0) c.args.ask none in
+    let left : (w.nodes c.args.brick.0).seq + 1 < 2 ^ 64 = (let h = rw c.in-Ok.is at c.ask_brick.type_inv in let same = begun.1 in omega arith) in
+    let gives = c.next_of-next.ensures c.args.layout.now w
+    (subst (λ (bricks : List Brick). ShowsBricks c.args.layout.now bricks w.nodes w.up w.clocks) (sym c.deref.ensures.value) shows.bricks)
+    in
+    let is = next_is (w.nodes c.args.brick.0).seq c.next_of-next.result gives left in
+    shows_begun c.args.layout.now _ w c.args.brick c.args.ask (c.requires.brick.up w shows.bricks) c.requires.stripes none begun.2
+    (c.begin.ensures.begun w step
+    (c.expect_call.ensures.same w (next_above (w.nodes c.args.brick.0).seq c.next_of-next.result gives) shows.history)
+    begun.0 (invoked_boot (coding c.args.layout.now) c.args.brick (w.clocks c.args.brick.0) (w.nodes c.args.brick.0) c.args.ask) next
+    (c.in_ok-expect_call.ensures.number step.node.seq (is ∙ ap (λ n. Some n) (sym next)) w shows.history))
+
+pub returns-in-Err-Refused-clause-shows : goal.returns-in-Err-Refused-clause-shows
+returns-in-Err-Refused-clause-shows c w shows =
+    let next = c.next_of-next.ensures c.args.layout.now w
+    (subst (λ (bricks : List Brick). ShowsBricks c.args.layout.now bricks w.nodes w.up w.clocks) (sym c.deref.ensures.value) shows.bricks)
+    in
+    shows_refused c.args.layout.now _ w c.args.brick c.args.ask c.in-Err-Refused.refusal
+    (subst (λ (fault : NodeFault). RefusesAs {T = Begun} (Err fault)
+    (refusal_of c.args.layout.now (w.nodes c.args.brick.0) c.args.ask)) c.in-Err-Refused.field-0-is
+    (c.in-Err-Refused.ensures.refused c.args.layout.now w shows.bricks))
+    (record {
+      bricks = c.in-Err-Refused.ensures.err c.args.layout.now w shows.bricks;
+      history = c.expect_call.ensures.same w (next_above (w.nodes c.args.brick.0).seq c.next_of-next.result next) shows.history;
+    })
+
+pub returns-in-Err-NoMemory-clause-err : goal.returns-in-Err-NoMemory-clause-err
+returns-in-Err-NoMemory-clause-err c w shows =
+    let next = c.next_of-next.ensures c.args.layout.now w
+    (subst (λ (bricks : List Brick). ShowsBricks c.args.layout.now bricks w.nodes w.up w.clocks) (sym c.deref.ensures.value) shows.bricks)
+    in
+    record {
+      bricks = c.in-Err-NoMemory.ensures.err c.args.layout.now w shows.bricks;
+      history = c.expect_call.ensures.same w (next_above (w.nodes c.args.brick.0).seq c.next_of-next.result next) shows.history;
+    }

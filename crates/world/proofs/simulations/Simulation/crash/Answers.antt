@@ -1,0 +1,51 @@
+-- A brick that is up stops as the machine's does, with its mark.
+use Rattle.std.proofs.Common.{◌≡◌, true, arith, refl, subst}
+use Rattle.fab_base.specs.declared.identities.BrickId.{BrickId}
+use Rattle.stripe_code.specs.Codes.{coding}
+use Rattle.protocol.specs.Worlds.{Crashes, is_up, happens}
+use Rattle.world.specs.Runs.{brick_of}
+use Rattle.world.specs.Shown.{Shows}
+use Rattle.world.specs.declared.simulations.Simulation.{Simulation}
+use Rattle.world.proofs.BrickListLemmas.{down_at, up_at}
+use Rattle.world.proofs.SimulationLemmas.{on_err_always, shows_crashed, shows_unstopped, done_here, done_nowhere}
+use Rattle.world.proofs.simulations.Simulation.crash.Goals as goal
+
+pub returns-in-None-clause-shows : goal.returns-in-None-clause-shows
+returns-in-None-clause-shows c w shows =
+    shows_unstopped c.args.layout.now c.args.self.now w (brick_of c.args.brick)
+    (down_at c.args.layout.now _ _ c.args.brick (brick_of c.args.brick) c.deref.ensures.value refl c.in-None.ensures w shows.bricks) shows
+
+pub returns-in-None-clause-outcome : goal.returns-in-None-clause-outcome
+returns-in-None-clause-outcome c w shows =
+    done_nowhere c.args.layout.now w (brick_of c.args.brick)
+    (down_at c.args.layout.now _ _ c.args.brick (brick_of c.args.brick) c.deref.ensures.value refl c.in-None.ensures w shows.bricks)
+
+pub returns-in_err-make_room-clause-err : goal.returns-in_err-make_room-clause-err
+returns-in_err-make_room-clause-err c =
+    on_err_always c.from_residual.result (λ w shows. record { bricks = shows.bricks; history = c.make_room.ensures.same w shows.history })
+
+pub stop_brick-requires : goal.stop_brick-requires
+stop_brick-requires c =
+    let found =
+    up_at c.args.layout.now _ _ c.args.brick (brick_of c.args.brick) c.in-Some.brick c.deref.ensures.value refl c.in-Some.ensures
+    in
+    let within = found.1.within in
+    omega (arith, c.args.self.now.bricks.ok.0)
+
+pub returns-clause-shows : goal.returns-clause-shows
+returns-clause-shows c w shows =
+    let found =
+    up_at c.args.layout.now _ _ c.args.brick (brick_of c.args.brick) c.in-Some.brick c.deref.ensures.value refl c.in-Some.ensures
+    in
+    let state : Simulation = record { bricks = c.stop_brick.new.bricks; history = c.crash.new.self } in
+    subst (λ (brick : BrickId). Shows c.args.layout.now state (happens (coding c.args.layout.now) w (Crashes brick))) found.0
+    (shows_crashed c.args.layout.now state w c.in-Some.brick (found.1.up w shows.bricks) (c.stop_brick.ensures c.args.layout.now w shows.bricks)
+    (c.crash.ensures.crashed w (c.make_room.ensures.same w shows.history)))
+
+pub returns-clause-outcome : goal.returns-clause-outcome
+returns-clause-outcome c w shows =
+    let found =
+    up_at c.args.layout.now _ _ c.args.brick (brick_of c.args.brick) c.in-Some.brick c.deref.ensures.value refl c.in-Some.ensures
+    in
+    done_here c.args.layout.now w (brick_of c.args.brick)
+    (subst (λ (brick : BrickId). is_up c.args.layout.now w brick ≡ true) found.0 (found.1.up w shows.bricks))

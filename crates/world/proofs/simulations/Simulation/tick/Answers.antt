@@ -1,0 +1,56 @@
+-- A brick that is up sends what the machine's does.
+use Rattle.std.proofs.Common.{◌≡◌, true, List, ◌++◌, refl, sym, subst}
+use Rattle.fab_base.specs.declared.identities.BrickId.{BrickId}
+use Rattle.messages.specs.declared.packets.Packet.{Packet}
+use Rattle.stripe_code.specs.Codes.{coding}
+use Rattle.protocol.specs.Worlds.{Ticks, is_up, happens}
+use Rattle.world.specs.Runs.{brick_of}
+use Rattle.world.specs.Shown.{IsUp, Shows, ShowsBricks, Tells}
+use Rattle.world.specs.declared.bricks.Brick.{Brick}
+use Rattle.world.specs.declared.simulations.Simulation.{Simulation}
+use Rattle.world.proofs.BrickListLemmas.{down_at, up_at}
+use Rattle.world.proofs.SimulationLemmas.{on_err_always, shows_ticked, shows_unticked, done_here, done_nowhere}
+use Rattle.world.proofs.simulations.Simulation.tick.Goals as goal
+
+pub returns-in-None-clause-shows : goal.returns-in-None-clause-shows
+returns-in-None-clause-shows c w shows =
+    shows_unticked c.args.layout.now c.args.self.now w (brick_of c.args.brick)
+    (down_at c.args.layout.now _ _ c.args.brick (brick_of c.args.brick) c.deref.ensures.value refl c.in-None.ensures w shows.bricks) shows
+
+pub returns-in-None-clause-outcome : goal.returns-in-None-clause-outcome
+returns-in-None-clause-outcome c w shows =
+    done_nowhere c.args.layout.now w (brick_of c.args.brick)
+    (down_at c.args.layout.now _ _ c.args.brick (brick_of c.args.brick) c.deref.ensures.value refl c.in-None.ensures w shows.bricks)
+
+pub tick_brick-requires : goal.tick_brick-requires
+tick_brick-requires c =
+    let found =
+    up_at c.args.layout.now _ _ c.args.brick (brick_of c.args.brick) c.in-Some.brick c.deref.ensures.value refl c.in-Some.ensures
+    in
+    (c.args.layout.now, subst (λ (bricks : List Brick). IsUp c.args.layout.now bricks c.in-Some.brick) (sym c.deref-2.ensures.value) found.1)
+
+pub returns-in_err-send_more-clause-err : goal.returns-in_err-send_more-clause-err
+returns-in_err-send_more-clause-err c =
+    on_err_always c.from_residual-in_err-send_more.result
+    (λ w shows. record { bricks = shows.bricks; history = c.in_err-send_more.ensures.err w shows.history })
+
+pub returns-clause-shows : goal.returns-clause-shows
+returns-clause-shows c w shows =
+    let found =
+    up_at c.args.layout.now _ _ c.args.brick (brick_of c.args.brick) c.in-Some.brick c.deref.ensures.value refl c.in-Some.ensures
+    in
+    let state : Simulation = record { bricks = c.args.self.now.bricks; history = c.send_more.new.self } in
+    subst (λ (brick : BrickId). Shows c.args.layout.now state (happens (coding c.args.layout.now) w (Ticks brick))) found.0
+    (shows_ticked c.args.layout.now state w c.in-Some.brick (found.1.up w shows.bricks) shows.bricks
+    (subst (λ (sent : List Packet). Tells c.send_more.new.self (record w { packets = w.packets ++ sent }))
+    (c.in_ok-packets.ensures c.args.layout.now w
+    (subst (λ (bricks : List Brick). ShowsBricks c.args.layout.now bricks w.nodes w.up w.clocks) (sym c.deref-2.ensures.value) shows.bricks))
+    (c.in_ok-send_more.ensures.sent w shows.history)))
+
+pub returns-clause-outcome : goal.returns-clause-outcome
+returns-clause-outcome c w shows =
+    let found =
+    up_at c.args.layout.now _ _ c.args.brick (brick_of c.args.brick) c.in-Some.brick c.deref.ensures.value refl c.in-Some.ensures
+    in
+    done_here c.args.layout.now w (brick_of c.args.brick)
+    (subst (λ (brick : BrickId). is_up c.args.layout.now w brick ≡ true) found.0 (found.1.up w shows.bricks))

@@ -1,5 +1,0 @@
--- Fresh bricks, and no history.
-use Rattle.world.proofs.states.State.new.Goals as goal
-
-pub returns : goal.returns
-returns c = record { bricks = c.in_ok-fresh_bricks.ensures; history = c.new.ensures c.args.layout.now }

@@ -1,0 +1,256 @@
+//! What a world keeps: its bricks and their clocks, and what happened.
+
+ghost use Rattle.std.specs.Prelude.{◌≡◌, Some, IfNone, IfSome};
+ghost use Rattle.protocol.specs.Nodes as machine;
+ghost use Rattle.protocol.specs.Nodes.{refusal_of};
+ghost use Rattle.world.specs.Runs.{ask_of};
+
+use crate::bricks::{Brick, ask_brick, find_up, fresh_bricks, hand_over, next_of, start_brick, stop_brick, tick_brick};
+use crate::histories::{History, packet_at};
+use fab_base::{Ask, BrickId, GroupId, NoMem, Op, Refusal, StripeNo};
+use layout::Layout;
+use lines::Line;
+use node::NodeFault;
+use std::alloc::Global;
+
+/// What a world keeps: its bricks by number, and what happened.
+#[derive(Drop)]
+pub struct Simulation {
+    pub bricks: Vec<Brick>,
+    pub history: History,
+}
+
+/// What a line comes to.
+#[derive(Clone, Copy, Debug, PartialEq, Eq)]
+pub enum Outcome {
+    /// Its marks, none or one, stand at the end of the marks.
+    Marks,
+    /// It was refused.
+    Refused(Refusal),
+    /// It found nothing to do.
+    Idle,
+}
+
+/// The stripe of these numbers. None exactly where there is none.
+fn place_of(layout: &Layout, group: u64, stripe: u64) -> Option<(GroupId, StripeNo)>
+    ensures none { IfNone result ((node : machine.Node) (op : _) → refusal_of layout.now node (ask_of group stripe op) ≡ Some Refusal.NoStripe) }
+    ensures some { IfSome result (λ place. (place.0.0 ≡ group) × (place.1.0 ≡ stripe)) }
+{
+    if group >= layout.group_count() as u64 {
+        return None;
+    }
+    let group = GroupId(group as u32);
+    let found = layout.group(group)?;
+    if stripe >= u64::from(found.stripes()) {
+        return None;
+    }
+    Some((group, StripeNo(stripe as u32)))
+}
+
+impl Simulation {
+    ghost use Rattle.std.specs.Prelude.{◌≡◌, ◌<◌, ◌≤◌, true, vec_len, IfOk, OnOk, OnErr};
+    ghost use Rattle.protocol.specs.Nodes.{is_stripe_op};
+    ghost use Rattle.protocol.specs.Worlds.{World, first_world, happens, packet_of};
+    ghost use Rattle.protocol.specs.Worlds.Event.{Invokes, Delivers, Sets, Ticks, Crashes, Starts};
+    ghost use Rattle.stripe_code.specs.Codes.{coding};
+    ghost use Rattle.world.specs.Runs.{brick_of, ask_of, refusal_at, after_line};
+    ghost use Rattle.world.specs.Shown.{AreNodesOf, Shows, IsUp, IsNumbered, IsOfStripes};
+    ghost use Rattle.world.specs.Texts.{refused_or_begun, handled_or_idle, set_or_idle, done_or_idle, started_or_idle, outcome_of};
+
+    /// All bricks up, their stores fresh, their clocks at 0, and nothing sent.
+    pub fn new(alloc: Global, layout: &Layout) -> Result<Simulation, NoMem>
+        ensures { IfOk result (λ state. Shows layout.now state (first_world layout.now)) }
+    {
+        Ok(Simulation {
+            bricks: fresh_bricks(alloc, layout)?,
+            history: History::new(alloc),
+        })
+    }
+
+    /// Runs a line. After a refusal for want of memory the state shows what it showed.
+    pub fn run(&mut self, alloc: Global, layout: &Layout, line: &Line) -> Result<Outcome, NoMem>
+        requires nodes { AreNodesOf layout.now self.old.bricks.items }
+        requires bricks { vec_len self.old.bricks ≡ layout.now.bricks }
+        requires stripes { IsOfStripes line.now }
+        ensures shows { OnOk result ((w : World) → IsNumbered w → Shows layout.now self.old w
+            → Shows layout.now self.new (after_line (coding layout.now) w line.now)) }
+        ensures outcome { IfOk result (λ outcome. (w : World) → Shows layout.now self.old w
+            → outcome ≡ outcome_of (coding layout.now) w line.now) }
+        ensures err { OnErr result ((w : World) → Shows layout.now self.old w → Shows layout.now self.new w) }
+        ensures marks { vec_len self.old.history.marks ≤ vec_len self.new.history.marks }
+    {
+        match line {
+            Line::Nothing => Ok(Outcome::Marks),
+            Line::Invoke {
+                brick,
+                group,
+                stripe,
+                op,
+            } => self.invoke(alloc, layout, *brick, *group, *stripe, op),
+            Line::Deliver { message } => self.deliver(layout, *message),
+            Line::SetClock { brick, time } => Ok(self.set_clock(layout, *brick, *time)),
+            Line::Tick { brick } => self.tick(layout, *brick),
+            Line::Crash { brick } => self.crash(alloc, layout, *brick),
+            Line::Start { brick } => self.start(alloc, layout, *brick),
+        }
+    }
+
+    /// Asks a brick for an operation.
+    fn invoke(
+        &mut self,
+        alloc: Global,
+        layout: &Layout,
+        brick: u64,
+        group: u64,
+        stripe: u64,
+        op: &Op,
+    ) -> Result<Outcome, NoMem>
+        requires nodes { AreNodesOf layout.now self.old.bricks.items }
+        requires bricks { vec_len self.old.bricks ≡ layout.now.bricks }
+        requires stripes { is_stripe_op op.now ≡ true }
+        ensures shows { OnOk result ((w : World) → Shows layout.now self.old w
+            → Shows layout.now self.new (happens (coding layout.now) w (Invokes (brick_of brick) (ask_of group stripe op.now)))) }
+        ensures outcome { IfOk result (λ outcome. (w : World) → Shows layout.now self.old w
+            → outcome ≡ refused_or_begun (refusal_at (coding layout.now) w (brick_of brick) (ask_of group stripe op.now))) }
+        ensures err { OnErr result ((w : World) → Shows layout.now self.old w → Shows layout.now self.new w) }
+        ensures marks { vec_len self.old.history.marks ≤ vec_len self.new.history.marks }
+    {
+        let brick = match find_up(&self.bricks, layout, brick) {
+            Some(brick) => brick,
+            None => return Ok(Outcome::Refused(Refusal::Down)),
+        };
+        let (group, stripe) = match place_of(layout, group, stripe) {
+            Some(place) => place,
+            None => return Ok(Outcome::Refused(Refusal::NoStripe)),
+        };
+        let op = op.copy(alloc)?;
+        self.begin(layout, brick, Ask { group, stripe, op })
+    }
+
+    /// A brick begins an operation, or refuses it.
+    fn begin(&mut self, layout: &Layout, brick: BrickId, ask: Ask) -> Result<Outcome, NoMem>
+        requires brick { IsUp layout.now self.old.bricks.items brick }
+        requires stripes { is_stripe_op ask.op ≡ true }
+        ensures shows { OnOk result ((w : World) → Shows layout.now self.old w
+            → Shows layout.now self.new (happens (coding layout.now) w (Invokes brick ask))) }
+        ensures outcome { IfOk result (λ outcome. (w : World) → Shows layout.now self.old w
+            → outcome ≡ refused_or_begun (refusal_at (coding layout.now) w brick ask)) }
+        ensures err { OnErr result ((w : World) → Shows layout.now self.old w → Shows layout.now self.new w) }
+        ensures marks { vec_len self.old.history.marks ≤ vec_len self.new.history.marks }
+    {
+        let next = next_of(&self.bricks, brick);
+        self.history.expect_call(brick, next)?;
+        match ask_brick(&mut self.bricks, brick, &ask) {
+            Ok(begun) => {
+                self.history.begin(brick, ask, begun.packets);
+                Ok(Outcome::Marks)
+            }
+            Err(NodeFault::Refused(refusal)) => Ok(Outcome::Refused(refusal)),
+            Err(NodeFault::NoMemory) => Err(NoMem::NoMemory),
+            Err(NodeFault::Halted | NodeFault::Disk) => unreachable!(),
+        }
+    }
+
+    /// Delivers the message of a number.
+    fn deliver(&mut self, layout: &Layout, message: u64) -> Result<Outcome, NoMem>
+        requires nodes { AreNodesOf layout.now self.old.bricks.items }
+        requires bricks { vec_len self.old.bricks ≡ layout.now.bricks }
+        ensures shows { OnOk result ((w : World) → IsNumbered w → Shows layout.now self.old w
+            → Shows layout.now self.new (happens (coding layout.now) w (Delivers message))) }
+        ensures outcome { IfOk result (λ outcome. (w : World) → Shows layout.now self.old w
+            → outcome ≡ handled_or_idle (coding layout.now) w (packet_of w.packets message)) }
+        ensures err { OnErr result ((w : World) → Shows layout.now self.old w → Shows layout.now self.new w) }
+        ensures marks { vec_len self.old.history.marks ≤ vec_len self.new.history.marks }
+    {
+        self.history.make_room()?;
+        let packet = match packet_at(&self.history.sent, message) {
+            Some(packet) => packet,
+            None => return Ok(Outcome::Idle),
+        };
+        let to = match find_up(&self.bricks, layout, u64::from(packet.to.0)) {
+            Some(to) => to,
+            None => return Ok(Outcome::Idle),
+        };
+        let outs = hand_over(&mut self.bricks, to, packet)?;
+        self.history.step(to, outs);
+        Ok(Outcome::Marks)
+    }
+
+    /// Sets a brick's clock.
+    fn set_clock(&mut self, layout: &Layout, brick: u64, time: u64) -> Outcome
+        requires { vec_len self.old.bricks ≡ layout.now.bricks }
+        ensures shows { (w : World) → Shows layout.now self.old w
+            → Shows layout.now self.new (happens (coding layout.now) w (Sets (brick_of brick) time)) }
+        ensures outcome { result ≡ set_or_idle layout.now (brick_of brick) }
+        ensures history { self.new.history ≡ self.old.history }
+    {
+        if brick >= u64::from(layout.bricks()) {
+            return Outcome::Idle;
+        }
+        let brick = &mut self.bricks[brick as usize];
+        brick.clock = time;
+        Outcome::Marks
+    }
+
+    /// A brick's clock ticks: it sends again what its open operations wait for.
+    fn tick(&mut self, layout: &Layout, brick: u64) -> Result<Outcome, NoMem>
+        requires nodes { AreNodesOf layout.now self.old.bricks.items }
+        requires bricks { vec_len self.old.bricks ≡ layout.now.bricks }
+        ensures shows { OnOk result ((w : World) → Shows layout.now self.old w
+            → Shows layout.now self.new (happens (coding layout.now) w (Ticks (brick_of brick)))) }
+        ensures outcome { IfOk result (λ outcome. (w : World) → Shows layout.now self.old w
+            → outcome ≡ done_or_idle layout.now w (brick_of brick)) }
+        ensures err { OnErr result ((w : World) → Shows layout.now self.old w → Shows layout.now self.new w) }
+        ensures marks { vec_len self.old.history.marks ≤ vec_len self.new.history.marks }
+    {
+        let brick = match find_up(&self.bricks, layout, brick) {
+            Some(brick) => brick,
+            None => return Ok(Outcome::Idle),
+        };
+        let packets = tick_brick(&self.bricks, brick)?;
+        self.history.send_more(packets)?;
+        Ok(Outcome::Marks)
+    }
+
+    /// A brick stops: its open operations are gone, and what it keeps of stripes stays.
+    fn crash(&mut self, alloc: Global, layout: &Layout, brick: u64) -> Result<Outcome, NoMem>
+        requires nodes { AreNodesOf layout.now self.old.bricks.items }
+        requires bricks { vec_len self.old.bricks ≡ layout.now.bricks }
+        ensures shows { OnOk result ((w : World) → Shows layout.now self.old w
+            → Shows layout.now self.new (happens (coding layout.now) w (Crashes (brick_of brick)))) }
+        ensures outcome { IfOk result (λ outcome. (w : World) → Shows layout.now self.old w
+            → outcome ≡ done_or_idle layout.now w (brick_of brick)) }
+        ensures err { OnErr result ((w : World) → Shows layout.now self.old w → Shows layout.now self.new w) }
+        ensures marks { vec_len self.old.history.marks ≤ vec_len self.new.history.marks }
+    {
+        let brick = match find_up(&self.bricks, layout, brick) {
+            Some(brick) => brick,
+            None => return Ok(Outcome::Idle),
+        };
+        self.history.make_room()?;
+        stop_brick(&mut self.bricks, alloc, brick);
+        self.history.crash(brick);
+        Ok(Outcome::Marks)
+    }
+
+    /// A brick that stopped starts again, over its disk.
+    fn start(&mut self, alloc: Global, layout: &Layout, brick: u64) -> Result<Outcome, NoMem>
+        requires nodes { AreNodesOf layout.now self.old.bricks.items }
+        requires bricks { vec_len self.old.bricks ≡ layout.now.bricks }
+        ensures shows { OnOk result ((w : World) → Shows layout.now self.old w
+            → Shows layout.now self.new (happens (coding layout.now) w (Starts (brick_of brick) 1))) }
+        ensures outcome { IfOk result (λ outcome. (w : World) → Shows layout.now self.old w
+            → outcome ≡ started_or_idle layout.now w (brick_of brick)) }
+        ensures err { OnErr result ((w : World) → Shows layout.now self.old w → Shows layout.now self.new w) }
+        ensures history { self.new.history ≡ self.old.history }
+    {
+        if brick >= u64::from(layout.bricks()) {
+            return Ok(Outcome::Idle);
+        }
+        if start_brick(&mut self.bricks, alloc, layout, BrickId(brick as u16))? {
+            Ok(Outcome::Marks)
+        } else {
+            Ok(Outcome::Idle)
+        }
+    }
+}
