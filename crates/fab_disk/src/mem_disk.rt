@@ -83,6 +83,7 @@ impl MemDisk {
         ensures settled { IsSettled (past_of_disk self.old) → past_of_disk self.new ≡ [] }
         ensures room { KeepsRoom (HasRoom self.old.medium) (HasRoom self.new.medium) }
         ensures plan { self.new.plan ≡ self.old.plan }
+        ensures listed { self.new.failing ≡ self.old.failing }
         ensures sound { IsSound self.old → IsSound self.new }
         ensures faults { self.new.faults ≡ self.old.faults }
     {
