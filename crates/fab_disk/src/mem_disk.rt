@@ -1,6 +1,6 @@
 // A disk in memory, which can be made to fail or to stop.
 ghost use Rattle.std.specs.Prelude.{◌≡◌, ◌≢◌, ◌+◌, ◌≤◌, ◌^◌, [], List, ℕ, length, slice_range, IsTrue, IfOk, OnOk, IsOkUnless};
-ghost use Rattle.fab_disk.specs.Disk.{written, Torn, Follows, Elapses, IsUntouched, Kept, KeepsRoom, TakesRoom, KeepsPlan, CountsDown};
+ghost use Rattle.fab_disk.specs.Disk.{written, Torn, Follows, Only, Elapses, IsUntouched, Kept, KeepsRoom, TakesRoom, KeepsPlan, CountsDown};
 
 use crate::disk::Fate;
 use crate::failing_calls::FailingCalls;
@@ -83,6 +83,7 @@ impl MemDisk {
         ensures settled { IsSettled (past_of_disk self.old) → past_of_disk self.new ≡ [] }
         ensures room { KeepsRoom (HasRoom self.old.medium) (HasRoom self.new.medium) }
         ensures plan { self.new.plan ≡ self.old.plan }
+        ensures listed { self.new.failing ≡ self.old.failing }
         ensures sound { IsSound self.old → IsSound self.new }
         ensures faults { self.new.faults ≡ self.old.faults }
     {
@@ -197,7 +198,18 @@ impl Disk for MemDisk {
         }
     }
 
-    fn sync(&mut self) -> Result<(), IoFault> {
+    fn sync(&mut self) -> Result<(), IoFault>
+        ensures durable { OnOk result (Only (content_of self.old) (may_be_left self.new)) }
+        ensures content { content_of self.new ≡ content_of self.old }
+        ensures crash { (image : List ℕ) → may_be_left self.new image → may_be_left self.old image }
+        ensures time { Elapses (moment_of self.old) (moment_of self.new) (was_left_since self.old) (was_left_since self.new) (may_be_left self.new) }
+        ensures counted { OnOk result (moment_of self.new ≡ moment_of self.old + 1) }
+        ensures no_memory { result ≡ Err IoFault.NoMemory → IsUntouched content_of may_be_left moment_of was_left_since self.old self.new }
+        ensures room { TakesRoom 0 0 (room_of self.old) (room_of self.new) (result ≡ Err IoFault.NoMemory) }
+        ensures plan { OnOk result (CountsDown (is_planned self.old) (is_planned self.new)) }
+        ensures cause { Kept self.old.faults self.new.faults (IsSound self.old) (IsSound self.new) (result ≡ Err IoFault.Failed) }
+        ensures whole { FailsWhole self.old.plan self.old.failing → HoldsAsBefore self.old self.new }
+    {
         self.medium.reserve(1, 0, 0)?;
         match self.next_fate() {
             Fate::Goes => {
