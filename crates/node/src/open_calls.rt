@@ -47,7 +47,7 @@ impl OpenCalls {
     ghost use Rattle.std.specs.BTreeMap.{btree_map_len};
     ghost use Rattle.std.specs.Option.{SomeIff};
     ghost use Rattle.std.specs.Result.{result_err};
-    ghost use Rattle.protocol.specs.Settings as layouts;
+    ghost use Rattle.fab_base.specs.Layouts as layouts;
     ghost use Rattle.fab_base.specs.Layouts.{group_of};
     ghost use Rattle.protocol.specs.Nodes.{is_stripe_op, has_length, refusal_in, refusal_of, new_stamp, fresh_stamp, new_coordinator, with_call, began_in, carried_out, replied, resent, ticked, no_calls};
     ghost use Rattle.messages.specs.declared.packets.Message.TheVariants as message;
