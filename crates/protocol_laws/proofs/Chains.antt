@@ -18,7 +18,7 @@ use Rattle.reg_model.proofs.Versions.{versions_are_effective}
 use Rattle.protocol.specs.Settings.{Setting}
 use Rattle.protocol.specs.Worlds.{World, Operation}
 use Rattle.protocol.specs.Happenings.{is_of, entries_to, ascending, was_answered, base_of, Effect, effect_of}
-use Rattle.protocol_laws.specs.Laws.{IsMadeOn, NeighboursFollow}
+use Rattle.protocol_laws.specs.Laws.{WasMadeOn, NeighboursFollow}
 use Rattle.protocol_laws.proofs.Books.{Books, OperationBooks, IsOperation}
 use Rattle.protocol_laws.proofs.Effects.{has_front, has_behind, IsSwept, IsAboveBase, answered_swept, needed_swept, version_swept, versions_all, versions_order, all_effective}
 use Rattle.protocol_laws.proofs.Entries.{IsEntryOf, entry_of, entries_of, entries_have}
@@ -416,7 +416,7 @@ module _ (setting : Setting) (w : World) (g s : ℕ) (books : Books setting w) (
           ∙ ap (λ (o : Option Operation). base_of o) v.is ∙ says.base_is in
           inr (says.base_is ∙ ap (λ (x : Stamp). Some x) (base_is_lower k u t says.base inside at_u at_t above its))
 
-      by : stamp_below u t ≡ true → IsMadeOn w g s u t
+      by : stamp_below u t ≡ true → WasMadeOn w g s u t
       by above =
           let v : MadeVersion t = version_made t (k + 1, inside, get_or_from_slice_get effect.versions (k + 1) t t t_is) (above_first u t above) in
           (v.number, v.operation, v.is, v.of, v.made, v.version, how_made above v (facts.maker v.number v.operation t v.is v.made v.version).how)

@@ -81,8 +81,8 @@ BasesAreNewest setting w =
     × ((d : Stamp) → stamp_below b d ≡ true → stamp_below d t ≡ true → IsBlocked w o.ask.group.0 o.ask.stripe.0 group d)
 
 -- an operation of the stripe made this version: it is a stripe write, which has no base, or its base is u
-abbrev pub IsMadeOn : World → ℕ → ℕ → Stamp → Stamp → Type 0
-IsMadeOn w g s u t =
+abbrev pub WasMadeOn : World → ℕ → ℕ → Stamp → Stamp → Type 0
+WasMadeOn w g s u t =
     (n : ℕ) × (o : Operation) × (w.operations n ≡ Some o) × (is_of g s o ≡ true) × (o.made ≡ true) × (o.version ≡ Some t)
     × (((bytes : List ℕ) × (o.ask.op ≡ WriteStripe bytes)) ⊎ (o.base ≡ Some u))
 
@@ -90,7 +90,7 @@ IsMadeOn w g s u t =
 abbrev pub NeighboursFollow : World → ℕ → ℕ → Type 0
 NeighboursFollow w g s =
     (k : ℕ) (u t : Stamp) → slice_get (effect_in w g s).versions k ≡ Some u → slice_get (effect_in w g s).versions (k + 1) ≡ Some t
-    → (u ≡ t) ⊎ IsMadeOn w g s u t
+    → (u ≡ t) ⊎ WasMadeOn w g s u t
 
 -- Before a write of version t was sent, a quorum had promised t, or stored something later, and has so ever since.
 abbrev pub WritesAreGuarded : Setting → World → Type 0

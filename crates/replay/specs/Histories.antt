@@ -6,7 +6,7 @@ use Rattle.protocol.specs.Worlds.{World}
 use Rattle.protocol_laws.specs.Laws.{NeverFalls, IsLost, IsHeldByQuorum}
 
 -- No brick has lowered what it had promised or stored, and no version that was lost has surfaced.
-pub record Follows (layout : Layout) (earlier later : World) : Type 0 where
+pub record Succeeds (layout : Layout) (earlier later : World) : Type 0 where
   pub never_falls : NeverFalls earlier later
   pub never_surfaces : (g s : ℕ) (group : Group) (v : Stamp) → group_of layout g ≡ Some group → IsLost earlier g s group v
       → IsHeldByQuorum later g s group v → ⊥

@@ -23,7 +23,7 @@ use Rattle.replay.specs.declared.endings.Halt.TheVariants.{Source, Sink, Memory}
 use Rattle.replay.specs.Inputs.{Input, Parted, input_of, IsInput}
 use Rattle.replay.specs.Outputs.{output_of, closing_text}
 use Rattle.replay.specs.Turns.{Prints}
-use Rattle.replay.specs.Histories.{Follows}
+use Rattle.replay.specs.Histories.{Succeeds}
 
 -- the words are the one word `run`
 abbrev pub asks_run : List (List ℕ) → Bool
@@ -98,12 +98,12 @@ pub record BeginsWith (input : Input) (layout : Layout) (lines : List Line) : Ty
 pub record StaysStrict (input : Input) : Type 0 where
   pub strict : (layout : Layout) (lines : List Line) → BeginsWith input layout lines → IsStrictWorld layout (left_by layout lines)
   pub follows : (layout : Layout) (lines more : List Line) → BeginsWith input layout (lines ++ more)
-      → Follows layout (left_by layout lines) (left_by layout (lines ++ more))
+      → Succeeds layout (left_by layout lines) (left_by layout (lines ++ more))
 
 -- A run. There is an input, of which what the source tells is the bytes, and an end, of which the status tells. The sink took the whole output of
 -- the input, which ends so, or, where the run was stopped from outside, some of the output, from its front. Where all was run, the source is at its
 -- end, and what was printed is strict; and however far it came, what its lines left is strict, and what further lines leave follows it.
-pub record Runs (source source_after sink sink_after : Option (List ℕ)) (status : ℕ) : Type 0 where
+pub record RunEnds (source source_after sink sink_after : Option (List ℕ)) (status : ℕ) : Type 0 where
   pub input : Input
   pub ending : Result Verdict Halt
   pub is_input : IsInput source input

@@ -2,7 +2,7 @@
 
 ghost use Rattle.std.specs.Prelude.{◌≡◌, ◌≢◌, false, true, map, string_bytes};
 ghost use Rattle.fab_io.specs.Ends.{Kept, WriteTakes};
-ghost use Rattle.replay.specs.Replays.{asks_run, usage_text, Refuses, Runs, IsDecided};
+ghost use Rattle.replay.specs.Replays.{asks_run, usage_text, Refuses, RunEnds, IsDecided};
 
 use crate::endings::{Halt, status_of};
 use crate::schedules::run;
@@ -33,7 +33,7 @@ use std::alloc::Global;
 /// that are accepted are those that end with status 0.
 ///
 /// However far a run comes, all laws of the disk hold of what its lines left (`Laws` of `protocol`), and what further lines leave follows
-/// it: no brick has lowered what it had promised or stored, and no version that was lost has surfaced (`Follows`, `specs/Histories.antt`).
+/// it: no brick has lowered what it had promised or stored, and no version that was lost has surfaced (`Succeeds`, `specs/Histories.antt`).
 pub fn replay<S: Source, K: Sink>(
     alloc: Global,
     words: &[String],
@@ -46,7 +46,7 @@ pub fn replay<S: Source, K: Sink>(
 
     // The one word `run`.
     ensures run { asks_run (map string_bytes words.now) ≡ true
-        → Runs (S.told source.old) (S.told source.new) (K.told sink.old) (K.told sink.new) result }
+        → RunEnds (S.told source.old) (S.told source.new) (K.told sink.old) (K.told sink.new) result }
 
     // A failure comes only where that end's count of faults rose, and never from a sound end.
     ensures source { Kept (S.faults source.old) (S.faults source.new) (S.sound source.old) (S.sound source.new) (result ≡ 5) }

@@ -207,7 +207,7 @@ module _ (operations : List KeptOperation) (w : World) (are : KeepsAll operation
       let upto : All (IsUpTo w.begun) walk = walk_all (IsUpTo w.begun) (entries_numbered w.operations g s w.begun) in
       let ours : All (IsEntryOf w.operations g s) walk = walk_all (IsEntryOf w.operations g s) (entries_of w.operations g s w.begun) in
       λ k e lt. begin_same begins (get_or walk k e)
-          (let near : IsUpTo w.begun (get_or walk k e) = upto k e lt in (near.0, (let begun = are.begun in omega (arith, near.1)))) (ours k e lt)
+      (let near : IsUpTo w.begun (get_or walk k e) = upto k e lt in (near.0, (let begun = are.begun in omega (arith, near.1)))) (ours k e lt)
 
 -- from the operations that a world keeps, and the entries of a stripe, comes the walk along its versions
 pub kept_walk : (operations : List KeptOperation) (w : World) (g s : ℕ) → KeepsAll operations w

@@ -13,8 +13,8 @@ ghost use Rattle.world.specs.Shown.{Rests, ShowsBrick, ShowsBricks, ShowsStarted
 use brick_store::StoreFault;
 use fab_base::{Ask, BrickId, NoMem};
 use fab_disk::MemDisk;
-use messages::Packet;
 use layout::Layout;
+use messages::Packet;
 use node::{Begun, Node, NodeFault, Outs};
 use std::alloc::Global;
 use std::mem;

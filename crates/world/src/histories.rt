@@ -6,7 +6,6 @@ ghost use Rattle.protocol.specs.Worlds.{packet_of, is_answer};
 ghost use Rattle.protocol.specs.Happenings.{writes};
 ghost use Rattle.world.specs.Shown.{ChangesAt, made_kept, ended_kept};
 
-use crate::rooms::{put, put_all};
 use fab_base::{Answer, Ask, BrickId, GroupId, NoMem, Op, Stamp, StripeNo};
 use messages::Packet;
 use node::Outs;
@@ -187,14 +186,15 @@ impl History {
     }
 
     /// Notes what is sent.
-    fn send(&mut self, packets: Vec<Packet>)
+    fn send(&mut self, mut packets: Vec<Packet>)
         requires { vec_len self.old.sent + vec_len packets ≤ vec_capacity self.old.sent }
         ensures sent { (w : World) → Tells self.old w → Tells self.new (record w { packets = w.packets ++ packets.items }) }
         ensures marks { self.new.marks ≡ self.old.marks }
         ensures operations { self.new.operations ≡ self.old.operations }
         ensures numbers { self.new.numbers ≡ self.old.numbers }
     {
-        put_all(&mut self.sent, packets);
+        // There is room for them.
+        let _ = self.sent.append(&mut packets);
     }
 
     /// Makes room for packets, and notes that they are sent.
@@ -215,11 +215,12 @@ impl History {
         ensures marks { vec_len self.old.marks ≤ vec_len self.new.marks }
     {
         let position = self.marks.len() as u64;
-        put(&mut self.marks, Mark::Crash { position, brick });
+        // There is room for it.
+        let _ = self.marks.push(Mark::Crash { position, brick });
     }
 
     /// Notes an operation that begins, and what it sends.
-    pub fn begin(&mut self, brick: BrickId, ask: Ask, packets: Vec<Packet>)
+    pub fn begin(&mut self, brick: BrickId, ask: Ask, mut packets: Vec<Packet>)
         requires room { HasStepRoom self.old }
         requires few { vec_len packets ≤ 32 }
         ensures begun { (w : World) (step : NodeStep) → Tells self.old w
@@ -230,29 +231,24 @@ impl History {
         let position = self.marks.len() as u64;
         let operation = self.operations.len() as u64 + 1;
         let writes = writes(&ask.op);
-        put_all(&mut self.sent, packets);
-        put(
-            &mut self.operations,
-            KeptOperation {
-                begin: position,
-                group: ask.group,
-                stripe: ask.stripe,
-                version: None,
-                made: false,
-                base: None,
-                writes,
-                answered: false,
-            },
-        );
-        put(
-            &mut self.marks,
-            Mark::Begin {
-                position,
-                operation,
-                brick,
-                ask,
-            },
-        );
+        // There is room for all of this.
+        let _ = self.sent.append(&mut packets);
+        let _ = self.operations.push(KeptOperation {
+            begin: position,
+            group: ask.group,
+            stripe: ask.stripe,
+            version: None,
+            made: false,
+            base: None,
+            writes,
+            answered: false,
+        });
+        let _ = self.marks.push(Mark::Begin {
+            position,
+            operation,
+            brick,
+            ask,
+        });
     }
 
     /// The operation of a brick's call made a version, on this base.
@@ -279,14 +275,12 @@ impl History {
         let operation = self.number(brick, seq);
         note_answer(&mut self.operations, operation, is_answer(&answer), seen);
         let position = self.marks.len() as u64;
-        put(
-            &mut self.marks,
-            Mark::End {
-                position,
-                operation,
-                answer,
-            },
-        );
+        // There is room for it.
+        let _ = self.marks.push(Mark::End {
+            position,
+            operation,
+            answer,
+        });
     }
 
     /// Notes what a step sent and told.

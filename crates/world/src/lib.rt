@@ -3,7 +3,6 @@
 
 mod bricks;
 mod histories;
-mod rooms;
 mod simulations;
 mod stripe_entries;
 mod texts;

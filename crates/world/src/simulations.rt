@@ -5,7 +5,10 @@ ghost use Rattle.protocol.specs.Nodes as machine;
 ghost use Rattle.protocol.specs.Nodes.{refusal_of};
 ghost use Rattle.world.specs.Runs.{ask_of};
 
-use crate::bricks::{Brick, ask_brick, find_up, fresh_bricks, hand_over, next_of, start_brick, stop_brick, tick_brick};
+use crate::bricks::{
+    Brick, ask_brick, find_up, fresh_bricks, hand_over, next_of, start_brick, stop_brick,
+    tick_brick,
+};
 use crate::histories::{History, packet_at};
 use fab_base::{Ask, BrickId, GroupId, NoMem, Op, Refusal, StripeNo};
 use layout::Layout;

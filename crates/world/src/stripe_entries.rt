@@ -18,7 +18,10 @@ impl StripeEntries {
     ghost use Rattle.world.specs.Walks.{entries_at, operation_of, operations_of};
 
     /// Gathers the entries of operations, number n at place n - 1.
-    pub(crate) fn gather(alloc: Global, operations: &[KeptOperation]) -> Result<StripeEntries, NoMem>
+    pub(crate) fn gather(
+        alloc: Global,
+        operations: &[KeptOperation],
+    ) -> Result<StripeEntries, NoMem>
         ensures { IfOk result (λ gathered. (g s : ℕ)
             → entries_at gathered g s ≡ entries_to (operations_of operations.now) g s (length operations.now)) }
     {
@@ -50,7 +53,13 @@ impl StripeEntries {
     }
 
     /// Adds an entry behind those of its stripe.
-    fn add(&mut self, alloc: Global, group: GroupId, stripe: StripeNo, entry: Entry) -> Result<(), NoMem>
+    fn add(
+        &mut self,
+        alloc: Global,
+        group: GroupId,
+        stripe: StripeNo,
+        entry: Entry,
+    ) -> Result<(), NoMem>
         ensures { OnOk result ((g s : ℕ) → entries_at self.new g s
             ≡ entries_at self.old g s ++ (if nat_eq group.0 g && nat_eq stripe.0 s then entry ∷ [] else [])) }
     {

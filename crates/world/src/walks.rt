@@ -141,7 +141,11 @@ fn rising(alloc: Global, entries: &[Entry]) -> Result<Vec<Entry>, NoMem>
 }
 
 /// The sweep of entries that ascend, from the greatest down.
-fn sweep_down(alloc: Global, operations: &[KeptOperation], entries: &[Entry]) -> Result<Sweep, NoMem>
+fn sweep_down(
+    alloc: Global,
+    operations: &[KeptOperation],
+    entries: &[Entry],
+) -> Result<Sweep, NoMem>
     ensures { IfOk result (λ sweep. HasSwept sweep (effect_of (operations_of operations.now) entries.now)) }
 {
     let mut sweep = Sweep::new(alloc);
@@ -152,11 +156,7 @@ fn sweep_down(alloc: Global, operations: &[KeptOperation], entries: &[Entry]) ->
 }
 
 /// The walk along the effective versions of a stripe's entries.
-fn walk(
-    alloc: Global,
-    operations: &[KeptOperation],
-    entries: &[Entry],
-) -> Result<Vec<Entry>, NoMem>
+fn walk(alloc: Global, operations: &[KeptOperation], entries: &[Entry]) -> Result<Vec<Entry>, NoMem>
     ensures { IfOk result (λ walk. walk.items ≡ (effect_of (operations_of operations.now) (ascending entries.now)).told) }
 {
     let rising = rising(alloc, entries)?;
@@ -166,7 +166,11 @@ fn walk(
 }
 
 /// The happenings along a walk: each at the greatest begin so far.
-fn along(alloc: Global, operations: &[KeptOperation], walk: &[Entry]) -> Result<Vec<Happening>, NoMem>
+fn along(
+    alloc: Global,
+    operations: &[KeptOperation],
+    walk: &[Entry],
+) -> Result<Vec<Happening>, NoMem>
     ensures { IfOk result (λ happenings. (marks : List Mark) → BeginAsMarked (operations_of operations.now) marks walk.now
         → happenings.items ≡ positioned marks 0 walk.now) }
 {

@@ -4,15 +4,14 @@ ghost use Rattle.std.specs.Prelude.{◌≡◌, IfOk};
 ghost use Rattle.world.specs.Texts.{outcome_text};
 
 use crate::bricks::Power;
-use crate::rooms::put;
 use crate::simulations::{Outcome, Simulation};
 use crate::stripe_entries::StripeEntries;
 use crate::texts::{idle_text, marks_text, refusal_text};
 use crate::walks;
 use fab_base::{BrickId, Bytes, GroupId, NoMem, StripeNo};
-use messages::Packet;
 use layout::Layout;
 use lines::{Line, parse};
+use messages::Packet;
 use reg_model::{Happening, Mark};
 use std::alloc::Global;
 use std::marker::Model;
@@ -114,7 +113,11 @@ impl World {
         };
         let before = self.simulation.history.marks.len();
         let outcome = self.run(line)?;
-        Ok(print(self.alloc, outcome, &self.simulation.history.marks[before..])?)
+        Ok(print(
+            self.alloc,
+            outcome,
+            &self.simulation.history.marks[before..],
+        )?)
     }
 
     /// Runs a line.
@@ -127,7 +130,8 @@ impl World {
     {
         self.lines.reserve(1)?;
         let outcome = self.simulation.run(self.alloc, &self.layout, &line)?;
-        put(&mut self.lines, line);
+        // There is room for it.
+        let _ = self.lines.push(line);
         Ok(outcome)
     }
 
