@@ -9,8 +9,11 @@ pub mod groups;
 pub mod indexes;
 pub mod records;
 mod rewrites;
+mod slot_tables;
 mod slots;
+mod log_changes;
 mod stripe_maps;
+mod stripe_tables;
 pub mod stripes;
 
 pub use groups::Group;
