@@ -25,12 +25,18 @@ root_below slots least tree (suc fuel) i few some within = ⊎_elim (λ lower. f
     below : ((j : ℕ) → j ≤ fuel → 1 ≤ j → j < 2 * slots → get_or least 1 0 ≤ get_or least j 0) → 2 ≤ i → (p : ℕ) → (i ≡ 2 * p) ⊎ (i ≡ 2 * p + 1) → get_or least 1 0 ≤ get_or least i 0
     below lower upper p (inl e) =
         subst (λ (n : ℕ). get_or least 1 0 ≤ get_or least n 0) (sym e)
-        (omega (arith, tree.inner p (omega (arith, e, upper)) (omega (arith, e, within)),
-        lower p (omega (arith, e, few, upper)) (omega (arith, e, upper)) (omega (arith, e, within))))
+        (omega (
+          arith,
+          tree.inner p (omega (arith, e, upper)) (omega (arith, e, within)),
+          lower p (omega (arith, e, few, upper)) (omega (arith, e, upper)) (omega (arith, e, within)),
+        ))
     below lower upper p (inr e) =
         subst (λ (n : ℕ). get_or least 1 0 ≤ get_or least n 0) (sym e)
-        (omega (arith, tree.inner p (omega (arith, e, upper)) (omega (arith, e, within)),
-        lower p (omega (arith, e, few, upper)) (omega (arith, e, upper)) (omega (arith, e, within))))
+        (omega (
+          arith,
+          tree.inner p (omega (arith, e, upper)) (omega (arith, e, within)),
+          lower p (omega (arith, e, few, upper)) (omega (arith, e, upper)) (omega (arith, e, within)),
+        ))
 
 -- what a node has is a free slot, if it is one
 abbrev IsFound : List ℕ → ℕ → Type 0
@@ -73,6 +79,8 @@ root_least least counts tree some = record {
 }
   where
     below : (other : ℕ) → other < length counts → get_or counts other 0 ≡ 0 → get_or least 1 0 ≤ other
-    below other within unused = omega (arith,
-        root_below (length counts) least tree.tree (length counts + other) (length counts + other) (omega arith) (omega (arith, some)) (omega (arith, within)),
-        tree.leaves other within ∙ ap (leaf other) unused)
+    below other within unused = omega (
+      arith,
+      root_below (length counts) least tree.tree (length counts + other) (length counts + other) (omega arith) (omega (arith, some)) (omega (arith, within)),
+      tree.leaves other within ∙ ap (leaf other) unused,
+    )

@@ -44,15 +44,23 @@ named slot xs = count_by (λ other. eqb other slot) xs
 
 named-map : (slot : ℕ) (es : List Entry) → named slot (map slot_of es) ≡ names_of slot es
 named-map slot [] = refl
-named-map slot (e ∷ es) = omega (arith, named-map slot es, names-cons slot e es,
-    sum_by-cons (λ (other : ℕ). cond (eqb other slot) 1 0) e.slot (map slot_of es))
+named-map slot (e ∷ es) = omega (
+  arith,
+  named-map slot es,
+  names-cons slot e es,
+  sum_by-cons (λ (other : ℕ). cond (eqb other slot) 1 0) e.slot (map slot_of es),
+)
 
 names-slots : (slot : ℕ) (stripes : Stripes) → names_in slot stripes ≡ named slot (slots_in stripes)
 unfolding slots_in
 names-slots slot [] = refl
-names-slots slot (e ∷ stripes) = omega (arith, names-slots slot stripes, named-map slot e.1.added,
-    sum_by-cons (λ (s : StripeOf Entry). names_of slot s.added) e.1 (values_of stripes),
-    sum_by-append (λ (other : ℕ). cond (eqb other slot) 1 0) (map slot_of e.1.added) (slots_in stripes))
+names-slots slot (e ∷ stripes) = omega (
+  arith,
+  names-slots slot stripes,
+  named-map slot e.1.added,
+  sum_by-cons (λ (s : StripeOf Entry). names_of slot s.added) e.1 (values_of stripes),
+  sum_by-append (λ (other : ℕ). cond (eqb other slot) 1 0) (map slot_of e.1.added) (slots_in stripes),
+)
 
 differs : (a b : ℕ) → a ≢ b → eqb a b ≡ false
 differs a b other = by (eqb a b) refl
@@ -64,8 +72,12 @@ differs a b other = by (eqb a b) refl
 -- none of the slots is this one
 none_named : (slot : ℕ) (xs : List ℕ) → AllByRecursion (λ other. other ≢ slot) xs → named slot xs ≡ 0
 none_named slot [] all = refl
-none_named slot (x ∷ xs) all = omega (arith, none_named slot xs all.1, ap {B = ℕ} (λ (b : Bool). cond b 1 0) (differs x slot all.0),
-    sum_by-cons (λ (other : ℕ). cond (eqb other slot) 1 0) x xs)
+none_named slot (x ∷ xs) all = omega (
+  arith,
+  none_named slot xs all.1,
+  ap {B = ℕ} (λ (b : Bool). cond b 1 0) (differs x slot all.0),
+  sum_by-cons (λ (other : ℕ). cond (eqb other slot) 1 0) x xs,
+)
 
 not_named : (slot : ℕ) (xs : List ℕ) → named slot xs ≡ 0 → AllByRecursion (λ other. other ≢ slot) xs
 not_named slot [] none = tt
@@ -109,8 +121,11 @@ live_within stripes p sorted = omega (arith, live-put p (first_stripe p) stripes
 
 names_within : (slot : ℕ) (stripes : Stripes) (p : Place) → IsStrictlySortedBy place_cmp (keys_of stripes)
     → names_of slot (stripe_in stripes p).added ≤ names_in slot stripes
-names_within slot stripes p sorted = omega (arith,
-    sum-put (λ s. names_of slot s.added) (names_none slot) p (first_stripe p) stripes sorted, names_none slot p)
+names_within slot stripes p sorted = omega (
+  arith,
+  sum-put (λ s. names_of slot s.added) (names_none slot) p (first_stripe p) stripes sorted,
+  names_none slot p,
+)
 
 -- the counts after a stripe was put in place
 pub names-put : (stripes : Stripes) (counts counts' : List ℕ) (p : Place) (s : StripeOf Entry) → IsStrictlySortedBy place_cmp (keys_of stripes)
@@ -132,13 +147,21 @@ count_more counts e slot within = ⊎_elim same other (cases_eq slot e.slot)
     one = names-cons slot e []
 
     same : slot ≡ e.slot → get_or (set counts e.slot (get_or counts e.slot 0 + 1)) slot 0 ≡ get_or counts slot 0 + names_of slot (e ∷ [])
-    same is = omega (arith, one, ap {B = ℕ} (λ (b : Bool). cond b 1 0) (eq-eqb e.slot slot (sym is)),
-        subst (λ (n : ℕ). get_or (set counts e.slot (get_or counts e.slot 0 + 1)) n 0 ≡ get_or counts n 0 + 1) (sym is)
-        (get_or-set_same counts e.slot (get_or counts e.slot 0 + 1) 0 (omega (arith, within, is))))
+    same is = omega (
+      arith,
+      one,
+      ap {B = ℕ} (λ (b : Bool). cond b 1 0) (eq-eqb e.slot slot (sym is)),
+      subst (λ (n : ℕ). get_or (set counts e.slot (get_or counts e.slot 0 + 1)) n 0 ≡ get_or counts n 0 + 1) (sym is)
+          (get_or-set_same counts e.slot (get_or counts e.slot 0 + 1) 0 (omega (arith, within, is))),
+    )
 
     other : slot ≢ e.slot → get_or (set counts e.slot (get_or counts e.slot 0 + 1)) slot 0 ≡ get_or counts slot 0 + names_of slot (e ∷ [])
-    other is = omega (arith, one, ap {B = ℕ} (λ (b : Bool). cond b 1 0) (differs e.slot slot (λ (h : e.slot ≡ slot). is (sym h))),
-        get_or-set_other counts e.slot slot (get_or counts e.slot 0 + 1) 0 is)
+    other is = omega (
+      arith,
+      one,
+      ap {B = ℕ} (λ (b : Bool). cond b 1 0) (differs e.slot slot (λ (h : e.slot ≡ slot). is (sym h))),
+      get_or-set_other counts e.slot slot (get_or counts e.slot 0 + 1) 0 is,
+    )
 
 -- and after one less
 pub count_less : (counts : List ℕ) (e : Entry) (rest : List Entry) (slot : ℕ) → slot < length counts
@@ -149,20 +172,32 @@ count_less counts e rest slot within = ⊎_elim same other (cases_eq slot e.slot
     one = names-cons slot e rest
 
     same : slot ≡ e.slot → get_or (set counts e.slot (get_or counts e.slot 0 - 1)) slot 0 - names_of slot rest ≡ get_or counts slot 0 - names_of slot (e ∷ rest)
-    same is = omega (arith, one, ap {B = ℕ} (λ (b : Bool). cond b 1 0) (eq-eqb e.slot slot (sym is)),
-        subst (λ (n : ℕ). get_or (set counts e.slot (get_or counts e.slot 0 - 1)) n 0 ≡ get_or counts n 0 - 1) (sym is)
-        (get_or-set_same counts e.slot (get_or counts e.slot 0 - 1) 0 (subst (λ (n : ℕ). n < length counts) is within)))
+    same is = omega (
+      arith,
+      one,
+      ap {B = ℕ} (λ (b : Bool). cond b 1 0) (eq-eqb e.slot slot (sym is)),
+      subst (λ (n : ℕ). get_or (set counts e.slot (get_or counts e.slot 0 - 1)) n 0 ≡ get_or counts n 0 - 1) (sym is)
+          (get_or-set_same counts e.slot (get_or counts e.slot 0 - 1) 0 (subst (λ (n : ℕ). n < length counts) is within)),
+    )
 
     other : slot ≢ e.slot → get_or (set counts e.slot (get_or counts e.slot 0 - 1)) slot 0 - names_of slot rest ≡ get_or counts slot 0 - names_of slot (e ∷ rest)
-    other is = omega (arith, one, ap {B = ℕ} (λ (b : Bool). cond b 1 0) (differs e.slot slot (λ (h : e.slot ≡ slot). is (sym h))),
-        get_or-set_other counts e.slot slot (get_or counts e.slot 0 - 1) 0 is)
+    other is = omega (
+      arith,
+      one,
+      ap {B = ℕ} (λ (b : Bool). cond b 1 0) (differs e.slot slot (λ (h : e.slot ≡ slot). is (sym h))),
+      get_or-set_other counts e.slot slot (get_or counts e.slot 0 - 1) 0 is,
+    )
 
 -- no slot is named more often than there are live records
 pub names_few : (slot : ℕ) (stripes : Stripes) → names_in slot stripes ≤ live_in stripes
 names_few slot [] = omega arith
-names_few slot (e ∷ stripes) = omega (arith, names_few slot stripes,
-    sum_by-cons (λ (s : StripeOf Entry). names_of slot s.added) e.1 (values_of stripes), sum_by-cons weight e.1 (values_of stripes),
-    count_by-le-length (λ (v : Entry). eqb v.slot slot) e.1.added)
+names_few slot (e ∷ stripes) = omega (
+  arith,
+  names_few slot stripes,
+  sum_by-cons (λ (s : StripeOf Entry). names_of slot s.added) e.1 (values_of stripes),
+  sum_by-cons weight e.1 (values_of stripes),
+  count_by-le-length (λ (v : Entry). eqb v.slot slot) e.1.added,
+)
 
 -- the counts after a version was added
 pub names-added : (stripes : Stripes) (counts : List ℕ) (p : Place) (e : Entry) → IsStrictlySortedBy place_cmp (keys_of stripes)
@@ -233,9 +268,15 @@ less_fits stripes counts less p slot sorted are most few size released = ⊎_eli
     inside : slot < length counts → get_or less slot 0 < 4294967295
     inside within = ⊎_elim
         (λ none. omega (arith, released slot within, are slot within, names_few slot stripes, few (omega (arith, none))))
-        (λ some. omega (arith, released slot within, are slot within, others,
-        sum-put (λ t. names_of slot t.added) (names_none slot) p (with_bottom_none (stripe_in stripes p)) stripes sorted,
-        live-put p (with_bottom_none (stripe_in stripes p)) stripes sorted, most))
+        (λ some. omega (
+          arith,
+          released slot within,
+          are slot within,
+          others,
+          sum-put (λ t. names_of slot t.added) (names_none slot) p (with_bottom_none (stripe_in stripes p)) stripes sorted,
+          live-put p (with_bottom_none (stripe_in stripes p)) stripes sorted,
+          most,
+        ))
         (cases_lt (length (stripe_in stripes p).added) 1)
 
 -- ---- versions and stripes that are dropped
@@ -270,8 +311,11 @@ names-collected stripes counts less p t sorted are size released =
 
 pub live-collected : (stripes : Stripes) (p : Place) (t : Stamp) → IsStrictlySortedBy place_cmp (keys_of stripes)
     → live_in (put p (with_collected stamp_of t (stripe_in stripes p)) stripes) + length (filter (is_old t) (stripe_in stripes p).added) ≡ live_in stripes
-live-collected stripes p t sorted = omega (arith, live-put p (with_collected stamp_of t (stripe_in stripes p)) stripes sorted,
-    length_split t (stripe_in stripes p).added)
+live-collected stripes p t sorted = omega (
+  arith,
+  live-put p (with_collected stamp_of t (stripe_in stripes p)) stripes sorted,
+  length_split t (stripe_in stripes p).added,
+)
 
 -- a sum over some stripes, and over the others
 sum_split : (f : StripeOf Entry → ℕ) (drops : Place → Bool) (stripes : Stripes) → sum_by f (values_of (filter (λ e. drops e.0) stripes))

@@ -5,8 +5,8 @@ ghost use Rattle.fab_base.specs.Stamps.{stamp_same, first_stamp};
 
 use crate::groups::Group;
 use crate::records::Record;
-use crate::stripes::{Place, Stripe};
 use crate::stripe_tables::StripeTable;
+use crate::stripes::{Place, Stripe};
 use crate::{log_changes, rewrites, slots, stripe_maps};
 use fab_base::{Ballot, Members, NoMem, Stamp, View};
 use stamp_store::{Kept, Logged};
@@ -263,13 +263,7 @@ impl Index {
         let place = (logged.group.0, logged.view.0, logged.stripe.0);
         self.stripes.make_room(self.alloc, place)?;
         let full = self.is_full();
-        Ok(log_changes::change_log(
-            &mut self.stripes,
-            place,
-            logged.stamp,
-            logged.change,
-            full,
-        ))
+        Ok(log_changes::change_log(&mut self.stripes, place, logged.stamp, logged.change, full))
     }
 }
 

@@ -7,11 +7,11 @@
 
 pub mod groups;
 pub mod indexes;
+mod log_changes;
 pub mod records;
 mod rewrites;
 mod slot_tables;
 mod slots;
-mod log_changes;
 mod stripe_maps;
 mod stripe_tables;
 pub mod stripes;

@@ -126,7 +126,11 @@ impl StripeTable {
             (listed self.old.map.entries) }
         ensures slots { length self.new.counts ≡ length self.old.counts }
     {
-        let dropped = release_below(&mut self.counts, stripe_maps::added(&self.map, place), stamp);
+        let dropped = release_below(
+            &mut self.counts,
+            stripe_maps::added(&self.map, place),
+            stamp,
+        );
         stripe_maps::collect(&mut self.map, place, stamp);
         self.live -= dropped as u32;
     }
@@ -179,7 +183,12 @@ fn release_below(counts: &mut SlotTable, entries: &[Entry], stamp: Stamp) -> usi
 }
 
 // The same for the stripes of a group in the views below one; their live records, where these are below 2^64.
-fn release_views(counts: &mut SlotTable, stripes: &BTreeMap<Place, Stripe>, group: u32, first: u32) -> usize
+fn release_views(
+    counts: &mut SlotTable,
+    stripes: &BTreeMap<Place, Stripe>,
+    group: u32,
+    first: u32,
+) -> usize
     ensures number { result ≡ min (live_in (filter (λ e. is_of_view group first e.0) (listed stripes.now.entries))) (2 ^ 64 - 1) }
     ensures length { length counts.new ≡ length counts.old }
     ensures counts { (slot : ℕ) → slot < length counts.old → slice_index_or counts.new slot 0 ≡ slice_index_or counts.old slot 0

@@ -19,14 +19,22 @@ loop-place-preserved-then-place-first c =
     let group = c.args.group in
     let first = c.args.first in
     let gone : is_of_view group first p ≡ true = drops_true group first p c.if-place-group.true c.if-place-first.true in
-    let inv = c.loop-place.invariant in
-    (
+    let inv = c.loop-place.invariant in (
       c.release_all.ensures.length ∙ inv.0,
-      omega (arith, inv.1, c.weight.ensures, c.saturating_add-dropped.ensures,
-      live-step group first p s c.next.new.self c.loop-place.place-iterator true c.in-Some.ensures.steps gone),
-      λ slot within. omega (arith, inv.2 slot within, c.release_all.ensures.counts slot (omega (arith, within, inv.0)),
-          ap (names_of slot) c.deref.ensures.value,
-          names-step slot group first p s c.next.new.self c.loop-place.place-iterator true c.in-Some.ensures.steps gone),
+      omega (
+        arith,
+        inv.1,
+        c.weight.ensures,
+        c.saturating_add-dropped.ensures,
+        live-step group first p s c.next.new.self c.loop-place.place-iterator true c.in-Some.ensures.steps gone,
+      ),
+      λ slot within. omega (
+        arith,
+        inv.2 slot within,
+        c.release_all.ensures.counts slot (omega (arith, within, inv.0)),
+        ap (names_of slot) c.deref.ensures.value,
+        names-step slot group first p s c.next.new.self c.loop-place.place-iterator true c.in-Some.ensures.steps gone,
+      ),
       omega (arith, c.saturating_add-dropped.ensures),
     )
 
@@ -41,12 +49,14 @@ loop-place-preserved c =
     elim c.else-place-group.branch [
       | else-place-group-via-then-place-group+else-place-first w ↦ drops_not_view group first p w.if-place-first.false
       | else-place-group-via-else-place-group w ↦ drops_not_group group first p w.if-place-group.false
-    ] in
-    (
+    ] in (
       inv.0,
       omega (arith, inv.1, live-step group first p s c.next.new.self c.loop-place.place-iterator false c.in-Some.ensures.steps stays),
-      λ slot within. omega (arith, inv.2 slot within,
-          names-step slot group first p s c.next.new.self c.loop-place.place-iterator false c.in-Some.ensures.steps stays),
+      λ slot within. omega (
+        arith,
+        inv.2 slot within,
+        names-step slot group first p s c.next.new.self c.loop-place.place-iterator false c.in-Some.ensures.steps stays,
+      ),
       inv.3,
     )
 

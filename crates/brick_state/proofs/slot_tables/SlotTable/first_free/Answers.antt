@@ -11,6 +11,6 @@ returns c =
     let some = subst (λ (counts : List ℕ). 1 ≤ length counts) (sym c.self.view_is) c.requires in
     let root = root_least t.least.items t.counts.items c.self.invariant some in
     let read : c.index.result.now ≡ get_or t.least.items 1 0 =
-        c.index.ensures ∙ get_or_default t.least.items 1 c.index.result.now 0 (omega (arith, some, c.self.invariant.tree.size)) in
+    c.index.ensures ∙ get_or_default t.least.items 1 c.index.result.now 0 (omega (arith, some, c.self.invariant.tree.size)) in
     subst (λ (counts : List ℕ). IsLeastUnused counts c.index.result.now) c.self.view_is
     (subst (λ (slot : ℕ). IsLeastUnused t.counts.items slot) (sym read) root)

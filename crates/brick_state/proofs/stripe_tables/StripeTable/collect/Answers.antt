@@ -13,16 +13,25 @@ pub overflow_cast-self : goal.overflow_cast-self
 overflow_cast-self c =
     let t = c.args.self.now in
     let most = t.fits in
-    omega (arith, t.counted, c.release_below-dropped.ensures.number,
-    ap (λ (es : List Entry). length (filter (λ e. stamp_below e.stamp c.args.stamp) es)) c.added.ensures.added,
-    live-collected (listed t.map.entries) c.args.place c.args.stamp c.added.ensures.sorted, most)
+    omega (
+      arith,
+      t.counted,
+      c.release_below-dropped.ensures.number,
+      ap (λ (es : List Entry). length (filter (λ e. stamp_below e.stamp c.args.stamp) es)) c.added.ensures.added,
+      live-collected (listed t.map.entries) c.args.place c.args.stamp c.added.ensures.sorted,
+      most,
+    )
 
 pub overflow_sub-self : goal.overflow_sub-self
 overflow_sub-self c =
     let t = c.args.self.now in
-    omega (arith, t.counted, c.release_below-dropped.ensures.number,
-    ap (λ (es : List Entry). length (filter (λ e. stamp_below e.stamp c.args.stamp) es)) c.added.ensures.added,
-    live-collected (listed t.map.entries) c.args.place c.args.stamp c.added.ensures.sorted)
+    omega (
+      arith,
+      t.counted,
+      c.release_below-dropped.ensures.number,
+      ap (λ (es : List Entry). length (filter (λ e. stamp_below e.stamp c.args.stamp) es)) c.added.ensures.added,
+      live-collected (listed t.map.entries) c.args.place c.args.stamp c.added.ensures.sorted,
+    )
 
 pub invariant_of-self : goal.invariant_of-self
 invariant_of-self c =
@@ -30,9 +39,14 @@ invariant_of-self c =
     let stripes = listed t.map.entries in
     record {
       fits = omega (arith, t.fits);
-      counted = omega (arith, t.counted, c.release_below-dropped.ensures.number,
-          ap (λ (es : List Entry). length (filter (λ e. stamp_below e.stamp c.args.stamp) es)) c.added.ensures.added,
-          ap live_in c.collect.ensures, live-collected stripes c.args.place c.args.stamp c.added.ensures.sorted);
+      counted = omega (
+        arith,
+        t.counted,
+        c.release_below-dropped.ensures.number,
+        ap (λ (es : List Entry). length (filter (λ e. stamp_below e.stamp c.args.stamp) es)) c.added.ensures.added,
+        ap live_in c.collect.ensures,
+        live-collected stripes c.args.place c.args.stamp c.added.ensures.sorted,
+      );
       named = subst (λ (now : List (Place × StripeOf Entry)). AreNames now c.release_below-dropped.new.counts) (sym c.collect.ensures)
           (names-collected stripes t.counts c.release_below-dropped.new.counts c.args.place c.args.stamp c.added.ensures.sorted t.named
           c.release_below-dropped.ensures.length

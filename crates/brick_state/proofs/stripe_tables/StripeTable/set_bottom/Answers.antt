@@ -11,14 +11,25 @@ pub overflow_cast-self : goal.overflow_cast-self
 overflow_cast-self c =
     let t = c.args.self.now in
     let most = t.fits in
-    omega (arith, t.counted, c.release_all-dropped.ensures.number, ap length c.added.ensures.added,
-    added_within (listed t.map.entries) c.args.place c.added.ensures.sorted, most)
+    omega (
+      arith,
+      t.counted,
+      c.release_all-dropped.ensures.number,
+      ap length c.added.ensures.added,
+      added_within (listed t.map.entries) c.args.place c.added.ensures.sorted,
+      most,
+    )
 
 pub overflow_sub-self : goal.overflow_sub-self
 overflow_sub-self c =
     let t = c.args.self.now in
-    omega (arith, t.counted, c.release_all-dropped.ensures.number, ap length c.added.ensures.added,
-    added_within (listed t.map.entries) c.args.place c.added.ensures.sorted)
+    omega (
+      arith,
+      t.counted,
+      c.release_all-dropped.ensures.number,
+      ap length c.added.ensures.added,
+      added_within (listed t.map.entries) c.args.place c.added.ensures.sorted,
+    )
 
 pub take-requires : goal.take-requires
 take-requires c =
@@ -40,8 +51,15 @@ invariant_of-self c =
       fits = bottom_fits t.live c.release_all-dropped.result
           (λ none. subst (λ (n : ℕ). n < 4294967295) (sym t.counted) (c.requires.fits (sym (ap length c.added.ensures.added) ∙ sym c.release_all-dropped.ensures.number ∙ none)))
           t.fits (omega (arith, t.counted, c.release_all-dropped.ensures.number, ap length c.added.ensures.added, added_within stripes c.args.place sorted));
-      counted = omega (arith, t.counted, c.release_all-dropped.ensures.number, ap length c.added.ensures.added, ap live_in c.set_bottom.ensures,
-          live-bottom stripes c.args.place c.args.entry sorted, added_within stripes c.args.place sorted);
+      counted = omega (
+        arith,
+        t.counted,
+        c.release_all-dropped.ensures.number,
+        ap length c.added.ensures.added,
+        ap live_in c.set_bottom.ensures,
+        live-bottom stripes c.args.place c.args.entry sorted,
+        added_within stripes c.args.place sorted,
+      );
       named = subst (λ (counts : List ℕ). AreNames (listed c.set_bottom.new.stripes.entries) counts) (sym c.take.ensures)
           (subst (λ (now : List (Place × StripeOf Entry)). AreNames now (set less c.args.entry.slot (get_or less c.args.entry.slot 0 + 1)))
           (sym c.set_bottom.ensures) (names-bottom stripes t.counts less c.args.place c.args.entry sorted t.named c.release_all-dropped.ensures.length

@@ -14,8 +14,13 @@ adds_order_of t old = stamp_same old first_stamp && not (stamp_same t first_stam
 
 pub overflow_sub-self : goal.overflow_sub-self
 overflow_sub-self c =
-    omega (arith, c.args.self.now.counted, c.order_weight-before.ensures, ap order_weight c.order.ensures.order,
-    order_within (listed c.args.self.now.map.entries) c.args.place c.order.ensures.sorted)
+    omega (
+      arith,
+      c.args.self.now.counted,
+      c.order_weight-before.ensures,
+      ap order_weight c.order.ensures.order,
+      order_within (listed c.args.self.now.map.entries) c.args.place c.order.ensures.sorted,
+    )
 
 pub invariant_of-self : goal.invariant_of-self
 invariant_of-self c =
@@ -26,8 +31,16 @@ invariant_of-self c =
       fits = order_fits t.live c.order_weight-before.result c.order_weight.result c.args.stamp c.order.result c.order_weight-before.ensures c.order_weight.ensures
           (λ adds. subst (λ (n : ℕ). n < 4294967295) (sym t.counted) (c.requires.fits (ap (λ (o : Stamp). adds_order_of c.args.stamp o) (sym c.order.ensures.order) ∙ adds)))
           t.fits (omega (arith, t.counted, c.order_weight-before.ensures, ap order_weight c.order.ensures.order, order_within stripes c.args.place sorted));
-      counted = omega (arith, t.counted, c.order_weight-before.ensures, ap order_weight c.order.ensures.order, c.order_weight.ensures,
-          ap live_in c.set_order.ensures, live-ordered stripes c.args.place c.args.stamp sorted, order_within stripes c.args.place sorted);
+      counted = omega (
+        arith,
+        t.counted,
+        c.order_weight-before.ensures,
+        ap order_weight c.order.ensures.order,
+        c.order_weight.ensures,
+        ap live_in c.set_order.ensures,
+        live-ordered stripes c.args.place c.args.stamp sorted,
+        order_within stripes c.args.place sorted,
+      );
       named = subst (λ (now : List (Place × StripeOf Entry)). AreNames now t.counts) (sym c.set_order.ensures)
           (names-ordered stripes t.counts c.args.place c.args.stamp sorted t.named);
     }
