@@ -1,5 +1,5 @@
 -- A slot that no version names.
-use Rattle.std.proofs.Common.{◌≡◌, ◌≢◌, ◌⊎◌, inl, inr, ⊎_elim, ℕ, zero, suc, ◌+◌, ◌<◌, ◌≤◌, Bool, true, false, cond, ltb, not, Some, None, List, [], ◌∷◌, length, map, drop, get_or, set, replicate, refl, sym, ap, subst, ◌∙◌, arith}
+use Rattle.std.proofs.Common.{◌≡◌, ◌≢◌, ◌⊎◌, inl, inr, ⊎_elim, ℕ, zero, suc, ◌+◌, ◌<◌, ◌≤◌, Bool, true, false, cond, ltb, not, Option, Some, None, List, [], ◌∷◌, length, map, drop, get_or, set, replicate, refl, sym, ap, subst, ◌∙◌, arith}
 use Rattle.std.specs.List.{AllByRecursion, Contains, position, position_or_len}
 use Rattle.std.specs.Map.{values_of}
 use Rattle.std.proofs.lemmas.Bool.Decides.{nat_tests}
@@ -7,7 +7,7 @@ use Rattle.std.proofs.lemmas.List.{length-append, length-map, length-set, length
 use Rattle.std.proofs.lemmas.List.Sums.{sum_by-cons, fails_before_first, passes_at_first}
 use Rattle.brick_state.specs.declared.stripes.Entry.{Entry}
 use Rattle.brick_state.specs.States.{Place, StripeOf, weight, live_in}
-use Rattle.brick_state.specs.Slots.{slot_of, slots_in, IsFree, marked}
+use Rattle.brick_state.specs.Slots.{slot_of, slots_in, IsFree}
 
 -- no more slots are named than there are live records
 pub slots_few : (stripes : List (Place × StripeOf Entry)) → length (slots_in stripes) ≤ live_in stripes
@@ -20,6 +20,11 @@ slots_few (e ∷ stripes) = omega (
   length-map e.1.added slot_of,
   sum_by-cons weight e.1 (values_of stripes),
 )
+
+-- the flags of these slots are set
+unfoldable marked : List Bool → List ℕ → List Bool
+marked flags [] = flags
+marked flags (slot ∷ slots) = marked (set flags slot true) slots
 
 -- flags that are not set
 abbrev unset : List Bool → ℕ
@@ -111,7 +116,7 @@ none_set (suc n) zero = refl
 none_set (suc n) (suc k) = none_set n k
 
 -- the first flag that is not set is that of the least free slot, and with fewer used slots than flags there is one
-pub free_of : (slots : ℕ) (used : List ℕ) (i : ℕ) → position not (marked (replicate slots false) used) ≡ Some i → IsFree slots used i
+free_of : (slots : ℕ) (used : List ℕ) (i : ℕ) → position not (marked (replicate slots false) used) ≡ Some i → IsFree slots used i
 free_of slots used i h = by (ltb p (length flags)) refl h
   where
     flags : List Bool
@@ -150,7 +155,7 @@ free_of slots used i h = by (ltb p (length flags)) refl h
           least = lower;
         })
 
-pub some_free : (slots : ℕ) (used : List ℕ) → length used < slots → position not (marked (replicate slots false) used) ≡ None → ⊥
+some_free : (slots : ℕ) (used : List ℕ) → length used < slots → position not (marked (replicate slots false) used) ≡ None → ⊥
 some_free slots used few h = by (ltb p (length flags)) refl h
   where
     flags : List Bool
@@ -166,17 +171,10 @@ some_free slots used few h = by (ltb p (length flags)) refl h
         let none : unset flags ≡ 0 = none_unset flags (λ k lt. fails_before_first not flags k true (omega (arith, lt, past))) in
         omega (arith, none, few, marked_few (replicate slots false) used, unset_all slots)
 
--- slots marked one by one
-pub mark_step : (flags : List Bool) (used : List ℕ) (i : ℕ) → i < length used → marked (set flags (get_or used i 0) true)
-    (drop (suc i) used) ≡ marked flags (drop i used)
-unfolding marked
-mark_step flags [] i lt = absurd (omega (arith, lt))
-mark_step flags (slot ∷ used) zero lt = refl
-mark_step flags (slot ∷ used) (suc i) lt = mark_step flags used i (omega (arith, lt))
-
-pub mark_end : (flags : List Bool) (used : List ℕ) (i : ℕ) → length used ≤ i → marked flags (drop i used) ≡ flags
-unfolding marked
-mark_end flags [] zero past = refl
-mark_end flags [] (suc i) past = refl
-mark_end flags (slot ∷ used) zero past = absurd (omega (arith, past))
-mark_end flags (slot ∷ used) (suc i) past = mark_end flags used i (omega (arith, past))
+-- with fewer used slots than there are, there is a free one
+pub any_free : (slots : ℕ) (used : List ℕ) → length used < slots → (i : ℕ) × IsFree slots used i
+any_free slots used few = by (position not (marked (replicate slots false) used)) refl
+  where
+    by : (found : Option ℕ) → position not (marked (replicate slots false) used) ≡ found → (i : ℕ) × IsFree slots used i
+    by None at = absurd (some_free slots used few at)
+    by (Some i) at = (i, free_of slots used i at)

@@ -13,3 +13,5 @@ pub mod UsedSlots
 pub mod LiveRecords
 pub mod FreeSlots
 pub mod Greatest
+pub mod SlotTrees
+pub mod Tallies

@@ -361,3 +361,24 @@ sorted_removed {K} {X} R test (e ∷ es) sorted = by (test e.0) (sorted_removed 
         → IsStrictlySortedBy R (keys_of (cond b es (e ∷ remove_entry test es)))
     by true rest all = sorted.1
     by false rest all = (all, rest)
+
+pub sorted_filter : {K X : Type 0} (R : K → K → Ordering) (keep : K × X → Bool) (es : List (K × X)) → IsStrictlySortedBy R (keys_of es)
+    → IsStrictlySortedBy R (keys_of (filter keep es))
+unfolding IsStrictlySortedBy
+sorted_filter R keep [] sorted = tt
+sorted_filter {K} {X} R keep (e ∷ es) sorted = by (keep e) (sorted_filter R keep es sorted.1) (keys_left e.0 es sorted.0)
+  where
+    keys_left : (q : K) (fs : List (K × X)) → AllByRecursion (λ y. R q y ≡ Less) (keys_of fs) → AllByRecursion (λ y. R q y ≡ Less)
+        (keys_of (filter keep fs))
+    keys_left q [] all = tt
+    keys_left q (f ∷ fs) all = one (keep f) (keys_left q fs all.1)
+      where
+        one : (b : Bool) → AllByRecursion (λ y. R q y ≡ Less) (keys_of (filter keep fs)) → AllByRecursion (λ y. R q y ≡ Less)
+            (keys_of (cond b (f ∷ filter keep fs) (filter keep fs)))
+        one true rest = (all.0, rest)
+        one false rest = rest
+
+    by : (b : Bool) → IsStrictlySortedBy R (keys_of (filter keep es)) → AllByRecursion (λ y. R e.0 y ≡ Less) (keys_of (filter keep es))
+        → IsStrictlySortedBy R (keys_of (cond b (e ∷ filter keep es) (filter keep es)))
+    by true rest all = (all, rest)
+    by false rest all = rest

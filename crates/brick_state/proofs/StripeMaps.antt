@@ -24,7 +24,7 @@ use Rattle.brick_state.specs.declared.stripes.Entry.{Entry}
 use Rattle.brick_state.specs.declared.stripes.Stripe.{Stripe}
 use Rattle.brick_state.specs.States.{Place, StripeOf, place_cmp, first_stripe, is_first, stripe_in, put, weight, live_in, stripe_of}
 use Rattle.brick_state.specs.Maps.{listed, seen_entry, is_listed}
-use Rattle.brick_state.proofs.Listings.{map_values-filter, filter-filter, filter-set_value, lookup-filter, lookup-filter-none, filter-insert_left_out, map_values-set_value, map_values-insert_entry}
+use Rattle.brick_state.proofs.Listings.{map_values-filter, filter-filter, filter-set_value, lookup-filter, lookup-filter-none, sorted_filter, filter-insert_left_out, map_values-set_value, map_values-insert_entry}
 
 -- places are in a total order, and equal places are the same
 pub place_total : IsTotalOrder place_cmp
@@ -122,6 +122,12 @@ module _ (entries : List (Place × Stripe)) (sorted : IsStrictlySortedBy place_c
           ≡ cond b (remove_entry (is_at (place_cmp p)) (filter is_listed seen)) (insert_entry place_cmp (filter is_listed seen) p (stripe_of new))
       turned true = refl
       turned false = refl
+
+-- what a clause sees is in the order of the places too
+pub listed_sorted : (entries : List (Place × Stripe)) → IsStrictlySortedBy place_cmp (keys_of entries) → IsStrictlySortedBy place_cmp
+    (keys_of (listed entries))
+unfolding listed
+listed_sorted entries sorted = sorted_filter place_cmp is_listed (map seen_entry entries) (seen_sorted entries sorted)
 
 -- a stripe that nothing happened to is not seen
 pub first_unseen : (entries : List (Place × Stripe)) (p : Place) (s : Stripe) → lookup (is_at (place_cmp p)) entries ≡ None

@@ -1,5 +1,5 @@
 -- What the index in memory says.
-use Rattle.std.specs.Prelude.{◌≡◌, Bool, true, false, Option, Some, None, List}
+use Rattle.std.specs.Prelude.{◌≡◌, Bool, true, false, Option, Some, None, List, length}
 use Rattle.brick_state.specs.declared.stripes.Entry.{Entry}
 use Rattle.brick_state.specs.declared.indexes.Index.{Index}
 use Rattle.brick_state.specs.States.{StateOf, Place, StripeOf}
@@ -11,10 +11,10 @@ use Rattle.brick_state.specs.Folds.{Limits, place}
 use Rattle.brick_state.specs.Maps.{listed, HasRoom}
 
 abbrev pub stripes_of : Index → List (Place × StripeOf Entry)
-stripes_of index = listed index.stripes.entries
+stripes_of index = listed index.stripes.map.entries
 
 abbrev pub limits_of : Index → Limits
-limits_of index = record { records = index.records; slots = index.slots }
+limits_of index = record { records = index.records; slots = length index.stripes.counts }
 
 -- what the brick keeps
 abbrev pub state_of : Index → StateOf Entry
@@ -30,5 +30,5 @@ abbrev pub IsReady : Index → Record → Type 0
 IsReady index (forms.Kept (Boot count)) = Unit {0}
 IsReady index (forms.Kept (kinds.View g view synced)) = Unit {0}
 IsReady index (forms.Kept (Ballots g v promised accepted)) = Unit {0}
-IsReady index (forms.Kept (Order g v s t)) = HasRoom index.stripes (place g v s)
-IsReady index (forms.Logged r) = HasRoom index.stripes (place r.group r.view r.stripe)
+IsReady index (forms.Kept (Order g v s t)) = HasRoom index.stripes.map (place g v s)
+IsReady index (forms.Logged r) = HasRoom index.stripes.map (place r.group r.view r.stripe)

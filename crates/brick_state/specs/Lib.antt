@@ -1,9 +1,10 @@
 pub mod States
 pub mod Maps
-pub mod Weights
 pub mod Indexes
 pub mod Folds
 pub mod Rewrites
 pub mod KeptStates
 pub mod Slots
 pub mod Times
+pub mod SlotTrees
+pub mod Tallies

@@ -1,5 +1,5 @@
 -- The slots that the versions of a brick name.
-use Rattle.std.specs.Prelude.{◌≢◌, ℕ, ◌<◌, Bool, true, List, [], ◌∷◌, ◌++◌, map, slice_set}
+use Rattle.std.specs.Prelude.{◌≢◌, ℕ, ◌<◌, List, [], ◌∷◌, ◌++◌, map}
 use Rattle.std.specs.List.{AllByRecursion, Contains}
 use Rattle.brick_state.specs.declared.stripes.Entry.{Entry}
 use Rattle.brick_state.specs.States.{Place, StripeOf, StateOf}
@@ -20,8 +20,3 @@ pub record IsFree (slots : ℕ) (used : List ℕ) (slot : ℕ) : Type 0 where
   pub is_slot : slot < slots
   pub unused : AllByRecursion (λ other. other ≢ slot) used
   pub least : (other : ℕ) → other < slot → Contains used other
-
--- the flags of these slots are set
-unfoldable pub marked : List Bool → List ℕ → List Bool
-marked flags [] = flags
-marked flags (slot ∷ slots) = marked (slice_set flags slot true) slots

@@ -1,26 +1,27 @@
 //! The index: what a brick keeps, in memory.
 
-ghost use Rattle.std.specs.Prelude.{◌≡◌, length};
+ghost use Rattle.std.specs.Prelude.{◌≡◌, ◌≤◌, ◌&&◌, not, length};
+ghost use Rattle.fab_base.specs.Stamps.{stamp_same, first_stamp};
 
 use crate::groups::Group;
 use crate::records::Record;
+use crate::stripe_tables::StripeTable;
 use crate::stripes::{Place, Stripe};
-use crate::{rewrites, slots, stripe_maps};
+use crate::{log_changes, rewrites, slots, stripe_maps};
 use fab_base::{Ballot, Members, NoMem, Stamp, View};
 use stamp_store::{Kept, Logged};
 use std::alloc::Global;
-use std::collections::BTreeMap;
 
 /// What a brick keeps, with the slots of its blocks.
 #[derive(Drop)]
 pub struct Index {
     alloc: Global,
     records: u32,
-    slots: u32,
     boot: u32,
     groups: Vec<Group>,
-    stripes: BTreeMap<Place, Stripe>,
+    stripes: StripeTable,
     ghost all_groups: { length groups.items ≡ 64 },
+    ghost few: { records ≤ 4294967295 },
 }
 
 impl Index {
@@ -38,6 +39,7 @@ impl Index {
         ensures nothing { IfOk result (λ index. state_of index ≡ empty) }
         ensures limits { IfOk result (λ index. limits_of index ≡ record { records = records; slots = slots }) }
     {
+        let stripes = StripeTable::new(alloc, slots)?;
         let mut groups = Vec::new(alloc);
         for _ in 0..64u8 {
             groups.push(Group {
@@ -48,10 +50,9 @@ impl Index {
         Ok(Index {
             alloc,
             records,
-            slots,
             boot: 0,
             groups,
-            stripes: BTreeMap::new(alloc),
+            stripes,
         })
     }
 
@@ -60,15 +61,14 @@ impl Index {
     pub fn live(&self) -> u32
         ensures { result ≡ min (live (state_of self.now)) (2 ^ 32 - 1) }
     {
-        let total = stripe_maps::weigh(&self.stripes);
-        total.min(4294967295) as u32
+        self.stripes.live()
     }
 
     /// The greatest time of the order stamps and of the versions added, 0 where there is none.
     pub fn top_time(&self) -> u64
         ensures { result ≡ top_time stamp_of (state_of self.now) }
     {
-        stripe_maps::top_time(&self.stripes)
+        stripe_maps::top_time(self.stripes.map())
     }
 
     /// How often the store was opened.
@@ -91,7 +91,7 @@ impl Index {
         ensures none { IfNone result (stripe_at (state_of self.now) place ≡ first_stripe place) }
         ensures some { IfSome result (λ stripe. stripe_at (state_of self.now) place ≡ stripe_of stripe.now) }
     {
-        stripe_maps::find(&self.stripes, place)
+        stripe_maps::find(self.stripes.map(), place)
     }
 
     /// The slots that versions name, one that versions share once for each.
@@ -99,7 +99,7 @@ impl Index {
         ensures { IfOk result (λ slots. slots.items ≡ slots_of (state_of self.now)) }
     {
         let mut made = Vec::new(self.alloc);
-        slots::put_slots(&mut made, &self.stripes)?;
+        slots::put_slots(&mut made, self.stripes.map())?;
         Ok(made)
     }
 
@@ -108,8 +108,7 @@ impl Index {
         requires { live (state_of self.now) < (limits_of self.now).slots }
         ensures { IfOk result (λ slot. IsFree (limits_of self.now).slots (slots_of (state_of self.now)) slot) }
     {
-        let used = self.slots()?;
-        slots::first_free(self.alloc, &used, self.slots)
+        Ok(self.stripes.free_slot())
     }
 
     /// The records that bring back what is kept from nothing.
@@ -119,7 +118,7 @@ impl Index {
         let mut made = Vec::new(self.alloc);
         made.push(Record::Kept(Kept::Boot(self.boot)))?;
         rewrites::put_groups(&mut made, &self.groups)?;
-        rewrites::put_stripes(&mut made, &self.stripes)?;
+        rewrites::put_stripes(&mut made, self.stripes.map())?;
         Ok(made)
     }
 
@@ -127,9 +126,9 @@ impl Index {
     pub fn reserve(&mut self, place: Place) -> Result<(), NoMem>
         ensures same { state_of self.new ≡ state_of self.old }
         ensures limits { limits_of self.new ≡ limits_of self.old }
-        ensures room { OnOk result (HasRoom self.new.stripes place) }
+        ensures room { OnOk result (HasRoom self.new.stripes.map place) }
     {
-        stripe_maps::make_room(self.alloc, &mut self.stripes, place)
+        self.stripes.make_room(self.alloc, place)
     }
 
     /// Makes a change. False where the record can't be: then nothing is changed. It takes no memory where
@@ -197,7 +196,7 @@ impl Index {
         };
         let entry = &mut self.groups[group as usize];
         entry.learn(view, synced);
-        stripe_maps::drop_views(&mut self.stripes, group, first);
+        self.stripes.drop_views(group, first);
         true
     }
 
@@ -227,17 +226,17 @@ impl Index {
         ensures refused { result ≡ Ok false → state_of self.new ≡ state_of self.old }
         ensures err { OnErr result (state_of self.new ≡ state_of self.old) }
         ensures limits { limits_of self.new ≡ limits_of self.old }
-        ensures enough { HasRoom self.old.stripes place → IsOk result }
+        ensures enough { HasRoom self.old.stripes.map place → IsOk result }
     {
         if place.0 >= 64 {
             return Ok(false);
         }
-        stripe_maps::make_room(self.alloc, &mut self.stripes, place)?;
-        let adds = self.order(place).is_same(Stamp::FIRST) && !stamp.is_same(Stamp::FIRST);
+        self.stripes.make_room(self.alloc, place)?;
+        let adds = adds_record(stamp, self.order(place));
         if adds && self.is_full() {
             return Ok(false);
         }
-        stripe_maps::set_order(&mut self.stripes, place, stamp);
+        self.stripes.set_order(place, stamp);
         Ok(true)
     }
 
@@ -245,10 +244,7 @@ impl Index {
     pub fn order(&self, place: Place) -> Stamp
         ensures { result ≡ (stripe_at (state_of self.now) place).order }
     {
-        match stripe_maps::find(&self.stripes, place) {
-            Some(stripe) => stripe.order,
-            None => Stamp::FIRST,
-        }
+        stripe_maps::order(self.stripes.map(), place)
     }
 
     fn change_log(&mut self, logged: &Logged) -> Result<bool, NoMem>
@@ -259,21 +255,21 @@ impl Index {
         ensures refused { result ≡ Ok false → state_of self.new ≡ state_of self.old }
         ensures err { OnErr result (state_of self.new ≡ state_of self.old) }
         ensures limits { limits_of self.new ≡ limits_of self.old }
-        ensures enough { HasRoom self.old.stripes (place logged.now.group logged.now.view logged.now.stripe) → IsOk result }
+        ensures enough { HasRoom self.old.stripes.map (place logged.now.group logged.now.view logged.now.stripe) → IsOk result }
     {
         if logged.group.0 >= 64 {
             return Ok(false);
         }
         let place = (logged.group.0, logged.view.0, logged.stripe.0);
-        stripe_maps::make_room(self.alloc, &mut self.stripes, place)?;
+        self.stripes.make_room(self.alloc, place)?;
         let full = self.is_full();
-        Ok(stripe_maps::change_log(
-            &mut self.stripes,
-            place,
-            logged.stamp,
-            logged.change,
-            self.slots,
-            full,
-        ))
+        Ok(log_changes::change_log(&mut self.stripes, place, logged.stamp, logged.change, full))
     }
+}
+
+// Whether an order stamp in the place of another is one live record more.
+fn adds_record(stamp: Stamp, order: Stamp) -> bool
+    ensures { result ≡ (stamp_same order first_stamp && not (stamp_same stamp first_stamp)) }
+{
+    order.is_same(Stamp::FIRST) && !stamp.is_same(Stamp::FIRST)
 }

@@ -7,10 +7,13 @@
 
 pub mod groups;
 pub mod indexes;
+mod log_changes;
 pub mod records;
 mod rewrites;
+mod slot_tables;
 mod slots;
 mod stripe_maps;
+mod stripe_tables;
 pub mod stripes;
 
 pub use groups::Group;

@@ -4,9 +4,9 @@ ghost use Rattle.std.specs.Prelude.{◌≡◌, ◌-◌, ◌^◌, ◌==◌, ◌&&
 ghost use Rattle.brick_state.specs.States.{place_cmp, weight, first_stripe, stripe_in, stripe_of, put, with_order, with_added, with_bottom, with_collected, stamp_of, is_of_view, newest_entry, has_version};
 ghost use Rattle.fab_base.specs.Stamps.{stamp_below};
 ghost use Rattle.std.specs.BTreeMap.{get, values};
-ghost use Rattle.brick_state.specs.Weights.{live_of};
 ghost use Rattle.brick_state.specs.Times.{greatest, stripe_time};
-ghost use Rattle.std.specs.Map.{values_of};
+ghost use Rattle.std.specs.Map.{keys_of, values_of};
+ghost use Rattle.std.specs.List.Sorted.{IsStrictlySortedBy};
 ghost use Rattle.brick_state.specs.Maps.{listed, HasRoom, AnswersAt};
 ghost use Rattle.brick_state.specs.Folds.{log_changed, same_added, is_above, slot_limits};
 
@@ -20,7 +20,9 @@ use std::collections::BTreeMap;
 pub fn find(stripes: &BTreeMap<Place, Stripe>, place: Place) -> Option<&Stripe>
     ensures none { IfNone result (stripe_in (listed stripes.now.entries) place ≡ first_stripe place) }
     ensures some { IfSome result (λ stripe. stripe_in (listed stripes.now.entries) place ≡ stripe_of stripe.now) }
+    ensures sorted { IsStrictlySortedBy place_cmp (keys_of (listed stripes.now.entries)) }
 {
+    // `len` tells that the keys are in order.
     let _count = stripes.len();
     stripes.get(&place)
 }
@@ -44,21 +46,26 @@ fn make_entry(
     Ok(())
 }
 
-/// How many live records the stripes have, where that is below 2^64.
-pub fn weigh(stripes: &BTreeMap<Place, Stripe>) -> usize
-    ensures { result ≡ min (live_of stripes.now) (2 ^ 64 - 1) }
+/// The order stamp of a stripe.
+pub fn order(stripes: &BTreeMap<Place, Stripe>, place: Place) -> Stamp
+    ensures order { result ≡ (stripe_in (listed stripes.now.entries) place).order }
+    ensures sorted { IsStrictlySortedBy place_cmp (keys_of (listed stripes.now.entries)) }
 {
-    weigh_all(stripes)
+    match find(stripes, place) {
+        Some(stripe) => stripe.order,
+        None => Stamp::FIRST,
+    }
 }
 
-fn weigh_all(stripes: &BTreeMap<Place, Stripe>) -> usize
-    ensures { result ≡ min (sum_by (λ s. weight (stripe_of s)) (values stripes.now)) (2 ^ 64 - 1) }
+/// The versions that were added to a stripe and not dropped since.
+pub fn added(stripes: &BTreeMap<Place, Stripe>, place: Place) -> &[Entry]
+    ensures added { result.now ≡ (stripe_in (listed stripes.now.entries) place).added }
+    ensures sorted { IsStrictlySortedBy place_cmp (keys_of (listed stripes.now.entries)) }
 {
-    let mut total = 0usize;
-    for stripe in stripes.values() {
-        total = total.saturating_add(stripe.weight());
+    match find(stripes, place) {
+        Some(stripe) => &stripe.added,
+        None => &[],
     }
-    total
 }
 
 /// The greatest time of the order stamps and of the versions added, 0 where there is none.
@@ -111,7 +118,8 @@ pub fn set_order(stripes: &mut BTreeMap<Place, Stripe>, place: Place, stamp: Sta
 /// Adds a version.
 pub fn add(stripes: &mut BTreeMap<Place, Stripe>, place: Place, entry: Entry)
     requires { HasRoom stripes.old place }
-    ensures { listed stripes.new.entries ≡ put place (with_added entry (stripe_in (listed stripes.old.entries) place)) (listed stripes.old.entries) }
+    ensures sorted { IsStrictlySortedBy place_cmp (keys_of (listed stripes.old.entries)) }
+    ensures added { listed stripes.new.entries ≡ put place (with_added entry (stripe_in (listed stripes.old.entries) place)) (listed stripes.old.entries) }
 {
     if let Some(stripe) = stripes.get_mut(&place) {
         let _ = stripe.added.push(entry);
@@ -154,121 +162,4 @@ pub fn drop_views(stripes: &mut BTreeMap<Place, Stripe>, group: u32, first: u32)
     ensures { listed stripes.new.entries ≡ filter (λ e. not (is_of_view group first e.0)) (listed stripes.old.entries) }
 {
     stripes.retain(|place, _| !(place.0 == group && place.1 < first));
-}
-
-/// Changes a log, for which there is room. False where it can't be: then nothing is changed. `slots` is how many slots there
-/// are, and `full` whether there are as many live records as there may be.
-#[tactic(auto, unfolding(crate::specs::Folds::log_changed))]
-pub fn change_log(
-    stripes: &mut BTreeMap<Place, Stripe>,
-    place: Place,
-    stamp: Stamp,
-    change: LogChange,
-    slots: u32,
-    full: bool,
-) -> bool
-    requires { HasRoom stripes.old place }
-    ensures answer { AnswersAt place (listed stripes.old.entries) (listed stripes.new.entries)
-        (log_changed (slot_limits slots) full change stamp (stripe_in (listed stripes.old.entries) place)) result }
-{
-    match change {
-        LogChange::Same => add_same(stripes, place, stamp, full),
-        LogChange::Collect => collect_held(stripes, place, stamp),
-        LogChange::Slot { bottom, slot } => {
-            if slot != ZERO_SLOT && slot >= slots {
-                return false;
-            }
-            let entry = Entry { stamp, slot };
-            if bottom {
-                add_bottom(stripes, place, entry, full)
-            } else {
-                add_above(stripes, place, entry, full)
-            }
-        }
-    }
-}
-
-fn newest(stripes: &BTreeMap<Place, Stripe>, place: Place) -> Option<Entry>
-    ensures { result ≡ newest_entry (stripe_in (listed stripes.now.entries) place) }
-{
-    match find(stripes, place) {
-        Some(stripe) => stripe.newest(),
-        None => Stripe::first_entry(place),
-    }
-}
-
-fn add_same(stripes: &mut BTreeMap<Place, Stripe>, place: Place, stamp: Stamp, full: bool) -> bool
-    requires { HasRoom stripes.old place }
-    ensures { AnswersAt place (listed stripes.old.entries) (listed stripes.new.entries)
-        (if full then None else same_added (newest_entry (stripe_in (listed stripes.old.entries) place)) stamp
-        (stripe_in (listed stripes.old.entries) place)) result }
-{
-    if full {
-        return false;
-    }
-    match newest(stripes, place) {
-        Some(below) => {
-            if !below.stamp.is_below(stamp) {
-                return false;
-            }
-            let entry = Entry {
-                stamp,
-                slot: below.slot,
-            };
-            add(stripes, place, entry);
-            true
-        }
-        None => false,
-    }
-}
-
-fn add_above(stripes: &mut BTreeMap<Place, Stripe>, place: Place, entry: Entry, full: bool) -> bool
-    requires { HasRoom stripes.old place }
-    ensures { AnswersAt place (listed stripes.old.entries) (listed stripes.new.entries)
-        (if full || not (is_above (newest_entry (stripe_in (listed stripes.old.entries) place)) entry.stamp) then None else Some
-        (with_added entry (stripe_in (listed stripes.old.entries) place))) result }
-{
-    if full {
-        return false;
-    }
-    if let Some(below) = newest(stripes, place) {
-        if !below.stamp.is_below(entry.stamp) {
-            return false;
-        }
-    }
-    add(stripes, place, entry);
-    true
-}
-
-fn add_bottom(stripes: &mut BTreeMap<Place, Stripe>, place: Place, entry: Entry, full: bool) -> bool
-    requires { HasRoom stripes.old place }
-    ensures { AnswersAt place (listed stripes.old.entries) (listed stripes.new.entries)
-        (if (length (stripe_in (listed stripes.old.entries) place).added == 0) && full then None else Some
-        (with_bottom entry (stripe_in (listed stripes.old.entries) place))) result }
-{
-    let count = match find(stripes, place) {
-        Some(stripe) => stripe.added.len(),
-        None => 0,
-    };
-    if count == 0 && full {
-        return false;
-    }
-    set_bottom(stripes, place, entry);
-    true
-}
-
-fn collect_held(stripes: &mut BTreeMap<Place, Stripe>, place: Place, stamp: Stamp) -> bool
-    requires { HasRoom stripes.old place }
-    ensures { AnswersAt place (listed stripes.old.entries) (listed stripes.new.entries)
-        (if has_version stamp (stripe_in (listed stripes.old.entries) place) then Some
-        (with_collected stamp_of stamp (stripe_in (listed stripes.old.entries) place)) else None) result }
-{
-    let held = match find(stripes, place) {
-        Some(stripe) => stripe.has(stamp),
-        None => place.1 == 1 && Stamp::FIRST.is_same(stamp),
-    };
-    if held {
-        collect(stripes, place, stamp);
-    }
-    held
 }

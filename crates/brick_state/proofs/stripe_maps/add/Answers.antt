@@ -3,11 +3,14 @@ use Rattle.std.proofs.Common.{◌≡◌, ◌<◌, ◌∷◌, [], ◌++◌, vec_l
 use Rattle.brick_state.specs.declared.stripes.Stripe.{Stripe}
 use Rattle.brick_state.specs.States.{put, with_added}
 use Rattle.brick_state.specs.Maps.{listed}
-use Rattle.brick_state.proofs.StripeMaps.{written_at, found_at, same_found, pushed}
+use Rattle.brick_state.proofs.StripeMaps.{written_at, found_at, same_found, pushed, listed_sorted}
 use Rattle.brick_state.proofs.stripe_maps.add.Goals as goal
 
-pub returns-in-Some : goal.returns-in-Some
-returns-in-Some c =
+pub returns-in-Some-clause-sorted : goal.returns-in-Some-clause-sorted
+returns-in-Some-clause-sorted c = listed_sorted c.args.stripes.now.entries c.get_mut.ensures.ordered
+
+pub returns-in-Some-clause-added : goal.returns-in-Some-clause-added
+returns-in-Some-clause-added c =
     let entries = c.args.stripes.now.entries in
     let old = c.in-Some.stripe.now in
     let new = record old { added = c.push.new.self } in

@@ -1,0 +1,431 @@
+-- What is counted of the stripes, after each change of them.
+use Rattle.std.proofs.Common.{◌≡◌, ◌≢◌, ℕ, zero, suc, ◌+◌, ◌-◌, ◌<◌, ◌≤◌, Bool, true, false, not, ◌&&◌, cond, eqb, ltb, leb, Option, Some, None, List, [], ◌∷◌, ◌++◌, length, get_or, set, replicate, map, refl, sym, ap, subst, ◌∙◌, ⊎_elim, arith}
+use Rattle.std.specs.List.{AllByRecursion, Contains, count_by, sum_by, filter}
+use Rattle.std.specs.List.Sorted.{IsStrictlySortedBy}
+use Rattle.std.specs.Map.{keys_of, values_of}
+use Rattle.std.proofs.lemmas.Bool.{cases_eq, cases_lt, eqb-true, eq-eqb, lt-ltb, leb-false}
+use Rattle.std.proofs.lemmas.Bool.Decides.{nat_tests}
+use Rattle.std.proofs.lemmas.List.{get_or-set_same, get_or-set_other, get_or-replicate, length-set, length_push, length-replicate}
+use Rattle.std.proofs.Math.ListN.{get_or-eq_default}
+use Rattle.std.proofs.lemmas.List.Sums.{sum_by-cons, sum_by-append, count_by-le-length}
+use Rattle.std.proofs.lemmas.List.Filters.{sum_by-filter_both}
+use Rattle.brick_state.specs.declared.stripes.Entry.{Entry}
+use Rattle.brick_state.specs.declared.stripes.Stripe.{Stripe}
+use Rattle.brick_state.specs.States.{Place, StripeOf, place_cmp, first_stripe, is_first, stripe_in, stripe_of, stamp_of, put, weight, live_in, with_added, with_bottom, with_order, with_collected, is_of_view}
+use Rattle.brick_state.specs.Maps.{listed, seen_entry, is_listed}
+use Rattle.fab_base.specs.declared.stamps.Stamp.{Stamp}
+use Rattle.fab_base.specs.Stamps.{stamp_below, stamp_same, first_stamp}
+use Rattle.brick_state.proofs.StripeMaps.{is_first-true}
+use Rattle.brick_state.specs.Slots.{slot_of, slots_in, IsFree}
+use Rattle.brick_state.specs.SlotTrees.{IsLeastUnused}
+use Rattle.brick_state.specs.Tallies.{names_of, names_in, AreNames, order_weight}
+use Rattle.brick_state.proofs.FreeSlots.{any_free, slots_few}
+use Rattle.brick_state.proofs.Preserving.{sum-put, live-put, sorted-put, weight_none}
+
+abbrev Stripes : Type 0
+Stripes = List (Place × StripeOf Entry)
+
+-- ---- one slot in lists of versions
+
+names-cons : (slot : ℕ) (e : Entry) (es : List Entry) → names_of slot (e ∷ es) ≡ cond (eqb e.slot slot) 1 0 + names_of slot es
+names-cons slot e es = sum_by-cons (λ (v : Entry). cond (eqb v.slot slot) 1 0) e es
+
+names-append : (slot : ℕ) (xs ys : List Entry) → names_of slot (xs ++ ys) ≡ names_of slot xs + names_of slot ys
+names-append slot xs ys = sum_by-append (λ (v : Entry). cond (eqb v.slot slot) 1 0) xs ys
+
+-- the stripe without its versions
+abbrev with_bottom_none : StripeOf Entry → StripeOf Entry
+with_bottom_none s = record { order = s.order; from_start = s.from_start; added = [] }
+
+-- ---- the slots that are named
+
+abbrev named : ℕ → List ℕ → ℕ
+named slot xs = count_by (λ other. eqb other slot) xs
+
+named-map : (slot : ℕ) (es : List Entry) → named slot (map slot_of es) ≡ names_of slot es
+named-map slot [] = refl
+named-map slot (e ∷ es) = omega (
+  arith,
+  named-map slot es,
+  names-cons slot e es,
+  sum_by-cons (λ (other : ℕ). cond (eqb other slot) 1 0) e.slot (map slot_of es),
+)
+
+names-slots : (slot : ℕ) (stripes : Stripes) → names_in slot stripes ≡ named slot (slots_in stripes)
+unfolding slots_in
+names-slots slot [] = refl
+names-slots slot (e ∷ stripes) = omega (
+  arith,
+  names-slots slot stripes,
+  named-map slot e.1.added,
+  sum_by-cons (λ (s : StripeOf Entry). names_of slot s.added) e.1 (values_of stripes),
+  sum_by-append (λ (other : ℕ). cond (eqb other slot) 1 0) (map slot_of e.1.added) (slots_in stripes),
+)
+
+differs : (a b : ℕ) → a ≢ b → eqb a b ≡ false
+differs a b other = by (eqb a b) refl
+  where
+    by : (t : Bool) → eqb a b ≡ t → t ≡ false
+    by false at = refl
+    by true at = absurd (other (eqb-true a b at))
+
+-- none of the slots is this one
+none_named : (slot : ℕ) (xs : List ℕ) → AllByRecursion (λ other. other ≢ slot) xs → named slot xs ≡ 0
+none_named slot [] all = refl
+none_named slot (x ∷ xs) all = omega (
+  arith,
+  none_named slot xs all.1,
+  ap {B = ℕ} (λ (b : Bool). cond b 1 0) (differs x slot all.0),
+  sum_by-cons (λ (other : ℕ). cond (eqb other slot) 1 0) x xs,
+)
+
+not_named : (slot : ℕ) (xs : List ℕ) → named slot xs ≡ 0 → AllByRecursion (λ other. other ≢ slot) xs
+not_named slot [] none = tt
+not_named slot (x ∷ xs) none = (other, not_named slot xs (omega (arith, none, step)))
+  where
+    step : named slot (x ∷ xs) ≡ cond (eqb x slot) 1 0 + named slot xs
+    step = sum_by-cons (λ (y : ℕ). cond (eqb y slot) 1 0) x xs
+
+    other : x ≡ slot → ⊥
+    other is = omega (arith, none, step, ap {B = ℕ} (λ (b : Bool). cond b 1 0) (eq-eqb x slot is))
+
+contains_not : (slot : ℕ) (xs : List ℕ) → AllByRecursion (λ other. other ≢ slot) xs → Contains xs slot → ⊥
+contains_not slot [] all (k, lt, e) = absurd (omega (arith, lt))
+contains_not slot (x ∷ xs) all (zero, lt, e) = all.0 e
+contains_not slot (x ∷ xs) all (suc k, lt, e) = contains_not slot xs all.1 (k, omega (arith, lt), e)
+
+-- the least slot whose count is 0 is the least that no version names
+pub least_free : (stripes : Stripes) (counts : List ℕ) (slot : ℕ) → AreNames stripes counts → live_in stripes < length counts
+    → IsLeastUnused counts slot → IsFree (length counts) (slots_in stripes) slot
+least_free stripes counts slot are few is =
+    let some = any_free (length counts) (slots_in stripes) (omega (arith, few, slots_few stripes)) in
+    found some.0 some.1
+  where
+    found : (i : ℕ) → IsFree (length counts) (slots_in stripes) i → IsFree (length counts) (slots_in stripes) slot
+    found i free =
+        let unused : get_or counts i 0 ≡ 0 = are i free.is_slot ∙ names-slots i stripes ∙ none_named i (slots_in stripes) free.unused in
+        let here = is.unused i free.is_slot unused in
+        let none = not_named slot (slots_in stripes) (sym (names-slots slot stripes) ∙ sym (are slot here.0) ∙ here.1) in
+        ⊎_elim (λ lower. absurd (contains_not slot (slots_in stripes) none (free.least slot lower)))
+        (λ past. subst (λ (s : ℕ). IsFree (length counts) (slots_in stripes) s) (omega (arith, past, is.least i free.is_slot unused)) free)
+        (cases_lt slot i)
+
+-- ---- changes of a stripe
+
+names_none : (slot : ℕ) (p : Place) → names_of slot (first_stripe {E = Entry} p).added ≡ 0
+names_none slot p = refl
+
+-- a stripe has no more than all of them
+pub live_within : (stripes : Stripes) (p : Place) → IsStrictlySortedBy place_cmp (keys_of stripes) → weight (stripe_in stripes p) ≤ live_in stripes
+live_within stripes p sorted = omega (arith, live-put p (first_stripe p) stripes sorted, weight_none p)
+
+names_within : (slot : ℕ) (stripes : Stripes) (p : Place) → IsStrictlySortedBy place_cmp (keys_of stripes)
+    → names_of slot (stripe_in stripes p).added ≤ names_in slot stripes
+names_within slot stripes p sorted = omega (
+  arith,
+  sum-put (λ s. names_of slot s.added) (names_none slot) p (first_stripe p) stripes sorted,
+  names_none slot p,
+)
+
+-- the counts after a stripe was put in place
+pub names-put : (stripes : Stripes) (counts counts' : List ℕ) (p : Place) (s : StripeOf Entry) → IsStrictlySortedBy place_cmp (keys_of stripes)
+    → AreNames stripes counts → length counts' ≡ length counts
+    → ((slot : ℕ) → slot < length counts → names_of slot (stripe_in stripes p).added ≤ get_or counts slot 0
+    → get_or counts' slot 0 + names_of slot (stripe_in stripes p).added ≡ get_or counts slot 0 + names_of slot s.added)
+    → AreNames (put p s stripes) counts'
+names-put stripes counts counts' p s sorted are size counted slot within =
+    let old : slot < length counts = omega (arith, within, size) in
+    let few : names_of slot (stripe_in stripes p).added ≤ get_or counts slot 0 = omega (arith, are slot old, names_within slot stripes p sorted) in
+    omega (arith, counted slot old few, are slot old, sum-put (λ t. names_of slot t.added) (names_none slot) p s stripes sorted)
+
+-- the count of a slot after a version more
+pub count_more : (counts : List ℕ) (e : Entry) (slot : ℕ) → slot < length counts
+    → get_or (set counts e.slot (get_or counts e.slot 0 + 1)) slot 0 ≡ get_or counts slot 0 + names_of slot (e ∷ [])
+count_more counts e slot within = ⊎_elim same other (cases_eq slot e.slot)
+  where
+    one : names_of slot (e ∷ []) ≡ cond (eqb e.slot slot) 1 0 + 0
+    one = names-cons slot e []
+
+    same : slot ≡ e.slot → get_or (set counts e.slot (get_or counts e.slot 0 + 1)) slot 0 ≡ get_or counts slot 0 + names_of slot (e ∷ [])
+    same is = omega (
+      arith,
+      one,
+      ap {B = ℕ} (λ (b : Bool). cond b 1 0) (eq-eqb e.slot slot (sym is)),
+      subst (λ (n : ℕ). get_or (set counts e.slot (get_or counts e.slot 0 + 1)) n 0 ≡ get_or counts n 0 + 1) (sym is)
+          (get_or-set_same counts e.slot (get_or counts e.slot 0 + 1) 0 (omega (arith, within, is))),
+    )
+
+    other : slot ≢ e.slot → get_or (set counts e.slot (get_or counts e.slot 0 + 1)) slot 0 ≡ get_or counts slot 0 + names_of slot (e ∷ [])
+    other is = omega (
+      arith,
+      one,
+      ap {B = ℕ} (λ (b : Bool). cond b 1 0) (differs e.slot slot (λ (h : e.slot ≡ slot). is (sym h))),
+      get_or-set_other counts e.slot slot (get_or counts e.slot 0 + 1) 0 is,
+    )
+
+-- and after one less
+pub count_less : (counts : List ℕ) (e : Entry) (rest : List Entry) (slot : ℕ) → slot < length counts
+    → get_or (set counts e.slot (get_or counts e.slot 0 - 1)) slot 0 - names_of slot rest ≡ get_or counts slot 0 - names_of slot (e ∷ rest)
+count_less counts e rest slot within = ⊎_elim same other (cases_eq slot e.slot)
+  where
+    one : names_of slot (e ∷ rest) ≡ cond (eqb e.slot slot) 1 0 + names_of slot rest
+    one = names-cons slot e rest
+
+    same : slot ≡ e.slot → get_or (set counts e.slot (get_or counts e.slot 0 - 1)) slot 0 - names_of slot rest ≡ get_or counts slot 0 - names_of slot (e ∷ rest)
+    same is = omega (
+      arith,
+      one,
+      ap {B = ℕ} (λ (b : Bool). cond b 1 0) (eq-eqb e.slot slot (sym is)),
+      subst (λ (n : ℕ). get_or (set counts e.slot (get_or counts e.slot 0 - 1)) n 0 ≡ get_or counts n 0 - 1) (sym is)
+          (get_or-set_same counts e.slot (get_or counts e.slot 0 - 1) 0 (subst (λ (n : ℕ). n < length counts) is within)),
+    )
+
+    other : slot ≢ e.slot → get_or (set counts e.slot (get_or counts e.slot 0 - 1)) slot 0 - names_of slot rest ≡ get_or counts slot 0 - names_of slot (e ∷ rest)
+    other is = omega (
+      arith,
+      one,
+      ap {B = ℕ} (λ (b : Bool). cond b 1 0) (differs e.slot slot (λ (h : e.slot ≡ slot). is (sym h))),
+      get_or-set_other counts e.slot slot (get_or counts e.slot 0 - 1) 0 is,
+    )
+
+-- no slot is named more often than there are live records
+pub names_few : (slot : ℕ) (stripes : Stripes) → names_in slot stripes ≤ live_in stripes
+names_few slot [] = omega arith
+names_few slot (e ∷ stripes) = omega (
+  arith,
+  names_few slot stripes,
+  sum_by-cons (λ (s : StripeOf Entry). names_of slot s.added) e.1 (values_of stripes),
+  sum_by-cons weight e.1 (values_of stripes),
+  count_by-le-length (λ (v : Entry). eqb v.slot slot) e.1.added,
+)
+
+-- the counts after a version was added
+pub names-added : (stripes : Stripes) (counts : List ℕ) (p : Place) (e : Entry) → IsStrictlySortedBy place_cmp (keys_of stripes)
+    → AreNames stripes counts → AreNames (put p (with_added e (stripe_in stripes p)) stripes) (set counts e.slot (get_or counts e.slot 0 + 1))
+names-added stripes counts p e sorted are =
+    names-put stripes counts (set counts e.slot (get_or counts e.slot 0 + 1)) p (with_added e (stripe_in stripes p)) sorted are
+    (length-set counts e.slot (get_or counts e.slot 0 + 1))
+    (λ slot within few. omega (arith, count_more counts e slot within, names-append slot (stripe_in stripes p).added (e ∷ [])))
+
+pub live-added : (stripes : Stripes) (p : Place) (e : Entry) → IsStrictlySortedBy place_cmp (keys_of stripes)
+    → live_in (put p (with_added e (stripe_in stripes p)) stripes) ≡ live_in stripes + 1
+live-added stripes p e sorted = omega (arith, live-put p (with_added e (stripe_in stripes p)) stripes sorted, length_push (stripe_in stripes p).added e)
+
+-- a count fits
+pub count_fits : (stripes : Stripes) (counts : List ℕ) (slot : ℕ) → AreNames stripes counts → live_in stripes < 4294967295
+    → get_or counts slot 0 < 4294967295
+count_fits stripes counts slot are few = ⊎_elim
+    (λ within. omega (arith, are slot within, names_few slot stripes, few))
+    (λ past. omega (arith, get_or-eq_default counts 0 {n = slot} past))
+    (cases_lt slot (length counts))
+
+-- after an order stamp was set
+pub names-ordered : (stripes : Stripes) (counts : List ℕ) (p : Place) (t : Stamp) → IsStrictlySortedBy place_cmp (keys_of stripes)
+    → AreNames stripes counts → AreNames (put p (with_order t (stripe_in stripes p)) stripes) counts
+names-ordered stripes counts p t sorted are =
+    names-put stripes counts counts p (with_order t (stripe_in stripes p)) sorted are refl (λ slot within few. refl)
+
+pub live-ordered : (stripes : Stripes) (p : Place) (t : Stamp) → IsStrictlySortedBy place_cmp (keys_of stripes)
+    → live_in (put p (with_order t (stripe_in stripes p)) stripes) + order_weight (stripe_in stripes p).order ≡ live_in stripes + order_weight t
+live-ordered stripes p t sorted = omega (arith, live-put p (with_order t (stripe_in stripes p)) stripes sorted)
+
+pub order_within : (stripes : Stripes) (p : Place) → IsStrictlySortedBy place_cmp (keys_of stripes)
+    → order_weight (stripe_in stripes p).order ≤ live_in stripes
+order_within stripes p sorted = omega (arith, live_within stripes p sorted)
+
+-- after a version was added in the place of all
+pub names-bottom : (stripes : Stripes) (counts less : List ℕ) (p : Place) (e : Entry) → IsStrictlySortedBy place_cmp (keys_of stripes)
+    → AreNames stripes counts → length less ≡ length counts
+    → ((slot : ℕ) → slot < length counts → get_or less slot 0 ≡ get_or counts slot 0 - names_of slot (stripe_in stripes p).added)
+    → AreNames (put p (with_bottom e (stripe_in stripes p)) stripes) (set less e.slot (get_or less e.slot 0 + 1))
+names-bottom stripes counts less p e sorted are size released =
+    names-put stripes counts (set less e.slot (get_or less e.slot 0 + 1)) p (with_bottom e (stripe_in stripes p)) sorted are
+    (length-set less e.slot (get_or less e.slot 0 + 1) ∙ size)
+    (λ slot within few. omega (arith, count_more less e slot (omega (arith, within, size)), released slot within, few))
+
+pub live-bottom : (stripes : Stripes) (p : Place) (e : Entry) → IsStrictlySortedBy place_cmp (keys_of stripes)
+    → live_in (put p (with_bottom e (stripe_in stripes p)) stripes) + length (stripe_in stripes p).added ≡ live_in stripes + 1
+live-bottom stripes p e sorted = omega (arith, live-put p (with_bottom e (stripe_in stripes p)) stripes sorted)
+
+pub added_within : (stripes : Stripes) (p : Place) → IsStrictlySortedBy place_cmp (keys_of stripes)
+    → length (stripe_in stripes p).added ≤ live_in stripes
+added_within stripes p sorted = omega (arith, live_within stripes p sorted)
+
+-- a count after versions less fits as it did
+pub less_fits : (stripes : Stripes) (counts less : List ℕ) (p : Place) (slot : ℕ) → IsStrictlySortedBy place_cmp (keys_of stripes)
+    → AreNames stripes counts → live_in stripes ≤ 4294967295
+    → (length (stripe_in stripes p).added ≡ 0 → live_in stripes < 4294967295) → length less ≡ length counts
+    → ((s : ℕ) → s < length counts → get_or less s 0 ≡ get_or counts s 0 - names_of s (stripe_in stripes p).added)
+    → get_or less slot 0 < 4294967295
+less_fits stripes counts less p slot sorted are most few size released = ⊎_elim inside
+    (λ past. omega (arith, get_or-eq_default less 0 {n = slot} (omega (arith, past, size))))
+    (cases_lt slot (length counts))
+  where
+    -- without this stripe's versions there are so many names at most
+    others : names_in slot (put p (with_bottom_none (stripe_in stripes p)) stripes) ≤ live_in (put p (with_bottom_none (stripe_in stripes p)) stripes)
+    others = names_few slot (put p (with_bottom_none (stripe_in stripes p)) stripes)
+
+    inside : slot < length counts → get_or less slot 0 < 4294967295
+    inside within = ⊎_elim
+        (λ none. omega (arith, released slot within, are slot within, names_few slot stripes, few (omega (arith, none))))
+        (λ some. omega (
+          arith,
+          released slot within,
+          are slot within,
+          others,
+          sum-put (λ t. names_of slot t.added) (names_none slot) p (with_bottom_none (stripe_in stripes p)) stripes sorted,
+          live-put p (with_bottom_none (stripe_in stripes p)) stripes sorted,
+          most,
+        ))
+        (cases_lt (length (stripe_in stripes p).added) 1)
+
+-- ---- versions and stripes that are dropped
+
+abbrev is_old : Stamp → Entry → Bool
+is_old t e = stamp_below e.stamp t
+
+abbrev is_kept : Stamp → Entry → Bool
+is_kept t e = not (stamp_below e.stamp t)
+
+names_split : (slot : ℕ) (t : Stamp) (es : List Entry) → names_of slot (filter (is_old t) es) + names_of slot (filter (is_kept t) es) ≡ names_of slot es
+names_split slot t es = sum_by-filter_both (is_old t) (is_kept t) (λ x. refl) (λ (v : Entry). cond (eqb v.slot slot) 1 0) es
+
+length_split : (t : Stamp) (es : List Entry) → length (filter (is_old t) es) + length (filter (is_kept t) es) ≡ length es
+length_split t [] = refl
+length_split t (e ∷ es) = by (stamp_below e.stamp t) (length_split t es)
+  where
+    by : (b : Bool) → length (filter (is_old t) es) + length (filter (is_kept t) es) ≡ length es
+        → length (cond b (e ∷ filter (is_old t) es) (filter (is_old t) es)) + length (cond (not b) (e ∷ filter (is_kept t) es) (filter (is_kept t) es))
+        ≡ suc (length es)
+    by true h = omega (arith, h)
+    by false h = omega (arith, h)
+
+-- after the versions below a stamp were dropped
+pub names-collected : (stripes : Stripes) (counts less : List ℕ) (p : Place) (t : Stamp) → IsStrictlySortedBy place_cmp (keys_of stripes)
+    → AreNames stripes counts → length less ≡ length counts
+    → ((slot : ℕ) → slot < length counts → get_or less slot 0 ≡ get_or counts slot 0 - names_of slot (filter (is_old t) (stripe_in stripes p).added))
+    → AreNames (put p (with_collected stamp_of t (stripe_in stripes p)) stripes) less
+names-collected stripes counts less p t sorted are size released =
+    names-put stripes counts less p (with_collected stamp_of t (stripe_in stripes p)) sorted are size
+    (λ slot within few. omega (arith, released slot within, few, names_split slot t (stripe_in stripes p).added))
+
+pub live-collected : (stripes : Stripes) (p : Place) (t : Stamp) → IsStrictlySortedBy place_cmp (keys_of stripes)
+    → live_in (put p (with_collected stamp_of t (stripe_in stripes p)) stripes) + length (filter (is_old t) (stripe_in stripes p).added) ≡ live_in stripes
+live-collected stripes p t sorted = omega (
+  arith,
+  live-put p (with_collected stamp_of t (stripe_in stripes p)) stripes sorted,
+  length_split t (stripe_in stripes p).added,
+)
+
+-- a sum over some stripes, and over the others
+sum_split : (f : StripeOf Entry → ℕ) (drops : Place → Bool) (stripes : Stripes) → sum_by f (values_of (filter (λ e. drops e.0) stripes))
+    + sum_by f (values_of (filter (λ e. not (drops e.0)) stripes)) ≡ sum_by f (values_of stripes)
+sum_split f drops [] = refl
+sum_split f drops (e ∷ stripes) = by (drops e.0) (sum_split f drops stripes)
+  where
+    gone : Stripes
+    gone = filter (λ (x : Place × StripeOf Entry). drops x.0) stripes
+
+    left : Stripes
+    left = filter (λ (x : Place × StripeOf Entry). not (drops x.0)) stripes
+
+    by : (b : Bool) → sum_by f (values_of gone) + sum_by f (values_of left) ≡ sum_by f (values_of stripes)
+        → sum_by f (values_of (cond b (e ∷ gone) gone)) + sum_by f (values_of (cond (not b) (e ∷ left) left)) ≡ sum_by f (values_of (e ∷ stripes))
+    by true h = omega (arith, h, sum_by-cons f e.1 (values_of gone), sum_by-cons f e.1 (values_of stripes))
+    by false h = omega (arith, h, sum_by-cons f e.1 (values_of left), sum_by-cons f e.1 (values_of stripes))
+
+-- after the stripes of some places were dropped
+pub names-filter : (drops : Place → Bool) (stripes : Stripes) (counts less : List ℕ) → AreNames stripes counts → length less ≡ length counts
+    → ((slot : ℕ) → slot < length counts → get_or less slot 0 ≡ get_or counts slot 0 - names_in slot (filter (λ e. drops e.0) stripes))
+    → AreNames (filter (λ e. not (drops e.0)) stripes) less
+names-filter drops stripes counts less are size released slot within =
+    let old : slot < length counts = omega (arith, within, size) in
+    omega (arith, released slot old, are slot old, sum_split (λ s. names_of slot s.added) drops stripes)
+
+pub live-filter_both : (drops : Place → Bool) (stripes : Stripes) → live_in (filter (λ e. drops e.0) stripes)
+    + live_in (filter (λ e. not (drops e.0)) stripes) ≡ live_in stripes
+live-filter_both drops stripes = sum_split weight drops stripes
+
+-- a sum over the dropped ones of a map, one entry after the other
+pub sum-step : (f : StripeOf Entry → ℕ) → ((p : Place) → f (first_stripe p) ≡ 0) → (drops : Place → Bool) (p : Place) (s : Stripe) (rest : List (Place × Stripe))
+    → sum_by f (values_of (filter (λ e. drops e.0) (listed ((p, s) ∷ rest))))
+    ≡ cond (drops p) (f (stripe_of s)) 0 + sum_by f (values_of (filter (λ e. drops e.0) (listed rest)))
+unfolding listed
+sum-step f none drops p s rest = by (is_first p (stripe_of s)) refl (drops p) refl
+  where
+    more : Stripes
+    more = filter is_listed (map seen_entry rest)
+
+    by : (b : Bool) → is_first p (stripe_of s) ≡ b → (d : Bool) → drops p ≡ d
+        → sum_by f (values_of (filter (λ (e : Place × StripeOf Entry). drops e.0) (cond (not b) ((p, stripe_of s) ∷ more) more)))
+        ≡ cond d (f (stripe_of s)) 0 + sum_by f (values_of (filter (λ (e : Place × StripeOf Entry). drops e.0) more))
+    by true at true is = omega (arith, ap f (is_first-true p (stripe_of s) at), none p)
+    by true at false is = omega arith
+    by false at true is = rw is (sum_by-cons f (stripe_of s) (values_of (filter (λ (e : Place × StripeOf Entry). drops e.0) more)))
+    by false at false is = rw is (omega arith)
+
+pub live-step : (group first : ℕ) (p : Place) (s : Stripe) (rest iter : List (Place × Stripe)) (gone : Bool) → iter ≡ (p, s) ∷ rest
+    → is_of_view group first p ≡ gone → live_in (filter (λ e. is_of_view group first e.0) (listed iter))
+    ≡ cond gone (weight (stripe_of s)) 0 + live_in (filter (λ e. is_of_view group first e.0) (listed rest))
+live-step group first p s rest iter gone steps is =
+    ap (λ (es : List (Place × Stripe)). live_in (filter (λ e. is_of_view group first e.0) (listed es))) steps
+    ∙ sum-step weight weight_none (is_of_view group first) p s rest
+    ∙ ap {B = ℕ} (λ (b : Bool). cond b (weight (stripe_of s)) 0 + live_in (filter (λ e. is_of_view group first e.0) (listed rest))) is
+
+pub names-step : (slot group first : ℕ) (p : Place) (s : Stripe) (rest iter : List (Place × Stripe)) (gone : Bool) → iter ≡ (p, s) ∷ rest
+    → is_of_view group first p ≡ gone → names_in slot (filter (λ e. is_of_view group first e.0) (listed iter))
+    ≡ cond gone (names_of slot s.added.items) 0 + names_in slot (filter (λ e. is_of_view group first e.0) (listed rest))
+names-step slot group first p s rest iter gone steps is =
+    ap (λ (es : List (Place × Stripe)). names_in slot (filter (λ e. is_of_view group first e.0) (listed es))) steps
+    ∙ sum-step (λ t. names_of slot t.added) (names_none slot) (is_of_view group first) p s rest
+    ∙ ap {B = ℕ} (λ (b : Bool). cond b (names_of slot s.added.items) 0 + names_in slot (filter (λ e. is_of_view group first e.0) (listed rest))) is
+
+pub none_dropped : (group first : ℕ) (iter : List (Place × Stripe)) → iter ≡ [] → filter (λ e. is_of_view group first e.0) (listed iter) ≡ []
+unfolding listed
+none_dropped group first iter none = ap (λ (es : List (Place × Stripe)). filter (λ e. is_of_view group first e.0) (listed es)) none
+
+-- which places are dropped
+both : (a b : Bool) → a ≡ true → b ≡ true → (a && b) ≡ true
+both true true p q = refl
+both true false p q = q
+both false b p q = absurd cc
+
+first_not : (a b : Bool) → a ≡ false → (a && b) ≡ false
+first_not false b p = refl
+first_not true b p = absurd cc
+
+second_not : (a b : Bool) → b ≡ false → (a && b) ≡ false
+second_not false b p = refl
+second_not true b p = p
+
+pub drops_true : (group first : ℕ) (p : Place) → p.0 ≡ group → p.1 < first → is_of_view group first p ≡ true
+drops_true group first p same below = both (eqb p.0 group) (ltb p.1 first) (eq-eqb p.0 group same) (lt-ltb p.1 first below)
+
+pub drops_not_group : (group first : ℕ) (p : Place) → p.0 ≢ group → is_of_view group first p ≡ false
+drops_not_group group first p other = first_not (eqb p.0 group) (ltb p.1 first) (differs p.0 group other)
+
+pub drops_not_view : (group first : ℕ) (p : Place) → first ≤ p.1 → is_of_view group first p ≡ false
+drops_not_view group first p past = second_not (eqb p.0 group) (ltb p.1 first) (grind (arith, nat_tests))
+
+-- no stripes, and no names
+pub names-none : (stripes : Stripes) (slots : ℕ) → stripes ≡ [] → AreNames stripes (replicate slots 0)
+names-none stripes slots none slot within =
+    get_or-replicate slots slot 0 0 (omega (arith, within, length-replicate {A = ℕ} slots 0)) ∙ ap (names_in slot) (sym none)
+
+-- the number of live records goes on fitting
+pub order_fits : (live before now : ℕ) (t old : Stamp) → before ≡ order_weight old → now ≡ order_weight t
+    → ((stamp_same old first_stamp && not (stamp_same t first_stamp)) ≡ true → live < 4294967295) → live ≤ 4294967295 → before ≤ live
+    → live - before + now ≤ 4294967295
+order_fits live before now t old p q adds most some = by (stamp_same old first_stamp) (stamp_same t first_stamp) p q adds
+  where
+    by : (a b : Bool) → before ≡ cond a 0 1 → now ≡ cond b 0 1 → ((a && not b) ≡ true → live < 4294967295) → live - before + now ≤ 4294967295
+    by true true p q adds = omega (arith, p, q, most)
+    by true false p q adds = omega (arith, p, q, adds refl)
+    by false true p q adds = omega (arith, p, q, most)
+    by false false p q adds = omega (arith, p, q, most, some)
+
+pub bottom_fits : (live dropped : ℕ) → (dropped ≡ 0 → live < 4294967295) → live ≤ 4294967295 → dropped ≤ live → live - dropped + 1 ≤ 4294967295
+bottom_fits live dropped few most some = ⊎_elim (λ none. omega (arith, few (omega (arith, none)))) (λ one. omega (arith, one, most, some)) (cases_lt dropped 1)
+
+pub full_fits : (records : ℕ) (stripes : Stripes) → leb records (live_in stripes) ≡ false → records ≤ 4294967295 → live_in stripes < 4294967295
+full_fits records stripes free few = omega (arith, leb-false records (live_in stripes) free, few)

@@ -1,0 +1,7 @@
+-- The least slot whose count is 0 is the least that no version names.
+use Rattle.brick_state.specs.Maps.{listed}
+use Rattle.brick_state.proofs.Tallies.{least_free}
+use Rattle.brick_state.proofs.stripe_tables.StripeTable.free_slot.Goals as goal
+
+pub returns : goal.returns
+returns c = least_free (listed c.args.self.now.map.entries) c.args.self.now.counts c.first_free.result c.args.self.now.named c.requires c.first_free.ensures

@@ -1,0 +1,46 @@
+-- One live record more or less, as the stamps say, and the same names.
+use Rattle.std.proofs.Common.{◌≡◌, ◌<◌, ℕ, ◌&&◌, Bool, not, List, subst, sym, ap, ◌∙◌, arith}
+use Rattle.brick_state.specs.declared.stripes.Entry.{Entry}
+use Rattle.brick_state.specs.States.{Place, StripeOf, live_in}
+use Rattle.brick_state.specs.Maps.{listed}
+use Rattle.brick_state.specs.Tallies.{AreNames, order_weight}
+use Rattle.brick_state.proofs.Tallies.{names-ordered, live-ordered, order_within, order_fits}
+use Rattle.fab_base.specs.declared.stamps.Stamp.{Stamp}
+use Rattle.fab_base.specs.Stamps.{stamp_same, first_stamp}
+use Rattle.brick_state.proofs.stripe_tables.StripeTable.set_order.Goals as goal
+
+abbrev adds_order_of : Stamp → Stamp → Bool
+adds_order_of t old = stamp_same old first_stamp && not (stamp_same t first_stamp)
+
+pub overflow_sub-self : goal.overflow_sub-self
+overflow_sub-self c =
+    omega (
+      arith,
+      c.args.self.now.counted,
+      c.order_weight-before.ensures,
+      ap order_weight c.order.ensures.order,
+      order_within (listed c.args.self.now.map.entries) c.args.place c.order.ensures.sorted,
+    )
+
+pub invariant_of-self : goal.invariant_of-self
+invariant_of-self c =
+    let t = c.args.self.now in
+    let stripes = listed t.map.entries in
+    let sorted = c.order.ensures.sorted in
+    record {
+      fits = order_fits t.live c.order_weight-before.result c.order_weight.result c.args.stamp c.order.result c.order_weight-before.ensures c.order_weight.ensures
+          (λ adds. subst (λ (n : ℕ). n < 4294967295) (sym t.counted) (c.requires.fits (ap (λ (o : Stamp). adds_order_of c.args.stamp o) (sym c.order.ensures.order) ∙ adds)))
+          t.fits (omega (arith, t.counted, c.order_weight-before.ensures, ap order_weight c.order.ensures.order, order_within stripes c.args.place sorted));
+      counted = omega (
+        arith,
+        t.counted,
+        c.order_weight-before.ensures,
+        ap order_weight c.order.ensures.order,
+        c.order_weight.ensures,
+        ap live_in c.set_order.ensures,
+        live-ordered stripes c.args.place c.args.stamp sorted,
+        order_within stripes c.args.place sorted,
+      );
+      named = subst (λ (now : List (Place × StripeOf Entry)). AreNames now t.counts) (sym c.set_order.ensures)
+          (names-ordered stripes t.counts c.args.place c.args.stamp sorted t.named);
+    }

@@ -1,0 +1,137 @@
+//! Changes of the log of a stripe.
+
+ghost use Rattle.std.specs.Prelude.{◌≡◌, ◌<◌, ◌==◌, ◌&&◌, ◌||◌, false, Some, None, if◌then◌else◌, length, not};
+ghost use Rattle.brick_state.specs.States.{live_in, stripe_in, with_added, with_bottom, with_collected, stamp_of, newest_entry, has_version};
+ghost use Rattle.brick_state.specs.Maps.{listed, HasRoom, AnswersAt};
+ghost use Rattle.brick_state.specs.Folds.{log_changed, same_added, is_above, slot_limits};
+
+use crate::stripe_maps;
+use crate::stripe_tables::StripeTable;
+use crate::stripes::{Entry, Place, Stripe, ZERO_SLOT};
+use fab_base::Stamp;
+use stamp_store::LogChange;
+
+/// Changes a log, for which there is room. False where it can't be: then nothing is changed. `full` tells whether there are
+/// as many live records as there may be.
+#[tactic(auto, unfolding(crate::specs::Folds::log_changed))]
+pub fn change_log(
+    stripes: &mut StripeTable,
+    place: Place,
+    stamp: Stamp,
+    change: LogChange,
+    full: bool,
+) -> bool
+    requires room { HasRoom stripes.old.map place }
+    requires fits { full ≡ false → live_in (listed stripes.old.map.entries) < 4294967295 }
+    ensures answer { AnswersAt place (listed stripes.old.map.entries) (listed stripes.new.map.entries)
+        (log_changed (slot_limits (length stripes.old.counts)) full change stamp (stripe_in (listed stripes.old.map.entries) place)) result }
+    ensures slots { length stripes.new.counts ≡ length stripes.old.counts }
+{
+    match change {
+        LogChange::Same => add_same(stripes, place, stamp, full),
+        LogChange::Collect => collect_held(stripes, place, stamp),
+        LogChange::Slot { bottom, slot } => {
+            if slot != ZERO_SLOT && !stripes.has_slot(slot) {
+                return false;
+            }
+            let entry = Entry { stamp, slot };
+            if bottom {
+                add_bottom(stripes, place, entry, full)
+            } else {
+                add_above(stripes, place, entry, full)
+            }
+        }
+    }
+}
+
+fn newest(stripes: &StripeTable, place: Place) -> Option<Entry>
+    ensures { result ≡ newest_entry (stripe_in (listed stripes.now.map.entries) place) }
+{
+    match stripe_maps::find(stripes.map(), place) {
+        Some(stripe) => stripe.newest(),
+        None => Stripe::first_entry(place),
+    }
+}
+
+fn add_same(stripes: &mut StripeTable, place: Place, stamp: Stamp, full: bool) -> bool
+    requires room { HasRoom stripes.old.map place }
+    requires fits { full ≡ false → live_in (listed stripes.old.map.entries) < 4294967295 }
+    ensures answer { AnswersAt place (listed stripes.old.map.entries) (listed stripes.new.map.entries)
+        (if full then None else same_added (newest_entry (stripe_in (listed stripes.old.map.entries) place)) stamp
+        (stripe_in (listed stripes.old.map.entries) place)) result }
+    ensures slots { length stripes.new.counts ≡ length stripes.old.counts }
+{
+    if full {
+        return false;
+    }
+    match newest(stripes, place) {
+        Some(below) => {
+            if !below.stamp.is_below(stamp) {
+                return false;
+            }
+            let entry = Entry {
+                stamp,
+                slot: below.slot,
+            };
+            stripes.add(place, entry);
+            true
+        }
+        None => false,
+    }
+}
+
+fn add_above(stripes: &mut StripeTable, place: Place, entry: Entry, full: bool) -> bool
+    requires room { HasRoom stripes.old.map place }
+    requires fits { full ≡ false → live_in (listed stripes.old.map.entries) < 4294967295 }
+    ensures answer { AnswersAt place (listed stripes.old.map.entries) (listed stripes.new.map.entries)
+        (if full || not (is_above (newest_entry (stripe_in (listed stripes.old.map.entries) place)) entry.stamp) then None else Some
+        (with_added entry (stripe_in (listed stripes.old.map.entries) place))) result }
+    ensures slots { length stripes.new.counts ≡ length stripes.old.counts }
+{
+    if full {
+        return false;
+    }
+    if let Some(below) = newest(stripes, place) {
+        if !below.stamp.is_below(entry.stamp) {
+            return false;
+        }
+    }
+    stripes.add(place, entry);
+    true
+}
+
+fn add_bottom(stripes: &mut StripeTable, place: Place, entry: Entry, full: bool) -> bool
+    requires room { HasRoom stripes.old.map place }
+    requires fits { full ≡ false → live_in (listed stripes.old.map.entries) < 4294967295 }
+    ensures answer { AnswersAt place (listed stripes.old.map.entries) (listed stripes.new.map.entries)
+        (if (length (stripe_in (listed stripes.old.map.entries) place).added == 0) && full then None else Some
+        (with_bottom entry (stripe_in (listed stripes.old.map.entries) place))) result }
+    ensures slots { length stripes.new.counts ≡ length stripes.old.counts }
+{
+    let count = match stripe_maps::find(stripes.map(), place) {
+        Some(stripe) => stripe.added.len(),
+        None => 0,
+    };
+    if count == 0 && full {
+        return false;
+    }
+    stripes.set_bottom(place, entry);
+    true
+}
+
+fn collect_held(stripes: &mut StripeTable, place: Place, stamp: Stamp) -> bool
+    requires room { HasRoom stripes.old.map place }
+    ensures answer { AnswersAt place (listed stripes.old.map.entries) (listed stripes.new.map.entries)
+        (if has_version stamp (stripe_in (listed stripes.old.map.entries) place) then Some
+        (with_collected stamp_of stamp (stripe_in (listed stripes.old.map.entries) place)) else None) result }
+    ensures slots { length stripes.new.counts ≡ length stripes.old.counts }
+{
+    let held = match stripe_maps::find(stripes.map(), place) {
+        Some(stripe) => stripe.has(stamp),
+        None => place.1 == 1 && Stamp::FIRST.is_same(stamp),
+    };
+    if held {
+        stripes.collect(place, stamp);
+    }
+    held
+}

@@ -1,0 +1,205 @@
+//! The stripes of a brick with what is counted of them.
+
+ghost use Rattle.std.specs.Prelude.{◌≡◌, ◌≢◌, ◌+◌, ◌-◌, ◌<◌, ◌≤◌, ℕ, ◌==◌, ◌^◌, not, filter, length, IfOk, OnOk, IsOk, IfNone, IfSome, nat_lt, replicate, slice_index_or, count_by, if◌then◌else◌, true, min, []};
+ghost use Rattle.fab_base.specs.Stamps.{stamp_below, stamp_same, first_stamp};
+ghost use Rattle.brick_state.specs.States.{first_stripe, stripe_in, stripe_of, stamp_of, put, live_in, weight, with_order, with_added, with_bottom, with_collected, is_of_view};
+ghost use Rattle.brick_state.specs.Maps.{listed, HasRoom};
+ghost use Rattle.brick_state.specs.Folds.{adds_order};
+ghost use Rattle.brick_state.specs.Slots.{slots_in, IsFree};
+ghost use Rattle.brick_state.specs.Tallies.{names_of, names_in, AreNames, order_weight};
+
+use crate::slot_tables::SlotTable;
+use crate::stripe_maps;
+use crate::stripes::{Entry, Place, Stripe};
+use fab_base::{NoMem, Stamp};
+use std::alloc::Global;
+use std::collections::BTreeMap;
+
+/// The stripes by their places, how many live records they have, and how often versions name each slot.
+#[derive(Drop)]
+pub struct StripeTable {
+    map: BTreeMap<Place, Stripe>,
+    live: u32,
+    counts: SlotTable,
+    ghost fits: { live ≤ 4294967295 },
+    ghost counted: { live ≡ live_in (listed map.entries) },
+    ghost named: { AreNames (listed map.entries) counts },
+}
+
+impl StripeTable {
+    /// No stripes, and so many slots.
+    pub fn new(alloc: Global, slots: u32) -> Result<StripeTable, NoMem>
+        ensures nothing { IfOk result (λ table. listed table.map.entries ≡ listed []) }
+        ensures slots { IfOk result (λ table. length table.counts ≡ slots) }
+    {
+        let counts = SlotTable::new(alloc, slots)?;
+        Ok(StripeTable {
+            map: BTreeMap::new(alloc),
+            live: 0,
+            counts,
+        })
+    }
+
+    /// The stripes by their places.
+    pub fn map(&self) -> &BTreeMap<Place, Stripe>
+        ensures { result.now ≡ self.now.map }
+    {
+        &self.map
+    }
+
+    /// How many live records there are.
+    pub fn live(&self) -> u32
+        ensures { result ≡ live_in (listed self.now.map.entries) }
+    {
+        self.live
+    }
+
+    /// Whether there is such a slot.
+    pub fn has_slot(&self, slot: u32) -> bool
+        ensures { result ≡ nat_lt slot (length self.now.counts) }
+    {
+        self.counts.has(slot)
+    }
+
+    /// The least slot that no version names, where there are fewer live records than slots.
+    pub fn free_slot(&self) -> u32
+        requires { live_in (listed self.now.map.entries) < (length self.now.counts) }
+        ensures { IsFree (length self.now.counts) (slots_in (listed self.now.map.entries)) result }
+    {
+        self.counts.first_free()
+    }
+
+    /// Makes room for a change of a stripe.
+    pub fn make_room(&mut self, alloc: Global, place: Place) -> Result<(), NoMem>
+        ensures same { listed self.new.map.entries ≡ listed self.old.map.entries }
+        ensures slots { length self.new.counts ≡ length self.old.counts }
+        ensures room { OnOk result (HasRoom self.new.map place) }
+        ensures enough { HasRoom self.old.map place → IsOk result }
+    {
+        stripe_maps::make_room(alloc, &mut self.map, place)
+    }
+
+    /// Sets an order stamp.
+    pub fn set_order(&mut self, place: Place, stamp: Stamp)
+        requires room { HasRoom self.old.map place }
+        requires fits { adds_order stamp (stripe_in (listed self.old.map.entries) place) ≡ true → live_in (listed self.old.map.entries) < 4294967295 }
+        ensures order { listed self.new.map.entries ≡ put place (with_order stamp (stripe_in (listed self.old.map.entries) place))
+            (listed self.old.map.entries) }
+        ensures slots { length self.new.counts ≡ length self.old.counts }
+    {
+        let before = order_weight(stripe_maps::order(&self.map, place));
+        stripe_maps::set_order(&mut self.map, place, stamp);
+        self.live = self.live - before + order_weight(stamp);
+    }
+
+    /// Adds a version.
+    pub fn add(&mut self, place: Place, entry: Entry)
+        requires room { HasRoom self.old.map place }
+        requires fits { live_in (listed self.old.map.entries) < 4294967295 }
+        ensures added { listed self.new.map.entries ≡ put place (with_added entry (stripe_in (listed self.old.map.entries) place))
+            (listed self.old.map.entries) }
+        ensures slots { length self.new.counts ≡ length self.old.counts }
+    {
+        stripe_maps::add(&mut self.map, place, entry);
+        self.live += 1;
+        self.counts.take(entry.slot);
+    }
+
+    /// Adds a version in the place of all that are there.
+    pub fn set_bottom(&mut self, place: Place, entry: Entry)
+        requires room { HasRoom self.old.map place }
+        requires fits { length (stripe_in (listed self.old.map.entries) place).added ≡ 0 → live_in (listed self.old.map.entries) < 4294967295 }
+        ensures added { listed self.new.map.entries ≡ put place (with_bottom entry (stripe_in (listed self.old.map.entries) place))
+            (listed self.old.map.entries) }
+        ensures slots { length self.new.counts ≡ length self.old.counts }
+    {
+        let dropped = release_all(&mut self.counts, stripe_maps::added(&self.map, place));
+        stripe_maps::set_bottom(&mut self.map, place, entry);
+        self.live = self.live - dropped as u32 + 1;
+        self.counts.take(entry.slot);
+    }
+
+    /// Drops the versions below a stamp.
+    pub fn collect(&mut self, place: Place, stamp: Stamp)
+        requires room { HasRoom self.old.map place }
+        ensures kept { listed self.new.map.entries ≡ put place (with_collected stamp_of stamp (stripe_in (listed self.old.map.entries) place))
+            (listed self.old.map.entries) }
+        ensures slots { length self.new.counts ≡ length self.old.counts }
+    {
+        let dropped = release_below(
+            &mut self.counts,
+            stripe_maps::added(&self.map, place),
+            stamp,
+        );
+        stripe_maps::collect(&mut self.map, place, stamp);
+        self.live -= dropped as u32;
+    }
+
+    /// Drops the stripes of a group in the views below one.
+    pub fn drop_views(&mut self, group: u32, first: u32)
+        ensures kept { listed self.new.map.entries ≡ filter (λ e. not (is_of_view group first e.0)) (listed self.old.map.entries) }
+        ensures slots { length self.new.counts ≡ length self.old.counts }
+    {
+        let dropped = release_views(&mut self.counts, &self.map, group, first);
+        stripe_maps::drop_views(&mut self.map, group, first);
+        self.live -= dropped as u32;
+    }
+}
+
+// The live records that an order stamp is.
+fn order_weight(stamp: Stamp) -> u32
+    ensures { result ≡ order_weight stamp }
+{
+    if stamp.is_same(Stamp::FIRST) { 0 } else { 1 }
+}
+
+// Counts the versions less that these slots are named by; their number.
+fn release_all(counts: &mut SlotTable, entries: &[Entry]) -> usize
+    ensures number { result ≡ length entries.now }
+    ensures length { length counts.new ≡ length counts.old }
+    ensures counts { (slot : ℕ) → slot < length counts.old → slice_index_or counts.new slot 0 ≡ slice_index_or counts.old slot 0 - names_of slot entries.now }
+{
+    for entry in entries {
+        counts.release(entry.slot);
+    }
+    entries.len()
+}
+
+// The same for those below a stamp.
+fn release_below(counts: &mut SlotTable, entries: &[Entry], stamp: Stamp) -> usize
+    ensures number { result ≡ length (filter (λ e. stamp_below (stamp_of e) stamp) entries.now) }
+    ensures length { length counts.new ≡ length counts.old }
+    ensures counts { (slot : ℕ) → slot < length counts.old → slice_index_or counts.new slot 0 ≡ slice_index_or counts.old slot 0
+        - names_of slot (filter (λ e. stamp_below (stamp_of e) stamp) entries.now) }
+{
+    let mut dropped = 0usize;
+    for entry in entries {
+        if entry.stamp.is_below(stamp) {
+            counts.release(entry.slot);
+            dropped += 1;
+        }
+    }
+    dropped
+}
+
+// The same for the stripes of a group in the views below one; their live records, where these are below 2^64.
+fn release_views(
+    counts: &mut SlotTable,
+    stripes: &BTreeMap<Place, Stripe>,
+    group: u32,
+    first: u32,
+) -> usize
+    ensures number { result ≡ min (live_in (filter (λ e. is_of_view group first e.0) (listed stripes.now.entries))) (2 ^ 64 - 1) }
+    ensures length { length counts.new ≡ length counts.old }
+    ensures counts { (slot : ℕ) → slot < length counts.old → slice_index_or counts.new slot 0 ≡ slice_index_or counts.old slot 0
+        - names_in slot (filter (λ e. is_of_view group first e.0) (listed stripes.now.entries)) }
+{
+    let mut dropped = 0usize;
+    for (place, stripe) in stripes {
+        if place.0 == group && place.1 < first {
+            let _ = release_all(counts, &stripe.added);
+            dropped = dropped.saturating_add(stripe.weight());
+        }
+    }
+    dropped
+}
