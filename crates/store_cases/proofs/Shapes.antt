@@ -1,4 +1,4 @@
--- What the tests cite of a change's promises.
+-- What these programs cite of a change's promises.
 use Rattle.std.proofs.Common.{◌≡◌, ℕ, Bool, List, Option, Some, None, Result, Ok, Err, refl}
 use Rattle.std.specs.Option.{IsSome, option_map}
 use Rattle.std.specs.Result.{OnOk, OnErr}
