@@ -8,7 +8,7 @@ use Rattle.std.proofs.lemmas.Option.{same_Some}
 use Rattle.fab_base.specs.declared.stamps.Stamp.{Stamp}
 use Rattle.fab_base.specs.Stamps.{stamp_below, first_stamp}
 use Rattle.fab_base.proofs.StampOrder.{stamp_below_irrefl, stamp_below_asym, stamp_below_trans, stamp_below_first, stamp_neither_below}
-use Rattle.reg_model.specs.Chains.{EachNext, Ascends, IsBetween, IsMadeOn, BaseFacts, IsEffective, Standing, BaseOf, AreEffective}
+use Rattle.reg_model.proofs.Bases.{EachNext, Ascends, IsBetween, IsMadeOn, BaseFacts, IsEffective, Standing, BaseOf, AreEffective}
 
 -- the version at a place, the first version being at 0
 abbrev pub version_at : List Stamp → ℕ → Stamp

@@ -1,3 +1,4 @@
+pub mod Bases
 pub mod Chains
 pub mod EntryOrder
 pub mod Fits
@@ -5,3 +6,4 @@ pub mod MarkLists
 pub mod Places
 pub mod Versions
 pub mod Walk
+pub mod WalkFacts

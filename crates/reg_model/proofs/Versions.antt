@@ -6,7 +6,7 @@ use Rattle.std.proofs.lemmas.List.Elements.{All-cons, All-nil, All-head, All-tai
 use Rattle.fab_base.specs.declared.stamps.Stamp.{Stamp}
 use Rattle.fab_base.specs.Stamps.{stamp_below, first_stamp}
 use Rattle.fab_base.proofs.StampOrder.{stamp_neither_below}
-use Rattle.reg_model.specs.Chains.{Ascends, IsEffective, AreEffective, added, versions_of}
+use Rattle.reg_model.proofs.Bases.{Ascends, IsEffective, AreEffective, added, versions_of}
 
 -- stamps rise from a on
 abbrev RiseFrom : Stamp → List Stamp → Type 0

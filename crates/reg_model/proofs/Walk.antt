@@ -17,8 +17,9 @@ use Rattle.reg_model.specs.declared.entries.Entry.{Entry}
 use Rattle.reg_model.specs.Marks.{Life, life_of}
 use Rattle.reg_model.specs.Registers.{zero_registers, after_op, read_of}
 use Rattle.reg_model.specs.Strict.{IsStrict, IsInTime, IsRead, data_of, ReadsRight, ReadsRightAlong, after_life}
-use Rattle.reg_model.specs.Chains.{Ascends}
-use Rattle.reg_model.specs.Walk.{entry_below, begin_of, last_of, positioned, OnlyReads, HasTurn, IsMaker, IsMade, IsMadeFrom, IsWrittenBack, Follows, IsOfVersion, WalkFacts}
+use Rattle.reg_model.proofs.Bases.{Ascends}
+use Rattle.reg_model.specs.Walk.{entry_below, begin_of, last_of, positioned}
+use Rattle.reg_model.proofs.WalkFacts.{OnlyReads, HasTurn, IsMaker, IsMade, IsMadeFrom, IsWrittenBack, Follows, IsOfVersion, WalkFacts}
 use Rattle.reg_model.proofs.Chains.{version_at, rises_far, place_after, places_differ}
 use Rattle.reg_model.proofs.EntryOrder.{entry_order, after_entry}
 

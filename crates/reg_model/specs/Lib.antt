@@ -1,4 +1,3 @@
-pub mod Chains
 pub mod Fits
 pub mod Lives
 pub mod Marks

@@ -5,9 +5,10 @@
 //! Frølund, "Strict Linearizability and the Power of Aborting", 2003): an operation that was aborted, or whose coordinator
 //! crashed, has happened by then or never happens.
 //!
-//! `specs/Walk` says which facts on a stripe's versions make happenings strict, where operations happen in the order of the
-//! versions that they made or read: [`Entry`] is a step of such a walk. `specs/Chains` says which versions may have been made on
-//! which: what a recovery or a write of one block makes has a base, and of two neighbours the upper was made on the lower.
+//! Operations may be given happenings in the order of the versions that they made or read: [`Entry`] is a step of such a walk along a
+//! stripe's versions, and `specs/Walk` says how the steps are ordered and where they happen. `proofs/WalkFacts` says which facts on the
+//! versions make these happenings strict, and `proofs/Bases` which versions may have been made on which: what a recovery or a write of
+//! one block makes has a base, and of two neighbours the upper was made on the lower.
 #![tactic(auto)]
 
 pub mod checker;
