@@ -11,7 +11,7 @@ use Rattle.fab_base.specs.declared.stamps.Stamp.{Stamp}
 use Rattle.fab_base.specs.declared.asks.Op.TheVariants.{WriteStripe}
 use Rattle.fab_base.specs.Stamps.{stamp_below, stamp_same, first_stamp}
 use Rattle.fab_base.proofs.StampOrder.{stamp_below_irrefl, stamp_not_below_trans, stamp_below_first, stamp_neither_below, stamp_same_refl, stamp_same_true}
-use Rattle.reg_model.specs.Chains.{BaseFacts, IsEffective, Standing, BaseOf, AreEffective, versions_of}
+use Rattle.reg_model.proofs.Bases.{BaseFacts, IsEffective, Standing, BaseOf, AreEffective, versions_of}
 use Rattle.reg_model.specs.declared.entries.Entry.{Entry}
 use Rattle.reg_model.proofs.Chains.{no_crossing}
 use Rattle.reg_model.proofs.Versions.{versions_are_effective}

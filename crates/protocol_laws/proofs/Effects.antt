@@ -9,7 +9,7 @@ use Rattle.std.proofs.lemmas.List.Kept.{AllPairs-cons}
 use Rattle.fab_base.specs.declared.stamps.Stamp.{Stamp}
 use Rattle.fab_base.specs.Stamps.{stamp_below, stamp_same}
 use Rattle.fab_base.proofs.StampOrder.{stamp_below_irrefl, stamp_same_refl, stamp_same_true}
-use Rattle.reg_model.specs.Chains.{IsEffective, Standing, BaseOf}
+use Rattle.reg_model.proofs.Bases.{IsEffective, Standing, BaseOf}
 use Rattle.reg_model.specs.declared.entries.Entry.{Entry}
 use Rattle.reg_model.specs.Walk.{entry_below}
 use Rattle.reg_model.proofs.EntryOrder.{after_entry}

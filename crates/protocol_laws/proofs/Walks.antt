@@ -17,8 +17,9 @@ use Rattle.reg_model.specs.declared.entries.Entry.{Entry}
 use Rattle.reg_model.specs.Marks.{Ending, Answered, Interrupted, Unended, Life, life_of, IsUnended, end_of, is_of_stripe, concerns, stripe_marks}
 use Rattle.reg_model.specs.Strict.{IsAnswered, WasAnswered, IsRead, data_of, after_life, IsStrict}
 use Rattle.reg_model.specs.Registers.{after_op, read_of}
-use Rattle.reg_model.specs.Chains.{EachNext, IsMadeOn, IsEffective, AreEffective, versions_of}
-use Rattle.reg_model.specs.Walk.{turn_below, entry_below, begin_of, last_of, OnlyReads, HasTurn, IsMade, IsOfVersion, Follows, WalkFacts}
+use Rattle.reg_model.proofs.Bases.{EachNext, IsMadeOn, IsEffective, AreEffective, versions_of}
+use Rattle.reg_model.specs.Walk.{turn_below, entry_below, begin_of, last_of}
+use Rattle.reg_model.proofs.WalkFacts.{OnlyReads, HasTurn, IsMade, IsOfVersion, Follows, WalkFacts}
 use Rattle.reg_model.proofs.Chains.{each_next_from_made}
 use Rattle.reg_model.proofs.EntryOrder.{entry_order}
 use Rattle.reg_model.proofs.Walk.{walk_is_strict}
