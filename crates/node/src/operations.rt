@@ -33,12 +33,10 @@ fn messages_in(next: Next) -> Messages
     requires { IsSend next }
     ensures { next ≡ Next.Send result }
 {
-    match next {
-        Next::Send(messages) => messages,
-        Next::Wait => unreachable!(),
-        Next::End(_) => unreachable!(),
-        Next::Recover(_) => unreachable!(),
-    }
+    let Next::Send(messages) = next else {
+        unreachable!()
+    };
+    messages
 }
 
 /// An open operation at its coordinator.
