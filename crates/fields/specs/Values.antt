@@ -1,0 +1,106 @@
+-- How names, stamps, ballots, lists of members, views and bytes are spelled.
+use Rattle.std.proofs.Common.{◌≡◌, ℕ, ◌<◌, ◌≤◌, ◌^◌, List, [], ◌∷◌, length, map, refl, arith}
+use Rattle.fab_base.specs.declared.identities.BrickId.{BrickId}
+use Rattle.fab_base.specs.declared.identities.GroupId.{GroupId}
+use Rattle.fab_base.specs.declared.identities.StripeNo.{StripeNo}
+use Rattle.fab_base.specs.declared.identities.ViewNo.{ViewNo}
+use Rattle.fab_base.specs.declared.member_lists.View.{View}
+use Rattle.fab_base.specs.declared.stamps.Stamp.{Stamp}
+use Rattle.fab_base.specs.declared.stamps.Ballot.{Ballot}
+use Rattle.fields.specs.Parts.{Part, Number, Limited, Raw, AllFit}
+use Rattle.fields.specs.Reading.{Reads, ◌>>=◌, as_at, number_at, limited_at, raw_at, times_at}
+use Rattle.fields.specs.Laws.{IsPlain, plain_made, times_field}
+use Rattle.fields.specs.Numbers.{field16, limited8, limited16, limited32, raw_field}
+use Rattle.fields.specs.Codecs.{Codec, u16_codec, u32_codec, u64_codec, pair, seen, counted_law}
+
+abbrev pub brick_codec : Codec BrickId
+brick_codec = seen (λ (n : ℕ). let brick : BrickId = record { 0 = n } in brick) (λ brick. brick.0) (λ brick. refl) (λ n. refl) u16_codec
+
+abbrev pub group_codec : Codec GroupId
+group_codec = seen (λ (n : ℕ). let group : GroupId = record { 0 = n } in group) (λ group. group.0) (λ group. refl) (λ n. refl) u32_codec
+
+abbrev pub stripe_codec : Codec StripeNo
+stripe_codec = seen (λ (n : ℕ). let stripe : StripeNo = record { 0 = n } in stripe) (λ stripe. stripe.0) (λ stripe. refl) (λ n. refl) u32_codec
+
+abbrev pub view_number_codec : Codec ViewNo
+view_number_codec = seen (λ (n : ℕ). let view : ViewNo = record { 0 = n } in view) (λ view. view.0) (λ view. refl) (λ n. refl) u32_codec
+
+-- view, time, brick, boot
+abbrev pub made_stamp : ViewNo × (ℕ × (BrickId × ℕ)) → Stamp
+made_stamp (view, (time, (brick, boot))) = record { view = view; time = time; brick = brick; boot = boot }
+
+unfoldable pub stamp_codec : Codec Stamp
+stamp_codec = seen made_stamp (λ s. (s.view, (s.time, (s.brick, s.boot)))) (λ s. refl) (λ p. refl)
+    (pair view_number_codec (pair u64_codec (pair brick_codec u32_codec)))
+
+-- round, brick, boot
+abbrev pub made_ballot : ℕ × (BrickId × ℕ) → Ballot
+made_ballot (round, (brick, boot)) = record { round = round; brick = brick; boot = boot }
+
+unfoldable pub ballot_codec : Codec Ballot
+ballot_codec = seen made_ballot (λ b. (b.round, (b.brick, b.boot))) (λ b. refl) (λ p. refl) (pair u32_codec (pair brick_codec u32_codec))
+
+-- a count from 1 to 32, and each brick
+abbrev pub brick_part : BrickId → Part
+brick_part brick = Number 2 brick.0
+
+abbrev pub members_parts : List BrickId → List Part
+members_parts members = Limited 1 1 32 (length members) ∷ map brick_part members
+
+abbrev pub members_at : Reads (List BrickId)
+members_at bytes = limited_at 1 1 32 bytes >>= λ n. times_at brick_codec.read n.0 n.1
+
+brick_law : IsPlain (λ (b : BrickId). brick_part b ∷ []) brick_codec.read
+brick_law = brick_codec.law
+
+pub members_law : IsPlain members_parts members_at
+members_law = counted_law (limited8 1 32 (omega arith) (omega arith)) (times_field brick_law)
+
+unfoldable pub members_codec : Codec (List BrickId)
+members_codec = record {
+  Limits = λ members. 1 ≤ length members;
+  parts = members_parts;
+  read = members_at;
+  law = members_law;
+  within = λ members fits. fits.0.1.0;
+}
+
+-- number, members, the members of the view before
+abbrev pub made_view : ViewNo × (List BrickId × List BrickId) → View
+made_view (number, (members, prior)) = record { number = number; members = members; prior = prior }
+
+unfoldable pub view_codec : Codec View
+view_codec = seen made_view (λ v. (v.number, (v.members, v.prior))) (λ v. refl) (λ p. refl) (pair view_number_codec (pair members_codec members_codec))
+
+-- a length in so many bytes, of at most so many, and the bytes
+abbrev pub bytes_parts : ℕ → ℕ → List ℕ → List Part
+bytes_parts size most bytes = Limited size 0 most (length bytes) ∷ Raw bytes ∷ []
+
+abbrev pub bytes_at : ℕ → ℕ → Reads (List ℕ)
+bytes_at size most bytes = limited_at size 0 most bytes >>= λ n. raw_at n.0 n.1
+
+pub block_law : IsPlain (bytes_parts 2 4096) (bytes_at 2 4096)
+block_law = counted_law (limited16 0 4096 (omega arith) (omega arith)) raw_field
+
+pub content_law : IsPlain (bytes_parts 4 32768) (bytes_at 4 32768)
+content_law = counted_law (limited32 0 32768 (omega arith) (omega arith)) raw_field
+
+-- a member's block: a length of two bytes, at most 4,096
+unfoldable pub block_codec : Codec (List ℕ)
+block_codec = record {
+  Limits = λ bytes. length bytes ≤ 4096;
+  parts = bytes_parts 2 4096;
+  read = bytes_at 2 4096;
+  law = block_law;
+  within = λ bytes fits. fits.0.1.1;
+}
+
+-- a client's bytes: a length of four bytes, at most 32,768
+unfoldable pub content_codec : Codec (List ℕ)
+content_codec = record {
+  Limits = λ bytes. length bytes ≤ 32768;
+  parts = bytes_parts 4 32768;
+  read = bytes_at 4 32768;
+  law = content_law;
+  within = λ bytes fits. fits.0.1.1;
+}
