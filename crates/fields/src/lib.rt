@@ -3,8 +3,11 @@
 #![tactic(auto)]
 
 pub mod codecs;
+pub mod contents;
 pub mod faults;
 mod numbers;
+mod values;
 
 pub use codecs::Field;
+pub use contents::{put_block, put_content, take_block, take_content};
 pub use faults::{Malformed, ReadFault};

@@ -60,7 +60,7 @@ impl Next {
         ensures { IfOk result (λ made. made ≡ self.now) }
     {
         match self {
-            Next::Send(messages) => Ok(Next::Send(copy_messages(alloc, messages)?)),
+            Next::Send(messages) => Ok(Next::Send(copy_messages(alloc, messages.as_slice())?)),
             Next::Wait => Ok(Next::Wait),
             Next::End(answer) => Ok(Next::End(answer.copy(alloc)?)),
             Next::Recover(turn) => Ok(Next::Recover(turn.copy(alloc)?)),
@@ -69,8 +69,8 @@ impl Next {
 }
 
 /// The same messages for the same receivers.
-pub fn copy_messages(alloc: Global, messages: &Messages) -> Result<Messages, NoMem>
-    ensures { IfOk result (λ made. made ≡ messages.now) }
+pub fn copy_messages(alloc: Global, messages: &[(BrickId, Message)]) -> Result<Messages, NoMem>
+    ensures { IfOk result (λ made. made.items ≡ messages.now) }
 {
     let mut copied = Vec::new(alloc);
     for (to, message) in messages {
