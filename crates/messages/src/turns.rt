@@ -1,6 +1,7 @@
 //! What the coordinator of an operation answers to its brick.
 
 ghost use Rattle.std.specs.Prelude.{◌≡◌, IfOk};
+ghost use Rattle.messages.specs.Turns.{SaysSame};
 
 use crate::packets::Message;
 use fab_base::{Answer, BrickId, Bytes, NoMem, Stamp};
@@ -55,9 +56,9 @@ pub enum Next {
 }
 
 impl Next {
-    /// An equal value.
+    /// The same, with an equal list of messages.
     pub fn copy(&self, alloc: Global) -> Result<Next, NoMem>
-        ensures { IfOk result (λ made. made ≡ self.now) }
+        ensures { IfOk result (λ made. SaysSame made self.now) }
     {
         match self {
             Next::Send(messages) => Ok(Next::Send(copy_messages(alloc, messages.as_slice())?)),
