@@ -53,6 +53,10 @@ seen {X} {Y} made view back forth c = record {
   within = λ y fits. c.within (view y) fits;
 }
 
+-- the same, with its limits in other words
+abbrev pub limited_to : {X : Type 0} (Limits : X → Type 0) (c : Codec X) → ((x : X) → AllFit (c.parts x) → Limits x) → Codec X
+limited_to {X} Limits c within = record { Limits = Limits; parts = c.parts; read = c.read; law = c.law; within = within }
+
 -- ---- what may be left out
 
 option_number : {X : Type 0} → Option X → ℕ

@@ -11,7 +11,7 @@ use fab_base::{Bytes, NoMem};
 use std::alloc::Global;
 
 /// Adds a member's block: its length in two bytes, at most 4,096, and its bytes.
-#[tactic(auto, using(crate::proofs::Writings::joined), unfolding(crate::specs::Values::block_codec))]
+#[tactic(auto, using(crate::proofs::Writings::joined), unfolding(crate::specs::Values::block_fields))]
 pub fn put_block(out: &mut Vec<u8>, block: &Bytes) -> Result<(), NoMem>
     requires { block_codec.Limits block.now }
     ensures bytes { OnOk result (out.new.items ≡ out.old.items ++ spelled (block_codec.parts block.now)) }
@@ -23,7 +23,7 @@ pub fn put_block(out: &mut Vec<u8>, block: &Bytes) -> Result<(), NoMem>
 }
 
 /// Adds a client's bytes: their length in four bytes, at most 32,768, and the bytes.
-#[tactic(auto, using(crate::proofs::Writings::joined), unfolding(crate::specs::Values::content_codec))]
+#[tactic(auto, using(crate::proofs::Writings::joined), unfolding(crate::specs::Values::content_fields))]
 pub fn put_content(out: &mut Vec<u8>, content: &Bytes) -> Result<(), NoMem>
     requires { content_codec.Limits content.now }
     ensures bytes { OnOk result (out.new.items ≡ out.old.items ++ spelled (content_codec.parts content.now)) }
@@ -35,7 +35,7 @@ pub fn put_content(out: &mut Vec<u8>, content: &Bytes) -> Result<(), NoMem>
 }
 
 /// The block that the bytes begin with, and the bytes after it. `Malformed` exactly where they begin with none.
-#[tactic(auto, unfolding(crate::specs::Values::block_codec))]
+#[tactic(auto, unfolding(crate::specs::Values::block_fields))]
 pub fn take_block(alloc: Global, bytes: &[u8]) -> Result<(Bytes, &[u8]), ReadFault>
     ensures { GivesOrNoMemory (λ x. (x.0, x.1.now)) result (block_codec.read bytes.now) }
 {
@@ -47,7 +47,7 @@ pub fn take_block(alloc: Global, bytes: &[u8]) -> Result<(Bytes, &[u8]), ReadFau
 }
 
 /// The client's bytes that the bytes begin with, and the bytes after them. `Malformed` exactly where they begin with none.
-#[tactic(auto, unfolding(crate::specs::Values::content_codec))]
+#[tactic(auto, unfolding(crate::specs::Values::content_fields))]
 pub fn take_content(alloc: Global, bytes: &[u8]) -> Result<(Bytes, &[u8]), ReadFault>
     ensures { GivesOrNoMemory (λ x. (x.0, x.1.now)) result (content_codec.read bytes.now) }
 {

@@ -64,12 +64,12 @@ impl Field for ViewNo {
 impl Field for Stamp {
     ghost codec = { stamp_codec };
 
-    #[tactic(auto, unfolding(crate::specs::Values::stamp_codec))]
+    #[tactic(auto, unfolding(crate::specs::Values::stamp_fields))]
     fn put(&self, out: &mut Vec<u8>) -> Result<(), NoMem> {
         (self.view, (self.time, (self.brick, self.boot))).put(out)
     }
 
-    #[tactic(auto, unfolding(crate::specs::Values::stamp_codec))]
+    #[tactic(auto, unfolding(crate::specs::Values::stamp_fields))]
     fn take(bytes: &[u8]) -> Result<(Stamp, &[u8]), Malformed> {
         let ((view, (time, (brick, boot))), rest) = Field::take(bytes)?;
         let stamp = Stamp {
@@ -85,12 +85,12 @@ impl Field for Stamp {
 impl Field for Ballot {
     ghost codec = { ballot_codec };
 
-    #[tactic(auto, unfolding(crate::specs::Values::ballot_codec))]
+    #[tactic(auto, unfolding(crate::specs::Values::ballot_fields))]
     fn put(&self, out: &mut Vec<u8>) -> Result<(), NoMem> {
         (self.round, (self.brick, self.boot)).put(out)
     }
 
-    #[tactic(auto, unfolding(crate::specs::Values::ballot_codec))]
+    #[tactic(auto, unfolding(crate::specs::Values::ballot_fields))]
     fn take(bytes: &[u8]) -> Result<(Ballot, &[u8]), Malformed> {
         let ((round, (brick, boot)), rest) = Field::take(bytes)?;
         Ok((Ballot { round, brick, boot }, rest))
@@ -101,7 +101,7 @@ impl Field for Ballot {
 impl Field for Members {
     ghost codec = { members_codec };
 
-    #[tactic(auto, using(crate::proofs::Writings::joined), unfolding(crate::specs::Values::members_codec))]
+    #[tactic(auto, using(crate::proofs::Writings::joined), unfolding(crate::specs::Values::members_fields))]
     fn put(&self, out: &mut Vec<u8>) -> Result<(), NoMem> {
         let bricks = self.as_slice();
         (bricks.len() as u8).put(out)?;
@@ -111,7 +111,7 @@ impl Field for Members {
         Ok(())
     }
 
-    #[tactic(auto, unfolding(crate::specs::Values::members_codec))]
+    #[tactic(auto, unfolding(crate::specs::Values::members_fields))]
     fn take(bytes: &[u8]) -> Result<(Members, &[u8]), Malformed> {
         let (count, rest) = u8::take(bytes)?;
         if count < 1 || count > 32 {
@@ -141,14 +141,14 @@ fn take_bricks(count: u8, bytes: &[u8]) -> Result<(Members, &[u8]), Malformed>
 impl Field for View {
     ghost codec = { view_codec };
 
-    #[tactic(auto, using(crate::proofs::Writings::joined), unfolding(crate::specs::Values::view_codec))]
+    #[tactic(auto, using(crate::proofs::Writings::joined), unfolding(crate::specs::Values::view_fields))]
     fn put(&self, out: &mut Vec<u8>) -> Result<(), NoMem> {
         self.number.put(out)?;
         self.members.put(out)?;
         self.prior.put(out)
     }
 
-    #[tactic(auto, unfolding(crate::specs::Values::view_codec))]
+    #[tactic(auto, unfolding(crate::specs::Values::view_fields))]
     fn take(bytes: &[u8]) -> Result<(View, &[u8]), Malformed> {
         let ((number, (members, prior)), rest) = Field::take(bytes)?;
         let view = View {
