@@ -1,6 +1,6 @@
+pub mod Bodies
 pub mod Fields
 pub mod LogRecords
-pub mod Loops
-pub mod Numbers
 pub mod Records
 pub mod Uses
+pub mod Writings

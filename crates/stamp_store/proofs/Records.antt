@@ -1,126 +1,102 @@
 -- A record that is read has the body that was read, and a record's body is read as that record.
-use Rattle.std.proofs.Common.{◌≡◌, ℕ, zero, suc, ◌<◌, Bool, cond, eqb, List, [], ◌++◌, length, Option, Some, None, refl, sym, ap, subst, ◌∙◌, arith}
-use Rattle.std.specs.Int.{w32}
+use Rattle.std.proofs.Common.{◌≡◌, ℕ, Bool, true, false, cond, eqb, List, [], ◌++◌, length, Option, Some, None, Result, Ok, Err, refl, sym, ap, subst, ◌∙◌, arith}
 use Rattle.std.specs.Option.{IfSome}
-use Rattle.std.proofs.lemmas.Bool.{eqb-true, ne_eqb}
-use Rattle.std.proofs.lemmas.Option.{none-some}
+use Rattle.std.proofs.lemmas.Bool.{eqb-true}
 use Rattle.std.proofs.lemmas.List.{append-nil, nil_from_length}
 use Rattle.fab_base.specs.declared.identities.BrickId.{BrickId}
+use Rattle.fab_base.specs.declared.identities.GroupId.{GroupId}
+use Rattle.fab_base.specs.declared.identities.StripeNo.{StripeNo}
+use Rattle.fab_base.specs.declared.identities.ViewNo.{ViewNo}
 use Rattle.fab_base.specs.declared.stamps.Stamp.{Stamp}
 use Rattle.fab_base.specs.declared.stamps.Ballot.{Ballot}
+use Rattle.fields.specs.Codecs.{u32_codec}
+use Rattle.fields.specs.Parts.{Part, spelled, AllFit}
+use Rattle.fields.specs.Reading.{Reads, as_at, row_at}
+use Rattle.fields.specs.Laws.{IsField, IsMade, Takes, made_field}
+use Rattle.fields.specs.Choices.{Rows, HasRow, with_row, without_rows}
+use Rattle.fields.proofs.Tables.{rows_read, rows_again}
 use Rattle.stamp_store.specs.declared.kept_records.Kept.{Kept}
 use Rattle.stamp_store.specs.declared.kept_records.Kept.TheVariants.{Boot, Ballots, Order}
 use Rattle.stamp_store.specs.declared.kept_records.Kept.TheVariants as kinds
 use Rattle.stamp_store.specs.Spelling.{kind_of, body_of, Fits, Spells}
-use Rattle.stamp_store.specs.Reading.{Reads, Gives, then_at, number_at, flag_at, stamp_at, ballot_at, members_at, accepted_at, made_boot, boot_at, made_view, view_at, made_ballots, ballots_at, made_order, order_at, kept_at, read_of}
-use Rattle.stamp_store.proofs.Fields.{IsBytes, bind_some, guard_held, some_is, Takes, pair_field, made_is, field32, stamp_field, ballot_field, members_field, flag_field, accepted_field}
+use Rattle.stamp_store.specs.Reading.{view_fields, ballots_fields, order_fields, made_boot, made_view, made_ballots, made_order, kept_parts, kept_rows, kept_at, whole, read_of}
+use Rattle.stamp_store.proofs.Fields.{IsBytes}
+use Rattle.stamp_store.proofs.Bodies.{kept_same, kept_fits, kept_back}
 
--- what a record's reader takes from the front
-abbrev TakesKept : ℕ → List ℕ → Kept → List ℕ → Type 0
-TakesKept kind bytes kept rest = Takes bytes (body_of kept) rest × Fits kept × (kind ≡ kind_of kept)
+is_boot : (k : Kept) → kind_of k ≡ 1 → IsMade (λ (p : ℕ). Unit {0}) made_boot k
+is_boot (Boot count) e = record { from = count; is = tt; same = refl }
+is_boot k e = absurd (omega arith)
 
--- the readers of each kind's fields
-abbrev view_parts_at : Reads (ℕ × (ℕ × (List BrickId × (List BrickId × Bool))))
-view_parts_at = then_at (number_at w32) (then_at (number_at w32) (then_at members_at (then_at members_at flag_at)))
+is_view : (k : Kept) → kind_of k ≡ 2 → IsMade (λ (p : GroupId × (ViewNo × (List BrickId × (List BrickId × Bool)))). Unit {0}) made_view k
+is_view (kinds.View group view synced) e = record { from = (group, (view.number, (view.members, (view.prior, synced)))); is = tt; same = refl }
+is_view k e = absurd (omega arith)
 
-abbrev ballots_parts_at : Reads (ℕ × (ℕ × (Ballot × Option (Ballot × List BrickId))))
-ballots_parts_at = then_at (number_at w32) (then_at (number_at w32) (then_at ballot_at accepted_at))
+is_ballots : (k : Kept) → kind_of k ≡ 3 → IsMade (λ (p : GroupId × (ViewNo × (Ballot × Option (Ballot × List BrickId)))). Unit {0}) made_ballots k
+is_ballots (Ballots group view promised accepted) e = record { from = (group, (view, (promised, accepted))); is = tt; same = refl }
+is_ballots k e = absurd (omega arith)
 
-abbrev order_parts_at : Reads (ℕ × (ℕ × (ℕ × Stamp)))
-order_parts_at = then_at (number_at w32) (then_at (number_at w32) (then_at (number_at w32) stamp_at))
+is_order : (k : Kept) → kind_of k ≡ 4 → IsMade (λ (p : GroupId × (ViewNo × (StripeNo × Stamp))). Unit {0}) made_order k
+is_order (Order group view stripe stamp) e = record { from = (group, (view, (stripe, stamp))); is = tt; same = refl }
+is_order k e = absurd (omega arith)
 
--- a boot count
-boot_takes : (bytes : List ℕ) (kept : Kept) (rest : List ℕ) → IsBytes bytes → boot_at bytes ≡ Some (kept, rest) → TakesKept 1 bytes kept rest
-unfolding boot_at body_of
-boot_takes bytes kept rest isb e =
-    let read = made_is made_boot (number_at w32) bytes kept rest e in
-    let took = field32.takes bytes read.0 rest isb read.2 in
-    subst (λ (k : Kept). TakesKept 1 bytes k rest) read.1 (took.0, took.1, refl)
+-- each kind is read as it is spelled
+kept_table : Rows kind_of kept_parts kept_rows
+kept_table = with_row 1 (made_field (λ (k : Kept). kind_of k ≡ 1) kept_parts made_boot (λ p is. refl) (λ p is. refl) is_boot u32_codec.law)
+    (with_row 2 (made_field (λ (k : Kept). kind_of k ≡ 2) kept_parts made_view (λ p is. refl) (λ p is. refl) is_view view_fields.law)
+    (with_row 3 (made_field (λ (k : Kept). kind_of k ≡ 3) kept_parts made_ballots (λ p is. refl) (λ p is. refl) is_ballots ballots_fields.law)
+    (with_row 4 (made_field (λ (k : Kept). kind_of k ≡ 4) kept_parts made_order (λ p is. refl) (λ p is. refl) is_order order_fields.law)
+    without_rows)))
 
--- a view
-view_takes : (bytes : List ℕ) (kept : Kept) (rest : List ℕ) → IsBytes bytes → view_at bytes ≡ Some (kept, rest) → TakesKept 2 bytes kept rest
-unfolding view_at body_of
-view_takes bytes kept rest isb e =
-    let read = made_is made_view view_parts_at bytes kept rest e in
-    let took = (pair_field field32 (pair_field field32
-    (pair_field members_field (pair_field members_field flag_field)))).takes bytes read.0 rest isb read.2 in
-    subst (λ (k : Kept). TakesKept 2 bytes k rest) read.1 (took.0, took.1, refl)
+has_kind : (k : Kept) → HasRow kept_rows (kind_of k)
+has_kind (Boot count) = record { at = as_at made_boot u32_codec.read; is = refl }
+has_kind (kinds.View group view synced) = record { at = as_at made_view view_fields.read; is = refl }
+has_kind (Ballots group view promised accepted) = record { at = as_at made_ballots ballots_fields.read; is = refl }
+has_kind (Order group view stripe stamp) = record { at = as_at made_order order_fields.read; is = refl }
 
--- ballots
-ballots_takes : (bytes : List ℕ) (kept : Kept) (rest : List ℕ) → IsBytes bytes → ballots_at bytes ≡ Some (kept, rest) → TakesKept 3 bytes kept rest
-unfolding ballots_at body_of
-ballots_takes bytes kept rest isb e =
-    let read = made_is made_ballots ballots_parts_at bytes kept rest e in
-    let took = (pair_field field32 (pair_field field32 (pair_field ballot_field accepted_field))).takes bytes read.0 rest isb read.2 in
-    subst (λ (k : Kept). TakesKept 3 bytes k rest) read.1 (took.0, took.1, refl)
+abbrev read_as : {X : Type 0} → X → List ℕ → Result (X × List ℕ) ℕ
+read_as x rest = Ok (x, rest)
 
--- an order stamp
-order_takes : (bytes : List ℕ) (kept : Kept) (rest : List ℕ) → IsBytes bytes → order_at bytes ≡ Some (kept, rest) → TakesKept 4 bytes kept rest
-unfolding order_at body_of
-order_takes bytes kept rest isb e =
-    let read = made_is made_order order_parts_at bytes kept rest e in
-    let took = (pair_field field32 (pair_field field32 (pair_field field32 stamp_field))).takes bytes read.0 rest isb read.2 in
-    subst (λ (k : Kept). TakesKept 4 bytes k rest) read.1 (took.0, took.1, refl)
+abbrev one : {X : Type 0} → X → Option X
+one x = Some x
 
--- a record's body is read as the record
-kept_again : (kept : Kept) (rest : List ℕ) → Fits kept → kept_at (kind_of kept) (body_of kept ++ rest) ≡ Some (kept, rest)
-unfolding kept_at boot_at view_at ballots_at order_at body_of
-kept_again (Boot count) rest fits = rw (field32.again count rest fits) refl
-kept_again (kinds.View group view synced) rest fits =
-    rw ((pair_field field32 (pair_field field32 (pair_field members_field (pair_field members_field flag_field)))).again
-    (group.0, (view.number.0, (view.members, (view.prior, synced)))) rest fits) refl
-kept_again (Ballots group view promised accepted) rest fits =
-    rw ((pair_field field32 (pair_field field32 (pair_field ballot_field accepted_field))).again
-    (group.0, (view.0, (promised, accepted))) rest fits) refl
-kept_again (Order group view stripe stamp) rest fits =
-    rw ((pair_field field32 (pair_field field32 (pair_field field32 stamp_field))).again (group.0, (view.0, (stripe.0, stamp))) rest fits) refl
+all_read : {X : Type 0} (y : X) (rest : List ℕ) (x : X) (b : Bool) → eqb (length rest) 0 ≡ b → cond b (one y) None ≡ one x → read_as y rest ≡ read_as x []
+all_read y rest x true nothing h =
+    let same : y ≡ x = cc in
+    let ends : rest ≡ [] = nil_from_length rest (eqb-true _ _ nothing) in
+    ap (λ z. read_as z rest) same ∙ ap (λ t. read_as x t) ends
+all_read y rest x false some h = absurd cc
 
--- there is no other kind
-no_kind : (kind : ℕ) (bytes : List ℕ) → 4 < kind → kept_at kind bytes ≡ None
-unfolding kept_at
-no_kind kind bytes more =
-    rw (ne_eqb kind 1 (omega arith), ne_eqb kind 2 (omega arith), ne_eqb kind 3 (omega arith), ne_eqb kind 4 (omega arith)) refl
-
--- the kind is one of four
-kept_takes : (kind : ℕ) (bytes : List ℕ) (kept : Kept) (rest : List ℕ) → IsBytes bytes → kept_at kind bytes ≡ Some (kept, rest)
-    → TakesKept kind bytes kept rest
-unfolding kept_at
-kept_takes zero bytes kept rest isb e = absurd cc
-kept_takes (suc zero) bytes kept rest isb e = boot_takes bytes kept rest isb e
-kept_takes (suc (suc zero)) bytes kept rest isb e = view_takes bytes kept rest isb e
-kept_takes (suc (suc (suc zero))) bytes kept rest isb e = ballots_takes bytes kept rest isb e
-kept_takes (suc (suc (suc (suc zero)))) bytes kept rest isb e = order_takes bytes kept rest isb e
-kept_takes (suc (suc (suc (suc (suc kind))))) bytes kept rest isb e =
-    let none : kept_at (suc (suc (suc (suc (suc kind))))) bytes ≡ None = no_kind (suc (suc (suc (suc (suc kind))))) bytes (omega arith) in
-    absurd (none-some (kept, rest) (sym none ∙ e))
+-- what is read in full
+pub whole_is : {X : Type 0} (r : Result (X × List ℕ) ℕ) (x : X) → whole r ≡ one x → r ≡ read_as x []
+whole_is (Err left) x e = absurd cc
+whole_is (Ok read) x e = all_read read.0 read.1 x (eqb (length read.1) 0) refl e
 
 -- what is read is spelled so
 pub read_spells : (kind : ℕ) (bytes : List ℕ) (kept : Kept) → IsBytes bytes → read_of kind bytes ≡ Some kept → Spells kind bytes kept
-unfolding read_of
+unfolding read_of kept_at
 read_spells kind bytes kept isb e =
-    let a = bind_some (kept_at kind bytes) (λ x. cond (eqb (length x.1) 0) (Some x.0) None) kept e in
-    let held = guard_held (eqb (length a.0.1) 0) (Some a.0.0) kept a.2 in
-    let took = kept_takes kind bytes a.0.0 a.0.1 isb a.1 in
-    let nothing : a.0.1 ≡ [] = nil_from_length a.0.1 (eqb-true _ _ held.0) in
-    let whole : bytes ≡ body_of a.0.0 = took.0.parts ∙ ap (λ (rest : List ℕ). body_of a.0.0 ++ rest) nothing ∙ append-nil (body_of a.0.0) in
-    subst (λ (k : Kept). Spells kind bytes k) (some_is a.0.0 kept held.1) (record { fits = took.1; kind_is = took.2; body_is = whole })
+    let read = whole_is (row_at (kept_rows kind) (length bytes) bytes) kept e in
+    let took = rows_read kept_table kind (length bytes) bytes kept [] isb read in
+    record {
+      fits = kept_fits kept took.1.fits;
+      kind_is = sym took.0;
+      body_is = took.1.parts ∙ append-nil (spelled (kept_parts kept)) ∙ kept_same kept took.1.fits;
+    }
 
 -- what is spelled so is read
 pub spells_read : (kind : ℕ) (bytes : List ℕ) (kept : Kept) → Spells kind bytes kept → read_of kind bytes ≡ Some kept
-unfolding read_of
+unfolding read_of kept_at
 spells_read kind bytes kept spells =
-    let again : kept_at (kind_of kept) (body_of kept) ≡ Some (kept, [])
-    = ap (kept_at (kind_of kept)) (sym (append-nil (body_of kept))) ∙ kept_again kept [] spells.fits in
-    rw (spells.kind_is, spells.body_is, again) refl
-
--- an answer that gives what is read has that body
-pub found_spells : (kind : ℕ) (bytes : List ℕ) (found : Option Kept) → IsBytes bytes → Gives (λ kept. kept) found (read_of kind bytes)
-    → IfSome found (Spells kind bytes)
-found_spells kind bytes None isb gives = tt
-found_spells kind bytes (Some kept) isb gives = read_spells kind bytes kept isb gives
+    let fits = kept_back kept spells.fits in
+    let body : bytes ≡ spelled (kept_parts kept) ++ [] = spells.body_is ∙ sym (kept_same kept fits) ∙ sym (append-nil (spelled (kept_parts kept))) in
+    ap (λ k. read_of k bytes) spells.kind_is ∙ ap (λ b. read_of (kind_of kept) b) body
+    ∙ ap whole (rows_again kept_table (length (spelled (kept_parts kept) ++ [])) kept [] (has_kind kept) fits)
 
 -- an answer that gives what is read is the record that is spelled so
 pub spells_found : (kind : ℕ) (bytes : List ℕ) (found : Option Kept) (kept : Kept) → Spells kind bytes kept
-    → Gives (λ made. made) found (read_of kind bytes) → found ≡ Some kept
-spells_found kind bytes None kept spells gives = sym gives ∙ spells_read kind bytes kept spells
-spells_found kind bytes (Some other) kept spells gives = sym gives ∙ spells_read kind bytes kept spells
+    → found ≡ read_of kind bytes → found ≡ Some kept
+spells_found kind bytes found kept spells gives = gives ∙ spells_read kind bytes kept spells
+
+pub found_spells : (kind : ℕ) (bytes : List ℕ) (found : Option Kept) → IsBytes bytes → found ≡ read_of kind bytes → IfSome found (Spells kind bytes)
+found_spells kind bytes None isb gives = tt
+found_spells kind bytes (Some kept) isb gives = read_spells kind bytes kept isb (sym gives)

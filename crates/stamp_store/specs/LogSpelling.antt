@@ -1,12 +1,19 @@
 -- The records of what happens to a log: their bytes, and how they are read.
-use Rattle.std.specs.Prelude.{◌≡◌, ℕ, ◌<◌, ◌^◌, Bool, List, [], ◌++◌, length, Option, Some, None, ◌==◌, if◌then◌else◌}
+use Rattle.std.specs.Prelude.{◌≡◌, ℕ, ◌<◌, ◌^◌, Bool, List, [], ◌++◌, length, Option}
 use Rattle.std.specs.Int.{w32}
+use Rattle.fab_base.specs.declared.identities.GroupId.{GroupId}
+use Rattle.fab_base.specs.declared.identities.StripeNo.{StripeNo}
+use Rattle.fab_base.specs.declared.identities.ViewNo.{ViewNo}
 use Rattle.fab_base.specs.declared.stamps.Stamp.{Stamp}
+use Rattle.fields.specs.Codecs.{Codec, u32_codec, flag_codec, pair}
+use Rattle.fields.specs.Parts.{Part}
+use Rattle.fields.specs.Reading.{Reads, as_at, row_at, row, no_row}
+use Rattle.fields.specs.Values.{group_codec, stripe_codec, view_number_codec, stamp_codec}
 use Rattle.stamp_store.specs.declared.log_records.LogChange.{LogChange}
 use Rattle.stamp_store.specs.declared.log_records.LogChange.TheVariants.{Same, Collect, Slot}
 use Rattle.stamp_store.specs.declared.log_records.Logged.{Logged}
 use Rattle.stamp_store.specs.Spelling.{number_bytes, stamp_bytes, flag_bytes, StampFits, OrderFits}
-use Rattle.stamp_store.specs.Reading.{Reads, ◌>>=◌, then_at, as_at, number_at, flag_at, stamp_at}
+use Rattle.stamp_store.specs.Reading.{whole}
 
 -- a record's kind
 abbrev pub logged_kind : LogChange → ℕ
@@ -40,27 +47,37 @@ pub record SpellsLogged (kind : ℕ) (body : List ℕ) (logged : Logged) : Type 
   pub kind_is : kind ≡ logged_kind logged.change
   pub body_is : body ≡ logged_body logged
 
--- nothing more
-abbrev pub nothing_at : LogChange → Reads LogChange
-nothing_at change bytes = Some (change, bytes)
+-- group, view, stripe, stamp, and for a slot whether it is the bottom, and the slot
+abbrev pub place_fields : Codec (GroupId × (ViewNo × (StripeNo × Stamp)))
+place_fields = pair group_codec (pair view_number_codec (pair stripe_codec stamp_codec))
 
-abbrev pub made_slot : Bool × ℕ → LogChange
-made_slot p = Slot p.0 p.1
+abbrev pub slot_fields : Codec (GroupId × (ViewNo × (StripeNo × (Stamp × (Bool × ℕ)))))
+slot_fields = pair group_codec (pair view_number_codec (pair stripe_codec (pair stamp_codec (pair flag_codec u32_codec))))
 
--- what follows the stamp in a record of this kind
-unfoldable pub change_at : ℕ → Reads LogChange
-change_at kind bytes =
-    if kind == 6 then nothing_at Same bytes
-    else if kind == 7 then nothing_at Collect bytes
-    else if kind == 8 then as_at made_slot (then_at flag_at (number_at w32)) bytes
-    else None
+abbrev pub made_change : LogChange → GroupId × (ViewNo × (StripeNo × Stamp)) → Logged
+made_change change (group, (view, (stripe, stamp))) = record { group = group; view = view; stripe = stripe; stamp = stamp; change = change }
 
-abbrev pub made_logged : ℕ × (ℕ × (ℕ × (Stamp × LogChange))) → Logged
-made_logged p = record { group = record { 0 = p.0 }; view = record { 0 = p.1.0 }; stripe = record { 0 = p.1.1.0 }; stamp = p.1.1.1.0; change = p.1.1.1.1 }
+abbrev pub made_slot : GroupId × (ViewNo × (StripeNo × (Stamp × (Bool × ℕ)))) → Logged
+made_slot (group, (view, (stripe, (stamp, (bottom, slot))))) =
+    record { group = group; view = view; stripe = stripe; stamp = stamp; change = Slot bottom slot }
+
+-- the parts of a record's body
+abbrev pub changed_parts : GroupId → ViewNo → StripeNo → Stamp → LogChange → List Part
+changed_parts group view stripe stamp Same = place_fields.parts (group, (view, (stripe, stamp)))
+changed_parts group view stripe stamp Collect = place_fields.parts (group, (view, (stripe, stamp)))
+changed_parts group view stripe stamp (Slot bottom slot) = slot_fields.parts (group, (view, (stripe, (stamp, (bottom, slot)))))
+
+abbrev pub logged_parts : Logged → List Part
+logged_parts r = changed_parts r.group r.view r.stripe r.stamp r.change
+
+-- how the body of a record of each kind is read
+abbrev pub logged_rows : ℕ → Option (Reads Logged)
+logged_rows = row 6 (as_at (made_change Same) place_fields.read) (row 7 (as_at (made_change Collect) place_fields.read)
+    (row 8 (as_at made_slot slot_fields.read) no_row))
 
 unfoldable pub logged_at : ℕ → Reads Logged
-logged_at kind = as_at made_logged (then_at (number_at w32) (then_at (number_at w32) (then_at (number_at w32) (then_at stamp_at (change_at kind)))))
+logged_at kind bytes = row_at (logged_rows kind) (length bytes) bytes
 
 -- all of the bytes
 unfoldable pub logged_of : ℕ → List ℕ → Option Logged
-logged_of kind bytes = logged_at kind bytes >>= λ x. if length x.1 == 0 then Some x.0 else None
+logged_of kind bytes = whole (logged_at kind bytes)

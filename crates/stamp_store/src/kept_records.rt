@@ -1,10 +1,11 @@
 //! Records of a brick's store, and their bytes.
 
-ghost use Rattle.std.specs.Prelude.{◌≡◌, ◌≤◌, IfOk, IfSome, Some};
+ghost use Rattle.std.specs.Prelude.{◌≡◌, ◌++◌, IfOk, IfSome, OnOk, Some};
+ghost use Rattle.fields.specs.Parts.{spelled, AllFit};
+ghost use Rattle.fields.specs.Reading.{Gives};
 
-use crate::reads::whole;
-use crate::writes::put_body;
 use fab_base::{Ballot, Bytes, GroupId, Members, NoMem, Stamp, StripeNo, View, ViewNo};
+use fields::{Field, Malformed};
 use std::alloc::Global;
 
 /// A record of a brick's store.
@@ -48,6 +49,7 @@ pub enum Kept {
 impl Kept {
     ghost use Rattle.stamp_store.specs.declared.kept_records.Kept.{Kept};
     ghost use Rattle.stamp_store.specs.Spelling.{kind_of, body_of, HasMembers, Spells};
+    ghost use Rattle.stamp_store.specs.Reading.{kept_parts, kept_at, read_of};
 
     /// The record's kind in the store: 1 Boot, 2 View, 3 Ballots, 4 Order.
     pub fn kind(&self) -> u8
@@ -67,7 +69,7 @@ impl Kept {
         ensures { IfOk result (λ made. Spells (kind_of self.now) made self.now) }
     {
         let mut out = Vec::new(alloc);
-        put_body(&mut out, self)?;
+        self.put(&mut out)?;
         Ok(Bytes::from_vec(out))
     }
 
@@ -76,45 +78,108 @@ impl Kept {
         ensures found { IfSome result (Spells kind body.now) }
         ensures only { (kept : Kept) → Spells kind body.now kept → result ≡ Some kept }
     {
-        whole(kind, body)
-    }
-}
-
-#[cfg(test)]
-mod tests {
-    use super::*;
-    use fab_base::BrickId;
-    use std::test::Fail;
-
-    const BODY: [u8; 30] = [
-        0, 0, 0, 0, 0, 0, 0, 1, 0, 0, 0, 0, 0, 0, 0, 1, 0, 0, 0, 0, 0, 0, 0, 1, 0, 0, 0, 0, 0, 1,
-    ];
-
-    #[test]
-    fn an_order_stamp(rt: HostRuntime) -> Result<(), Fail> {
-        let order = Kept::Order {
-            group: GroupId(0),
-            view: ViewNo(1),
-            stripe: StripeNo(0),
-            stamp: Stamp {
-                view: ViewNo(1),
-                time: 1,
-                brick: BrickId(0),
-                boot: 1,
-            },
-        };
-        assert_eq!(rt; order.kind(), 4);
-        assert_eq!(rt; order.body(rt.alloc())?.as_slice(), BODY.as_slice());
-        assert!(rt; Kept::read(4, &BODY).is_some());
-        assert!(rt; Kept::read(4, &BODY[..29]).is_none());
-        assert!(rt; Kept::read(5, &BODY).is_none());
-        Ok(())
+        Kept::whole(kind, body)
     }
 
-    #[test]
-    fn a_view(rt: HostRuntime) {
-        let body = [0, 0, 0, 2, 0, 0, 0, 3, 2, 0, 7, 0, 8, 1, 0, 9, 1];
-        assert!(rt; matches!(Kept::read(2, &body), Some(Kept::View { synced: true, .. })));
-        assert!(rt; Kept::read(3, &body).is_none());
+    /// The record of a kind that is all of these bytes.
+    #[tactic(auto, unfolding(crate::specs::Reading::read_of))]
+    fn whole(kind: u8, body: &[u8]) -> Option<Kept>
+        ensures { result ≡ read_of kind body.now }
+    {
+        match Kept::take(kind, body) {
+            Ok((kept, rest)) => {
+                if rest.is_empty() {
+                    Some(kept)
+                } else {
+                    None
+                }
+            }
+            Err(_) => None,
+        }
+    }
+
+    /// Adds the record's bytes.
+    #[tactic(auto, using(crate::proofs::Writings::joined))]
+    fn put(&self, out: &mut Vec<u8>) -> Result<(), NoMem>
+        requires { HasMembers self.now }
+        ensures bytes { OnOk result (out.new.items ≡ out.old.items ++ spelled (kept_parts self.now)) }
+        ensures fits { OnOk result (AllFit (kept_parts self.now)) }
+    {
+        match self {
+            Kept::Boot(count) => count.put(out),
+            Kept::View {
+                group,
+                view,
+                synced,
+            } => {
+                (*group, view.number).put(out)?;
+                view.members.put(out)?;
+                view.prior.put(out)?;
+                synced.put(out)
+            }
+            Kept::Ballots {
+                group,
+                view,
+                promised,
+                accepted,
+            } => {
+                (*group, (*view, *promised)).put(out)?;
+                accepted.put(out)
+            }
+            Kept::Order {
+                group,
+                view,
+                stripe,
+                stamp,
+            } => (*group, (*view, (*stripe, *stamp))).put(out),
+        }
+    }
+
+    /// The record of a kind that these bytes begin with, and the bytes after it.
+    #[tactic(auto, unfolding(crate::specs::Reading::kept_at))]
+    fn take(kind: u8, bytes: &[u8]) -> Result<(Kept, &[u8]), Malformed>
+        ensures { Gives (λ x. (x.0, x.1.now)) result (kept_at kind bytes.now) }
+    {
+        match kind {
+            1 => {
+                let (count, rest) = Field::take(bytes)?;
+                Ok((Kept::Boot(count), rest))
+            }
+            2 => {
+                let ((group, (number, (members, (prior, synced)))), rest) = Field::take(bytes)?;
+                let view = View {
+                    number,
+                    members,
+                    prior,
+                };
+                let kept = Kept::View {
+                    group,
+                    view,
+                    synced,
+                };
+                Ok((kept, rest))
+            }
+            3 => {
+                let ((group, (view, (promised, accepted))), rest) = Field::take(bytes)?;
+                let kept = Kept::Ballots {
+                    group,
+                    view,
+                    promised,
+                    accepted,
+                };
+                Ok((kept, rest))
+            }
+            4 => {
+                let ((group, (view, (stripe, stamp))), rest) = Field::take(bytes)?;
+                let kept = Kept::Order {
+                    group,
+                    view,
+                    stripe,
+                    stamp,
+                };
+                Ok((kept, rest))
+            }
+            _ => Err(Malformed { left: bytes.len() }),
+        }
     }
 }

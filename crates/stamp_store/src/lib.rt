@@ -4,9 +4,7 @@
 
 pub mod kept_records;
 pub mod log_records;
-mod reads;
 pub mod stamp_sources;
-mod writes;
 
 pub use kept_records::Kept;
 pub use log_records::{LogChange, Logged};

@@ -1,10 +1,11 @@
 //! Records of what happens to the log of a stripe's versions, and their bytes.
 
-ghost use Rattle.std.specs.Prelude.{◌≡◌, IfOk, IfSome, Some};
+ghost use Rattle.std.specs.Prelude.{◌≡◌, ◌++◌, IfOk, IfSome, OnOk, Some};
+ghost use Rattle.fields.specs.Parts.{spelled, AllFit};
+ghost use Rattle.fields.specs.Reading.{Gives, as_at};
 
-use crate::reads::whole_logged;
-use crate::writes::put_logged;
 use fab_base::{Bytes, GroupId, NoMem, Stamp, StripeNo, ViewNo};
+use fields::{Field, Malformed};
 use std::alloc::Global;
 
 /// What happens to a log.
@@ -40,7 +41,8 @@ pub struct Logged {
 
 impl Logged {
     ghost use Rattle.stamp_store.specs.declared.log_records.Logged.{Logged};
-    ghost use Rattle.stamp_store.specs.LogSpelling.{logged_kind, SpellsLogged};
+    ghost use Rattle.stamp_store.specs.LogSpelling.{logged_kind, SpellsLogged, logged_parts, logged_at, logged_of};
+    ghost use Rattle.stamp_store.specs.LogSpelling.{made_change, place_fields};
 
     /// The record's kind in the store: 6 Same, 7 Collect, 8 Slot.
     pub fn kind(&self) -> u8
@@ -58,7 +60,7 @@ impl Logged {
         ensures { IfOk result (λ made. SpellsLogged (logged_kind self.now.change) made self.now) }
     {
         let mut out = Vec::new(alloc);
-        put_logged(&mut out, self)?;
+        self.put(&mut out)?;
         Ok(Bytes::from_vec(out))
     }
 
@@ -67,42 +69,74 @@ impl Logged {
         ensures found { IfSome result (SpellsLogged kind body.now) }
         ensures only { (logged : Logged) → SpellsLogged kind body.now logged → result ≡ Some logged }
     {
-        whole_logged(kind, body)
+        Logged::whole(kind, body)
     }
-}
 
-#[cfg(test)]
-mod tests {
-    use super::*;
-    use fab_base::BrickId;
-    use std::test::Fail;
+    /// The record of a kind that is all of these bytes.
+    #[tactic(auto, unfolding(crate::specs::LogSpelling::logged_of))]
+    fn whole(kind: u8, body: &[u8]) -> Option<Logged>
+        ensures { result ≡ logged_of kind body.now }
+    {
+        match Logged::take(kind, body) {
+            Ok((logged, rest)) => {
+                if rest.is_empty() {
+                    Some(logged)
+                } else {
+                    None
+                }
+            }
+            Err(_) => None,
+        }
+    }
 
-    #[test]
-    fn a_version_in_a_slot(rt: HostRuntime) -> Result<(), Fail> {
-        let body = [
-            0, 0, 0, 2, 0, 0, 0, 1, 0, 0, 0, 3, 0, 0, 0, 1, 0, 0, 0, 0, 0, 0, 0, 9, 0, 4, 0, 0, 0,
-            5, 1, 0, 0, 1, 0,
-        ];
+    /// Adds the record's bytes.
+    #[tactic(auto, using(crate::proofs::Writings::joined))]
+    fn put(&self, out: &mut Vec<u8>) -> Result<(), NoMem>
+        ensures bytes { OnOk result (out.new.items ≡ out.old.items ++ spelled (logged_parts self.now)) }
+        ensures fits { OnOk result (AllFit (logged_parts self.now)) }
+    {
+        (self.group, (self.view, (self.stripe, self.stamp))).put(out)?;
+        match self.change {
+            LogChange::Same | LogChange::Collect => Ok(()),
+            LogChange::Slot { bottom, slot } => (bottom, slot).put(out),
+        }
+    }
+
+    /// The record of a kind that these bytes begin with, and the bytes after it.
+    #[tactic(auto, unfolding(crate::specs::LogSpelling::logged_at))]
+    fn take(kind: u8, bytes: &[u8]) -> Result<(Logged, &[u8]), Malformed>
+        ensures { Gives (λ x. (x.0, x.1.now)) result (logged_at kind bytes.now) }
+    {
+        match kind {
+            6 => Logged::take_change(LogChange::Same, bytes),
+            7 => Logged::take_change(LogChange::Collect, bytes),
+            8 => {
+                let ((group, (view, (stripe, (stamp, (bottom, slot))))), rest) = Field::take(bytes)?;
+                let logged = Logged {
+                    group,
+                    view,
+                    stripe,
+                    stamp,
+                    change: LogChange::Slot { bottom, slot },
+                };
+                Ok((logged, rest))
+            }
+            _ => Err(Malformed { left: bytes.len() }),
+        }
+    }
+
+    /// A record of a change without fields.
+    fn take_change(change: LogChange, bytes: &[u8]) -> Result<(Logged, &[u8]), Malformed>
+        ensures { Gives (λ x. (x.0, x.1.now)) result (as_at (made_change change) place_fields.read bytes.now) }
+    {
+        let ((group, (view, (stripe, stamp))), rest) = Field::take(bytes)?;
         let logged = Logged {
-            group: GroupId(2),
-            view: ViewNo(1),
-            stripe: StripeNo(3),
-            stamp: Stamp {
-                view: ViewNo(1),
-                time: 9,
-                brick: BrickId(4),
-                boot: 5,
-            },
-            change: LogChange::Slot {
-                bottom: true,
-                slot: 256,
-            },
+            group,
+            view,
+            stripe,
+            stamp,
+            change,
         };
-        assert_eq!(rt; logged.kind(), 8);
-        assert_eq!(rt; logged.body(rt.alloc())?.as_slice(), body.as_slice());
-        assert_eq!(rt; Logged::read(8, &body), Some(logged));
-        assert_eq!(rt; Logged::read(7, &body), None);
-        assert!(rt; Logged::read(6, &body[..30]).is_some());
-        Ok(())
+        Ok((logged, rest))
     }
 }

@@ -1,11 +1,17 @@
 -- The bytes put are the body, and the numbers put fit their fields.
 use Rattle.std.proofs.Common.{◌++◌, ◌∙◌, ap, refl}
-use Rattle.stamp_store.specs.Spelling.{body_of}
+use Rattle.fields.specs.Parts.{spelled}
+use Rattle.stamp_store.specs.Reading.{kept_parts}
+use Rattle.stamp_store.proofs.Bodies.{kept_same, kept_fits}
 use Rattle.stamp_store.proofs.kept_records.Kept.body.Goals as goal
 
 pub returns : goal.returns
-returns c = record {
-  fits = c.in_ok-put_body.ensures.fits;
-  kind_is = refl;
-  body_is = c.from_vec.ensures ∙ c.in_ok-put_body.ensures.bytes ∙ ap (λ made. made ++ body_of c.args.self.now) c.new-out.ensures.items;
-}
+returns c =
+    let fits = c.in_ok-put.ensures.fits in
+    let kept = c.args.self.now in
+    record {
+      fits = kept_fits kept fits;
+      kind_is = refl;
+      body_is = c.from_vec.ensures ∙ c.in_ok-put.ensures.bytes ∙ ap (λ made. made ++ spelled (kept_parts kept)) c.new-out.ensures.items
+          ∙ kept_same kept fits;
+    }

@@ -1,11 +1,17 @@
 -- The bytes put are the body, and the numbers put fit their fields.
 use Rattle.std.proofs.Common.{◌++◌, ◌∙◌, ap, refl}
-use Rattle.stamp_store.specs.LogSpelling.{logged_body}
+use Rattle.fields.specs.Parts.{spelled}
+use Rattle.stamp_store.specs.LogSpelling.{logged_parts}
+use Rattle.stamp_store.proofs.Bodies.{changed_same, changed_fits}
 use Rattle.stamp_store.proofs.log_records.Logged.body.Goals as goal
 
 pub returns : goal.returns
-returns c = record {
-  fits = c.in_ok-put_logged.ensures.fits;
-  kind_is = refl;
-  body_is = c.from_vec.ensures ∙ c.in_ok-put_logged.ensures.bytes ∙ ap (λ made. made ++ logged_body c.args.self.now) c.new-out.ensures.items;
-}
+returns c =
+    let fits = c.in_ok-put.ensures.fits in
+    let logged = c.args.self.now in
+    record {
+      fits = changed_fits logged fits;
+      kind_is = refl;
+      body_is = c.from_vec.ensures ∙ c.in_ok-put.ensures.bytes ∙ ap (λ made. made ++ spelled (logged_parts logged)) c.new-out.ensures.items
+          ∙ changed_same logged fits;
+    }

@@ -1,0 +1,7 @@
+pub mod Parts
+pub mod Reading
+pub mod Laws
+pub mod Numbers
+pub mod Choices
+pub mod Codecs
+pub mod Values

@@ -1,0 +1,13 @@
+//! One language for the fields of messages and records: numbers from the high byte on, and what is made of them, each with
+//! one spelling.
+#![tactic(auto)]
+
+pub mod codecs;
+pub mod contents;
+pub mod faults;
+mod numbers;
+mod values;
+
+pub use codecs::Field;
+pub use contents::{put_block, put_content, take_block, take_content};
+pub use faults::{Malformed, ReadFault};
