@@ -27,8 +27,9 @@ use Rattle.fab_base.specs.Layouts.{Group, seat_in}
 use Rattle.quorum.specs.Quorums.{quorum_of}
 use Rattle.protocol.specs.Settings.{Code, Piece}
 
--- An open operation at its coordinator: what is asked, its stamp, how many rounds of ordering it has begun, the version that it read back and
--- its content, where it is a recovery that found one, the call of its present phase, and the replies that count in it.
+-- An open operation at its coordinator: what is asked, its stamp, how many rounds of ordering it has begun,
+-- the version that it read back and its content, where it is a recovery that found one, the call of its
+-- present phase, and the replies that count in it.
 pub record Coordinator : Type 0 where
   pub ask : Ask
   pub stamp : Stamp
@@ -214,8 +215,9 @@ request_of code m c seat = request_in c.phase
     request_in (Descends bound) = OrderRead c.stamp (Below bound) All
     request_in Stores = Write c.stamp (code.encode m (stored_content c) seat)
 
--- What a coordinator does with a reply: it leaves it out, waits for more, begins its next phase, makes its version by beginning to store it, or
--- ends. An end tells the version that a fast read saw, and the one that was stored, which may now be collected.
+-- What a coordinator does with a reply: it leaves it out, waits for more, begins its next phase, makes its
+-- version by beginning to store it, or ends. An end tells the version that a fast read saw, and the one that
+-- was stored, which may now be collected.
 pub data Next : Type 0 where
   Ignores : Next
   Waits : (c : Coordinator) → Next
@@ -280,8 +282,8 @@ abbrev pub answered_fast : Code → ℕ → Coordinator → Option Stamp → Nex
 answered_fast code m c None = Sends (in_phase c Recovers)
 answered_fast code m c (Some v) = Ends (Data (code.decode m (pieces_of c.counted))) (Some v) None
 
--- A recovery reads back the greatest version found, where there are enough blocks of it, and else looks below it. Where nothing was found, it
--- forgets the replies, and waits for more.
+-- A recovery reads back the greatest version found, where there are enough blocks of it, and else looks below
+-- it. Where nothing was found, it forgets the replies, and waits for more.
 abbrev pub read_back : Code → ℕ → Coordinator → Option Stamp → Next
 read_back code m c None = Waits (forgetting c)
 read_back code m c (Some v) =
@@ -320,4 +322,5 @@ counted_at code group fresh c from reply (Some seat) = once_full code group fres
 
 -- what a coordinator does with a reply, where a new round would have this fresh stamp
 unfoldable pub on_reply : ℕ → Code → Group → Option Stamp → Coordinator → BrickId → Call → Reply → Next
-on_reply block code group fresh c from call reply = counted_at code group fresh c from reply (counts_at block group c from.0 call reply)
+on_reply block code group fresh c from call reply =
+    counted_at code group fresh c from reply (counts_at block group c from.0 call reply)

@@ -1,6 +1,7 @@
--- Which happenings are told of a stripe. A version is effective where an answered operation made it, or a read answered it at once, or where it
--- is the base of an effective version. Effective versions are walked by rising stamp: the maker, where it is a write, or a read that was answered;
--- then the reads that answered it at once, by number; each at the greatest begin so far.
+-- Which happenings are told of a stripe. A version is effective where an answered operation made it, or a
+-- read answered it at once, or where it is the base of an effective version. Effective versions are walked by
+-- rising stamp: the maker, where it is a write, or a read that was answered; then the reads that answered it
+-- at once, by number; each at the greatest begin so far.
 use Rattle.std.specs.Prelude.{ℕ, zero, suc, Bool, true, false, not, nat_eq, ◌&&◌, ◌||◌, if◌then◌else◌, List, [], ◌∷◌, ◌++◌, Option, Some, None, option_to_list}
 use Rattle.std.specs.List.{list_any}
 use Rattle.fab_base.specs.declared.asks.Op.{Op}
@@ -66,7 +67,8 @@ abbrev pub ascending : List Entry → List Entry
 ascending [] = []
 ascending (e ∷ entries) = inserted e (ascending entries)
 
--- of entries that ascend: those that are told, the versions of those that are effective, and the versions that these make effective
+-- of entries that ascend: those that are told, the versions of those that are effective, and the versions
+-- that these make effective
 pub record Effect : Type 0 where
   pub told : List Entry
   pub versions : List Stamp
@@ -76,8 +78,8 @@ pub record Effect : Type 0 where
 abbrev pub needs : Option Operation → Entry → List Stamp
 needs operation e = if e.reader then e.stamp ∷ [] else option_to_list (base_of operation)
 
--- An entry before others that ascend. It is effective where its operation was answered, or where its version is read, or is the base of an effective
--- version, which is above it.
+-- An entry before others that ascend. It is effective where its operation was answered, or where its version
+-- is read, or is the base of an effective version, which is above it.
 abbrev pub with_entry : Option Operation → Entry → Effect → Effect
 with_entry operation e above =
     if was_answered operation || is_among e.stamp above.needed

@@ -22,8 +22,9 @@ use Rattle.protocol.specs.Coordinators.{Phase, Looks, Orders, Coordinator, Count
 abbrev pub put : {A : Type 0} → (ℕ → A) → ℕ → A → ℕ → A
 put f k v i = if nat_eq i k then v else f i
 
--- a brick: how often its store was opened, its last call number, the greatest time that it knows, how many operations it has open, how many live
--- records its store keeps, its part of each stripe (by group and stripe), and its open operations (by call number)
+-- a brick: how often its store was opened, its last call number, the greatest time that it knows, how many
+-- operations it has open, how many live records its store keeps, its part of each stripe (by group and
+-- stripe), and its open operations (by call number)
 pub record Node : Type 0 where
   pub boot : ℕ
   pub seq : ℕ
@@ -35,7 +36,8 @@ pub record Node : Type 0 where
 
 -- a brick whose fresh store was just opened
 abbrev pub first_node : ℕ → Node
-first_node block = record { boot = 1; seq = 0; known = 0; busy = 0; live = 0; replicas = λ g s. first_replica block; calls = λ k. None }
+first_node block =
+    record { boot = 1; seq = 0; known = 0; busy = 0; live = 0; replicas = λ g s. first_replica block; calls = λ k. None }
 
 -- what a step leaves, the packets that it sends, in order, and what it tells of an operation
 pub record NodeStep : Type 0 where
@@ -149,7 +151,8 @@ opened node c =
 abbrev pub began_in : Setting → Group → BrickId → Node → Coordinator → NodeStep
 began_in setting group me node c = record { node = opened node c; packets = phase_packets setting group me c; told = Nothing }
 
--- A brick begins an operation that is not refused: what is told of it is the number of its call, the brick's last.
+-- A brick begins an operation that is not refused: what is told of it is the number of its call, the brick's
+-- last.
 abbrev pub began : Setting → BrickId → ℕ → Node → Ask → Option Group → NodeStep
 began setting me now node ask None = no_step node
 began setting me now node ask (Some group) = began_in setting group me node (new_coordinator me now node ask)
@@ -264,7 +267,8 @@ received setting me now node packet = received_as packet.message
     received_as (Message.Reply call reply) = replied setting me now packet.from node call reply
     received_as message = no_step node
 
--- the node after a message whose handling was the last thing that it did: what it kept of a request stays, and its reply is never sent
+-- the node after a message whose handling was the last thing that it did: what it kept of a request stays,
+-- and its reply is never sent
 unfoldable pub absorbed : Setting → BrickId → Node → Packet → Node
 absorbed setting me node packet = absorbed_as packet.message
   where
@@ -272,7 +276,8 @@ absorbed setting me node packet = absorbed_as packet.message
     absorbed_as (Message.Request call request) = (requested setting me packet.from node call request).node
     absorbed_as message = node
 
--- a phase's requests again, in the order of seats, the first of these members at this seat, to each that has no reply that counts
+-- a phase's requests again, in the order of seats, the first of these members at this seat, to each that has
+-- no reply that counts
 abbrev pub resent_to : BrickId → Call → (ℕ → Request) → List Counted → ℕ → List BrickId → List Packet
 resent_to me call request counted seat [] = []
 resent_to me call request counted seat (member ∷ members) =
@@ -293,7 +298,8 @@ abbrev pub resent_up_to : Setting → BrickId → (ℕ → Option Coordinator) �
 resent_up_to setting me calls zero = []
 resent_up_to setting me calls (suc k) = resent_up_to setting me calls k ++ resent setting me (calls (suc k))
 
--- what a brick sends at a tick of its clock: each open operation its present phase again, in the order of beginning
+-- what a brick sends at a tick of its clock: each open operation its present phase again, in the order of
+-- beginning
 unfoldable pub ticked : Setting → BrickId → Node → List Packet
 ticked setting me node = resent_up_to setting me node.calls node.seq
 
@@ -305,7 +311,8 @@ no_calls k = None
 unfoldable pub stopped : Node → Node
 stopped node = record node { busy = 0; calls = no_calls }
 
--- a stopped brick whose store was opened so many times since, the last time to run: it has made no call, and knows no time
+-- a stopped brick whose store was opened so many times since, the last time to run: it has made no call, and
+-- knows no time
 unfoldable pub restarted : ℕ → Node → Node
 restarted openings node = record node { boot = node.boot + openings; seq = 0; known = 0; busy = 0; calls = no_calls }
 

@@ -55,7 +55,8 @@ told_version wanted None = None
 told_version true (Some version) = Some version
 told_version false (Some version) = Some (record { stamp = version.stamp; block = [] })
 
--- the member's part after a request, its reply, and whether it keeps one live record more: an order stamp above the first one, or a version
+-- the member's part after a request, its reply, and whether it keeps one live record more: an order stamp
+-- above the first one, or a version
 pub record Reaction : Type 0 where
   pub replica : Replica
   pub reply : Option Reply
@@ -88,7 +89,8 @@ stored replica t block =
       adds = true;
     }
 
--- promise to take nothing below t, unless something later was promised or stored; where so many records are live as there may be, full tells how many
+-- promise to take nothing below t, unless something later was promised or stored; where so many records are
+-- live as there may be, full tells how many
 abbrev pub ordered : Option ℕ → Replica → Stamp → Reaction
 ordered full replica t =
     if stamp_below t (top_of replica) then stays replica (Later (top_of replica)) else unless_full full replica (promised replica t Ordered)
@@ -119,7 +121,8 @@ order_read full replica t look wanted =
 abbrev pub ignored : Replica → Reaction
 ignored replica = record { replica = replica; reply = None; adds = false }
 
--- What the member at a seat does with a request. Versions are not collected yet, and no coordinator sends the requests that are ignored here.
+-- What the member at a seat does with a request. Versions are not collected yet, and no coordinator sends the
+-- requests that are ignored here.
 unfoldable pub handle : Option ℕ → ℕ → Replica → Request → Reaction
 handle full seat replica (Read want) = stays replica (Found replica.order (told_version (is_wanted want seat) (newest_of replica.log)))
 handle full seat replica (Order t) = ordered full replica t

@@ -10,7 +10,8 @@ pub record Piece : Type 0 where
   pub seat : ℕ
   pub bytes : List ℕ
 
--- A code: the block of a stripe's content at a seat, and the content that pieces at some seats give back. Both are told m, the number of data blocks.
+-- A code: the block of a stripe's content at a seat, and the content that pieces at some seats give back.
+-- Both are told m, the number of data blocks.
 pub record Code : Type 0 where
   pub encode : ℕ → List ℕ → ℕ → List ℕ
   pub decode : ℕ → List Piece → List ℕ
@@ -36,7 +37,8 @@ pub record Setting : Type 0 where
   pub layout : Layout
   pub code : Code
 
--- Each group is within the limits of a quorum, its members are distinct bricks, its code gives back what it encodes, and the zero content has zero blocks.
+-- Each group is within the limits of a quorum, its members are distinct bricks, its code gives back what it
+-- encodes, and the zero content has zero blocks.
 pub record IsSound (setting : Setting) : Type 0 where
   pub limits : (g : ℕ) (group : Group) → group_of setting.layout g ≡ Some group → IsWithinLimits group.m (length group.members)
   pub distinct : (g : ℕ) (group : Group) → group_of setting.layout g ≡ Some group → IsDistinct nat_eq (map (λ member. member.0) group.members)

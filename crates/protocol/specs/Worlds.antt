@@ -1,5 +1,5 @@
--- The whole disk, and what a schedule of steps makes of it. Every message that was ever sent may be delivered, once, often or never,
--- in any order: that is all that a network may do to it.
+-- The whole disk, and what a schedule of steps makes of it. Every message that was ever sent may be
+-- delivered, once, often or never, in any order: that is all that a network may do to it.
 use Rattle.std.specs.Prelude.{ℕ, zero, suc, ◌+◌, Bool, true, false, not, nat_eq, nat_lt, ◌&&◌, if◌then◌else◌, List, [], ◌∷◌, ◌++◌, length, Option, Some, None, is_some, slice_get}
 use Rattle.fab_base.specs.declared.identities.BrickId.{BrickId}
 use Rattle.fab_base.specs.declared.stamps.Stamp.{Stamp}
@@ -20,10 +20,11 @@ use Rattle.protocol.specs.Replicas.{top_of}
 use Rattle.protocol.specs.Coordinators.{Counted, Coordinator, stored_content, counts_at}
 use Rattle.protocol.specs.Nodes.{Node, NodeStep, Told, Nothing, Made, Answers, put, first_node, is_stripe_op, refusal_of, invoked, received, absorbed, ticked, stopped, restarted, may_open}
 
--- What happens next: a brick is asked for an operation; the message of a number, counted from 1 in the order of sending, is delivered; a brick's
--- clock reads another time from now on, or ticks; a brick stops; a stopped brick starts again, its store having been opened so many times since;
--- or the message of a number is handled, and its reply is lost before it is sent. That is how a brick that stopped as it handled a message may
--- find its store when it starts again: with the change made, though no reply was sent.
+-- What happens next: a brick is asked for an operation; the message of a number, counted from 1 in the order
+-- of sending, is delivered; a brick's clock reads another time from now on, or ticks; a brick stops; a
+-- stopped brick starts again, its store having been opened so many times since; or the message of a number is
+-- handled, and its reply is lost before it is sent. That is how a brick that stopped as it handled a message
+-- may find its store when it starts again: with the change made, though no reply was sent.
 pub data Event : Type 0 where
   Invokes : (brick : BrickId) → (ask : Ask) → Event
   Delivers : (number : ℕ) → Event
@@ -33,8 +34,10 @@ pub data Event : Type 0 where
   Starts : (brick : BrickId) → (openings : ℕ) → Event
   Absorbs : (number : ℕ) → Event
 
--- What is known of an operation, by number: its coordinator, how often the store of that had been opened, its call number, where it begins, what it asks, the version that it made or
--- read, whether it made it, and on which base, whether it was answered; and, for the proof alone, how far each brick's part of the stripe had come when it began.
+-- What is known of an operation, by number: its coordinator, how often the store of that had been opened, its
+-- call number, where it begins, what it asks, the version that it made or read, whether it made it, and on
+-- which base, whether it was answered; and, for the proof alone, how far each brick's part of the stripe had
+-- come when it began.
 pub record Operation : Type 0 where
   pub brick : BrickId
   pub boot : ℕ
@@ -47,10 +50,11 @@ pub record Operation : Type 0 where
   pub answered : Bool
   pub floor : ℕ → Stamp
 
--- The whole disk: its bricks, which of them are up, and what their clocks read; every message that was ever sent, in order; the marks; how many
--- operations have begun, and each by its number; the number of the operation of each call (by brick, boot and call number); and, for the proof
--- alone, the time that a brick knew last in each earlier boot, the content of each version (by group, stripe and stamp), and the replies that
--- counted in each phase of an operation (by its number and the phase's).
+-- The whole disk: its bricks, which of them are up, and what their clocks read; every message that was ever
+-- sent, in order; the marks; how many operations have begun, and each by its number; the number of the
+-- operation of each call (by brick, boot and call number); and, for the proof alone, the time that a brick
+-- knew last in each earlier boot, the content of each version (by group, stripe and stamp), and the replies
+-- that counted in each phase of an operation (by its number and the phase's).
 pub record World : Type 0 where
   pub nodes : ℕ → Node
   pub up : ℕ → Bool
@@ -187,7 +191,8 @@ with_counted replies n phase counted = put replies n (put (replies n) phase (rep
 -- the replies that have counted, with this one of a brick to operation n, where it counts at this seat
 abbrev pub counted_after : (ℕ → ℕ → List Counted) → ℕ → BrickId → Call → Reply → Option ℕ → ℕ → ℕ → List Counted
 counted_after replies n from call reply None = replies
-counted_after replies n from call reply (Some seat) = with_counted replies n call.phase (record { seat = seat; brick = from; reply = reply })
+counted_after replies n from call reply (Some seat) =
+    with_counted replies n call.phase (record { seat = seat; brick = from; reply = reply })
 
 -- the same, with a reply to the open operation at this coordinator, if there is one
 abbrev pub replies_in : Setting → World → BrickId → BrickId → Call → Reply → Coordinator → Option Group → ℕ → ℕ → List Counted
@@ -259,8 +264,9 @@ abbrev pub packet_of : List Packet → ℕ → Option Packet
 packet_of packets zero = None
 packet_of packets (suc k) = slice_get packets k
 
--- the world after an event; what cannot happen changes nothing: an operation that is refused, a number that was not sent, a brick that the layout
--- has not, a stopped brick that is to stop, handle a message or tick, and one that is to start though it is up
+-- the world after an event; what cannot happen changes nothing: an operation that is refused, a number that
+-- was not sent, a brick that the layout has not, a stopped brick that is to stop, handle a message or tick,
+-- and one that is to start though it is up
 unfoldable pub happens : Setting → World → Event → World
 happens setting w (Invokes brick ask) =
     if may_begin setting w brick ask then world_began w brick ask (invoked setting brick (w.clocks brick.0) (w.nodes brick.0) ask) else w

@@ -1,5 +1,5 @@
-//! The storage protocol as a machine: what a member does with a request, what a coordinator does with a reply, and what a
-//! schedule of such steps makes of the whole disk.
+//! The storage protocol as a machine: what a member does with a request, what a coordinator does with a
+//! reply, and what a schedule of such steps makes of the whole disk.
 #![tactic(auto)]
 
 pub mod phases;

@@ -3,8 +3,8 @@
 use fab_base::{BrickId, Stamp};
 use messages::Reply;
 
-/// The phase that an operation is in (Frølund 2004: a read looks, and recovers where it finds no version that all tell; a write orders, and
-/// then stores).
+/// The phase that an operation is in (Frølund 2004: a read looks, and recovers where it finds no version that
+/// all tell; a write orders, and then stores).
 #[derive(Clone, Copy, Debug, PartialEq, Eq)]
 pub enum Phase {
     /// A read has asked each member for its newest version.
@@ -13,7 +13,8 @@ pub enum Phase {
     Orders,
     /// A recovery has asked each member to promise its stamp, and for its newest version below that.
     Recovers,
-    /// A recovery that found too few blocks of a version has asked each member for its newest version below this one.
+    /// A recovery that found too few blocks of a version has asked each member for its newest version below
+    /// this one.
     Descends(Stamp),
     /// An operation that made a version has sent each member its block.
     Stores,

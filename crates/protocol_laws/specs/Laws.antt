@@ -49,7 +49,8 @@ IsGuarded w g s group t = AtQuorum group (λ seat. not (stamp_below (top_of (par
 abbrev pub WriteSent : World → Call → BrickId → BrickId → Stamp → List ℕ → Type 0
 WriteSent w call from to t block = WasSent w (record { from = from; to = to; message = Message.Request call (Request.Write t block) })
 
--- One stamp has one content: each block of version t that was sent, or was found, or is kept is its seat's block of the content of t.
+-- One stamp has one content: each block of version t that was sent, or was found, or is kept is its seat's
+-- block of the content of t.
 pub record OneContent (setting : Setting) (w : World) : Type 0 where
   pub sent : (call : Call) (from to : BrickId) (t : Stamp) (block : List ℕ) (group : Group)
       → group_of setting.layout call.group.0 ≡ Some group → WriteSent w call from to t block
@@ -62,16 +63,16 @@ pub record OneContent (setting : Setting) (w : World) : Type 0 where
   pub kept : (g s i seat k : ℕ) (version : Version) (group : Group) → group_of setting.layout g ≡ Some group → seat_in group.members i ≡ Some seat
       → slice_get (part_of w g s i).log k ≡ Some version → version.block ≡ setting.code.encode group.m (w.contents g s version.stamp) seat
 
--- At so many seats that with a quorum they are more than all, the stripe's stamps are above version d, and d is not held: no quorum holds d, or
--- ever will.
+-- At so many seats that with a quorum they are more than all, the stripe's stamps are above version d, and d
+-- is not held: no quorum holds d, or ever will.
 abbrev pub IsBlocked : World → ℕ → ℕ → Group → Stamp → Type 0
 IsBlocked w g s group d =
     length group.members < quorum_of group
     + count (length group.members) (λ seat. stamp_below d (top_of (part_of w g s (brick_at group seat)))
     && not (is_held d (part_of w g s (brick_at group seat)).log))
 
--- An operation that made a version on a base, a version that was read back: the base is below it, and is its content; and no quorum holds
--- a version between the two, or ever will.
+-- An operation that made a version on a base, a version that was read back: the base is below it, and is its
+-- content; and no quorum holds a version between the two, or ever will.
 abbrev pub BasesAreNewest : Setting → World → Type 0
 BasesAreNewest setting w =
     (n : ℕ) (o : Operation) (t b : Stamp) (group : Group) → w.operations n ≡ Some o → group_of setting.layout o.ask.group.0 ≡ Some group
@@ -92,7 +93,8 @@ NeighboursFollow w g s =
     (k : ℕ) (u t : Stamp) → slice_get (effect_in w g s).versions k ≡ Some u → slice_get (effect_in w g s).versions (k + 1) ≡ Some t
     → (u ≡ t) ⊎ WasMadeOn w g s u t
 
--- Before a write of version t was sent, a quorum had promised t, or stored something later, and has so ever since.
+-- Before a write of version t was sent, a quorum had promised t, or stored something later, and has so ever
+-- since.
 abbrev pub WritesAreGuarded : Setting → World → Type 0
 WritesAreGuarded setting w =
     (call : Call) (from to : BrickId) (t : Stamp) (block : List ℕ) (group : Group)
@@ -109,8 +111,8 @@ StoredIsHeld w =
     → (t : Stamp) × (block : List ℕ) × WriteSent w call to from t block
     × (is_held t (part_of w call.group.0 call.stripe.0 from.0).log ≡ true)
 
--- Versions follow real time: where one operation of a stripe ended before another began, its version is below the other's, or it is the
--- version that the other read.
+-- Versions follow real time: where one operation of a stripe ended before another began, its version is below
+-- the other's, or it is the version that the other read.
 abbrev pub FollowsRealTime : World → ℕ → ℕ → Type 0
 FollowsRealTime w g s =
     (a b : ℕ) (earlier later : Operation) (u v : Stamp) → w.operations a ≡ Some earlier → w.operations b ≡ Some later
@@ -135,16 +137,17 @@ AskedAt w call from to t =
 abbrev pub IsCallOf : Call → Operation → Type 0
 IsCallOf call o = (call.boot ≡ o.boot) × (call.seq ≡ o.seq)
 
--- A phase of operation n is its last round of ordering: each of the three phases before it had counted a later stamp, or the brick that
--- coordinates it knew no later time.
+-- A phase of operation n is its last round of ordering: each of the three phases before it had counted a
+-- later stamp, or the brick that coordinates it knew no later time.
 abbrev pub IsLastRound : World → ℕ → Operation → ℕ → Type 0
 IsLastRound w n o phase =
     ((most_rounds ≤ phase)
     × ((earlier : ℕ) → phase < earlier + most_rounds → earlier < phase → is_some (greatest_refuser (w.replies n earlier)) ≡ true))
     ⊎ (has_later_time (known_in w o.brick.0 o.boot) ≡ false)
 
--- What the abort of operation n shows: in a phase of this very operation, which asked at a lower stamp, the brick had told the coordinator of
--- the later stamp; no reply that counted in that phase told a greater one; and if it was a round of ordering, it was the last.
+-- What the abort of operation n shows: in a phase of this very operation, which asked at a lower stamp, the
+-- brick had told the coordinator of the later stamp; no reply that counted in that phase told a greater one;
+-- and if it was a round of ordering, it was the last.
 pub record Evidence (w : World) (n : ℕ) (o : Operation) (brick : BrickId) (x : Stamp) : Type 0 where
   pub call : Call
   pub stamp : Stamp
@@ -176,7 +179,8 @@ FullIsFull setting w =
     (call : Call) (from to : BrickId) (live : ℕ) → WasSent w (record { from = from; to = to; message = Message.Reply call (Reply.Full live) })
     → live ≡ setting.layout.records
 
--- every abort for a full store shows that its brick told so, with that many live records, in a phase of this very operation
+-- every abort for a full store shows that its brick told so, with that many live records, in a phase of this
+-- very operation
 abbrev pub FullAbortsShow : World → Type 0
 FullAbortsShow w =
     (k p n : ℕ) (brick : BrickId) (live : ℕ) → slice_get w.marks k ≡ Some (End p n (Aborted (Cause.Full brick live)))
@@ -204,8 +208,8 @@ pub record Laws (setting : Setting) (w : World) : Type 0 where
 abbrev pub IsHeldByQuorum : World → ℕ → ℕ → Group → Stamp → Type 0
 IsHeldByQuorum w g s group v = AtQuorum group (λ seat. is_held v (part_of w g s (brick_at group seat)).log)
 
--- Version v of the stripe is lost: at a quorum of the group's seats the stripe's stamps are at or above one that is above v, and fewer than m of
--- these seats hold v.
+-- Version v of the stripe is lost: at a quorum of the group's seats the stripe's stamps are at or above one
+-- that is above v, and fewer than m of these seats hold v.
 pub record IsLost (w : World) (g s : ℕ) (group : Group) (v : Stamp) : Type 0 where
   pub seats : ℕ → Bool
   pub stamp : Stamp
@@ -220,7 +224,8 @@ NeverSurfaces =
     (setting : Setting) (events more : List Event) (g s : ℕ) (group : Group) (v : Stamp) → IsSound setting → group_of setting.layout g ≡ Some group
     → (let w = run setting events (first_world setting.layout) in IsLost w g s group v → IsHeldByQuorum (run setting more w) g s group v → ⊥)
 
--- the laws hold in every world that a run reaches, for every layout within the limits and every code that gives back what it encodes
+-- the laws hold in every world that a run reaches, for every layout within the limits and every code that
+-- gives back what it encodes
 abbrev pub EveryRunKeepsTheLaws : Type 0
 EveryRunKeepsTheLaws = (setting : Setting) (events : List Event) → IsSound setting → Laws setting (run setting events (first_world setting.layout))
 

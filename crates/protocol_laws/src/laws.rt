@@ -2,11 +2,11 @@
 
 ghost use Rattle.protocol_laws.specs.Laws.{EveryRunKeepsTheLaws, NeverSurfaces, NoEventLowers};
 
-/// Every run of the disk keeps its laws, whatever is asked of it, whatever its clocks read, whichever of its bricks stop and
-/// start again, and whichever of its messages are delivered, lost, repeated or overtaken.
+/// Every run of the disk keeps its laws, whatever is asked of it, whatever its clocks read, whichever of its
+/// bricks stop and start again, and whichever of its messages are delivered, lost, repeated or overtaken.
 ///
-/// This holds for every layout whose groups are within the limits of a quorum, and for every code that gives back what it
-/// encodes. The laws are these.
+/// This holds for every layout whose groups are within the limits of a quorum, and for every code that gives
+/// back what it encodes. The laws are these.
 ///
 /// - Each stripe is strictly linearizable (Aguilera and Frølund, "Strict Linearizability and the Power of Aborting", 2003):
 ///   its happenings, each between the begin and the end of its operation, make its blocks plain registers, and every operation
@@ -32,15 +32,15 @@ pub fn every_run_keeps_the_laws()
     ensures { EveryRunKeepsTheLaws }
 {}
 
-/// No event of any run lowers what a brick has promised or stored: the greater of a stripe's order stamp and its newest
-/// version's stamp never falls (Frølund et al., DSN 2004).
+/// No event of any run lowers what a brick has promised or stored: the greater of a stripe's order stamp and
+/// its newest version's stamp never falls (Frølund et al., DSN 2004).
 pub fn no_event_lowers()
     ensures { NoEventLowers }
 {}
 
-/// A version that is lost never surfaces: where a quorum has promised a stamp, or stored something as late, and fewer than m of
-/// it hold a version below that stamp, no quorum holds that version at any later time (Frølund et al., DSN 2004; Aguilera and
-/// Frølund 2003).
+/// A version that is lost never surfaces: where a quorum has promised a stamp, or stored something as late,
+/// and fewer than m of it hold a version below that stamp, no quorum holds that version at any later time
+/// (Frølund et al., DSN 2004; Aguilera and Frølund 2003).
 pub fn no_lost_version_surfaces()
     ensures { NeverSurfaces }
 {}

@@ -6,8 +6,8 @@ use Rattle.lines.specs.Lines.{Parts, parts}
 abbrev pub most_layout_bytes : ℕ
 most_layout_bytes = 1048576
 
--- A layout's text, and what stands on the lines of the schedule behind it; or an input whose layout's text is too long; or one without a line that
--- ends its layout.
+-- A layout's text, and what stands on the lines of the schedule behind it; or an input whose layout's text is
+-- too long; or one without a line that ends its layout.
 pub data Input : Type 0 where
   Parted : (layout : List ℕ) → (schedule : List (List ℕ)) → Input
   TooLong : Input

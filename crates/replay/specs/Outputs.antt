@@ -1,4 +1,5 @@
--- What is printed for an input: the texts of its lines, and what closes them; or why it has no layout, or where it is no schedule.
+-- What is printed for an input: the texts of its lines, and what closes them; or why it has no layout, or
+-- where it is no schedule.
 use Rattle.std.specs.Prelude.{ℕ, zero, suc, ◌+◌, Bool, true, false, nat_lt, List, [], ◌∷◌, ◌++◌, codes, count_by, Option, Some, None, Result, Ok, Err}
 use Rattle.std.specs.Fmt.{decimal}
 use Rattle.fab_base.specs.declared.answers.Answer.TheVariants.{Data, Done, Aborted}

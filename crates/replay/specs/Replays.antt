@@ -1,4 +1,5 @@
--- What the program `replay` promises: how it answers its words, what it prints of an input, and that what it prints is strict.
+-- What the program `replay` promises: how it answers its words, what it prints of an input, and that what it
+-- prints is strict.
 use Rattle.std.specs.Prelude.{◌≡◌, ℕ, ◌⊎◌, Bool, false, List, [], ◌∷◌, ◌++◌, length, ⊤, map, codes, Option, Some, None, Result, Ok, Err}
 use Rattle.std.specs.Str.{bytes_eq}
 use Rattle.std.specs.Io.KnownBytes.{Appends, IsAtEnd}
@@ -45,8 +46,8 @@ status_of (Ok TooManyLines) = 8
 abbrev pub usage_text : List ℕ
 usage_text = codes "usage: replay run | replay make SEED LINES" ++ newline
 
--- The words are refused: the sink took the usage line, and the status is 2. Where that line could not be written, the status is 6 or 7, and the
--- sink took some of it, from its front.
+-- The words are refused: the sink took the usage line, and the status is 2. Where that line could not be
+-- written, the status is 6 or 7, and the sink took some of it, from its front.
 abbrev pub Refuses : Option (List ℕ) → Option (List ℕ) → ℕ → Type 0
 Refuses old new status =
     ((status ≡ 2) × Appends old new usage_text) ⊎ (((status ≡ 6) ⊎ (status ≡ 7)) × AppendsFront old new usage_text)
@@ -60,8 +61,8 @@ lines_text setting w (line ∷ lines) = text_of setting w line ++ lines_text set
 abbrev pub left_by : Layout → List Line → World
 left_by layout lines = world_of (record { layout = layout; lines = lines })
 
--- What lines left is strict: the marks are well formed, the happenings of each stripe are strict for its marks, and every abort shows its evidence.
--- Beside these all laws of the disk hold of it.
+-- What lines left is strict: the marks are well formed, the happenings of each stripe are strict for its
+-- marks, and every abort shows its evidence. Beside these all laws of the disk hold of it.
 pub record IsStrictWorld (layout : Layout) (world : World) : Type 0 where
   pub well_formed : IsWellFormed world.marks
   pub strict : (g s : ℕ) (group : Group) → group_of layout g ≡ Some group
@@ -69,8 +70,8 @@ pub record IsStrictWorld (layout : Layout) (world : World) : Type 0 where
   pub aborts_show : AbortsShow world
   pub laws : Laws (coding layout) world
 
--- What was printed is strict. The input has a layout and a schedule, every line of the schedule was run, and the text is theirs and then the
--- happenings of each stripe in the world that they leave, which is strict.
+-- What was printed is strict. The input has a layout and a schedule, every line of the schedule was run, and
+-- the text is theirs and then the happenings of each stripe in the world that they leave, which is strict.
 pub record IsLinearizable (input : Input) (text : List ℕ) : Type 0 where
   pub head : List ℕ
   pub layout : Layout
@@ -93,16 +94,18 @@ pub record BeginsWith (input : Input) (layout : Layout) (lines : List Line) : Ty
   pub layout_is : layout_of head ≡ Ok layout
   pub lines_are : map line_of schedule ≡ map Some lines
 
--- However far a run comes, what its lines left by then is strict, and what further lines leave follows it: no brick has lowered what it had promised
--- or stored, and no version that was lost has surfaced.
+-- However far a run comes, what its lines left by then is strict, and what further lines leave follows it: no
+-- brick has lowered what it had promised or stored, and no version that was lost has surfaced.
 pub record StaysStrict (input : Input) : Type 0 where
   pub strict : (layout : Layout) (lines : List Line) → BeginsWith input layout lines → IsStrictWorld layout (left_by layout lines)
   pub follows : (layout : Layout) (lines more : List Line) → BeginsWith input layout (lines ++ more)
       → Succeeds layout (left_by layout lines) (left_by layout (lines ++ more))
 
--- A run. There is an input, of which what the source tells is the bytes, and an end, of which the status tells. The sink took the whole output of
--- the input, which ends so, or, where the run was stopped from outside, some of the output, from its front. Where all was run, the source is at its
--- end, and what was printed is strict; and however far it came, what its lines left is strict, and what further lines leave follows it.
+-- A run. There is an input, of which what the source tells is the bytes, and an end, of which the status
+-- tells. The sink took the whole output of the input, which ends so, or, where the run was stopped from
+-- outside, some of the output, from its front. Where all was run, the source is at its end, and what was
+-- printed is strict; and however far it came, what its lines left is strict, and what further lines leave
+-- follows it.
 pub record RunEnds (source source_after sink sink_after : Option (List ℕ)) (status : ℕ) : Type 0 where
   pub input : Input
   pub ending : Result Verdict Halt

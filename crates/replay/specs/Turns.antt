@@ -19,7 +19,8 @@ use Rattle.replay.specs.declared.heads.Head.TheVariants.{Text}
 use Rattle.replay.specs.Inputs.{Input, Parted, TooLong, Endless, most_layout_bytes, IsInput}
 use Rattle.replay.specs.Outputs.{Output, output_from, output_of}
 
--- the sink took the whole output, which ends so; or a run that was stopped gave it some of the output, from its front
+-- the sink took the whole output, which ends so; or a run that was stopped gave it some of the output, from
+-- its front
 abbrev pub Prints : Option (List ℕ) → Option (List ℕ) → Output → Result Verdict Halt → Type 0
 Prints old new output (Ok verdict) = (output.verdict ≡ verdict) × Appends old new output.text
 Prints old new output (Err halt) = AppendsFront old new output.text
@@ -47,11 +48,13 @@ pub record LineRuns (before after : Run) (content : List ℕ) (old new : Option 
   pub run : after ≡ with_line before line
   pub printed : Appends old new (text_of (coding before.layout) (world_of before) line)
 
--- a line was run and printed; or it is no line; or a run that was stopped printed some of its text, from the front
+-- a line was run and printed; or it is no line; or a run that was stopped printed some of its text, from the
+-- front
 abbrev pub LineMeans : Run → Run → List ℕ → Option (List ℕ) → Option (List ℕ) → Result Bool Halt → Type 0
 LineMeans before after content old new (Ok true) = LineRuns before after content old new
 LineMeans before after content old new (Ok false) = (line_of content ≡ None) × (after ≡ before) × Keeps old new
-LineMeans before after content old new (Err halt) = AppendsFront old new (line_text (coding before.layout) (world_of before) (line_of content))
+LineMeans before after content old new (Err halt) =
+    AppendsFront old new (line_text (coding before.layout) (world_of before) (line_of content))
 
 -- the next line of the source was run and printed
 pub record TurnRuns (before after : Run) (left rest old new : Option (List ℕ)) : Type 0 where
@@ -71,7 +74,8 @@ pub record PrintsHeaded (head : List ℕ) (left old new : Option (List ℕ)) (re
   pub are_lines : AreLinesOf left schedule
   pub printed : Prints old new (output_of (Parted head schedule)) result
 
--- What was read before the schedule of an input: a text within the limit, and the line that ends it; or what else the input is.
+-- What was read before the schedule of an input: a text within the limit, and the line that ends it; or what
+-- else the input is.
 abbrev pub HeadMeans : Option (List ℕ) → Option (List ℕ) → Head → Type 0
 HeadMeans start now (Text text) = (length text.items ≤ most_layout_bytes) × ReadsSchedule start now text.items []
 HeadMeans start now Head.TooLong = IsInput start TooLong

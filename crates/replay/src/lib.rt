@@ -1,5 +1,5 @@
-//! The program `replay`: runs a layout and a recorded schedule over a simulated disk, and prints each answer and when each request took
-//! effect.
+//! The program `replay`: runs a layout and a recorded schedule over a simulated disk, and prints each answer
+//! and when each request took effect.
 #![tactic(auto)]
 
 mod endings;

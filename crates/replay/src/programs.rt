@@ -23,17 +23,20 @@ use std::alloc::Global;
 /// | 7 | no memory was left | nothing more; what was taken is a prefix of the output |
 /// | 8 | there are more than 1,048,576 lines; the first 1,048,576 were run and printed | `too many lines` |
 ///
-/// For every schedule that `replay` accepts, the happenings printed for each stripe make its blocks plain registers: each answered
-/// operation happens once between its invocation and its answer, each aborted or interrupted one between its invocation and its abort or
-/// crash, or never, and each read answers what the registers then hold.
+/// For every schedule that `replay` accepts, the happenings printed for each stripe make its blocks plain
+/// registers: each answered operation happens once between its invocation and its answer, each aborted or
+/// interrupted one between its invocation and its abort or crash, or never, and each read answers what the
+/// registers then hold.
 ///
-/// This is strict linearizability (Aguilera and Frølund, "Strict Linearizability and the Power of Aborting", 2003). It rests on these
-/// definitions: what is printed for an input is `output_of` (`specs/Outputs.antt`), and `IsLinearizable` (`specs/Replays.antt`) says
-/// that the happenings printed for each stripe are strict for its marks, `IsStrict` (`specs/Strict.antt` of `reg_model`). The schedules
-/// that are accepted are those that end with status 0.
+/// This is strict linearizability (Aguilera and Frølund, "Strict Linearizability and the Power of Aborting",
+/// 2003). It rests on these definitions: what is printed for an input is `output_of` (`specs/Outputs.antt`),
+/// and `IsLinearizable` (`specs/Replays.antt`) says that the happenings printed for each stripe are strict
+/// for its marks, `IsStrict` (`specs/Strict.antt` of `reg_model`). The schedules that are accepted are those
+/// that end with status 0.
 ///
-/// However far a run comes, all laws of the disk hold of what its lines left (`Laws` of `protocol`), and what further lines leave follows
-/// it: no brick has lowered what it had promised or stored, and no version that was lost has surfaced (`Succeeds`, `specs/Histories.antt`).
+/// However far a run comes, all laws of the disk hold of what its lines left (`Laws` of `protocol`), and what
+/// further lines leave follows it: no brick has lowered what it had promised or stored, and no version that
+/// was lost has surfaced (`Succeeds`, `specs/Histories.antt`).
 pub fn replay<S: Source, K: Sink>(
     alloc: Global,
     words: &[String],
@@ -52,7 +55,8 @@ pub fn replay<S: Source, K: Sink>(
     ensures source { Kept (S.faults source.old) (S.faults source.new) (S.sound source.old) (S.sound source.new) (result ≡ 5) }
     ensures sink { Kept (K.faults sink.old) (K.faults sink.new) (K.sound sink.old) (K.sound sink.new) (result ≡ 6) }
 
-    // Over sound ends a run answers what the input alone calls for, as 0 for a legal one, or that memory was lacking.
+    // Over sound ends a run answers what the input alone calls for, as 0 for a legal one, or that memory was
+    // lacking.
     ensures decided { asks_run (map string_bytes words.now) ≡ true → S.sound source.old → K.sound sink.old
         → IsDecided (S.told source.old) result }
 {

@@ -105,7 +105,8 @@ fn run_line<K: Sink>(world: &mut World, sink: &mut K, content: &[u8]) -> Result<
     }
 }
 
-/// Reads the next line after this many, runs it and writes its text, and answers how the run ends, where it does.
+/// Reads the next line after this many, runs it and writes its text, and answers how the run ends, where it
+/// does.
 pub(crate) fn take_turn<S: Source, K: Sink>(
     alloc: Global,
     world: &mut World,

@@ -61,4 +61,5 @@ world_of r = after_lines (coding r.layout) (first_world r.layout) r.lines
 
 -- why a brick does not begin an operation, where it does not: it is not up, or it refuses
 abbrev pub refusal_at : Setting → World → BrickId → Ask → Option Refusal
-refusal_at setting w brick ask = if is_up setting.layout w brick then refusal_of setting.layout (w.nodes brick.0) ask else Some Down
+refusal_at setting w brick ask =
+    if is_up setting.layout w brick then refusal_of setting.layout (w.nodes brick.0) ask else Some Down

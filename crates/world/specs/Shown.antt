@@ -47,7 +47,8 @@ pub record TellsOperation (kept : KeptOperation) (o : Operation) : Type 0 where
 -- what is kept of the operations, from the first, is the machine's
 abbrev pub TellsOperations : List KeptOperation → (ℕ → Option Operation) → Type 0
 TellsOperations kept operations =
-    (n : ℕ) (one : KeptOperation) → slice_get kept n ≡ Some one → (o : Operation) × (operations (n + 1) ≡ Some o) × TellsOperation one o
+    (n : ℕ) (one : KeptOperation) → slice_get kept n ≡ Some one
+    → (o : Operation) × (operations (n + 1) ≡ Some o) × TellsOperation one o
 
 -- what is kept of an operation that made a version, on this base
 abbrev pub made_kept : Stamp → Option Stamp → KeptOperation → KeptOperation
@@ -62,7 +63,8 @@ abbrev pub ChangesAt : List KeptOperation → List KeptOperation → ℕ → (Ke
 ChangesAt old new number change =
     (n : ℕ) → slice_get new n ≡ (if nat_eq (n + 1) number then option_map change (slice_get old n) else slice_get old n)
 
--- A brick that runs: it is this brick of this layout, the machine sees this of it, it is not halted, and its disk is sound.
+-- A brick that runs: it is this brick of this layout, the machine sees this of it, it is not halted, and its
+-- disk is sound.
 pub record IsRunning (layout : Layout) (me : BrickId) (state : machine.Node) (node : Running MemDisk) : Type 0 where
   pub layout_is : node.layout ≡ layout
   pub me_is : node.me ≡ me
@@ -91,7 +93,8 @@ pub record ShowsBrick (layout : Layout) (i : ℕ) (brick : Brick) (node : machin
   pub power : ShowsPower layout (brick_of i) node up brick.power
   pub clock : brick.clock ≡ time
 
--- The bricks, which of them are up, and their clocks show the machine's: there is one for each number of the layout.
+-- The bricks, which of them are up, and their clocks show the machine's: there is one for each number of the
+-- layout.
 pub record ShowsBricks (layout : Layout) (bricks : List Brick) (nodes : ℕ → machine.Node) (up : ℕ → Bool) (clocks : ℕ → ℕ) : Type 0 where
   pub count : length bricks ≡ layout.bricks
   pub each : (i : ℕ) (brick : Brick) → slice_get bricks i ≡ Some brick → ShowsBrick layout i brick (nodes i) (up i) (clocks i)
@@ -119,20 +122,23 @@ pub record IsUp (layout : Layout) (bricks : List Brick) (brick : BrickId) : Type
 
 -- the brick of a number was found up, or there is none that is
 abbrev pub FindsUp : Layout → List Brick → ℕ → Option BrickId → Type 0
-FindsUp layout bricks number None = (w : World) → ShowsBricks layout bricks w.nodes w.up w.clocks → is_up layout w (brick_of number) ≡ false
+FindsUp layout bricks number None =
+    (w : World) → ShowsBricks layout bricks w.nodes w.up w.clocks → is_up layout w (brick_of number) ≡ false
 FindsUp layout bricks number (Some brick) = (brick ≡ brick_of number) × IsUp layout bricks brick
 
--- A brick that was to start: it did exactly where it was down and its store may be opened once more, and else, or where memory was
--- refused, it shows what it showed.
+-- A brick that was to start: it did exactly where it was down and its store may be opened once more, and
+-- else, or where memory was refused, it shows what it showed.
 abbrev pub TurnsOn : Layout → BrickId → machine.Node → Bool → Power → Result Bool NoMem → Type 0
-TurnsOn layout me state up power (Ok true) = (not up && machine.may_open 1 state ≡ true) × ShowsPower layout me (machine.restarted 1 state) true power
+TurnsOn layout me state up power (Ok true) =
+    (not up && machine.may_open 1 state ≡ true) × ShowsPower layout me (machine.restarted 1 state) true power
 TurnsOn layout me state up power (Ok false) = (not up && machine.may_open 1 state ≡ false) × ShowsPower layout me state up power
 TurnsOn layout me state up power (Err refused) = ShowsPower layout me state up power
 
 -- the bricks after one of them was to start: it did, or no brick has changed
 abbrev pub ShowsAfterStart : Layout → BrickId → World → List Brick → Bool → Type 0
 ShowsAfterStart layout brick w bricks true =
-    ShowsBricks layout bricks (machine.put w.nodes brick.0 (machine.restarted 1 (w.nodes brick.0))) (machine.put w.up brick.0 true) w.clocks
+    ShowsBricks layout bricks (machine.put w.nodes brick.0 (machine.restarted 1 (w.nodes brick.0)))
+    (machine.put w.up brick.0 true) w.clocks
 ShowsAfterStart layout brick w bricks false = ShowsBricks layout bricks w.nodes w.up w.clocks
 
 -- a brick started exactly where it may
@@ -140,8 +146,8 @@ pub record ShowsStarted (layout : Layout) (brick : BrickId) (w : World) (bricks 
   pub may : started ≡ may_start layout w brick 1
   pub after : ShowsAfterStart layout brick w bricks started
 
--- The history tells the machine's world: every message, every mark, each operation, and the numbers of the calls so far of each brick's
--- present boot.
+-- The history tells the machine's world: every message, every mark, each operation, and the numbers of the
+-- calls so far of each brick's present boot.
 pub record Tells (history : History) (w : World) : Type 0 where
   pub packets : history.sent.items ≡ w.packets
   pub marks : history.marks.items ≡ w.marks

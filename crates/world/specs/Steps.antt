@@ -22,7 +22,8 @@ pub record Ran (old new : Run) (content text : List ℕ) : Type 0 where
   pub run : new ≡ with_line old line
   pub text_is : text ≡ text_of (coding old.layout) (world_of old) line
 
--- what a step that answers no text leaves: no line changes nothing; for want of memory nothing was run, or only the text is missing
+-- what a step that answers no text leaves: no line changes nothing; for want of memory nothing was run, or
+-- only the text is missing
 abbrev pub Stands : Run → Run → List ℕ → Result (List ℕ) StepFault → Type 0
 Stands old new content (Ok text) = Unit {0}
 Stands old new content (Err BadLine) = new ≡ old
@@ -36,4 +37,5 @@ is_stripe (Some group) s = nat_lt s group.stripes
 -- the log of a brick's part of a stripe, where there is such a brick, it is up, and there is such a stripe
 abbrev pub log_at : Run → ℕ → ℕ → ℕ → Option (List Version)
 log_at r b g s =
-    if is_stripe (group_of r.layout g) s && is_up r.layout (world_of r) (brick_of b) then Some (((world_of r).nodes b).replicas g s).log else None
+    if is_stripe (group_of r.layout g) s && is_up r.layout (world_of r) (brick_of b)
+    then Some (((world_of r).nodes b).replicas g s).log else None

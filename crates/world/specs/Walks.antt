@@ -1,4 +1,5 @@
--- What the operations that a world keeps say of the machine's world: enough to tell the happenings of a stripe.
+-- What the operations that a world keeps say of the machine's world: enough to tell the happenings of a
+-- stripe.
 use Rattle.std.specs.Prelude.{◌≡◌, ℕ, zero, suc, Bool, if◌then◌else◌, List, [], length, reverse, Option, Some, None, option_map, unwrap_or, slice_get}
 use Rattle.std.specs.declared.cmp.Ordering.{Ordering}
 use Rattle.std.specs.Ordering.{nat_cmp, ordering_then}
@@ -62,7 +63,8 @@ begin_at (Some o) = o.begin
 
 -- each entry's operation begins where the marks say
 abbrev pub BeginAsMarked : (ℕ → Option Operation) → List Mark → List Entry → Type 0
-BeginAsMarked operations marks entries = All (λ (e : Entry). begin_at (operations e.operation) ≡ begin_of (life_of marks e.operation)) entries
+BeginAsMarked operations marks entries =
+    All (λ (e : Entry). begin_at (operations e.operation) ≡ begin_of (life_of marks e.operation)) entries
 
 -- the entries of a stripe among those that were gathered
 abbrev pub entries_at : StripeEntries → ℕ → ℕ → List Entry
@@ -82,8 +84,8 @@ stamp_cmp a b =
 abbrev pub Holds : BTreeSet Stamp → List Stamp → Type 0
 Holds set stamps = (t : Stamp) → contains stamp_cmp set t ≡ is_among t stamps
 
--- A sweep has come to an effect, from the greatest entry down: it has put each thing that is told behind those of the entries above, and has
--- the versions that are needed.
+-- A sweep has come to an effect, from the greatest entry down: it has put each thing that is told behind
+-- those of the entries above, and has the versions that are needed.
 pub record HasSwept (sweep : Sweep) (effect : Effect) : Type 0 where
   pub told : sweep.told.items ≡ reverse effect.told
   pub needed : Holds sweep.needed effect.needed

@@ -51,8 +51,8 @@ impl Power {
         }
     }
 
-    /// Starts the brick over its disk, where it is down and its store can be opened once more. Answers whether it did. The brick
-    /// shows what it showed where it did not, and where memory is refused.
+    /// Starts the brick over its disk, where it is down and its store can be opened once more. Answers
+    /// whether it did. The brick shows what it showed where it did not, and where memory is refused.
     pub fn on(self, alloc: Global, layout: &Layout, me: BrickId) -> (Power, Result<bool, NoMem>)
         requires { IsNodeOf layout.now me.0 self }
         ensures { (state : _) (up : _) → ShowsPower layout.now me state up self → TurnsOn layout.now me state up result.0 result.1 }
@@ -234,8 +234,8 @@ pub fn stop_brick(bricks: &mut Vec<Brick>, alloc: Global, number: BrickId)
     brick.power = power.off();
 }
 
-/// Starts a brick, where it is down and its store can be opened once more. Answers whether it did; the bricks show what they showed
-/// where it did not, and where memory is refused.
+/// Starts a brick, where it is down and its store can be opened once more. Answers whether it did; the bricks
+/// show what they showed where it did not, and where memory is refused.
 pub fn start_brick(
     bricks: &mut Vec<Brick>,
     alloc: Global,

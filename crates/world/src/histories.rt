@@ -14,7 +14,8 @@ use reg_model::Mark;
 use std::alloc::Global;
 use std::collections::BTreeMap;
 
-/// The most packets that a step of a brick sends on a message or for an operation that begins: one to each member of a group.
+/// The most packets that a step of a brick sends on a message or for an operation that begins: one to each
+/// member of a group.
 const MOST_PACKETS: usize = 32;
 
 /// What is kept of an operation.
@@ -38,8 +39,9 @@ pub struct KeptOperation {
     pub answered: bool,
 }
 
-/// What happened. Operations are by number, from 1, and the number of an operation by its brick and call. A brick that starts again counts its
-/// calls from 1: what was kept of its calls before then stays until it is written over, and is never asked for.
+/// What happened. Operations are by number, from 1, and the number of an operation by its brick and call. A
+/// brick that starts again counts its calls from 1: what was kept of its calls before then stays until it is
+/// written over, and is never asked for.
 #[derive(Drop)]
 pub struct History {
     pub sent: Vec<Packet>,
@@ -160,7 +162,8 @@ impl History {
         Ok(())
     }
 
-    /// Makes room for what one step of a brick adds, and gives the number of the next operation to the brick's next call, if one is left.
+    /// Makes room for what one step of a brick adds, and gives the number of the next operation to the
+    /// brick's next call, if one is left.
     pub fn expect_call(&mut self, brick: BrickId, next: Option<u64>) -> Result<(), NoMem>
         ensures room { OnOk result (HasStepRoom self.new) }
         ensures number { OnOk result (ForSome next (λ seq. (w : World) → Tells self.old w

@@ -1,4 +1,5 @@
-//! The whole disk over simulated bricks: a schedule's lines are run one after another, and each tells what it marks.
+//! The whole disk over simulated bricks: a schedule's lines are run one after another, and each tells what it
+//! marks.
 #![tactic(auto)]
 
 mod bricks;

@@ -36,7 +36,8 @@ pub enum Outcome {
 
 /// The stripe of these numbers. None exactly where there is none.
 fn place_of(layout: &Layout, group: u64, stripe: u64) -> Option<(GroupId, StripeNo)>
-    ensures none { IfNone result ((node : machine.Node) (op : _) → refusal_of layout.now node (ask_of group stripe op) ≡ Some Refusal.NoStripe) }
+    ensures none { IfNone result ((node : machine.Node) (op : _)
+        → refusal_of layout.now node (ask_of group stripe op) ≡ Some Refusal.NoStripe) }
     ensures some { IfSome result (λ place. (place.0.0 ≡ group) × (place.1.0 ≡ stripe)) }
 {
     if group >= layout.group_count() as u64 {

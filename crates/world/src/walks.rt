@@ -118,7 +118,8 @@ impl Sweep {
         }
     }
 
-    /// Takes the entry below those so far. It is effective where its operation was answered, or where its version is needed.
+    /// Takes the entry below those so far. It is effective where its operation was answered, or where its
+    /// version is needed.
     fn take(&mut self, operations: &[KeptOperation], entry: Entry) -> Result<(), NoMem>
         ensures { OnOk result ((above : Effect) → HasSwept self.old above
             → HasSwept self.new (with_entry (operations_of operations.now entry.operation) entry above)) }
@@ -186,8 +187,9 @@ fn along(
     Ok(happenings)
 }
 
-/// The happenings of the stripe whose entries these are: along its effective versions by rising stamp, the maker, where it writes or was
-/// answered, and then the reads that answered it at once, by number, each at the greatest begin so far.
+/// The happenings of the stripe whose entries these are: along its effective versions by rising stamp, the
+/// maker, where it writes or was answered, and then the reads that answered it at once, by number, each at
+/// the greatest begin so far.
 pub fn happenings(
     alloc: Global,
     operations: &[KeptOperation],

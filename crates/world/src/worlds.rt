@@ -156,8 +156,8 @@ impl World {
         self.simulation.history.sent.as_slice()
     }
 
-    /// A brick's part of a stripe, with its log, oldest version first. None exactly where there is no such group or stripe, or no such brick
-    /// that is up.
+    /// A brick's part of a stripe, with its log, oldest version first. None exactly where there is no such
+    /// group or stripe, or no such brick that is up.
     pub fn log_of(
         &self,
         brick: BrickId,
@@ -201,7 +201,8 @@ impl World {
         )
     }
 
-    /// The happenings of a stripe, in order. For those of many stripes, `stripe_entries` is to be called once.
+    /// The happenings of a stripe, in order. For those of many stripes, `stripe_entries` is to be called
+    /// once.
     pub fn happenings(&self, group: GroupId, stripe: StripeNo) -> Result<Vec<Happening>, NoMem>
         ensures { IfOk result (λ happenings. happenings.items ≡ happenings_of (world_of self.now) group.0 stripe.0) }
     {
