@@ -12,3 +12,4 @@ pub mod Moments
 pub mod Steps
 pub mod Requests
 pub mod Starts
+pub mod Sent

@@ -1,21 +1,22 @@
--- What a brick does with a request, over its store.
+-- What a brick does with a message that it serves, over its store.
 use Rattle.std.proofs.Common.{◌≡◌, ℕ, ◌&&◌, List, Option, Some, None, inl, inr, refl, sym, ◌∙◌, ap, subst}
+use Rattle.std.specs.Prelude.{slice_index_or}
 use Rattle.std.proofs.lemmas.Bool.{cond_both}
 use Rattle.fab_base.specs.declared.identities.BrickId.{BrickId}
 use Rattle.messages.specs.declared.calls.Call.{Call}
-use Rattle.messages.specs.declared.replies.Reply.{Reply}
+use Rattle.messages.specs.declared.packets.Message.{Message}
 use Rattle.messages.specs.declared.requests.Request.{Request}
 use Rattle.frame_store.specs.declared.shapes.Shape.{Shape}
 use Rattle.version_log.specs.Versions.{Version}
-use Rattle.brick_state.specs.States.{StateOf}
+use Rattle.brick_state.specs.declared.groups.Group.{Group as Kept}
+use Rattle.brick_state.specs.States.{StateOf, no_group}
 use Rattle.brick_store.specs.Bricks.{Brick}
 use Rattle.brick_store.specs.Images.{StandsFor}
 use Rattle.fab_base.specs.Layouts.{Layout, Group, group_of, seat_in}
-use Rattle.protocol.specs.Nodes.{Node, NodeStep, no_step, requested, requested_in, requested_at, reply_packets, is_served, fits_block}
+use Rattle.protocol.specs.Nodes.{Node, NodeStep, no_step, requested_in, requested_at, is_served, fits_block}
 use Rattle.protocol.specs.declared.tellings.Told.TheVariants.{Nothing}
-use Rattle.stripe_code.specs.Codes.{coding}
-use Rattle.replica.specs.Parts.{IsPartsOf}
-use Rattle.replica.specs.Reactions.{IsStep}
+use Rattle.replica.specs.Parts.{IsPartsOf, IsFirstView}
+use Rattle.replica.specs.Reactions.{IsStep, member_step, answer_packets}
 use Rattle.replica.specs.Handling.{me_of, OpensAsEither}
 use Rattle.node.specs.declared.open_calls.OpenCalls.{OpenCalls}
 use Rattle.node.specs.Running.{running, state_of, shape_at, IsKept, ShowsEither}
@@ -47,55 +48,66 @@ keeps_calls layout me from node call request (Some group) =
     cond_both (is_served group call && fits_block layout.block request) _ _ (λ (step : NodeStep). KeepsCalls node step)
     (λ valid. at_seat layout.records me from node call request (seat_in group.members me.0)) (λ void. same_calls node)
 
+-- so does each message that a member serves
+serves_calls : (layout : Layout) (me from : BrickId) (node : Node) (message : Message) → KeepsCalls node (member_step layout me from node message)
+serves_calls layout me from node (Message.Request call request) = keeps_calls layout me from node call request (group_of layout call.group.0)
+serves_calls layout me from node (Message.Reply call reply) = same_calls node
+serves_calls layout me from node (Message.Learn group view) = same_calls node
+serves_calls layout me from node (Message.Synced group view) = same_calls node
+serves_calls layout me from node (Message.Client ask) = same_calls node
+serves_calls layout me from node (Message.ClientReply id answer) = same_calls node
+
+-- a state of the same groups has learnt no later view either
+pub first_view_after : (before after : StateOf Version) → after.groups ≡ before.groups → IsFirstView before → IsFirstView after
+first_view_after before after groups view g = ap (λ (gs : List Kept). (slice_index_or gs g no_group).known) groups ∙ view g
+
 -- the machine's brick that a store's state and the open calls show
-module _ {D : Type 0} (layout : Layout) (calls : OpenCalls) (old : Brick D) (from : BrickId) (call : Call) (request : Request) where
+module _ {D : Type 0} (layout : Layout) (calls : OpenCalls) (old : Brick D) (from : BrickId) (message : Message) where
   -- the store is the brick's
   pub is_me : old.shape ≡ shape_at layout calls.me → me_of old ≡ calls.me
   is_me shape = ap (λ (s : Shape). record { 0 = s.me }) shape
 
-  -- the brick after the request
-  abbrev after : Node
-  after = (requested (coding layout) calls.me from (state_of (running layout calls old)) call request).node
+  -- the brick after the message
+  abbrev after : NodeStep
+  after = member_step layout calls.me from (state_of (running layout calls old)) message
+
+  abbrev Follows : Option Message → StateOf Version → Type 0
+  Follows = IsStep layout calls.me from message old.state
 
   seen_parts : IsPartsOf layout.block old.state (state_of (running layout calls old))
   unfolding state_of
   seen_parts = record { boot = refl; live = refl; replicas = λ g s. refl }
 
   -- the state of a store that follows is the machine's
-  pub follows_state : (new : Brick D) (reply : Option Reply) → IsStep layout calls.me call request old.state reply new.state
-      → state_of (running layout calls new) ≡ after
-  unfolding state_of requested
-  follows_state new reply is =
+  pub follows_state : (new : Brick D) (answer : Option Message) → Follows answer new.state → state_of (running layout calls new) ≡ after.node
+  unfolding state_of
+  follows_state new answer is =
       let node = state_of (running layout calls old) in
-      let keeps = keeps_calls layout calls.me from node call request (group_of layout call.group.0) in
-      let parts = is.parts from node (record { boot = refl; live = refl; replicas = λ g s. refl }) in
+      let keeps = serves_calls layout calls.me from node message in
+      let parts = is.parts node (record { boot = refl; live = refl; replicas = λ g s. refl }) in
       same_states _ _ (sym parts.boot) (sym keeps.seq) (sym keeps.known) (sym keeps.busy) (sym parts.live) (λ g s. sym (parts.replicas g s))
       (λ k. ap (λ (f : ℕ → Option _). f k) (sym keeps.calls))
 
   -- it was opened as often as before
-  pub follows_boot : (new : Brick D) (reply : Option Reply) → IsStep layout calls.me call request old.state reply new.state
-      → calls.boot ≡ old.state.boot → calls.boot ≡ new.state.boot
+  pub follows_boot : (new : Brick D) (answer : Option Message) → Follows answer new.state → calls.stamps.boot ≡ old.state.boot
+      → calls.stamps.boot ≡ new.state.boot
   unfolding state_of
-  follows_boot new reply is boot =
+  follows_boot new answer is boot =
       let node = state_of (running layout calls old) in
-      boot ∙ sym (keeps_calls layout calls.me from node call request (group_of layout call.group.0)).boot ∙ (is.parts from node seen_parts).boot
+      boot ∙ sym (serves_calls layout calls.me from node message).boot ∙ (is.parts node seen_parts).boot
 
-  -- the reply that follows is the machine's
-  pub follows_packets : (st : StateOf Version) (reply : Option Reply) → IsStep layout calls.me call request old.state reply st
-      → (requested (coding layout) calls.me from (state_of (running layout calls old)) call request).packets ≡ reply_packets calls.me from call reply
-  unfolding requested
-  follows_packets st reply is = is.packets from (state_of (running layout calls old)) seen_parts
+  -- the answer that follows is the machine's
+  pub follows_packets : (st : StateOf Version) (answer : Option Message) → Follows answer st → after.packets ≡ answer_packets calls.me from answer
+  follows_packets st answer is = is.packets (state_of (running layout calls old)) seen_parts
 
   -- and tells nothing
-  pub follows_told : Nothing ≡ (requested (coding layout) calls.me from (state_of (running layout calls old)) call request).told
-  unfolding requested
-  follows_told = sym (keeps_calls layout calls.me from (state_of (running layout calls old)) call request (group_of layout call.group.0)).told
+  pub follows_told : Nothing ≡ after.told
+  follows_told = sym (serves_calls layout calls.me from (state_of (running layout calls old)) message).told
 
-  -- an image that opens as what follows shows the brick after the request
+  -- an image that opens as what follows shows the brick after the message
   pub follows_shown : old.shape ≡ shape_at layout calls.me → IsKept layout.block old.state (state_of (running layout calls old)) → (image : List ℕ)
-      → OpensAsEither old.shape old.state (IsStep layout calls.me call request old.state) image
-      → ShowsEither layout calls.me (state_of (running layout calls old)) after image
-  unfolding requested
+      → OpensAsEither old.shape old.state Follows image
+      → ShowsEither layout calls.me (state_of (running layout calls old)) after.node image
   follows_shown shape kept image (inl stands) = inl (shows_so layout calls.me (state_of (running layout calls old)) old image shape kept stands)
   follows_shown shape kept image (inr follows) =
       let st = follows.0 in
@@ -103,6 +115,6 @@ module _ {D : Type 0} (layout : Layout) (calls : OpenCalls) (old : Brick D) (fro
       inr (record {
         st = st;
         stands = subst (λ (s : Shape). StandsFor s st image) shape follows.2;
-        parts = is.parts from (state_of (running layout calls old)) seen_parts;
-        first = is.view;
+        parts = is.parts (state_of (running layout calls old)) seen_parts;
+        first = first_view_after old.state st is.groups kept.first;
       })

@@ -23,7 +23,7 @@ fresh_node boot parts = record { boot = boot; seq = 0; known = 0; busy = 0; live
 
 -- over a store that was opened once more, the brick is the one that the image showed, restarted
 pub restarts_so : {D : Type 0} (layout : Layout) (me : BrickId) (calls : OpenCalls) (store : Brick D) (boot : ℕ) (node : Node) (image : List ℕ)
-    → calls.boot ≡ store.state.boot → boot ≡ store.state.boot → ((parts : Parts) → state_with parts calls ≡ fresh_node boot parts)
+    → calls.stamps.boot ≡ store.state.boot → boot ≡ store.state.boot → ((parts : Parts) → state_with parts calls ≡ fresh_node boot parts)
     → (shows : ImageShows layout me node image) → store.state ≡ booted (shows.st.boot + 1) shows.st
     → state_of (running layout calls store) ≡ restarted 1 node
 unfolding restarted

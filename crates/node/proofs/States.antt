@@ -1,6 +1,7 @@
 -- When two states of a brick are the same.
 use Rattle.std.proofs.Common.{◌≡◌, ℕ, Result, Ok, Err, sym, subst}
 use Rattle.std.specs.Result.{OnOk, OnErr}
+use Rattle.fab_base.specs.declared.identities.BrickId.{BrickId}
 use Rattle.protocol.specs.Nodes.{Node, NodeStep}
 use Rattle.node.specs.declared.outs.Outs.{Outs}
 use Rattle.node.specs.States.{StepsAs}
@@ -12,8 +13,8 @@ same_states a b boot seq known busy live replicas calls =
     λ i. record { boot = boot i; seq = seq i; known = known i; busy = busy i; live = live i; replicas = λ g s. replicas g s i; calls = λ k. calls k i }
 
 -- a step is the machine's, if it is an equal one
-pub steps_as : (state : Node) (a b : NodeStep) (outs : Outs) → a ≡ b → StepsAs state b outs → StepsAs state a outs
-steps_as state a b outs e h = subst (λ (step : NodeStep). StepsAs state step outs) (sym e) h
+pub steps_as : (me : BrickId) (state : Node) (a b : NodeStep) (outs : Outs) → a ≡ b → StepsAs me state b outs → StepsAs me state a outs
+steps_as me state a b outs e h = subst (λ (step : NodeStep). StepsAs me state step outs) (sym e) h
 
 -- what holds in any case holds at an answer, and at an error
 pub on_ok : {T E P : Type 0} (r : Result T E) → P → OnOk r P

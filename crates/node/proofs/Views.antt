@@ -34,7 +34,7 @@ map_lookup f test (e ∷ es) =
 
 module _ {D : Type 0} (layout : Layout) (calls : OpenCalls) (store : Brick D) where
   -- the machine sees the store's parts, and the open calls
-  pub seen_so : calls.boot ≡ store.state.boot → state_of (running layout calls store) ≡ state_with (parts_in layout.block store.state) calls
+  pub seen_so : calls.stamps.boot ≡ store.state.boot → state_of (running layout calls store) ≡ state_with (parts_in layout.block store.state) calls
   unfolding state_of state_with
   seen_so boot =
       same_states _ _ (sym boot) refl refl (map_length (λ e. (e.0, coordinator_of e.1)) calls.operations.entries) refl (λ g s. refl)

@@ -49,7 +49,7 @@ coordinators operations = map (λ e. (e.0, coordinator_of e.1)) operations.entri
 -- the brick of this layout that has these calls open, over this store
 abbrev pub running : {D : Type 0} → Layout → OpenCalls → Brick D → Running D
 running layout calls store =
-    record { layout = layout; me = calls.me; seq = calls.seq; known = calls.known; calls = coordinators calls.operations; brick = store }
+    record { layout = layout; me = calls.me; seq = calls.seq; known = calls.stamps.known; calls = coordinators calls.operations; brick = store }
 
 -- what a store is made for at a brick of the layout
 abbrev pub shape_at : Layout → BrickId → Shape
@@ -77,16 +77,7 @@ LeavesBrick layout me node may_leave = (image : List ℕ) → may_leave image �
 
 -- the brick, with its store opened once more
 abbrev pub reopened : machine.Node → machine.Node
-reopened node =
-    record {
-      boot = node.boot + 1;
-      seq = node.seq;
-      known = node.known;
-      busy = node.busy;
-      live = node.live;
-      replicas = node.replicas;
-      calls = node.calls;
-    }
+reopened node = record node { boot = node.boot + 1 }
 
 -- it is the same brick of the same disk
 pub record IsSameBrick {D : Type 0} (old new : Running D) : Type 0 where
@@ -97,6 +88,6 @@ pub record IsSameBrick {D : Type 0} (old new : Running D) : Type 0 where
 -- of the layout.
 pub record IsBrickOf (layout : Layout) (shape : Shape) (st : StateOf Version) (calls : OpenCalls) : Type 0 where
   pub shape_is : shape ≡ shape_at layout calls.me
-  pub boot : calls.boot ≡ st.boot
+  pub boot : calls.stamps.boot ≡ st.boot
   pub first : IsFirstView st
   pub open_calls : AreCallsOf layout calls

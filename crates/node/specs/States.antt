@@ -3,9 +3,11 @@ use Rattle.std.specs.Prelude.{◌≡◌, ℕ, Some}
 use Rattle.std.specs.Option.{option_map}
 use Rattle.std.specs.Ordering.{nat_cmp}
 use Rattle.std.specs.BTreeMap.{get, btree_map_len}
+use Rattle.fab_base.specs.declared.identities.BrickId.{BrickId}
 use Rattle.version_log.specs.Versions.{Version}
 use Rattle.brick_state.specs.States.{StateOf, live}
 use Rattle.replica.specs.Parts.{part_in}
+use Rattle.coord_phase.specs.Messages.{packets_from}
 use Rattle.node.specs.declared.open_calls.OpenCalls.{OpenCalls}
 use Rattle.node.specs.declared.outs.Outs.{Outs}
 use Rattle.node.specs.declared.outs.Begun.{Begun}
@@ -28,9 +30,9 @@ parts_in block st = record { live = live st; replicas = part_in block st }
 unfoldable pub state_with : Parts → OpenCalls → machine.Node
 state_with parts calls =
     record {
-      boot = calls.boot;
+      boot = calls.stamps.boot;
       seq = calls.seq;
-      known = calls.known;
+      known = calls.stamps.known;
       busy = btree_map_len calls.operations;
       live = parts.live;
       replicas = parts.replicas;
@@ -46,14 +48,14 @@ pub record IsAt (layout : Layout) (k : ℕ) (operation : Operation) : Type 0 whe
 abbrev pub AreCallsOf : Layout → OpenCalls → Type 0
 AreCallsOf layout calls = (k : ℕ) (operation : Operation) → get nat_cmp calls.operations k ≡ Some operation → IsAt layout k operation
 
--- what a new operation sends is the machine's, its call is the brick's last, and the brick's new state is the machine's
-pub record BeginsAs (state : machine.Node) (step : machine.NodeStep) (begun : Begun) : Type 0 where
-  pub packets : begun.packets.items ≡ step.packets
+-- what a new operation of this brick sends is the machine's, its call is the brick's last, and the brick's new state is the machine's
+pub record BeginsAs (me : BrickId) (state : machine.Node) (step : machine.NodeStep) (begun : Begun) : Type 0 where
+  pub packets : packets_from me begun.messages.items ≡ step.packets
   pub seq : begun.seq ≡ step.node.seq
   pub state_is : state ≡ step.node
 
--- what a step sends and tells is the machine's, and the brick's new state is the machine's
-pub record StepsAs (state : machine.Node) (step : machine.NodeStep) (outs : Outs) : Type 0 where
-  pub packets : outs.packets.items ≡ step.packets
+-- what a step of this brick sends and tells is the machine's, and the brick's new state is the machine's
+pub record StepsAs (me : BrickId) (state : machine.Node) (step : machine.NodeStep) (outs : Outs) : Type 0 where
+  pub packets : packets_from me outs.messages.items ≡ step.packets
   pub told : outs.told ≡ step.told
   pub state_is : state ≡ step.node

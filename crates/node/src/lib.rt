@@ -8,7 +8,7 @@ pub mod nodes;
 pub mod open_calls;
 pub mod operations;
 pub mod outs;
-mod packets;
+mod sending;
 
 pub use faults::NodeFault;
 pub use nodes::Node;

@@ -11,10 +11,12 @@ ghost use Rattle.brick_store.specs.Bricks.{Brick};
 ghost use Rattle.brick_store.specs.Images.{IsFound};
 ghost use Rattle.brick_store.specs.Openings.{IsAllowedOr};
 ghost use Rattle.protocol.specs.Nodes as machine;
-ghost use Rattle.protocol.specs.Nodes.{is_stripe_op, refusal_of, invoked, requested, replied, received, absorbed, ticked, restarted};
+ghost use Rattle.protocol.specs.Nodes.{is_stripe_op, refusal_of, invoked, replied, received, absorbed, ticked, restarted};
 ghost use Rattle.messages.specs.declared.packets.Message.TheVariants as message;
 ghost use Rattle.stripe_code.specs.Codes.{coding};
 ghost use Rattle.replica.specs.Parts.{IsFirstView, part_seen};
+ghost use Rattle.replica.specs.Reactions.{member_step};
+ghost use Rattle.coord_phase.specs.Messages.{packets_from};
 ghost use Rattle.node.specs.Faults.{halted_after, RefusesAs};
 ghost use Rattle.node.specs.States.{BeginsAs, StepsAs};
 ghost use Rattle.node.specs.Running.{shape_at, state_of, IsKept, ImageShows, ShowsEither, LeavesBrick, IsSameBrick, reopened};
@@ -22,12 +24,12 @@ ghost use Rattle.node.specs.Running.{shape_at, state_of, IsKept, ImageShows, Sho
 use crate::faults::NodeFault;
 use crate::open_calls::OpenCalls;
 use crate::outs::{Begun, Outs};
-use crate::packets::reply_packets;
+use crate::sending::answer_messages;
 use brick_store::{BrickStore, State, StoreFault};
 use fab_base::{Ask, BrickId, GroupId, Refusal, StripeNo, ViewNo};
 use fab_disk::{Armed, Disk, Plan};
-use messages::{Call, Message, Packet, Reply, Request};
 use layout::Layout;
+use messages::{Call, Message, Messages, Packet, Reply};
 use protocol::Told;
 use std::alloc::Global;
 use std::marker::Model;
@@ -134,9 +136,9 @@ impl<D: Disk> Node<D> {
     pub fn invoke(&mut self, now: u64, ask: &Ask) -> Result<Begun, NodeFault>
         requires stripe { is_stripe_op ask.now.op ≡ true }
         ensures refused { RefusesAs result (refusal_of self.old.layout (state_of self.old) ask.now) }
-        ensures begun { IfOk result (BeginsAs (state_of self.new) (invoked (coding self.old.layout) self.old.me now (state_of self.old) ask.now)) }
+        ensures begun { IfOk result (BeginsAs self.old.me (state_of self.new) (invoked (coding self.old.layout) self.old.me now (state_of self.old) ask.now)) }
         ensures err { OnErr result (state_of self.new ≡ state_of self.old) }
-        ensures few { IfOk result (λ begun. vec_len begun.packets ≤ 32) }
+        ensures few { IfOk result (λ begun. vec_len begun.messages ≤ 32) }
         ensures same { IsSameBrick self.old self.new }
         ensures brick { self.new.brick ≡ self.old.brick }
         ensures halted { self.old.brick.halted ≡ true → result ≡ Err NodeFault.Halted }
@@ -159,9 +161,9 @@ impl<D: Disk> Node<D> {
     /// # Errors
     ///
     /// `Halted` exactly where an earlier call answered `Disk`. `NoMemory` where no memory was left.
-    pub fn on_tick(&self) -> Result<Vec<Packet>, NodeFault>
-        ensures packets { IfOk result (λ packets. packets.items ≡ ticked (coding self.now.layout) self.now.me (state_of self.now)) }
-        ensures few { IfOk result (λ packets. vec_len packets ≤ 2048) }
+    pub fn on_tick(&self) -> Result<Messages, NodeFault>
+        ensures packets { IfOk result (λ messages. packets_from self.now.me messages.items ≡ ticked (coding self.now.layout) self.now.me (state_of self.now)) }
+        ensures few { IfOk result (λ messages. vec_len messages ≤ 2048) }
         ensures halted { self.now.brick.halted ≡ true → result ≡ Err NodeFault.Halted }
         ensures only { OnErr result ((result ≡ Err NodeFault.Halted × (self.now.brick.halted ≡ true)) ⊎ (result ≡ Err NodeFault.NoMemory)) }
     {
@@ -177,10 +179,10 @@ impl<D: Disk> Node<D> {
     ///
     /// `Halted` exactly where an earlier call answered `Disk`. `Disk` where the disk failed: the brick is halted. `NoMemory` where no
     /// memory was left. What the machine sees of the brick has not changed then.
-    #[tactic(auto, unfolding(protocol::specs::Nodes::received, protocol::specs::Nodes::absorbed))]
+    #[tactic(auto, unfolding(protocol::specs::Nodes::received, protocol::specs::Nodes::requested, protocol::specs::Nodes::absorbed))]
     pub fn on_message(&mut self, now: u64, packet: &Packet) -> Result<Outs, NodeFault>
-        ensures step { IfOk result (StepsAs (state_of self.new) (received (coding self.old.layout) self.old.me now (state_of self.old) packet.now)) }
-        ensures few { IfOk result (λ outs. vec_len outs.packets ≤ 32) }
+        ensures step { IfOk result (StepsAs self.old.me (state_of self.new) (received (coding self.old.layout) self.old.me now (state_of self.old) packet.now)) }
+        ensures few { IfOk result (λ outs. vec_len outs.messages ≤ 32) }
         ensures err { OnErr result (state_of self.new ≡ state_of self.old) }
         ensures same { IsSameBrick self.old self.new }
         // After it a crash leaves only what shows the brick as it is now.
@@ -202,7 +204,7 @@ impl<D: Disk> Node<D> {
             return Err(NodeFault::Halted);
         }
         match &packet.message {
-            Message::Request(call, request) => self.on_request(packet.from, *call, request),
+            Message::Request(_, _) => self.serve(packet.from, &packet.message),
             Message::Reply(call, reply) => self.on_reply(now, packet, *call, reply),
             Message::Learn { .. }
             | Message::Synced { .. }
@@ -211,25 +213,20 @@ impl<D: Disk> Node<D> {
         }
     }
 
-    /// Handles a request, as a member of its group; another brick ignores it. So does each brick a request of a stripe that the
-    /// group does not have in its view, or that would store what is no block.
-    fn on_request(
-        &mut self,
-        from: BrickId,
-        call: Call,
-        request: &Request,
-    ) -> Result<Outs, NodeFault>
+    /// Serves a message as a member of a group. A brick ignores a request of a group that it is no member of, one of a stripe that the
+    /// group does not have in its view, one that would store what is no block, and each message that is no request.
+    fn serve(&mut self, from: BrickId, message: &Message) -> Result<Outs, NodeFault>
         requires runs { self.old.brick.halted ≡ false }
         requires durable { D.tells → LeavesBrick self.old.layout self.old.me (state_of self.old) (D.may_leave self.old.brick.disk) }
-        ensures step { IfOk result (StepsAs (state_of self.new)
-            (requested (coding self.old.layout) self.old.me from (state_of self.old) call request.now)) }
-        ensures few { IfOk result (λ outs. vec_len outs.packets ≤ 32) }
+        ensures step { IfOk result (StepsAs self.old.me (state_of self.new)
+            (member_step self.old.layout self.old.me from (state_of self.old) message.now)) }
+        ensures few { IfOk result (λ outs. vec_len outs.messages ≤ 32) }
         ensures err { OnErr result (state_of self.new ≡ state_of self.old) }
         ensures same { IsSameBrick self.old self.new }
         ensures durable { D.tells → OnOk result (LeavesBrick self.old.layout self.old.me (state_of self.new) (D.may_leave self.new.brick.disk)) }
         ensures moments { D.tells → LeavesOnly D.moment D.left_since self.old.brick.disk self.new.brick.disk
             (ShowsEither self.old.layout self.old.me (state_of self.old)
-            (requested (coding self.old.layout) self.old.me from (state_of self.old) call request.now).node) }
+            (member_step self.old.layout self.old.me from (state_of self.old) message.now).node) }
         ensures not_halted { result ≢ Err NodeFault.Halted }
         ensures halts { self.new.brick.halted ≡ halted_after false result }
         ensures not_refused { (reason : Refusal) → result ≢ Err (NodeFault.Refused reason) }
@@ -238,11 +235,11 @@ impl<D: Disk> Node<D> {
         ensures cause { Kept (D.faults self.old.brick.disk) (D.faults self.new.brick.disk) (D.sound self.old.brick.disk) (D.sound self.new.brick.disk)
             (result ≡ Err NodeFault.Disk) }
     {
-        // The reply has its room before anything is kept: after that nothing can fail.
+        // The answer has its room before anything is kept: after that nothing can fail.
         let room = Vec::with_capacity(self.alloc, 1)?;
-        let reply = replica::handle(self.alloc, &mut self.store, &self.layout, call, request)?;
+        let answer = replica::handle(self.alloc, &mut self.store, &self.layout, from, message)?;
         Ok(Outs {
-            packets: reply_packets(room, self.calls.me(), from, call, reply),
+            messages: answer_messages(room, from, answer),
             told: Told::Nothing,
         })
     }
@@ -256,9 +253,9 @@ impl<D: Disk> Node<D> {
         reply: &Reply,
     ) -> Result<Outs, NodeFault>
         requires reply { packet.now.message ≡ message.Reply call reply.now }
-        ensures step { IfOk result (StepsAs (state_of self.new) (replied (coding self.old.layout) self.old.me now packet.now.from
+        ensures step { IfOk result (StepsAs self.old.me (state_of self.new) (replied (coding self.old.layout) self.old.me now packet.now.from
             (state_of self.old) call reply.now)) }
-        ensures few { IfOk result (λ outs. vec_len outs.packets ≤ 32) }
+        ensures few { IfOk result (λ outs. vec_len outs.messages ≤ 32) }
         ensures err { OnErr result (state_of self.new ≡ state_of self.old) }
         ensures same { IsSameBrick self.old self.new }
         ensures brick { self.new.brick ≡ self.old.brick }

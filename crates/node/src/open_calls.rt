@@ -3,16 +3,17 @@
 ghost use Rattle.std.specs.Prelude.{◌≡◌, ◌<◌, ◌≤◌, ℕ, true, false, IfOk, OnOk, OnErr, is_some, vec_len};
 ghost use Rattle.std.specs.BTreeMap as tree;
 ghost use Rattle.std.specs.Ordering.{nat_cmp};
-ghost use Rattle.protocol.specs.Nodes.{known_after};
+ghost use Rattle.protocol.specs.Nodes.{known_after, fresh_stamp};
 
 use crate::admissions::{has_block, has_later_time, has_length};
 use crate::operations::{Decision, Operation};
 use crate::outs::{Begun, Outs};
-use crate::packets::{collect_packets, packets_of};
+use crate::sending::collect_messages;
 use fab_base::{Ask, BrickId, CallId, NoMem, Refusal, Stamp, ViewNo};
-use messages::{Call, Packet, Reply};
 use layout::{Group, Layout};
+use messages::{Call, Messages, Packet, Reply};
 use protocol::Told;
+use stamp_store::StampSource;
 use std::alloc::Global;
 use std::collections::BTreeMap;
 
@@ -23,23 +24,30 @@ pub const MOST_OPEN: usize = 64;
 #[derive(Drop)]
 pub struct OpenCalls {
     me: BrickId,
-    boot: u32,
     seq: u64,
-    known: u64,
+    stamps: StampSource,
     operations: BTreeMap<u64, Operation>,
     ghost fresh: { (k : ℕ) → seq < k → is_some (tree.get nat_cmp operations k) ≡ false },
     ghost from_one: { is_some (tree.get nat_cmp operations 0) ≡ false },
     ghost few: { tree.btree_map_len operations ≤ 64 },
 }
 
-/// The time that a reply makes known.
-fn known_after(known: u64, reply: &Reply) -> u64
-    ensures { result ≡ known_after known reply.now }
+/// The source of stamps, once a reply made a time known.
+fn after_reply(mut stamps: StampSource, reply: &Reply) -> StampSource
+    ensures boot { result.boot ≡ stamps.boot }
+    ensures known { result.known ≡ known_after stamps.known reply.now }
 {
-    match reply {
-        Reply::Later { stamp } => known.max(stamp.time),
-        _ => known,
+    if let Reply::Later { stamp } = reply {
+        stamps.saw(*stamp);
     }
+    stamps
+}
+
+/// The stamp that a new round of ordering would have, at this time of the brick's clock. None where no later time is left.
+fn fresh_stamp(mut stamps: StampSource, now: u64, me: BrickId) -> Option<Stamp>
+    ensures { result ≡ fresh_stamp me now stamps.boot stamps.known }
+{
+    stamps.next(now, ViewNo(1), me)
 }
 
 impl OpenCalls {
@@ -49,9 +57,10 @@ impl OpenCalls {
     ghost use Rattle.std.specs.Result.{result_err};
     ghost use Rattle.fab_base.specs.Layouts as layouts;
     ghost use Rattle.fab_base.specs.Layouts.{group_of};
-    ghost use Rattle.protocol.specs.Nodes.{is_stripe_op, has_length, refusal_in, refusal_of, new_stamp, fresh_stamp, new_coordinator, with_call, began_in, carried_out, replied, resent, ticked, no_calls};
+    ghost use Rattle.protocol.specs.Nodes.{is_stripe_op, has_length, refusal_in, refusal_of, new_coordinator, with_call, began_in, carried_out, replied, resent, ticked, no_calls};
     ghost use Rattle.messages.specs.declared.packets.Message.TheVariants as message;
     ghost use Rattle.stripe_code.specs.Codes.{coding};
+    ghost use Rattle.coord_phase.specs.Messages.{packets_from};
     ghost use Rattle.node.specs.Operations.{shown_of, coordinator_of, IsOperationOf};
     ghost use Rattle.node.specs.Decisions.{machine_next, IsDecisionOf, HasFewMessages};
     ghost use Rattle.node.specs.States.{state_with, Parts, IsAt, AreCallsOf, BeginsAs, StepsAs};
@@ -59,16 +68,17 @@ impl OpenCalls {
     /// No operation is open, and none was since the store was opened for the so-manieth time.
     pub(crate) fn new(alloc: Global, me: BrickId, boot: u32) -> OpenCalls
         ensures me { result.me ≡ me }
-        ensures boot { result.boot ≡ boot }
+        ensures boot { result.stamps.boot ≡ boot }
         ensures state { (parts : Parts) → state_with parts result ≡ record { boot = boot; seq = 0; known = 0; busy = 0; live = parts.live; replicas = parts.replicas; calls = no_calls } }
         ensures calls { (layout : layouts.Layout) → AreCallsOf layout result }
     {
+        let stamps = StampSource::new(boot);
+        let operations = BTreeMap::new(alloc);
         OpenCalls {
             me,
-            boot,
             seq: 0,
-            known: 0,
-            operations: BTreeMap::new(alloc),
+            stamps,
+            operations,
         }
     }
 
@@ -81,16 +91,16 @@ impl OpenCalls {
 
     /// How often the brick's store was opened.
     pub(crate) fn boot(&self) -> u32
-        ensures { result ≡ self.now.boot }
+        ensures { result ≡ self.now.stamps.boot }
     {
-        self.boot
+        self.stamps.boot
     }
 
     /// The greatest time that the brick knows.
     pub(crate) fn known_time(&self) -> u64
-        ensures { result ≡ self.now.known }
+        ensures { result ≡ self.now.stamps.known }
     {
-        self.known
+        self.stamps.known
     }
 
     /// Why the brick does not begin an operation on a group, the first reason there is: there is no such stripe; no such data
@@ -98,7 +108,7 @@ impl OpenCalls {
     #[tactic(auto, unfolding(crate::specs::States::state_with))]
     pub(crate) fn refusal(&self, block: u16, group: &Group, ask: &Ask) -> Option<Refusal>
         ensures value { (parts : Parts) → result ≡ refusal_in block (state_with parts self.now) ask.now (Some group.now) }
-        ensures known { result ≡ None → self.now.known + 1 < 2 ^ 64 }
+        ensures known { result ≡ None → self.now.stamps.known + 1 < 2 ^ 64 }
         ensures room { result ≡ None → btree_map_len self.now.operations < 64 }
         ensures seq { result ≡ None → self.now.seq + 1 < 2 ^ 64 }
         ensures fits { result ≡ None → has_length group.now.m block ask.now.op ≡ true }
@@ -111,7 +121,7 @@ impl OpenCalls {
             Some(Refusal::Length)
         } else if self.operations.len() >= MOST_OPEN {
             Some(Refusal::Busy)
-        } else if !has_later_time(self.known) || self.seq == u64::MAX {
+        } else if !has_later_time(self.stamps.known) || self.seq == u64::MAX {
             Some(Refusal::Spent)
         } else {
             None
@@ -124,7 +134,7 @@ impl OpenCalls {
         ensures refused { (parts : Parts) → result_err result ≡ refusal_of layout.now (state_with parts self.now) ask.now }
         ensures group { IfOk result (λ group. group_of layout.now ask.now.group.0 ≡ Some group.now) }
         ensures room { OnOk result (btree_map_len self.now.operations < 64) }
-        ensures known { OnOk result (self.now.known + 1 < 2 ^ 64) }
+        ensures known { OnOk result (self.now.stamps.known + 1 < 2 ^ 64) }
         ensures seq { OnOk result (self.now.seq + 1 < 2 ^ 64) }
         ensures fits { IfOk result (λ group. has_length group.now.m layout.now.block ask.now.op ≡ true) }
     {
@@ -144,29 +154,6 @@ impl OpenCalls {
         self.seq.checked_add(1)
     }
 
-    /// A new stamp where the brick knows this time, at this time of its clock.
-    fn new_stamp(&self, now: u64, known: u64) -> Stamp
-        requires { known + 1 < 2 ^ 64 }
-        ensures { result ≡ new_stamp self.now.me now self.now.boot known }
-    {
-        Stamp {
-            view: ViewNo(1),
-            time: now.max(known + 1),
-            brick: self.me,
-            boot: self.boot,
-        }
-    }
-
-    /// The stamp that a new round of ordering would have where the brick knows this time. None where no later time is left.
-    fn fresh_stamp(&self, now: u64, known: u64) -> Option<Stamp>
-        ensures { result ≡ fresh_stamp self.now.me now self.now.boot known }
-    {
-        if !has_later_time(known) {
-            return None;
-        }
-        Some(self.new_stamp(now, known))
-    }
-
     /// Begins an operation that is not refused, on a stripe of this group.
     pub(crate) fn begin(
         &mut self,
@@ -177,25 +164,27 @@ impl OpenCalls {
         ask: &Ask,
     ) -> Result<Begun, NoMem>
         requires room { btree_map_len self.old.operations < 64 }
-        requires known { self.old.known + 1 < 2 ^ 64 }
+        requires known { self.old.stamps.known + 1 < 2 ^ 64 }
         requires seq { self.old.seq + 1 < 2 ^ 64 }
         requires stripe { is_stripe_op ask.now.op ≡ true }
         requires group { group_of layout.now ask.now.group.0 ≡ Some group.now }
         requires fits { has_length group.now.m layout.now.block ask.now.op ≡ true }
         requires node { AreCallsOf layout.now self.old }
         ensures begun { (parts : Parts) → IfOk result
-            (BeginsAs (state_with parts self.new) (began_in (coding layout.now) group.now self.old.me (state_with parts self.old)
+            (BeginsAs self.old.me (state_with parts self.new) (began_in (coding layout.now) group.now self.old.me (state_with parts self.old)
             (new_coordinator self.old.me now (state_with parts self.old) ask.now))) }
         ensures err { OnErr result ((parts : Parts) → state_with parts self.new ≡ state_with parts self.old) }
         ensures me { self.new.me ≡ self.old.me }
-        ensures boot { self.new.boot ≡ self.old.boot }
+        ensures boot { self.new.stamps.boot ≡ self.old.stamps.boot }
         ensures node { AreCallsOf layout.now self.new }
-        ensures few { IfOk result (λ begun. vec_len begun.packets ≤ 32) }
+        ensures few { IfOk result (λ begun. vec_len begun.messages ≤ 32) }
     {
         let seq = self.seq + 1;
-        let stamp = self.new_stamp(now, self.known);
+        let Some(stamp) = fresh_stamp(self.stamps, now, self.me) else {
+            unreachable!()
+        };
         let call = CallId {
-            boot: self.boot,
+            boot: self.stamps.boot,
             seq,
         };
         let (operation, messages) = Operation::begin(
@@ -206,11 +195,10 @@ impl OpenCalls {
             ask.copy(alloc)?,
             stamp,
         )?;
-        let packets = packets_of(alloc, self.me, messages)?;
         self.operations.insert(seq, operation)?;
         self.seq = seq;
-        self.known = stamp.time;
-        Ok(Begun { seq, packets })
+        self.stamps.known = stamp.time;
+        Ok(Begun { seq, messages })
     }
 
     /// Handles a reply, at this time of the brick's clock: the operation of its call counts it, or leaves it out.
@@ -225,62 +213,64 @@ impl OpenCalls {
     ) -> Result<Outs, NoMem>
         requires reply { packet.now.message ≡ message.Reply call reply.now }
         requires node { AreCallsOf layout.now self.old }
-        ensures step { (parts : Parts) → IfOk result (StepsAs (state_with parts self.new)
+        ensures step { (parts : Parts) → IfOk result (StepsAs self.old.me (state_with parts self.new)
             (replied (coding layout.now) self.old.me now packet.now.from (state_with parts self.old) call reply.now)) }
-        ensures few { IfOk result (λ outs. vec_len outs.packets ≤ 32) }
+        ensures few { IfOk result (λ outs. vec_len outs.messages ≤ 32) }
         ensures err { OnErr result ((parts : Parts) → state_with parts self.new ≡ state_with parts self.old) }
         ensures node { AreCallsOf layout.now self.new }
         ensures me { self.new.me ≡ self.old.me }
-        ensures boot { self.new.boot ≡ self.old.boot }
+        ensures boot { self.new.stamps.boot ≡ self.old.stamps.boot }
     {
-        let known = known_after(self.known, reply);
+        let stamps = after_reply(self.stamps, reply);
         let Some(open) = self.operations.get(&call.seq) else {
-            self.known = known;
+            self.stamps = stamps;
             return Ok(Outs::nothing(alloc));
         };
         let last = open.call();
         let Some(group) = layout.group(last.group) else {
             return Ok(Outs::nothing(alloc));
         };
-        let fresh = self.fresh_stamp(now, known);
+        let fresh = fresh_stamp(stamps, now, self.me);
         let decision = open
             .copy(alloc)?
             .on_reply(alloc, layout, group, packet.from, &packet.message, fresh)?;
-        self.carry_out(alloc, group, known, last, decision)
+        self.carry_out(alloc, group, stamps, last, decision)
     }
 
-    /// Carries out what the open operation of this call decided; the brick now knows this time, or that of a new round's stamp.
+    /// Carries out what the open operation of this call decided; the brick now makes its stamps from this source, which has seen that of a
+    /// new round too.
     fn carry_out(
         &mut self,
         alloc: Global,
         group: &Group,
-        known: u64,
+        mut stamps: StampSource,
         call: Call,
         decision: Decision,
     ) -> Result<Outs, NoMem>
         requires held { is_some (tree.get nat_cmp self.old.operations call.seq) ≡ true }
+        requires boot { stamps.boot ≡ self.old.stamps.boot }
         requires few { HasFewMessages decision }
         ensures step { (parts : Parts) (layout : layouts.Layout) (before : Operation) → (coordinator_of before).call ≡ call
             → (shown_of before).group ≡ group.now → IsDecisionOf layout before decision
-            → IfOk result (StepsAs (state_with parts self.new) (carried_out (coding layout) group.now self.old.me (state_with parts self.old) known
+            → IfOk result (StepsAs self.old.me (state_with parts self.new) (carried_out (coding layout) group.now self.old.me (state_with parts self.old) stamps.known
             (coordinator_of before) (machine_next decision))) }
         ensures node { (layout : layouts.Layout) (before : Operation) → (coordinator_of before).call ≡ call → IsDecisionOf layout before decision
             → AreCallsOf layout self.old → AreCallsOf layout self.new }
-        ensures few { IfOk result (λ outs. vec_len outs.packets ≤ 32) }
+        ensures few { IfOk result (λ outs. vec_len outs.messages ≤ 32) }
         ensures err { OnErr result ((parts : Parts) → state_with parts self.new ≡ state_with parts self.old) }
         ensures me { self.new.me ≡ self.old.me }
-        ensures boot { self.new.boot ≡ self.old.boot }
+        ensures boot { self.new.stamps.boot ≡ self.old.stamps.boot }
     {
         match decision {
             Decision::Waits(operation) => {
-                self.put_back(known, call.seq, operation);
+                self.put_back(stamps, call.seq, operation);
                 Ok(Outs::nothing(alloc))
             }
             Decision::Sends(operation, messages) => {
-                let packets = packets_of(alloc, self.me, messages)?;
-                self.put_back(known.max(operation.stamp().time), call.seq, operation);
+                stamps.saw(operation.stamp());
+                self.put_back(stamps, call.seq, operation);
                 Ok(Outs {
-                    packets,
+                    messages,
                     told: Told::Nothing,
                 })
             }
@@ -290,10 +280,9 @@ impl OpenCalls {
                 stamp,
                 base,
             } => {
-                let packets = packets_of(alloc, self.me, messages)?;
-                self.put_back(known, call.seq, operation);
+                self.put_back(stamps, call.seq, operation);
                 Ok(Outs {
-                    packets,
+                    messages,
                     told: Told::Made {
                         seq: call.seq,
                         stamp,
@@ -306,10 +295,10 @@ impl OpenCalls {
                 seen,
                 stored,
             } => {
-                let packets = collect_packets(alloc, self.me, group, call, stored)?;
-                self.close(known, call.seq);
+                let messages = collect_messages(alloc, group, call, stored)?;
+                self.close(stamps, call.seq);
                 Ok(Outs {
-                    packets,
+                    messages,
                     told: Told::Answers {
                         seq: call.seq,
                         answer,
@@ -320,65 +309,66 @@ impl OpenCalls {
         }
     }
 
-    /// Puts back the open operation of this number; the brick now knows this time.
-    fn put_back(&mut self, known: u64, seq: u64, operation: Operation)
-        requires { is_some (tree.get nat_cmp self.old.operations seq) ≡ true }
-        ensures state { (parts : Parts) → state_with parts self.new ≡ with_call (state_with parts self.old) known (state_with parts self.old).busy seq
+    /// Puts back the open operation of this number; the brick now makes its stamps from this source.
+    fn put_back(&mut self, stamps: StampSource, seq: u64, operation: Operation)
+        requires held { is_some (tree.get nat_cmp self.old.operations seq) ≡ true }
+        requires boot { stamps.boot ≡ self.old.stamps.boot }
+        ensures state { (parts : Parts) → state_with parts self.new ≡ with_call (state_with parts self.old) stamps.known (state_with parts self.old).busy seq
             (Some (coordinator_of operation)) }
         ensures node { (layout : layouts.Layout) → AreCallsOf layout self.old → IsAt layout seq operation → AreCallsOf layout self.new }
         ensures me { self.new.me ≡ self.old.me }
-        ensures boot { self.new.boot ≡ self.old.boot }
+        ensures boot { self.new.stamps.boot ≡ self.old.stamps.boot }
     {
-        self.known = known;
+        self.stamps = stamps;
         if let Some(open) = self.operations.get_mut(&seq) {
             *open = operation;
         }
     }
 
-    /// Forgets the open operation of this number, which has ended; the brick now knows this time.
-    fn close(&mut self, known: u64, seq: u64)
-        requires { is_some (tree.get nat_cmp self.old.operations seq) ≡ true }
-        ensures state { (parts : Parts) → state_with parts self.new ≡ with_call (state_with parts self.old) known
+    /// Forgets the open operation of this number, which has ended; the brick now makes its stamps from this source.
+    fn close(&mut self, stamps: StampSource, seq: u64)
+        requires held { is_some (tree.get nat_cmp self.old.operations seq) ≡ true }
+        requires boot { stamps.boot ≡ self.old.stamps.boot }
+        ensures state { (parts : Parts) → state_with parts self.new ≡ with_call (state_with parts self.old) stamps.known
             ((state_with parts self.old).busy - 1) seq None }
         ensures node { (layout : layouts.Layout) → AreCallsOf layout self.old → AreCallsOf layout self.new }
         ensures me { self.new.me ≡ self.old.me }
-        ensures boot { self.new.boot ≡ self.old.boot }
+        ensures boot { self.new.stamps.boot ≡ self.old.stamps.boot }
     {
-        self.known = known;
+        self.stamps = stamps;
         self.operations.remove(&seq);
     }
 
-    /// The packets that send the present phase of an open operation again, to each member without a reply that counts.
+    /// The messages that send the present phase of an open operation again, to each member without a reply that counts.
     fn send_again(
         &self,
         alloc: Global,
         layout: &Layout,
         operation: &Operation,
-    ) -> Result<Vec<Packet>, NoMem>
+    ) -> Result<Messages, NoMem>
         requires { IsOperationOf layout.now operation.now }
-        ensures packets { IfOk result (λ packets. packets.items ≡ resent (coding layout.now) self.now.me (Some (coordinator_of operation.now))) }
-        ensures few { IfOk result (λ packets. vec_len packets ≤ 32) }
+        ensures packets { IfOk result (λ messages. packets_from self.now.me messages.items ≡ resent (coding layout.now) self.now.me (Some (coordinator_of operation.now))) }
+        ensures few { IfOk result (λ messages. vec_len messages ≤ 32) }
     {
         let Some(group) = layout.group(operation.call().group) else {
             return Ok(Vec::new(alloc));
         };
-        let messages = operation.on_tick(alloc, group)?;
-        Ok(packets_of(alloc, self.me, messages)?)
+        operation.on_tick(alloc, group)
     }
 
     /// At a tick of the brick's clock each open operation, in the order of beginning, sends its present phase again to each member
     /// without a reply that counts.
-    pub(crate) fn on_tick(&self, alloc: Global, layout: &Layout) -> Result<Vec<Packet>, NoMem>
+    pub(crate) fn on_tick(&self, alloc: Global, layout: &Layout) -> Result<Messages, NoMem>
         requires { AreCallsOf layout.now self.now }
-        ensures packets { (parts : Parts) → IfOk result (λ packets. packets.items ≡ ticked (coding layout.now) self.now.me
+        ensures packets { (parts : Parts) → IfOk result (λ messages. packets_from self.now.me messages.items ≡ ticked (coding layout.now) self.now.me
             (state_with parts self.now)) }
-        ensures few { IfOk result (λ packets. vec_len packets ≤ 2048) }
+        ensures few { IfOk result (λ messages. vec_len messages ≤ 2048) }
     {
-        let mut packets = Vec::new(alloc);
+        let mut messages = Vec::new(alloc);
         for operation in self.operations.values() {
             let mut again = self.send_again(alloc, layout, operation)?;
-            packets.append(&mut again)?;
+            messages.append(&mut again)?;
         }
-        Ok(packets)
+        Ok(messages)
     }
 }

@@ -11,8 +11,8 @@ ghost use Rattle.node.specs.Decisions.{machine_next, or_waits, IsDecisionOf};
 use coord_recover::Recovery;
 use coord_stripe::StripeOp;
 use fab_base::{Answer, Ask, BrickId, CallId, NoMem, Note, Stamp, View, ViewNo};
-use messages::{Call, Message, Messages, Next, Turn};
 use layout::{Group, Layout};
+use messages::{Call, Message, Messages, Next, Turn};
 use std::alloc::Global;
 
 /// The first view of a group: the members that its layout names.
@@ -33,12 +33,10 @@ fn messages_in(next: Next) -> Messages
     requires { IsSend next }
     ensures { next ≡ Next.Send result }
 {
-    match next {
-        Next::Send(messages) => messages,
-        Next::Wait => unreachable!(),
-        Next::End(_) => unreachable!(),
-        Next::Recover(_) => unreachable!(),
-    }
+    let Next::Send(messages) = next else {
+        unreachable!()
+    };
+    messages
 }
 
 /// An open operation at its coordinator.

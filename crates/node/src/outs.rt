@@ -2,36 +2,36 @@
 
 ghost use Rattle.std.specs.Prelude.{◌≡◌, []};
 
-use messages::Packet;
+use messages::Messages;
 use protocol::Told;
 use std::alloc::Global;
 
 /// What a step sends, in order, and what it tells of an operation.
 #[derive(Debug, Drop)]
 pub struct Outs {
-    /// The packets, in the order of sending.
-    pub packets: Vec<Packet>,
+    /// The messages, each with its receiver, in the order of sending.
+    pub messages: Messages,
     /// What is told.
     pub told: Told,
 }
 
-/// A new operation: the number of its call, and the packets that it sends, in order.
+/// A new operation: the number of its call, and the messages that it sends, in order.
 #[derive(Debug, Drop)]
 pub struct Begun {
     /// The number of the call since the brick's store was opened.
     pub seq: u64,
-    /// The packets, in the order of sending.
-    pub packets: Vec<Packet>,
+    /// The messages, each with its receiver, in the order of sending.
+    pub messages: Messages,
 }
 
 impl Outs {
     /// Nothing is sent, and nothing told.
     pub(crate) fn nothing(alloc: Global) -> Outs
-        ensures packets { result.packets.items ≡ [] }
+        ensures messages { result.messages.items ≡ [] }
         ensures told { result.told ≡ Told.Nothing }
     {
         Outs {
-            packets: Vec::new(alloc),
+            messages: Vec::new(alloc),
             told: Told::Nothing,
         }
     }

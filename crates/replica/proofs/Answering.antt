@@ -1,5 +1,6 @@
 -- A call that handles a request, from the change of the store that it makes.
-use Rattle.std.proofs.Common.{◌≡◌, ◌≢◌, inl, inr, ⊎_elim, ℕ, Bool, true, false, Option, Some, List, Result, Ok, Err, refl, sym, subst, ◌∙◌}
+use Rattle.std.proofs.Common.{◌≡◌, ◌≢◌, inl, inr, ⊎_elim, ℕ, Bool, true, false, Option, Some, List, Result, Ok, Err, refl, sym, ap, subst, ◌∙◌}
+use Rattle.std.specs.Option.{option_map}
 use Rattle.std.specs.Result.{IfOk, OnOk, OnErr}
 use Rattle.fab_disk.specs.Disk.{IsUntouched, LeavesOnly, Kept}
 use Rattle.fab_disk.proofs.Moments.{started, goes_on, widened}
@@ -16,25 +17,25 @@ use Rattle.brick_store.specs.Images.{StandsFor, StandsForEither, LeavesState}
 use Rattle.replica.specs.declared.faults.ReplicaFault.{ReplicaFault}
 use Rattle.replica.specs.declared.faults.ReplicaFault.TheVariants.{Disk, Halted, NoMemory}
 use Rattle.replica.specs.Parts.{part_in}
-use Rattle.replica.specs.Handling.{Runs, Handles, OpensAsEither, halted_after, answered}
+use Rattle.replica.specs.Handling.{Runs, Handles, KeepsParts, OpensAsEither, halted_after, answered, seen_as}
 
 differ : {A : Type 0} → false ≡ true → A
 differ h = absurd cc
 
-abbrev Answer : Type 0
-Answer = Result (Option Reply) ReplicaFault
+abbrev AnswerOf : Type 0 → Type 0
+AnswerOf A = Result (Option A) ReplicaFault
 
-on_ok : (P : Type 0) (result : Answer) → P → OnOk result P
-on_ok P (Ok reply) h = h
+on_ok : {A : Type 0} (P : Type 0) (result : AnswerOf A) → P → OnOk result P
+on_ok P (Ok answer) h = h
 on_ok P (Err fault) h = tt
 
-on_err : (P : Type 0) (result : Answer) → P → OnErr result P
-on_err P (Ok reply) h = tt
+on_err : {A : Type 0} (P : Type 0) (result : AnswerOf A) → P → OnErr result P
+on_err P (Ok answer) h = tt
 on_err P (Err fault) h = h
 
 -- a store that did not answer Disk is halted where it was
-same_halted : (halted : Bool) (result : Answer) → result ≢ Err Disk → halted ≡ halted_after halted result
-same_halted halted (Ok reply) other = refl
+same_halted : {A : Type 0} (halted : Bool) (result : AnswerOf A) → result ≢ Err Disk → halted ≡ halted_after halted result
+same_halted halted (Ok answer) other = refl
 same_halted halted (Err Disk) other = absurd (other refl)
 same_halted halted (Err Halted) other = refl
 same_halted halted (Err NoMemory) other = refl
@@ -52,10 +53,13 @@ kept_as before now S T F G back kept =
 
 module _ {D : Type 0} (tells : Type 0) (seen : D → List ℕ) (may_leave : D → List ℕ → Type 0) (moment : D → ℕ) (left_since : D → ℕ → List ℕ → Type 0)
     (faults_of : D → ℕ) (sound : D → Type 0)
-    (only_now : (disk : D) (image : List ℕ) → left_since disk (moment disk) image → may_leave disk image) (g s : ℕ)
+    (only_now : (disk : D) (image : List ℕ) → left_since disk (moment disk) image → may_leave disk image)
     (Follows : Option Reply → StateOf Version → Type 0) where
+  abbrev Answer : Type 0
+  Answer = AnswerOf Reply
+
   abbrev Called : Brick D → Brick D → Answer → Type 0
-  Called old new result = Handles tells seen may_leave moment left_since faults_of sound g s Follows old new result
+  Called old new result = Handles tells seen may_leave moment left_since faults_of sound Follows old new result
 
   not_running : (old : Brick D) (result : Answer) → Runs tells may_leave old → old.halted ≡ true → result ≡ Err Halted
   not_running old result runs halted = differ (sym runs.runs ∙ halted)
@@ -76,7 +80,7 @@ module _ {D : Type 0} (tells : Type 0) (seen : D → List ℕ) (may_leave : D �
         goes_on moment left_since old.disk old.disk new.disk Either (may_leave new.disk)
         (started moment left_since old.disk Either (λ image left. inl (runs.durable told image (only_now old.disk image left))))
         untouched.time (λ image left. inl (runs.durable told image (untouched.crash image left)));
-    still = on_ok (part_in old.shape.block new.state g s ≡ part_in old.shape.block old.state g s → (new.state ≡ old.state)
+    still = on_ok (KeepsParts old.shape.block old.state new.state → (new.state ≡ old.state)
         × IsUntouched seen may_leave moment left_since old.disk new.disk) result (λ same. (state, untouched));
     halted = not_running old result runs;
     only_halted = λ is. absurd (not_halted is);
@@ -97,7 +101,7 @@ module _ {D : Type 0} (tells : Type 0) (seen : D → List ℕ) (may_leave : D �
       followed (Err fault) h = tt
 
   -- A change of the store, and the reply that says so.
-  module _ (old new : Brick D) (after : StateOf Version) (adds : Bool) (calls : ℕ) (reply : Reply) (runs : Runs tells may_leave old)
+  module _ (g s : ℕ) (old new : Brick D) (after : StateOf Version) (adds : Bool) (calls : ℕ) (reply : Reply) (runs : Runs tells may_leave old)
       (made : (adds ≡ true → live old.state ≡ old.shape.records → ⊥) → Follows (Some reply) after)
       (none : adds ≡ true → live old.state ≡ old.shape.records → Follows (Some (Full (live old.state))) old.state)
       (moves : part_in old.shape.block after g s ≡ part_in old.shape.block old.state g s → ⊥) where
@@ -127,7 +131,7 @@ module _ {D : Type 0} (tells : Type 0) (seen : D → List ℕ) (may_leave : D �
           shape = change.ok.shape;
           durable = change.durable;
           any_moment = moments (Ok done) change follows;
-          still = λ same. absurd (moves (subst (λ (st : StateOf Version). part_in old.shape.block st g s ≡ part_in old.shape.block old.state g s) change.ok.state same));
+          still = λ same. absurd (moves (subst (λ (st : StateOf Version). part_in old.shape.block st g s ≡ part_in old.shape.block old.state g s) change.ok.state (same g s)));
           halted = λ h. differ (sym runs.runs ∙ h);
           only_halted = λ h. absurd cc;
           halts = change.answer.halts;
@@ -164,33 +168,61 @@ module _ {D : Type 0} (tells : Type 0) (seen : D → List ℕ) (may_leave : D �
         (kept_as (faults_of old.disk) (faults_of new.disk) (sound old.disk) (sound new.disk) _ _ (λ h. absurd cc) change.cause) (λ h. absurd cc)
         (λ h. absurd cc) tt
 
--- what follows in one sense follows in another
-pub handles_imply : {D : Type 0} (tells : Type 0) (seen : D → List ℕ) (may_leave : D → List ℕ → Type 0) (moment : D → ℕ)
-    (left_since : D → ℕ → List ℕ → Type 0) (faults_of : D → ℕ) (sound : D → Type 0)
-    (g s : ℕ) (Follows Also : Option Reply → StateOf Version → Type 0) → ((reply : Option Reply) (st : StateOf Version) → Follows reply st
-    → Also reply st) → (old new : Brick D) (result : Answer)
-    → Handles tells seen may_leave moment left_since faults_of sound g s Follows old new result
-    → Handles tells seen may_leave moment left_since faults_of sound g s Also old new result
-handles_imply {D} tells seen may_leave moment left_since faults_of sound g s Follows Also implies old new result handles = record {
-  ok = followed result handles.ok;
-  refused = handles.refused;
-  shape = handles.shape;
-  durable = handles.durable;
-  any_moment = λ told running.
-      widened moment left_since old.disk new.disk (OpensAsEither old.shape old.state Follows) (OpensAsEither old.shape old.state Also) either
-      (handles.any_moment told running);
-  still = handles.still;
-  halted = handles.halted;
-  only_halted = handles.only_halted;
-  halts = handles.halts;
-  no_call = handles.no_call;
-  cause = handles.cause;
-}
-  where
-    followed : (r : Answer) → IfOk r (λ reply. Follows reply new.state) → IfOk r (λ reply. Also reply new.state)
-    followed (Ok reply) h = implies reply new.state h
-    followed (Err fault) h = tt
+abbrev fails : (A : Type 0) → ReplicaFault → AnswerOf A
+fails A fault = Err fault
 
-    either : (image : List ℕ) → OpensAsEither old.shape old.state Follows image → OpensAsEither old.shape old.state Also image
-    either image (inl was) = inl was
-    either image (inr is) = inr (is.0, is.1, is.2, implies is.1 is.0 is.3)
+fault_in : (A : Type 0) → AnswerOf A → ReplicaFault
+fault_in A (Ok answer) = NoMemory
+fault_in A (Err fault) = fault
+
+-- the faults of two calls are the same where the calls fail in the same way
+err_same : (A B : Type 0) (fault other : ReplicaFault) → fails A fault ≡ fails A other → fails B fault ≡ fails B other
+unfolding fault_in
+err_same A B fault other h = ap (fails B) (ap (fault_in A) h)
+
+halts_same : (A B : Type 0) (halted : Bool) (fault : ReplicaFault) → halted_after halted (fails A fault) ≡ halted_after halted (fails B fault)
+halts_same A B halted Disk = refl
+halts_same A B halted Halted = refl
+halts_same A B halted NoMemory = refl
+
+-- a call whose answer is seen as another, of which what follows is implied
+module _ {D A B : Type 0} (tells : Type 0) (seen : D → List ℕ) (may_leave : D → List ℕ → Type 0) (moment : D → ℕ)
+    (left_since : D → ℕ → List ℕ → Type 0) (faults_of : D → ℕ) (sound : D → Type 0) (f : A → B)
+    (Follows : Option A → StateOf Version → Type 0) (Also : Option B → StateOf Version → Type 0)
+    (implies : (answer : Option A) (st : StateOf Version) → Follows answer st → Also (option_map f answer) st) (old new : Brick D) where
+  either : (image : List ℕ) → OpensAsEither old.shape old.state Follows image → OpensAsEither old.shape old.state Also image
+  either image (inl was) = inl was
+  either image (inr is) = inr (is.0, option_map f is.1, is.2, implies is.1 is.0 is.3)
+
+  pub handles_seen : (result : AnswerOf A) → Handles tells seen may_leave moment left_since faults_of sound Follows old new result
+      → Handles tells seen may_leave moment left_since faults_of sound Also old new (seen_as f result)
+  handles_seen (Ok answer) handles = record {
+    ok = implies answer new.state handles.ok;
+    refused = tt;
+    shape = handles.shape;
+    durable = handles.durable;
+    any_moment = λ told running.
+        widened moment left_since old.disk new.disk (OpensAsEither old.shape old.state Follows) (OpensAsEither old.shape old.state Also) either
+        (handles.any_moment told running);
+    still = handles.still;
+    halted = λ h. let wrong = handles.halted h in absurd cc;
+    only_halted = λ h. absurd cc;
+    halts = handles.halts;
+    no_call = tt;
+    cause = kept_as (faults_of old.disk) (faults_of new.disk) (sound old.disk) (sound new.disk) _ _ (λ h. absurd cc) handles.cause;
+  }
+  handles_seen (Err fault) handles = record {
+    ok = tt;
+    refused = handles.refused;
+    shape = handles.shape;
+    durable = handles.durable;
+    any_moment = λ told running.
+        widened moment left_since old.disk new.disk (OpensAsEither old.shape old.state Follows) (OpensAsEither old.shape old.state Also) either
+        (handles.any_moment told running);
+    still = tt;
+    halted = λ h. err_same A B fault Halted (handles.halted h);
+    only_halted = λ h. handles.only_halted (err_same B A fault Halted h);
+    halts = handles.halts ∙ halts_same A B old.halted fault;
+    no_call = λ other. handles.no_call (λ h. other (err_same A B fault Disk h));
+    cause = kept_as (faults_of old.disk) (faults_of new.disk) (sound old.disk) (sound new.disk) _ _ (λ h. err_same B A fault Disk h) handles.cause;
+  }

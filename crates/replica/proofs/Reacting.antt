@@ -17,7 +17,7 @@ use Rattle.brick_store.specs.Blocks.{log_of}
 use Rattle.protocol.specs.Replicas.{Replica, Reaction, stays, promised, stored, unless_full}
 use Rattle.protocol.specs.Nodes.{put}
 use Rattle.replica.specs.Parts.{as_version, part_of, part_in}
-use Rattle.replica.specs.Reactions.{full_in, IsReacted}
+use Rattle.replica.specs.Reactions.{full_in, IsReacted, KeepsOtherViews}
 use Rattle.replica.proofs.Places.{put_here, put_other, live_put}
 
 differ : {A : Type 0} → false ≡ true → A
@@ -56,6 +56,10 @@ parts_put block g s new st sorted h t = by (eqb h g) refl
     by true group = inside (eqb t s) (eqb-true h g group) refl
     by false group = away (λ same. differ (sym group ∙ eq-eqb h g (ap (λ (p : Place). p.0) same)))
 
+-- nothing changes in other views
+views_put : (g s : ℕ) (new : StripeOf Kept) (st : StateOf Kept) → KeepsOtherViews st (with_stripe (g, 1, s) new st)
+views_put g s new st h v t other = put_other (g, 1, s) (h, v, t) new st.stripes (λ same. other (ap (λ (p : Place). p.1) same))
+
 -- a part put where it is changes nothing
 parts_same : (f : ℕ → ℕ → Replica) (g s h t : ℕ) → f h t ≡ put f g (put (f g) s (f g s)) h t
 parts_same f g s h t = by (eqb h g) refl
@@ -76,8 +80,8 @@ reacted_stays block g s reply st = record {
   boot = refl;
   groups = refl;
   live = refl;
-  parts = λ h t. parts_same
-      (part_in block st) g s h t;
+  parts = λ h t. parts_same (part_in block st) g s h t;
+  views = λ h v t other. refl;
 }
 
 -- ---- an order stamp
@@ -110,6 +114,7 @@ module _ (block g s : ℕ) (st : StateOf Kept) (sorted : IsStrictlySortedBy plac
         (later_not_first stripe.order t later)
         (live_put (g, 1, s) (with_order t stripe) st.stripes sorted);
     parts = parts_put block g s (with_order t stripe) st sorted;
+    views = views_put g s (with_order t stripe) st;
   }
 
   pub order_moves : (t : Stamp) → stamp_below stripe.order t ≡ true → part_in block (ordered (g, 1, s) t st) g s ≡ part_in block st g s → ⊥
@@ -146,6 +151,7 @@ module _ (block g s : ℕ) (st : StateOf Kept) (sorted : IsStrictlySortedBy plac
         parts = λ h i.
             subst (λ (r : Replica). part_in block (added (g, 1, s) v st) h i ≡ put (part_in block st) g (put (part_in block st g) s r) h i)
             (log_added v) (parts_put block g s (with_added v stripe) st sorted h i);
+        views = views_put g s (with_added v stripe) st;
       }
 
   pub store_moves : (t : Stamp) (bytes : List ℕ) → part_in block (added (g, 1, s) (version t bytes) st) g s ≡ part_in block st g s → ⊥

@@ -1,19 +1,18 @@
 -- A reaction over what a store keeps is the step of each brick of the machine that keeps it.
 use Rattle.std.proofs.Common.{◌≡◌, ℕ, ◌+◌, Bool, true, false, ◌&&◌, cond, eqb, Option, Some, None, refl, sym, ap, subst, ◌∙◌}
-use Rattle.std.specs.Prelude.{slice_index_or}
+use Rattle.std.specs.Option.{option_map}
 use Rattle.fab_base.specs.declared.identities.BrickId.{BrickId}
 use Rattle.messages.specs.declared.calls.Call.{Call}
+use Rattle.messages.specs.declared.packets.Message.{Message}
 use Rattle.messages.specs.declared.requests.Request.{Request}
 use Rattle.messages.specs.declared.replies.Reply.{Reply}
 use Rattle.version_log.specs.Versions.{Version}
-use Rattle.brick_state.specs.declared.groups.Group.{Group as Kept}
-use Rattle.brick_state.specs.States.{StateOf, no_group}
-use Rattle.std.specs.Prelude.{List}
+use Rattle.brick_state.specs.States.{StateOf}
 use Rattle.fab_base.specs.Layouts.{Layout, Group, group_of, seat_in}
 use Rattle.protocol.specs.Replicas.{Replica, Reaction, handle}
 use Rattle.protocol.specs.Nodes.{Node, NodeStep, put, is_served, fits_block, requested_in, requested_at, reacted, with_replica, full_at, replica_at, no_step, reply_packets}
-use Rattle.replica.specs.Parts.{part_in, IsPartsOf, IsFirstView}
-use Rattle.replica.specs.Reactions.{full_in, seat_served, IsReacted, IsStep}
+use Rattle.replica.specs.Parts.{part_in, IsPartsOf}
+use Rattle.replica.specs.Reactions.{full_in, seat_served, answer_packets, IsReacted, IsStep}
 
 -- ---- the step of the machine
 
@@ -75,39 +74,45 @@ module _ (block : ℕ) (before after : StateOf Version) (node : Node) (parts : I
       ap (λ (n : ℕ). handle (cond (eqb n records) (Some n) None) seat (replica_at node call) request) parts.live
       ∙ ap (λ (r : Replica). handle (full_in records before) seat r request) (parts.replicas call.group.0 call.stripe.0)
 
--- no later view is learnt
-first_view_after : (before after : StateOf Version) → after.groups ≡ before.groups → IsFirstView before → IsFirstView after
-first_view_after before after groups view g = ap (λ (gs : List Kept). (slice_index_or gs g no_group).known) groups ∙ view g
+-- the packets of a reply are those of an answer
+reply_is : (me from : BrickId) (call : Call) (reply : Option Reply) → reply_packets me from call reply ≡ answer_packets me from
+    (option_map (λ r. Message.Reply call r) reply)
+reply_is me from call None = refl
+reply_is me from call (Some reply) = refl
 
-module _ (layout : Layout) (me : BrickId) (call : Call) (request : Request) (before : StateOf Version) (view : IsFirstView before) where
+module _ (layout : Layout) (me from : BrickId) (call : Call) (request : Request) (before : StateOf Version) where
   -- the member's reaction
   pub step_served : (seat : ℕ) → seat_served layout me call request (group_of layout call.group.0) ≡ Some seat
       → (reply : Option Reply) (after : StateOf Version)
       → IsReacted layout.block call.group.0 call.stripe.0 before
       (handle (full_in layout.records before) seat (part_in layout.block before call.group.0 call.stripe.0) request) reply after
-      → IsStep layout me call request before reply after
+      → IsStep layout me from (Message.Request call request) before (option_map (λ r. Message.Reply call r) reply) after
   step_served seat served reply after reacted_so = record {
-    packets = λ from node parts. ap (λ (step : NodeStep). step.packets) (is from node parts) ∙ ap (reply_packets me from call) reacted_so.told;
-    parts = λ from node parts. subst (λ (step : NodeStep). IsPartsOf layout.block after step.node) (sym (is from node parts))
+    packets = λ node parts. ap (λ (step : NodeStep). step.packets) (is node parts) ∙ ap (reply_packets me from call) reacted_so.told
+        ∙ reply_is me from call reply;
+    parts = λ node parts. subst (λ (step : NodeStep). IsPartsOf layout.block after step.node) (sym (is node parts))
         (parts_after layout.block before after node parts call reaction reply reacted_so);
-    view = first_view_after before after reacted_so.groups view;
+    groups = reacted_so.groups;
+    views = reacted_so.views;
   }
     where
       reaction : Reaction
       reaction = handle (full_in layout.records before) seat (part_in layout.block before call.group.0 call.stripe.0) request
 
-      is : (from : BrickId) (node : Node) → IsPartsOf layout.block before node → requested_in layout me from node call request
-          (group_of layout call.group.0) ≡ reacted me from node call reaction
-      is from node parts =
+      is : (node : Node) → IsPartsOf layout.block before node → requested_in layout me from node call request (group_of layout call.group.0)
+          ≡ reacted me from node call reaction
+      is node parts =
           served_is layout me from node call request (group_of layout call.group.0) seat served
           ∙ ap (reacted me from node call) (same_reaction layout.block before before node parts layout.records seat call request)
 
   -- no reaction
-  pub step_void : seat_served layout me call request (group_of layout call.group.0) ≡ None → IsStep layout me call request before None before
+  pub step_void : seat_served layout me call request (group_of layout call.group.0) ≡ None
+      → IsStep layout me from (Message.Request call request) before None before
   step_void void = record {
-    packets = λ from node parts. ap (λ (step : NodeStep). step.packets)
+    packets = λ node parts. ap (λ (step : NodeStep). step.packets)
         (void_is layout me from node call request (group_of layout call.group.0) void);
-    parts = λ from node parts. subst (λ (step : NodeStep). IsPartsOf layout.block before step.node)
+    parts = λ node parts. subst (λ (step : NodeStep). IsPartsOf layout.block before step.node)
         (sym (void_is layout me from node call request (group_of layout call.group.0) void)) parts;
-    view = view;
+    groups = refl;
+    views = λ h v t other. refl;
   }

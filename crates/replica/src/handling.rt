@@ -1,14 +1,15 @@
-//! Requests to a brick's part of a stripe.
+//! Messages to a brick's part of a stripe.
 
 ghost use Rattle.std.specs.Prelude.{◌≡◌, ◌≢◌, ◌<◌, ◌≤◌, Err, IsSome, IsTrue, length};
 ghost use Rattle.brick_store.specs.declared.faults.StoreFault.TheVariants as faults;
 ghost use Rattle.frame_store.specs.Layouts.{shape_of};
 ghost use Rattle.fab_base.specs.Layouts.{seat_in, group_of};
 ghost use Rattle.protocol.specs.Nodes.{is_served, fits_block};
+ghost use Rattle.messages.specs.declared.packets.Message.TheVariants as message;
 ghost use Rattle.replica.specs.Parts.{part_in, IsFirstView};
 ghost use Rattle.replica.specs.Plans.{planned, IsChange};
 ghost use Rattle.replica.specs.Reactions.{full_in, seat_served, IsReacted, IsStep};
-ghost use Rattle.replica.specs.Handling.{Handles, Runs, answered, me_of};
+ghost use Rattle.replica.specs.Handling.{Handles, Runs, answered, me_of, seen_as};
 
 use crate::faults::ReplicaFault;
 use crate::members::decide;
@@ -16,8 +17,8 @@ use crate::plans::Plan;
 use brick_store::{BrickStore, StoreFault};
 use fab_base::{BrickId, GroupId, StripeNo, ViewNo};
 use fab_disk::Disk;
-use messages::{Call, Reply, Request};
 use layout::{Group, Layout};
+use messages::{Call, Message, Reply, Request};
 use std::alloc::Global;
 
 // The view of each stripe, until a brick learns of a later one.
@@ -50,7 +51,7 @@ fn carry_out<D: Disk>(
     requires view { IsFirstView store.old.state }
     requires runs { Runs D.tells D.may_leave store.old }
     requires change { IsChange store.old.shape.block (part_in store.old.shape.block store.old.state group.0 stripe.0) plan }
-    ensures { Handles D.tells D.seen D.may_leave D.moment D.left_since D.faults D.sound group.0 stripe.0
+    ensures { Handles D.tells D.seen D.may_leave D.moment D.left_since D.faults D.sound
         (IsReacted store.old.shape.block group.0 stripe.0 store.old.state
         (planned (full_in store.old.shape.records store.old.state)
         (part_in store.old.shape.block store.old.state group.0 stripe.0) plan)) store.old store.new result }
@@ -104,9 +105,24 @@ fn seat_served(layout: &Layout, me: BrickId, call: Call, request: &Request) -> O
     }
 }
 
-/// Does what a brick of the machine does with a request to a stripe: the reply, if there is one.
+// The answer that carries a reply to its call.
+fn answer(
+    call: Call,
+    reply: Result<Option<Reply>, ReplicaFault>,
+) -> Result<Option<Message>, ReplicaFault>
+    ensures { result ≡ seen_as (λ r. message.Reply call r) reply }
+{
+    match reply {
+        Ok(Some(reply)) => Ok(Some(Message::Reply(call, reply))),
+        Ok(None) => Ok(None),
+        Err(fault) => Err(fault),
+    }
+}
+
+/// Does what a brick of the machine does with a message as a member of a group: its answer to the sender, if there is one. A message that
+/// is no request, or is a request of a stripe that the brick does not serve, has none.
 ///
-/// The reply is made only once what it promises is kept. A request that changes nothing makes no call of the disk.
+/// The answer is made only once what it promises is kept. A message that changes nothing makes no call of the disk.
 ///
 /// # Errors
 /// [`ReplicaFault::Halted`]: an earlier call of the store answered Disk. [`ReplicaFault::Disk`]: the disk failed, and the store is
@@ -115,21 +131,26 @@ pub fn handle<D: Disk>(
     alloc: Global,
     store: &mut BrickStore<D>,
     layout: &Layout,
-    call: Call,
-    request: &Request,
-) -> Result<Option<Reply>, ReplicaFault>
+    from: BrickId,
+    message: &Message,
+) -> Result<Option<Message>, ReplicaFault>
     requires shape { store.old.shape ≡ shape_of store.old.shape.me layout.now.block layout.now.records }
     requires view { IsFirstView store.old.state }
-    ensures { Handles D.tells D.seen D.may_leave D.moment D.left_since D.faults D.sound call.group.0 call.stripe.0
-        (IsStep layout.now (me_of store.old) call request.now store.old.state) store.old store.new result }
+    ensures { Handles D.tells D.seen D.may_leave D.moment D.left_since D.faults D.sound
+        (IsStep layout.now (me_of store.old) from message.now store.old.state) store.old store.new result }
 {
+    // A member answers whoever asks.
+    let _ = from;
     if store.is_halted() {
         return Err(ReplicaFault::Halted);
     }
-    let Some(seat) = seat_served(layout, store.me(), call, request) else {
+    let Message::Request(call, request) = message else {
+        return Ok(None);
+    };
+    let Some(seat) = seat_served(layout, store.me(), *call, request) else {
         return Ok(None);
     };
     let part = store.state(call.group, FIRST_VIEW, call.stripe);
     let plan = decide(alloc, seat, layout.block(), &part, request)?;
-    carry_out(store, call.group, call.stripe, plan)
+    answer(*call, carry_out(store, call.group, call.stripe, plan))
 }

@@ -46,11 +46,11 @@ returns-in-Promise g c =
     let Follows = λ (p : Plan). IsReacted block n s st (planned full part p) in
     let sorted = c.requires.runs.ordered.sorted in
     let later : stamp_below (stripe_at st (n, 1, s)).order t ≡ true = subst (λ (p : Plan). IsChange block part p) c.in-Promise.is c.requires.change in
-    subst (λ (p : Plan). Handles d.tells d.seen d.may_leave d.moment d.left_since d.faults d.sound n s (Follows p) old new c.answered.result)
+    subst (λ (p : Plan). Handles d.tells d.seen d.may_leave d.moment d.left_since d.faults d.sound (Follows p) old new c.answered.result)
     (sym c.in-Promise.is)
-    (subst (λ (r : Result (Option Reply) ReplicaFault). Handles d.tells d.seen d.may_leave d.moment d.left_since d.faults d.sound n s
+    (subst (λ (r : Result (Option Reply) ReplicaFault). Handles d.tells d.seen d.may_leave d.moment d.left_since d.faults d.sound
     (Follows (Promise t reply)) old new r) (sym c.answered.ensures)
-    (handles_change d.tells d.seen d.may_leave d.moment d.left_since d.faults d.sound g.met.D.Disk.only_now n s (Follows (Promise t reply)) old new
+    (handles_change d.tells d.seen d.may_leave d.moment d.left_since d.faults d.sound g.met.D.Disk.only_now (Follows (Promise t reply)) n s old new
     (ordered (n, 1, s) t st)
     (adds_stamp t (stripe_at st (n, 1, s)).order) 4 reply c.requires.runs
     (order_made block n s st sorted old.shape.records t reply later)
@@ -72,11 +72,11 @@ returns-in-Store g c =
     let full = full_in old.shape.records st in
     let Follows = λ (p : Plan). IsReacted block n s st (planned full part p) in
     let sorted = c.requires.runs.ordered.sorted in
-    subst (λ (p : Plan). Handles d.tells d.seen d.may_leave d.moment d.left_since d.faults d.sound n s (Follows p) old new c.answered-in-Store.result)
+    subst (λ (p : Plan). Handles d.tells d.seen d.may_leave d.moment d.left_since d.faults d.sound (Follows p) old new c.answered-in-Store.result)
     (sym c.in-Store.is)
-    (subst (λ (r : Result (Option Reply) ReplicaFault). Handles d.tells d.seen d.may_leave d.moment d.left_since d.faults d.sound n s
+    (subst (λ (r : Result (Option Reply) ReplicaFault). Handles d.tells d.seen d.may_leave d.moment d.left_since d.faults d.sound
     (Follows (Store t bytes)) old new r) (sym c.answered-in-Store.ensures)
-    (handles_change d.tells d.seen d.may_leave d.moment d.left_since d.faults d.sound g.met.D.Disk.only_now n s (Follows (Store t bytes)) old new
+    (handles_change d.tells d.seen d.may_leave d.moment d.left_since d.faults d.sound g.met.D.Disk.only_now (Follows (Store t bytes)) n s old new
     (added (n, 1, s) (version t bytes) st)
     true 5 Stored c.requires.runs
     (store_made block n s st sorted old.shape.records t bytes)

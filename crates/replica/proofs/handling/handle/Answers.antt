@@ -1,8 +1,12 @@
 -- What is planned for the part that the store shows is the machine's reaction, and so its step.
-use Rattle.std.proofs.Common.{◌≡◌, ℕ, Option, Some, List, sym, ap, subst, ◌∙◌}
+use Rattle.std.proofs.Common.{◌≡◌, ℕ, Option, Some, List, Result, sym, ap, subst, ◌∙◌}
 use Rattle.fab_base.specs.declared.identities.BrickId.{BrickId}
 use Rattle.fab_base.specs.declared.stamps.Stamp.{Stamp}
+use Rattle.messages.specs.declared.calls.Call.{Call}
+use Rattle.messages.specs.declared.requests.Request.{Request}
+use Rattle.messages.specs.declared.packets.Message.{Message}
 use Rattle.messages.specs.declared.replies.Reply.{Reply}
+use Rattle.replica.specs.declared.faults.ReplicaFault.{ReplicaFault}
 use Rattle.frame_store.specs.declared.shapes.Shape.{Shape}
 use Rattle.version_log.specs.Versions.{Version}
 use Rattle.brick_state.specs.States.{StateOf}
@@ -13,8 +17,8 @@ use Rattle.protocol.specs.Replicas.{Replica, Reaction, handle}
 use Rattle.replica.specs.Parts.{part_of, part_seen, part_in}
 use Rattle.replica.specs.Plans.{planned}
 use Rattle.replica.specs.Reactions.{full_in, seat_served, IsReacted, IsStep}
-use Rattle.replica.specs.Handling.{me_of}
-use Rattle.replica.proofs.Answering.{handles_imply}
+use Rattle.replica.specs.Handling.{me_of, seen_as, Handles}
+use Rattle.replica.proofs.Answering.{handles_seen}
 use Rattle.replica.proofs.Stepping.{step_served}
 use Rattle.replica.proofs.handling.handle.Goals as goal
 
@@ -28,8 +32,9 @@ returns g c =
     let old = c.args.store.now in
     let new = c.carry_out.new.store in
     let layout = c.args.layout.now in
-    let call = c.args.call in
-    let request = c.args.request.now in
+    let from = c.args.from in
+    let call = c.in-Request.call in
+    let request = c.in-Request.request in
     let st = old.state in
     let n = call.group.0 in
     let s = call.stripe.0 in
@@ -48,13 +53,17 @@ returns g c =
     let served : seat_served layout (me_of old) call request (group_of layout n) ≡ Some seat
     = subst (λ (b : BrickId). seat_served layout b call request (group_of layout n) ≡ Some seat) me (sym c.seat_served.ensures.seat ∙ c.in-Some.is) in
     let step = λ (reply : Option Reply) (after : StateOf Version) (reacted : IsReacted old.shape.block n s st (planned full part plan) reply after).
-    step_served layout (me_of old) call request st c.requires.view seat served reply after
+    step_served layout (me_of old) from call request st seat served reply after
     (subst (λ (k : ℕ). IsReacted layout.block n s st (handle (full_in k st) seat (part_in layout.block st n s) request) reply after) records
     (subst (λ (b : ℕ). IsReacted b n s st (handle full seat (part_in b st n s) request) reply after) block
     (subst (λ (r : Reaction). IsReacted old.shape.block n s st r reply after) reaction reacted))) in
-    handles_imply d.tells d.seen d.may_leave d.moment d.left_since d.faults d.sound n s (IsReacted old.shape.block n s st (planned full part plan))
-    (IsStep layout (me_of old) call request st) step old new
-    c.carry_out.result c.carry_out.ensures
+    subst (λ (m : Message). Handles d.tells d.seen d.may_leave d.moment d.left_since d.faults d.sound (IsStep layout (me_of old) from m st) old new
+    c.answer.result) (sym c.in-Request.is)
+    (subst (λ (r : Result (Option Message) ReplicaFault). Handles d.tells d.seen d.may_leave d.moment d.left_since d.faults d.sound
+    (IsStep layout (me_of old) from (Message.Request call request) st) old new r) (sym c.answer.ensures)
+    (handles_seen d.tells d.seen d.may_leave d.moment d.left_since d.faults d.sound (λ (r : Reply). Message.Reply call r)
+    (IsReacted old.shape.block n s st (planned full part plan)) (IsStep layout (me_of old) from (Message.Request call request) st) step old new
+    c.carry_out.result c.carry_out.ensures))
   where
     brick : ℕ → BrickId
     brick k = record { 0 = k }

@@ -34,7 +34,7 @@ pub returns-clause-begun : goal.returns-clause-begun
 returns-clause-begun g c =
     let x = c.self.inside in
     subst
-    (λ (n : Running g.row.D.Denot). BeginsAs (state_of (running x.layout c.begin.new.self x.store))
+    (λ (n : Running g.row.D.Denot). BeginsAs n.me (state_of (running x.layout c.begin.new.self x.store))
     (invoked (coding n.layout) n.me c.args.now (state_of n) c.args.ask.now) c.in_ok-begin.field-0)
     c.self.view_is
     (begins_so x.layout x.calls c.begin.new.self x.store c.self.invariant.boot c.args.now c.args.ask.now c.in-Ok.group.now c.in_ok-begin.field-0

@@ -28,7 +28,7 @@ pub returns-clause-step : goal.returns-clause-step
 returns-clause-step g c =
     let x = c.self.inside in
     subst
-    (λ (n : Running g.row.D.Denot). StepsAs (state_of (running x.layout c.on_reply.new.self x.store))
+    (λ (n : Running g.row.D.Denot). StepsAs n.me (state_of (running x.layout c.on_reply.new.self x.store))
     (replied (coding n.layout) n.me c.args.now c.args.packet.now.from (state_of n) c.args.call c.args.reply.now) c.in_ok-on_reply.field-0)
     c.self.view_is
     (steps_so x.layout x.calls c.on_reply.new.self x.store c.self.invariant.boot

@@ -2,6 +2,7 @@
 use Rattle.std.proofs.Common.{◌≡◌, sym, ◌∙◌, ap, subst}
 use Rattle.protocol.specs.Nodes.{Node, ticked}
 use Rattle.stripe_code.specs.Codes.{coding}
+use Rattle.coord_phase.specs.Messages.{packets_from}
 use Rattle.node.specs.States.{parts_in}
 use Rattle.node.specs.Running.{Running, state_of}
 use Rattle.node.proofs.Views.{seen_so}
@@ -10,6 +11,6 @@ use Rattle.node.proofs.nodes.Node.on_tick.Goals as goal
 pub returns-clause-packets : goal.returns-clause-packets
 returns-clause-packets g c =
     let x = c.self.inside in
-    subst (λ (n : Running g.row.D.Denot). c.in_ok-on_tick.field-0.items ≡ ticked (coding n.layout) n.me (state_of n)) c.self.view_is
+    subst (λ (n : Running g.row.D.Denot). packets_from n.me c.in_ok-on_tick.field-0.items ≡ ticked (coding n.layout) n.me (state_of n)) c.self.view_is
     (c.in_ok-on_tick.ensures.packets (parts_in x.layout.block x.store.state)
     ∙ ap (λ (s : Node). ticked (coding x.layout) x.calls.me s) (sym (seen_so x.layout x.calls x.store c.self.invariant.boot)))

@@ -1,5 +1,5 @@
 -- The new operation is the machine's, and its number was free.
-use Rattle.std.proofs.Common.{◌≡◌, ◌+◌, Some, None, [], length, refl, ◌∙◌, ap, subst, arith}
+use Rattle.std.proofs.Common.{◌≡◌, ◌+◌, Some, None, [], length, refl, sym, ◌∙◌, ap, subst, arith}
 use Rattle.std.specs.Option.{is_some, option_map}
 use Rattle.std.specs.Ordering.{nat_cmp}
 use Rattle.std.specs.BTreeMap.{get, btree_map_len}
@@ -7,7 +7,7 @@ use Rattle.fab_base.specs.declared.asks.Ask.{Ask}
 use Rattle.fab_base.specs.declared.stamps.Stamp.{Stamp}
 use Rattle.fab_base.specs.Layouts.{Group}
 use Rattle.protocol.specs.Coordinators.{Coordinator}
-use Rattle.protocol.specs.Nodes.{put, phase_packets, first_phase, new_coordinator}
+use Rattle.protocol.specs.Nodes.{put, new_stamp, phase_packets, first_phase, new_coordinator}
 use Rattle.stripe_code.specs.Codes.{coding}
 use Rattle.coord_phase.specs.Operations as phased
 use Rattle.node.specs.declared.operations.Operation.{Operation}
@@ -15,6 +15,7 @@ use Rattle.node.specs.Operations.{shown_of, coordinator_of}
 use Rattle.node.specs.States.{Parts, state_with, IsAt}
 use Rattle.node.proofs.States.{same_states, on_err}
 use Rattle.node.proofs.Tables.{shown_after, same_calls, each_after, each_same, one_more}
+use Rattle.node.proofs.Sent.{made_is}
 use Rattle.node.proofs.Answered.{group_in_first_view}
 use Rattle.node.proofs.open_calls.OpenCalls.begin.Goals as goal
 
@@ -47,14 +48,16 @@ returns-clause-begun c = λ parts.
     let n = c.insert.new.self in
     let seq = c.args.self.now.seq + 1 in
     let operation : Operation = c.in_ok-operation.operation in
+    let stamp : c.in-Some.stamp ≡ new_stamp me c.args.now before.boot before.known =
+    made_is me c.args.now before.boot before.known c.in-Some.stamp c.requires.known (sym c.fresh_stamp.ensures ∙ c.in-Some.is) in
     let same : coordinator_of operation ≡ new_coordinator me c.args.now before c.args.ask.now =
     ap (λ (op : phased.Operation). op.state) c.in_ok-operation.ensures.operation ∙ (λ i. record {
       ask = c.in_ok-copy.ensures i;
-      stamp = c.new_stamp-stamp.ensures i;
+      stamp = stamp i;
       round = 1;
       base = None;
       content = [];
-      call = record { boot = c.args.self.now.boot; seq = seq; phase = 1; group = (c.in_ok-copy.ensures i).group; view = record { 0 = 1 }; stripe = (c.in_ok-copy.ensures i).stripe };
+      call = record { boot = c.args.self.now.stamps.boot; seq = seq; phase = 1; group = (c.in_ok-copy.ensures i).group; view = record { 0 = 1 }; stripe = (c.in_ok-copy.ensures i).stripe };
       phase = first_phase (c.in_ok-copy.ensures i).op;
       counted = [];
     }) in
@@ -64,12 +67,11 @@ returns-clause-begun c = λ parts.
     ∙ group_in_first_view layout c.args.ask.now.group.0 group c.requires.group in
     let absent = ap is_some c.in_ok-insert.ensures.old ∙ c.args.self.now.fresh seq (omega arith) in
     record {
-      packets = c.in_ok-packets.ensures.items
-          ∙ c.in_ok-operation.ensures.sends me
+      packets = c.in_ok-operation.ensures.sends me
           ∙ ap (λ (g : Group). phase_packets (coding layout) g me (coordinator_of operation)) group_is
           ∙ ap (λ (k : Coordinator). phase_packets (coding layout) group me k) same;
       seq = refl;
-      state_is = same_states _ _ refl refl (ap (λ (t : Stamp). t.time) c.new_stamp-stamp.ensures)
+      state_is = same_states _ _ refl refl (ap (λ (t : Stamp). t.time) stamp)
           (one_more c.in_ok-insert.field-0 (btree_map_len m) (btree_map_len n) absent c.in_ok-insert.ensures.len)
           refl (λ g s. refl)
           (λ k. shown_after coordinator_of m n seq (Some operation) c.in_ok-insert.ensures.updates.0 k

@@ -14,9 +14,9 @@ unfolding state_with
 returns-clause-state c =
     let m = c.args.self.now.operations in
     let n = c.remove.new.self in
-    let fewer = one_fewer c.remove.result (btree_map_len m) (btree_map_len n) (ap is_some c.remove.ensures.value ∙ c.requires) c.remove.ensures.len in
+    let fewer = one_fewer c.remove.result (btree_map_len m) (btree_map_len n) (ap is_some c.remove.ensures.value ∙ c.requires.held) c.remove.ensures.len in
     let count : btree_map_len n ≡ btree_map_len m - 1 = omega arith in
-    λ parts. same_states _ _ refl refl refl count refl (λ g s. refl) (shown_after coordinator_of m n c.args.seq None c.remove.ensures.updates.0)
+    λ parts. same_states _ _ c.requires.boot refl refl count refl (λ g s. refl) (shown_after coordinator_of m n c.args.seq None c.remove.ensures.updates.0)
 
 pub returns-clause-node : goal.returns-clause-node
 returns-clause-node c =

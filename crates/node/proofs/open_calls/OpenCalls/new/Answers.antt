@@ -4,6 +4,7 @@ use Rattle.std.specs.Option.{option_map}
 use Rattle.std.specs.Map.{lookup}
 use Rattle.std.specs.BTreeMap.{is_at}
 use Rattle.std.specs.Ordering.{nat_cmp}
+use Rattle.stamp_store.specs.declared.stamp_sources.StampSource.{StampSource}
 use Rattle.node.specs.Operations.{coordinator_of}
 use Rattle.node.specs.States.{state_with}
 use Rattle.node.proofs.States.{same_states}
@@ -12,5 +13,6 @@ use Rattle.node.proofs.open_calls.OpenCalls.new.Goals as goal
 pub returns-clause-state : goal.returns-clause-state
 unfolding state_with
 returns-clause-state c =
-    λ parts. same_states _ _ refl refl refl c.new.ensures.len refl (λ g s. refl)
-    (λ k. ap (λ es. option_map coordinator_of (lookup (is_at (nat_cmp k)) es)) c.new.ensures.empty)
+    λ parts. same_states _ _ (ap (λ (s : StampSource). s.boot) c.new-stamps.ensures) refl (ap (λ (s : StampSource). s.known) c.new-stamps.ensures)
+    c.new-operations.ensures.len refl (λ g s. refl)
+    (λ k. ap (λ es. option_map coordinator_of (lookup (is_at (nat_cmp k)) es)) c.new-operations.ensures.empty)

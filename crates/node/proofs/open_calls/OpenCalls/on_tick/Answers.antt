@@ -9,6 +9,7 @@ use Rattle.std.proofs.lemmas.List.{append-nil}
 use Rattle.std.proofs.lemmas.Map.Iter.{rest_all}
 use Rattle.protocol.specs.Nodes.{resent, ticked}
 use Rattle.stripe_code.specs.Codes.{coding}
+use Rattle.coord_phase.specs.Messages.{packets_from}
 use Rattle.node.specs.declared.operations.Operation.{Operation}
 use Rattle.node.specs.Operations.{coordinator_of, IsOperationOf}
 use Rattle.node.specs.States.{state_with}
@@ -28,7 +29,7 @@ loop-operation-init c =
     all_values (λ (op : Operation). IsOperationOf layout op) node.operations node.seq within (λ k op is. (c.requires k op is).is_operation) in
     let same = ap length c.into_iter-operation-iterator.ensures.into_iter_gives in
     record {
-      sends = ap (λ front. front ++ flat_map sends c.into_iter-operation-iterator.result) c.new-packets.ensures.items ∙ ap (flat_map sends) left;
+      sends = ap (λ front. packets_from node.me front ++ flat_map sends c.into_iter-operation-iterator.result) c.new-messages.ensures.items ∙ ap (flat_map sends) left;
       kept = subst (λ (ops : List Operation). AllByRecursion (λ (op : Operation). IsOperationOf layout op) ops) (sym left) each;
       few = omega (arith, node.few, c.values-operation-items.ensures.len);
     }
@@ -43,8 +44,8 @@ returns-clause-packets c = λ parts.
     let within : IsWithin node.operations node.seq = record { ordered = c.values-operation-items.ensures.ordered; none = node.from_one; fresh = node.fresh } in
     let none : c.loop-operation.operation-iterator ≡ [] =
     rest_all (deref {X = Operation}) c.loop-operation.operation-iterator c.next.new.self c.next.result c.in-None.is c.next.ensures.steps in
-    sym (append-nil c.loop-operation.packets.items)
-    ∙ ap (λ left. c.loop-operation.packets.items ++ flat_map sends left) (sym none)
+    sym (append-nil (packets_from node.me c.loop-operation.messages.items))
+    ∙ ap (λ left. packets_from node.me c.loop-operation.messages.items ++ flat_map sends left) (sym none)
     ∙ c.loop-operation.invariant.sends
     ∙ values_by_key sends (λ k. resent (coding layout) node.me (calls k)) node.operations node.seq within
     (λ k. resent_of (coding layout) node.me (get nat_cmp node.operations k))

@@ -12,7 +12,7 @@ unfolding state_with
 returns-in-Some-clause-state c =
     let m = c.args.self.now.operations in
     let written = c.get_mut.follows.holds c.args.operation in
-    λ parts. same_states _ _ refl refl refl written.2 refl (λ g s. refl)
+    λ parts. same_states _ _ c.requires.boot refl refl written.2 refl (λ g s. refl)
     (shown_after coordinator_of m (c.get_mut.follows.lender c.args.operation) c.args.seq (Some c.args.operation) (written.3 (search rules)).0)
 
 pub returns-in-Some-clause-node : goal.returns-in-Some-clause-node
