@@ -12,6 +12,8 @@ use Rattle.fab_base.specs.declared.identities.BrickId.{BrickId}
 use Rattle.fab_disk.specs.MemDisk.{IsSound}
 use Rattle.fab_disk.specs.declared.mem_disk.MemDisk.{MemDisk}
 use Rattle.messages.specs.declared.packets.Packet.{Packet}
+use Rattle.messages.specs.declared.packets.Message.{Message}
+use Rattle.coord_phase.specs.Messages.{packets_from}
 use Rattle.brick_store.specs.Bricks.{Brick as Store}
 use Rattle.node.specs.declared.outs.Begun.{Begun}
 use Rattle.node.specs.declared.outs.Outs.{Outs}
@@ -160,12 +162,12 @@ module _ (layout : Layout) (bricks : List Brick) (b : ℕ) (old : Brick) (power 
       shows_kept layout bricks b old power w within is (turns (w.nodes b) (w.up b) (brick_at layout bricks w b old within is shows).power) shows
 
 -- what a brick sends at a tick is what the machine's sends
-pub ticks_as : (layout : Layout) (bricks : List Brick) (b : ℕ) (brick : Brick) (node : Running MemDisk) (packets : List Packet) → b < length bricks
-    → brick ≡ get_or bricks b brick → brick.power ≡ Up node → packets ≡ machine.ticked (coding node.layout) node.me (state_of node)
-    → (w : World) → ShowsBricks layout bricks w.nodes w.up w.clocks → packets ≡ machine.ticked (coding layout) (brick_of b) (w.nodes b)
-ticks_as layout bricks b brick node packets within is on sent w shows =
+pub ticks_as : (layout : Layout) (bricks : List Brick) (b : ℕ) (brick : Brick) (node : Running MemDisk) (messages : List (BrickId × Message)) → b < length bricks
+    → brick ≡ get_or bricks b brick → brick.power ≡ Up node → packets_from node.me messages ≡ machine.ticked (coding node.layout) node.me (state_of node)
+    → (w : World) → ShowsBricks layout bricks w.nodes w.up w.clocks → packets_from (brick_of b) messages ≡ machine.ticked (coding layout) (brick_of b) (w.nodes b)
+ticks_as layout bricks b brick node messages within is on sent w shows =
     let runs = (runs_at layout bricks w b brick node within is on shows).1 in
-    sent ∙ ap (λ (l : Layout). machine.ticked (coding l) node.me (state_of node)) runs.layout_is
+    ap (λ (x : BrickId). packets_from x messages) (sym runs.me_is) ∙ sent ∙ ap (λ (l : Layout). machine.ticked (coding l) node.me (state_of node)) runs.layout_is
     ∙ ap (λ (x : BrickId). machine.ticked (coding layout) x (state_of node)) runs.me_is
     ∙ ap (λ (x : machine.Node). machine.ticked (coding layout) (brick_of b) x) runs.state_is
 
@@ -193,13 +195,13 @@ asked_refused layout bricks b brick node ask result within is on refuses w shows
 -- a brick begins as the machine's does
 pub asked_begun : (bricks : List Brick) (b : ℕ) (old : Brick) (node new : Running MemDisk) (ask : Ask) (result : Result Begun NodeFault)
     → b < length bricks → old ≡ get_or bricks b old → old.power ≡ Up node → IsSameBrick node new → new.brick ≡ node.brick
-    → IfOk result (BeginsAs (state_of new) (machine.invoked (coding node.layout) node.me old.clock (state_of node) ask))
+    → IfOk result (BeginsAs node.me (state_of new) (machine.invoked (coding node.layout) node.me old.clock (state_of node) ask))
     → IfOk result (λ begun. (layout : Layout) (w : World) → ShowsBricks layout bricks w.nodes w.up w.clocks
     → (let step = machine.invoked (coding layout) (brick_of b) (w.clocks b) (w.nodes b) ask in
-    (begun.packets.items ≡ step.packets) × (begun.seq ≡ step.node.seq)
+    (packets_from (brick_of b) begun.messages.items ≡ step.packets) × (begun.seq ≡ step.node.seq)
     × ShowsBricks layout (set bricks b (with_power old (Up new))) (machine.put w.nodes b step.node) w.up w.clocks))
 asked_begun bricks b old node new ask result within is on same store begins =
-    IfOk-weaker result (BeginsAs (state_of new) (machine.invoked (coding node.layout) node.me old.clock (state_of node) ask)) _
+    IfOk-weaker result (BeginsAs node.me (state_of new) (machine.invoked (coding node.layout) node.me old.clock (state_of node) ask)) _
     (λ begun as_machine layout w shows.
     let at = brick_at layout bricks w b old within is shows in
     let up = runs_at layout bricks w b old node within is on shows in
@@ -212,7 +214,7 @@ asked_begun bricks b old node new ask result within is on same store begins =
     ∙ ap (λ (x : machine.Node). machine.invoked (coding layout) (brick_of b) (w.clocks b) x ask) runs.state_is
     in
     let next : machine.Node = (machine.invoked (coding layout) (brick_of b) (w.clocks b) (w.nodes b) ask).node in (
-      as_machine.packets ∙ ap (λ (x : machine.NodeStep). x.packets) alike,
+      ap (λ (x : BrickId). packets_from x begun.messages.items) (sym runs.me_is) ∙ as_machine.packets ∙ ap (λ (x : machine.NodeStep). x.packets) alike,
       as_machine.seq ∙ ap (λ (x : machine.NodeStep). x.node.seq) alike,
       shows_step layout bricks b old new w next at.clock up.0
           (still_runs layout (brick_of b) (w.nodes b) next node new runs same (as_machine.state_is ∙ ap (λ (x : machine.NodeStep). x.node) alike)
@@ -248,10 +250,10 @@ asked_same bricks b old node new result within is on same halted sound err =
 -- a brick handles a message as the machine's does
 pub handed_over : (bricks : List Brick) (b : ℕ) (old : Brick) (node new : Running MemDisk) (packet : Packet) (outs : Outs)
     → b < length bricks → old ≡ get_or bricks b old → old.power ≡ Up node → IsSameBrick node new → new.brick.halted ≡ false → IsSound new.brick.disk
-    → StepsAs (state_of new) (machine.received (coding node.layout) node.me old.clock (state_of node) packet) outs
+    → StepsAs node.me (state_of new) (machine.received (coding node.layout) node.me old.clock (state_of node) packet) outs
     → (layout : Layout) (w : World) → ShowsBricks layout bricks w.nodes w.up w.clocks
     → (let step = machine.received (coding layout) (brick_of b) (w.clocks b) (w.nodes b) packet in
-    (outs.packets.items ≡ step.packets) × (outs.told ≡ step.told)
+    (packets_from (brick_of b) outs.messages.items ≡ step.packets) × (outs.told ≡ step.told)
     × ShowsBricks layout (set bricks b (with_power old (Up new))) (machine.put w.nodes b step.node) w.up w.clocks)
 handed_over bricks b old node new packet outs within is on same halted sound as_machine layout w shows =
     let at = brick_at layout bricks w b old within is shows in
@@ -265,7 +267,7 @@ handed_over bricks b old node new packet outs within is on same halted sound as_
     ∙ ap (λ (x : machine.Node). machine.received (coding layout) (brick_of b) (w.clocks b) x packet) runs.state_is
     in
     let next : machine.Node = (machine.received (coding layout) (brick_of b) (w.clocks b) (w.nodes b) packet).node in (
-      as_machine.packets ∙ ap (λ (x : machine.NodeStep). x.packets) alike,
+      ap (λ (x : BrickId). packets_from x outs.messages.items) (sym runs.me_is) ∙ as_machine.packets ∙ ap (λ (x : machine.NodeStep). x.packets) alike,
       as_machine.told ∙ ap (λ (x : machine.NodeStep). x.told) alike,
       shows_step layout bricks b old new w next at.clock up.0
           (still_runs layout (brick_of b) (w.nodes b) next node new runs same

@@ -7,6 +7,7 @@ ghost use Rattle.protocol.specs.Nodes.{first_node, is_stripe_op, refusal_of, inv
 ghost use Rattle.protocol.specs.Nodes.{put as changed};
 ghost use Rattle.protocol.specs.Worlds.{World, first_world};
 ghost use Rattle.stripe_code.specs.Codes.{coding};
+ghost use Rattle.coord_phase.specs.Messages.{packets_from};
 ghost use Rattle.node.specs.Faults.{RefusesAs};
 ghost use Rattle.world.specs.Shown.{Rests, ShowsBrick, ShowsBricks, ShowsStarted, TurnsOn, FindsUp, IsUp, AreNodesOf, unopened};
 
@@ -14,7 +15,7 @@ use brick_store::StoreFault;
 use fab_base::{Ask, BrickId, NoMem};
 use fab_disk::MemDisk;
 use layout::Layout;
-use messages::Packet;
+use messages::{Messages, Packet};
 use node::{Begun, Node, NodeFault, Outs};
 use std::alloc::Global;
 use std::mem;
@@ -169,9 +170,9 @@ pub fn ask_brick(bricks: &mut Vec<Brick>, number: BrickId, ask: &Ask) -> Result<
         → RefusesAs result (refusal_of layout (w.nodes number.0) ask.now) }
     ensures begun { IfOk result (λ begun. (layout : _) (w : World) → ShowsBricks layout bricks.old.items w.nodes w.up w.clocks
         → (let step = invoked (coding layout) number (w.clocks number.0) (w.nodes number.0) ask.now in
-        (begun.packets.items ≡ step.packets) × (begun.seq ≡ step.node.seq)
+        (packets_from number begun.messages.items ≡ step.packets) × (begun.seq ≡ step.node.seq)
         × ShowsBricks layout bricks.new.items (changed w.nodes number.0 step.node) w.up w.clocks)) }
-    ensures few { IfOk result (λ begun. vec_len begun.packets ≤ 32) }
+    ensures few { IfOk result (λ begun. vec_len begun.messages ≤ 32) }
     ensures err { OnErr result ((layout : _) (w : World) → ShowsBricks layout bricks.old.items w.nodes w.up w.clocks
         → ShowsBricks layout bricks.new.items w.nodes w.up w.clocks) }
     ensures not_halted { result ≢ Err NodeFault.Halted }
@@ -189,9 +190,9 @@ pub fn hand_over(bricks: &mut Vec<Brick>, number: BrickId, packet: &Packet) -> R
     requires { (layout : _) × IsUp layout bricks.old.items number }
     ensures stepped { IfOk result (λ outs. (layout : _) (w : World) → ShowsBricks layout bricks.old.items w.nodes w.up w.clocks
         → (let step = received (coding layout) number (w.clocks number.0) (w.nodes number.0) packet.now in
-        (outs.packets.items ≡ step.packets) × (outs.told ≡ step.told)
+        (packets_from number outs.messages.items ≡ step.packets) × (outs.told ≡ step.told)
         × ShowsBricks layout bricks.new.items (changed w.nodes number.0 step.node) w.up w.clocks)) }
-    ensures few { IfOk result (λ outs. vec_len outs.packets ≤ 32) }
+    ensures few { IfOk result (λ outs. vec_len outs.messages ≤ 32) }
     ensures err { OnErr result ((layout : _) (w : World) → ShowsBricks layout bricks.old.items w.nodes w.up w.clocks
         → ShowsBricks layout bricks.new.items w.nodes w.up w.clocks) }
 {
@@ -207,14 +208,14 @@ pub fn hand_over(bricks: &mut Vec<Brick>, number: BrickId, packet: &Packet) -> R
 }
 
 /// What a brick that is up sends at a tick of its clock.
-pub fn tick_brick(bricks: &[Brick], number: BrickId) -> Result<Vec<Packet>, NoMem>
+pub fn tick_brick(bricks: &[Brick], number: BrickId) -> Result<Messages, NoMem>
     requires { (layout : _) × IsUp layout bricks.now number }
-    ensures { IfOk result (λ packets. (layout : _) (w : World) → ShowsBricks layout bricks.now w.nodes w.up w.clocks
-        → packets.items ≡ ticked (coding layout) number (w.nodes number.0)) }
+    ensures { IfOk result (λ messages. (layout : _) (w : World) → ShowsBricks layout bricks.now w.nodes w.up w.clocks
+        → packets_from number messages.items ≡ ticked (coding layout) number (w.nodes number.0)) }
 {
     match &bricks[number.0 as usize].power {
         Power::Up(node) => match node.on_tick() {
-            Ok(packets) => Ok(packets),
+            Ok(messages) => Ok(messages),
             Err(NodeFault::NoMemory) => Err(NoMem::NoMemory),
             Err(NodeFault::Halted | NodeFault::Refused(_) | NodeFault::Disk) => unreachable!(),
         },

@@ -7,7 +7,7 @@ ghost use Rattle.protocol.specs.Happenings.{writes};
 ghost use Rattle.world.specs.Shown.{ChangesAt, made_kept, ended_kept};
 
 use fab_base::{Answer, Ask, BrickId, GroupId, NoMem, Op, Stamp, StripeNo};
-use messages::Packet;
+use messages::{Messages, Packet};
 use node::Outs;
 use protocol::Told;
 use reg_model::Mark;
@@ -118,6 +118,7 @@ impl History {
     ghost use Rattle.std.specs.BTreeMap.{get};
     ghost use Rattle.std.specs.Option.{ForSome};
     ghost use Rattle.fab_base.specs.Layouts.{Layout};
+    ghost use Rattle.coord_phase.specs.Messages.{packets_from};
     ghost use Rattle.protocol.specs.Nodes.{NodeStep};
     ghost use Rattle.protocol.specs.Nodes.{put as changed};
     ghost use Rattle.protocol.specs.Worlds.{World, first_world, number_of, world_began, world_stepped, world_stopped, with_made, with_answer};
@@ -188,26 +189,35 @@ impl History {
         }
     }
 
-    /// Notes what is sent.
-    fn send(&mut self, mut packets: Vec<Packet>)
-        requires { vec_len self.old.sent + vec_len packets ≤ vec_capacity self.old.sent }
-        ensures sent { (w : World) → Tells self.old w → Tells self.new (record w { packets = w.packets ++ packets.items }) }
+    /// Notes what a brick sends, in order.
+    fn send(&mut self, brick: BrickId, messages: Messages)
+        requires { vec_len self.old.sent + vec_len messages ≤ vec_capacity self.old.sent }
+        ensures items { self.new.sent.items ≡ self.old.sent.items ++ packets_from brick messages.items }
+        ensures sent { (w : World) → Tells self.old w
+            → Tells self.new (record w { packets = w.packets ++ packets_from brick messages.items }) }
         ensures marks { self.new.marks ≡ self.old.marks }
         ensures operations { self.new.operations ≡ self.old.operations }
         ensures numbers { self.new.numbers ≡ self.old.numbers }
     {
-        // There is room for them.
-        let _ = self.sent.append(&mut packets);
+        for (to, message) in messages {
+            // There is room for it.
+            let _ = self.sent.push(Packet {
+                from: brick,
+                to,
+                message,
+            });
+        }
     }
 
-    /// Makes room for packets, and notes that they are sent.
-    pub fn send_more(&mut self, packets: Vec<Packet>) -> Result<(), NoMem>
-        ensures sent { OnOk result ((w : World) → Tells self.old w → Tells self.new (record w { packets = w.packets ++ packets.items })) }
+    /// Makes room for messages, and notes that a brick sends them.
+    pub fn send_more(&mut self, brick: BrickId, messages: Messages) -> Result<(), NoMem>
+        ensures sent { OnOk result ((w : World) → Tells self.old w
+            → Tells self.new (record w { packets = w.packets ++ packets_from brick messages.items })) }
         ensures err { OnErr result ((w : World) → Tells self.old w → Tells self.new w) }
         ensures marks { vec_len self.new.marks ≡ vec_len self.old.marks }
     {
-        self.sent.reserve(packets.len())?;
-        self.send(packets);
+        self.sent.reserve(messages.len())?;
+        self.send(brick, messages);
         Ok(())
     }
 
@@ -223,19 +233,19 @@ impl History {
     }
 
     /// Notes an operation that begins, and what it sends.
-    pub fn begin(&mut self, brick: BrickId, ask: Ask, mut packets: Vec<Packet>)
+    pub fn begin(&mut self, brick: BrickId, ask: Ask, messages: Messages)
         requires room { HasStepRoom self.old }
-        requires few { vec_len packets ≤ 32 }
+        requires few { vec_len messages ≤ 32 }
         ensures begun { (w : World) (step : NodeStep) → Tells self.old w
-            → packets.items ≡ step.packets → step.node.boot ≡ (w.nodes brick.0).boot → step.node.seq ≡ (w.nodes brick.0).seq + 1
+            → packets_from brick messages.items ≡ step.packets → step.node.boot ≡ (w.nodes brick.0).boot → step.node.seq ≡ (w.nodes brick.0).seq + 1
             → get pair_cmp self.old.numbers (brick.0, step.node.seq) ≡ Some (w.begun + 1) → Tells self.new (world_began w brick ask step) }
         ensures marks { vec_len self.old.marks ≤ vec_len self.new.marks }
     {
         let position = self.marks.len() as u64;
         let operation = self.operations.len() as u64 + 1;
         let writes = writes(&ask.op);
-        // There is room for all of this.
-        let _ = self.sent.append(&mut packets);
+        self.send(brick, messages);
+        // There is room for both.
         let _ = self.operations.push(KeptOperation {
             begin: position,
             group: ask.group,
@@ -289,15 +299,15 @@ impl History {
     /// Notes what a step sent and told.
     pub fn step(&mut self, brick: BrickId, outs: Outs)
         requires room { HasStepRoom self.old }
-        requires few { vec_len outs.packets ≤ 32 }
+        requires few { vec_len outs.messages ≤ 32 }
         ensures stepped { (w : World) (step : NodeStep) → Tells self.old w
-            → outs.packets.items ≡ step.packets → outs.told ≡ step.told
+            → packets_from brick outs.messages.items ≡ step.packets → outs.told ≡ step.told
             → step.node.boot ≡ (w.nodes brick.0).boot → step.node.seq ≡ (w.nodes brick.0).seq → IsOfCall (w.nodes brick.0) step.told
             → Tells self.new (world_stepped w brick step step.told) }
         ensures marks { vec_len self.old.marks ≤ vec_len self.new.marks }
     {
-        let Outs { packets, told } = outs;
-        self.send(packets);
+        let Outs { messages, told } = outs;
+        self.send(brick, messages);
         match told {
             Told::Nothing => {}
             Told::Made { seq, stamp, base } => self.made(brick, seq, stamp, base),

@@ -146,7 +146,7 @@ impl Simulation {
         self.history.expect_call(brick, next)?;
         match ask_brick(&mut self.bricks, brick, &ask) {
             Ok(begun) => {
-                self.history.begin(brick, ask, begun.packets);
+                self.history.begin(brick, ask, begun.messages);
                 Ok(Outcome::Marks)
             }
             Err(NodeFault::Refused(refusal)) => Ok(Outcome::Refused(refusal)),
@@ -211,8 +211,8 @@ impl Simulation {
             Some(brick) => brick,
             None => return Ok(Outcome::Idle),
         };
-        let packets = tick_brick(&self.bricks, brick)?;
-        self.history.send_more(packets)?;
+        let messages = tick_brick(&self.bricks, brick)?;
+        self.history.send_more(brick, messages)?;
         Ok(Outcome::Marks)
     }
 

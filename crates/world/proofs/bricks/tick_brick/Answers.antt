@@ -18,5 +18,5 @@ unreachable-requires c =
 pub returns-in-Ok : goal.returns-in-Ok
 returns-in-Ok c =
     let brick : Brick = get_or c.args.bricks.now c.args.number.0 c.index-bricks-number.result in
-    λ layout w shows. ticks_as layout c.args.bricks.now c.args.number.0 brick c.in-Up.node c.in-Ok.packets.items c.requires.1.within
+    λ layout w shows. ticks_as layout c.args.bricks.now c.args.number.0 brick c.in-Up.node c.in-Ok.messages.items c.requires.1.within
     (ap (λ (x : Brick). get_or c.args.bricks.now c.args.number.0 x) c.index-bricks-number.is) c.in-Up.is c.in-Ok.ensures.packets w shows

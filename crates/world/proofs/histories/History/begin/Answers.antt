@@ -10,7 +10,7 @@ returns-clause-begun c w step tells sent boot next number =
     let place = c.len-position.ensures ∙ c.args.self.now.marks.ok.0 in
     let count = c.len.ensures ∙ c.args.self.now.operations.ok.0 in
     tells_began c.args.self.now _ w c.args.brick c.args.ask step tells
-    (with_room c.args.self.now.sent.items c.append.new.self.items c.args.packets.items c.append.result c.append.ensures.items (c.append.ensures.succeeds (omega (arith, c.requires.few, c.requires.room.sent))) ∙ ap (λ xs. c.args.self.now.sent.items ++ xs) sent)
+    (c.send.ensures.items ∙ ap (λ xs. c.args.self.now.sent.items ++ xs) sent)
     (with_room c.args.self.now.marks.items c.push-2.new.self.items (Begin c.len-position.result (c.len.result + 1) c.args.brick c.args.ask ∷ []) c.push-2.result c.push-2.ensures.items (c.push-2.ensures.succeeds c.requires.room.marks) ∙ ap (λ p. c.args.self.now.marks.items ++ Begin p (c.len.result + 1) c.args.brick c.args.ask ∷ []) place
     ∙ ap (λ n. c.args.self.now.marks.items ++ Begin (length c.args.self.now.marks.items) (n + 1) c.args.brick c.args.ask ∷ []) count)
     (with_room c.args.self.now.operations.items c.push.new.self.items

@@ -43,7 +43,7 @@ returns-clause-shows c w shows =
     subst (λ (brick : BrickId). Shows c.args.layout.now state (happens (coding c.args.layout.now) w (Ticks brick))) found.0
     (shows_ticked c.args.layout.now state w c.in-Some.brick (found.1.up w shows.bricks) shows.bricks
     (subst (λ (sent : List Packet). Tells c.send_more.new.self (record w { packets = w.packets ++ sent }))
-    (c.in_ok-packets.ensures c.args.layout.now w
+    (c.in_ok-messages.ensures c.args.layout.now w
     (subst (λ (bricks : List Brick). ShowsBricks c.args.layout.now bricks w.nodes w.up w.clocks) (sym c.deref-2.ensures.value) shows.bricks))
     (c.in_ok-send_more.ensures.sent w shows.history)))
 
