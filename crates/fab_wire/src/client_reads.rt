@@ -5,14 +5,13 @@ ghost use Rattle.fab_wire.specs.Reading.{Gives, row_at, client_rows, op_at, clie
 ghost use Rattle.fab_wire.specs.Reading.{client_at, client_reply_at, data_at, later_answer_at, gone_at, full_answer_at};
 ghost use Rattle.fab_wire.specs.Reading.{moved_answer_at};
 
-use messages::{ClientAnswer, ClientAsk, ClientOp};
 use crate::faults::ReadFault;
 use crate::field_reads::{
     brick_of, group_of, stamp_of, stripe_number_of, stripe_of, u8_of, u32_of, u64_of,
     view_number_of,
 };
-use messages::Message;
 use fab_base::{Answer, Cause, Refusal};
+use messages::{ClientAnswer, ClientAsk, ClientOp, Message};
 use std::alloc::Global;
 
 /// What an invocation does, by its number.

@@ -8,9 +8,9 @@ ghost use Rattle.fab_wire.specs.Spelling.{fields_of, op_number, answer_fields, r
 ghost use Rattle.messages.specs.declared.clients.ClientAnswer.TheVariants.{Ended};
 ghost use Rattle.messages.specs.declared.packets.Message.TheVariants as messages;
 
-use messages::{ClientAnswer, ClientAsk, ClientOp};
 use crate::field_writes::{put_opening, put_stamp, put_stripe, put_u8, put_u16, put_u32, put_u64};
 use fab_base::{Answer, Cause, NoMem, Refusal};
+use messages::{ClientAnswer, ClientAsk, ClientOp};
 
 /// What an invocation does, by its number.
 #[tactic(auto, using(crate::proofs::Writings::joined))]

@@ -7,18 +7,17 @@ ghost use Rattle.fab_wire.specs.Limits.{HasSpelling};
 ghost use Rattle.fab_wire.specs.Reading.{Gives, exactly_at, choice_at, kinds, message_at, datagram_of};
 ghost use Rattle.fab_wire.specs.Spelling.{fabw, fields_of, Spells, MalformedIs, IsAt};
 
-use messages::Call;
 use crate::client_reads::client_message_of;
 use crate::client_writes::{put_client, put_client_reply};
 use crate::faults::{ReadFault, WireFault};
 use crate::field_reads::{ballot_of, call_of, stamp_of, u8_of, u32_of};
 use crate::field_writes::{FABW, VERSION};
-use messages::Message;
 use crate::reply_reads::reply_of;
 use crate::reply_writes::put_reply;
 use crate::request_reads::request_of;
 use crate::request_writes::{put_learn, put_request, put_synced};
 use fab_base::{Ballot, Bytes, NoMem, Stamp};
+use messages::{Call, Message};
 use std::alloc::Global;
 
 /// The one spelling of a message. Asks that it has one: a list of members has at least one, a block at most 4,096 bytes, a

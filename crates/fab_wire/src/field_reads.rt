@@ -6,12 +6,10 @@ ghost use Rattle.fab_wire.specs.Reading.{call_at, stamp_at, ballot_at, brick_at,
 ghost use Rattle.fab_wire.specs.Reading.{stripe_number_at, block_at, stripe_at, members_at, want_at, look_at};
 ghost use Rattle.fab_wire.specs.Reading.{version_at, accepted_at, lineage_at};
 
-use messages::Call;
 use crate::faults::ReadFault;
-use messages::{Choice, Lineage};
-use messages::{Look, Version, Want};
 use byteorder::{BigEndian, ByteOrder};
 use fab_base::{Ballot, BrickId, Bytes, GroupId, Members, Stamp, StripeNo, ViewNo};
+use messages::{Call, Choice, Lineage, Look, Version, Want};
 use std::alloc::Global;
 
 /// A byte.

@@ -7,11 +7,9 @@ ghost use Rattle.fab_wire.specs.Fields.{look_fields, version_fields, choice_fiel
 ghost use Rattle.fab_wire.specs.Spelling.{opening_fields};
 ghost use Rattle.fab_wire.specs.Limits.{WantFits, BlockFits, StripeFits, HasMembers, VersionFits, LineageFits, ChoiceFits};
 
-use messages::Call;
-use messages::{Choice, Lineage};
-use messages::{Look, Version, Want};
 use byteorder::{BigEndian, ByteOrder};
 use fab_base::{Ballot, Bytes, Members, NoMem, Stamp};
+use messages::{Call, Choice, Lineage, Look, Version, Want};
 
 /// The four bytes that a message begins with, as a number.
 pub const FABW: u32 = 0x4641_4257;

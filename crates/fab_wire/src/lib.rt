@@ -18,6 +18,6 @@ mod request_writes;
 pub use datagrams::{decode, encode, read_ballot, read_call, read_stamp};
 pub use faults::WireFault;
 pub use messages::{
-    Call, Choice, ClientAnswer, ClientAsk, ClientOp, Lineage, Look, Message, Messages, Next, Packet,
-    Reply, Request, Turn, Version, Want,
+    Call, Choice, ClientAnswer, ClientAsk, ClientOp, Lineage, Look, Message, Messages, Next,
+    Packet, Reply, Request, Turn, Version, Want,
 };

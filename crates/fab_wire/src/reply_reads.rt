@@ -10,8 +10,7 @@ use crate::field_reads::{
     accepted_option_of, ballot_of, call_of, lineage_option_of, stamp_of, stamp_option_of, u32_of,
     version_option_of, view_number_of,
 };
-use messages::Message;
-use messages::Reply;
+use messages::{Message, Reply};
 use std::alloc::Global;
 
 /// Tells the order stamp and the newest version.

@@ -6,14 +6,12 @@ ghost use Rattle.fab_wire.specs.Limits.{VersionFits, LineageFits, ReplyFits};
 ghost use Rattle.fab_wire.specs.Spelling.{fields_of, reply_row};
 ghost use Rattle.messages.specs.declared.packets.Message.TheVariants as messages;
 
-use messages::Call;
 use crate::field_writes::{
     put_ballot, put_choice_option, put_head, put_lineage_option, put_stamp, put_stamp_option,
     put_u32, put_version_option,
 };
-use messages::{Lineage, Reply};
-use messages::Version;
 use fab_base::{NoMem, Stamp, ViewNo};
+use messages::{Call, Lineage, Reply, Version};
 
 /// A reply's kind.
 fn reply_kind(reply: &Reply) -> u8

@@ -10,9 +10,8 @@ use crate::field_reads::{
     ballot_of, block_of, call_of, data_block_of, group_of, look_of, members_of, stamp_of,
     stamp_option_of, view_number_of, want_of,
 };
-use messages::Message;
-use messages::Request;
 use fab_base::View;
+use messages::{Message, Request};
 use std::alloc::Global;
 
 /// Asks for the order stamp and the newest version.

@@ -7,13 +7,12 @@ ghost use Rattle.fab_wire.specs.Limits.{WantFits, BlockFits, HasMembers, Request
 ghost use Rattle.fab_wire.specs.Spelling.{fields_of, request_row};
 ghost use Rattle.messages.specs.declared.packets.Message.TheVariants as messages;
 
-use messages::Call;
 use crate::field_writes::{
     put_ballot, put_block, put_head, put_look, put_members, put_opening, put_stamp,
     put_stamp_option, put_u8, put_u32, put_want,
 };
-use messages::{Look, Request, Want};
 use fab_base::{Ballot, Bytes, GroupId, Members, NoMem, Stamp, View, ViewNo};
+use messages::{Call, Look, Request, Want};
 
 /// A request's kind.
 fn request_kind(request: &Request) -> u8

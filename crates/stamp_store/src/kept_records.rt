@@ -87,13 +87,7 @@ impl Kept {
         ensures { result ≡ read_of kind body.now }
     {
         match Kept::take(kind, body) {
-            Ok((kept, rest)) => {
-                if rest.is_empty() {
-                    Some(kept)
-                } else {
-                    None
-                }
-            }
+            Ok((kept, rest)) => { if rest.is_empty() { Some(kept) } else { None } }
             Err(_) => None,
         }
     }

@@ -78,13 +78,7 @@ impl Logged {
         ensures { result ≡ logged_of kind body.now }
     {
         match Logged::take(kind, body) {
-            Ok((logged, rest)) => {
-                if rest.is_empty() {
-                    Some(logged)
-                } else {
-                    None
-                }
-            }
+            Ok((logged, rest)) => { if rest.is_empty() { Some(logged) } else { None } }
             Err(_) => None,
         }
     }
@@ -111,7 +105,9 @@ impl Logged {
             6 => Logged::take_change(LogChange::Same, bytes),
             7 => Logged::take_change(LogChange::Collect, bytes),
             8 => {
-                let ((group, (view, (stripe, (stamp, (bottom, slot))))), rest) = Field::take(bytes)?;
+                let ((group, (view, (stripe, (stamp, (bottom, slot))))), rest) = Field::take(
+                    bytes,
+                )?;
                 let logged = Logged {
                     group,
                     view,

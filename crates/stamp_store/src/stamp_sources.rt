@@ -56,29 +56,3 @@ pub fn stamps_differ(source: StampSource, other: StampSource)
     ensures rise { TimesRise source }
     ensures over_boots { source.boot ≢ other.boot → NeverMakeTheSame source other }
 {}
-
-#[cfg(test)]
-mod tests {
-    use super::*;
-    use std::test::Fail;
-
-    #[test]
-    fn above_all_that_was_seen(rt: HostRuntime) -> Result<(), Fail> {
-        let mut source = StampSource::new(1);
-        let first = source
-            .next(0, ViewNo(1), BrickId(0))
-            .ok_or("a first stamp")?;
-        assert_eq!(rt; first.time, 1);
-        source.saw(Stamp {
-            time: 1000,
-            ..first
-        });
-        let second = source
-            .next(5, ViewNo(1), BrickId(0))
-            .ok_or("a second stamp")?;
-        assert_eq!(rt; second.time, 1001);
-        source.known = u64::MAX;
-        assert_eq!(rt; source.next(0, ViewNo(1), BrickId(0)), None);
-        Ok(())
-    }
-}
