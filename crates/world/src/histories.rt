@@ -1,6 +1,7 @@
 //! What a world keeps beside its bricks: every message, every mark, and what is known of each operation.
 
-ghost use Rattle.std.specs.Prelude.{◌≡◌};
+ghost use Rattle.std.specs.Prelude.{◌≡◌, ◌+◌, ◌≤◌, ◌++◌, vec_len, vec_capacity};
+ghost use Rattle.coord_phase.specs.Messages.{packets_from};
 ghost use Rattle.std.specs.Option.{option_copied};
 ghost use Rattle.protocol.specs.Worlds.{packet_of, is_answer};
 ghost use Rattle.protocol.specs.Happenings.{writes};
@@ -113,6 +114,20 @@ fn note_answer(operations: &mut [KeptOperation], number: u64, answered: bool, se
     kept.answered = answered;
 }
 
+/// Puts what a brick sends behind what was sent, in order. There is room for it.
+fn put_packets(sent: &mut Vec<Packet>, brick: BrickId, messages: Messages)
+    requires { vec_len sent.old + vec_len messages ≤ vec_capacity sent.old }
+    ensures { sent.new.items ≡ sent.old.items ++ packets_from brick messages.items }
+{
+    for (to, message) in messages {
+        sent.push_reserved(Packet {
+            from: brick,
+            to,
+            message,
+        });
+    }
+}
+
 impl History {
     ghost use Rattle.std.specs.Prelude.{◌≡◌, ◌+◌, ◌<◌, ◌≤◌, [], ◌∷◌, ◌++◌, Some, length, unwrap_or, OnOk, OnErr, vec_len, vec_capacity};
     ghost use Rattle.std.specs.BTreeMap.{get};
@@ -199,14 +214,7 @@ impl History {
         ensures operations { self.new.operations ≡ self.old.operations }
         ensures numbers { self.new.numbers ≡ self.old.numbers }
     {
-        for (to, message) in messages {
-            // There is room for it.
-            let _ = self.sent.push(Packet {
-                from: brick,
-                to,
-                message,
-            });
-        }
+        put_packets(&mut self.sent, brick, messages);
     }
 
     /// Makes room for messages, and notes that a brick sends them.
