@@ -16,14 +16,15 @@ use Rattle.messages.specs.declared.clients.ClientOp.{ClientOp}
 use Rattle.messages.specs.declared.packets.Message.{Message}
 use Rattle.messages.specs.declared.packets.Message.TheVariants.{Learn, Synced, Client, ClientReply}
 use Rattle.messages.specs.declared.packets.Message.TheVariants as messages
-use Rattle.fab_wire.specs.Fields.{Field, AllFit, u16, u32, exactly, stamp_fields, stripe_fields}
+use Rattle.fields.specs.Parts.{Part, AllFit, u16, u32, exactly}
 use Rattle.fab_wire.specs.Spelling.{answer_fields, kind_of, body_fields}
 use Rattle.fab_wire.specs.Reading.{bare_at, data_at, later_answer_at, gone_at, full_answer_at, moved_answer_at, answer_rows, client_answer_at, client_at, client_reply_at, client_rows}
-use Rattle.fab_wire.proofs.Readings.{IsField, IsPlain, IsMade, made_field, plain_pair, nothing_field, same_field, same_parts}
-use Rattle.fab_wire.proofs.Numbers.{field8, field32, field64}
-use Rattle.fab_wire.proofs.Choices.{none_not_some, Rows, HasRow, with_row, without_rows, rows_field}
-use Rattle.fab_wire.proofs.Parts.{stamp_law, brick_law, group_law, view_law, stripe_number_law, stripe_law, op_law}
+use Rattle.fields.specs.Laws.{IsField, IsPlain, IsMade, made_field, plain_pair, nothing_field, same_field, same_parts}
+use Rattle.fields.specs.Numbers.{field8, field32, field64}
+use Rattle.fields.specs.Choices.{none_not_some, Rows, HasRow, with_row, without_rows, rows_field}
 use Rattle.fab_wire.proofs.MessageKinds.{request_small, reply_between}
+use Rattle.fields.specs.Values.{brick_codec, content_codec, group_codec, stamp_codec, stripe_codec, view_number_codec}
+use Rattle.fab_wire.specs.Values.{op_codec}
 
 -- ---- answers
 
@@ -45,10 +46,10 @@ status_of (Ended (Aborted (causes.Full brick live))) = 4
 status_of (Ended (Aborted (causes.Moved brick view))) = 5
 status_of (Refused refusal) = refusal_status refusal
 
-answer_parts : ClientAnswer → List Field
-answer_parts (Ended (Data bytes)) = stripe_fields bytes
+answer_parts : ClientAnswer → List Part
+answer_parts (Ended (Data bytes)) = content_codec.parts bytes
 answer_parts (Ended Done) = []
-answer_parts (Ended (Aborted (causes.Later brick stamp))) = u16 brick.0 ∷ stamp_fields stamp
+answer_parts (Ended (Aborted (causes.Later brick stamp))) = u16 brick.0 ∷ stamp_codec.parts stamp
 answer_parts (Ended (Aborted (causes.Gone brick))) = u16 brick.0 ∷ []
 answer_parts (Ended (Aborted (causes.Full brick live))) = u16 brick.0 ∷ u32 live ∷ []
 answer_parts (Ended (Aborted (causes.Moved brick view))) = u16 brick.0 ∷ u32 view.0 ∷ []
@@ -80,7 +81,7 @@ find_data (Refused refusal) e = absurd (omega (arith, refusal_large refusal))
 data_law : IsField (λ (a : ClientAnswer). status_of a ≡ 0) answer_parts data_at
 unfolding data_at status_of answer_parts
 data_law = made_field (λ (a : ClientAnswer). status_of a ≡ 0) answer_parts (λ (p : List ℕ). Ended (Data p)) (λ p u. refl)
-    (λ p u. refl) find_data stripe_law
+    (λ p u. refl) find_data content_codec.law
 
 find_later_answer : (a : ClientAnswer) → status_of a ≡ 2 → IsMade (λ (p : BrickId × Stamp). Unit {0})
     (λ (p : BrickId × Stamp). Ended (Aborted (causes.Later p.0 p.1))) a
@@ -92,7 +93,7 @@ find_later_answer a e = absurd (omega arith)
 later_answer_law : IsField (λ (a : ClientAnswer). status_of a ≡ 2) answer_parts later_answer_at
 unfolding later_answer_at status_of answer_parts
 later_answer_law = made_field (λ (a : ClientAnswer). status_of a ≡ 2) answer_parts (λ (p : BrickId × Stamp). Ended (Aborted (causes.Later p.0 p.1)))
-    (λ p u. refl) (λ p u. refl) find_later_answer (plain_pair brick_law stamp_law)
+    (λ p u. refl) (λ p u. refl) find_later_answer (plain_pair brick_codec.law stamp_codec.law)
 
 find_gone : (a : ClientAnswer) → status_of a ≡ 3 → IsMade (λ (p : BrickId). Unit {0}) (λ (p : BrickId). Ended (Aborted (causes.Gone p))) a
 unfolding status_of
@@ -103,7 +104,7 @@ find_gone a e = absurd (omega arith)
 gone_law : IsField (λ (a : ClientAnswer). status_of a ≡ 3) answer_parts gone_at
 unfolding gone_at status_of answer_parts
 gone_law = made_field (λ (a : ClientAnswer). status_of a ≡ 3) answer_parts (λ (p : BrickId). Ended (Aborted (causes.Gone p))) (λ p u. refl)
-    (λ p u. refl) find_gone brick_law
+    (λ p u. refl) find_gone brick_codec.law
 
 find_full_answer : (a : ClientAnswer) → status_of a ≡ 4 → IsMade (λ (p : BrickId × ℕ). Unit {0})
     (λ (p : BrickId × ℕ). Ended (Aborted (causes.Full p.0 p.1))) a
@@ -115,7 +116,7 @@ find_full_answer a e = absurd (omega arith)
 full_answer_law : IsField (λ (a : ClientAnswer). status_of a ≡ 4) answer_parts full_answer_at
 unfolding full_answer_at status_of answer_parts
 full_answer_law = made_field (λ (a : ClientAnswer). status_of a ≡ 4) answer_parts (λ (p : BrickId × ℕ). Ended (Aborted (causes.Full p.0 p.1)))
-    (λ p u. refl) (λ p u. refl) find_full_answer (plain_pair brick_law field32)
+    (λ p u. refl) (λ p u. refl) find_full_answer (plain_pair brick_codec.law field32)
 
 find_moved_answer : (a : ClientAnswer) → status_of a ≡ 5 → IsMade (λ (p : BrickId × ViewNo). Unit {0})
     (λ (p : BrickId × ViewNo). Ended (Aborted (causes.Moved p.0 p.1))) a
@@ -127,7 +128,7 @@ find_moved_answer a e = absurd (omega arith)
 moved_answer_law : IsField (λ (a : ClientAnswer). status_of a ≡ 5) answer_parts moved_answer_at
 unfolding moved_answer_at status_of answer_parts
 moved_answer_law = made_field (λ (a : ClientAnswer). status_of a ≡ 5) answer_parts (λ (p : BrickId × ViewNo). Ended (Aborted (causes.Moved p.0 p.1)))
-    (λ p u. refl) (λ p u. refl) find_moved_answer (plain_pair brick_law view_law)
+    (λ p u. refl) (λ p u. refl) find_moved_answer (plain_pair brick_codec.law view_number_codec.law)
 
 -- an answer with its status alone
 bare_law : (k : ℕ) (answer : ClientAnswer) → status_of answer ≡ k → answer_parts answer ≡ [] → ((a : ClientAnswer) → status_of a ≡ k → answer ≡ a)
@@ -237,7 +238,7 @@ client_law = made_field (λ (m : Message). kind_of m ≡ 64) body_fields
     (λ (p : ℕ × (GroupId × (StripeNo × (ClientOp × (ℕ × List ℕ))))). Client
     (record { id = p.0; group = p.1.0; stripe = p.1.1.0; op = p.1.1.1.0; block = p.1.1.1.1.0; bytes = p.1.1.1.1.1 }))
     (λ p u. refl) (λ p u. refl) find_client
-    (plain_pair field64 (plain_pair group_law (plain_pair stripe_number_law (plain_pair op_law (plain_pair field8 stripe_law)))))
+    (plain_pair field64 (plain_pair group_codec.law (plain_pair stripe_codec.law (plain_pair op_codec.law (plain_pair field8 content_codec.law)))))
 
 find_client_reply : (m : Message) → kind_of m ≡ 65 → IsMade (λ (p : ℕ × ClientAnswer). Unit {0}) (λ (p : ℕ × ClientAnswer). ClientReply p.0 p.1) m
 unfolding kind_of

@@ -3,14 +3,18 @@ use Rattle.std.proofs.Common.{◌≡◌, ℕ, ◌+◌, ◌<◌, ◌≤◌, ltb, 
 use Rattle.std.proofs.lemmas.Bool.{ltb-false, ltb-true}
 use Rattle.std.proofs.lemmas.List.{length-take, length-drop, take-append-drop}
 use Rattle.byteorder.specs.Endian.{big_number}
-use Rattle.fab_wire.specs.declared.faults.ReadFault.{ReadFault}
-use Rattle.fab_wire.specs.declared.faults.ReadFault.TheVariants as faults
-use Rattle.fab_wire.specs.Fields.{Field}
+use Rattle.fields.specs.Parts.{Part}
 use Rattle.fab_wire.specs.Spelling.{IsAt}
-use Rattle.fab_wire.specs.Reading.{Reads, ◌>>=◌, Fails, TakesNoMemory, then_at, as_at, number_at, made_call, call_at, made_stamp, stamp_at, made_ballot, ballot_at}
-use Rattle.fab_wire.proofs.Readings.{IsBytes, IsBytes-drop, bind_ok, bind_err, ok_is, ok_not_err, made_is, IsPlain}
-use Rattle.fab_wire.proofs.Numbers.{guard_past}
-use Rattle.fab_wire.proofs.Choices.{chosen}
+use Rattle.fields.specs.Laws.{IsBytes, IsBytes-drop, bind_ok, bind_err, ok_is, ok_not_err, made_is, IsPlain}
+use Rattle.fields.specs.Numbers.{guard_past}
+use Rattle.fields.specs.Choices.{chosen}
+use Rattle.fab_base.specs.declared.identities.BrickId.{BrickId}
+use Rattle.fab_base.specs.declared.identities.GroupId.{GroupId}
+use Rattle.fab_base.specs.declared.identities.StripeNo.{StripeNo}
+use Rattle.fab_base.specs.declared.identities.ViewNo.{ViewNo}
+use Rattle.fields.specs.Reading.{Reads, ◌>>=◌, then_at, as_at, number_at}
+use Rattle.fields.specs.Values.{made_stamp, made_ballot, stamp_fields, ballot_fields, brick_codec, group_codec, stripe_codec, view_number_codec, stamp_codec, ballot_codec}
+use Rattle.fab_wire.specs.Values.{made_call, call_fields, call_codec}
 
 -- how many bytes a field takes
 pub record IsSized {X : Type 0} (size : ℕ) (at : Reads X) : Type 0 where
@@ -66,22 +70,34 @@ as_sized {X} {Y} {n} {at} made sized = record {
       ];
 }
 
-pub call_sized : IsSized 28 call_at
-unfolding call_at
-call_sized = as_sized made_call (then_sized (number_sized 4)
-    (then_sized (number_sized 8) (then_sized (number_sized 4) (then_sized (number_sized 4) (then_sized (number_sized 4) (number_sized 4))))))
+brick_sized : IsSized 2 brick_codec.read
+brick_sized = as_sized (λ (n : ℕ). let brick : BrickId = record { 0 = n } in brick) (number_sized 2)
 
-pub stamp_sized : IsSized 18 stamp_at
-unfolding stamp_at
-stamp_sized = as_sized made_stamp (then_sized (number_sized 4) (then_sized (number_sized 8) (then_sized (number_sized 2) (number_sized 4))))
+group_sized : IsSized 4 group_codec.read
+group_sized = as_sized (λ (n : ℕ). let group : GroupId = record { 0 = n } in group) (number_sized 4)
 
-pub ballot_sized : IsSized 10 ballot_at
-unfolding ballot_at
-ballot_sized = as_sized made_ballot (then_sized (number_sized 4) (then_sized (number_sized 2) (number_sized 4)))
+view_sized : IsSized 4 view_number_codec.read
+view_sized = as_sized (λ (n : ℕ). let view : ViewNo = record { 0 = n } in view) (number_sized 4)
+
+stripe_sized : IsSized 4 stripe_codec.read
+stripe_sized = as_sized (λ (n : ℕ). let stripe : StripeNo = record { 0 = n } in stripe) (number_sized 4)
+
+pub call_sized : IsSized 28 call_codec.read
+unfolding call_fields
+call_sized = as_sized made_call (then_sized (number_sized 4) (then_sized (number_sized 8) (then_sized (number_sized 4)
+    (then_sized group_sized (then_sized view_sized stripe_sized)))))
+
+pub stamp_sized : IsSized 18 stamp_codec.read
+unfolding stamp_fields
+stamp_sized = as_sized made_stamp (then_sized view_sized (then_sized (number_sized 8) (then_sized brick_sized (number_sized 4))))
+
+pub ballot_sized : IsSized 10 ballot_codec.read
+unfolding ballot_fields
+ballot_sized = as_sized made_ballot (then_sized (number_sized 4) (then_sized brick_sized (number_sized 4)))
 
 -- ---- at a place
 
-pub found_at : {X : Type 0} {parts : X → List Field} {reads : Reads X} → IsPlain parts reads → (bytes : List ℕ) (at : ℕ) (x : X) (rest : List ℕ)
+pub found_at : {X : Type 0} {parts : X → List Part} {reads : Reads X} → IsPlain parts reads → (bytes : List ℕ) (at : ℕ) (x : X) (rest : List ℕ)
     → IsBytes bytes → at ≤ length bytes
     → reads (drop at bytes) ≡ Ok (x, rest) → IsAt bytes at (parts x)
 found_at law bytes at x rest isb within e =
@@ -99,7 +115,6 @@ pub ends_within : {X : Type 0} {size : ℕ} {reads : Reads X} → IsSized size r
     → reads (drop at bytes) ≡ Ok (x, rest) → at + size ≤ length bytes
 ends_within sized bytes at x rest within e = omega (arith, sized.read (drop at bytes) (x, rest) e, length-drop at bytes)
 
-pub ends_past : {X : Type 0} {size : ℕ} {reads : Reads X} → IsSized size reads → (bytes : List ℕ) (at : ℕ) (fault : ReadFault) → at ≤ length bytes
-    → Fails fault (reads (drop at bytes)) → TakesNoMemory {X = Unit {0}} (Err fault) → length bytes < at + size
-ends_past sized bytes at (faults.Malformed left) within e memory = omega (arith, sized.short (drop at bytes) left e, length-drop at bytes)
-ends_past sized bytes at faults.NoMemory within e memory = absurd memory
+pub ends_past : {X : Type 0} {size : ℕ} {reads : Reads X} → IsSized size reads → (bytes : List ℕ) (at left : ℕ) → at ≤ length bytes
+    → reads (drop at bytes) ≡ Err left → length bytes < at + size
+ends_past sized bytes at left within e = omega (arith, sized.short (drop at bytes) left e, length-drop at bytes)

@@ -7,12 +7,13 @@ use Rattle.messages.specs.declared.packets.Message.TheVariants.{Learn, Synced, C
 use Rattle.messages.specs.declared.packets.Message.TheVariants as messages
 use Rattle.messages.specs.declared.requests.Request.TheVariants as requests
 use Rattle.messages.specs.declared.replies.Reply.TheVariants as replies
-use Rattle.fab_wire.specs.Fields.{spelled}
+use Rattle.fields.specs.Parts.{spelled}
 use Rattle.fab_wire.specs.Spelling.{kind_of, body_fields, fabw, fields_of, Spells, Begins, IsMalformed}
-use Rattle.fab_wire.specs.Reading.{◌>>=◌, request_rows, reply_rows, client_rows, kinds, message_at, datagram_of, read_at, order_at, order_read_at, write_at, modify_at, collect_at, old_read_at, prepare_at, accept_at, learn_at, synced_at, found_at, ordered_at, ordered_read_at, stored_at, behind_at, later_at, full_at, moved_at, old_at, retired_at, promise_at, accepted_reply_at, outbid_at, not_synced_at, client_at, client_reply_at}
-use Rattle.fab_wire.proofs.Readings.{IsBytes, bind_ok, bind_err, ok_is, ok_not_err, left_of, result_cases, IsPlain, no_more, plain_made, plain_pair}
-use Rattle.fab_wire.proofs.Numbers.{exactly8, exactly32, guard_held, held_err}
-use Rattle.fab_wire.proofs.Choices.{chosen, made, Rows, HasRow, choice_field}
+use Rattle.fields.specs.Reading.{◌>>=◌}
+use Rattle.fab_wire.specs.Reading.{request_rows, reply_rows, client_rows, kinds, message_at, datagram_of, read_at, order_at, order_read_at, write_at, modify_at, collect_at, old_read_at, prepare_at, accept_at, learn_at, synced_at, found_at, ordered_at, ordered_read_at, stored_at, behind_at, later_at, full_at, moved_at, old_at, retired_at, promise_at, accepted_reply_at, outbid_at, not_synced_at, client_at, client_reply_at}
+use Rattle.fields.specs.Laws.{IsBytes, bind_ok, bind_err, ok_is, ok_not_err, left_of, result_cases, IsPlain, no_more, plain_made, plain_pair}
+use Rattle.fields.specs.Numbers.{exactly8, exactly32, guard_held, held_err}
+use Rattle.fields.specs.Choices.{chosen, made, Rows, HasRow, choice_field}
 use Rattle.fab_wire.proofs.MessageKinds.{request_table, reply_table}
 use Rattle.fab_wire.proofs.ClientKinds.{client_table}
 

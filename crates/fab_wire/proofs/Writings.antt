@@ -1,37 +1,6 @@
 -- Fields written one after the other.
-use Rattle.std.proofs.Common.{◌≡◌, ℕ, ◌^◌, ◌+◌, ◌<◌, List, [], ◌∷◌, ◌++◌, length, get_or, take, map, sym, ap, subst, ◌∙◌, append_assoc}
 use Rattle.std.proofs.lemmas.Grind.{common_steps}
-use Rattle.std.proofs.lemmas.List.{append-nil, map-append, take_more}
-use Rattle.fab_base.specs.declared.identities.BrickId.{BrickId}
-use Rattle.fab_wire.specs.Fields.{Field, AllFit, spelled, number_bytes, brick_field}
-use Rattle.fab_wire.proofs.Readings.{spelled-append, AllFit-append}
+use Rattle.fields.specs.Laws.{spelled-append, AllFit-append}
 
--- the fields of two lists, one after the other
+-- the parts of two lists, one after the other
 pub ruleset joined = (common_steps, spelled-append, AllFit-append)
-
--- one brick more
-bricks_more : (bricks : List BrickId) (i : ℕ) (d : BrickId) → i < length bricks
-    → map brick_field (take (i + 1) bricks) ≡ map brick_field (take i bricks) ++ brick_field (get_or bricks i d) ∷ []
-bricks_more bricks i d lt = ap (λ (bs : List BrickId). map brick_field bs) (take_more bricks i d lt) ∙ map-append brick_field (take i bricks)
-    (get_or bricks i d ∷ [])
-
--- one brick more is written
-pub one_written : (old count now new : List ℕ) (bricks : List BrickId) (i : ℕ) (d : BrickId) → i < length bricks
-    → now ≡ old ++ (count ++ spelled (map brick_field (take i bricks))) → new ≡ now ++ number_bytes 2 (get_or bricks i d).0
-    → new ≡ old ++ (count ++ spelled (map brick_field (take (i + 1) bricks)))
-one_written old count now new bricks i d lt before one =
-    let front = map brick_field (take i bricks) in
-    let brick = number_bytes 2 (get_or bricks i d).0 in
-    let more : spelled front ++ brick ≡ spelled (map brick_field (take (i + 1) bricks)) =
-    ap (λ (t : List ℕ). spelled front ++ t) (sym (append-nil brick)) ∙ sym (spelled-append front (brick_field (get_or bricks i d) ∷ []))
-    ∙ ap (λ (fs : List Field). spelled fs) (sym (bricks_more bricks i d lt)) in
-    one ∙ ap (λ (t : List ℕ). t ++ brick) before ∙ append_assoc old (count ++ spelled front) brick
-    ∙ ap (λ (t : List ℕ). old ++ t) (append_assoc count (spelled front) brick ∙ ap (λ (t : List ℕ). count ++ t) more)
-
--- one brick more fits
-pub one_fits : (bricks : List BrickId) (i : ℕ) (d : BrickId) → i < length bricks → AllFit (map brick_field (take i bricks))
-    → (get_or bricks i d).0 < 256 ^ 2
-    → AllFit (map brick_field (take (i + 1) bricks))
-one_fits bricks i d lt before one =
-    subst (λ (fs : List Field). AllFit fs) (sym (bricks_more bricks i d lt))
-    (AllFit-append (map brick_field (take i bricks)) (brick_field (get_or bricks i d) ∷ []) before (one, tt))

@@ -1,4 +1,4 @@
-pub mod Fields
-pub mod Spelling
+pub mod Values
 pub mod Limits
+pub mod Spelling
 pub mod Reading

@@ -18,22 +18,8 @@ use Rattle.messages.specs.declared.replies.Choice.{Choice}
 use Rattle.messages.specs.declared.replies.Lineage.{Lineage}
 use Rattle.messages.specs.declared.replies.Reply.{Reply}
 use Rattle.messages.specs.declared.replies.Reply.TheVariants as replies
-
--- a seat is one of 32
-abbrev pub WantFits : Want → Type 0
-WantFits (Seat seat) = seat ≤ 31
-WantFits All = Unit {0}
-
--- a block has at most 4,096 bytes, and a stripe 32,768
-abbrev pub BlockFits : List ℕ → Type 0
-BlockFits bytes = length bytes ≤ 4096
-
-abbrev pub StripeFits : List ℕ → Type 0
-StripeFits bytes = length bytes ≤ 32768
-
--- a list of members is not empty
-abbrev pub HasMembers : List BrickId → Type 0
-HasMembers members = 1 ≤ length members
+use Rattle.fields.specs.Values.{BlockFits, ContentFits, HasMembers}
+use Rattle.fab_wire.specs.Values.{WantFits}
 
 abbrev pub VersionFits : Option Version → Type 0
 VersionFits None = Unit {0}
@@ -85,7 +71,7 @@ RefusalFits Busy = Unit {0}
 RefusalFits Spent = Unit {0}
 
 abbrev pub AnswerFits : ClientAnswer → Type 0
-AnswerFits (Ended (Data bytes)) = StripeFits bytes
+AnswerFits (Ended (Data bytes)) = ContentFits bytes
 AnswerFits (Ended Done) = Unit {0}
 AnswerFits (Ended (Aborted cause)) = Unit {0}
 AnswerFits (Refused refusal) = RefusalFits refusal
@@ -96,5 +82,5 @@ HasSpelling (messages.Request call request) = RequestFits request
 HasSpelling (messages.Reply call reply) = ReplyFits reply
 HasSpelling (Learn group view) = HasMembers view.members × HasMembers view.prior
 HasSpelling (Synced group view) = Unit {0}
-HasSpelling (Client ask) = StripeFits ask.bytes
+HasSpelling (Client ask) = ContentFits ask.bytes
 HasSpelling (ClientReply id answer) = AnswerFits answer

@@ -2,21 +2,25 @@
 
 ghost use Rattle.std.specs.Prelude.{◌≡◌, ◌≤◌, ◌<◌, ◌+◌, ◌↔◌, List, ℕ, length, IfOk, IfErr, IfSome, IsNone, OnOk, ◌++◌};
 ghost use Rattle.messages.specs.declared.packets.Message.{Message};
-ghost use Rattle.fab_wire.specs.Fields.{spelled, AllFit, call_fields, stamp_fields, ballot_fields};
+ghost use Rattle.fields.specs.Parts.{spelled, AllFit};
 ghost use Rattle.fab_wire.specs.Limits.{HasSpelling};
-ghost use Rattle.fab_wire.specs.Reading.{Gives, exactly_at, choice_at, kinds, message_at, datagram_of};
+ghost use Rattle.fields.specs.Reading.{GivesOrNoMemory, exactly_at, choice_at};
+ghost use Rattle.fab_wire.specs.Reading.{kinds, message_at, datagram_of};
 ghost use Rattle.fab_wire.specs.Spelling.{fabw, fields_of, Spells, MalformedIs, IsAt};
+ghost use Rattle.fields.specs.Values.{ballot_codec, stamp_codec};
+ghost use Rattle.fab_wire.specs.Values.{call_codec};
 
 use crate::client_reads::client_message_of;
 use crate::client_writes::{put_client, put_client_reply};
-use crate::faults::{ReadFault, WireFault};
-use crate::field_reads::{ballot_of, call_of, stamp_of, u8_of, u32_of};
+use crate::faults::WireFault;
 use crate::field_writes::{FABW, VERSION};
 use crate::reply_reads::reply_of;
 use crate::reply_writes::put_reply;
 use crate::request_reads::request_of;
 use crate::request_writes::{put_learn, put_request, put_synced};
+use crate::values::take_call;
 use fab_base::{Ballot, Bytes, NoMem, Stamp};
+use fields::{Field, ReadFault};
 use messages::{Call, Message};
 use std::alloc::Global;
 
@@ -57,14 +61,14 @@ pub fn decode(alloc: Global, bytes: &[u8]) -> Result<Message, WireFault>
 
 /// The call at this place. None exactly where it does not end within the bytes.
 pub fn read_call(bytes: &[u8], at: usize) -> Option<Call>
-    ensures found { IfSome result (λ call. IsAt bytes.now at (call_fields call)) }
+    ensures found { IfSome result (λ call. IsAt bytes.now at (call_codec.parts call)) }
     ensures none { IsNone result ↔ (length bytes.now < at + 28) }
 {
     if at > bytes.len() {
         return None;
     }
     let (_, rest) = bytes.split_at(at);
-    match call_of(rest) {
+    match take_call(rest) {
         Ok((call, _)) => Some(call),
         Err(_) => None,
     }
@@ -72,14 +76,14 @@ pub fn read_call(bytes: &[u8], at: usize) -> Option<Call>
 
 /// The stamp at this place. None exactly where it does not end within the bytes.
 pub fn read_stamp(bytes: &[u8], at: usize) -> Option<Stamp>
-    ensures found { IfSome result (λ stamp. IsAt bytes.now at (stamp_fields stamp)) }
+    ensures found { IfSome result (λ stamp. IsAt bytes.now at (stamp_codec.parts stamp)) }
     ensures none { IsNone result ↔ (length bytes.now < at + 18) }
 {
     if at > bytes.len() {
         return None;
     }
     let (_, rest) = bytes.split_at(at);
-    match stamp_of(rest) {
+    match Stamp::take(rest) {
         Ok((stamp, _)) => Some(stamp),
         Err(_) => None,
     }
@@ -87,14 +91,14 @@ pub fn read_stamp(bytes: &[u8], at: usize) -> Option<Stamp>
 
 /// The ballot at this place. None exactly where it does not end within the bytes.
 pub fn read_ballot(bytes: &[u8], at: usize) -> Option<Ballot>
-    ensures found { IfSome result (λ ballot. IsAt bytes.now at (ballot_fields ballot)) }
+    ensures found { IfSome result (λ ballot. IsAt bytes.now at (ballot_codec.parts ballot)) }
     ensures none { IsNone result ↔ (length bytes.now < at + 10) }
 {
     if at > bytes.len() {
         return None;
     }
     let (_, rest) = bytes.split_at(at);
-    match ballot_of(rest) {
+    match Ballot::take(rest) {
         Ok((ballot, _)) => Some(ballot),
         Err(_) => None,
     }
@@ -119,7 +123,7 @@ fn put_message(out: &mut Vec<u8>, message: &Message) -> Result<(), NoMem>
 // The message that is all of the bytes.
 #[tactic(auto, unfolding(crate::specs::Reading::datagram_of))]
 fn datagram(alloc: Global, bytes: &[u8]) -> Result<Message, ReadFault>
-    ensures { Gives (λ message. message) result (datagram_of bytes.now) }
+    ensures { GivesOrNoMemory (λ message. message) result (datagram_of bytes.now) }
 {
     let (message, rest) = message_of(alloc, bytes)?;
     if rest.is_empty() {
@@ -132,7 +136,7 @@ fn datagram(alloc: Global, bytes: &[u8]) -> Result<Message, ReadFault>
 // The message that the bytes begin with, and the bytes after it.
 #[tactic(auto, unfolding(crate::specs::Reading::message_at))]
 fn message_of(alloc: Global, bytes: &[u8]) -> Result<(Message, &[u8]), ReadFault>
-    ensures { Gives (λ x. (x.0, x.1.now)) result (message_at bytes.now) }
+    ensures { GivesOrNoMemory (λ x. (x.0, x.1.now)) result (message_at bytes.now) }
 {
     let rest = after_name(bytes)?;
     let rest = after_version(rest)?;
@@ -141,9 +145,9 @@ fn message_of(alloc: Global, bytes: &[u8]) -> Result<(Message, &[u8]), ReadFault
 
 // What follows the four bytes FABW.
 fn after_name(bytes: &[u8]) -> Result<&[u8], ReadFault>
-    ensures { Gives (λ rest. (tt, rest.now)) result (exactly_at 4 fabw bytes.now) }
+    ensures { GivesOrNoMemory (λ rest. (tt, rest.now)) result (exactly_at 4 fabw bytes.now) }
 {
-    let (name, rest) = u32_of(bytes)?;
+    let (name, rest) = u32::take(bytes)?;
     if name == FABW {
         Ok(rest)
     } else {
@@ -153,9 +157,9 @@ fn after_name(bytes: &[u8]) -> Result<&[u8], ReadFault>
 
 // What follows the version.
 fn after_version(bytes: &[u8]) -> Result<&[u8], ReadFault>
-    ensures { Gives (λ rest. (tt, rest.now)) result (exactly_at 1 1 bytes.now) }
+    ensures { GivesOrNoMemory (λ rest. (tt, rest.now)) result (exactly_at 1 1 bytes.now) }
 {
-    let (version, rest) = u8_of(bytes)?;
+    let (version, rest) = u8::take(bytes)?;
     if version == VERSION {
         Ok(rest)
     } else {
@@ -166,9 +170,9 @@ fn after_version(bytes: &[u8]) -> Result<&[u8], ReadFault>
 // A kind and its fields.
 #[tactic(auto, unfolding(crate::specs::Reading::kinds))]
 fn kind_and_fields(alloc: Global, bytes: &[u8]) -> Result<(Message, &[u8]), ReadFault>
-    ensures { Gives (λ x. (x.0, x.1.now)) result (choice_at kinds bytes.now) }
+    ensures { GivesOrNoMemory (λ x. (x.0, x.1.now)) result (choice_at kinds bytes.now) }
 {
-    let (kind, rest) = u8_of(bytes)?;
+    let (kind, rest) = u8::take(bytes)?;
     if kind < 32 {
         request_of(alloc, kind, bytes.len(), rest)
     } else if kind < 64 {

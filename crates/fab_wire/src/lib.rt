@@ -14,6 +14,7 @@ mod reply_reads;
 mod reply_writes;
 mod request_reads;
 mod request_writes;
+mod values;
 
 pub use datagrams::{decode, encode, read_ballot, read_call, read_stamp};
 pub use faults::WireFault;

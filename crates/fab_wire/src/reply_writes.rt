@@ -1,16 +1,18 @@
 //! Writing the messages of kinds 32 to 45: a member's replies.
 
 ghost use Rattle.std.specs.Prelude.{◌≡◌, ◌++◌, ◌∷◌, OnOk};
-ghost use Rattle.fab_wire.specs.Fields.{spelled, AllFit, u32, stamp_fields, option_fields, version_fields, lineage_fields};
+ghost use Rattle.fields.specs.Parts.{spelled, AllFit, u32};
 ghost use Rattle.fab_wire.specs.Limits.{VersionFits, LineageFits, ReplyFits};
 ghost use Rattle.fab_wire.specs.Spelling.{fields_of, reply_row};
 ghost use Rattle.messages.specs.declared.packets.Message.TheVariants as messages;
+ghost use Rattle.fields.specs.Codecs.{option_parts};
+ghost use Rattle.fields.specs.Values.{stamp_codec};
+ghost use Rattle.fab_wire.specs.Values.{lineage_codec, version_codec};
 
-use crate::field_writes::{
-    put_ballot, put_choice_option, put_head, put_lineage_option, put_stamp, put_stamp_option,
-    put_u32, put_version_option,
-};
+use crate::field_writes::{put_head, put_version_option};
+use crate::values::{put_choice_option, put_lineage_option};
 use fab_base::{NoMem, Stamp, ViewNo};
+use fields::Field;
 use messages::{Call, Lineage, Reply, Version};
 
 /// A reply's kind.
@@ -39,10 +41,10 @@ fn reply_kind(reply: &Reply) -> u8
 #[tactic(auto, using(crate::proofs::Writings::joined))]
 fn put_found(out: &mut Vec<u8>, order: Stamp, newest: &Option<Version>) -> Result<(), NoMem>
     requires { VersionFits newest.now }
-    ensures bytes { OnOk result (out.new.items ≡ out.old.items ++ spelled (stamp_fields order ++ option_fields version_fields newest.now)) }
-    ensures fits { OnOk result (AllFit (stamp_fields order ++ option_fields version_fields newest.now)) }
+    ensures bytes { OnOk result (out.new.items ≡ out.old.items ++ spelled (stamp_codec.parts order ++ option_parts version_codec.parts newest.now)) }
+    ensures fits { OnOk result (AllFit (stamp_codec.parts order ++ option_parts version_codec.parts newest.now)) }
 {
-    put_stamp(out, order)?;
+    order.put(out)?;
     put_version_option(out, newest)
 }
 
@@ -50,10 +52,10 @@ fn put_found(out: &mut Vec<u8>, order: Stamp, newest: &Option<Version>) -> Resul
 #[tactic(auto, using(crate::proofs::Writings::joined))]
 fn put_moved(out: &mut Vec<u8>, view: ViewNo, lineage: &Option<Lineage>) -> Result<(), NoMem>
     requires { LineageFits lineage.now }
-    ensures bytes { OnOk result (out.new.items ≡ out.old.items ++ spelled (u32 view.0 ∷ option_fields lineage_fields lineage.now)) }
-    ensures fits { OnOk result (AllFit (u32 view.0 ∷ option_fields lineage_fields lineage.now)) }
+    ensures bytes { OnOk result (out.new.items ≡ out.old.items ++ spelled (u32 view.0 ∷ option_parts lineage_codec.parts lineage.now)) }
+    ensures fits { OnOk result (AllFit (u32 view.0 ∷ option_parts lineage_codec.parts lineage.now)) }
 {
-    put_u32(out, view.0)?;
+    view.0.put(out)?;
     put_lineage_option(out, lineage)
 }
 
@@ -67,12 +69,12 @@ fn put_reply_fields(out: &mut Vec<u8>, reply: &Reply) -> Result<(), NoMem>
     match reply {
         Reply::Found { order, newest } => put_found(out, *order, newest),
         Reply::OrderedRead { found } | Reply::Old { found } => put_version_option(out, found),
-        Reply::Behind { newest } => put_stamp_option(out, *newest),
-        Reply::Later { stamp } => put_stamp(out, *stamp),
-        Reply::Full { live } => put_u32(out, *live),
+        Reply::Behind { newest } => newest.put(out),
+        Reply::Later { stamp } => stamp.put(out),
+        Reply::Full { live } => live.put(out),
         Reply::Moved { view, lineage } => put_moved(out, *view, lineage),
         Reply::Promise { accepted } => put_choice_option(out, accepted),
-        Reply::Outbid { ballot } => put_ballot(out, *ballot),
+        Reply::Outbid { ballot } => ballot.put(out),
         Reply::Ordered | Reply::Stored | Reply::Retired | Reply::Accepted | Reply::NotSynced => Ok(
             (),
         ),

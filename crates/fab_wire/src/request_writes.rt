@@ -1,17 +1,17 @@
 //! Writing the messages of kinds 1 to 11: requests, and what is told of views.
 
 ghost use Rattle.std.specs.Prelude.{◌≡◌, ◌++◌, ◌∷◌, ◌≤◌, length, OnOk};
-ghost use Rattle.fab_wire.specs.Fields.{Limited, spelled, AllFit, stamp_fields, block_fields, want_fields, look_fields};
-ghost use Rattle.fab_wire.specs.Fields.{ballot_fields, members_fields};
-ghost use Rattle.fab_wire.specs.Limits.{WantFits, BlockFits, HasMembers, RequestFits};
+ghost use Rattle.fields.specs.Parts.{Limited, spelled, AllFit};
+ghost use Rattle.fab_wire.specs.Limits.{RequestFits};
 ghost use Rattle.fab_wire.specs.Spelling.{fields_of, request_row};
 ghost use Rattle.messages.specs.declared.packets.Message.TheVariants as messages;
+ghost use Rattle.fields.specs.Values.{BlockFits, HasMembers, ballot_codec, block_codec, members_codec, stamp_codec};
+ghost use Rattle.fab_wire.specs.Values.{WantFits, look_codec, want_codec};
 
-use crate::field_writes::{
-    put_ballot, put_block, put_head, put_look, put_members, put_opening, put_stamp,
-    put_stamp_option, put_u8, put_u32, put_want,
-};
+use crate::field_writes::{put_head, put_opening};
+use crate::values::{put_look, put_want};
 use fab_base::{Ballot, Bytes, GroupId, Members, NoMem, Stamp, View, ViewNo};
+use fields::{Field, put_block};
 use messages::{Call, Look, Request, Want};
 
 /// A request's kind.
@@ -35,10 +35,10 @@ fn request_kind(request: &Request) -> u8
 #[tactic(auto, using(crate::proofs::Writings::joined))]
 fn put_order_read(out: &mut Vec<u8>, stamp: Stamp, look: Look, want: Want) -> Result<(), NoMem>
     requires { WantFits want }
-    ensures bytes { OnOk result (out.new.items ≡ out.old.items ++ spelled (stamp_fields stamp ++ (look_fields look ++ want_fields want))) }
-    ensures fits { OnOk result (AllFit (stamp_fields stamp ++ (look_fields look ++ want_fields want))) }
+    ensures bytes { OnOk result (out.new.items ≡ out.old.items ++ spelled (stamp_codec.parts stamp ++ (look_codec.parts look ++ want_codec.parts want))) }
+    ensures fits { OnOk result (AllFit (stamp_codec.parts stamp ++ (look_codec.parts look ++ want_codec.parts want))) }
 {
-    put_stamp(out, stamp)?;
+    stamp.put(out)?;
     put_look(out, look)?;
     put_want(out, want)
 }
@@ -47,10 +47,10 @@ fn put_order_read(out: &mut Vec<u8>, stamp: Stamp, look: Look, want: Want) -> Re
 #[tactic(auto, using(crate::proofs::Writings::joined))]
 fn put_write(out: &mut Vec<u8>, stamp: Stamp, block: &Bytes) -> Result<(), NoMem>
     requires { BlockFits block.now }
-    ensures bytes { OnOk result (out.new.items ≡ out.old.items ++ spelled (stamp_fields stamp ++ block_fields block.now)) }
-    ensures fits { OnOk result (AllFit (stamp_fields stamp ++ block_fields block.now)) }
+    ensures bytes { OnOk result (out.new.items ≡ out.old.items ++ spelled (stamp_codec.parts stamp ++ block_codec.parts block.now)) }
+    ensures fits { OnOk result (AllFit (stamp_codec.parts stamp ++ block_codec.parts block.now)) }
 {
-    put_stamp(out, stamp)?;
+    stamp.put(out)?;
     put_block(out, block)
 }
 
@@ -66,12 +66,12 @@ fn put_modify(
     requires seat { data_block ≤ 15 }
     requires room { BlockFits delta.now }
     ensures bytes { OnOk result (out.new.items ≡ out.old.items ++ spelled
-        (stamp_fields stamp ++ (stamp_fields base ++ (Limited 1 0 15 data_block ∷ block_fields delta.now)))) }
-    ensures fits { OnOk result (AllFit (stamp_fields stamp ++ (stamp_fields base ++ (Limited 1 0 15 data_block ∷ block_fields delta.now)))) }
+        (stamp_codec.parts stamp ++ (stamp_codec.parts base ++ (Limited 1 0 15 data_block ∷ block_codec.parts delta.now)))) }
+    ensures fits { OnOk result (AllFit (stamp_codec.parts stamp ++ (stamp_codec.parts base ++ (Limited 1 0 15 data_block ∷ block_codec.parts delta.now)))) }
 {
-    put_stamp(out, stamp)?;
-    put_stamp(out, base)?;
-    put_u8(out, data_block)?;
+    stamp.put(out)?;
+    base.put(out)?;
+    data_block.put(out)?;
     put_block(out, delta)
 }
 
@@ -79,11 +79,11 @@ fn put_modify(
 #[tactic(auto, using(crate::proofs::Writings::joined))]
 fn put_accept(out: &mut Vec<u8>, ballot: Ballot, members: &Members) -> Result<(), NoMem>
     requires { HasMembers members.now }
-    ensures bytes { OnOk result (out.new.items ≡ out.old.items ++ spelled (ballot_fields ballot ++ members_fields members.now)) }
-    ensures fits { OnOk result (AllFit (ballot_fields ballot ++ members_fields members.now)) }
+    ensures bytes { OnOk result (out.new.items ≡ out.old.items ++ spelled (ballot_codec.parts ballot ++ members_codec.parts members.now)) }
+    ensures fits { OnOk result (AllFit (ballot_codec.parts ballot ++ members_codec.parts members.now)) }
 {
-    put_ballot(out, ballot)?;
-    put_members(out, members)
+    ballot.put(out)?;
+    members.put(out)
 }
 
 /// A request's fields after the call.
@@ -95,7 +95,7 @@ fn put_request_fields(out: &mut Vec<u8>, request: &Request) -> Result<(), NoMem>
 {
     match request {
         Request::Read { want } => put_want(out, *want),
-        Request::Order { stamp } => put_stamp(out, *stamp),
+        Request::Order { stamp } => stamp.put(out),
         Request::OrderRead { stamp, look, want } => put_order_read(out, *stamp, *look, *want),
         Request::Write { stamp, block } => put_write(out, *stamp, block),
         Request::Modify {
@@ -104,9 +104,9 @@ fn put_request_fields(out: &mut Vec<u8>, request: &Request) -> Result<(), NoMem>
             data_block,
             delta,
         } => put_modify(out, *stamp, *base, *data_block, delta),
-        Request::Collect { stamp } => put_stamp(out, *stamp),
-        Request::OldRead { bound } => put_stamp_option(out, *bound),
-        Request::Prepare { ballot } => put_ballot(out, *ballot),
+        Request::Collect { stamp } => stamp.put(out),
+        Request::OldRead { bound } => bound.put(out),
+        Request::Prepare { ballot } => ballot.put(out),
         Request::Accept { ballot, members } => put_accept(out, *ballot, members),
     }
 }
@@ -131,10 +131,10 @@ pub fn put_learn(out: &mut Vec<u8>, group: GroupId, view: &View) -> Result<(), N
     ensures fits { OnOk result (AllFit (fields_of (messages.Learn group view.now))) }
 {
     put_opening(out, 10)?;
-    put_u32(out, group.0)?;
-    put_u32(out, view.number.0)?;
-    put_members(out, &view.members)?;
-    put_members(out, &view.prior)
+    group.0.put(out)?;
+    view.number.0.put(out)?;
+    view.members.put(out)?;
+    view.prior.put(out)
 }
 
 /// Adds that each stripe has a version in a view.
@@ -144,6 +144,6 @@ pub fn put_synced(out: &mut Vec<u8>, group: GroupId, view: ViewNo) -> Result<(),
     ensures fits { OnOk result (AllFit (fields_of (messages.Synced group view))) }
 {
     put_opening(out, 11)?;
-    put_u32(out, group.0)?;
-    put_u32(out, view.0)
+    group.0.put(out)?;
+    view.0.put(out)
 }

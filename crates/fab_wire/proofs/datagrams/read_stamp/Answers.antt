@@ -1,28 +1,27 @@
 -- What is read stands there, and what ends within the bytes is read.
-use Rattle.std.proofs.Common.{◌≡◌, ◌≤◌, Ok, length, drop, refl, sym, ap, subst, ◌∙◌, arith}
-use Rattle.fab_wire.specs.Reading.{Fails, stamp_at}
-use Rattle.fab_wire.proofs.Parts.{stamp_law}
+use Rattle.std.proofs.Common.{◌≡◌, ◌≤◌, Ok, Err, length, drop, refl, sym, ap, ◌∙◌, arith}
 use Rattle.fab_wire.proofs.Sizes.{stamp_sized, found_at, ends_within, ends_past}
 use Rattle.fab_wire.proofs.datagrams.read_stamp.Goals as goal
+use Rattle.fields.specs.Values.{stamp_codec}
 
 pub returns-in-Ok-clause-found : goal.returns-in-Ok-clause-found
 returns-in-Ok-clause-found c =
-    let read : stamp_at (drop c.args.at c.args.bytes.now) ≡ Ok (c.in-Ok.stamp, c.in-Ok.field-0-1.now) = ap stamp_at (sym c.split_at.ensures.back)
-    ∙ c.in-Ok.ensures.gives in
+    let read : stamp_codec.read (drop c.args.at c.args.bytes.now) ≡ Ok (c.in-Ok.stamp, c.in-Ok.field-0-1.now) = ap stamp_codec.read (sym c.split_at.ensures.back)
+    ∙ c.in-Ok.ensures in
     let within : c.args.at ≤ length c.args.bytes.now = omega arith in
-    found_at stamp_law c.args.bytes.now c.args.at c.in-Ok.stamp c.in-Ok.field-0-1.now (λ i. omega (arith, c.type_inv.bytes i)) within read
+    found_at stamp_codec.law c.args.bytes.now c.args.at c.in-Ok.stamp c.in-Ok.field-0-1.now (λ i. omega (arith, c.type_inv.bytes i)) within read
 
 pub returns-in-Ok-clause-none : goal.returns-in-Ok-clause-none
 returns-in-Ok-clause-none c =
-    let read : stamp_at (drop c.args.at c.args.bytes.now) ≡ Ok (c.in-Ok.stamp, c.in-Ok.field-0-1.now) = ap stamp_at (sym c.split_at.ensures.back)
-    ∙ c.in-Ok.ensures.gives in
+    let read : stamp_codec.read (drop c.args.at c.args.bytes.now) ≡ Ok (c.in-Ok.stamp, c.in-Ok.field-0-1.now) = ap stamp_codec.read (sym c.split_at.ensures.back)
+    ∙ c.in-Ok.ensures in
     let within : c.args.at ≤ length c.args.bytes.now = omega arith in
     let ends = ends_within stamp_sized c.args.bytes.now c.args.at c.in-Ok.stamp c.in-Ok.field-0-1.now within read in
     (λ e. absurd cc, λ short. absurd (omega arith))
 
 pub returns-in-Err-clause-none : goal.returns-in-Err-clause-none
 returns-in-Err-clause-none c =
-    let fails : Fails c.in-Err.field-0 (stamp_at (drop c.args.at c.args.bytes.now)) = subst
-    (λ bytes. Fails c.in-Err.field-0 (stamp_at bytes)) c.split_at.ensures.back c.in-Err.ensures.gives in
+    let fails : stamp_codec.read (drop c.args.at c.args.bytes.now) ≡ Err c.in-Err.field-0.left
+    = ap stamp_codec.read (sym c.split_at.ensures.back) ∙ c.in-Err.ensures in
     let within : c.args.at ≤ length c.args.bytes.now = omega arith in
-    (λ e. ends_past stamp_sized c.args.bytes.now c.args.at c.in-Err.field-0 within fails c.in-Err.ensures.memory, λ short. refl)
+    (λ e. ends_past stamp_sized c.args.bytes.now c.args.at c.in-Err.field-0.left within fails, λ short. refl)
