@@ -5,6 +5,7 @@ use Rattle.std.specs.Prelude.{nat_eq}
 use Rattle.std.specs.List.{All, AllPairs, Contains}
 use Rattle.std.proofs.lemmas.Bool.{cond_both, both_ways, cases_Bool, cases_lt, cases_eq, and_parts, and_from, not-true, not-false, eqb-true, eq-eqb}
 use Rattle.std.proofs.lemmas.Option.{same_Some, slice_get_within, get_or_from_slice_get}
+use Rattle.std.proofs.lemmas.List.{get_or_default}
 use Rattle.std.proofs.lemmas.List.Elements.{All-head, All-tail, All-contains, All-contains_itself, All-weaker}
 use Rattle.std.proofs.lemmas.List.Sorted.{All-permutation, Contains-permutation}
 use Rattle.fab_base.specs.declared.stamps.Stamp.{Stamp}
@@ -18,7 +19,7 @@ use Rattle.reg_model.proofs.Versions.{versions_are_effective}
 use Rattle.protocol.specs.Settings.{Setting}
 use Rattle.protocol.specs.Worlds.{World, Operation}
 use Rattle.protocol.specs.Happenings.{is_of, entries_to, ascending, was_answered, base_of, Effect, effect_of}
-use Rattle.protocol_laws.specs.Laws.{WasMadeOn, NeighboursFollow}
+use Rattle.protocol_laws.specs.Laws.{WasMadeOn, NeighboursFollow, LowestFollows}
 use Rattle.protocol_laws.proofs.Books.{Books, OperationBooks, IsOperation}
 use Rattle.protocol_laws.proofs.Effects.{has_front, has_behind, IsSwept, IsAboveBase, answered_swept, needed_swept, version_swept, versions_all, versions_order, all_effective}
 use Rattle.protocol_laws.proofs.Entries.{IsEntryOf, entry_of, entries_of, entries_have}
@@ -367,7 +368,7 @@ module _ (setting : Setting) (w : World) (g s : ℕ) (books : Books setting w) (
       (cases_lt j (k + 1))
     where
       default : (i : ℕ) (d e : Stamp) → i < length effect.versions → get_or effect.versions i d ≡ get_or effect.versions i e
-      default i d e at = Rattle.std.proofs.lemmas.List.get_or_default effect.versions i d e at
+      default i d e at = get_or_default effect.versions i d e at
 
   -- of two effective neighbours, a base of the upper is the lower
   base_is_lower : (k : ℕ) (u t b : Stamp) → k + 1 < length effect.versions → get_or effect.versions k first_stamp ≡ u
@@ -387,6 +388,61 @@ module _ (setting : Setting) (w : World) (g s : ℕ) (books : Books setting w) (
       (λ (isnt : stamp_below u b ≡ false). isnt)
       (cases_Bool (stamp_below u b)) in
       stamp_neither_below b u not_under not_over
+
+  -- nothing effective is below the lowest
+  none_below_lowest : (t b : Stamp) → 0 < length effect.versions → get_or effect.versions 0 first_stamp ≡ t → Contains effect.versions b
+      → stamp_below b t ≡ true → ⊥
+  none_below_lowest t b inside at_t (j, lt, at_b) below =
+      let here : get_or effect.versions j first_stamp ≡ b = get_or_default effect.versions j first_stamp b lt ∙ at_b in
+      ⊎_elim
+      (λ (same : j ≡ 0).
+      let one : b ≡ t = sym here ∙ ap (λ (i : ℕ). get_or effect.versions i first_stamp) same ∙ at_t in
+      both_ways (stamp_below b b) (stamp_below_irrefl b) (subst (λ (x : Stamp). stamp_below b x ≡ true) (sym one) below))
+      (λ (other : j ≡ 0 → ⊥).
+      both_ways (stamp_below b t)
+      (subst (λ (x : Stamp). stamp_below x t ≡ false) here
+      (subst (λ (x : Stamp). stamp_below (get_or effect.versions j first_stamp) x ≡ false) at_t
+      (versions_order w.operations entries order 0 j first_stamp (omega arith) (omega arith))))
+      below)
+      (cases_eq j 0)
+
+  -- the lowest effective version is the first one, or was written whole, or was made on the first one
+  pub lowest_follows : LowestFollows w g s
+  lowest_follows t t_is = ⊎_elim
+      (λ (above : stamp_below first_stamp t ≡ true). inr (by above))
+      (λ (not_above : stamp_below first_stamp t ≡ false). inl (sym (stamp_neither_below first_stamp t not_above (stamp_below_first t))))
+      (cases_Bool (stamp_below first_stamp t))
+    where
+      inside : 0 < length effect.versions
+      inside = slice_get_within effect.versions 0 t t_is
+
+      at_t : get_or effect.versions 0 first_stamp ≡ t
+      at_t = get_or_from_slice_get effect.versions 0 t first_stamp t_is
+
+      base_is_first : (b : Stamp) → base t ≡ Some b → b ≡ first_stamp
+      base_is_first b is =
+          let upper : IsEffective IsAnsweredVersion base t
+          = subst (λ (x : Stamp). IsEffective IsAnsweredVersion base x) at_t (versions_effective 0 first_stamp inside) in
+          sym (stamp_neither_below first_stamp b
+          (⊎_elim
+          (λ (over : stamp_below first_stamp b ≡ true).
+          absurd (none_below_lowest t b inside at_t (complete b (BaseOf t b upper is) over) (base_facts.below t b is)))
+          (λ (isnt : stamp_below first_stamp b ≡ false). isnt)
+          (cases_Bool (stamp_below first_stamp b)))
+          (stamp_below_first b))
+
+      how_made : (v : MadeVersion t) → WritesWhole w v.operation t ⊎ BaseSays setting w v.operation t
+          → ((bytes : List ℕ) × (v.operation.ask.op ≡ WriteStripe bytes)) ⊎ (v.operation.base ≡ Some first_stamp)
+      how_made v (inl whole) = inl (_, whole.1)
+      how_made v (inr says) =
+          let its : base t ≡ Some says.base = base_is (entry_of v.number v.operation t) (maker_entry t v) (maker_reads t v)
+          ∙ ap (λ (o : Option Operation). base_of o) v.is ∙ says.base_is in
+          inr (says.base_is ∙ ap (λ (x : Stamp). Some x) (base_is_first says.base its))
+
+      by : stamp_below first_stamp t ≡ true → WasMadeOn w g s first_stamp t
+      by above =
+          let v : MadeVersion t = version_made t (0, inside, get_or_from_slice_get effect.versions 0 t t t_is) above in
+          (v.number, v.operation, v.is, v.of, v.made, v.version, how_made v (facts.maker v.number v.operation t v.is v.made v.version).how)
 
   -- of two neighbours, the upper was written whole, or was made on the lower
   pub neighbours_follow : NeighboursFollow w g s

@@ -5,7 +5,7 @@ use Rattle.std.proofs.lemmas.Option.{same_Some}
 use Rattle.std.proofs.lemmas.List.{length-append}
 use Rattle.fab_base.specs.declared.identities.BrickId.{BrickId}
 use Rattle.fab_base.specs.declared.stamps.Stamp.{Stamp}
-use Rattle.fab_base.specs.declared.asks.Op.TheVariants.{WriteStripe}
+use Rattle.fab_base.specs.declared.asks.Op.TheVariants.{ReadStripe, WriteStripe}
 use Rattle.fab_base.specs.declared.answers.Answer.{Answer}
 use Rattle.fab_base.specs.declared.answers.Answer.TheVariants.{Data, Done, Aborted}
 use Rattle.messages.specs.declared.packets.Packet.{Packet}
@@ -31,8 +31,9 @@ use Rattle.protocol_laws.proofs.Stores.{open_until}
 -- what must be known of an operation that ends by this answer, having seen this version
 abbrev pub WillShow : World → Operation → Option Stamp → Answer → Type 0
 WillShow w o seen (Data bytes) =
-    (v : Stamp) × (version_after o.version seen ≡ Some v) × (bytes ≡ w.contents o.ask.group.0 o.ask.stripe.0 v)
-WillShow w o seen Done = Unit {0}
+    (o.ask.op ≡ ReadStripe)
+    × ((v : Stamp) × (version_after o.version seen ≡ Some v) × (bytes ≡ w.contents o.ask.group.0 o.ask.stripe.0 v))
+WillShow w o seen Done = (bytes : List ℕ) × (o.ask.op ≡ WriteStripe bytes)
 WillShow w o seen (Aborted cause) = Unit {0}
 
 module _ (setting : Setting) (w : World) (stamps : Stamping) (me : BrickId) (c : Coordinator) (group : Group) (known : ℕ)
@@ -193,12 +194,13 @@ module _ (setting : Setting) (w : World) (stamps : Stamping) (me : BrickId) (c :
         record {
           operation = ended;
           is = put_same w.operations n (Some ended);
-          version = told.0;
-          version_is = told.1;
-          bytes_are = told.2;
+          reads = told.0;
+          version = told.1.0;
+          version_is = told.1.1;
+          bytes_are = told.1.2;
         }
-    end_shows Done same = tt
-    end_shows (Aborted cause) same = tt
+    end_shows Done same = (ended, put_same w.operations n (Some ended), subst (λ (z : Answer). WillShow w o seen z) (sym same) shows)
+    end_shows (Aborted cause) same = (ended, put_same w.operations n (Some ended))
 
     ends : (k q a : ℕ) (other : Answer) → slice_get marks k ≡ Some (End q a other) → (slice_get w.marks k ≡ Some (End q a other))
         ⊎ EndShows next a other

@@ -394,6 +394,7 @@ module _ (setting : Setting) (w next : World) (stamps later : Stamping) (books :
       record {
         operation = goes.0;
         is = goes.1;
+        reads = ap (λ a. a.op) goes.2.ask ∙ shown.reads;
         version = shown.version;
         version_is = goes.2.version shown.version shown.version_is;
         bytes_are = shown.bytes_are
@@ -405,5 +406,6 @@ module _ (setting : Setting) (w next : World) (stamps later : Stamping) (books :
   pub stays_end : (said : (n : ℕ) (o : Operation) → IsOperation w n o → OperationSays setting w stamps n o) (n : ℕ) (answer : Answer)
       → EndShows w n answer → EndShows next n answer
   stays_end said n (Data bytes) shows = stays_shown said n bytes shows
-  stays_end said n Done shows = tt
-  stays_end said n (Aborted cause) shows = tt
+  stays_end said n Done shows =
+      let goes = grows.operations n shows.0 shows.1 in (goes.0, goes.1, (shows.2.0, ap (λ a. a.op) goes.2.ask ∙ shows.2.1))
+  stays_end said n (Aborted cause) shows = let goes = grows.operations n shows.0 shows.1 in (goes.0, goes.1)

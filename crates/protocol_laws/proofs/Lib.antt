@@ -19,6 +19,7 @@ pub mod Growth
 pub mod Lives
 pub mod Logs
 pub mod MarkLists
+pub mod Numbers
 pub mod Operated
 pub mod Outcomes
 pub mod OwnStamps
@@ -43,3 +44,4 @@ pub mod TalliesCounts
 pub mod TalliesEvents
 pub mod TalliesKept
 pub mod Walks
+pub mod Words

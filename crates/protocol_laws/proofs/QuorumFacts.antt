@@ -25,7 +25,9 @@ use Rattle.protocol.specs.Coordinators.{told_in}
 use Rattle.protocol.specs.Worlds.{World, Event, Operation, zero_content, first_world, run}
 use Rattle.fab_base.specs.Layouts.{brick_at}
 use Rattle.protocol_laws.specs.Laws.{OneContent, BasesAreNewest, WritesAreGuarded, StoredIsHeld, FollowsRealTime, FullIsFull, WriteSent, IsBlocked}
+use Rattle.protocol_laws.specs.Marked.{WordsFit}
 use Rattle.protocol_laws.proofs.Books.{Books, OperationBooks, IsOperation}
+use Rattle.protocol_laws.proofs.Words.{words_fit}
 use Rattle.protocol_laws.proofs.Said.{Stamping, Said, IsSaid, IsStamped, IsMadeOrFirst, Stands, WritesWhole, ReadsBack, FloorsAtLeast, VersionSays, WriteSays, ReplySays, HasVersion, DataShown}
 use Rattle.protocol_laws.proofs.Blocking.{blocked_never_stands}
 use Rattle.fab_base.proofs.Seats.{seat_within, brick_at_seat}
@@ -76,6 +78,7 @@ pub record QuorumFacts (setting : Setting) (w : World) : Type 0 where
   pub guarded : WritesAreGuarded setting w
   pub stored : StoredIsHeld w
   pub full : FullIsFull setting w
+  pub words : WordsFit setting.layout w.marks
 
 module _ (setting : Setting) (sound : IsSound setting) (w : World) (stamps : Stamping) (books : Books setting w) (said : Said setting w stamps) where
   -- of two versions between which a quorum's floors lie, the lower is not above the other, nor equal to it where the later operation made it
@@ -223,6 +226,7 @@ module _ (setting : Setting) (sound : IsSound setting) (w : World) (stamps : Sta
     guarded = λ call from to t block group group_is sent. (write_says call from to t block sent).guarded group group_is;
     stored = λ call from to sent. said.packets sent.0 (record { from = from; to = to; message = Message.Reply call Reply.Stored }) sent.1;
     full = λ call from to live sent. said.packets sent.0 (record { from = from; to = to; message = Message.Reply call (Reply.Full live) }) sent.1;
+    words = words_fit setting w stamps books said;
   }
 
 -- the facts hold in every world that a run reaches, where the books do

@@ -23,7 +23,7 @@ use Rattle.protocol.specs.declared.phases.FullMember.{FullMember}
 use Rattle.protocol.specs.declared.phases.Phase.{Phase}
 use Rattle.protocol.specs.declared.phases.Phase.TheVariants.{Looks, Orders, Recovers, Descends, Stores}
 use Rattle.protocol.specs.Coordinators.{Coordinator, Next, Waits, Sends, Makes, Ends, answers_phase, has_seat, counts_at, fast_version, pieces_of, pieces_at, greatest_found, greatest_refuser, lowest_full, stored_by, in_phase, restoring, reordering, most_rounds, aborted_by, unless_told_full, unless_refused, ordered_again, once_ordered, answered_fast, read_back, answer_of, decided, with_reply, once_full, counted_at, on_reply, request_of}
-use Rattle.protocol.specs.Nodes.{Node, with_known, with_call, carried_out}
+use Rattle.protocol.specs.Nodes.{Node, is_stripe_op, with_known, with_call, carried_out}
 use Rattle.protocol.specs.Worlds.{World, Operation, number_of, world_stepped}
 use Rattle.fab_base.specs.Layouts.{brick_at}
 use Rattle.protocol_laws.specs.Laws.{WasSent, part_of, AtQuorum, IsGuarded, IsBlocked}
@@ -231,7 +231,7 @@ module _ (setting : Setting) (sound : IsSound setting) (w : World) (stamps : Sta
                 (subst (λ (t : Stamp). AtQuorum group (λ seat. is_held t (part_of w o.ask.group.0 o.ask.stripe.0 (brick_at group seat)).log)) same
                 (fast_stands setting sound w stamps me c group books said is group_is d.counted each once many v fast)))
                 (λ answered bytes op. let e : ReadStripe ≡ WriteStripe bytes = sym reads ∙ op in cc)
-                (v, refl, fast_decodes setting sound w stamps me c group books said is group_is d.counted each once many v fast),
+                (reads, (v, refl, fast_decodes setting sound w stamps me c group books said is group_is d.counted each once many v fast)),
           )
 
       -- the coordinator begins its next phase with its own stamp
@@ -379,12 +379,12 @@ module _ (setting : Setting) (sound : IsSound setting) (w : World) (stamps : Sta
       lowers_on bound descends roomy (Some r) refused = said_aborts (Cause.Later r.brick r.stamp)
 
       -- what an operation that stored its version is answered is the version's content
-      stored_shows : (op : Op) (v : Stamp) → o.version ≡ Some v → stored_by op c.content ≡ w.contents o.ask.group.0 o.ask.stripe.0 v
-          → WillShow w o None (answer_of op c.content)
-      stored_shows (ReadBlock j) v has content = (v, has, content)
-      stored_shows (WriteBlock j bytes) v has content = tt
-      stored_shows ReadStripe v has content = (v, has, content)
-      stored_shows (WriteStripe bytes) v has content = tt
+      stored_shows : (op : Op) (v : Stamp) → o.ask.op ≡ op → is_stripe_op op ≡ true → o.version ≡ Some v
+          → stored_by op c.content ≡ w.contents o.ask.group.0 o.ask.stripe.0 v → WillShow w o None (answer_of op c.content)
+      stored_shows (ReadBlock j) v is whole has content = absurd (false≢true whole)
+      stored_shows (WriteBlock j bytes) v is whole has content = absurd (false≢true whole)
+      stored_shows ReadStripe v is whole has content = (is, (v, has, content))
+      stored_shows (WriteStripe bytes) v is whole has content = (bytes, is)
 
       stores_on : c.phase ≡ Stores → lowest_full d.counted ≡ None → (z : Option Refuser) → greatest_refuser d.counted ≡ z
           → IsSaid setting (after (unless_refused z (Ends (answer_of c.ask.op c.content) None (Some c.stamp))))
@@ -403,7 +403,9 @@ module _ (setting : Setting) (sound : IsSound setting) (w : World) (stamps : Sta
                 (subst (λ (t : Stamp). AtQuorum group (λ seat. is_held t
                 (part_of w o.ask.group.0 o.ask.stripe.0 (brick_at group seat)).log)) same stands))
                 (λ answered bytes op. made.1)
-                (stored_shows c.ask.op c.stamp made.0
+                (stored_shows c.ask.op c.stamp (ap (λ a. a.op) (sym its.ask))
+                (ap (λ (a : Ask). is_stripe_op a.op) its.ask
+                ∙ (books.operations (number_of w me.0 c.call.seq) o its.operation_is).is_stripe_op) made.0
                 ((says.stores stores).1 ∙ ap (λ (a : Ask). w.contents a.group.0 a.stripe.0 c.stamp) its.ask)),
           )
       stores_on stores roomy (Some r) refused = said_aborts (Cause.Later r.brick r.stamp)

@@ -274,10 +274,11 @@ pub record CallSays (setting : Setting) (w : World) (stamps : Stamping) (i k : �
   pub counted : EachCounted (CountedSays setting w i c) c.counted
   pub once : AreOnce c.counted
 
--- the data that operation n was answered are its version's
+-- operation n reads a stripe, and the data that it was answered are its version's
 pub record DataShown (w : World) (n : ℕ) (bytes : List ℕ) : Type 0 where
   pub operation : Operation
   pub is : IsOperation w n operation
+  pub reads : operation.ask.op ≡ ReadStripe
   pub version : Stamp
   pub version_is : operation.version ≡ Some version
   pub bytes_are : bytes ≡ w.contents operation.ask.group.0 operation.ask.stripe.0 version
@@ -285,8 +286,8 @@ pub record DataShown (w : World) (n : ℕ) (bytes : List ℕ) : Type 0 where
 -- the end of operation n by this answer
 abbrev pub EndShows : World → ℕ → Answer → Type 0
 EndShows w n (Data bytes) = DataShown w n bytes
-EndShows w n Done = Unit {0}
-EndShows w n (Aborted cause) = Unit {0}
+EndShows w n Done = (o : Operation) × IsOperation w n o × ((bytes : List ℕ) × (o.ask.op ≡ WriteStripe bytes))
+EndShows w n (Aborted cause) = (o : Operation) × IsOperation w n o
 
 -- where one operation has a version, another of its stripe found that version below it at a quorum, or began no later than the first may end
 abbrev pub IsInOrder : Setting → World → Type 0

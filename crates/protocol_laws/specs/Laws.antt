@@ -1,11 +1,11 @@
 -- The laws of the disk, as they hold in every world that a run reaches. Quorums are counted by seat.
-use Rattle.std.specs.Prelude.{◌≡◌, ℕ, ◌+◌, ◌<◌, ◌≤◌, Bool, true, false, not, ◌&&◌, List, length, ◌⊎◌, Some, is_some, slice_get, slice_index_or}
+use Rattle.std.specs.Prelude.{◌≡◌, ℕ, ◌+◌, ◌<◌, ◌≤◌, Bool, true, false, not, ◌&&◌, List, length, ◌⊎◌, Some, is_some, slice_get}
 use Rattle.fab_base.specs.declared.identities.BrickId.{BrickId}
 use Rattle.fab_base.specs.declared.stamps.Stamp.{Stamp}
 use Rattle.fab_base.specs.declared.asks.Op.TheVariants.{WriteStripe}
 use Rattle.fab_base.specs.declared.answers.Answer.TheVariants.{Aborted}
 use Rattle.fab_base.specs.declared.answers.Cause.TheVariants as Cause
-use Rattle.fab_base.specs.Stamps.{stamp_below}
+use Rattle.fab_base.specs.Stamps.{stamp_below, first_stamp}
 use Rattle.messages.specs.declared.calls.Call.{Call}
 use Rattle.messages.specs.declared.packets.Message.{Message}
 use Rattle.messages.specs.declared.packets.Packet.{Packet}
@@ -17,6 +17,7 @@ use Rattle.messages.specs.declared.replies.Reply.{Reply}
 use Rattle.quorum.specs.Quorums.{count}
 use Rattle.reg_model.specs.declared.marks.Mark.TheVariants.{End}
 use Rattle.reg_model.specs.Marks.{life_of, stripe_marks, IsWellFormed}
+use Rattle.reg_model.specs.Registers.{zero_registers}
 use Rattle.reg_model.specs.Strict.{IsStrict}
 use Rattle.reg_model.specs.Walk.{last_of}
 use Rattle.fab_base.specs.Layouts.{Group, group_of, seat_in, brick_at}
@@ -28,6 +29,7 @@ use Rattle.protocol.specs.Coordinators.{most_rounds, greatest_refuser, told_in}
 use Rattle.protocol.specs.Nodes.{has_later_time}
 use Rattle.protocol.specs.Worlds.{World, Event, Operation, first_world, known_in, happens, run}
 use Rattle.protocol.specs.Happenings.{is_of, effect_in, happenings_of}
+use Rattle.protocol_laws.specs.Marked.{WordsFit, AreWithoutGaps}
 
 -- the packet was sent
 abbrev pub WasSent : World → Packet → Type 0
@@ -92,6 +94,15 @@ abbrev pub NeighboursFollow : World → ℕ → ℕ → Type 0
 NeighboursFollow w g s =
     (k : ℕ) (u t : Stamp) → slice_get (effect_in w g s).versions k ≡ Some u → slice_get (effect_in w g s).versions (k + 1) ≡ Some t
     → (u ≡ t) ⊎ WasMadeOn w g s u t
+
+-- the lowest of the effective versions is the first one, or was written whole, or was made on the first one
+abbrev pub LowestFollows : World → ℕ → ℕ → Type 0
+LowestFollows w g s = (t : Stamp) → slice_get (effect_in w g s).versions 0 ≡ Some t → (t ≡ first_stamp) ⊎ WasMadeOn w g s first_stamp t
+
+-- the content of the first version is zero
+abbrev pub FirstIsZero : Setting → World → Type 0
+FirstIsZero setting w =
+    (g s : ℕ) (group : Group) → group_of setting.layout g ≡ Some group → w.contents g s first_stamp ≡ zero_registers group.m setting.layout.block
 
 -- Before a write of version t was sent, a quorum had promised t, or stored something later, and has so ever
 -- since.
@@ -190,16 +201,20 @@ FullAbortsShow w =
 -- The laws of a world.
 pub record Laws (setting : Setting) (w : World) : Type 0 where
   pub one_content : OneContent setting w
+  pub first_is_zero : FirstIsZero setting w
   pub guarded : WritesAreGuarded setting w
   pub stored : StoredIsHeld w
   pub bases : BasesAreNewest setting w
   pub neighbours : (g s : ℕ) → NeighboursFollow w g s
+  pub lowest : (g s : ℕ) → LowestFollows w g s
   pub real_time : (g s : ℕ) → FollowsRealTime w g s
   pub counted : CountedWereSent w
   pub aborts : AbortsShow w
   pub full_aborts : FullAbortsShow w
   pub full : FullIsFull setting w
   pub well_formed : IsWellFormed w.marks
+  pub without_gaps : AreWithoutGaps w.marks
+  pub words : WordsFit setting.layout w.marks
   pub stripe_well_formed : (g s : ℕ) → IsWellFormed (stripe_marks g s w.marks)
   pub strict : (g s : ℕ) (group : Group) → group_of setting.layout g ≡ Some group
       → IsStrict group.m setting.layout.block (stripe_marks g s w.marks) (happenings_of w g s)

@@ -1,0 +1,94 @@
+-- Operations are numbered without gaps, in the order of their Begins.
+use Rattle.std.proofs.Common.{◌≡◌, ℕ, ◌+◌, ⊎_elim, List, [], ◌∷◌, ◌++◌, length, Option, Some, None, refl, sym, ap, ◌∙◌, append-nil}
+use Rattle.std.specs.Prelude.{slice_get}
+use Rattle.std.proofs.lemmas.Bool.{cond_both}
+use Rattle.std.proofs.lemmas.List.{length_push}
+use Rattle.fab_base.specs.declared.identities.BrickId.{BrickId}
+use Rattle.messages.specs.declared.packets.Packet.{Packet}
+use Rattle.reg_model.specs.declared.marks.Mark.{Mark}
+use Rattle.reg_model.specs.declared.marks.Mark.TheVariants.{Begin, End, Crash}
+use Rattle.reg_model.specs.Marks.{begun_numbers}
+use Rattle.protocol.specs.Settings.{Setting}
+use Rattle.protocol.specs.declared.tellings.Told.{Told}
+use Rattle.protocol.specs.declared.tellings.Told.TheVariants.{Nothing, Made, Answers}
+use Rattle.protocol.specs.Nodes.{NodeStep, invoked, received}
+use Rattle.protocol.specs.Worlds.{World, Event, Invokes, Delivers, Sets, Ticks, Crashes, Starts, Absorbs, is_brick, is_up, may_begin, may_start, world_began, world_stepped, world_absorbed, world_ticked, world_stopped, world_started, replies_with, delivered, packet_of, happens, run}
+use Rattle.protocol_laws.proofs.MarkLists.{begun_numbers-append, slice_get_push}
+
+-- the numbers that have begun are 1, 2, 3 and so on, as many as there are operations
+pub record AreNumbered (marks : List Mark) (begun : ℕ) : Type 0 where
+  pub count : length (begun_numbers marks) ≡ begun
+  pub each : (k n : ℕ) → slice_get (begun_numbers marks) k ≡ Some n → n ≡ k + 1
+
+-- the numbers of a world's operations
+abbrev pub IsNumbered : World → Type 0
+IsNumbered w = AreNumbered w.marks w.begun
+
+-- a mark that is no Begin
+numbered_on : (marks : List Mark) (mark : Mark) (begun : ℕ) → begun_numbers (mark ∷ []) ≡ [] → AreNumbered marks begun
+    → AreNumbered (marks ++ (mark ∷ [])) begun
+numbered_on marks mark begun none numbered =
+    let same : begun_numbers (marks ++ (mark ∷ [])) ≡ begun_numbers marks
+    = begun_numbers-append marks (mark ∷ []) ∙ ap (λ (l : List ℕ). begun_numbers marks ++ l) none ∙ append-nil (begun_numbers marks) in
+    record {
+      count = ap (λ (l : List ℕ). length l) same ∙ numbered.count;
+      each = λ k n is. numbered.each k n (ap (λ (l : List ℕ). slice_get l k) (sym same) ∙ is);
+    }
+
+-- a Begin of the next number
+numbered_more : (marks : List Mark) (mark : Mark) (begun : ℕ) → begun_numbers (mark ∷ []) ≡ (begun + 1) ∷ [] → AreNumbered marks begun
+    → AreNumbered (marks ++ (mark ∷ [])) (begun + 1)
+numbered_more marks mark begun one numbered =
+    let same : begun_numbers (marks ++ (mark ∷ [])) ≡ begun_numbers marks ++ ((begun + 1) ∷ [])
+    = begun_numbers-append marks (mark ∷ []) ∙ ap (λ (l : List ℕ). begun_numbers marks ++ l) one in
+    record {
+      count = ap (λ (l : List ℕ). length l) same ∙ length_push (begun_numbers marks) (begun + 1) ∙ ap (λ (x : ℕ). x + 1) numbered.count;
+      each = λ k n is. ⊎_elim
+          (λ (old : slice_get (begun_numbers marks) k ≡ Some n). numbered.each k n old)
+          (λ (new : (k ≡ length (begun_numbers marks)) × (begun + 1 ≡ n)). sym new.1 ∙ ap (λ (x : ℕ). x + 1) (sym numbered.count ∙ sym new.0))
+          (slice_get_push (begun_numbers marks) (begun + 1) n k (ap (λ (l : List ℕ). slice_get l k) (sym same) ∙ is));
+    }
+
+-- a step of a brick marks an end, or nothing
+numbered_stepped : (w : World) (me : BrickId) (step : NodeStep) (told : Told) → IsNumbered w → IsNumbered (world_stepped w me step told)
+numbered_stepped w me step Nothing numbered = numbered
+numbered_stepped w me step (Made seq t base) numbered = numbered
+numbered_stepped w me step (Answers seq answer seen) numbered = numbered_on w.marks (End (length w.marks) _ answer) w.begun refl numbered
+
+numbered_delivered : (setting : Setting) (w : World) (packet : Option Packet) → IsNumbered w → IsNumbered (delivered setting w packet)
+numbered_delivered setting w None numbered = numbered
+numbered_delivered setting w (Some packet) numbered =
+    let step : NodeStep = received setting packet.to (w.clocks packet.to.0) (w.nodes packet.to.0) packet in
+    let counted : World = record w { replies = replies_with setting w packet } in
+    cond_both (is_up setting.layout w packet.to) (world_stepped counted packet.to step step.told) w (λ (next : World). IsNumbered next)
+    (λ up. numbered_stepped counted packet.to step step.told numbered) (λ down. numbered)
+
+numbered_absorbed : (setting : Setting) (w : World) (packet : Option Packet) → IsNumbered w → IsNumbered (world_absorbed setting w packet)
+numbered_absorbed setting w None numbered = numbered
+numbered_absorbed setting w (Some packet) numbered =
+    cond_both (is_up setting.layout w packet.to) _ w (λ (next : World). IsNumbered next) (λ up. numbered) (λ down. numbered)
+
+-- through any event
+numbered_happens : (setting : Setting) (w : World) (event : Event) → IsNumbered w → IsNumbered (happens setting w event)
+unfolding happens
+numbered_happens setting w (Invokes brick ask) numbered =
+    cond_both (may_begin setting w brick ask) (world_began w brick ask (invoked setting brick (w.clocks brick.0) (w.nodes brick.0) ask)) w
+    (λ (next : World). IsNumbered next)
+    (λ may. numbered_more w.marks (Begin (length w.marks) (w.begun + 1) brick ask) w.begun refl numbered) (λ isnt. numbered)
+numbered_happens setting w (Delivers number) numbered = numbered_delivered setting w (packet_of w.packets number) numbered
+numbered_happens setting w (Sets brick time) numbered =
+    cond_both (is_brick setting.layout brick) _ w (λ (next : World). IsNumbered next) (λ is. numbered) (λ isnt. numbered)
+numbered_happens setting w (Ticks brick) numbered =
+    cond_both (is_up setting.layout w brick) (world_ticked setting w brick) w (λ (next : World). IsNumbered next) (λ up. numbered) (λ down. numbered)
+numbered_happens setting w (Crashes brick) numbered =
+    cond_both (is_up setting.layout w brick) (world_stopped w brick) w (λ (next : World). IsNumbered next)
+    (λ up. numbered_on w.marks (Crash (length w.marks) brick) w.begun refl numbered) (λ down. numbered)
+numbered_happens setting w (Starts brick openings) numbered =
+    cond_both (may_start setting.layout w brick openings) (world_started w brick openings) w (λ (next : World). IsNumbered next)
+    (λ may. numbered) (λ cannot. numbered)
+numbered_happens setting w (Absorbs number) numbered = numbered_absorbed setting w (packet_of w.packets number) numbered
+
+-- and through any schedule
+pub numbered_run : (setting : Setting) (events : List Event) (w : World) → IsNumbered w → IsNumbered (run setting events w)
+numbered_run setting [] w numbered = numbered
+numbered_run setting (event ∷ events) w numbered = numbered_run setting events (happens setting w event) (numbered_happens setting w event numbered)

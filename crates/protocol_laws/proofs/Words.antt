@@ -1,0 +1,60 @@
+-- Each answer has the word of its operation.
+use Rattle.std.proofs.Common.{◌≡◌, ℕ, ◌*◌, List, length, Option, Some, inl, inr, sym, ap, ◌∙◌, subst}
+use Rattle.std.proofs.lemmas.List.{length-replicate}
+use Rattle.fab_base.specs.declared.stamps.Stamp.{Stamp}
+use Rattle.fab_base.specs.declared.asks.Op.{Op}
+use Rattle.fab_base.specs.declared.answers.Answer.{Answer}
+use Rattle.fab_base.specs.declared.answers.Answer.TheVariants.{Data, Done, Aborted}
+use Rattle.fab_base.specs.Layouts.{Group, group_of}
+use Rattle.protocol.specs.Settings.{Setting}
+use Rattle.protocol.specs.Worlds.{World, Operation, zero_content}
+use Rattle.protocol_laws.specs.Marked.{WordFits, WordsFit}
+use Rattle.protocol_laws.proofs.Books.{Books, OperationBooks, IsOperation}
+use Rattle.protocol_laws.proofs.Said.{Stamping, Said, IsMadeOrFirst, EndShows}
+
+module _ (setting : Setting) (w : World) (stamps : Stamping) (books : Books setting w) (said : Said setting w stamps) where
+  -- the content of a version that was made, or of the first, is that of m blocks
+  content_long : (g s : ℕ) (t : Stamp) (group : Group) → group_of setting.layout g ≡ Some group → IsMadeOrFirst w g s t
+      → length (w.contents g s t) ≡ group.m * setting.layout.block
+  content_long g s t group is (inl first) =
+      ap (λ (u : Stamp). length (w.contents g s u)) first
+      ∙ ap (λ (l : List ℕ). length l) (said.first g s ∙ ap (λ (z : Option Group). zero_content setting.layout.block z) is)
+      ∙ length-replicate (group.m * setting.layout.block) 0
+  content_long g s t group is (inr made) =
+      let p : Operation = made.1 in
+      let content : w.contents p.ask.group.0 p.ask.stripe.0 t ≡ w.contents g s t
+      = ap (λ (x : ℕ). w.contents x p.ask.stripe.0 t) made.3 ∙ ap (λ (x : ℕ). w.contents g x t) made.4 in
+      ap (λ (l : List ℕ). length l) (sym content)
+      ∙ ((said.operations made.0 p made.2).content t made.5 made.6 group (ap (group_of setting.layout) made.3 ∙ is)).0
+
+  -- what the end of an operation shows is its word
+  end_fits : (n : ℕ) (answer : Answer) → EndShows w n answer
+      → (o : Operation) × IsOperation w n o
+      × ((group : Group) → group_of setting.layout o.ask.group.0 ≡ Some group → WordFits group.m setting.layout.block o.ask.op answer)
+  end_fits n (Data bytes) shown = (
+    shown.operation,
+    shown.is,
+    λ group is.
+        subst (λ (op : Op). WordFits group.m setting.layout.block op (Data bytes)) (sym shown.reads)
+        (ap (λ (l : List ℕ). length l) shown.bytes_are
+        ∙ content_long shown.operation.ask.group.0 shown.operation.ask.stripe.0 shown.version group is
+        ((said.operations n shown.operation shown.is).version shown.version shown.version_is).made),
+  )
+  end_fits n Done shown = (
+    shown.0,
+    shown.1,
+    λ group is. subst (λ (op : Op). WordFits group.m setting.layout.block op Done) (sym shown.2.1) tt,
+  )
+  end_fits n (Aborted cause) shown = (shown.0, shown.1, λ group is. tt)
+
+  -- the words of a world's marks fit
+  pub words_fit : WordsFit setting.layout w.marks
+  words_fit k p n answer at =
+      let fits = end_fits n answer (said.ends k p n answer at) in
+      let own : OperationBooks setting w n fits.0 = books.operations n fits.0 fits.1 in (
+        own.life,
+        own.group,
+        own.life_is,
+        ap (λ a. group_of setting.layout a.group.0) own.ask ∙ own.group_is,
+        subst (λ (op : Op). WordFits own.group.m setting.layout.block op answer) (ap (λ a. a.op) (sym own.ask)) (fits.2 own.group own.group_is),
+      )
