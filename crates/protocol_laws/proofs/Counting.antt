@@ -295,7 +295,7 @@ lower_one a b =
     (λ less. inr refl) (λ isnt. inl refl)
 
 -- neither of two tells that a store is full where none is the lowest
-no_full : (a b : Option FullMember) → lower_full a b ≡ None → (a ≡ None) × (b ≡ None)
+pub no_full : (a b : Option FullMember) → lower_full a b ≡ None → (a ≡ None) × (b ≡ None)
 no_full None b is = (refl, is)
 no_full (Some a) None is = cc
 no_full (Some a) (Some b) is =

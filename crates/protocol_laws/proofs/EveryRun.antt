@@ -2,11 +2,12 @@
 use Rattle.std.proofs.Common.{refl}
 use Rattle.protocol.specs.Settings.{Setting}
 use Rattle.protocol.specs.Worlds.{World, first_world, run}
-use Rattle.protocol_laws.specs.Laws.{Laws, EveryRunKeepsTheLaws, NoEventLowers}
+use Rattle.protocol_laws.specs.Laws.{RefusalsWereTrue, Laws, EveryRunKeepsTheLaws, NoEventLowers}
 use Rattle.protocol_laws.proofs.Books.{Books}
 use Rattle.protocol_laws.proofs.BooksEvents.{books}
 use Rattle.protocol_laws.proofs.Chains.{neighbours_follow, lowest_follows}
 use Rattle.protocol_laws.proofs.Falls.{no_event_lowers}
+use Rattle.protocol_laws.proofs.Moments.{refusals_true}
 use Rattle.protocol_laws.proofs.Numbers.{IsNumbered, numbered_run}
 use Rattle.protocol_laws.proofs.QuorumFacts.{QuorumFacts, quorum_facts}
 use Rattle.protocol_laws.proofs.Tallies.{Tallied}
@@ -15,8 +16,9 @@ use Rattle.protocol_laws.proofs.StripeLives.{well_formed_stripe, numbers_from_on
 use Rattle.protocol_laws.proofs.Walks.{happenings_strict}
 
 -- the laws, from the books, from what quorums show, and from the history of replies
-laws : (setting : Setting) (w : World) → Books setting w → QuorumFacts setting w → Tallied w → IsNumbered w → Laws setting w
-laws setting w booked facts history numbered = record {
+laws : (setting : Setting) (w : World) → Books setting w → QuorumFacts setting w → Tallied w → IsNumbered w
+    → RefusalsWereTrue setting w → Laws setting w
+laws setting w booked facts history numbered truths = record {
   one_content = facts.one_content;
   first_is_zero = facts.first;
   guarded = facts.guarded;
@@ -27,7 +29,7 @@ laws setting w booked facts history numbered = record {
   real_time = facts.real_time;
   counted = history.counted;
   aborts = history.aborts;
-  full_aborts = history.full_aborts;
+  refusals = truths;
   full = facts.full;
   well_formed = booked.well_formed;
   without_gaps = record { placed = booked.places; numbered = numbered.each };
@@ -43,6 +45,7 @@ every_run setting events sound =
     (quorum_facts setting events sound (λ more. books setting more))
     (tallied setting events sound (λ more. books setting more))
     (numbered_run setting events (first_world setting.layout) (record { count = refl; each = λ k n is. let never : ⊥ = cc in absurd never }))
+    (refusals_true setting events)
 
 -- no event of any run lowers what a brick has promised or stored
 pub no_event : NoEventLowers

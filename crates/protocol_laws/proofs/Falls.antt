@@ -148,7 +148,8 @@ parts_stay setting w (Absorbs number) = absorption_stays setting w (packet_of w.
 
 -- no event of any run lowers a top
 pub no_event_lowers : NoEventLowers
-no_event_lowers setting events event sound = (parts_stay setting (run setting events (first_world setting.layout)) event).tops
+no_event_lowers setting events event sound =
+    let stay : PartsStay _ _ = parts_stay setting (run setting events (first_world setting.layout)) event in (stay.tops, stay.newer)
 
 -- and through any schedule
 pub parts_stay_on : (setting : Setting) (more : List Event) (w : World) → PartsStay w (run setting more w)

@@ -19,6 +19,7 @@ pub mod Growth
 pub mod Lives
 pub mod Logs
 pub mod MarkLists
+pub mod Moments
 pub mod Numbers
 pub mod Operated
 pub mod Outcomes

@@ -31,7 +31,7 @@ pub record SameOperation (c d : Coordinator) : Type 0 where
   pub view : d.call.view ≡ c.call.view
   pub stripe : d.call.stripe ≡ c.call.stripe
 
--- it waits in its phase, with the replies that count, or once it forgot them, of which none told a later stamp
+-- it waits in its phase, with the replies that count, or once it forgot them, of which none told a later stamp or a full store
 pub record WaitsFits (c d : Coordinator) : Type 0 where
   pub same : SameOperation c d
   pub stamp : d.stamp ≡ c.stamp
@@ -39,7 +39,7 @@ pub record WaitsFits (c d : Coordinator) : Type 0 where
   pub base : d.base ≡ c.base
   pub call : d.call ≡ c.call
   pub phase : d.phase ≡ c.phase
-  pub counted : (d.counted ≡ c.counted) ⊎ ((d.counted ≡ []) × (greatest_refuser c.counted ≡ None))
+  pub counted : (d.counted ≡ c.counted) ⊎ ((d.counted ≡ []) × (greatest_refuser c.counted ≡ None) × (lowest_full c.counted ≡ None))
 
 -- a phase that is a round of ordering
 abbrev pub IsRound : Phase → Type 0
@@ -154,7 +154,7 @@ AnswerFits fresh c (Data bytes) = Unit {0}
 AnswerFits fresh c Done = Unit {0}
 AnswerFits fresh c (Aborted (Cause.Later brick x)) = AbortFits fresh c brick x
 AnswerFits fresh c (Aborted (Cause.Full brick live)) = FullFits c brick live
-AnswerFits fresh c (Aborted cause) = Unit {0}
+AnswerFits fresh c (Aborted cause) = ⊥
 
 -- what is decided fits the coordinator
 abbrev pub NextFits : Option Stamp → Coordinator → Next → Type 0
@@ -185,15 +185,16 @@ module _ (ask : Ask) (stamp : Stamp) (round : ℕ) (base : Option Stamp) (conten
     counted = inl refl;
   }
 
-  forgets_fits : (phase : Phase) → greatest_refuser counted ≡ None → WaitsFits (within phase) (forgetting (within phase))
-  forgets_fits phase none = record {
+  forgets_fits : (phase : Phase) → greatest_refuser counted ≡ None → lowest_full counted ≡ None
+      → WaitsFits (within phase) (forgetting (within phase))
+  forgets_fits phase none roomy = record {
     same = record { ask = refl; boot = refl; seq = refl; group = refl; view = refl; stripe = refl };
     stamp = refl;
     round = refl;
     base = refl;
     call = refl;
     phase = refl;
-    counted = inr (refl, none);
+    counted = inr (refl, none, roomy);
   }
 
   makes_fits : (phase : Phase) → MakesFits (within phase) (in_phase (within phase) Stores)
@@ -239,9 +240,9 @@ module _ (ask : Ask) (stamp : Stamp) (round : ℕ) (base : Option Stamp) (conten
   answered_fast_fits code m fresh (Some v) = ((λ is. (v, refl)), tt)
 
   read_back_fits : (code : Code) (m : ℕ) (fresh : Option Stamp) (phase : Phase) (v : Option Stamp) → (phase ≡ Stores → ⊥)
-      → greatest_refuser counted ≡ None → NextFits fresh (within phase) (read_back code m (within phase) v)
-  read_back_fits code m fresh phase None unmade none = forgets_fits phase none
-  read_back_fits code m fresh phase (Some v) unmade none =
+      → greatest_refuser counted ≡ None → lowest_full counted ≡ None → NextFits fresh (within phase) (read_back code m (within phase) v)
+  read_back_fits code m fresh phase None unmade none roomy = forgets_fits phase none roomy
+  read_back_fits code m fresh phase (Some v) unmade none roomy =
       cond_both (nat_lt (length (pieces_at v counted)) m) (Sends (in_phase (within phase) (Descends v)))
       (Makes (restoring (within phase) v (code.decode m (pieces_at v counted))))
       (λ (next : Next). NextFits fresh (within phase) next)
@@ -256,8 +257,8 @@ module _ (ask : Ask) (stamp : Stamp) (round : ℕ) (base : Option Stamp) (conten
 
   -- a member whose store is full aborts any phase
   unless_told_fits : (fresh : Option Stamp) (phase : Phase) (next : Next) (f : Option FullMember) → lowest_full counted ≡ f
-      → NextFits fresh (within phase) next → NextFits fresh (within phase) (unless_told_full f next)
-  unless_told_fits fresh phase next None none fits = fits
+      → (lowest_full counted ≡ None → NextFits fresh (within phase) next) → NextFits fresh (within phase) (unless_told_full f next)
+  unless_told_fits fresh phase next None none fits = fits none
   unless_told_fits fresh phase next (Some f) told fits = (abort_ends phase (Cause.Full f.brick f.live), record { seat = f.seat; told = told })
 
   again_fits : (fresh : Option Stamp) (phase : Phase) (r : Refuser) → IsRound phase
@@ -289,15 +290,16 @@ module _ (ask : Ask) (stamp : Stamp) (round : ℕ) (base : Option Stamp) (conten
   ordered_fits fresh None refused = makes_fits Orders
   ordered_fits fresh (Some r) refused = again_fits fresh Orders r tt (λ f none. none) (λ is. cc) refused
 
-  recovered_fits : (code : Code) (m : ℕ) (fresh : Option Stamp) (r : Option Refuser) → greatest_refuser counted ≡ r
+  recovered_fits : (code : Code) (m : ℕ) (fresh : Option Stamp) (r : Option Refuser) → greatest_refuser counted ≡ r → lowest_full counted ≡ None
       → NextFits fresh (within Recovers) (once_ordered fresh (within Recovers) r (read_back code m (within Recovers) (greatest_found counted)))
-  recovered_fits code m fresh None refused = read_back_fits code m fresh Recovers (greatest_found counted) (λ is. cc) refused
-  recovered_fits code m fresh (Some r) refused = again_fits fresh Recovers r tt (λ f none. none) (λ is. cc) refused
+  recovered_fits code m fresh None refused roomy = read_back_fits code m fresh Recovers (greatest_found counted) (λ is. cc) refused roomy
+  recovered_fits code m fresh (Some r) refused roomy = again_fits fresh Recovers r tt (λ f none. none) (λ is. cc) refused
 
   descended_fits : (code : Code) (m : ℕ) (fresh : Option Stamp) (bound : Stamp) (r : Option Refuser) → greatest_refuser counted ≡ r
-      → NextFits fresh (within (Descends bound)) (unless_refused r (read_back code m (within (Descends bound)) (greatest_found counted)))
-  descended_fits code m fresh bound None refused = read_back_fits code m fresh (Descends bound) (greatest_found counted) (λ is. cc) refused
-  descended_fits code m fresh bound (Some r) refused = aborts_fits fresh (Descends bound) r refused tt
+      → lowest_full counted ≡ None → NextFits fresh (within (Descends bound)) (unless_refused r (read_back code m (within (Descends bound)) (greatest_found counted)))
+  descended_fits code m fresh bound None refused roomy =
+      read_back_fits code m fresh (Descends bound) (greatest_found counted) (λ is. cc) refused roomy
+  descended_fits code m fresh bound (Some r) refused roomy = aborts_fits fresh (Descends bound) r refused tt
 
   answer_fits : (fresh : Option Stamp) (op : Op) → AnswerFits fresh (within Stores) (answer_of op content)
   answer_fits fresh (ReadBlock j) = tt
@@ -312,14 +314,14 @@ module _ (ask : Ask) (stamp : Stamp) (round : ℕ) (base : Option Stamp) (conten
 
   decided_fits : (code : Code) (m : ℕ) (fresh : Option Stamp) (phase : Phase) → NextFits fresh (within phase) (decided code m fresh (within phase))
   unfolding decided
-  decided_fits code m fresh Looks = unless_told_fits fresh Looks _ (lowest_full counted) refl (answered_fast_fits code m fresh (fast_version counted))
-  decided_fits code m fresh Orders = unless_told_fits fresh Orders _ (lowest_full counted) refl (ordered_fits fresh (greatest_refuser counted) refl)
+  decided_fits code m fresh Looks = unless_told_fits fresh Looks _ (lowest_full counted) refl (λ roomy. answered_fast_fits code m fresh (fast_version counted))
+  decided_fits code m fresh Orders = unless_told_fits fresh Orders _ (lowest_full counted) refl (λ roomy. ordered_fits fresh (greatest_refuser counted) refl)
   decided_fits code m fresh Recovers =
       unless_told_fits fresh Recovers _ (lowest_full counted) refl (recovered_fits code m fresh (greatest_refuser counted) refl)
   decided_fits code m fresh (Descends bound) =
       unless_told_fits fresh (Descends bound) _ (lowest_full counted) refl (descended_fits code m fresh bound (greatest_refuser counted) refl)
   decided_fits code m fresh Stores =
-      unless_told_fits fresh Stores _ (lowest_full counted) refl (stored_fits fresh (Some stamp) (greatest_refuser counted) refl)
+      unless_told_fits fresh Stores _ (lowest_full counted) refl (λ roomy. stored_fits fresh (Some stamp) (greatest_refuser counted) refl)
 
 -- what a coordinator decides, with a quorum of replies or without, fits it
 pub once_full_fits : (code : Code) (group : Group) (fresh : Option Stamp) (c : Coordinator) → NextFits fresh c (once_full code group fresh c)

@@ -2,6 +2,7 @@
 use Rattle.std.proofs.Common.{◌≡◌, ℕ, ◌<◌, ◌≤◌, ◌⊎◌, true, List, [], ◌++◌, None, is_some}
 use Rattle.fab_base.specs.declared.identities.BrickId.{BrickId}
 use Rattle.fab_base.specs.declared.stamps.Stamp.{Stamp}
+use Rattle.fab_base.specs.declared.answers.Cause.{Cause}
 use Rattle.fab_base.specs.Stamps.{stamp_below}
 use Rattle.messages.specs.declared.calls.Call.{Call}
 use Rattle.messages.specs.declared.packets.Message.TheVariants as Message
@@ -13,16 +14,17 @@ use Rattle.messages.specs.declared.replies.Reply.TheVariants as Reply
 use Rattle.reg_model.specs.Marks.{life_of, IsOpen}
 use Rattle.protocol.specs.declared.phases.Counted.{Counted}
 use Rattle.protocol.specs.declared.phases.Phase.TheVariants.{Descends, Stores}
-use Rattle.protocol.specs.Coordinators.{Coordinator, greatest_refuser}
+use Rattle.protocol.specs.Coordinators.{Coordinator, greatest_refuser, lowest_full}
 use Rattle.protocol.specs.Worlds.{World, Operation, number_of, known_in}
-use Rattle.protocol_laws.specs.Laws.{WasSent, WriteSent, OrderSent, AskedAt, Evidence, IsCallOf, CountedWereSent, AbortsShow, FullAbortsShow}
+use Rattle.protocol_laws.specs.Laws.{WasSent, WriteSent, OrderSent, AskedAt, Evidence, IsCallOf, CountedWereSent, AbortsShow}
 use Rattle.protocol_laws.proofs.Books.{Replies, IsOperation, IsCall}
 use Rattle.protocol_laws.proofs.Outcomes.{IsRound, first_round}
 use Rattle.protocol_laws.proofs.Said.{EachCounted}
 
--- the replies of a phase are those that its coordinator has, after those that it forgot, of which none told a later stamp
+-- the replies of a phase are those that its coordinator has, after those that it forgot, of which none told a later stamp or a full store
 abbrev pub IsTally : List Counted → List Counted → Type 0
-IsTally replies counted = (forgotten : List Counted) × (replies ≡ forgotten ++ counted) × (greatest_refuser forgotten ≡ None)
+IsTally replies counted =
+    (forgotten : List Counted) × (replies ≡ forgotten ++ counted) × (greatest_refuser forgotten ≡ None) × (lowest_full forgotten ≡ None)
 
 -- The open operation of number n at coordinator c: in its present phase those replies counted that c has, but for those that it forgot, and
 -- none in a later one; each round of ordering before the present one had counted a later stamp.
@@ -39,14 +41,8 @@ CountedSent w n phase x =
     × WasSent w (record { from = x.brick; to = o.brick; message = Message.Reply call x.reply }))
 
 -- the abort of operation n shows its evidence
-abbrev pub AbortShown : World → ℕ → BrickId → Stamp → Type 0
-AbortShown w n brick x = (o : Operation) × IsOperation w n o × Evidence w n o brick x
-
--- the abort of operation n for a full store shows that its brick told so
-abbrev pub FullAbortShown : World → ℕ → BrickId → ℕ → Type 0
-FullAbortShown w n brick live =
-    (o : Operation) × IsOperation w n o
-    × ((call : Call) × IsCallOf call o × WasSent w (record { from = brick; to = o.brick; message = Message.Reply call (Reply.Full live) }))
+abbrev pub AbortShown : World → ℕ → Cause → Type 0
+AbortShown w n cause = (o : Operation) × IsOperation w n o × Evidence w n o cause
 
 -- the history of a world
 pub record Tallied (w : World) : Type 0 where
@@ -54,7 +50,6 @@ pub record Tallied (w : World) : Type 0 where
   pub unbegun : (n p : ℕ) → w.begun < n → w.replies n p ≡ []
   pub counted : CountedWereSent w
   pub aborts : AbortsShow w
-  pub full_aborts : FullAbortsShow w
 
 -- an order of stamp t that looks below a bound was sent
 abbrev pub DescentSent : World → Call → BrickId → BrickId → Stamp → Stamp → Type 0

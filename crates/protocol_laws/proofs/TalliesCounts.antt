@@ -9,7 +9,7 @@ use Rattle.fab_base.specs.declared.stamps.Stamp.{Stamp}
 use Rattle.fab_base.specs.Stamps.{stamp_below}
 use Rattle.fab_base.specs.declared.answers.Answer.{Answer}
 use Rattle.fab_base.specs.declared.answers.Answer.TheVariants.{Aborted}
-use Rattle.fab_base.specs.declared.answers.Cause.TheVariants as Cause
+use Rattle.fab_base.specs.declared.answers.Cause.{Cause}
 use Rattle.messages.specs.declared.calls.Call.{Call}
 use Rattle.messages.specs.declared.packets.Message.TheVariants as Message
 use Rattle.messages.specs.declared.packets.Packet.{Packet}
@@ -23,7 +23,7 @@ use Rattle.protocol.specs.declared.phases.Phase.TheVariants.{Looks, Orders, Reco
 use Rattle.protocol.specs.declared.phases.Counted.{Counted}
 use Rattle.protocol.specs.declared.phases.Refuser.{Refuser}
 use Rattle.protocol.specs.declared.phases.FullMember.{FullMember}
-use Rattle.protocol.specs.Coordinators.{Coordinator, Next, Ignores, Waits, Sends, Makes, Ends, refuser_of, greater_refuser, greatest_refuser, with_reply}
+use Rattle.protocol.specs.Coordinators.{Coordinator, Next, Ignores, Waits, Sends, Makes, Ends, refuser_of, greater_refuser, greatest_refuser, full_member_of, lower_full, lowest_full, with_reply}
 use Rattle.protocol.specs.Nodes.{Node, put, has_later_time, new_stamp, fresh_stamp, with_call, phase_packets, collect_packets, carried_out}
 use Rattle.protocol.specs.Worlds.{World, Operation, number_of, known_in, with_made, with_answer, with_counted, world_stepped}
 use Rattle.protocol_laws.specs.Laws.{WasSent, WriteSent, OrderSent, AskedAt, IsLastRound}
@@ -32,11 +32,11 @@ use Rattle.protocol_laws.proofs.BooksKept.{KeepsNumbers, calls_apart}
 use Rattle.protocol_laws.proofs.BooksEvents.{keeps_put, brick_of}
 use Rattle.protocol_laws.proofs.Outcomes.{IsRound, first_round, ReordersFits, RecoversFits, SendsFits, NoRoundFits, LastFits, AbortFits, FullFits, AnswerFits, NextFits}
 use Rattle.protocol_laws.proofs.Said.{EachCounted}
-use Rattle.protocol_laws.proofs.Counting.{each_more, refuser_counted, full_counted}
+use Rattle.protocol_laws.proofs.Counting.{each_more, no_full, refuser_counted, full_counted}
 use Rattle.protocol_laws.proofs.Puts.{put_other}
 use Rattle.protocol_laws.proofs.Tables.{put_each, put_same, get_grown, get_one}
 use Rattle.protocol_laws.proofs.Steps.{sent_by}
-use Rattle.protocol_laws.proofs.Tallies.{IsTally, CallTallied, CountedSent, AbortShown, FullAbortShown, Tallied, MessagesShow, Furthers}
+use Rattle.protocol_laws.proofs.Tallies.{IsTally, CallTallied, CountedSent, AbortShown, Tallied, MessagesShow, Furthers}
 use Rattle.protocol_laws.proofs.TalliesKept.{call_tallied_on, known_kept, counted_on, descent_on, write_on, asked_on, tallied_on}
 
 -- where there is no fresh stamp no later time is left
@@ -72,6 +72,13 @@ refuser_after [] counted none = refl
 refuser_after (x ∷ forgotten) counted none =
     let parts = none_parts (refuser_of x) (greatest_refuser forgotten) none in
     ap (λ (r : Option Refuser). greater_refuser r (greatest_refuser (forgotten ++ counted))) parts.0 ∙ refuser_after forgotten counted parts.1
+
+-- nor which member tells of a full store
+full_after : (forgotten counted : List Counted) → lowest_full forgotten ≡ None → lowest_full (forgotten ++ counted) ≡ lowest_full counted
+full_after [] counted none = refl
+full_after (x ∷ forgotten) counted none =
+    let parts = no_full (full_member_of x) (lowest_full forgotten) none in
+    ap (λ (f : Option FullMember). lower_full f (lowest_full (forgotten ++ counted))) parts.0 ∙ full_after forgotten counted parts.1
 
 -- a phase's number, by the rounds before it
 round_of : (c : Coordinator) (p : Phase) → IsRound p → InRound c p → (c.call.phase + 1 ≡ c.round + first_round p) × (1 ≤ first_round p)
@@ -148,6 +155,7 @@ module _ (setting : Setting) (group : Group) (w : World) (me : BrickId) (now kno
     own_replies c.call.phase ∙ put_same (w.replies n) c.call.phase (w.replies n c.call.phase ++ (one ∷ []))
         ∙ ap (λ (l : List Counted). l ++ (one ∷ [])) its.now.1 ∙ append_assoc its.now.0 c.counted (one ∷ []),
     its.now.2,
+    its.now.3,
   )
 
   -- which of them told the greatest later stamp is as of those that the coordinator has
@@ -155,20 +163,25 @@ module _ (setting : Setting) (group : Group) (w : World) (me : BrickId) (now kno
   refuser_now =
       ap (λ (l : List Counted). greatest_refuser l) replies_now.1 ∙ refuser_after replies_now.0 (c.counted ++ (one ∷ [])) replies_now.2
 
+  -- and so is the member that tells of a full store
+  full_now : lowest_full (replies n c.call.phase) ≡ lowest_full (c.counted ++ (one ∷ []))
+  full_now = ap (λ (l : List Counted). lowest_full l) replies_now.1 ∙ full_after replies_now.0 (c.counted ++ (one ∷ [])) replies_now.3
+
   -- the replies once the coordinator waits on
   tally_waits : (counted : List Counted) → (counted ≡ c.counted ++ (one ∷ []))
-      ⊎ ((counted ≡ []) × (greatest_refuser (c.counted ++ (one ∷ [])) ≡ None))
+      ⊎ ((counted ≡ []) × (greatest_refuser (c.counted ++ (one ∷ [])) ≡ None) × (lowest_full (c.counted ++ (one ∷ [])) ≡ None))
       → IsTally (replies n c.call.phase) counted
   tally_waits counted (inl same) = subst (λ (l : List Counted). IsTally (replies n c.call.phase) l) (sym same) replies_now
-  tally_waits counted (inr (none, unrefused)) = (
+  tally_waits counted (inr (none, unrefused, roomy)) = (
     replies n c.call.phase,
     sym (ap (λ (l : List Counted). replies n c.call.phase ++ l) none ∙ append-nil (replies n c.call.phase)),
     refuser_now ∙ unrefused,
+    full_now ∙ roomy,
   )
 
   -- the replies once it is in another phase
   tally_begins : (p : ℕ) (counted : List Counted) → counted ≡ [] → c.call.phase < p → IsTally (replies n p) counted
-  tally_begins p counted none above = ([], replies_later p above ∙ sym none, refl)
+  tally_begins p counted none above = ([], replies_later p above ∙ sym none, refl, refl)
 
   -- a round of ordering before the present one had counted a later stamp
   refused_before : IsRound c.phase → (p : ℕ) → first_round c.phase ≤ p → p < c.call.phase → is_some (greatest_refuser (replies n p)) ≡ true
@@ -340,7 +353,7 @@ module _ (setting : Setting) (group : Group) (w : World) (me : BrickId) (now kno
 
   -- the brick whose full store aborts the operation told so
   full_shown : (answer : Answer) (seen stored : Option Stamp) (brick : BrickId) (live : ℕ) → FullFits (with_reply c seat from reply) brick live
-      → Furthers w (after (Ends answer seen stored)) → FullAbortShown (after (Ends answer seen stored)) n brick live
+      → Furthers w (after (Ends answer seen stored)) → AbortShown (after (Ends answer seen stored)) n (Cause.Full brick live)
   full_shown answer seen stored brick live fits on =
       let P : Counted → Type 0 = λ y. WasSent w (record { from = y.brick; to = me; message = Message.Reply c.call y.reply }) in
       let f : FullMember = record { seat = fits.seat; brick = brick; live = live } in
@@ -351,21 +364,24 @@ module _ (setting : Setting) (group : Group) (w : World) (me : BrickId) (now kno
       let goes = on.operations n o mine.operation_is in (
         goes.0,
         goes.1,
-        (
-          c.call,
-          (mine.call_boot ∙ sym mine.boot ∙ sym goes.3, sym mine.seq ∙ sym goes.4),
-          subst (λ (b : BrickId).
+        record {
+          call = c.call;
+          seat = fits.seat;
+          own = (mine.call_boot ∙ sym mine.boot ∙ sym goes.3, sym mine.seq ∙ sym goes.4);
+          told = subst (λ (b : BrickId).
               WasSent (after (Ends answer seen stored)) (record { from = brick; to = b; message = Message.Reply c.call (Reply.Full live) }))
               (me_is ∙ sym goes.2)
-              (on.sent (record { from = brick; to = me; message = Message.Reply c.call (Reply.Full live) }) told),
-        ),
+              (on.sent (record { from = brick; to = me; message = Message.Reply c.call (Reply.Full live) }) told);
+          lowest = full_now ∙ fits.told;
+          final = replies_later;
+        },
       )
 
-  -- the evidence of an abort
-  abort_shown : (answer : Answer) (seen stored : Option Stamp) (brick : BrickId) (x : Stamp) → AbortFits fresh (with_reply c seat from reply) brick x
+  -- the evidence of an abort for a later stamp
+  later_shown : (answer : Answer) (seen stored : Option Stamp) (brick : BrickId) (x : Stamp) → AbortFits fresh (with_reply c seat from reply) brick x
       → MessagesShow (after (Ends answer seen stored)) → Furthers w (after (Ends answer seen stored))
-      → AbortShown (after (Ends answer seen stored)) n brick x
-  abort_shown answer seen stored brick x fits later on =
+      → AbortShown (after (Ends answer seen stored)) n (Cause.Later brick x)
+  later_shown answer seen stored brick x fits later on =
       let P : Counted → Type 0 = λ y. WasSent w (record { from = y.brick; to = me; message = Message.Reply c.call y.reply }) in
       let r : Refuser = record { seat = fits.seat; brick = brick; stamp = x } in
       let found = refuser_counted P (c.counted ++ (one ∷ [])) r each_sent fits.refused in
@@ -391,6 +407,7 @@ module _ (setting : Setting) (group : Group) (w : World) (me : BrickId) (now kno
           above = low.2;
           greatest = refuser_now ∙ fits.refused;
           last = λ order. last_by goes.0 by boot low.0 low.1 c.phase refl fits.last order;
+          final = replies_later;
         },
       )
     where
@@ -436,6 +453,14 @@ module _ (setting : Setting) (group : Group) (w : World) (me : BrickId) (now kno
       last_by e by boot t asked (Descends bound) at fits order = absurd (descended_order e by t bound asked at order)
       last_by e by boot t asked Stores at fits order = absurd (stored_order e by t asked at order)
 
+  -- the evidence of an abort, by its cause
+  abort_shown : (answer : Answer) (seen stored : Option Stamp) (cause : Cause) → AnswerFits fresh (with_reply c seat from reply) (Aborted cause)
+      → MessagesShow (after (Ends answer seen stored)) → Furthers w (after (Ends answer seen stored))
+      → AbortShown (after (Ends answer seen stored)) n cause
+  abort_shown answer seen stored (Cause.Later brick x) fits later on = later_shown answer seen stored brick x fits later on
+  abort_shown answer seen stored (Cause.Full brick live) fits later on = full_shown answer seen stored brick live fits on
+  abort_shown answer seen stored cause fits later on = absurd fits
+
   -- the history of replies after what the coordinator decides
   pub tallied_counted : (next : Next) → NextFits fresh (with_reply c seat from reply) next → MessagesShow (after next) → Tallied (after next)
   tallied_counted Ignores fits later = absurd fits
@@ -450,7 +475,7 @@ module _ (setting : Setting) (group : Group) (w : World) (me : BrickId) (now kno
         later = λ p above. replies_later p (omega arith);
         refused = λ round p low high. refused_before (subst (λ (x : Phase). IsRound x) fits.phase round) p (omega arith) (omega arith);
       }))
-      unbegun (counted_next (after (Waits d)) on) (λ a p m brick x at. inl at) (λ a p m brick live at. inl at)
+      unbegun (counted_next (after (Waits d)) on) (λ a p m cause at. inl at)
   tallied_counted (Sends d) fits later =
       let on : Furthers w (after (Sends d)) = furthers (after (Sends d)) (max known d.stamp.time) node.busy (Some d)
       (phase_packets setting group me d) refl
@@ -462,7 +487,7 @@ module _ (setting : Setting) (group : Group) (w : World) (me : BrickId) (now kno
         later = λ p above. replies_later p (omega arith);
         refused = refused_sends d fits phase;
       }))
-      unbegun (counted_next (after (Sends d)) on) (λ a p m brick x at. inl at) (λ a p m brick live at. inl at)
+      unbegun (counted_next (after (Sends d)) on) (λ a p m cause at. inl at)
   tallied_counted (Makes d) fits later =
       let on : Furthers w (after (Makes d)) = furthers (after (Makes d)) known node.busy (Some d)
       (phase_packets setting group me d) refl grows refl refl
@@ -474,33 +499,22 @@ module _ (setting : Setting) (group : Group) (w : World) (me : BrickId) (now kno
         later = λ p above. replies_later p (omega arith);
         refused = λ round p low high. absurd (subst (λ (x : Phase). IsRound x) fits.phase round);
       }))
-      unbegun (counted_next (after (Makes d)) on) (λ a p m brick x at. inl at) (λ a p m brick live at. inl at)
+      unbegun (counted_next (after (Makes d)) on) (λ a p m cause at. inl at)
   tallied_counted (Ends answer seen stored) fits later =
       let on : Furthers w (after (Ends answer seen stored)) = furthers (after (Ends answer seen stored)) known (node.busy - 1) None
       (collect_packets group me c.call stored) refl grows refl refl (λ j b. refl) (answered_operations answer seen) in
       tallied_on setting w (after (Ends answer seen stored)) books tallied later on
       (calls_next known (node.busy - 1) None grows (λ e at. absurd (let never : None ≡ Some e = at in cc)))
       unbegun (counted_next (after (Ends answer seen stored)) on)
-      (λ a p m brick x at. ⊎_elim
-      (λ (old : slice_get w.marks a ≡ Some (End p m (Aborted (Cause.Later brick x)))). inl old)
-      (λ (new : (j : ℕ) × (slice_get (End (length w.marks) n answer ∷ []) j ≡ Some (End p m (Aborted (Cause.Later brick x))))).
-      let mark : End (length w.marks) n answer ≡ End p m (Aborted (Cause.Later brick x))
-      = get_one (End (length w.marks) n answer) (End p m (Aborted (Cause.Later brick x))) new.0 new.1 in
+      (λ a p m cause at. ⊎_elim
+      (λ (old : slice_get w.marks a ≡ Some (End p m (Aborted cause))). inl old)
+      (λ (new : (j : ℕ) × (slice_get (End (length w.marks) n answer ∷ []) j ≡ Some (End p m (Aborted cause)))).
+      let mark : End (length w.marks) n answer ≡ End p m (Aborted cause)
+      = get_one (End (length w.marks) n answer) (End p m (Aborted cause)) new.0 new.1 in
       let number : n ≡ m = cc in
-      let by : answer ≡ Aborted (Cause.Later brick x) = cc in
-      let abort : AbortFits fresh (with_reply c seat from reply) brick x
+      let by : answer ≡ Aborted cause = cc in
+      let abort : AnswerFits fresh (with_reply c seat from reply) (Aborted cause)
       = subst (λ (z : Answer). AnswerFits fresh (with_reply c seat from reply) z) by fits.1 in
-      inr (subst (λ (z : ℕ). AbortShown (after (Ends answer seen stored)) z brick x) number (abort_shown answer seen stored brick x abort later on)))
-      (get_grown w.marks (End (length w.marks) n answer ∷ []) a (End p m (Aborted (Cause.Later brick x))) at))
-      (λ a p m brick live at. ⊎_elim
-      (λ (old : slice_get w.marks a ≡ Some (End p m (Aborted (Cause.Full brick live)))). inl old)
-      (λ (new : (j : ℕ) × (slice_get (End (length w.marks) n answer ∷ []) j ≡ Some (End p m (Aborted (Cause.Full brick live))))).
-      let mark : End (length w.marks) n answer ≡ End p m (Aborted (Cause.Full brick live))
-      = get_one (End (length w.marks) n answer) (End p m (Aborted (Cause.Full brick live))) new.0 new.1 in
-      let number : n ≡ m = cc in
-      let by : answer ≡ Aborted (Cause.Full brick live) = cc in
-      let told : FullFits (with_reply c seat from reply) brick live
-      = subst (λ (z : Answer). AnswerFits fresh (with_reply c seat from reply) z) by fits.1 in
-      inr (subst (λ (z : ℕ). FullAbortShown (after (Ends answer seen stored)) z brick live) number
-      (full_shown answer seen stored brick live told on)))
-      (get_grown w.marks (End (length w.marks) n answer ∷ []) a (End p m (Aborted (Cause.Full brick live))) at))
+      inr (subst (λ (z : ℕ). AbortShown (after (Ends answer seen stored)) z cause) number
+      (abort_shown answer seen stored cause abort later on)))
+      (get_grown w.marks (End (length w.marks) n answer ∷ []) a (End p m (Aborted cause)) at))

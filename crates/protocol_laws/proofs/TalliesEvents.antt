@@ -8,7 +8,6 @@ use Rattle.fab_base.specs.declared.asks.Ask.{Ask}
 use Rattle.fab_base.specs.declared.stamps.Stamp.{Stamp}
 use Rattle.fab_base.specs.Stamps.{stamp_below}
 use Rattle.fab_base.specs.declared.answers.Answer.TheVariants.{Aborted}
-use Rattle.fab_base.specs.declared.answers.Cause.TheVariants as Cause
 use Rattle.messages.specs.declared.calls.Call.{Call}
 use Rattle.messages.specs.declared.packets.Message.{Message}
 use Rattle.messages.specs.declared.packets.Packet.{Packet}
@@ -58,7 +57,7 @@ tallied_quiet setting w nodes clocks packets books tallied shows keeps calls sen
     })
     (λ i k c is. call_tallied_on w.replies w.replies (number_of w i k) (w.numbers i (nodes i).boot k) c
     (ap (λ (b : ℕ). w.numbers i b k) (keeps i).boot) (λ p. refl) (tallied.calls i k c (sym (calls i k) ∙ is)))
-    tallied.unbegun (λ n phase k x is. inl is) (λ k p n brick x is. inl is) (λ k p n brick live is. inl is)
+    tallied.unbegun (λ n phase k x is. inl is) (λ k p n cause is. inl is)
 
 tallied_nothing : (setting : Setting) (w : World) (me : BrickId) (node : Node) (packets : List Packet) → Books setting w → Tallied w
     → MessagesShow (stepped w w.replies me (record { node = node; packets = packets; told = Nothing })) → KeepsNumbers (w.nodes me.0) node
@@ -187,7 +186,7 @@ tallied_began setting w brick now ask fits up books tallied shows =
     let n : ℕ = w.begun + 1 in
     let c : Coordinator = new_coordinator brick now (w.nodes brick.0) ask in
     let new : CallTallied w.replies n c = record {
-      now = ([], tallied.unbegun n 1 (omega arith), refl);
+      now = ([], tallied.unbegun n 1 (omega arith), refl, refl);
       later = λ p above. tallied.unbegun n p (omega arith);
       refused = λ round p low high. absurd (omega (arith, first_round_above c.phase));
     } in
@@ -226,18 +225,12 @@ tallied_began setting w brick now ask fits up books tallied shows =
     (cases_call i k j l))
     (λ m p above. tallied.unbegun m p (omega arith))
     (λ m phase a x is. inl is)
-    (λ a p m by x is. ⊎_elim
-    (λ (old : slice_get w.marks a ≡ Some (End p m (Aborted (Cause.Later by x)))). inl old)
-    (λ (new : (q : ℕ) × (slice_get (Begin (length w.marks) n brick ask ∷ []) q ≡ Some (End p m (Aborted (Cause.Later by x))))).
-    absurd (let never : Begin (length w.marks) n brick ask ≡ End p m (Aborted (Cause.Later by x))
-    = get_one (Begin (length w.marks) n brick ask) (End p m (Aborted (Cause.Later by x))) new.0 new.1 in cc))
-    (get_grown w.marks (Begin (length w.marks) n brick ask ∷ []) a (End p m (Aborted (Cause.Later by x))) is))
-    (λ a p m by live is. ⊎_elim
-    (λ (old : slice_get w.marks a ≡ Some (End p m (Aborted (Cause.Full by live)))). inl old)
-    (λ (new : (q : ℕ) × (slice_get (Begin (length w.marks) n brick ask ∷ []) q ≡ Some (End p m (Aborted (Cause.Full by live))))).
-    absurd (let never : Begin (length w.marks) n brick ask ≡ End p m (Aborted (Cause.Full by live))
-    = get_one (Begin (length w.marks) n brick ask) (End p m (Aborted (Cause.Full by live))) new.0 new.1 in cc))
-    (get_grown w.marks (Begin (length w.marks) n brick ask ∷ []) a (End p m (Aborted (Cause.Full by live))) is))
+    (λ a p m cause is. ⊎_elim
+    (λ (old : slice_get w.marks a ≡ Some (End p m (Aborted cause))). inl old)
+    (λ (new : (q : ℕ) × (slice_get (Begin (length w.marks) n brick ask ∷ []) q ≡ Some (End p m (Aborted cause)))).
+    absurd (let never : Begin (length w.marks) n brick ask ≡ End p m (Aborted cause)
+    = get_one (Begin (length w.marks) n brick ask) (End p m (Aborted cause)) new.0 new.1 in cc))
+    (get_grown w.marks (Begin (length w.marks) n brick ask ∷ []) a (End p m (Aborted cause)) is))
 
 tallied_invoked : (setting : Setting) (w : World) (brick : BrickId) (now : ℕ) (ask : Ask) → Books setting w → Tallied w
     → may_begin setting w brick ask ≡ true
@@ -273,18 +266,12 @@ tallied_stopped setting w brick books tallied shows =
     (tallied.calls i k c old))
     (cases_eq i brick.0))
     tallied.unbegun (λ n phase k x is. inl is)
-    (λ k p n by x is. ⊎_elim
-    (λ (old : slice_get w.marks k ≡ Some (End p n (Aborted (Cause.Later by x)))). inl old)
-    (λ (new : (q : ℕ) × (slice_get (Crash (length w.marks) brick ∷ []) q ≡ Some (End p n (Aborted (Cause.Later by x))))).
-    absurd (let never : Crash (length w.marks) brick ≡ End p n (Aborted (Cause.Later by x))
-    = get_one (Crash (length w.marks) brick) (End p n (Aborted (Cause.Later by x))) new.0 new.1 in cc))
-    (get_grown w.marks (Crash (length w.marks) brick ∷ []) k (End p n (Aborted (Cause.Later by x))) is))
-    (λ k p n by live is. ⊎_elim
-    (λ (old : slice_get w.marks k ≡ Some (End p n (Aborted (Cause.Full by live)))). inl old)
-    (λ (new : (q : ℕ) × (slice_get (Crash (length w.marks) brick ∷ []) q ≡ Some (End p n (Aborted (Cause.Full by live))))).
-    absurd (let never : Crash (length w.marks) brick ≡ End p n (Aborted (Cause.Full by live))
-    = get_one (Crash (length w.marks) brick) (End p n (Aborted (Cause.Full by live))) new.0 new.1 in cc))
-    (get_grown w.marks (Crash (length w.marks) brick ∷ []) k (End p n (Aborted (Cause.Full by live))) is))
+    (λ k p n cause is. ⊎_elim
+    (λ (old : slice_get w.marks k ≡ Some (End p n (Aborted cause))). inl old)
+    (λ (new : (q : ℕ) × (slice_get (Crash (length w.marks) brick ∷ []) q ≡ Some (End p n (Aborted cause)))).
+    absurd (let never : Crash (length w.marks) brick ≡ End p n (Aborted cause)
+    = get_one (Crash (length w.marks) brick) (End p n (Aborted cause)) new.0 new.1 in cc))
+    (get_grown w.marks (Crash (length w.marks) brick ∷ []) k (End p n (Aborted cause)) is))
 
 -- a stopped brick is started again
 tallied_started : (setting : Setting) (w : World) (brick : BrickId) (openings : ℕ) → w.up brick.0 ≡ false → 1 ≤ openings → Books setting w → Tallied w
@@ -309,7 +296,7 @@ tallied_started setting w brick openings down once books tallied shows =
     call_tallied_on w.replies w.replies (number_of w i k) (number_of next i k) c (ap (λ (x : Node). w.numbers i x.boot k) same) (λ p. refl)
     (tallied.calls i k c old))
     (cases_eq i brick.0))
-    tallied.unbegun (λ n phase k x is. inl is) (λ k p n by x is. inl is) (λ k p n by live is. inl is)
+    tallied.unbegun (λ n phase k x is. inl is) (λ k p n cause is. inl is)
 
 -- a message is handled, and the reply is lost
 tallied_absorbed : (setting : Setting) (w : World) (packet : Option Packet) → Books setting w → Tallied w
@@ -362,8 +349,7 @@ tallied_first setting = record {
   calls = λ i k c is. absurd (let never : None ≡ Some c = is in cc);
   unbegun = λ n p above. refl;
   counted = λ n phase k x is. absurd (let never : None ≡ Some x = is in cc);
-  aborts = λ k p n brick x is. absurd (let never : None ≡ Some (End p n (Aborted (Cause.Later brick x))) = is in cc);
-  full_aborts = λ k p n brick live is. absurd (let never : None ≡ Some (End p n (Aborted (Cause.Full brick live))) = is in cc);
+  aborts = λ k p n cause is. absurd (let never : None ≡ Some (End p n (Aborted cause)) = is in cc);
 }
 
 -- every run keeps the history of replies, where each of its worlds has its books and its messages show what they should

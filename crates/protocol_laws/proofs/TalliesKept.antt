@@ -6,7 +6,7 @@ use Rattle.fab_base.specs.declared.identities.BrickId.{BrickId}
 use Rattle.fab_base.specs.declared.stamps.Stamp.{Stamp}
 use Rattle.fab_base.specs.Stamps.{stamp_below}
 use Rattle.fab_base.specs.declared.answers.Answer.TheVariants.{Aborted}
-use Rattle.fab_base.specs.declared.answers.Cause.TheVariants as Cause
+use Rattle.fab_base.specs.declared.answers.Cause.{Cause}
 use Rattle.messages.specs.declared.calls.Call.{Call}
 use Rattle.messages.specs.declared.packets.Message.TheVariants as Message
 use Rattle.messages.specs.declared.requests.Look.TheVariants as Look
@@ -17,20 +17,20 @@ use Rattle.reg_model.specs.declared.marks.Mark.TheVariants.{End}
 use Rattle.reg_model.specs.Marks.{life_of, IsOpen}
 use Rattle.protocol.specs.Settings.{Setting}
 use Rattle.protocol.specs.declared.phases.Counted.{Counted}
-use Rattle.protocol.specs.Coordinators.{Coordinator, greatest_refuser}
+use Rattle.protocol.specs.Coordinators.{Coordinator, greatest_refuser, lowest_full}
 use Rattle.protocol.specs.Nodes.{has_later_time}
 use Rattle.protocol.specs.Worlds.{World, Operation, number_of, known_in}
-use Rattle.protocol_laws.specs.Laws.{WasSent, WriteSent, OrderSent, AskedAt, IsLastRound, Evidence}
+use Rattle.protocol_laws.specs.Laws.{WasSent, WriteSent, OrderSent, AskedAt, IsLastRound, LaterEvidence, FullEvidence, Evidence}
 use Rattle.protocol_laws.proofs.Books.{Replies, Books, IsCall}
 use Rattle.protocol_laws.proofs.Lives.{ended_not_open}
-use Rattle.protocol_laws.proofs.Tallies.{CallTallied, CountedSent, AbortShown, FullAbortShown, DescentSent, Tallied, MessagesShow, Furthers}
+use Rattle.protocol_laws.proofs.Tallies.{CallTallied, CountedSent, AbortShown, DescentSent, Tallied, MessagesShow, Furthers}
 
 -- an operation whose replies stay
 pub call_tallied_on : (replies later : Replies) (n m : ℕ) (c : Coordinator) → m ≡ n → ((p : ℕ) → later n p ≡ replies n p)
     → CallTallied replies n c → CallTallied later m c
 call_tallied_on replies later n m c number same tallied =
     subst (λ (x : ℕ). CallTallied later x c) (sym number) (record {
-      now = (tallied.now.0, same c.call.phase ∙ tallied.now.1, tallied.now.2);
+      now = (tallied.now.0, same c.call.phase ∙ tallied.now.1, tallied.now.2, tallied.now.3);
       later = λ p above. same p ∙ tallied.later p above;
       refused = λ round p low high. ap (λ (l : List Counted). is_some (greatest_refuser l)) (same p) ∙ tallied.refused round p low high;
     })
@@ -67,20 +67,20 @@ module _ (w next : World) (on : Furthers w next) where
         ),
       )
 
-  -- what an abort for a full store shows stays
-  full_on : (n : ℕ) (brick : BrickId) (live : ℕ) → FullAbortShown w n brick live → FullAbortShown next n brick live
-  full_on n brick live was =
-      let goes = on.operations n was.0 was.1 in
-      let call : Call = was.2.0 in (
-        goes.0,
-        goes.1,
-        (
-          call,
-          (was.2.1.0 ∙ sym goes.3, was.2.1.1 ∙ sym goes.4),
-          subst (λ (b : BrickId). WasSent next (record { from = brick; to = b; message = Message.Reply call (Reply.Full live) })) (sym goes.2)
-              (on.sent (record { from = brick; to = was.0.brick; message = Message.Reply call (Reply.Full live) }) was.2.2),
-        ),
-      )
+  -- what an abort for a full store shows stays, where the replies of its operation do
+  full_on : (n : ℕ) (o p : Operation) (brick : BrickId) (live : ℕ) → p.brick ≡ o.brick → p.boot ≡ o.boot → p.seq ≡ o.seq
+      → ((q : ℕ) → next.replies n q ≡ w.replies n q) → FullEvidence w n o brick live → FullEvidence next n p brick live
+  full_on n o p brick live brick_is boot seq same was =
+      let call : Call = was.call in
+      record {
+        call = call;
+        seat = was.seat;
+        own = (was.own.0 ∙ sym boot, was.own.1 ∙ sym seq);
+        told = subst (λ (b : BrickId). WasSent next (record { from = brick; to = b; message = Message.Reply call (Reply.Full live) })) (sym brick_is)
+            (on.sent (record { from = brick; to = o.brick; message = Message.Reply call (Reply.Full live) }) was.told);
+        lowest = ap (λ (l : List Counted). lowest_full l) (same call.phase) ∙ was.lowest;
+        final = λ q above. same q ∙ was.final q above;
+      }
 
   pub order_on : (call : Call) (from to : BrickId) (t : Stamp) → OrderSent w call from to t → OrderSent next call from to t
   order_on call from to t (inl order) = inl (on.sent (record { from = from; to = to; message = Message.Request call (Request.Order t) }) order)
@@ -109,10 +109,11 @@ module _ (w next : World) (on : Furthers w next) where
       (subst (λ (b : ℕ). has_later_time (known_in next o.brick.0 b) ≡ false) (sym boot)
       (not_below _ (known_in w o.brick.0 o.boot) (known_in next o.brick.0 o.boot) (on.known o.brick.0 o.boot begun) none)))
 
-  -- the evidence of an abort stays, where the replies of its operation do
-  evidence_on : MessagesShow next → (n : ℕ) (o p : Operation) (brick : BrickId) (x : Stamp) → p.brick ≡ o.brick → p.boot ≡ o.boot → p.seq ≡ o.seq
-      → o.boot ≤ (w.nodes o.brick.0).boot → ((q : ℕ) → next.replies n q ≡ w.replies n q) → Evidence w n o brick x → Evidence next n p brick x
-  evidence_on shows n o p brick x brick_is boot seq begun same was =
+  -- what an abort for a later stamp shows stays, where the replies of its operation do
+  later_on : MessagesShow next → (n : ℕ) (o p : Operation) (brick : BrickId) (x : Stamp) → p.brick ≡ o.brick → p.boot ≡ o.boot → p.seq ≡ o.seq
+      → o.boot ≤ (w.nodes o.brick.0).boot → ((q : ℕ) → next.replies n q ≡ w.replies n q) → LaterEvidence w n o brick x
+      → LaterEvidence next n p brick x
+  later_on shows n o p brick x brick_is boot seq begun same was =
       let call : Call = was.call in
       let t : Stamp = was.stamp in
       let asked : AskedAt next call p.brick brick t
@@ -128,6 +129,7 @@ module _ (w next : World) (on : Furthers w next) where
         above = was.above;
         greatest = ap (λ (l : List Counted). greatest_refuser l) (same call.phase) ∙ was.greatest;
         last = λ sent. last_by sent was.asked;
+        final = λ q above. same q ∙ was.final q above;
       }
     where
       by_order : OrderSent w was.call o.brick brick was.stamp → IsLastRound next n p was.call.phase
@@ -151,39 +153,38 @@ module _ (w next : World) (on : Furthers w next) where
           absurd (shows.order_or_write was.call o.brick brick brick was.stamp was.stamp block (write_on was.call o.brick brick was.stamp block write)
           (subst (λ (b : BrickId). OrderSent next was.call b brick was.stamp) brick_is sent))
 
+  -- the evidence of an abort stays, where the replies of its operation do
+  evidence_on : MessagesShow next → (n : ℕ) (o p : Operation) (cause : Cause) → p.brick ≡ o.brick → p.boot ≡ o.boot → p.seq ≡ o.seq
+      → o.boot ≤ (w.nodes o.brick.0).boot → ((q : ℕ) → next.replies n q ≡ w.replies n q) → Evidence w n o cause → Evidence next n p cause
+  evidence_on shows n o p (Cause.Later brick x) brick_is boot seq begun same was = later_on shows n o p brick x brick_is boot seq begun same was
+  evidence_on shows n o p (Cause.Full brick live) brick_is boot seq begun same was = full_on n o p brick live brick_is boot seq same was
+  evidence_on shows n o p cause brick_is boot seq begun same was = absurd was
+
 -- the history of the next world: what is new in it is shown
 pub tallied_on : (setting : Setting) (w next : World) → Books setting w → Tallied w → MessagesShow next → Furthers w next
     → ((i k : ℕ) (c : Coordinator) → IsCall next i k c → CallTallied next.replies (number_of next i k) c)
     → ((n p : ℕ) → next.begun < n → next.replies n p ≡ [])
     → ((n phase k : ℕ) (x : Counted) → slice_get (next.replies n phase) k ≡ Some x
     → (slice_get (w.replies n phase) k ≡ Some x) ⊎ CountedSent next n phase x)
-    → ((k p n : ℕ) (brick : BrickId) (x : Stamp) → slice_get next.marks k ≡ Some (End p n (Aborted (Cause.Later brick x)))
-    → (slice_get w.marks k ≡ Some (End p n (Aborted (Cause.Later brick x)))) ⊎ AbortShown next n brick x)
-    → ((k p n : ℕ) (brick : BrickId) (live : ℕ) → slice_get next.marks k ≡ Some (End p n (Aborted (Cause.Full brick live)))
-    → (slice_get w.marks k ≡ Some (End p n (Aborted (Cause.Full brick live)))) ⊎ FullAbortShown next n brick live)
+    → ((k p n : ℕ) (cause : Cause) → slice_get next.marks k ≡ Some (End p n (Aborted cause))
+    → (slice_get w.marks k ≡ Some (End p n (Aborted cause))) ⊎ AbortShown next n cause)
     → Tallied next
-tallied_on setting w next books tallied shows on calls unbegun counted aborts full_aborts = record {
+tallied_on setting w next books tallied shows on calls unbegun counted aborts = record {
   calls = calls;
   unbegun = unbegun;
   counted = λ n phase k x is. ⊎_elim
       (λ (old : slice_get (w.replies n phase) k ≡ Some x). counted_on w next on n phase x (tallied.counted n phase k x old))
       (λ (new : CountedSent next n phase x). new)
       (counted n phase k x is);
-  aborts = λ k p n brick x is. ⊎_elim
-      (λ (old : slice_get w.marks k ≡ Some (End p n (Aborted (Cause.Later brick x)))).
-      let was : AbortShown w n brick x = tallied.aborts k p n brick x old in
+  aborts = λ k p n cause is. ⊎_elim
+      (λ (old : slice_get w.marks k ≡ Some (End p n (Aborted cause))).
+      let was : AbortShown w n cause = tallied.aborts k p n cause old in
       let goes = on.operations n was.0 was.1 in
       ⊎_elim
       (λ (same : (q : ℕ) → next.replies n q ≡ w.replies n q).
-      (goes.0, goes.1, evidence_on w next on shows n was.0 goes.0 brick x goes.2 goes.3 goes.4 (books.operations n was.0 was.1).booted.1 same was.2))
-      (λ (open' : IsOpen (life_of w.marks n)).
-      absurd (ended_not_open w.marks k p n (Aborted (Cause.Later brick x)) books.well_formed old open'))
+      (goes.0, goes.1, evidence_on w next on shows n was.0 goes.0 cause goes.2 goes.3 goes.4 (books.operations n was.0 was.1).booted.1 same was.2))
+      (λ (open' : IsOpen (life_of w.marks n)). absurd (ended_not_open w.marks k p n (Aborted cause) books.well_formed old open'))
       (on.replies n))
-      (λ (new : AbortShown next n brick x). new)
-      (aborts k p n brick x is);
-  full_aborts = λ k p n brick live is. ⊎_elim
-      (λ (old : slice_get w.marks k ≡ Some (End p n (Aborted (Cause.Full brick live)))).
-      full_on w next on n brick live (tallied.full_aborts k p n brick live old))
-      (λ (new : FullAbortShown next n brick live). new)
-      (full_aborts k p n brick live is);
+      (λ (new : AbortShown next n cause). new)
+      (aborts k p n cause is);
 }

@@ -1,10 +1,10 @@
 -- The laws of the disk, as they hold in every world that a run reaches. Quorums are counted by seat.
-use Rattle.std.specs.Prelude.{◌≡◌, ℕ, ◌+◌, ◌<◌, ◌≤◌, Bool, true, false, not, ◌&&◌, List, length, ◌⊎◌, Some, is_some, slice_get}
+use Rattle.std.specs.Prelude.{◌≡◌, ℕ, ◌+◌, ◌<◌, ◌≤◌, Bool, true, false, not, ◌&&◌, List, [], length, ◌⊎◌, Some, is_some, slice_get}
 use Rattle.fab_base.specs.declared.identities.BrickId.{BrickId}
 use Rattle.fab_base.specs.declared.stamps.Stamp.{Stamp}
 use Rattle.fab_base.specs.declared.asks.Op.TheVariants.{WriteStripe}
 use Rattle.fab_base.specs.declared.answers.Answer.TheVariants.{Aborted}
-use Rattle.fab_base.specs.declared.answers.Cause.TheVariants as Cause
+use Rattle.fab_base.specs.declared.answers.Cause.{Cause}
 use Rattle.fab_base.specs.Stamps.{stamp_below, first_stamp}
 use Rattle.messages.specs.declared.calls.Call.{Call}
 use Rattle.messages.specs.declared.packets.Message.{Message}
@@ -25,7 +25,7 @@ use Rattle.quorum.specs.Quorums.{quorum_of}
 use Rattle.protocol.specs.Settings.{Setting, IsSound}
 use Rattle.protocol.specs.Replicas.{Replica, top_of, is_held}
 use Rattle.protocol.specs.declared.phases.Counted.{Counted}
-use Rattle.protocol.specs.Coordinators.{most_rounds, greatest_refuser, told_in}
+use Rattle.protocol.specs.Coordinators.{most_rounds, greatest_refuser, lowest_full, told_in}
 use Rattle.protocol.specs.Nodes.{has_later_time}
 use Rattle.protocol.specs.Worlds.{World, Event, Operation, first_world, known_in, happens, run}
 use Rattle.protocol.specs.Happenings.{is_of, effect_in, happenings_of}
@@ -115,6 +115,12 @@ WritesAreGuarded setting w =
 abbrev pub NeverFalls : World → World → Type 0
 NeverFalls old new = (g s i : ℕ) → stamp_below (top_of (part_of new g s i)) (top_of (part_of old g s i)) ≡ false
 
+-- no brick adds a version to a log below what it has promised or stored for the stripe
+abbrev pub AddsNothingBelow : World → World → Type 0
+AddsNothingBelow old new =
+    (g s i : ℕ) (t : Stamp) → is_held t (part_of new g s i).log ≡ true
+    → (is_held t (part_of old g s i).log ≡ true) ⊎ (stamp_below t (top_of (part_of old g s i)) ≡ false)
+
 -- a member says that it stored a version only where it was asked to, and holds it
 abbrev pub StoredIsHeld : World → Type 0
 StoredIsHeld w =
@@ -156,10 +162,14 @@ IsLastRound w n o phase =
     × ((earlier : ℕ) → phase < earlier + most_rounds → earlier < phase → is_some (greatest_refuser (w.replies n earlier)) ≡ true))
     ⊎ (has_later_time (known_in w o.brick.0 o.boot) ≡ false)
 
--- What the abort of operation n shows: in a phase of this very operation, which asked at a lower stamp, the
--- brick had told the coordinator of the later stamp; no reply that counted in that phase told a greater one;
--- and if it was a round of ordering, it was the last.
-pub record Evidence (w : World) (n : ℕ) (o : Operation) (brick : BrickId) (x : Stamp) : Type 0 where
+-- no reply has counted in a later phase of operation n
+abbrev pub IsLastPhase : World → ℕ → ℕ → Type 0
+IsLastPhase w n phase = (later : ℕ) → phase < later → w.replies n later ≡ []
+
+-- What the abort of operation n for a later stamp shows: in the last phase of this very operation, which asked at
+-- a lower stamp, the brick had told the coordinator of the later stamp; no reply that counted in that phase told a
+-- greater one, nor an equal one from a lower seat; and if it was a round of ordering, no other could follow.
+pub record LaterEvidence (w : World) (n : ℕ) (o : Operation) (brick : BrickId) (x : Stamp) : Type 0 where
   pub call : Call
   pub stamp : Stamp
   pub seat : ℕ
@@ -169,6 +179,24 @@ pub record Evidence (w : World) (n : ℕ) (o : Operation) (brick : BrickId) (x :
   pub above : stamp_below stamp x ≡ true
   pub greatest : greatest_refuser (w.replies n call.phase) ≡ Some (record { seat = seat; brick = brick; stamp = x })
   pub last : OrderSent w call o.brick brick stamp → IsLastRound w n o call.phase
+  pub final : IsLastPhase w n call.phase
+
+-- What the abort of operation n for a full store shows: in the last phase of this very operation the brick had
+-- told the coordinator so, with so many live records, and no reply that counted in that phase told so from a
+-- lower seat.
+pub record FullEvidence (w : World) (n : ℕ) (o : Operation) (brick : BrickId) (live : ℕ) : Type 0 where
+  pub call : Call
+  pub seat : ℕ
+  pub own : IsCallOf call o
+  pub told : WasSent w (record { from = brick; to = o.brick; message = Message.Reply call (Reply.Full live) })
+  pub lowest : lowest_full (w.replies n call.phase) ≡ Some (record { seat = seat; brick = brick; live = live })
+  pub final : IsLastPhase w n call.phase
+
+-- the evidence of an abort, by its cause: there are two causes
+abbrev pub Evidence : World → ℕ → Operation → Cause → Type 0
+Evidence w n o (Cause.Later brick x) = LaterEvidence w n o brick x
+Evidence w n o (Cause.Full brick live) = FullEvidence w n o brick live
+Evidence w n o cause = ⊥
 
 -- each reply that counted in a phase of an operation was sent to it, as a reply to that phase
 abbrev pub CountedWereSent : World → Type 0
@@ -178,25 +206,41 @@ CountedWereSent w =
     × ((call : Call) × IsCallOf call o × (call.phase ≡ phase)
     × WasSent w (record { from = x.brick; to = o.brick; message = Message.Reply call x.reply }))
 
+-- A message that was sent says what was so of its brick then, where it refuses: of a later stamp, that its stripe's part had come to just that
+-- stamp; of a full store, that it kept so many live records.
+abbrev pub RefusalIsTrue : World → BrickId → Message → Type 0
+RefusalIsTrue w from (Message.Reply call (Reply.Later x)) = top_of (part_of w call.group.0 call.stripe.0 from.0) ≡ x
+RefusalIsTrue w from (Message.Reply call (Reply.Full live)) = (w.nodes from.0).live ≡ live
+RefusalIsTrue w from message = Unit {0}
+
+-- A moment of the run that led to a world: the one just before the event that sent the packet of a place among those sent.
+pub record Sending (setting : Setting) (w : World) (k : ℕ) : Type 0 where
+  pub earlier : List Event
+  pub event : Event
+  pub later : List Event
+  pub moment : World
+  pub moment_is : moment ≡ run setting earlier (first_world setting.layout)
+  pub world_is : w ≡ run setting later (happens setting moment event)
+  pub unsent : length moment.packets ≤ k
+  pub sent : k < length (happens setting moment event).packets
+
+-- each refusal was true of the member that told it when it was sent
+abbrev pub RefusalsWereTrue : Setting → World → Type 0
+RefusalsWereTrue setting w =
+    (k : ℕ) (packet : Packet) → slice_get w.packets k ≡ Some packet
+    → (sending : Sending setting w k) × RefusalIsTrue sending.moment packet.from packet.message
+
 -- every abort shows its evidence
 abbrev pub AbortsShow : World → Type 0
 AbortsShow w =
-    (k p n : ℕ) (brick : BrickId) (x : Stamp) → slice_get w.marks k ≡ Some (End p n (Aborted (Cause.Later brick x)))
-    → (o : Operation) × (w.operations n ≡ Some o) × Evidence w n o brick x
+    (k p n : ℕ) (cause : Cause) → slice_get w.marks k ≡ Some (End p n (Aborted cause))
+    → (o : Operation) × (w.operations n ≡ Some o) × Evidence w n o cause
 
 -- a member says that its store is full only with as many live records as a brick may keep
 abbrev pub FullIsFull : Setting → World → Type 0
 FullIsFull setting w =
     (call : Call) (from to : BrickId) (live : ℕ) → WasSent w (record { from = from; to = to; message = Message.Reply call (Reply.Full live) })
     → live ≡ setting.layout.records
-
--- every abort for a full store shows that its brick told so, with that many live records, in a phase of this
--- very operation
-abbrev pub FullAbortsShow : World → Type 0
-FullAbortsShow w =
-    (k p n : ℕ) (brick : BrickId) (live : ℕ) → slice_get w.marks k ≡ Some (End p n (Aborted (Cause.Full brick live)))
-    → (o : Operation) × (w.operations n ≡ Some o)
-    × ((call : Call) × IsCallOf call o × WasSent w (record { from = brick; to = o.brick; message = Message.Reply call (Reply.Full live) }))
 
 -- The laws of a world.
 pub record Laws (setting : Setting) (w : World) : Type 0 where
@@ -210,7 +254,7 @@ pub record Laws (setting : Setting) (w : World) : Type 0 where
   pub real_time : (g s : ℕ) → FollowsRealTime w g s
   pub counted : CountedWereSent w
   pub aborts : AbortsShow w
-  pub full_aborts : FullAbortsShow w
+  pub refusals : RefusalsWereTrue setting w
   pub full : FullIsFull setting w
   pub well_formed : IsWellFormed w.marks
   pub without_gaps : AreWithoutGaps w.marks
@@ -244,8 +288,9 @@ NeverSurfaces =
 abbrev pub EveryRunKeepsTheLaws : Type 0
 EveryRunKeepsTheLaws = (setting : Setting) (events : List Event) → IsSound setting → Laws setting (run setting events (first_world setting.layout))
 
--- no event of any run lowers what a brick has promised or stored
+-- no event of any run lowers what a brick has promised or stored, or adds a version below that
 abbrev pub NoEventLowers : Type 0
 NoEventLowers =
     (setting : Setting) (events : List Event) (event : Event) → IsSound setting
-    → (let w = run setting events (first_world setting.layout) in NeverFalls w (happens setting w event))
+    → (let w = run setting events (first_world setting.layout) in
+    NeverFalls w (happens setting w event) × AddsNothingBelow w (happens setting w event))

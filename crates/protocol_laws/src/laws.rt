@@ -18,22 +18,28 @@ ghost use Rattle.protocol_laws.specs.Laws.{EveryRunKeepsTheLaws, NeverSurfaces, 
 /// - A member says that it stored a version only where it was asked to, and holds it.
 /// - A recovery makes its version on a base: the base is below it, and is its content; and no quorum holds a version between the
 ///   two, or ever will (Frølund et al., DSN 2004).
-/// - Of two neighbours among the versions that take effect, the upper was written whole, or was made on the lower.
+/// - Of two neighbours among the versions that take effect, the upper was written whole, or was made on the lower. The lowest is the
+///   first version, or was written whole, or was made on the first one, whose content is zero.
 /// - Each reply that counted in a phase of an operation was sent to its coordinator, as a reply to that phase.
-/// - An operation is aborted for a later stamp only where a member had told its coordinator of a later stamp than the one that it
-///   was asked at, and no reply that counted in that phase told a greater one. A round of ordering, of which an operation has
-///   four at most, aborts only where it is the last: the three rounds before it had each counted a later stamp, or its
-///   coordinator knows no later time.
-/// - A member says that its store is full only with as many live records as a brick may keep.
-/// - An operation is aborted for a full store only where that member had told its coordinator so, with that many live records,
-///   in a phase of this very operation.
-/// - Marks are well formed: positions and numbers rise, and only an operation that is open ends.
+/// - An operation is aborted for a later stamp or for a full store, and for nothing else.
+/// - For a later stamp only where, in its last phase, a member had told its coordinator of a later stamp than the one that it was
+///   asked at, and no reply that counted in that phase told a greater one, or an equal one from a lower seat. A round of ordering,
+///   of which an operation has four at most, aborts only where no other may follow: the three rounds before it had each counted a
+///   later stamp, or its coordinator knows no later time.
+/// - For a full store only where, in its last phase, that member had told its coordinator so, the one of the lowest seat of those
+///   whose replies counted.
+/// - What a refusal tells was true of its member when it was sent: the stripe's part had come to just that stamp, or the member kept
+///   so many live records. A member says that its store is full only with as many live records as a brick may keep.
+/// - Each answer has the word of its operation: a read is answered the data of its m blocks, a write that it is done; either may be
+///   aborted.
+/// - Marks are well formed: positions and numbers rise, and only an operation that is open ends. They have no gaps: positions are
+///   0, 1, 2 and so on, and operations are numbered 1, 2, 3 and so on.
 pub fn every_run_keeps_the_laws()
     ensures { EveryRunKeepsTheLaws }
 {}
 
 /// No event of any run lowers what a brick has promised or stored: the greater of a stripe's order stamp and
-/// its newest version's stamp never falls (Frølund et al., DSN 2004).
+/// its newest version's stamp never falls; and no event adds a version to a log below that (Frølund et al., DSN 2004).
 pub fn no_event_lowers()
     ensures { NoEventLowers }
 {}
