@@ -267,8 +267,8 @@ received setting me now node packet = received_as packet.message
     received_as (Message.Reply call reply) = replied setting me now packet.from node call reply
     received_as message = no_step node
 
--- the node after a message whose handling was the last thing that it did: what it kept of a request stays,
--- and its reply is never sent
+-- the node after a message whose handling was cut short once it had kept what it keeps: what it kept of a
+-- request stays, and its reply is never sent
 unfoldable pub absorbed : Setting → BrickId → Node → Packet → Node
 absorbed setting me node packet = absorbed_as packet.message
   where

@@ -1,9 +1,10 @@
 -- The whole disk, and what a schedule of steps makes of it. Every message that was ever sent may be
 -- delivered, once, often or never, in any order: that is all that a network may do to it.
-use Rattle.std.specs.Prelude.{ℕ, zero, suc, ◌+◌, Bool, true, false, not, nat_eq, nat_lt, ◌&&◌, if◌then◌else◌, List, [], ◌∷◌, ◌++◌, length, Option, Some, None, is_some, slice_get}
+use Rattle.std.specs.Prelude.{ℕ, zero, suc, ◌+◌, Bool, true, false, not, nat_eq, nat_lt, ◌&&◌, ◌||◌, if◌then◌else◌, List, [], ◌∷◌, ◌++◌, length, Option, Some, None, is_some, slice_get}
 use Rattle.fab_base.specs.declared.identities.BrickId.{BrickId}
 use Rattle.fab_base.specs.declared.stamps.Stamp.{Stamp}
 use Rattle.fab_base.specs.declared.asks.Ask.{Ask}
+use Rattle.fab_base.specs.declared.asks.Op.{Op}
 use Rattle.fab_base.specs.declared.answers.Answer.{Answer}
 use Rattle.fab_base.specs.declared.answers.Answer.TheVariants.{Data, Done, Aborted}
 use Rattle.fab_base.specs.Stamps.{stamp_same}
@@ -13,26 +14,30 @@ use Rattle.messages.specs.declared.packets.Packet.{Packet}
 use Rattle.messages.specs.declared.replies.Reply.{Reply}
 use Rattle.reg_model.specs.declared.marks.Mark.{Mark}
 use Rattle.reg_model.specs.declared.marks.Mark.TheVariants.{Begin, End, Crash}
-use Rattle.reg_model.specs.Registers.{zero_registers}
+use Rattle.reg_model.specs.Registers.{zero_registers, after_op}
 use Rattle.fab_base.specs.Layouts.{Layout, Group, group_of}
 use Rattle.protocol.specs.Settings.{Setting}
-use Rattle.protocol.specs.Replicas.{top_of}
-use Rattle.protocol.specs.Coordinators.{Counted, Coordinator, stored_content, counts_at}
+use Rattle.protocol.specs.Replicas.{first_replica, top_of, is_held}
+use Rattle.protocol.specs.Coordinators.{Counted, Coordinator, counts_at}
 use Rattle.protocol.specs.Nodes.{Node, NodeStep, Told, Nothing, Made, Answers, put, first_node, is_stripe_op, refusal_of, invoked, received, absorbed, ticked, stopped, restarted, may_open}
 
--- What happens next: a brick is asked for an operation; the message of a number, counted from 1 in the order
--- of sending, is delivered; a brick's clock reads another time from now on, or ticks; a brick stops; a
--- stopped brick starts again, its store having been opened so many times since; or the message of a number is
--- handled, and its reply is lost before it is sent. That is how a brick that stopped as it handled a message
--- may find its store when it starts again: with the change made, though no reply was sent.
+-- Which of two a store is found to hold, when its brick starts: what it held before the handling that the brick's stop cut short, or what that
+-- handling would have kept.
+pub data Found : Type 0 where
+  Before : Found
+  After : Found
+
+-- What happens next: a brick is asked for an operation; the message of a number, counted from 1 in the order of sending, is delivered; a brick's
+-- clock reads another time from now on, or ticks; a brick stops, during the handling of the message of a number, which was cut short or failed,
+-- or during none; or a stopped brick starts again, its store having been opened so many times since, the last time to run, and found to hold
+-- one of the two. A start that was itself cut short or failed is none: it may have counted an opening, and leaves both possible.
 pub data Event : Type 0 where
   Invokes : (brick : BrickId) → (ask : Ask) → Event
   Delivers : (number : ℕ) → Event
   Sets : (brick : BrickId) → (time : ℕ) → Event
   Ticks : (brick : BrickId) → Event
-  Crashes : (brick : BrickId) → Event
-  Starts : (brick : BrickId) → (openings : ℕ) → Event
-  Absorbs : (number : ℕ) → Event
+  Stops : (brick : BrickId) → (during : Option ℕ) → Event
+  Starts : (brick : BrickId) → (openings : ℕ) → (found : Found) → Event
 
 -- What is known of an operation, by number: its coordinator, how often the store of that had been opened, its
 -- call number, where it begins, what it asks, the version that it made or read, whether it made it, and on
@@ -53,10 +58,13 @@ pub record Operation : Type 0 where
 -- The whole disk: its bricks, which of them are up, and what their clocks read; every message that was ever
 -- sent, in order; the marks; how many operations have begun, and each by its number; the number of the
 -- operation of each call (by brick, boot and call number); and, for the proof alone, the time that a brick
--- knew last in each earlier boot, the content of each version (by group, stripe and stamp), and the replies
--- that counted in each phase of an operation (by its number and the phase's).
+-- knew last in each earlier boot, the content of each version (by group, stripe and stamp), which stamps each
+-- brick ever had in its log of a stripe (by brick, group and stripe), and the replies that counted in each
+-- phase of an operation (by its number and the phase's). Of a brick that is down, `nodes`
+-- has what it kept before the handling that its stop cut short, and `after` what that would have kept.
 pub record World : Type 0 where
   pub nodes : ℕ → Node
+  pub after : ℕ → Node
   pub up : ℕ → Bool
   pub clocks : ℕ → ℕ
   pub packets : List Packet
@@ -66,6 +74,7 @@ pub record World : Type 0 where
   pub numbers : ℕ → ℕ → ℕ → ℕ
   pub past : ℕ → ℕ → ℕ
   pub contents : ℕ → ℕ → Stamp → List ℕ
+  pub held : ℕ → ℕ → ℕ → Stamp → Bool
   pub replies : ℕ → ℕ → List Counted
 
 -- the zero bytes of a group's stripe
@@ -78,6 +87,7 @@ abbrev pub first_world : Layout → World
 first_world layout =
     record {
       nodes = λ i. first_node layout.block;
+      after = λ i. first_node layout.block;
       up = λ i. true;
       clocks = λ i. 0;
       packets = [];
@@ -87,6 +97,7 @@ first_world layout =
       numbers = λ i b k. 0;
       past = λ i b. 0;
       contents = λ g s t. zero_content layout.block (group_of layout g);
+      held = λ i g s t. is_held t (first_replica layout.block).log;
       replies = λ n p. [];
     }
 
@@ -151,34 +162,50 @@ abbrev pub with_answer : Answer → Option Stamp → Option Operation → Option
 with_answer answer seen None = None
 with_answer answer seen (Some o) = Some (record o { version = version_after o.version seen; answered = is_answer answer })
 
--- the contents with that of a new version, which this coordinator stores
-abbrev pub with_content : (ℕ → ℕ → Stamp → List ℕ) → Stamp → Option Coordinator → ℕ → ℕ → Stamp → List ℕ
-with_content contents t None = contents
-with_content contents t (Some c) =
-    put contents c.ask.group.0 (put (contents c.ask.group.0) c.ask.stripe.0
-    (λ u. if stamp_same u t then stored_content c else contents c.ask.group.0 c.ask.stripe.0 u))
+-- what an operation makes of the content of its base, or of nothing where it has no base
+abbrev pub content_on : ℕ → (Stamp → List ℕ) → Op → Option Stamp → List ℕ
+content_on block contents op None = after_op block op []
+content_on block contents op (Some b) = after_op block op (contents b)
+
+-- the contents with that of a new version, which what is asked makes on this base
+abbrev pub content_by : ℕ → (ℕ → ℕ → Stamp → List ℕ) → Stamp → Option Stamp → Ask → ℕ → ℕ → Stamp → List ℕ
+content_by block contents t base ask =
+    put contents ask.group.0 (put (contents ask.group.0) ask.stripe.0
+    (λ u. if stamp_same u t then content_on block (contents ask.group.0 ask.stripe.0) ask.op base else contents ask.group.0 ask.stripe.0 u))
+
+-- the same, of the operation that makes it
+abbrev pub with_content : ℕ → (ℕ → ℕ → Stamp → List ℕ) → Stamp → Option Stamp → Option Operation → ℕ → ℕ → Stamp → List ℕ
+with_content block contents t base None = contents
+with_content block contents t base (Some o) = content_by block contents t base o.ask
+
+-- what bricks have held, with what brick i keeps now
+abbrev pub with_held : (ℕ → ℕ → ℕ → Stamp → Bool) → ℕ → Node → ℕ → ℕ → ℕ → Stamp → Bool
+with_held held i node = put held i (λ g s t. held i g s t || is_held t (node.replicas g s).log)
 
 -- the number of the operation of a brick's call since it was started last
 abbrev pub number_of : World → ℕ → ℕ → ℕ
 number_of w i seq = w.numbers i (w.nodes i).boot seq
 
 -- the world after a brick's step on a message
-abbrev pub world_stepped : World → BrickId → NodeStep → Told → World
-world_stepped w brick step Nothing =
+abbrev pub world_stepped : Setting → World → BrickId → NodeStep → Told → World
+world_stepped setting w brick step Nothing =
     record w {
       nodes = put w.nodes brick.0 step.node;
+      held = with_held w.held brick.0 step.node;
       packets = w.packets ++ step.packets;
     }
-world_stepped w brick step (Made seq t base) =
+world_stepped setting w brick step (Made seq t base) =
     record w {
       nodes = put w.nodes brick.0 step.node;
+      held = with_held w.held brick.0 step.node;
       packets = w.packets ++ step.packets;
       operations = put w.operations (number_of w brick.0 seq) (with_made t base (w.operations (number_of w brick.0 seq)));
-      contents = with_content w.contents t (step.node.calls seq);
+      contents = with_content setting.layout.block w.contents t base (w.operations (number_of w brick.0 seq));
     }
-world_stepped w brick step (Answers seq answer seen) =
+world_stepped setting w brick step (Answers seq answer seen) =
     record w {
       nodes = put w.nodes brick.0 step.node;
+      held = with_held w.held brick.0 step.node;
       packets = w.packets ++ step.packets;
       marks = w.marks ++ (End (length w.marks) (number_of w brick.0 seq) answer ∷ []);
       operations = put w.operations (number_of w brick.0 seq) (with_answer answer seen (w.operations (number_of w brick.0 seq)));
@@ -218,31 +245,45 @@ delivered setting w None = w
 delivered setting w (Some packet) =
     if is_up setting.layout w packet.to
     then (let step = received setting packet.to (w.clocks packet.to.0) (w.nodes packet.to.0) packet in
-    world_stepped (record w { replies = replies_with setting w packet }) packet.to step step.told)
-    else w
-
--- a packet is handled by a brick of the layout that is up, and the reply is lost before it is sent
-abbrev pub world_absorbed : Setting → World → Option Packet → World
-world_absorbed setting w None = w
-world_absorbed setting w (Some packet) =
-    if is_up setting.layout w packet.to
-    then record w { nodes = put w.nodes packet.to.0 (absorbed setting packet.to (w.nodes packet.to.0) packet) }
+    world_stepped setting (record w { replies = replies_with setting w packet }) packet.to step step.told)
     else w
 
 -- a brick's clock ticks
 abbrev pub world_ticked : Setting → World → BrickId → World
 world_ticked setting w brick = record w { packets = w.packets ++ ticked setting brick (w.nodes brick.0) }
 
--- the world after a brick stopped
-abbrev pub world_stopped : World → BrickId → World
-world_stopped w brick =
+-- what a brick that stopped during the handling of this packet would have kept, where it handles it
+abbrev pub left_after : Setting → BrickId → Node → Option Packet → Node
+left_after setting brick node None = stopped node
+left_after setting brick node (Some packet) = if nat_eq packet.to.0 brick.0 then stopped (absorbed setting brick node packet) else stopped node
+
+-- the packet of a number, from 1
+abbrev pub packet_of : List Packet → ℕ → Option Packet
+packet_of packets zero = None
+packet_of packets (suc k) = slice_get packets k
+
+-- the packet during whose handling a brick stopped, if there is one
+abbrev pub packet_during : List Packet → Option ℕ → Option Packet
+packet_during packets None = None
+packet_during packets (Some number) = packet_of packets number
+
+-- the world after a brick stopped, during the handling of the message of a number or during none
+abbrev pub world_stopped : Setting → World → BrickId → Option ℕ → World
+world_stopped setting w brick during =
     record w {
       nodes = put w.nodes brick.0 (stopped (w.nodes brick.0));
+      after = put w.after brick.0 (left_after setting brick (w.nodes brick.0) (packet_during w.packets during));
       up = put w.up brick.0 false;
       marks = w.marks ++ (Crash (length w.marks) brick ∷ []);
     }
 
--- the world after a stopped brick was started again
+-- the world in which a stopped brick keeps what its store is found to hold
+abbrev pub world_found : World → BrickId → Found → World
+world_found w brick Before = w
+world_found w brick After =
+    record w { nodes = put w.nodes brick.0 (w.after brick.0); held = with_held w.held brick.0 (w.after brick.0) }
+
+-- the world after a stopped brick was started again, with what it keeps
 abbrev pub world_started : World → BrickId → ℕ → World
 world_started w brick openings =
     record w {
@@ -259,11 +300,6 @@ may_start layout w brick openings = is_brick layout brick && (not (w.up brick.0)
 abbrev pub known_in : World → ℕ → ℕ → ℕ
 known_in w i boot = if nat_eq boot (w.nodes i).boot then (w.nodes i).known else w.past i boot
 
--- the packet of a number, from 1
-abbrev pub packet_of : List Packet → ℕ → Option Packet
-packet_of packets zero = None
-packet_of packets (suc k) = slice_get packets k
-
 -- the world after an event; what cannot happen changes nothing: an operation that is refused, a number that
 -- was not sent, a brick that the layout has not, a stopped brick that is to stop, handle a message or tick,
 -- and one that is to start though it is up
@@ -273,9 +309,9 @@ happens setting w (Invokes brick ask) =
 happens setting w (Delivers number) = delivered setting w (packet_of w.packets number)
 happens setting w (Sets brick time) = if is_brick setting.layout brick then record w { clocks = put w.clocks brick.0 time } else w
 happens setting w (Ticks brick) = if is_up setting.layout w brick then world_ticked setting w brick else w
-happens setting w (Crashes brick) = if is_up setting.layout w brick then world_stopped w brick else w
-happens setting w (Starts brick openings) = if may_start setting.layout w brick openings then world_started w brick openings else w
-happens setting w (Absorbs number) = world_absorbed setting w (packet_of w.packets number)
+happens setting w (Stops brick during) = if is_up setting.layout w brick then world_stopped setting w brick during else w
+happens setting w (Starts brick openings found) =
+    if may_start setting.layout w brick openings then world_started (world_found w brick found) brick openings else w
 
 -- the world after a schedule
 abbrev pub run : Setting → List Event → World → World

@@ -11,7 +11,8 @@ use Rattle.quorum.specs.Quorums.{quorum_of}
 use Rattle.protocol.specs.Replicas.{top_of, is_held}
 use Rattle.protocol.specs.Worlds.{World}
 use Rattle.fab_base.specs.Layouts.{brick_at}
-use Rattle.protocol_laws.specs.Laws.{NeverFalls, part_of, AtQuorum, IsBlocked}
+use Rattle.protocol_laws.specs.Laws.{NeverFalls, part_of, AtQuorum}
+use Rattle.protocol_laws.proofs.Held.{IsPassedOver}
 use Rattle.protocol_laws.proofs.Logs.{LogAscends, below_above}
 
 -- from one world to the next no part falls, what is held stays held, what is new is at or above the part's stamps, and logs go on ascending
@@ -53,7 +54,7 @@ stays_unheld w next stay g s i d above isnt = ⊎_elim
     (cases_Bool (is_held d (part_of next g s i).log))
 
 -- what is blocked stays blocked
-pub blocked_stays : (w next : World) → PartsStay w next → (g s : ℕ) (group : Group) (d : Stamp) → IsBlocked w g s group d → IsBlocked next g s group d
+pub blocked_stays : (w next : World) → PartsStay w next → (g s : ℕ) (group : Group) (d : Stamp) → IsPassedOver w g s group d → IsPassedOver next g s group d
 blocked_stays w next stay g s group d blocked =
     let more = count_monotone (length group.members) (passes_by w g s group d) (passes_by next g s group d)
     (λ k below is.
@@ -81,7 +82,7 @@ not_both true true = refl
 not_both true false = refl
 
 -- no quorum holds what is blocked
-pub blocked_never_stands : (w : World) (g s : ℕ) (group : Group) (d : Stamp) → IsBlocked w g s group d
+pub blocked_never_stands : (w : World) (g s : ℕ) (group : Group) (d : Stamp) → IsPassedOver w g s group d
     → AtQuorum group (λ seat. is_held d (part_of w g s (brick_at group seat)).log) → ⊥
 blocked_never_stands w g s group d blocked stands =
     let held : ℕ → Bool = λ seat. is_held d (part_of w g s (brick_at group seat)).log in
@@ -96,7 +97,7 @@ twice_quorum m n most = omega arith
 
 -- a stamp is blocked where so many seats pass it by that with m more they would be more than a quorum
 pub blocked_by : (w : World) (g s : ℕ) (group : Group) (d : Stamp) → IsWithinLimits group.m (length group.members)
-    → quorum_of group < count (length group.members) (passes_by w g s group d) + group.m → IsBlocked w g s group d
+    → quorum_of group < count (length group.members) (passes_by w g s group d) + group.m → IsPassedOver w g s group d
 blocked_by w g s group d limits many =
     let twice = twice_quorum group.m (length group.members) limits.enough_seats in omega (arith, many, twice)
 

@@ -1,5 +1,6 @@
 -- The books of a world where an open operation ended, or where a brick stopped.
-use Rattle.std.proofs.Common.{◌≡◌, ◌≢◌, ℕ, ◌<◌, ◌≤◌, ⊎_elim, true, false, Option, Some, None, refl, sym, ap, ◌∙◌, subst, arith, List, [], ◌∷◌, ◌++◌, length}
+use Rattle.fab_base.specs.declared.stamps.Stamp.{Stamp}
+use Rattle.std.proofs.Common.{◌≡◌, ◌≢◌, ℕ, ◌<◌, ◌≤◌, ⊎_elim, true, false, Option, Some, None, refl, sym, ap, ◌∙◌, subst, arith, List, [], ◌∷◌, ◌++◌, length, Bool}
 use Rattle.std.proofs.lemmas.Option.{same_Some}
 use Rattle.std.proofs.lemmas.Bool.{cases_eq}
 use Rattle.fab_base.specs.declared.identities.BrickId.{BrickId}
@@ -53,10 +54,11 @@ pub record Ended (w : World) (i k : ℕ) (c : Coordinator) (before o : Operation
   pub other_operations : (m : ℕ) → m ≢ number_of w i k → operations m ≡ w.operations m
 
 -- the world with these bricks, packets, operations and counted replies, and an End of operation n
-abbrev pub ended_world : World → (ℕ → Node) → List Packet → (ℕ → Option Operation) → (ℕ → ℕ → List Counted) → ℕ → Answer → World
-ended_world w nodes packets operations replies n answer =
+abbrev pub ended_world : World → (ℕ → Node) → (ℕ → ℕ → ℕ → Stamp → Bool) → List Packet → (ℕ → Option Operation) → (ℕ → ℕ → List Counted) → ℕ → Answer → World
+ended_world w nodes held packets operations replies n answer =
     record {
       nodes = nodes;
+      after = w.after;
       up = w.up;
       clocks = w.clocks;
       packets = packets;
@@ -66,16 +68,17 @@ ended_world w nodes packets operations replies n answer =
       numbers = w.numbers;
       past = w.past;
       contents = w.contents;
+      held = held;
       replies = replies;
     }
 
-module _ (setting : Setting) (w : World) (i k : ℕ) (c : Coordinator) (before o : Operation) (answer : Answer) (nodes : ℕ → Node)
+module _ (setting : Setting) (w : World) (i k : ℕ) (c : Coordinator) (before o : Operation) (answer : Answer) (nodes : ℕ → Node) (held : ℕ → ℕ → ℕ → Stamp → Bool)
     (packets : List Packet)
     (operations : ℕ → Option Operation) (replies : ℕ → ℕ → List Counted) (books : Books setting w)
     (ended : Ended w i k c before o answer nodes operations) where
   -- the world after the end
   abbrev later : World
-  later = ended_world w nodes packets operations replies (number_of w i k) answer
+  later = ended_world w nodes held packets operations replies (number_of w i k) answer
 
   call : CallBooks setting w i k c
   call = books.calls i k c ended.was
@@ -195,7 +198,7 @@ module _ (setting : Setting) (w : World) (i k : ℕ) (c : Coordinator) (before o
       }
 
 -- a brick stops
-module _ (setting : Setting) (w : World) (brick : BrickId) (books : Books setting w) where
+module _ (setting : Setting) (w : World) (brick : BrickId) (during : Option ℕ) (books : Books setting w) where
   abbrev i : ℕ
   i = brick.0
 
@@ -213,7 +216,7 @@ module _ (setting : Setting) (w : World) (brick : BrickId) (books : Books settin
 
   -- the world once it has stopped
   abbrev shut : World
-  shut = world_stopped w brick
+  shut = world_stopped setting w brick during
 
   -- bricks keep their numbers
   pub stopped_keeps : (j : ℕ) → KeepsNumbers (w.nodes j) (shut.nodes j)

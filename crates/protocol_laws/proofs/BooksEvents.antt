@@ -1,5 +1,5 @@
 -- Every event keeps the books.
-use Rattle.std.proofs.Common.{◌≡◌, ℕ, ◌+◌, ◌-◌, ◌<◌, ◌≤◌, ◌⊎◌, inl, inr, ◌^◌, Bool, true, false, not, ◌&&◌, cond, is_some, Option, Some, None, refl, sym, ap, ◌∙◌, subst, arith, List, [], ◌∷◌, ◌++◌}
+use Rattle.std.proofs.Common.{◌≡◌, ℕ, ◌+◌, ◌-◌, ◌<◌, ◌≤◌, ◌⊎◌, inl, inr, ◌^◌, Bool, true, false, not, ◌&&◌, cond, is_some, Option, Some, None, refl, sym, ap, ◌∙◌, subst, arith, List, [], ◌∷◌, ◌++◌, ⊎_elim}
 use Rattle.std.specs.Prelude.{nat_lt, max}
 use Rattle.std.proofs.lemmas.Option.{same_Some}
 use Rattle.std.proofs.lemmas.Bool.{cond_both, and_parts, not-true, not-false, ltb-true, both_ways}
@@ -22,7 +22,9 @@ use Rattle.protocol.specs.declared.phases.Counted.{Counted}
 use Rattle.protocol.specs.Coordinators.{Coordinator, Next, Ignores, Waits, Sends, Makes, Ends, most_rounds, with_reply, once_full, counted_at, counts_at, on_reply}
 use Rattle.protocol.specs.declared.tellings.Told.TheVariants.{Nothing}
 use Rattle.protocol.specs.Nodes.{Node, NodeStep, put, no_step, is_stripe_op, has_block, has_length, refusal_in, refusal_of, began, invoked, with_replica, replica_at, full_at, reply_packets, requested_at, requested_in, requested, is_served, fits_block, absorbed, ticked, may_open, has_later_time, next_time, new_stamp, fresh_stamp, known_after, with_call, with_known, carried_out, phase_packets, collect_packets, replied_to, replied_at, replied, received}
-use Rattle.protocol.specs.Worlds.{World, Operation, Event, Invokes, Delivers, Sets, Ticks, Crashes, Starts, Absorbs, is_answer, version_after, first_world, is_brick, is_up, may_begin, number_of, may_start, world_absorbed, world_began, world_stepped, with_made, with_answer, with_content, replies_with, delivered, packet_of, happens, run}
+use Rattle.protocol.specs.Worlds.{World, world_found, Operation, Found, Before, After, Found, Before, After, Event, Invokes, Delivers, Sets, Ticks, Stops, Starts, is_answer, version_after, first_world, is_brick, is_up, may_begin, number_of, may_start, world_found, world_began, world_stepped, with_made, with_answer, with_content, replies_with, delivered, packet_of, happens, run, with_held}
+use Rattle.protocol_laws.specs.Laws.{WasSent}
+use Rattle.protocol_laws.proofs.Left.{IsLeft, Leaves, always_leaves, leaves_happens, found_down}
 use Rattle.protocol_laws.proofs.Books.{Replies, Books, CallBooks, IsCall, IsUnmade, MadeInPhase, InRound}
 use Rattle.protocol_laws.proofs.BooksKept.{KeepsNumbers}
 use Rattle.protocol_laws.proofs.BooksQuiet.{books_quiet, books_started}
@@ -40,33 +42,33 @@ keeps_put w i node keeps j =
     (λ x other. record { boot = refl; seq = refl; known = omega arith }) j
 
 -- the world after a brick's step, with these counted replies
-abbrev pub stepped : World → Replies → BrickId → NodeStep → World
-stepped w replies brick step = world_stepped (record w { replies = replies }) brick step step.told
+abbrev pub stepped : Setting → World → Replies → BrickId → NodeStep → World
+stepped setting w replies brick step = world_stepped setting (record w { replies = replies }) brick step step.told
 
 -- a step that tells nothing and keeps a brick's calls and numbers keeps the books
 books_nothing : (setting : Setting) (w : World) (replies : Replies) (brick : BrickId) (node : Node) (packets : List Packet) → Books setting w
     → KeepsNumbers (w.nodes brick.0) node → ((l : ℕ) → node.calls l ≡ (w.nodes brick.0).calls l)
-    → Books setting (stepped w replies brick (record { node = node; packets = packets; told = Nothing }))
+    → Books setting (stepped setting w replies brick (record { node = node; packets = packets; told = Nothing }))
 books_nothing setting w replies brick node packets books keeps calls =
-    books_quiet setting w (put w.nodes brick.0 node) w.clocks (w.packets ++ packets) replies books (keeps_put w brick.0 node keeps)
+    books_quiet setting w (put w.nodes brick.0 node) (with_held w.held brick.0 node) w.clocks (w.packets ++ packets) replies books (keeps_put w brick.0 node keeps)
     (λ j l. put_each (λ (x : ℕ) (y : Node). y.calls l ≡ (w.nodes x).calls l) w.nodes brick.0 node (calls l) (λ x other. refl) j)
 
 -- a brick that changes nothing
 books_no_step : (setting : Setting) (w : World) (replies : Replies) (brick : BrickId) → Books setting w
-    → Books setting (stepped w replies brick (no_step (w.nodes brick.0)))
+    → Books setting (stepped setting w replies brick (no_step (w.nodes brick.0)))
 books_no_step setting w replies brick books =
     books_nothing setting w replies brick (w.nodes brick.0) [] books (record { boot = refl; seq = refl; known = omega arith }) (λ l. refl)
 
 -- a brick that learns of a time
 books_known : (setting : Setting) (w : World) (replies : Replies) (brick : BrickId) (known : ℕ) → Books setting w → (w.nodes brick.0).known ≤ known
-    → Books setting (stepped w replies brick (no_step (with_known (w.nodes brick.0) known)))
+    → Books setting (stepped setting w replies brick (no_step (with_known (w.nodes brick.0) known)))
 books_known setting w replies brick known books grows =
     books_nothing setting w replies brick (with_known (w.nodes brick.0) known) [] books (record { boot = refl; seq = refl; known = grows })
     (λ l. refl)
 
 -- a request
 books_requested_at : (setting : Setting) (w : World) (replies : Replies) (me from : BrickId) (call : Call) (request : Request) (seat : Option ℕ)
-    → Books setting w → Books setting (stepped w replies me (requested_at setting.layout.records me from (w.nodes me.0) call request seat))
+    → Books setting w → Books setting (stepped setting w replies me (requested_at setting.layout.records me from (w.nodes me.0) call request seat))
 books_requested_at setting w replies me from call request None books = books_no_step setting w replies me books
 books_requested_at setting w replies me from call request (Some seat) books =
     let reaction = handle (full_at setting.layout.records (w.nodes me.0)) seat (replica_at (w.nodes me.0) call) request in
@@ -74,15 +76,15 @@ books_requested_at setting w replies me from call request (Some seat) books =
     (record { boot = refl; seq = refl; known = omega arith }) (λ l. refl)
 
 books_requested_in : (setting : Setting) (w : World) (replies : Replies) (me from : BrickId) (call : Call) (request : Request) (group : Option Group)
-    → Books setting w → Books setting (stepped w replies me (requested_in setting.layout me from (w.nodes me.0) call request group))
+    → Books setting w → Books setting (stepped setting w replies me (requested_in setting.layout me from (w.nodes me.0) call request group))
 books_requested_in setting w replies me from call request None books = books_no_step setting w replies me books
 books_requested_in setting w replies me from call request (Some group) books =
-    cond_both (is_served group call && fits_block setting.layout.block request) _ _ (λ (step : NodeStep). Books setting (stepped w replies me step))
+    cond_both (is_served group call && fits_block setting.layout.block request) _ _ (λ (step : NodeStep). Books setting (stepped setting w replies me step))
     (λ is. books_requested_at setting w replies me from call request (seat_in group.members me.0) books)
     (λ isnt. books_no_step setting w replies me books)
 
 books_requested : (setting : Setting) (w : World) (replies : Replies) (me from : BrickId) (call : Call) (request : Request) → Books setting w
-    → Books setting (stepped w replies me (requested setting me from (w.nodes me.0) call request))
+    → Books setting (stepped setting w replies me (requested setting me from (w.nodes me.0) call request))
 unfolding requested
 books_requested setting w replies me from call request books =
     books_requested_in setting w replies me from call request (group_of setting.layout call.group.0) books
@@ -267,10 +269,10 @@ module _ (setting : Setting) (group : Group) (w : World) (replies : Replies) (me
 
   -- what a brick does with what its coordinator decided
   books_carried_out : (next : Next) → NextFits fresh then' next
-      → Books setting (stepped w replies me (carried_out setting group me node known c next))
+      → Books setting (stepped setting w replies me (carried_out setting group me node known c next))
   books_carried_out Ignores fits = absurd fits
   books_carried_out (Waits d) fits =
-      books_turned setting w i k c d mine.operation mine.operation (put w.nodes i (with_call node known node.busy k (Some d))) (w.packets ++ [])
+      books_turned setting w i k c d mine.operation mine.operation (put w.nodes i (with_call node known node.busy k (Some d))) (with_held w.held i (with_call node known node.busy k (Some d))) (w.packets ++ [])
       w.operations w.contents replies books
       (record {
         was = is_call;
@@ -289,7 +291,7 @@ module _ (setting : Setting) (group : Group) (w : World) (replies : Replies) (me
       })
   books_carried_out (Sends d) fits =
       let time : ℕ = max known d.stamp.time in
-      books_turned setting w i k c d mine.operation mine.operation (put w.nodes i (with_call node time node.busy k (Some d)))
+      books_turned setting w i k c d mine.operation mine.operation (put w.nodes i (with_call node time node.busy k (Some d))) (with_held w.held i (with_call node time node.busy k (Some d)))
       (w.packets ++ phase_packets setting group me d) w.operations w.contents replies books
       (record {
         was = is_call;
@@ -321,9 +323,9 @@ module _ (setting : Setting) (group : Group) (w : World) (replies : Replies) (me
         floor = mine.operation.floor;
       } in
       let n : ℕ = number_of w i k in
-      books_turned setting w i k c d mine.operation o (put w.nodes i (with_call node known node.busy k (Some d)))
+      books_turned setting w i k c d mine.operation o (put w.nodes i (with_call node known node.busy k (Some d))) (with_held w.held i (with_call node known node.busy k (Some d)))
       (w.packets ++ phase_packets setting group me d) (put w.operations n (with_made d.stamp d.base (w.operations n)))
-      (with_content w.contents d.stamp ((with_call node known node.busy k (Some d)).calls k)) replies books
+      (with_content setting.layout.block w.contents d.stamp d.base (w.operations n)) replies books
       (record {
         was = is_call;
         operation_was = mine.operation_is;
@@ -354,7 +356,7 @@ module _ (setting : Setting) (group : Group) (w : World) (replies : Replies) (me
         floor = mine.operation.floor;
       } in
       let n : ℕ = number_of w i k in
-      books_ended setting w i k c mine.operation o answer (put w.nodes i (with_call node known (node.busy - 1) k None))
+      books_ended setting w i k c mine.operation o answer (put w.nodes i (with_call node known (node.busy - 1) k None)) (with_held w.held i (with_call node known (node.busy - 1) k None))
       (w.packets ++ collect_packets group me c.call stored) (put w.operations n (with_answer answer seen (w.operations n))) replies books
       (record {
         was = is_call;
@@ -383,7 +385,7 @@ known_grows known reply = omega arith
 books_counted_at : (setting : Setting) (w : World) (replies : Replies) (me : BrickId) (now : ℕ) (from : BrickId) (reply : Reply) (c : Coordinator)
     (group : Group) (seat : Option ℕ) → Books setting w → IsCall w me.0 c.call.seq c
     → (let known = known_after (w.nodes me.0).known reply in
-    Books setting (stepped w replies me (carried_out setting group me (w.nodes me.0) known c
+    Books setting (stepped setting w replies me (carried_out setting group me (w.nodes me.0) known c
     (counted_at setting.code group (fresh_stamp me now (w.nodes me.0).boot known) c from reply seat))))
 books_counted_at setting w replies me now from reply c group None books is_call =
     books_known setting w replies me (known_after (w.nodes me.0).known reply) books (known_grows (w.nodes me.0).known reply)
@@ -396,7 +398,7 @@ books_counted_at setting w replies me now from reply c group (Some seat) books i
 
 books_replied_to : (setting : Setting) (w : World) (replies : Replies) (me : BrickId) (now : ℕ) (from : BrickId) (call : Call) (reply : Reply)
     (c : Coordinator) (group : Option Group) → Books setting w → IsCall w me.0 c.call.seq c
-    → Books setting (stepped w replies me (replied_to setting me now from (w.nodes me.0) call reply c group))
+    → Books setting (stepped setting w replies me (replied_to setting me now from (w.nodes me.0) call reply c group))
 unfolding on_reply
 books_replied_to setting w replies me now from call reply c None books is_call = books_no_step setting w replies me books
 books_replied_to setting w replies me now from call reply c (Some group) books is_call =
@@ -404,7 +406,7 @@ books_replied_to setting w replies me now from call reply c (Some group) books i
 
 books_replied_at : (setting : Setting) (w : World) (replies : Replies) (me : BrickId) (now : ℕ) (from : BrickId) (call : Call) (reply : Reply)
     (found : Option Coordinator) → Books setting w → (w.nodes me.0).calls call.seq ≡ found
-    → Books setting (stepped w replies me (replied_at setting me now from (w.nodes me.0) call reply found))
+    → Books setting (stepped setting w replies me (replied_at setting me now from (w.nodes me.0) call reply found))
 books_replied_at setting w replies me now from call reply None books is =
     books_known setting w replies me (known_after (w.nodes me.0).known reply) books (known_grows (w.nodes me.0).known reply)
 books_replied_at setting w replies me now from call reply (Some c) books is =
@@ -413,7 +415,7 @@ books_replied_at setting w replies me now from call reply (Some c) books is =
     (subst (λ (l : ℕ). IsCall w me.0 l c) (sym seq) is)
 
 books_replied : (setting : Setting) (w : World) (replies : Replies) (me : BrickId) (now : ℕ) (from : BrickId) (call : Call) (reply : Reply)
-    → Books setting w → Books setting (stepped w replies me (replied setting me now from (w.nodes me.0) call reply))
+    → Books setting w → Books setting (stepped setting w replies me (replied setting me now from (w.nodes me.0) call reply))
 unfolding replied
 books_replied setting w replies me now from call reply books =
     books_replied_at setting w replies me now from call reply ((w.nodes me.0).calls call.seq) books refl
@@ -421,7 +423,7 @@ books_replied setting w replies me now from call reply books =
 -- a message
 books_received : (setting : Setting) (w : World) (replies : Replies) (me : BrickId) (now : ℕ) (from to : BrickId) (message : Message)
     → Books setting w
-    → Books setting (stepped w replies me (received setting me now (w.nodes me.0) (record { from = from; to = to; message = message })))
+    → Books setting (stepped setting w replies me (received setting me now (w.nodes me.0) (record { from = from; to = to; message = message })))
 unfolding received
 books_received setting w replies me now from to (Message.Request call request) books = books_requested setting w replies me from call request books
 books_received setting w replies me now from to (Message.Reply call reply) books = books_replied setting w replies me now from call reply books
@@ -518,15 +520,30 @@ unfolding absorbed
 absorbed_keeps setting me node from to (Message.Request call request) = requested_keeps setting me from node call request
 absorbed_keeps setting me node from to message = keeps_itself node
 
-books_absorbed : (setting : Setting) (w : World) (packet : Option Packet) → Books setting w → Books setting (world_absorbed setting w packet)
-books_absorbed setting w None books = books
-books_absorbed setting w (Some packet) books =
-    let node : Node = absorbed setting packet.to (w.nodes packet.to.0) packet in
-    let keeps : KeepsCalls (w.nodes packet.to.0) node = absorbed_keeps setting packet.to (w.nodes packet.to.0) packet.from packet.to packet.message in
-    cond_both (is_up setting.layout w packet.to) _ _ (λ (x : World). Books setting x)
-    (λ up. books_quiet setting w (put w.nodes packet.to.0 node) w.clocks w.packets w.replies books (keeps_put w packet.to.0 node keeps.0)
-    (λ j l. put_each (λ (x : ℕ) (y : Node). y.calls l ≡ (w.nodes x).calls l) w.nodes packet.to.0 node (keeps.1 l) (λ x other. refl) j))
-    (λ down. books)
+-- so does what the store of a stopped brick may hold
+left_keeps : (setting : Setting) (w : World) (i : ℕ) (node : Node) → IsLeft setting w i node → KeepsCalls (w.nodes i) node
+left_keeps setting w i node = ⊎_elim
+    (λ (same : node ≡ w.nodes i). subst (λ (z : Node). KeepsCalls (w.nodes i) z) (sym same) (keeps_itself (w.nodes i)))
+    (λ (handled : (packet : Packet) × (packet.to ≡ record { 0 = i }) × WasSent w packet
+    × (node ≡ absorbed setting (record { 0 = i }) (w.nodes i) packet)).
+    subst (λ (z : Node). KeepsCalls (w.nodes i) z) (sym handled.3)
+    (absorbed_keeps setting (record { 0 = i }) (w.nodes i) handled.0.from handled.0.to handled.0.message))
+
+-- a brick that starts keeps what its store is found to hold, with the calls and numbers that it had
+pub found_keeps : (setting : Setting) (w : World) (brick : BrickId) (found : Found) → w.up brick.0 ≡ false → Leaves setting w → (i : ℕ)
+    → KeepsCalls (w.nodes i) ((world_found w brick found).nodes i)
+found_keeps setting w brick Before down leaves i = keeps_itself (w.nodes i)
+found_keeps setting w brick After down leaves i =
+    put_each (λ (j : ℕ) (z : Node). KeepsCalls (w.nodes j) z) w.nodes brick.0 (w.after brick.0)
+    (left_keeps setting w brick.0 (w.after brick.0) (leaves brick.0 down)) (λ j other. keeps_itself (w.nodes j)) i
+
+-- and with its books
+pub books_found : (setting : Setting) (w : World) (brick : BrickId) (found : Found) → w.up brick.0 ≡ false → Leaves setting w → Books setting w
+    → Books setting (world_found w brick found)
+books_found setting w brick Before down leaves books = books
+books_found setting w brick After down leaves books =
+    let keeps : (i : ℕ) → KeepsCalls (w.nodes i) ((world_found w brick After).nodes i) = found_keeps setting w brick After down leaves in
+    books_quiet setting w (put w.nodes brick.0 (w.after brick.0)) (with_held w.held brick.0 (w.after brick.0)) w.clocks w.packets w.replies books (λ i. (keeps i).0) (λ i. (keeps i).1)
 
 -- a brick may start that is down, and its store is opened at least once
 pub start_fits : (setting : Setting) (w : World) (brick : BrickId) (openings : ℕ) → may_start setting.layout w brick openings ≡ true
@@ -539,29 +556,31 @@ start_fits setting w brick openings may =
     (not-true (w.up brick.0) rest.0, omega arith)
 
 -- every event keeps the books
-pub books_kept : (setting : Setting) (w : World) (event : Event) → Books setting w → Books setting (happens setting w event)
+pub books_kept : (setting : Setting) (w : World) (event : Event) → Leaves setting w → Books setting w → Books setting (happens setting w event)
 unfolding happens
-books_kept setting w (Invokes brick ask) books =
+books_kept setting w (Invokes brick ask) leaves books =
     cond_both (may_begin setting w brick ask) _ _ (λ (x : World). Books setting x)
     (λ may. books_invoked setting w brick (w.clocks brick.0) ask books may) (λ refused. books)
-books_kept setting w (Delivers number) books = books_delivered setting w (packet_of w.packets number) books
-books_kept setting w (Sets brick time) books =
+books_kept setting w (Delivers number) leaves books = books_delivered setting w (packet_of w.packets number) books
+books_kept setting w (Sets brick time) leaves books =
     cond_both (is_brick setting.layout brick) _ _ (λ (x : World). Books setting x)
-    (λ member. books_quiet setting w w.nodes (put w.clocks brick.0 time) w.packets w.replies books
+    (λ member. books_quiet setting w w.nodes w.held (put w.clocks brick.0 time) w.packets w.replies books
     (λ i. record { boot = refl; seq = refl; known = omega arith }) (λ i k. refl))
     (λ stranger. books)
-books_kept setting w (Ticks brick) books =
+books_kept setting w (Ticks brick) leaves books =
     cond_both (is_up setting.layout w brick) _ _ (λ (x : World). Books setting x)
-    (λ up. books_quiet setting w w.nodes w.clocks (w.packets ++ ticked setting brick (w.nodes brick.0)) w.replies books
+    (λ up. books_quiet setting w w.nodes w.held w.clocks (w.packets ++ ticked setting brick (w.nodes brick.0)) w.replies books
     (λ i. record { boot = refl; seq = refl; known = omega arith }) (λ i k. refl))
     (λ down. books)
-books_kept setting w (Crashes brick) books =
-    cond_both (is_up setting.layout w brick) _ _ (λ (x : World). Books setting x) (λ up. books_stopped setting w brick books) (λ down. books)
-books_kept setting w (Starts brick openings) books =
+books_kept setting w (Stops brick during) leaves books =
+    cond_both (is_up setting.layout w brick) _ _ (λ (x : World). Books setting x) (λ up. books_stopped setting w brick during books) (λ down. books)
+books_kept setting w (Starts brick openings found) leaves books =
     cond_both (may_start setting.layout w brick openings) _ _ (λ (x : World). Books setting x)
-    (λ may. (let fits = start_fits setting w brick openings may in books_started setting w brick openings books fits.0 fits.1))
+    (λ may.
+    let fits = start_fits setting w brick openings may in
+    books_started setting (world_found w brick found) brick openings (books_found setting w brick found fits.0 leaves books)
+    (found_down w brick found fits.0) fits.1)
     (λ cannot. books)
-books_kept setting w (Absorbs number) books = books_absorbed setting w (packet_of w.packets number) books
 
 -- at first nothing is booked
 books_first : (setting : Setting) → Books setting (first_world setting.layout)
@@ -580,10 +599,12 @@ books_first setting = record {
   lives = λ n life is. absurd (let never : None ≡ Some life = is in cc);
 }
 
-books_run : (setting : Setting) (events : List Event) (w : World) → Books setting w → Books setting (run setting events w)
-books_run setting [] w books = books
-books_run setting (event ∷ events) w books = books_run setting events (happens setting w event) (books_kept setting w event books)
+books_run : (setting : Setting) (events : List Event) (w : World) → Leaves setting w → Books setting w → Books setting (run setting events w)
+books_run setting [] w leaves books = books
+books_run setting (event ∷ events) w leaves books =
+    books_run setting events (happens setting w event) (leaves_happens setting w event leaves) (books_kept setting w event leaves books)
 
 -- the books hold in every world that a run reaches
 pub books : (setting : Setting) (events : List Event) → Books setting (run setting events (first_world setting.layout))
-books setting events = books_run setting events (first_world setting.layout) (books_first setting)
+books setting events =
+    books_run setting events (first_world setting.layout) (always_leaves setting []) (books_first setting)

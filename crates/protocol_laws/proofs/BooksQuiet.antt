@@ -1,5 +1,6 @@
 -- The books of a world where a brick changed its part of a stripe, or learnt of a time, where a clock was set or ticks, or where a stopped brick was
 -- started again.
+use Rattle.fab_base.specs.declared.stamps.Stamp.{Stamp}
 use Rattle.std.proofs.Common.{◌≡◌, ◌≢◌, ℕ, ◌+◌, ◌≤◌, ⊎_elim, Bool, true, false, None, Some, refl, sym, ap, ◌∙◌, subst, arith, List}
 use Rattle.std.specs.Prelude.{nat_eq, if◌then◌else◌}
 use Rattle.std.proofs.lemmas.Bool.{cases_eq, both_ways, ne_eqb}
@@ -19,10 +20,11 @@ use Rattle.protocol_laws.proofs.Puts.{put_other}
 use Rattle.protocol_laws.proofs.Tables.{put_same}
 
 -- the world with other bricks, clocks, packets and counted replies
-abbrev pub quiet_world : World → (ℕ → Node) → (ℕ → ℕ) → List Packet → (ℕ → ℕ → List Counted) → World
-quiet_world w nodes clocks packets replies =
+abbrev pub quiet_world : World → (ℕ → Node) → (ℕ → ℕ → ℕ → Stamp → Bool) → (ℕ → ℕ) → List Packet → (ℕ → ℕ → List Counted) → World
+quiet_world w nodes held clocks packets replies =
     record {
       nodes = nodes;
+      after = w.after;
       up = w.up;
       clocks = clocks;
       packets = packets;
@@ -32,16 +34,17 @@ quiet_world w nodes clocks packets replies =
       numbers = w.numbers;
       past = w.past;
       contents = w.contents;
+      held = held;
       replies = replies;
     }
 
 -- bricks that keep their calls and numbers keep the books
-pub books_quiet : (setting : Setting) (w : World) (nodes : ℕ → Node) (clocks : ℕ → ℕ) (packets : List Packet) (replies : ℕ → ℕ → List Counted)
+pub books_quiet : (setting : Setting) (w : World) (nodes : ℕ → Node) (held : ℕ → ℕ → ℕ → Stamp → Bool) (clocks : ℕ → ℕ) (packets : List Packet) (replies : ℕ → ℕ → List Counted)
     → Books setting w
     → ((i : ℕ) → KeepsNumbers (w.nodes i) (nodes i)) → ((i k : ℕ) → (nodes i).calls k ≡ (w.nodes i).calls k)
-    → Books setting (quiet_world w nodes clocks packets replies)
-books_quiet setting w nodes clocks packets replies books keeps calls =
-    let later : World = quiet_world w nodes clocks packets replies in
+    → Books setting (quiet_world w nodes held clocks packets replies)
+books_quiet setting w nodes held clocks packets replies books keeps calls =
+    let later : World = quiet_world w nodes held clocks packets replies in
     record {
       well_formed = books.well_formed;
       places = books.places;

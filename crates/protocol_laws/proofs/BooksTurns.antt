@@ -1,5 +1,5 @@
 -- The books of a world where an open operation went on at its coordinator.
-use Rattle.std.proofs.Common.{◌≡◌, ◌≢◌, ℕ, ◌<◌, ◌≤◌, ⊎_elim, false, Option, Some, None, refl, sym, ap, ◌∙◌, subst, arith, List}
+use Rattle.std.proofs.Common.{◌≡◌, ◌≢◌, ℕ, ◌<◌, ◌≤◌, ⊎_elim, false, Option, Some, None, refl, sym, ap, ◌∙◌, subst, arith, List, Bool}
 use Rattle.std.proofs.lemmas.Option.{same_Some}
 use Rattle.std.proofs.lemmas.Bool.{cases_eq, both_ways}
 use Rattle.fab_base.specs.declared.stamps.Stamp.{Stamp}
@@ -49,10 +49,11 @@ pub record Turned (w : World) (i k : ℕ) (c d : Coordinator) (before o : Operat
   pub other_operations : (m : ℕ) → m ≢ number_of w i k → operations m ≡ w.operations m
 
 -- the world with these bricks, packets, operations, contents and counted replies
-abbrev pub turned_world : World → (ℕ → Node) → List Packet → (ℕ → Option Operation) → (ℕ → ℕ → Stamp → List ℕ) → (ℕ → ℕ → List Counted) → World
-turned_world w nodes packets operations contents replies =
+abbrev pub turned_world : World → (ℕ → Node) → (ℕ → ℕ → ℕ → Stamp → Bool) → List Packet → (ℕ → Option Operation) → (ℕ → ℕ → Stamp → List ℕ) → (ℕ → ℕ → List Counted) → World
+turned_world w nodes held packets operations contents replies =
     record {
       nodes = nodes;
+      after = w.after;
       up = w.up;
       clocks = w.clocks;
       packets = packets;
@@ -62,15 +63,16 @@ turned_world w nodes packets operations contents replies =
       numbers = w.numbers;
       past = w.past;
       contents = contents;
+      held = held;
       replies = replies;
     }
 
-module _ (setting : Setting) (w : World) (i k : ℕ) (c d : Coordinator) (before o : Operation) (nodes : ℕ → Node) (packets : List Packet)
+module _ (setting : Setting) (w : World) (i k : ℕ) (c d : Coordinator) (before o : Operation) (nodes : ℕ → Node) (held : ℕ → ℕ → ℕ → Stamp → Bool) (packets : List Packet)
     (operations : ℕ → Option Operation) (contents : ℕ → ℕ → Stamp → List ℕ) (replies : ℕ → ℕ → List Counted) (books : Books setting w)
     (turned : Turned w i k c d before o nodes operations) where
   -- the world after the turn
   abbrev later : World
-  later = turned_world w nodes packets operations contents replies
+  later = turned_world w nodes held packets operations contents replies
 
   call : CallBooks setting w i k c
   call = books.calls i k c turned.was

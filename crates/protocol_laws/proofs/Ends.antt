@@ -17,7 +17,7 @@ use Rattle.protocol.specs.Settings.{Setting}
 use Rattle.protocol.specs.Coordinators.{Coordinator}
 use Rattle.protocol.specs.declared.tellings.Told.TheVariants.{Answers}
 use Rattle.protocol.specs.Nodes.{Node, put, with_call, collect_packets}
-use Rattle.protocol.specs.Worlds.{World, Operation, number_of, world_stepped, with_answer, version_after, is_answer}
+use Rattle.protocol.specs.Worlds.{World, Operation, number_of, world_stepped, with_answer, version_after, is_answer, with_held}
 use Rattle.protocol_laws.proofs.Books.{Books, CallBooks, IsCall}
 use Rattle.protocol_laws.proofs.Said.{Stamping, Said, Stands, WritesWhole, ReadsBack, PacketSays, HasVersion, OperationSays, CallSays, EndShows}
 use Rattle.protocol_laws.proofs.Tables.{put_each, put_same, get_grown, get_one, sent_to_member}
@@ -73,12 +73,13 @@ module _ (setting : Setting) (w : World) (stamps : Stamping) (me : BrickId) (c :
   abbrev next : World
   next = operated w me node (collect_packets group me c.call stored) marks n ended w.contents
 
-  next_is : world_stepped w me (record { node = node; packets = collect_packets group me c.call stored; told = Answers c.call.seq answer seen })
+  next_is : world_stepped setting w me (record { node = node; packets = collect_packets group me c.call stored; told = Answers c.call.seq answer seen })
       (Answers c.call.seq answer seen) ≡ next
   next_is =
       ap (λ (x : Option Operation).
       record {
         nodes = put w.nodes me.0 node;
+        after = w.after;
         up = w.up;
         clocks = w.clocks;
         packets = w.packets ++ collect_packets group me c.call stored;
@@ -88,6 +89,7 @@ module _ (setting : Setting) (w : World) (stamps : Stamping) (me : BrickId) (c :
         numbers = w.numbers;
         past = w.past;
         contents = w.contents;
+        held = with_held w.held me.0 node;
         replies = w.replies;
       })
       its.operation_is
@@ -215,7 +217,7 @@ module _ (setting : Setting) (w : World) (stamps : Stamping) (me : BrickId) (c :
 
     -- the invariant holds when an operation ended
     pub said_ended : Said setting
-        (world_stepped w me (record { node = node; packets = collect_packets group me c.call stored; told = Answers c.call.seq answer seen })
+        (world_stepped setting w me (record { node = node; packets = collect_packets group me c.call stored; told = Answers c.call.seq answer seen })
         (Answers c.call.seq answer seen)) stamps
     said_ended =
         subst (λ (z : World). Said setting z stamps) (sym next_is)

@@ -21,6 +21,7 @@ laws : (setting : Setting) (w : World) → Books setting w → QuorumFacts setti
 laws setting w booked facts history numbered truths = record {
   one_content = facts.one_content;
   first_is_zero = facts.first;
+  contents_are_made = facts.contents;
   guarded = facts.guarded;
   stored = facts.stored;
   bases = facts.bases;

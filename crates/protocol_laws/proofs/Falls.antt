@@ -1,6 +1,6 @@
 -- No event lowers what a brick has promised or stored, or drops a version that it holds.
-use Rattle.std.proofs.Common.{◌≡◌, ℕ, Bool, not, ◌&&◌, List, [], ◌∷◌, length, Option, Some, None, refl, arith}
-use Rattle.std.proofs.lemmas.Bool.{cond_both, and_parts, not-true}
+use Rattle.std.proofs.Common.{◌≡◌, ℕ, List, [], ◌∷◌, Option, Some, None, refl, ⊎_elim, sym, subst, false, ap}
+use Rattle.std.proofs.lemmas.Bool.{cond_both}
 use Rattle.fab_base.specs.declared.identities.BrickId.{BrickId}
 use Rattle.fab_base.specs.declared.asks.Ask.{Ask}
 use Rattle.fab_base.specs.declared.stamps.Stamp.{Stamp}
@@ -9,30 +9,28 @@ use Rattle.messages.specs.declared.packets.Message.{Message}
 use Rattle.messages.specs.declared.packets.Packet.{Packet}
 use Rattle.messages.specs.declared.requests.Request.{Request}
 use Rattle.messages.specs.declared.replies.Reply.{Reply}
-use Rattle.quorum.specs.Quorums.{IsWithinLimits}
-use Rattle.quorum.proofs.Counts.{count_monotone}
 use Rattle.fab_base.specs.Layouts.{Group, group_of}
 use Rattle.protocol.specs.Settings.{Setting}
-use Rattle.protocol.specs.Replicas.{top_of, is_held, handle}
+use Rattle.protocol.specs.Replicas.{handle}
 use Rattle.protocol.specs.Coordinators.{Coordinator, Next, Ignores, Waits, Sends, Makes, Ends, on_reply}
 use Rattle.protocol.specs.declared.tellings.Told.{Told}
 use Rattle.protocol.specs.declared.tellings.Told.TheVariants.{Nothing, Made, Answers}
 use Rattle.protocol.specs.Nodes.{Node, NodeStep, fresh_stamp, put, began, invoked, replica_at, full_at, requested, absorbed, stopped, restarted, known_after, carried_out, replied_to, replied_at, replied, received}
-use Rattle.protocol.specs.Worlds.{World, Event, Invokes, Delivers, Sets, Ticks, Crashes, Starts, Absorbs, replies_with, is_brick, is_up, may_start, world_ticked, world_stopped, world_started, world_absorbed, may_begin, world_began, world_stepped, delivered, packet_of, happens, first_world, run}
-use Rattle.fab_base.specs.Layouts.{brick_at}
-use Rattle.protocol_laws.specs.Laws.{NoEventLowers, NeverSurfaces, IsLost, IsGuarded, IsBlocked, part_of}
+use Rattle.protocol.specs.Worlds.{World, Found, Before, After, Event, Invokes, Delivers, Sets, Ticks, Stops, Starts, replies_with, is_brick, is_up, may_start, world_ticked, world_stopped, world_found, world_started, may_begin, world_began, world_stepped, delivered, packet_of, happens, first_world, run}
+use Rattle.protocol_laws.specs.Laws.{WasSent, NoEventLowers, IsGuarded}
 use Rattle.protocol_laws.proofs.Reactions.{handle_after}
 use Rattle.protocol_laws.proofs.Requests.{request_each, parts_keep}
-use Rattle.protocol_laws.proofs.Logs.{below_above}
-use Rattle.protocol_laws.proofs.Blocking.{PartsStay, parts_then, passes_by, passes, blocked_by, blocked_stays, blocked_never_stands, count_split}
+use Rattle.protocol_laws.proofs.BooksEvents.{start_fits}
+use Rattle.protocol_laws.proofs.Left.{IsLeft, Leaves, always_leaves, leaves_happens}
+use Rattle.protocol_laws.proofs.Blocking.{PartsStay, parts_then}
 use Rattle.protocol_laws.proofs.Steps.{KeepsParts, keeps_same, parts_by, parts_same}
 use Rattle.protocol_laws.proofs.Growth.{guarded_stays}
 
 -- the bricks after a step
-stepped_nodes : (w : World) (me : BrickId) (step : NodeStep) (told : Told) → (world_stepped w me step told).nodes ≡ put w.nodes me.0 step.node
-stepped_nodes w me step Nothing = refl
-stepped_nodes w me step (Made seq t base) = refl
-stepped_nodes w me step (Answers seq answer seen) = refl
+stepped_nodes : (setting : Setting) (w : World) (me : BrickId) (step : NodeStep) (told : Told) → (world_stepped setting w me step told).nodes ≡ put w.nodes me.0 step.node
+stepped_nodes setting w me step Nothing = refl
+stepped_nodes setting w me step (Made seq t base) = refl
+stepped_nodes setting w me step (Answers seq answer seen) = refl
 
 -- a coordinator's decision changes no part of a stripe
 decision_keeps : (setting : Setting) (group : Group) (me : BrickId) (node : Node) (known : ℕ) (c : Coordinator) (decision : Next)
@@ -67,7 +65,7 @@ request_keeps setting me from node call request =
     let full : Option ℕ = full_at setting.layout.records node in
     parts_keep node call request (handle full seat (replica_at node call) request) (handle_after full seat (replica_at node call) request))
 
-message_keeps : (setting : Setting) (me from to : BrickId) (now : ℕ) (node : Node) (message : Message)
+pub message_keeps : (setting : Setting) (me from to : BrickId) (now : ℕ) (node : Node) (message : Message)
     → KeepsParts node (received setting me now node (record { from = from; to = to; message = message })).node
 unfolding received
 message_keeps setting me from to now node (Message.Request call request) = request_keeps setting me from node call request
@@ -95,20 +93,26 @@ delivery_stays setting w None = parts_same w w refl
 delivery_stays setting w (Some packet) =
     let step : NodeStep = received setting packet.to (w.clocks packet.to.0) (w.nodes packet.to.0) packet in
     let counted : World = record w { replies = replies_with setting w packet } in
-    cond_both (is_up setting.layout w packet.to) (world_stepped counted packet.to step step.told) w (λ (next : World). PartsStay w next)
-    (λ is. parts_by w (world_stepped counted packet.to step step.told) packet.to.0 step.node (stepped_nodes counted packet.to step step.told)
+    cond_both (is_up setting.layout w packet.to) (world_stepped setting counted packet.to step step.told) w (λ (next : World). PartsStay w next)
+    (λ is. parts_by w (world_stepped setting counted packet.to step step.told) packet.to.0 step.node (stepped_nodes setting counted packet.to step step.told)
     (message_keeps setting packet.to packet.from packet.to (w.clocks packet.to.0) (w.nodes packet.to.0) packet.message))
     (λ isnt. parts_same w w refl)
 
--- a packet is handled, and its reply is lost
-absorption_stays : (setting : Setting) (w : World) (z : Option Packet) → PartsStay w (world_absorbed setting w z)
-absorption_stays setting w None = parts_same w w refl
-absorption_stays setting w (Some packet) =
-    let node : Node = absorbed setting packet.to (w.nodes packet.to.0) packet in
-    cond_both (is_up setting.layout w packet.to) (record w { nodes = put w.nodes packet.to.0 node }) w (λ (next : World). PartsStay w next)
-    (λ up. parts_by w (record w { nodes = put w.nodes packet.to.0 node }) packet.to.0 node refl
-    (absorbed_keeps setting packet.to packet.from packet.to (w.nodes packet.to.0) packet.message))
-    (λ down. parts_same w w refl)
+-- what the store of a stopped brick may hold
+pub left_keeps : (setting : Setting) (w : World) (i : ℕ) (node : Node) → IsLeft setting w i node → KeepsParts (w.nodes i) node
+left_keeps setting w i node = ⊎_elim
+    (λ (same : node ≡ w.nodes i). keeps_same (w.nodes i) node (ap (λ (z : Node). z.replicas) same))
+    (λ (handled : (packet : Packet) × (packet.to ≡ record { 0 = i }) × WasSent w packet
+    × (node ≡ absorbed setting (record { 0 = i }) (w.nodes i) packet)).
+    subst (λ (z : Node). KeepsParts (w.nodes i) z) (sym handled.3)
+    (absorbed_keeps setting (record { 0 = i }) handled.0.from handled.0.to (w.nodes i) handled.0.message))
+
+-- a brick that starts with what its store is found to hold
+found_stays : (setting : Setting) (w : World) (brick : BrickId) (found : Found) → w.up brick.0 ≡ false → Leaves setting w
+    → PartsStay w (world_found w brick found)
+found_stays setting w brick Before down leaves = parts_same w w refl
+found_stays setting w brick After down leaves =
+    parts_by w (world_found w brick After) brick.0 (w.after brick.0) refl (left_keeps setting w brick.0 (w.after brick.0) (leaves brick.0 down))
 
 invoked_keeps : (setting : Setting) (me : BrickId) (now : ℕ) (node : Node) (ask : Ask) → KeepsParts node (invoked setting me now node ask).node
 unfolding invoked
@@ -119,68 +123,51 @@ invoked_keeps setting me now node ask = in_group (group_of setting.layout ask.gr
     in_group (Some group) = keeps_same node (began setting me now node ask (Some group)).node refl
 
 -- through any event
-pub parts_stay : (setting : Setting) (w : World) (event : Event) → PartsStay w (happens setting w event)
+pub parts_stay : (setting : Setting) (w : World) (event : Event) → Leaves setting w → PartsStay w (happens setting w event)
 unfolding happens
-parts_stay setting w (Invokes brick ask) =
+parts_stay setting w (Invokes brick ask) leaves =
     let step : NodeStep = invoked setting brick (w.clocks brick.0) (w.nodes brick.0) ask in
     cond_both (may_begin setting w brick ask) (world_began w brick ask step) w (λ (next : World). PartsStay w next)
     (λ may. parts_by w (world_began w brick ask step) brick.0 step.node refl (invoked_keeps setting brick (w.clocks brick.0) (w.nodes brick.0) ask))
     (λ isnt. parts_same w w refl)
-parts_stay setting w (Delivers number) = delivery_stays setting w (packet_of w.packets number)
-parts_stay setting w (Sets brick time) =
+parts_stay setting w (Delivers number) leaves = delivery_stays setting w (packet_of w.packets number)
+parts_stay setting w (Sets brick time) leaves =
     cond_both (is_brick setting.layout brick) (record w { clocks = put w.clocks brick.0 time }) w (λ (next : World). PartsStay w next)
     (λ is. parts_same w (record w { clocks = put w.clocks brick.0 time }) refl)
     (λ isnt. parts_same w w refl)
-parts_stay setting w (Ticks brick) =
+parts_stay setting w (Ticks brick) leaves =
     cond_both (is_up setting.layout w brick) (world_ticked setting w brick) w (λ (next : World). PartsStay w next)
     (λ up. parts_same w (world_ticked setting w brick) refl)
     (λ down. parts_same w w refl)
-parts_stay setting w (Crashes brick) =
-    cond_both (is_up setting.layout w brick) (world_stopped w brick) w (λ (next : World). PartsStay w next)
-    (λ up. parts_by w (world_stopped w brick) brick.0 (stopped (w.nodes brick.0)) refl (stopped_keeps (w.nodes brick.0)))
+parts_stay setting w (Stops brick during) leaves =
+    cond_both (is_up setting.layout w brick) (world_stopped setting w brick during) w (λ (next : World). PartsStay w next)
+    (λ up. parts_by w (world_stopped setting w brick during) brick.0 (stopped (w.nodes brick.0)) refl (stopped_keeps (w.nodes brick.0)))
     (λ down. parts_same w w refl)
-parts_stay setting w (Starts brick openings) =
-    cond_both (may_start setting.layout w brick openings) (world_started w brick openings) w (λ (next : World). PartsStay w next)
-    (λ may. parts_by w (world_started w brick openings) brick.0 (restarted openings (w.nodes brick.0)) refl
-    (restarted_keeps openings (w.nodes brick.0)))
+parts_stay setting w (Starts brick openings found) leaves =
+    let with_found : World = world_found w brick found in
+    cond_both (may_start setting.layout w brick openings) (world_started with_found brick openings) w (λ (next : World). PartsStay w next)
+    (λ may. parts_then w with_found (world_started with_found brick openings)
+    (found_stays setting w brick found (start_fits setting w brick openings may).0 leaves)
+    (parts_by with_found (world_started with_found brick openings) brick.0 (restarted openings (with_found.nodes brick.0)) refl
+    (restarted_keeps openings (with_found.nodes brick.0))))
     (λ cannot. parts_same w w refl)
-parts_stay setting w (Absorbs number) = absorption_stays setting w (packet_of w.packets number)
 
 -- no event of any run lowers a top
 pub no_event_lowers : NoEventLowers
 no_event_lowers setting events event sound =
-    let stay : PartsStay _ _ = parts_stay setting (run setting events (first_world setting.layout)) event in (stay.tops, stay.newer)
+    let stay : PartsStay _ _ = parts_stay setting (run setting events (first_world setting.layout)) event (always_leaves setting events) in
+    (stay.tops, stay.newer)
 
 -- and through any schedule
-pub parts_stay_on : (setting : Setting) (more : List Event) (w : World) → PartsStay w (run setting more w)
-parts_stay_on setting [] w = parts_same w w refl
-parts_stay_on setting (event ∷ more) w =
-    parts_then w (happens setting w event) (run setting more (happens setting w event)) (parts_stay setting w event)
-    (parts_stay_on setting more (happens setting w event))
+pub parts_stay_on : (setting : Setting) (more : List Event) (w : World) → Leaves setting w → PartsStay w (run setting more w)
+parts_stay_on setting [] w leaves = parts_same w w refl
+parts_stay_on setting (event ∷ more) w leaves =
+    parts_then w (happens setting w event) (run setting more (happens setting w event)) (parts_stay setting w event leaves)
+    (parts_stay_on setting more (happens setting w event) (leaves_happens setting w event leaves))
 
 -- what is guarded stays guarded through any event
-pub stays_guarded_through : (setting : Setting) (w : World) (event : Event) (g s : ℕ) (group : Group) (t : Stamp) → IsGuarded w g s group t
+pub stays_guarded_through : (setting : Setting) (w : World) (event : Event) (g s : ℕ) (group : Group) (t : Stamp) → Leaves setting w
+    → IsGuarded w g s group t
     → IsGuarded (happens setting w event) g s group t
-stays_guarded_through setting w event g s group t guarded = guarded_stays w (happens setting w event)
-    (parts_stay setting w event).tops g s group t guarded
-
--- a lost version is blocked: where a quorum is above it, and fewer than m of it hold it
-lost_blocked : (w : World) (g s : ℕ) (group : Group) (v : Stamp) → IsWithinLimits group.m (length group.members) → IsLost w g s group v
-    → IsBlocked w g s group v
-lost_blocked w g s group v limits lost =
-    let held : ℕ → Bool = λ seat. is_held v (part_of w g s (brick_at group seat)).log in
-    let split = count_split (length group.members) lost.seats held in
-    let more = count_monotone (length group.members) (λ k. lost.seats k && not (held k)) (passes_by w g s group v)
-    (λ k below is.
-    let parts = and_parts (lost.seats k) (not (held k)) is in
-    passes w g s group v k (below_above v lost.stamp (top_of (part_of w g s (brick_at group k))) lost.above (lost.passed k parts.0))
-    (not-true (held k) parts.1)) in
-    blocked_by w g s group v limits (omega (arith, split, more, lost.quorum, lost.few))
-
--- no quorum ever holds a lost version
-pub never_surfaces : NeverSurfaces
-never_surfaces setting events more g s group v sound group_is lost later =
-    let w : World = run setting events (first_world setting.layout) in
-    let blocked : IsBlocked w g s group v = lost_blocked w g s group v (sound.limits g group group_is) lost in
-    blocked_never_stands (run setting more w) g s group v
-    (blocked_stays w (run setting more w) (parts_stay_on setting more w) g s group v blocked) later
+stays_guarded_through setting w event g s group t leaves guarded = guarded_stays w (happens setting w event)
+    (parts_stay setting w event leaves).tops g s group t guarded

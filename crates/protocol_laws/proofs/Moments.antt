@@ -21,7 +21,7 @@ use Rattle.protocol.specs.Coordinators.{Coordinator, Next, Ignores, Waits, Sends
 use Rattle.protocol.specs.declared.tellings.Told.{Told}
 use Rattle.protocol.specs.declared.tellings.Told.TheVariants.{Nothing, Made, Answers}
 use Rattle.protocol.specs.Nodes.{Node, NodeStep, replica_at, full_at, reply_packets, to_members, collect_packets, resent_to, resent_in, resent, resent_up_to, ticked, began, invoked, requested, known_after, fresh_stamp, carried_out, replied_to, replied_at, replied, received}
-use Rattle.protocol.specs.Worlds.{World, Event, Invokes, Delivers, Sets, Ticks, Crashes, Starts, Absorbs, first_world, is_brick, is_up, may_begin, may_start, world_began, world_stepped, world_absorbed, world_ticked, world_stopped, world_started, replies_with, delivered, packet_of, happens, run}
+use Rattle.protocol.specs.Worlds.{World, Found, Before, After, Event, Invokes, Delivers, Sets, Ticks, Stops, Starts, first_world, is_brick, is_up, may_begin, may_start, world_began, world_stepped, world_ticked, world_stopped, world_found, world_started, replies_with, delivered, packet_of, happens, run}
 use Rattle.protocol_laws.specs.Laws.{part_of, RefusalIsTrue, Sending, RefusalsWereTrue}
 use Rattle.protocol_laws.proofs.Requests.{request_each}
 use Rattle.protocol_laws.proofs.Tables.{get_grown, sent_to_member}
@@ -195,13 +195,13 @@ adds_none : (w next : World) → next.packets ≡ w.packets → AddsTrue w next
 adds_none w next same =
     record { more = []; packets = same ∙ sym (append-nil w.packets); are_true = none_true w }
 
-stepped_adds : (w before : World) (me : BrickId) (step : NodeStep) (told : Told) → before.packets ≡ w.packets → AreTrue w step.packets
-    → AddsTrue w (world_stepped before me step told)
-stepped_adds w before me step Nothing same says =
+stepped_adds : (setting : Setting) (w before : World) (me : BrickId) (step : NodeStep) (told : Told) → before.packets ≡ w.packets → AreTrue w step.packets
+    → AddsTrue w (world_stepped setting before me step told)
+stepped_adds setting w before me step Nothing same says =
     record { more = step.packets; packets = ap (λ (l : List Packet). l ++ step.packets) same; are_true = says }
-stepped_adds w before me step (Made seq t base) same says =
+stepped_adds setting w before me step (Made seq t base) same says =
     record { more = step.packets; packets = ap (λ (l : List Packet). l ++ step.packets) same; are_true = says }
-stepped_adds w before me step (Answers seq answer seen) same says =
+stepped_adds setting w before me step (Answers seq answer seen) same says =
     record { more = step.packets; packets = ap (λ (l : List Packet). l ++ step.packets) same; are_true = says }
 
 delivered_adds : (setting : Setting) (w : World) (packet : Option Packet) → AddsTrue w (delivered setting w packet)
@@ -209,16 +209,14 @@ delivered_adds setting w None = adds_none w w refl
 delivered_adds setting w (Some packet) =
     let step : NodeStep = received setting packet.to (w.clocks packet.to.0) (w.nodes packet.to.0) packet in
     let counted : World = record w { replies = replies_with setting w packet } in
-    cond_both (is_up setting.layout w packet.to) (world_stepped counted packet.to step step.told) w (λ (next : World). AddsTrue w next)
-    (λ up. stepped_adds w counted packet.to step step.told refl
+    cond_both (is_up setting.layout w packet.to) (world_stepped setting counted packet.to step step.told) w (λ (next : World). AddsTrue w next)
+    (λ up. stepped_adds setting w counted packet.to step step.told refl
     (received_true setting w (w.clocks packet.to.0) packet.from packet.to packet.message))
     (λ down. adds_none w w refl)
 
-absorbed_adds : (setting : Setting) (w : World) (packet : Option Packet) → AddsTrue w (world_absorbed setting w packet)
-absorbed_adds setting w None = adds_none w w refl
-absorbed_adds setting w (Some packet) =
-    cond_both (is_up setting.layout w packet.to) _ w (λ (next : World). AddsTrue w next)
-    (λ up. adds_none w _ refl) (λ down. adds_none w w refl)
+found_adds : (w : World) (brick : BrickId) (openings : ℕ) (found : Found) → AddsTrue w (world_started (world_found w brick found) brick openings)
+found_adds w brick openings Before = adds_none w _ refl
+found_adds w brick openings After = adds_none w _ refl
 
 -- through any event
 happens_adds : (setting : Setting) (w : World) (event : Event) → AddsTrue w (happens setting w event)
@@ -239,13 +237,12 @@ happens_adds setting w (Ticks brick) =
       are_true = ticked_true setting w brick (w.nodes brick.0).calls (w.nodes brick.0).seq;
     })
     (λ down. adds_none w w refl)
-happens_adds setting w (Crashes brick) =
-    cond_both (is_up setting.layout w brick) (world_stopped w brick) w (λ (next : World). AddsTrue w next)
-    (λ up. adds_none w (world_stopped w brick) refl) (λ down. adds_none w w refl)
-happens_adds setting w (Starts brick openings) =
-    cond_both (may_start setting.layout w brick openings) (world_started w brick openings) w (λ (next : World). AddsTrue w next)
-    (λ may. adds_none w (world_started w brick openings) refl) (λ cannot. adds_none w w refl)
-happens_adds setting w (Absorbs number) = absorbed_adds setting w (packet_of w.packets number)
+happens_adds setting w (Stops brick during) =
+    cond_both (is_up setting.layout w brick) (world_stopped setting w brick during) w (λ (next : World). AddsTrue w next)
+    (λ up. adds_none w (world_stopped setting w brick during) refl) (λ down. adds_none w w refl)
+happens_adds setting w (Starts brick openings found) =
+    cond_both (may_start setting.layout w brick openings) (world_started (world_found w brick found) brick openings) w
+    (λ (next : World). AddsTrue w next) (λ may. found_adds w brick openings found) (λ cannot. adds_none w w refl)
 
 -- an element of a list that grew is an old one, or one of those added, behind the old ones
 get_behind : (xs ys : List Packet) (k : ℕ) (x : Packet) → slice_get (xs ++ ys) k ≡ Some x

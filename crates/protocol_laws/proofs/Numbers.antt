@@ -12,7 +12,7 @@ use Rattle.protocol.specs.Settings.{Setting}
 use Rattle.protocol.specs.declared.tellings.Told.{Told}
 use Rattle.protocol.specs.declared.tellings.Told.TheVariants.{Nothing, Made, Answers}
 use Rattle.protocol.specs.Nodes.{NodeStep, invoked, received}
-use Rattle.protocol.specs.Worlds.{World, Event, Invokes, Delivers, Sets, Ticks, Crashes, Starts, Absorbs, is_brick, is_up, may_begin, may_start, world_began, world_stepped, world_absorbed, world_ticked, world_stopped, world_started, replies_with, delivered, packet_of, happens, run}
+use Rattle.protocol.specs.Worlds.{World, Found, Before, After, Event, Invokes, Delivers, Sets, Ticks, Stops, Starts, is_brick, is_up, may_begin, may_start, world_began, world_stepped, world_ticked, world_stopped, world_found, world_started, replies_with, delivered, packet_of, happens, run}
 use Rattle.protocol_laws.proofs.MarkLists.{begun_numbers-append, slice_get_push}
 
 -- the numbers that have begun are 1, 2, 3 and so on, as many as there are operations
@@ -50,23 +50,23 @@ numbered_more marks mark begun one numbered =
     }
 
 -- a step of a brick marks an end, or nothing
-numbered_stepped : (w : World) (me : BrickId) (step : NodeStep) (told : Told) → IsNumbered w → IsNumbered (world_stepped w me step told)
-numbered_stepped w me step Nothing numbered = numbered
-numbered_stepped w me step (Made seq t base) numbered = numbered
-numbered_stepped w me step (Answers seq answer seen) numbered = numbered_on w.marks (End (length w.marks) _ answer) w.begun refl numbered
+numbered_stepped : (setting : Setting) (w : World) (me : BrickId) (step : NodeStep) (told : Told) → IsNumbered w → IsNumbered (world_stepped setting w me step told)
+numbered_stepped setting w me step Nothing numbered = numbered
+numbered_stepped setting w me step (Made seq t base) numbered = numbered
+numbered_stepped setting w me step (Answers seq answer seen) numbered = numbered_on w.marks (End (length w.marks) _ answer) w.begun refl numbered
 
 numbered_delivered : (setting : Setting) (w : World) (packet : Option Packet) → IsNumbered w → IsNumbered (delivered setting w packet)
 numbered_delivered setting w None numbered = numbered
 numbered_delivered setting w (Some packet) numbered =
     let step : NodeStep = received setting packet.to (w.clocks packet.to.0) (w.nodes packet.to.0) packet in
     let counted : World = record w { replies = replies_with setting w packet } in
-    cond_both (is_up setting.layout w packet.to) (world_stepped counted packet.to step step.told) w (λ (next : World). IsNumbered next)
-    (λ up. numbered_stepped counted packet.to step step.told numbered) (λ down. numbered)
+    cond_both (is_up setting.layout w packet.to) (world_stepped setting counted packet.to step step.told) w (λ (next : World). IsNumbered next)
+    (λ up. numbered_stepped setting counted packet.to step step.told numbered) (λ down. numbered)
 
-numbered_absorbed : (setting : Setting) (w : World) (packet : Option Packet) → IsNumbered w → IsNumbered (world_absorbed setting w packet)
-numbered_absorbed setting w None numbered = numbered
-numbered_absorbed setting w (Some packet) numbered =
-    cond_both (is_up setting.layout w packet.to) _ w (λ (next : World). IsNumbered next) (λ up. numbered) (λ down. numbered)
+numbered_found : (w : World) (brick : BrickId) (openings : ℕ) (found : Found) → IsNumbered w
+    → IsNumbered (world_started (world_found w brick found) brick openings)
+numbered_found w brick openings Before numbered = numbered
+numbered_found w brick openings After numbered = numbered
 
 -- through any event
 numbered_happens : (setting : Setting) (w : World) (event : Event) → IsNumbered w → IsNumbered (happens setting w event)
@@ -80,13 +80,12 @@ numbered_happens setting w (Sets brick time) numbered =
     cond_both (is_brick setting.layout brick) _ w (λ (next : World). IsNumbered next) (λ is. numbered) (λ isnt. numbered)
 numbered_happens setting w (Ticks brick) numbered =
     cond_both (is_up setting.layout w brick) (world_ticked setting w brick) w (λ (next : World). IsNumbered next) (λ up. numbered) (λ down. numbered)
-numbered_happens setting w (Crashes brick) numbered =
-    cond_both (is_up setting.layout w brick) (world_stopped w brick) w (λ (next : World). IsNumbered next)
+numbered_happens setting w (Stops brick during) numbered =
+    cond_both (is_up setting.layout w brick) (world_stopped setting w brick during) w (λ (next : World). IsNumbered next)
     (λ up. numbered_on w.marks (Crash (length w.marks) brick) w.begun refl numbered) (λ down. numbered)
-numbered_happens setting w (Starts brick openings) numbered =
-    cond_both (may_start setting.layout w brick openings) (world_started w brick openings) w (λ (next : World). IsNumbered next)
-    (λ may. numbered) (λ cannot. numbered)
-numbered_happens setting w (Absorbs number) numbered = numbered_absorbed setting w (packet_of w.packets number) numbered
+numbered_happens setting w (Starts brick openings found) numbered =
+    cond_both (may_start setting.layout w brick openings) (world_started (world_found w brick found) brick openings) w
+    (λ (next : World). IsNumbered next) (λ may. numbered_found w brick openings found numbered) (λ cannot. numbered)
 
 -- and through any schedule
 pub numbered_run : (setting : Setting) (events : List Event) (w : World) → IsNumbered w → IsNumbered (run setting events w)

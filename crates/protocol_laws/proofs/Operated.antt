@@ -14,7 +14,7 @@ use Rattle.protocol.specs.Settings.{Setting}
 use Rattle.protocol.specs.Replicas.{top_of}
 use Rattle.protocol.specs.Coordinators.{Coordinator}
 use Rattle.protocol.specs.Nodes.{Node, put}
-use Rattle.protocol.specs.Worlds.{World, Operation}
+use Rattle.protocol.specs.Worlds.{World, Operation, with_held}
 use Rattle.protocol_laws.proofs.Books.{Books, IsOperation}
 use Rattle.protocol_laws.proofs.Said.{Stamping, Said, StampsSay, IsMadeOrFirst, PacketSays, OperationSays, CallSays, EndShows, IsInOrder, FloorsAtLeast}
 use Rattle.protocol_laws.proofs.Tables.{put_each, get_grown}
@@ -27,6 +27,7 @@ abbrev pub operated : World → BrickId → Node → List Packet → List Mark �
 operated w me node more marks n p contents =
     record {
       nodes = put w.nodes me.0 node;
+      after = w.after;
       up = w.up;
       clocks = w.clocks;
       packets = w.packets ++ more;
@@ -36,6 +37,7 @@ operated w me node more marks n p contents =
       numbers = w.numbers;
       past = w.past;
       contents = contents;
+      held = with_held w.held me.0 node;
       replies = w.replies;
     }
 

@@ -1,10 +1,11 @@
 -- What quorums make true of the versions of a world, for the walk along them.
-use Rattle.std.proofs.Common.{◌≡◌, ℕ, ◌≤◌, ◌⊎◌, inl, inr, true, false, not, List, length, Option, Some, None, sym, ap, ◌∙◌, subst, ⊎_elim, arith}
+use Rattle.std.proofs.Common.{◌≡◌, ℕ, ◌≤◌, ◌⊎◌, inl, inr, true, false, not, List, length, Option, Some, None, sym, ap, ◌∙◌, subst, ⊎_elim, arith, []}
 use Rattle.std.specs.Prelude.{nat_eq}
 use Rattle.std.proofs.lemmas.Bool.{and_parts, cases_Bool, eqb-true, not-true}
 use Rattle.std.proofs.lemmas.Option.{same_Some}
 use Rattle.fab_base.specs.declared.identities.BrickId.{BrickId}
 use Rattle.fab_base.specs.declared.stamps.Stamp.{Stamp}
+use Rattle.fab_base.specs.declared.asks.Op.{Op}
 use Rattle.fab_base.specs.declared.asks.Op.TheVariants.{ReadStripe, WriteStripe}
 use Rattle.fab_base.specs.declared.answers.Answer.TheVariants.{Data}
 use Rattle.fab_base.specs.Stamps.{stamp_below, first_stamp}
@@ -22,13 +23,16 @@ use Rattle.reg_model.specs.Walk.{last_of}
 use Rattle.fab_base.specs.Layouts.{Group, group_of, seat_in}
 use Rattle.protocol.specs.Settings.{Setting, IsSound}
 use Rattle.protocol.specs.Coordinators.{told_in}
-use Rattle.protocol.specs.Worlds.{World, Event, Operation, zero_content, first_world, run}
+use Rattle.protocol.specs.Worlds.{World, Event, Operation, zero_content, first_world, run, content_on}
 use Rattle.fab_base.specs.Layouts.{brick_at}
-use Rattle.protocol_laws.specs.Laws.{OneContent, BasesAreNewest, WritesAreGuarded, StoredIsHeld, FollowsRealTime, FullIsFull, WriteSent, IsBlocked}
+use Rattle.protocol_laws.specs.Laws.{IsBlocked, OneContent, ContentsAreMade, BasesAreNewest, WritesAreGuarded, StoredIsHeld, FollowsRealTime, FullIsFull, WriteSent}
+use Rattle.protocol_laws.proofs.Held.{HeldIsLogged, passed_blocked}
+use Rattle.protocol_laws.proofs.HeldAlways.{held_is_logged}
 use Rattle.protocol_laws.specs.Marked.{WordsFit}
 use Rattle.protocol_laws.proofs.Books.{Books, OperationBooks, IsOperation}
 use Rattle.protocol_laws.proofs.Words.{words_fit}
 use Rattle.protocol_laws.proofs.Said.{Stamping, Said, IsSaid, IsStamped, IsMadeOrFirst, Stands, WritesWhole, ReadsBack, FloorsAtLeast, VersionSays, WriteSays, ReplySays, HasVersion, DataShown}
+use Rattle.protocol_laws.proofs.Left.{always_leaves}
 use Rattle.protocol_laws.proofs.Blocking.{blocked_never_stands}
 use Rattle.fab_base.proofs.Seats.{seat_within, brick_at_seat}
 use Rattle.protocol_laws.proofs.Lives.{answered_has_end}
@@ -75,12 +79,14 @@ pub record QuorumFacts (setting : Setting) (w : World) : Type 0 where
       → w.contents g s first_stamp ≡ zero_registers group.m setting.layout.block
   pub one_content : OneContent setting w
   pub bases : BasesAreNewest setting w
+  pub contents : ContentsAreMade setting w
   pub guarded : WritesAreGuarded setting w
   pub stored : StoredIsHeld w
   pub full : FullIsFull setting w
   pub words : WordsFit setting.layout w.marks
 
-module _ (setting : Setting) (sound : IsSound setting) (w : World) (stamps : Stamping) (books : Books setting w) (said : Said setting w stamps) where
+module _ (setting : Setting) (sound : IsSound setting) (w : World) (stamps : Stamping) (books : Books setting w) (said : Said setting w stamps)
+    (logged : HeldIsLogged w) where
   -- of two versions between which a quorum's floors lie, the lower is not above the other, nor equal to it where the later operation made it
   shared_floor : (b : ℕ) (later : Operation) (u v : Stamp) (i : ℕ) → IsOperation w b later → later.version ≡ Some v
       → stamp_below (later.floor i) u ≡ false → stamp_below v (later.floor i) ≡ false → (stamp_below u v ≡ true) ⊎ ((u ≡ v) × (later.made ≡ false))
@@ -172,10 +178,27 @@ module _ (setting : Setting) (sound : IsSound setting) (w : World) (stamps : Sta
       (λ (whole : WritesWhole w o t). absurd (let none : Some b ≡ None = sym base ∙ whole.0 in let never : ⊥ = cc in never))
       (λ (back : ReadsBack setting w o t).
       let same : back.base ≡ b = same_Some back.base b (sym back.base_is ∙ base) in
-      subst (λ (z : Stamp). (stamp_below z t ≡ true)
-      × (w.contents o.ask.group.0 o.ask.stripe.0 t ≡ w.contents o.ask.group.0 o.ask.stripe.0 z)
-      × ((d : Stamp) → stamp_below z d ≡ true → stamp_below d t ≡ true → IsBlocked w o.ask.group.0 o.ask.stripe.0 group d)) same
-      (back.below, back.content, (λ d above less. back.blocked group group_is d (above, less))))
+      subst (λ (z : Stamp). ((bytes : List ℕ) → o.ask.op ≡ WriteStripe bytes → ⊥)
+      × (stamp_below z t ≡ true)
+      × ((d : Stamp) → stamp_below z d ≡ true → stamp_below d t ≡ true → IsBlocked w o.ask.group.0 o.ask.stripe.0 group d)) same (
+        (λ bytes writes. let never : ReadStripe ≡ WriteStripe bytes = sym back.op ∙ writes in cc),
+        back.below,
+        (λ d above less.
+            passed_blocked w o.ask.group.0 o.ask.stripe.0 group d logged (back.blocked group group_is d (above, less))),
+      ))
+      ((said.operations n o is).maker t made version)
+
+  -- a stripe write makes its bytes, and a recovery the content of its base
+  contents_hold : ContentsAreMade setting w
+  contents_hold n o t is made version = ⊎_elim
+      (λ (whole : WritesWhole w o t). sym (
+      ap (λ (op : Op). content_on setting.layout.block (w.contents o.ask.group.0 o.ask.stripe.0) op o.base) whole.1
+      ∙ ap (λ (z : Option Stamp). content_on setting.layout.block (w.contents o.ask.group.0 o.ask.stripe.0)
+      (WriteStripe (w.contents o.ask.group.0 o.ask.stripe.0 t)) z) whole.0))
+      (λ (back : ReadsBack setting w o t).
+      back.content ∙ sym (
+      ap (λ (op : Op). content_on setting.layout.block (w.contents o.ask.group.0 o.ask.stripe.0) op o.base) back.op
+      ∙ ap (λ (z : Option Stamp). content_on setting.layout.block (w.contents o.ask.group.0 o.ask.stripe.0) ReadStripe z) back.base_is))
       ((said.operations n o is).maker t made version)
 
   -- the version that a reply tells has its content
@@ -223,8 +246,11 @@ module _ (setting : Setting) (sound : IsSound setting) (w : World) (stamps : Sta
       kept = λ g s i seat k version group group_is seat_is at. (said.logs g s i k version at).block group seat group_is seat_is;
     };
     bases = bases_hold;
+    contents = contents_hold;
     guarded = λ call from to t block group group_is sent. (write_says call from to t block sent).guarded group group_is;
-    stored = λ call from to sent. said.packets sent.0 (record { from = from; to = to; message = Message.Reply call Reply.Stored }) sent.1;
+    stored = λ call from to sent.
+        let says = said.packets sent.0 (record { from = from; to = to; message = Message.Reply call Reply.Stored }) sent.1 in
+        (says.0, says.1, says.2, logged from.0 call.group.0 call.stripe.0 says.0 ∙ says.3);
     full = λ call from to live sent. said.packets sent.0 (record { from = from; to = to; message = Message.Reply call (Reply.Full live) }) sent.1;
     words = words_fit setting w stamps books said;
   }
@@ -235,5 +261,5 @@ pub quorum_facts : (setting : Setting) (events : List Event) → IsSound setting
     → QuorumFacts setting (run setting events (first_world setting.layout))
 quorum_facts setting events sound books =
     let said : IsSaid setting (run setting events (first_world setting.layout))
-    = said_run setting events (first_world setting.layout) sound books (said_first setting sound) in
-    facts setting sound (run setting events (first_world setting.layout)) said.0 (books events) said.1
+    = said_run setting events (first_world setting.layout) sound (always_leaves setting []) books (said_first setting sound) in
+    facts setting sound (run setting events (first_world setting.layout)) said.0 (books events) said.1 (held_is_logged setting events)

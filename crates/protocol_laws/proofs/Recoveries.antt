@@ -24,7 +24,8 @@ use Rattle.protocol.specs.declared.phases.Phase.TheVariants.{Recovers, Descends}
 use Rattle.protocol.specs.Coordinators.{Coordinator, told_in, told_stamp, finds, bytes_of, pieces_at, greater_stamp, greatest_found}
 use Rattle.protocol.specs.Worlds.{World, Operation}
 use Rattle.fab_base.specs.Layouts.{brick_at}
-use Rattle.protocol_laws.specs.Laws.{part_of, IsBlocked}
+use Rattle.protocol_laws.specs.Laws.{part_of}
+use Rattle.protocol_laws.proofs.Held.{IsPassedOver}
 use Rattle.protocol_laws.proofs.Books.{Books, CallBooks, IsCall}
 use Rattle.protocol_laws.proofs.Logs.{IsWithin, below_above}
 use Rattle.protocol_laws.proofs.Blocking.{passes_by, passes, blocked_by, blocked_never_stands}
@@ -193,7 +194,7 @@ module _ (setting : Setting) (sound : IsSound setting) (w : World) (stamps : Sta
   )
 
   -- nothing that a quorum holds lies between v and the bound
-  under_bound : (d : Stamp) → stamp_below v d ≡ true → stamp_below d bound ≡ true → IsBlocked w o.ask.group.0 o.ask.stripe.0 group d
+  under_bound : (d : Stamp) → stamp_below v d ≡ true → stamp_below d bound ≡ true → IsPassedOver w o.ask.group.0 o.ask.stripe.0 group d
   under_bound d above less =
       let seats : length counted ≤ count (length group.members) (passes_by w o.ask.group.0 o.ask.stripe.0 group d)
       = at_seats (length group.members) counted (passes_by w o.ask.group.0 o.ask.stripe.0 group d)
@@ -204,16 +205,16 @@ module _ (setting : Setting) (sound : IsSound setting) (w : World) (stamps : Sta
       blocked_by w o.ask.group.0 o.ask.stripe.0 group d limits (omega (arith, seats, many, limits.some_block))
 
   -- nor from the bound up to the recovery's stamp
-  from_bound : (d : Stamp) → stamp_below d bound ≡ false → stamp_below d c.stamp ≡ true → IsBlocked w o.ask.group.0 o.ask.stripe.0 group d
+  from_bound : (d : Stamp) → stamp_below d bound ≡ false → stamp_below d c.stamp ≡ true → IsPassedOver w o.ask.group.0 o.ask.stripe.0 group d
   from_bound d not_less less = ⊎_elim
       (λ (own : (c.phase ≡ Recovers) × (bound ≡ c.stamp)).
       absurd (false≢true (sym not_less ∙ subst (λ (t : Stamp). stamp_below d t ≡ true) (sym own.1) less)))
       (λ (lower : c.phase ≡ Descends bound).
-      subst (λ (a : Ask). IsBlocked w a.group.0 a.stripe.0 group d) its.ask (says.covered bound lower group group_is d (not_less, less)))
+      subst (λ (a : Ask). IsPassedOver w a.group.0 a.stripe.0 group d) its.ask (says.covered bound lower group group_is d (not_less, less)))
       looks
 
   -- nothing that a quorum holds, or ever will, lies between the version and the recovery's stamp
-  pub between_blocked : (d : Stamp) → stamp_below v d ≡ true → stamp_below d c.stamp ≡ true → IsBlocked w o.ask.group.0 o.ask.stripe.0 group d
+  pub between_blocked : (d : Stamp) → stamp_below v d ≡ true → stamp_below d c.stamp ≡ true → IsPassedOver w o.ask.group.0 o.ask.stripe.0 group d
   between_blocked d above less = ⊎_elim
       (λ (lower : stamp_below d bound ≡ true). under_bound d above lower)
       (λ (upper : stamp_below d bound ≡ false). from_bound d upper less)
@@ -236,7 +237,7 @@ module _ (setting : Setting) (sound : IsSound setting) (w : World) (stamps : Sta
           false≢true (sym (not-true (finds v x) isnt) ∙ finds_it)
 
   -- a version of which too few blocks were found no quorum holds, or ever will
-  pub too_few_blocked : length (pieces_at v counted) < group.m → IsBlocked w o.ask.group.0 o.ask.stripe.0 group v
+  pub too_few_blocked : length (pieces_at v counted) < group.m → IsPassedOver w o.ask.group.0 o.ask.stripe.0 group v
   too_few_blocked few =
       let test : Counted → Bool = λ x. not (finds v x) in
       let others : List Counted = filter test counted in
@@ -256,7 +257,7 @@ module _ (setting : Setting) (sound : IsSound setting) (w : World) (stamps : Sta
   version_above few =
       above_first v (λ first.
       blocked_never_stands w o.ask.group.0 o.ask.stripe.0 group first_stamp
-      (subst (λ (t : Stamp). IsBlocked w o.ask.group.0 o.ask.stripe.0 group t) first (too_few_blocked few))
+      (subst (λ (t : Stamp). IsPassedOver w o.ask.group.0 o.ask.stripe.0 group t) first (too_few_blocked few))
       (let full = count_full (length group.members) (λ seat. is_held first_stamp (part seat).log)
       (λ k below. said.first_held o.ask.group.0 o.ask.stripe.0 (brick_at group k)) in
       omega (arith, full)))

@@ -26,7 +26,8 @@ use Rattle.protocol.specs.Coordinators.{Coordinator, Next, Waits, Sends, Makes, 
 use Rattle.protocol.specs.Nodes.{Node, is_stripe_op, with_known, with_call, carried_out}
 use Rattle.protocol.specs.Worlds.{World, Operation, number_of, world_stepped}
 use Rattle.fab_base.specs.Layouts.{brick_at}
-use Rattle.protocol_laws.specs.Laws.{WasSent, part_of, AtQuorum, IsGuarded, IsBlocked}
+use Rattle.protocol_laws.specs.Laws.{WasSent, part_of, AtQuorum, IsGuarded}
+use Rattle.protocol_laws.proofs.Held.{IsPassedOver}
 use Rattle.protocol_laws.proofs.Books.{Books, CallBooks, IsUnmade, MadeInPhase, IsCall}
 use Rattle.protocol_laws.proofs.Said.{Stamping, Said, IsSaid, AreBlocked, IsContent, IsMadeOrFirst, IsStampOf, EachCounted, AreOnce, FitsPhase, FloorsAtMost, HasVersion, CountedSays, CallSays}
 use Rattle.protocol_laws.proofs.Tables.{put_each, put_same}
@@ -104,7 +105,7 @@ module _ (setting : Setting) (sound : IsSound setting) (w : World) (stamps : Sta
   -- the world after what the coordinator decides
   abbrev after : Next → World
   after decision =
-      world_stepped w me (carried_out setting group me (w.nodes me.0) known c decision)
+      world_stepped setting w me (carried_out setting group me (w.nodes me.0) known c decision)
       (carried_out setting group me (w.nodes me.0) known c decision).told
 
   -- the coordinator waits
@@ -305,7 +306,7 @@ module _ (setting : Setting) (sound : IsSound setting) (w : World) (stamps : Sta
           blocked : AreBlocked setting w o.ask.group.0 o.ask.stripe.0 (λ e. (stamp_below v e ≡ true) × (stamp_below e c.stamp ≡ true))
           blocked other other_is e h =
               let same : group ≡ other = same_Some group other (sym its_group ∙ other_is) in
-              subst (λ (z : Group). IsBlocked w o.ask.group.0 o.ask.stripe.0 z e) same
+              subst (λ (z : Group). IsPassedOver w o.ask.group.0 o.ask.stripe.0 z e) same
               (between_blocked setting sound w stamps me c group books said is group_is d.counted each once many bound looks all v greatest e h.0 h.1)
 
           -- with too few blocks nothing from v up to the stamp is held by a quorum
@@ -315,8 +316,8 @@ module _ (setting : Setting) (sound : IsSound setting) (w : World) (stamps : Sta
               (λ (not_above : stamp_below v e ≡ false).
               let same : v ≡ e = stamp_neither_below v e not_above h.0 in
               let group_same : group ≡ other = same_Some group other (sym its_group ∙ other_is) in
-              subst (λ (z : Group). IsBlocked w o.ask.group.0 o.ask.stripe.0 z e) group_same
-              (subst (λ (t : Stamp). IsBlocked w o.ask.group.0 o.ask.stripe.0 group t) same
+              subst (λ (z : Group). IsPassedOver w o.ask.group.0 o.ask.stripe.0 z e) group_same
+              (subst (λ (t : Stamp). IsPassedOver w o.ask.group.0 o.ask.stripe.0 group t) same
               (too_few_blocked setting sound w stamps me c group books said is group_is d.counted each once many bound looks all v greatest few)))
               (cases_Bool (stamp_below v e))
 

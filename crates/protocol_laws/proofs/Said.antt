@@ -30,7 +30,8 @@ use Rattle.protocol.specs.Coordinators.{Coordinator, answers_phase, has_seat, st
 use Rattle.protocol.specs.Nodes.{Node}
 use Rattle.protocol.specs.Worlds.{World, Operation, zero_content}
 use Rattle.fab_base.specs.Layouts.{brick_at}
-use Rattle.protocol_laws.specs.Laws.{WasSent, WriteSent, AskedAt, part_of, AtQuorum, IsGuarded, IsBlocked}
+use Rattle.protocol_laws.specs.Laws.{WasSent, WriteSent, AskedAt, part_of, AtQuorum, IsGuarded}
+use Rattle.protocol_laws.proofs.Held.{IsPassedOver}
 use Rattle.protocol_laws.proofs.Books.{IsOperation, IsCall}
 use Rattle.protocol_laws.proofs.Logs.{LogAscends, IsWithin}
 
@@ -63,7 +64,7 @@ Stands setting w g s v =
 
 -- no quorum holds a stamp of these, or ever will
 abbrev pub AreBlocked : Setting → World → ℕ → ℕ → (Stamp → Type 0) → Type 0
-AreBlocked setting w g s Q = (group : Group) → group_of setting.layout g ≡ Some group → (d : Stamp) → Q d → IsBlocked w g s group d
+AreBlocked setting w g s Q = (group : Group) → group_of setting.layout g ≡ Some group → (d : Stamp) → Q d → IsPassedOver w g s group d
 
 -- a stripe's content: the bytes of m blocks
 abbrev pub IsContent : ℕ → ℕ → List ℕ → Type 0

@@ -1,5 +1,5 @@
 -- What is said is so in every world that a run reaches.
-use Rattle.std.proofs.Common.{◌≡◌, ℕ, ◌<◌, ◌≤◌, zero, suc, ◌+◌, inl, true, false, List, [], ◌∷◌, ◌++◌, length, replicate, Option, Some, None, refl, sym, ap, ◌∙◌, subst, ⊎_elim, arith}
+use Rattle.std.proofs.Common.{◌≡◌, ℕ, ◌<◌, ◌≤◌, ◌+◌, inl, true, false, List, [], ◌∷◌, ◌++◌, length, replicate, Option, Some, None, refl, sym, ap, ◌∙◌, subst, ⊎_elim, arith}
 use Rattle.std.specs.Prelude.{slice_get}
 use Rattle.std.proofs.lemmas.List.{append-nil, length-append}
 use Rattle.std.proofs.lemmas.Bool.{cond_both, cond-false, false≢true, or_left}
@@ -22,12 +22,13 @@ use Rattle.protocol.specs.Replicas.{Reaction, first_replica, top_of, handle}
 use Rattle.protocol.specs.declared.phases.Counted.{Counted}
 use Rattle.protocol.specs.Coordinators.{Coordinator}
 use Rattle.protocol.specs.Nodes.{Node, NodeStep, put, with_known, full_at, reply_packets, absorbed, ticked, stopped, restarted, new_stamp, fresh_stamp, no_step, began, invoked, requested, known_after, replied_to, replied_at, replied, received}
-use Rattle.protocol.specs.Worlds.{World, Event, Invokes, Delivers, Sets, Ticks, Crashes, Starts, Absorbs, replies_with, first_world, zero_content, is_brick, is_up, may_start, world_ticked, world_stopped, world_started, world_absorbed, may_begin, world_began, world_stepped, delivered, packet_of, happens, run}
+use Rattle.protocol.specs.Worlds.{World, Found, Before, After, Event, Invokes, Delivers, Sets, Ticks, Stops, Starts, replies_with, first_world, zero_content, is_brick, is_up, may_start, world_ticked, left_after, packet_during, world_stopped, world_found, world_started, may_begin, world_began, world_stepped, delivered, packet_of, happens, run, with_held}
 use Rattle.protocol_laws.specs.Laws.{WasSent, part_of}
 use Rattle.protocol_laws.proofs.Books.{Books, IsCall}
+use Rattle.protocol_laws.proofs.Left.{IsLeft, Leaves, leaves_happens, packet_was_sent}
 use Rattle.protocol_laws.proofs.Said.{Stamping, Said, IsSaid, IsStampOf, VersionSays}
 use Rattle.protocol_laws.proofs.BooksQuiet.{books_quiet}
-use Rattle.protocol_laws.proofs.BooksEvents.{known_grows, fresh_is, BeginFits, begin_fits, start_fits}
+use Rattle.protocol_laws.proofs.BooksEvents.{known_grows, fresh_is, BeginFits, begin_fits, start_fits, books_found}
 use Rattle.protocol_laws.proofs.Tables.{get_one, get_kept, get_grown}
 use Rattle.protocol_laws.proofs.Lives.{last_grows}
 use Rattle.protocol_laws.proofs.Stampings.{ages_within}
@@ -39,20 +40,20 @@ use Rattle.protocol_laws.proofs.Replies.{said_known, said_after_reply}
 use Rattle.protocol_laws.proofs.Begins.{said_began}
 
 -- the world after a brick's step
-abbrev stepped : World → BrickId → NodeStep → World
-stepped w me step = world_stepped w me step step.told
+abbrev stepped : Setting → World → BrickId → NodeStep → World
+stepped setting w me step = world_stepped setting w me step step.told
 
 -- a step that does nothing
 nothing_said : (setting : Setting) (w : World) (stamps : Stamping) (me : BrickId) → Books setting w → Said setting w stamps
-    → Said setting (stepped w me (no_step (w.nodes me.0))) stamps
+    → Said setting (stepped setting w me (no_step (w.nodes me.0))) stamps
 nothing_said setting w stamps me books said = said_known setting w stamps me (w.nodes me.0).known books said (omega arith)
 
 -- a request is delivered
 request_said : (setting : Setting) (w : World) (stamps : Stamping) (me from : BrickId) (call : Call) (request : Request) → Books setting w
     → Said setting w stamps → WasSent w (record { from = from; to = me; message = Message.Request call request })
-    → Said setting (stepped w me (requested setting me from (w.nodes me.0) call request)) stamps
+    → Said setting (stepped setting w me (requested setting me from (w.nodes me.0) call request)) stamps
 request_said setting w stamps me from call request books said sent =
-    request_each (λ step. Said setting (stepped w me step) stamps) setting me from (w.nodes me.0) call request
+    request_each (λ step. Said setting (stepped setting w me step) stamps) setting me from (w.nodes me.0) call request
     (nothing_said setting w stamps me books said)
     (λ seat.
     let full : Option ℕ = full_at setting.layout.records (w.nodes me.0) in
@@ -88,12 +89,12 @@ fresh_says setting w me now known t books more is =
 -- a reply is delivered
 reply_said : (setting : Setting) (w : World) (stamps : Stamping) (me from : BrickId) (now : ℕ) (call : Call) (reply : Reply) → IsSound setting
     → Books setting w → Said setting w stamps → WasSent w (record { from = from; to = me; message = Message.Reply call reply })
-    → IsSaid setting (stepped w me (replied setting me now from (w.nodes me.0) call reply))
+    → IsSaid setting (stepped setting w me (replied setting me now from (w.nodes me.0) call reply))
 unfolding replied
 reply_said setting w stamps me from now call reply sound books said sent = at_call ((w.nodes me.0).calls call.seq) refl
   where
     in_group : (c : Coordinator) → IsCall w me.0 c.call.seq c → (z : Option Group) → group_of setting.layout c.ask.group.0 ≡ z
-        → IsSaid setting (stepped w me (replied_to setting me now from (w.nodes me.0) call reply c z))
+        → IsSaid setting (stepped setting w me (replied_to setting me now from (w.nodes me.0) call reply c z))
     in_group c is None none = (stamps, nothing_said setting w stamps me books said)
     in_group c is (Some group) group_is =
         said_after_reply setting sound w stamps me c group (known_after (w.nodes me.0).known reply) books said is group_is
@@ -103,7 +104,7 @@ reply_said setting w stamps me from now call reply sound books said sent = at_ca
         (known_grows (w.nodes me.0).known reply) new) from call reply sent
 
     at_call : (z : Option Coordinator) → (w.nodes me.0).calls call.seq ≡ z
-        → IsSaid setting (stepped w me (replied_at setting me now from (w.nodes me.0) call reply z))
+        → IsSaid setting (stepped setting w me (replied_at setting me now from (w.nodes me.0) call reply z))
     at_call None none = (
       stamps,
       said_known setting w stamps me (known_after (w.nodes me.0).known reply) books said
@@ -116,7 +117,7 @@ reply_said setting w stamps me from now call reply sound books said sent = at_ca
 -- a message is delivered
 message_said : (setting : Setting) (w : World) (stamps : Stamping) (me from : BrickId) (now : ℕ) (message : Message) → IsSound setting
     → Books setting w → Said setting w stamps → WasSent w (record { from = from; to = me; message = message })
-    → IsSaid setting (stepped w me (received setting me now (w.nodes me.0) (record { from = from; to = me; message = message })))
+    → IsSaid setting (stepped setting w me (received setting me now (w.nodes me.0) (record { from = from; to = me; message = message })))
 unfolding received
 message_said setting w stamps me from now (Message.Request call request) sound books said sent =
     (stamps, request_said setting w stamps me from call request books said sent)
@@ -136,7 +137,7 @@ absorbed_said setting w stamps me from to message books said sent = nothing_said
 -- the books do not change with the replies that count
 books_beside : (setting : Setting) (w : World) (replies : ℕ → ℕ → List Counted) → Books setting w → Books setting (record w { replies = replies })
 books_beside setting w replies books =
-    books_quiet setting w w.nodes w.clocks w.packets replies books (λ i. record { boot = refl; seq = refl; known = omega arith }) (λ i k. refl)
+    books_quiet setting w w.nodes w.held w.clocks w.packets replies books (λ i. record { boot = refl; seq = refl; known = omega arith }) (λ i k. refl)
 
 delivered_said : (setting : Setting) (w : World) (stamps : Stamping) (z : Option Packet) → IsSound setting → Books setting w → Said setting w stamps
     → ((packet : Packet) → z ≡ Some packet → WasSent w packet) → IsSaid setting (delivered setting w z)
@@ -144,7 +145,7 @@ delivered_said setting w stamps None sound books said sent = (stamps, said)
 delivered_said setting w stamps (Some packet) sound books said sent =
     let counted : World = record w { replies = replies_with setting w packet } in
     cond_both (is_up setting.layout w packet.to)
-    (stepped counted packet.to (received setting packet.to (w.clocks packet.to.0) (w.nodes packet.to.0) packet)) w
+    (stepped setting counted packet.to (received setting packet.to (w.clocks packet.to.0) (w.nodes packet.to.0) packet)) w
     (λ (next : World). IsSaid setting next)
     (λ is. message_said setting counted stamps packet.to packet.from (w.clocks packet.to.0) packet.message sound
     (books_beside setting w (replies_with setting w packet) books)
@@ -152,19 +153,30 @@ delivered_said setting w stamps (Some packet) sound books said sent =
     (sent packet refl))
     (λ isnt. (stamps, said))
 
--- a packet is handled, and its reply is lost before it is sent
-lost_said : (setting : Setting) (w : World) (stamps : Stamping) (z : Option Packet) → Books setting w → Said setting w stamps
-    → ((packet : Packet) → z ≡ Some packet → WasSent w packet) → IsSaid setting (world_absorbed setting w z)
-lost_said setting w stamps None books said sent = (stamps, said)
-lost_said setting w stamps (Some packet) books said sent =
-    let node : Node = absorbed setting packet.to (w.nodes packet.to.0) packet in
-    cond_both (is_up setting.layout w packet.to) (record w { nodes = put w.nodes packet.to.0 node }) w (λ (next : World). IsSaid setting next)
-    (λ up. (
-      stamps,
-      subst (λ (l : List Packet). Said setting (record w { nodes = put w.nodes packet.to.0 node; packets = l }) stamps) (append-nil w.packets)
-          (absorbed_said setting w stamps packet.to packet.from packet.to packet.message books said (sent packet refl)),
-    ))
-    (λ down. (stamps, said))
+-- what the store of a stopped brick may hold says what it should
+left_said : (setting : Setting) (w : World) (stamps : Stamping) (me : BrickId) (node : Node) → IsLeft setting w me.0 node → Books setting w
+    → Said setting w stamps → Said setting (quiet w me node []) stamps
+left_said setting w stamps me node left books said = ⊎_elim
+    (λ (same : node ≡ w.nodes me.0).
+    subst (λ (z : Node). Said setting (quiet w me z []) stamps) (sym same) (nothing_said setting w stamps me books said))
+    (λ (handled : (packet : Packet) × (packet.to ≡ me) × WasSent w packet × (node ≡ absorbed setting me (w.nodes me.0) packet)).
+    let packet : Packet = handled.0 in
+    subst (λ (z : Node). Said setting (quiet w me z []) stamps) (sym handled.3)
+    (absorbed_said setting w stamps me packet.from packet.to packet.message books said
+    (subst (λ (to : BrickId). WasSent w (record { from = packet.from; to = to; message = packet.message })) handled.1 handled.2)))
+    left
+
+-- so does the brick that starts with it
+found_said : (setting : Setting) (w : World) (stamps : Stamping) (me : BrickId) (found : Found) → w.up me.0 ≡ false → Leaves setting w → Books setting w
+    → Said setting w stamps → Said setting (world_found w me found) stamps
+found_said setting w stamps me Before down leaves books said = said
+found_said setting w stamps me After down leaves books said =
+    subst (λ (l : List Packet). Said setting (record w {
+      nodes = put w.nodes me.0 (w.after me.0);
+      held = with_held w.held me.0 (w.after me.0);
+      packets = l;
+    }) stamps) (append-nil w.packets)
+    (left_said setting w stamps me (w.after me.0) (leaves me.0 down) books said)
 
 -- a brick's clock ticks
 ticked_said : (setting : Setting) (w : World) (stamps : Stamping) (me : BrickId) → Books setting w → Said setting w stamps
@@ -179,13 +191,14 @@ ticked_said setting w stamps me books said =
     (get_grown w.packets more sent.0 packet sent.1))
 
 -- a brick stops
-stopped_said : (setting : Setting) (w : World) (stamps : Stamping) (me : BrickId) → Books setting w → Said setting w stamps
-    → Said setting (world_stopped w me) stamps
+stopped_said : (setting : Setting) (w : World) (stamps : Stamping) (me : BrickId) (during : Option ℕ) → Books setting w → Said setting w stamps
+    → Said setting (world_stopped setting w me during) stamps
 unfolding stopped
-stopped_said setting w stamps me books said =
+stopped_said setting w stamps me during books said =
     let crash : Mark = Crash (length w.marks) me in
     let longer : length (w.marks ++ (crash ∷ [])) ≡ length w.marks + 1 = length-append w.marks (crash ∷ []) in
-    said_idle setting w stamps me.0 (stopped (w.nodes me.0)) (put w.up me.0 false) w.past (w.marks ++ (crash ∷ [])) books said refl (λ k. refl)
+    said_idle setting w stamps me.0 (stopped (w.nodes me.0))
+    (put w.after me.0 (left_after setting me (w.nodes me.0) (packet_during w.packets during))) (put w.up me.0 false) w.past (w.marks ++ (crash ∷ [])) books said refl (λ k. refl)
     (ages_within (w.nodes me.0) (stopped (w.nodes me.0)) refl (omega arith) (omega arith)) (omega arith)
     (λ a. last_grows w.marks crash a (λ k mark at. let place = books.places k mark at in omega (arith, place)) refl)
     (λ k p n answer at. ⊎_elim
@@ -199,15 +212,10 @@ started_said : (setting : Setting) (w : World) (stamps : Stamping) (me : BrickId
     → 1 ≤ openings → Said setting (world_started w me openings) stamps
 unfolding restarted
 started_said setting w stamps me openings books said some =
-    said_idle setting w stamps me.0 (restarted openings (w.nodes me.0)) (put w.up me.0 true)
+    said_idle setting w stamps me.0 (restarted openings (w.nodes me.0)) w.after (put w.up me.0 true)
     (put w.past me.0 (put (w.past me.0) (w.nodes me.0).boot (w.nodes me.0).known)) w.marks books said refl (λ k. refl)
     (record { boot = omega arith; known = λ same. absurd (omega arith); seq = λ same. absurd (omega arith) }) (omega arith) (λ a. omega arith)
     (λ k p n answer at. at)
-
--- a packet of a number was sent
-pub packet_was_sent : (w : World) (number : ℕ) (packet : Packet) → packet_of w.packets number ≡ Some packet → WasSent w packet
-packet_was_sent w zero packet is = cc
-packet_was_sent w (suc k) packet is = (k, is)
 
 -- an operation is invoked
 invoked_said : (setting : Setting) (w : World) (stamps : Stamping) (me : BrickId) (ask : Ask) → Books setting w → Said setting w stamps
@@ -219,34 +227,38 @@ invoked_said setting w stamps me ask books said may =
     (said_began setting w stamps me ask fits.group books said fits.group_is fits.is_stripe_op)
 
 -- every event keeps the invariant
-pub said_happens : (setting : Setting) (w : World) (event : Event) → IsSound setting → Books setting w → IsSaid setting w
+pub said_happens : (setting : Setting) (w : World) (event : Event) → IsSound setting → Leaves setting w → Books setting w → IsSaid setting w
     → IsSaid setting (happens setting w event)
 unfolding happens
-said_happens setting w (Invokes brick ask) sound books said =
+said_happens setting w (Invokes brick ask) sound leaves books said =
     cond_both (may_begin setting w brick ask) (world_began w brick ask (invoked setting brick (w.clocks brick.0) (w.nodes brick.0) ask)) w
     (λ (next : World). IsSaid setting next)
     (λ may. invoked_said setting w said.0 brick ask books said.1 may)
     (λ isnt. said)
-said_happens setting w (Delivers number) sound books said =
+said_happens setting w (Delivers number) sound leaves books said =
     delivered_said setting w said.0 (packet_of w.packets number) sound books said.1 (packet_was_sent w number)
-said_happens setting w (Sets brick time) sound books said =
+said_happens setting w (Sets brick time) sound leaves books said =
     cond_both (is_brick setting.layout brick) (record w { clocks = put w.clocks brick.0 time }) w (λ (next : World). IsSaid setting next)
     (λ is. (said.0, said_beside setting w said.0 (put w.clocks brick.0 time) w.replies books said.1))
     (λ isnt. said)
-said_happens setting w (Ticks brick) sound books said =
+said_happens setting w (Ticks brick) sound leaves books said =
     cond_both (is_up setting.layout w brick) (world_ticked setting w brick) w (λ (next : World). IsSaid setting next)
     (λ up. (said.0, ticked_said setting w said.0 brick books said.1))
     (λ down. said)
-said_happens setting w (Crashes brick) sound books said =
-    cond_both (is_up setting.layout w brick) (world_stopped w brick) w (λ (next : World). IsSaid setting next)
-    (λ up. (said.0, stopped_said setting w said.0 brick books said.1))
+said_happens setting w (Stops brick during) sound leaves books said =
+    cond_both (is_up setting.layout w brick) (world_stopped setting w brick during) w (λ (next : World). IsSaid setting next)
+    (λ up. (said.0, stopped_said setting w said.0 brick during books said.1))
     (λ down. said)
-said_happens setting w (Starts brick openings) sound books said =
-    cond_both (may_start setting.layout w brick openings) (world_started w brick openings) w (λ (next : World). IsSaid setting next)
-    (λ may. (said.0, started_said setting w said.0 brick openings books said.1 (start_fits setting w brick openings may).1))
+said_happens setting w (Starts brick openings found) sound leaves books said =
+    cond_both (may_start setting.layout w brick openings) (world_started (world_found w brick found) brick openings) w
+    (λ (next : World). IsSaid setting next)
+    (λ may.
+    let fits = start_fits setting w brick openings may in (
+      said.0,
+      started_said setting (world_found w brick found) said.0 brick openings (books_found setting w brick found fits.0 leaves books)
+          (found_said setting w said.0 brick found fits.0 leaves books said.1) fits.1,
+    ))
     (λ cannot. said)
-said_happens setting w (Absorbs number) sound books said =
-    lost_said setting w said.0 (packet_of w.packets number) books said.1 (packet_was_sent w number)
 
 -- the first world
 first_top : (block : ℕ) → top_of (first_replica block) ≡ first_stamp
@@ -281,8 +293,9 @@ said_first setting sound = (
 )
 
 -- every run keeps the invariant
-pub said_run : (setting : Setting) (events : List Event) (w : World) → IsSound setting → ((more : List Event) → Books setting (run setting more w))
-    → IsSaid setting w → IsSaid setting (run setting events w)
-said_run setting [] w sound books said = said
-said_run setting (event ∷ events) w sound books said =
-    said_run setting events (happens setting w event) sound (λ more. books (event ∷ more)) (said_happens setting w event sound (books []) said)
+pub said_run : (setting : Setting) (events : List Event) (w : World) → IsSound setting → Leaves setting w
+    → ((more : List Event) → Books setting (run setting more w)) → IsSaid setting w → IsSaid setting (run setting events w)
+said_run setting [] w sound leaves books said = said
+said_run setting (event ∷ events) w sound leaves books said =
+    said_run setting events (happens setting w event) sound (leaves_happens setting w event leaves) (λ more. books (event ∷ more))
+    (said_happens setting w event sound leaves (books []) said)

@@ -20,9 +20,8 @@ use Rattle.protocol.specs.Settings.{Setting}
 use Rattle.protocol.specs.Replicas.{Replica, top_of, is_held}
 use Rattle.protocol.specs.declared.phases.Counted.{Counted}
 use Rattle.protocol.specs.Coordinators.{Coordinator, request_of}
-use Rattle.protocol.specs.declared.tellings.Told.TheVariants.{Nothing}
 use Rattle.protocol.specs.Nodes.{Node, put, to_members, phase_packets}
-use Rattle.protocol.specs.Worlds.{World, Operation, world_stepped}
+use Rattle.protocol.specs.Worlds.{World, Operation, with_held}
 use Rattle.protocol_laws.specs.Laws.{WasSent, part_of}
 use Rattle.protocol_laws.proofs.Books.{Books, IsOperation, IsCall}
 use Rattle.protocol_laws.proofs.Logs.{LogAscends}
@@ -177,7 +176,8 @@ calls_by setting w next stamps later me node nodes boot k c own others i =
 
 -- the world after a brick's step that is told of no operation
 abbrev pub quiet : World → BrickId → Node → List Packet → World
-quiet w me node more = world_stepped w me (record { node = node; packets = more; told = Nothing }) Nothing
+quiet w me node more =
+    record w { nodes = put w.nodes me.0 node; held = with_held w.held me.0 node; packets = w.packets ++ more }
 
 pub quiet_grows : (w : World) (stamps later : Stamping) (me : BrickId) (node : Node) (more : List Packet) → StampsGrow stamps later
     → KeepsParts (w.nodes me.0) node → Grows w (quiet w me node more) stamps later
@@ -301,13 +301,14 @@ said_beside setting w stamps clocks replies books said =
 
 -- a brick that has no operation open any more, as it stopped or was started again, changes nothing of what is said, where no operation's
 -- last position comes forward
-pub said_idle : (setting : Setting) (w : World) (stamps : Stamping) (me : ℕ) (node : Node) (up : ℕ → Bool) (past : ℕ → ℕ → ℕ) (marks : List Mark)
+pub said_idle : (setting : Setting) (w : World) (stamps : Stamping) (me : ℕ) (node : Node) (after : ℕ → Node) (up : ℕ → Bool) (past : ℕ → ℕ → ℕ)
+    (marks : List Mark)
     → Books setting w → Said setting w stamps → node.replicas ≡ (w.nodes me).replicas → ((k : ℕ) → node.calls k ≡ None) → Ages (w.nodes me) node
     → length w.marks ≤ length marks → ((a : ℕ) → last_of (life_of w.marks a) ≤ last_of (life_of marks a))
     → ((k p n : ℕ) (answer : Answer) → slice_get marks k ≡ Some (End p n answer) → slice_get w.marks k ≡ Some (End p n answer))
-    → Said setting (record w { nodes = put w.nodes me node; up = up; past = past; marks = marks }) stamps
-said_idle setting w stamps me node up past marks books said same none ages longer lasts ends =
-    let next : World = record w { nodes = put w.nodes me node; up = up; past = past; marks = marks } in
+    → Said setting (record w { nodes = put w.nodes me node; after = after; up = up; past = past; marks = marks }) stamps
+said_idle setting w stamps me node after up past marks books said same none ages longer lasts ends =
+    let next : World = record w { nodes = put w.nodes me node; after = after; up = up; past = past; marks = marks } in
     said_after setting w next stamps stamps books said
     (record {
       parts = parts_by w next me node refl (keeps_same (w.nodes me) node same);

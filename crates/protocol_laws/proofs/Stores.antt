@@ -19,7 +19,7 @@ use Rattle.protocol.specs.declared.phases.Phase.TheVariants.{Stores}
 use Rattle.protocol.specs.Coordinators.{Coordinator, next_phase, stored_by, request_of}
 use Rattle.protocol.specs.declared.tellings.Told.TheVariants.{Made}
 use Rattle.protocol.specs.Nodes.{Node, put, has_length, with_call, phase_packets}
-use Rattle.protocol.specs.Worlds.{World, Operation, number_of, world_stepped, with_made, with_content}
+use Rattle.protocol.specs.Worlds.{World, Operation, number_of, world_stepped, with_made, with_content, with_held, content_on, content_by}
 use Rattle.protocol_laws.specs.Laws.{IsGuarded}
 use Rattle.protocol_laws.proofs.Books.{Books, OperationBooks, CallBooks, IsOperation, IsCall}
 use Rattle.protocol_laws.proofs.Said.{Begun, Stamping, Said, IsSaid, StampsSay, IsStampOf, IsBegun, IsStamped, AreBlocked, IsContent, IsMadeOrFirst, FloorsAtMost, WriteSays, PacketSays, HasVersion, WritesWhole, ReadsBack, OperationSays, CallSays}
@@ -117,8 +117,12 @@ module _ (setting : Setting) (sound : IsSound setting) (w : World) (stamps : Sta
   abbrev more : List Packet
   more = phase_packets setting group me d
 
+  -- what its version is given as content
+  abbrev given : List ℕ
+  given = content_on setting.layout.block (w.contents c.ask.group.0 c.ask.stripe.0) c.ask.op base
+
   abbrev contents : ℕ → ℕ → Stamp → List ℕ
-  contents = with_content w.contents c.stamp (Some d)
+  contents = content_by setting.layout.block w.contents c.stamp base c.ask
 
   abbrev begun : Begun
   begun = record { stamp = c.stamp; phase = Stores }
@@ -131,11 +135,12 @@ module _ (setting : Setting) (sound : IsSound setting) (w : World) (stamps : Sta
   next = operated w me node more w.marks n made contents
 
   -- the world that the step makes
-  next_is : world_stepped w me (record { node = node; packets = more; told = Made c.call.seq c.stamp base }) (Made c.call.seq c.stamp base) ≡ next
+  next_is : world_stepped setting w me (record { node = node; packets = more; told = Made c.call.seq c.stamp base }) (Made c.call.seq c.stamp base) ≡ next
   next_is =
       ap (λ (x : Option Operation).
       record {
         nodes = put w.nodes me.0 node;
+        after = w.after;
         up = w.up;
         clocks = w.clocks;
         packets = w.packets ++ more;
@@ -144,13 +149,15 @@ module _ (setting : Setting) (sound : IsSound setting) (w : World) (stamps : Sta
         operations = put w.operations n (with_made c.stamp base x);
         numbers = w.numbers;
         past = w.past;
-        contents = with_content w.contents c.stamp (node.calls c.call.seq);
+        contents = with_content setting.layout.block w.contents c.stamp base x;
+        held = with_held w.held me.0 node;
         replies = w.replies;
       })
       its.operation_is
-      ∙ ap (λ (x : Option Coordinator).
+      ∙ ap (λ (a : Ask).
       record {
         nodes = put w.nodes me.0 node;
+        after = w.after;
         up = w.up;
         clocks = w.clocks;
         packets = w.packets ++ more;
@@ -159,10 +166,11 @@ module _ (setting : Setting) (sound : IsSound setting) (w : World) (stamps : Sta
         operations = put w.operations n (Some made);
         numbers = w.numbers;
         past = w.past;
-        contents = with_content w.contents c.stamp x;
+        contents = content_by setting.layout.block w.contents c.stamp base a;
+        held = with_held w.held me.0 node;
         replies = w.replies;
       })
-      (put_same (w.nodes me.0).calls c.call.seq (Some d))
+      (sym its.ask)
 
   says : CallSays setting w stamps me.0 c.call.seq c
   says = said.calls me.0 c.call.seq c is
@@ -215,11 +223,11 @@ module _ (setting : Setting) (sound : IsSound setting) (w : World) (stamps : Sta
     kept : (g s : ℕ) (u : Stamp) → IsMadeOrFirst w g s u → contents g s u ≡ w.contents g s u
     kept =
         put_each (λ h row. (r : ℕ) (u : Stamp) → IsMadeOrFirst w h r u → row r u ≡ w.contents h r u) w.contents c.ask.group.0
-        (put (w.contents c.ask.group.0) c.ask.stripe.0 (λ u. cond (stamp_same u c.stamp) stored (w.contents c.ask.group.0 c.ask.stripe.0 u)))
+        (put (w.contents c.ask.group.0) c.ask.stripe.0 (λ u. cond (stamp_same u c.stamp) given (w.contents c.ask.group.0 c.ask.stripe.0 u)))
         (put_each (λ r cell. (u : Stamp) → IsMadeOrFirst w c.ask.group.0 r u → cell u ≡ w.contents c.ask.group.0 r u)
         (w.contents c.ask.group.0) c.ask.stripe.0
-        (λ u. cond (stamp_same u c.stamp) stored (w.contents c.ask.group.0 c.ask.stripe.0 u))
-        (λ u is_made. cond_both (stamp_same u c.stamp) stored (w.contents c.ask.group.0 c.ask.stripe.0 u)
+        (λ u. cond (stamp_same u c.stamp) given (w.contents c.ask.group.0 c.ask.stripe.0 u))
+        (λ u is_made. cond_both (stamp_same u c.stamp) given (w.contents c.ask.group.0 c.ask.stripe.0 u)
         (λ (z : List ℕ). z ≡ w.contents c.ask.group.0 c.ask.stripe.0 u)
         (λ same. absurd (not_yet c.ask.group.0 c.ask.stripe.0 u (stamp_same_true u c.stamp same) is_made))
         (λ other. refl))
@@ -227,14 +235,14 @@ module _ (setting : Setting) (sound : IsSound setting) (w : World) (stamps : Sta
         (λ h other r u is_made. refl)
 
     -- the content of its version
-    content_now : contents c.ask.group.0 c.ask.stripe.0 c.stamp ≡ stored
-    content_now =
+    given_now : contents c.ask.group.0 c.ask.stripe.0 c.stamp ≡ given
+    given_now =
         ap (λ row. row c.ask.stripe.0 c.stamp)
         (put_same w.contents c.ask.group.0
-        (put (w.contents c.ask.group.0) c.ask.stripe.0 (λ u. cond (stamp_same u c.stamp) stored (w.contents c.ask.group.0 c.ask.stripe.0 u))))
+        (put (w.contents c.ask.group.0) c.ask.stripe.0 (λ u. cond (stamp_same u c.stamp) given (w.contents c.ask.group.0 c.ask.stripe.0 u))))
         ∙ ap (λ cell. cell c.stamp)
-        (put_same (w.contents c.ask.group.0) c.ask.stripe.0 (λ u. cond (stamp_same u c.stamp) stored (w.contents c.ask.group.0 c.ask.stripe.0 u)))
-        ∙ cond-true (stamp_same c.stamp c.stamp) stored (w.contents c.ask.group.0 c.ask.stripe.0 c.stamp) (stamp_same_refl c.stamp)
+        (put_same (w.contents c.ask.group.0) c.ask.stripe.0 (λ u. cond (stamp_same u c.stamp) given (w.contents c.ask.group.0 c.ask.stripe.0 u)))
+        ∙ cond-true (stamp_same c.stamp c.stamp) given (w.contents c.ask.group.0 c.ask.stripe.0 c.stamp) (stamp_same_refl c.stamp)
 
     keeps : OperatedKeeps w me node w.marks n o made contents
     keeps = record {
@@ -267,6 +275,20 @@ module _ (setting : Setting) (sound : IsSound setting) (w : World) (stamps : Sta
 
     module _ (guarded : IsGuarded w c.ask.group.0 c.ask.stripe.0 group c.stamp) (floors : FloorsAtMost o group c.stamp)
         (makes : MakesVersion setting w c group base content) where
+      -- it stores just that
+      given_is : MakesVersion setting w c group base content → given ≡ stored
+      given_is (inl whole) =
+          ap (λ (op : Op). content_on setting.layout.block (w.contents c.ask.group.0 c.ask.stripe.0) op base) whole.1.1
+          ∙ ap (λ (z : Option Stamp). content_on setting.layout.block (w.contents c.ask.group.0 c.ask.stripe.0) (WriteStripe whole.1.0) z) whole.0
+          ∙ sym (ap (λ (op : Op). stored_by op content) whole.1.1)
+      given_is (inr back) =
+          ap (λ (op : Op). content_on setting.layout.block (w.contents c.ask.group.0 c.ask.stripe.0) op base) back.op
+          ∙ ap (λ (z : Option Stamp). content_on setting.layout.block (w.contents c.ask.group.0 c.ask.stripe.0) ReadStripe z) back.base_is
+          ∙ sym back.content_is ∙ sym (ap (λ (op : Op). stored_by op content) back.op)
+
+      content_now : contents c.ask.group.0 c.ask.stripe.0 c.stamp ≡ stored
+      content_now = given_now ∙ given_is makes
+
       guarded_by : (other : Group) → group_of setting.layout c.ask.group.0 ≡ Some other → IsGuarded next c.ask.group.0 c.ask.stripe.0 other c.stamp
       guarded_by other other_is =
           stays_guarded setting w next stamps later books grows c.ask.group.0 c.ask.stripe.0 other c.stamp
@@ -437,7 +459,7 @@ module _ (setting : Setting) (sound : IsSound setting) (w : World) (stamps : Sta
 
       -- the invariant holds when a version was made
       pub said_made : IsSaid setting
-          (world_stepped w me (record { node = node; packets = more; told = Made c.call.seq c.stamp base }) (Made c.call.seq c.stamp base))
+          (world_stepped setting w me (record { node = node; packets = more; told = Made c.call.seq c.stamp base }) (Made c.call.seq c.stamp base))
       said_made =
           subst (λ (z : World). IsSaid setting z) (sym next_is) (
             later,

@@ -319,7 +319,7 @@ module _ (setting : Setting) (group : Group) (w : World) (me : BrickId) (now kno
   -- the world after what the coordinator decides
   abbrev after : Next → World
   after next =
-      world_stepped (record w {
+      world_stepped setting (record w {
         replies = with_counted w.replies (number_of w me.0 c.call.seq) c.call.phase
             (record { seat = seat; brick = from; reply = reply });
       }) me

@@ -1,5 +1,5 @@
 -- Every event keeps the history of replies.
-use Rattle.std.proofs.Common.{◌≡◌, ◌≢◌, ℕ, ◌+◌, ◌≤◌, ◌⊎◌, inl, inr, ⊎_elim, true, false, ◌&&◌, ap, Option, Some, None, List, [], ◌∷◌, ◌++◌, length, refl, sym, ◌∙◌, subst, arith}
+use Rattle.std.proofs.Common.{◌≡◌, ◌≢◌, ℕ, ◌+◌, ◌≤◌, ◌⊎◌, inl, inr, ⊎_elim, true, false, ◌&&◌, ap, Option, Some, None, List, [], ◌∷◌, ◌++◌, length, refl, sym, ◌∙◌, subst, arith, Bool}
 use Rattle.std.specs.Prelude.{slice_get}
 use Rattle.std.proofs.lemmas.Bool.{cond_both, cases_eq}
 use Rattle.std.proofs.lemmas.Option.{same_Some}
@@ -21,18 +21,19 @@ use Rattle.protocol.specs.Settings.{Setting, IsSound}
 use Rattle.protocol.specs.Replicas.{handle}
 use Rattle.protocol.specs.Coordinators.{Coordinator, with_reply, once_full, counted_at, counts_at, on_reply}
 use Rattle.protocol.specs.declared.tellings.Told.TheVariants.{Nothing}
-use Rattle.protocol.specs.Nodes.{Node, NodeStep, is_served, fits_block, absorbed, ticked, new_coordinator, put, no_step, fresh_stamp, began_in, began, invoked, with_replica, replica_at, full_at, reply_packets, requested_at, requested_in, requested, known_after, with_known, carried_out, replied_to, replied_at, replied, received}
-use Rattle.protocol.specs.Worlds.{World, Event, Invokes, Delivers, Sets, Ticks, Crashes, Starts, Absorbs, first_world, is_brick, is_up, may_begin, may_start, number_of, world_absorbed, world_stopped, world_started, world_began, counted_after, replies_in, replies_at, replies_with, delivered, packet_of, happens, run}
+use Rattle.protocol.specs.Nodes.{Node, NodeStep, is_served, fits_block, ticked, new_coordinator, put, no_step, fresh_stamp, began_in, began, invoked, with_replica, replica_at, full_at, reply_packets, requested_at, requested_in, requested, known_after, with_known, carried_out, replied_to, replied_at, replied, received}
+use Rattle.protocol.specs.Worlds.{World, Found, Before, After, Event, Invokes, Delivers, Sets, Ticks, Stops, Starts, first_world, is_brick, is_up, may_begin, may_start, number_of, world_stopped, world_found, world_started, world_began, counted_after, replies_in, replies_at, replies_with, delivered, packet_of, happens, run, with_held}
 use Rattle.protocol_laws.specs.Laws.{WasSent}
 use Rattle.protocol_laws.proofs.Books.{Books, IsCall}
+use Rattle.protocol_laws.proofs.Left.{Leaves, always_leaves, leaves_happens, found_down, packet_was_sent}
 use Rattle.protocol_laws.proofs.BooksKept.{KeepsNumbers, cases_call}
 use Rattle.protocol_laws.proofs.BooksQuiet.{quiet_world, started_calls, unstarted, started_known}
 use Rattle.protocol_laws.proofs.BooksEnds.{stopped_keeps, stopped_calls, unstopped_calls}
 use Rattle.protocol_laws.proofs.BooksBegins.{call_is, other_calls, same_boots, call_number, other_number, other_operations, knows}
-use Rattle.protocol_laws.proofs.BooksEvents.{keeps_put, stepped, known_grows, BeginFits, begin_fits, begin_up, KeepsCalls, absorbed_keeps, start_fits}
+use Rattle.protocol_laws.proofs.BooksEvents.{keeps_put, stepped, known_grows, BeginFits, begin_fits, begin_up, KeepsCalls, found_keeps, books_found, start_fits}
 use Rattle.protocol_laws.proofs.Outcomes.{first_round_above, once_full_fits}
 use Rattle.protocol_laws.proofs.Said.{Stamping, Said, IsSaid, IsRecovery, CountedSays}
-use Rattle.protocol_laws.proofs.SaidAlways.{packet_was_sent, said_first, said_run}
+use Rattle.protocol_laws.proofs.SaidAlways.{said_first, said_run}
 use Rattle.protocol_laws.proofs.OwnStamps.{order_or_write, order_or_descent, stores_asked, descends_asked}
 use Rattle.protocol_laws.proofs.Counting.{each_then}
 use Rattle.protocol.proofs.CountsAt.{CountsAt, counts_facts}
@@ -42,16 +43,16 @@ use Rattle.protocol_laws.proofs.TalliesKept.{call_tallied_on, known_kept, tallie
 use Rattle.protocol_laws.proofs.TalliesCounts.{tallied_counted}
 
 -- a step that changes no operation
-tallied_quiet : (setting : Setting) (w : World) (nodes : ℕ → Node) (clocks : ℕ → ℕ) (packets : List Packet) → Books setting w → Tallied w
-    → MessagesShow (quiet_world w nodes clocks packets w.replies) → ((i : ℕ) → KeepsNumbers (w.nodes i) (nodes i))
+tallied_quiet : (setting : Setting) (w : World) (nodes : ℕ → Node) (held : ℕ → ℕ → ℕ → Stamp → Bool) (clocks : ℕ → ℕ) (packets : List Packet) → Books setting w → Tallied w
+    → MessagesShow (quiet_world w nodes held clocks packets w.replies) → ((i : ℕ) → KeepsNumbers (w.nodes i) (nodes i))
     → ((i k : ℕ) → (nodes i).calls k ≡ (w.nodes i).calls k)
-    → ((packet : Packet) → WasSent w packet → WasSent (quiet_world w nodes clocks packets w.replies) packet)
-    → Tallied (quiet_world w nodes clocks packets w.replies)
-tallied_quiet setting w nodes clocks packets books tallied shows keeps calls sent =
-    tallied_on setting w (quiet_world w nodes clocks packets w.replies) books tallied shows
+    → ((packet : Packet) → WasSent w packet → WasSent (quiet_world w nodes held clocks packets w.replies) packet)
+    → Tallied (quiet_world w nodes held clocks packets w.replies)
+tallied_quiet setting w nodes held clocks packets books tallied shows keeps calls sent =
+    tallied_on setting w (quiet_world w nodes held clocks packets w.replies) books tallied shows
     (record {
       sent = sent;
-      known = known_kept w (quiet_world w nodes clocks packets w.replies) (λ i b. refl) (λ i. (keeps i).boot) (λ i. (keeps i).known);
+      known = known_kept w (quiet_world w nodes held clocks packets w.replies) (λ i b. refl) (λ i. (keeps i).boot) (λ i. (keeps i).known);
       operations = λ n o is. (o, is, refl, refl, refl);
       replies = λ n. inl (λ p. refl);
     })
@@ -60,66 +61,66 @@ tallied_quiet setting w nodes clocks packets books tallied shows keeps calls sen
     tallied.unbegun (λ n phase k x is. inl is) (λ k p n cause is. inl is)
 
 tallied_nothing : (setting : Setting) (w : World) (me : BrickId) (node : Node) (packets : List Packet) → Books setting w → Tallied w
-    → MessagesShow (stepped w w.replies me (record { node = node; packets = packets; told = Nothing })) → KeepsNumbers (w.nodes me.0) node
-    → ((l : ℕ) → node.calls l ≡ (w.nodes me.0).calls l) → Tallied (stepped w w.replies me (record { node = node; packets = packets; told = Nothing }))
+    → MessagesShow (stepped setting w w.replies me (record { node = node; packets = packets; told = Nothing })) → KeepsNumbers (w.nodes me.0) node
+    → ((l : ℕ) → node.calls l ≡ (w.nodes me.0).calls l) → Tallied (stepped setting w w.replies me (record { node = node; packets = packets; told = Nothing }))
 tallied_nothing setting w me node packets books tallied shows keeps calls =
-    tallied_quiet setting w (put w.nodes me.0 node) w.clocks (w.packets ++ packets) books tallied shows (keeps_put w me.0 node keeps)
+    tallied_quiet setting w (put w.nodes me.0 node) (with_held w.held me.0 node) w.clocks (w.packets ++ packets) books tallied shows (keeps_put w me.0 node keeps)
     (λ j l. put_each (λ (x : ℕ) (y : Node). y.calls l ≡ (w.nodes x).calls l) w.nodes me.0 node (calls l) (λ x other. refl) j)
     (λ packet sent. (sent.0, get_kept w.packets packets sent.0 packet sent.1))
 
 tallied_no_step : (setting : Setting) (w : World) (me : BrickId) → Books setting w → Tallied w
-    → MessagesShow (stepped w w.replies me (no_step (w.nodes me.0))) → Tallied (stepped w w.replies me (no_step (w.nodes me.0)))
+    → MessagesShow (stepped setting w w.replies me (no_step (w.nodes me.0))) → Tallied (stepped setting w w.replies me (no_step (w.nodes me.0)))
 tallied_no_step setting w me books tallied shows =
     tallied_nothing setting w me (w.nodes me.0) [] books tallied shows (record { boot = refl; seq = refl; known = omega arith }) (λ l. refl)
 
 -- a brick learns of a time
 tallied_known : (setting : Setting) (w : World) (me : BrickId) (known : ℕ) → Books setting w → Tallied w → (w.nodes me.0).known ≤ known
-    → MessagesShow (stepped w w.replies me (no_step (with_known (w.nodes me.0) known)))
-    → Tallied (stepped w w.replies me (no_step (with_known (w.nodes me.0) known)))
+    → MessagesShow (stepped setting w w.replies me (no_step (with_known (w.nodes me.0) known)))
+    → Tallied (stepped setting w w.replies me (no_step (with_known (w.nodes me.0) known)))
 tallied_known setting w me known books tallied grows shows =
     tallied_nothing setting w me (with_known (w.nodes me.0) known) [] books tallied shows (record { boot = refl; seq = refl; known = grows })
     (λ l. refl)
 
 -- a request
 tallied_requested : (setting : Setting) (w : World) (me from : BrickId) (call : Call) (request : Request) → Books setting w → Tallied w
-    → MessagesShow (stepped w w.replies me (requested setting me from (w.nodes me.0) call request))
-    → Tallied (stepped w w.replies me (requested setting me from (w.nodes me.0) call request))
+    → MessagesShow (stepped setting w w.replies me (requested setting me from (w.nodes me.0) call request))
+    → Tallied (stepped setting w w.replies me (requested setting me from (w.nodes me.0) call request))
 unfolding requested
 tallied_requested setting w me from call request books tallied = in_group (group_of setting.layout call.group.0)
   where
-    at_seat : (z : Option ℕ) → MessagesShow (stepped w w.replies me (requested_at setting.layout.records me from (w.nodes me.0) call request z))
-        → Tallied (stepped w w.replies me (requested_at setting.layout.records me from (w.nodes me.0) call request z))
+    at_seat : (z : Option ℕ) → MessagesShow (stepped setting w w.replies me (requested_at setting.layout.records me from (w.nodes me.0) call request z))
+        → Tallied (stepped setting w w.replies me (requested_at setting.layout.records me from (w.nodes me.0) call request z))
     at_seat None shows = tallied_no_step setting w me books tallied shows
     at_seat (Some seat) shows =
         let reaction = handle (full_at setting.layout.records (w.nodes me.0)) seat (replica_at (w.nodes me.0) call) request in
         tallied_nothing setting w me (with_replica (w.nodes me.0) call reaction) (reply_packets me from call reaction.reply) books tallied shows
         (record { boot = refl; seq = refl; known = omega arith }) (λ l. refl)
 
-    in_group : (z : Option Group) → MessagesShow (stepped w w.replies me (requested_in setting.layout me from (w.nodes me.0) call request z))
-        → Tallied (stepped w w.replies me (requested_in setting.layout me from (w.nodes me.0) call request z))
+    in_group : (z : Option Group) → MessagesShow (stepped setting w w.replies me (requested_in setting.layout me from (w.nodes me.0) call request z))
+        → Tallied (stepped setting w w.replies me (requested_in setting.layout me from (w.nodes me.0) call request z))
     in_group None shows = tallied_no_step setting w me books tallied shows
     in_group (Some group) shows =
         cond_both (is_served group call && fits_block setting.layout.block request) _ _
-        (λ (step : NodeStep). MessagesShow (stepped w w.replies me step) → Tallied (stepped w w.replies me step))
+        (λ (step : NodeStep). MessagesShow (stepped setting w w.replies me step) → Tallied (stepped setting w w.replies me step))
         (λ is. at_seat (seat_in group.members me.0)) (λ isnt. tallied_no_step setting w me books tallied) shows
 
 -- a reply
 tallied_replied : (setting : Setting) (w : World) (me : BrickId) (now : ℕ) (from : BrickId) (call : Call) (reply : Reply) → Books setting w
     → Tallied w
     → MessagesShow w → WasSent w (record { from = from; to = me; message = Message.Reply call reply })
-    → MessagesShow (stepped w (replies_at setting w me from call reply ((w.nodes me.0).calls call.seq)) me
+    → MessagesShow (stepped setting w (replies_at setting w me from call reply ((w.nodes me.0).calls call.seq)) me
     (replied setting me now from (w.nodes me.0) call reply))
-    → Tallied (stepped w (replies_at setting w me from call reply ((w.nodes me.0).calls call.seq)) me
+    → Tallied (stepped setting w (replies_at setting w me from call reply ((w.nodes me.0).calls call.seq)) me
     (replied setting me now from (w.nodes me.0) call reply))
 unfolding replied on_reply
 tallied_replied setting w me now from call reply books tallied shows sent = at_call ((w.nodes me.0).calls call.seq) refl
   where
     at_seat : (c : Coordinator) (group : Group) → IsCall w me.0 call.seq c → (z : Option ℕ)
         → counts_at setting.layout.block group c from.0 call reply ≡ z
-        → MessagesShow (stepped w (counted_after w.replies (number_of w me.0 call.seq) from call reply z) me
+        → MessagesShow (stepped setting w (counted_after w.replies (number_of w me.0 call.seq) from call reply z) me
         (carried_out setting group me (w.nodes me.0) (known_after (w.nodes me.0).known reply) c
         (counted_at setting.code group (fresh_stamp me now (w.nodes me.0).boot (known_after (w.nodes me.0).known reply)) c from reply z)))
-        → Tallied (stepped w (counted_after w.replies (number_of w me.0 call.seq) from call reply z) me
+        → Tallied (stepped setting w (counted_after w.replies (number_of w me.0 call.seq) from call reply z) me
         (carried_out setting group me (w.nodes me.0) (known_after (w.nodes me.0).known reply) c
         (counted_at setting.code group (fresh_stamp me now (w.nodes me.0).boot (known_after (w.nodes me.0).known reply)) c from reply z)))
     at_seat c group is None none later =
@@ -128,7 +129,7 @@ tallied_replied setting w me now from call reply books tallied shows sent = at_c
         let facts : CountsAt setting.layout.block group c from.0 call reply seat = counts_facts setting.layout.block group c from.0 call reply seat counts in
         let time : ℕ = known_after (w.nodes me.0).known reply in
         let fresh : Option Stamp = fresh_stamp me now (w.nodes me.0).boot time in
-        let after : Call → World = λ k. stepped w (counted_after w.replies (number_of w me.0 k.seq) from k reply (Some seat)) me
+        let after : Call → World = λ k. stepped setting w (counted_after w.replies (number_of w me.0 k.seq) from k reply (Some seat)) me
         (carried_out setting group me (w.nodes me.0) time c (once_full setting.code group fresh (with_reply c seat from reply))) in
         subst (λ (k : Call). MessagesShow (after k) → Tallied (after k)) (sym facts.call_is)
         (tallied_counted setting group w me now time c from reply seat books tallied shows
@@ -139,14 +140,14 @@ tallied_replied setting w me now from call reply books tallied shows sent = at_c
         later
 
     in_group : (c : Coordinator) → IsCall w me.0 call.seq c → (z : Option Group)
-        → MessagesShow (stepped w (replies_in setting w me from call reply c z) me (replied_to setting me now from (w.nodes me.0) call reply c z))
-        → Tallied (stepped w (replies_in setting w me from call reply c z) me (replied_to setting me now from (w.nodes me.0) call reply c z))
+        → MessagesShow (stepped setting w (replies_in setting w me from call reply c z) me (replied_to setting me now from (w.nodes me.0) call reply c z))
+        → Tallied (stepped setting w (replies_in setting w me from call reply c z) me (replied_to setting me now from (w.nodes me.0) call reply c z))
     in_group c is None later = tallied_no_step setting w me books tallied later
     in_group c is (Some group) later = at_seat c group is (counts_at setting.layout.block group c from.0 call reply) refl later
 
     at_call : (z : Option Coordinator) → (w.nodes me.0).calls call.seq ≡ z
-        → MessagesShow (stepped w (replies_at setting w me from call reply z) me (replied_at setting me now from (w.nodes me.0) call reply z))
-        → Tallied (stepped w (replies_at setting w me from call reply z) me (replied_at setting me now from (w.nodes me.0) call reply z))
+        → MessagesShow (stepped setting w (replies_at setting w me from call reply z) me (replied_at setting me now from (w.nodes me.0) call reply z))
+        → Tallied (stepped setting w (replies_at setting w me from call reply z) me (replied_at setting me now from (w.nodes me.0) call reply z))
     at_call None none later =
         tallied_known setting w me (known_after (w.nodes me.0).known reply) books tallied (known_grows (w.nodes me.0).known reply) later
     at_call (Some c) is later = in_group c is (group_of setting.layout c.ask.group.0) later
@@ -155,8 +156,8 @@ tallied_replied setting w me now from call reply books tallied shows sent = at_c
 tallied_received : (setting : Setting) (w : World) (now : ℕ) (from to : BrickId) (message : Message) → Books setting w → Tallied w → MessagesShow w
     → WasSent w (record { from = from; to = to; message = message })
     → (let packet : Packet = record { from = from; to = to; message = message } in
-    MessagesShow (stepped w (replies_with setting w packet) to (received setting to now (w.nodes to.0) packet))
-    → Tallied (stepped w (replies_with setting w packet) to (received setting to now (w.nodes to.0) packet)))
+    MessagesShow (stepped setting w (replies_with setting w packet) to (received setting to now (w.nodes to.0) packet))
+    → Tallied (stepped setting w (replies_with setting w packet) to (received setting to now (w.nodes to.0) packet)))
 unfolding received
 tallied_received setting w now from to (Message.Request call request) books tallied shows sent =
     tallied_requested setting w to from call request books tallied
@@ -244,11 +245,11 @@ tallied_invoked setting w brick now ask books tallied may =
     (tallied_began setting w brick now ask fits (begin_up setting w brick ask may) books tallied)
 
 -- a brick stops
-tallied_stopped : (setting : Setting) (w : World) (brick : BrickId) → Books setting w → Tallied w → MessagesShow (world_stopped w brick)
-    → Tallied (world_stopped w brick)
-tallied_stopped setting w brick books tallied shows =
-    let next : World = world_stopped w brick in
-    let keeps : (i : ℕ) → KeepsNumbers (w.nodes i) (next.nodes i) = stopped_keeps setting w brick books in
+tallied_stopped : (setting : Setting) (w : World) (brick : BrickId) (during : Option ℕ) → Books setting w → Tallied w
+    → MessagesShow (world_stopped setting w brick during) → Tallied (world_stopped setting w brick during)
+tallied_stopped setting w brick during books tallied shows =
+    let next : World = world_stopped setting w brick during in
+    let keeps : (i : ℕ) → KeepsNumbers (w.nodes i) (next.nodes i) = stopped_keeps setting w brick during books in
     tallied_on setting w next books tallied shows
     (record {
       sent = λ packet sent. sent;
@@ -258,10 +259,10 @@ tallied_stopped setting w brick books tallied shows =
     })
     (λ i k c is. ⊎_elim
     (λ (mine : i ≡ brick.0).
-    let none : (next.nodes i).calls k ≡ None = ap (λ (x : ℕ). (next.nodes x).calls k) mine ∙ stopped_calls setting w brick books k in
+    let none : (next.nodes i).calls k ≡ None = ap (λ (x : ℕ). (next.nodes x).calls k) mine ∙ stopped_calls setting w brick during books k in
     absurd (let never : None ≡ Some c = sym none ∙ is in cc))
     (λ (other : i ≢ brick.0).
-    let old : IsCall w i k c = sym (unstopped_calls setting w brick books i k other) ∙ is in
+    let old : IsCall w i k c = sym (unstopped_calls setting w brick during books i k other) ∙ is in
     call_tallied_on w.replies w.replies (number_of w i k) (number_of next i k) c (ap (λ (b : ℕ). w.numbers i b k) (keeps i).boot) (λ p. refl)
     (tallied.calls i k c old))
     (cases_eq i brick.0))
@@ -298,50 +299,58 @@ tallied_started setting w brick openings down once books tallied shows =
     (cases_eq i brick.0))
     tallied.unbegun (λ n phase k x is. inl is) (λ k p n cause is. inl is)
 
--- a message is handled, and the reply is lost
-tallied_absorbed : (setting : Setting) (w : World) (packet : Option Packet) → Books setting w → Tallied w
-    → MessagesShow (world_absorbed setting w packet) → Tallied (world_absorbed setting w packet)
-tallied_absorbed setting w None books tallied shown = tallied
-tallied_absorbed setting w (Some packet) books tallied shown =
-    let me : ℕ = packet.to.0 in
-    let node : Node = absorbed setting packet.to (w.nodes packet.to.0) packet in
-    let keeps : KeepsCalls (w.nodes packet.to.0) node = absorbed_keeps setting packet.to (w.nodes packet.to.0) packet.from packet.to packet.message in
-    cond_both (is_up setting.layout w packet.to) _ _ (λ (x : World). MessagesShow x → Tallied x)
-    (λ up shows. tallied_quiet setting w (put w.nodes me node) w.clocks w.packets books tallied shows (keeps_put w me node keeps.0)
-    (λ j l. put_each (λ (x : ℕ) (y : Node). y.calls l ≡ (w.nodes x).calls l) w.nodes me node (keeps.1 l) (λ x other. refl) j)
-    (λ packet sent. sent))
-    (λ down same. tallied)
-    shown
+-- a brick starts with what its store is found to hold: it has the calls that it had
+shows_found : (w : World) (brick : BrickId) → ((i k : ℕ) → ((world_found w brick After).nodes i).calls k ≡ (w.nodes i).calls k) → MessagesShow w
+    → MessagesShow (world_found w brick After)
+shows_found w brick calls shows = record {
+  later = shows.later;
+  order_or_write = shows.order_or_write;
+  bounds = shows.bounds;
+  order_or_descent = shows.order_or_descent;
+  stores_asked = λ i k c to t is. shows.stores_asked i k c to t (sym (calls i k) ∙ is);
+  descends_asked = λ i k c to bound t is. shows.descends_asked i k c to bound t (sym (calls i k) ∙ is);
+  counted = λ i k c is. shows.counted i k c (sym (calls i k) ∙ is);
+}
+
+tallied_found : (setting : Setting) (w : World) (brick : BrickId) (found : Found) → w.up brick.0 ≡ false → Leaves setting w → Books setting w
+    → Tallied w → MessagesShow w → Tallied (world_found w brick found)
+tallied_found setting w brick Before down leaves books tallied shows = tallied
+tallied_found setting w brick After down leaves books tallied shows =
+    let keeps : (i : ℕ) → KeepsCalls (w.nodes i) ((world_found w brick After).nodes i) = found_keeps setting w brick After down leaves in
+    tallied_quiet setting w (put w.nodes brick.0 (w.after brick.0)) (with_held w.held brick.0 (w.after brick.0)) w.clocks w.packets books tallied
+    (shows_found w brick (λ i. (keeps i).1) shows) (λ i. (keeps i).0) (λ i. (keeps i).1) (λ packet sent. sent)
 
 -- every event keeps the history of replies
-tallied_happens : (setting : Setting) (w : World) (event : Event) → Books setting w → Tallied w → MessagesShow w
+tallied_happens : (setting : Setting) (w : World) (event : Event) → Leaves setting w → Books setting w → Tallied w → MessagesShow w
     → MessagesShow (happens setting w event) → Tallied (happens setting w event)
 unfolding happens
-tallied_happens setting w (Invokes brick ask) books tallied shows later =
+tallied_happens setting w (Invokes brick ask) leaves books tallied shows later =
     cond_both (may_begin setting w brick ask) _ _ (λ (x : World). MessagesShow x → Tallied x)
     (λ may. tallied_invoked setting w brick (w.clocks brick.0) ask books tallied may) (λ refused same. tallied) later
-tallied_happens setting w (Delivers number) books tallied shows later =
+tallied_happens setting w (Delivers number) leaves books tallied shows later =
     tallied_delivered setting w (packet_of w.packets number) books tallied shows (packet_was_sent w number) later
-tallied_happens setting w (Sets brick time) books tallied shows later =
+tallied_happens setting w (Sets brick time) leaves books tallied shows later =
     cond_both (is_brick setting.layout brick) _ _ (λ (x : World). MessagesShow x → Tallied x)
-    (λ member more. tallied_quiet setting w w.nodes (put w.clocks brick.0 time) w.packets books tallied more
+    (λ member more. tallied_quiet setting w w.nodes w.held (put w.clocks brick.0 time) w.packets books tallied more
     (λ i. record { boot = refl; seq = refl; known = omega arith }) (λ i k. refl) (λ packet sent. sent))
     (λ stranger same. tallied) later
-tallied_happens setting w (Ticks brick) books tallied shows later =
+tallied_happens setting w (Ticks brick) leaves books tallied shows later =
     let more : List Packet = ticked setting brick (w.nodes brick.0) in
     cond_both (is_up setting.layout w brick) _ _ (λ (x : World). MessagesShow x → Tallied x)
-    (λ up shown. tallied_quiet setting w w.nodes w.clocks (w.packets ++ more) books tallied shown
+    (λ up shown. tallied_quiet setting w w.nodes w.held w.clocks (w.packets ++ more) books tallied shown
     (λ i. record { boot = refl; seq = refl; known = omega arith }) (λ i k. refl)
     (λ packet sent. (sent.0, get_kept w.packets more sent.0 packet sent.1)))
     (λ down same. tallied) later
-tallied_happens setting w (Crashes brick) books tallied shows later =
+tallied_happens setting w (Stops brick during) leaves books tallied shows later =
     cond_both (is_up setting.layout w brick) _ _ (λ (x : World). MessagesShow x → Tallied x)
-    (λ up. tallied_stopped setting w brick books tallied) (λ down same. tallied) later
-tallied_happens setting w (Starts brick openings) books tallied shows later =
+    (λ up. tallied_stopped setting w brick during books tallied) (λ down same. tallied) later
+tallied_happens setting w (Starts brick openings found) leaves books tallied shows later =
     cond_both (may_start setting.layout w brick openings) _ _ (λ (x : World). MessagesShow x → Tallied x)
-    (λ may. (let fits = start_fits setting w brick openings may in tallied_started setting w brick openings fits.0 fits.1 books tallied))
+    (λ may.
+    let fits = start_fits setting w brick openings may in
+    tallied_started setting (world_found w brick found) brick openings (found_down w brick found fits.0) fits.1
+    (books_found setting w brick found fits.0 leaves books) (tallied_found setting w brick found fits.0 leaves books tallied shows))
     (λ cannot same. tallied) later
-tallied_happens setting w (Absorbs number) books tallied shows later = tallied_absorbed setting w (packet_of w.packets number) books tallied later
 
 -- at first no reply has counted
 tallied_first : (setting : Setting) → Tallied (first_world setting.layout)
@@ -353,12 +362,12 @@ tallied_first setting = record {
 }
 
 -- every run keeps the history of replies, where each of its worlds has its books and its messages show what they should
-tallied_run : (setting : Setting) (events : List Event) (w : World) → ((more : List Event) → Books setting (run setting more w))
+tallied_run : (setting : Setting) (events : List Event) (w : World) → Leaves setting w → ((more : List Event) → Books setting (run setting more w))
     → ((more : List Event) → MessagesShow (run setting more w)) → Tallied w → Tallied (run setting events w)
-tallied_run setting [] w books shows tallied = tallied
-tallied_run setting (event ∷ events) w books shows tallied =
-    tallied_run setting events (happens setting w event) (λ more. books (event ∷ more)) (λ more. shows (event ∷ more))
-    (tallied_happens setting w event (books []) tallied (shows []) (shows (event ∷ [])))
+tallied_run setting [] w leaves books shows tallied = tallied
+tallied_run setting (event ∷ events) w leaves books shows tallied =
+    tallied_run setting events (happens setting w event) (leaves_happens setting w event leaves) (λ more. books (event ∷ more))
+    (λ more. shows (event ∷ more)) (tallied_happens setting w event leaves (books []) tallied (shows []) (shows (event ∷ [])))
 
 -- what looks below a bound has it at its stamp, or below
 bound_of : (stamps : Stamping) (i b k p : ℕ) (bound t : Stamp) → IsRecovery stamps i b k p bound t → (bound ≡ t) ⊎ (stamp_below bound t ≡ true)
@@ -397,7 +406,7 @@ pub tallied : (setting : Setting) (events : List Event) → IsSound setting
     → Tallied (run setting events (first_world setting.layout))
 tallied setting events sound books =
     let first : World = first_world setting.layout in
-    tallied_run setting events first books
-    (λ more. (let said : IsSaid setting (run setting more first) = said_run setting more first sound books (said_first setting sound) in
+    tallied_run setting events first (always_leaves setting []) books
+    (λ more. (let said : IsSaid setting (run setting more first) = said_run setting more first sound (always_leaves setting []) books (said_first setting sound) in
     messages_show setting (run setting more first) said.0 (books more) said.1))
     (tallied_first setting)

@@ -27,7 +27,7 @@ use Rattle.protocol.specs.Replicas.{Replica, top_of, is_held}
 use Rattle.protocol.specs.declared.phases.Counted.{Counted}
 use Rattle.protocol.specs.Coordinators.{most_rounds, greatest_refuser, lowest_full, told_in}
 use Rattle.protocol.specs.Nodes.{has_later_time}
-use Rattle.protocol.specs.Worlds.{World, Event, Operation, first_world, known_in, happens, run}
+use Rattle.protocol.specs.Worlds.{World, Event, Operation, content_on, first_world, known_in, happens, run}
 use Rattle.protocol.specs.Happenings.{is_of, effect_in, happenings_of}
 use Rattle.protocol_laws.specs.Marked.{WordsFit, AreWithoutGaps}
 
@@ -66,21 +66,27 @@ pub record OneContent (setting : Setting) (w : World) : Type 0 where
       → slice_get (part_of w g s i).log k ≡ Some version → version.block ≡ setting.code.encode group.m (w.contents g s version.stamp) seat
 
 -- At so many seats that with a quorum they are more than all, the stripe's stamps are above version d, and d
--- is not held: no quorum holds d, or ever will.
+-- was never held: no quorum has held d, or ever will.
 abbrev pub IsBlocked : World → ℕ → ℕ → Group → Stamp → Type 0
 IsBlocked w g s group d =
     length group.members < quorum_of group
     + count (length group.members) (λ seat. stamp_below d (top_of (part_of w g s (brick_at group seat)))
-    && not (is_held d (part_of w g s (brick_at group seat)).log))
+    && not (w.held (brick_at group seat) g s d))
 
--- An operation that made a version on a base, a version that was read back: the base is below it, and is its
--- content; and no quorum holds a version between the two, or ever will.
+-- the content of each version is what its maker makes of its base's
+abbrev pub ContentsAreMade : Setting → World → Type 0
+ContentsAreMade setting w =
+    (n : ℕ) (o : Operation) (t : Stamp) → w.operations n ≡ Some o → o.made ≡ true → o.version ≡ Some t
+    → w.contents o.ask.group.0 o.ask.stripe.0 t ≡ content_on setting.layout.block (w.contents o.ask.group.0 o.ask.stripe.0) o.ask.op o.base
+
+-- An operation that made a version on a base writes no stripe whole; the base is below the version; and no quorum has held a version between
+-- the two, or ever will.
 abbrev pub BasesAreNewest : Setting → World → Type 0
 BasesAreNewest setting w =
     (n : ℕ) (o : Operation) (t b : Stamp) (group : Group) → w.operations n ≡ Some o → group_of setting.layout o.ask.group.0 ≡ Some group
     → o.made ≡ true → o.version ≡ Some t → o.base ≡ Some b
-    → (stamp_below b t ≡ true)
-    × (w.contents o.ask.group.0 o.ask.stripe.0 t ≡ w.contents o.ask.group.0 o.ask.stripe.0 b)
+    → ((bytes : List ℕ) → o.ask.op ≡ WriteStripe bytes → ⊥)
+    × (stamp_below b t ≡ true)
     × ((d : Stamp) → stamp_below b d ≡ true → stamp_below d t ≡ true → IsBlocked w o.ask.group.0 o.ask.stripe.0 group d)
 
 -- an operation of the stripe made this version: it is a stripe write, which has no base, or its base is u
@@ -121,12 +127,12 @@ AddsNothingBelow old new =
     (g s i : ℕ) (t : Stamp) → is_held t (part_of new g s i).log ≡ true
     → (is_held t (part_of old g s i).log ≡ true) ⊎ (stamp_below t (top_of (part_of old g s i)) ≡ false)
 
--- a member says that it stored a version only where it was asked to, and holds it
+-- a member says that it stored a version only where it was asked to, and has held it
 abbrev pub StoredIsHeld : World → Type 0
 StoredIsHeld w =
     (call : Call) (from to : BrickId) → WasSent w (record { from = from; to = to; message = Message.Reply call Reply.Stored })
     → (t : Stamp) × (block : List ℕ) × WriteSent w call to from t block
-    × (is_held t (part_of w call.group.0 call.stripe.0 from.0).log ≡ true)
+    × (w.held from.0 call.group.0 call.stripe.0 t ≡ true)
 
 -- Versions follow real time: where one operation of a stripe ended before another began, its version is below
 -- the other's, or it is the version that the other read.
@@ -246,6 +252,7 @@ FullIsFull setting w =
 pub record Laws (setting : Setting) (w : World) : Type 0 where
   pub one_content : OneContent setting w
   pub first_is_zero : FirstIsZero setting w
+  pub contents_are_made : ContentsAreMade setting w
   pub guarded : WritesAreGuarded setting w
   pub stored : StoredIsHeld w
   pub bases : BasesAreNewest setting w
@@ -263,21 +270,21 @@ pub record Laws (setting : Setting) (w : World) : Type 0 where
   pub strict : (g s : ℕ) (group : Group) → group_of setting.layout g ≡ Some group
       → IsStrict group.m setting.layout.block (stripe_marks g s w.marks) (happenings_of w g s)
 
--- a quorum of the group holds version v of the stripe
+-- a quorum of the group has held version v of the stripe
 abbrev pub IsHeldByQuorum : World → ℕ → ℕ → Group → Stamp → Type 0
-IsHeldByQuorum w g s group v = AtQuorum group (λ seat. is_held v (part_of w g s (brick_at group seat)).log)
+IsHeldByQuorum w g s group v = AtQuorum group (λ seat. w.held (brick_at group seat) g s v)
 
 -- Version v of the stripe is lost: at a quorum of the group's seats the stripe's stamps are at or above one
--- that is above v, and fewer than m of these seats hold v.
+-- that is above v, and fewer than m of these seats have held v.
 pub record IsLost (w : World) (g s : ℕ) (group : Group) (v : Stamp) : Type 0 where
   pub seats : ℕ → Bool
   pub stamp : Stamp
   pub quorum : AtQuorum group seats
   pub passed : (seat : ℕ) → seats seat ≡ true → stamp_below (top_of (part_of w g s (brick_at group seat))) stamp ≡ false
   pub above : stamp_below v stamp ≡ true
-  pub few : count (length group.members) (λ seat. seats seat && is_held v (part_of w g s (brick_at group seat)).log) < group.m
+  pub few : count (length group.members) (λ seat. seats seat && w.held (brick_at group seat) g s v) < group.m
 
--- whatever happens after a version was lost, no quorum ever holds it
+-- whatever happens after a version was lost, no quorum will ever have held it
 abbrev pub NeverSurfaces : Type 0
 NeverSurfaces =
     (setting : Setting) (events more : List Event) (g s : ℕ) (group : Group) (v : Stamp) → IsSound setting → group_of setting.layout g ≡ Some group

@@ -3,7 +3,8 @@
 ghost use Rattle.protocol_laws.specs.Laws.{EveryRunKeepsTheLaws, NeverSurfaces, NoEventLowers};
 
 /// Every run of the disk keeps its laws, whatever is asked of it, whatever its clocks read, whichever of its
-/// bricks stop and start again, and whichever of its messages are delivered, lost, repeated or overtaken.
+/// bricks stop and start again, whether a handling that a stop cut short had kept its change or not, and whichever of its
+/// messages are delivered, lost, repeated or overtaken.
 ///
 /// This holds for every layout whose groups are within the limits of a quorum, and for every code that gives
 /// back what it encodes. The laws are these.
@@ -15,11 +16,13 @@ ghost use Rattle.protocol_laws.specs.Laws.{EveryRunKeepsTheLaws, NeverSurfaces, 
 /// - One stamp has one content: every block that was sent to be written under a stamp, that was found under it, or that a member
 ///   keeps under it, is its seat's block of that content.
 /// - Before a version was sent to be written, a quorum had promised to take nothing below its stamp.
-/// - A member says that it stored a version only where it was asked to, and holds it.
-/// - A recovery makes its version on a base: the base is below it, and is its content; and no quorum holds a version between the
-///   two, or ever will (Frølund et al., DSN 2004).
+/// - A member says that it stored a version only where it was asked to, and has held it.
+/// - A version's content is what its maker makes of its base's: a stripe write's bytes, or what a recovery read back. The content
+///   of the first version is zero.
+/// - A version that is made on a base, as a recovery's is, is above it; and no quorum has held a version between the two, or ever
+///   will (Frølund et al., DSN 2004).
 /// - Of two neighbours among the versions that take effect, the upper was written whole, or was made on the lower. The lowest is the
-///   first version, or was written whole, or was made on the first one, whose content is zero.
+///   first version, or was written whole, or was made on the first one.
 /// - Each reply that counted in a phase of an operation was sent to its coordinator, as a reply to that phase.
 /// - An operation is aborted for a later stamp or for a full store, and for nothing else.
 /// - For a later stamp only where, in its last phase, a member had told its coordinator of a later stamp than the one that it was
@@ -45,7 +48,7 @@ pub fn no_event_lowers()
 {}
 
 /// A version that is lost never surfaces: where a quorum has promised a stamp, or stored something as late,
-/// and fewer than m of it hold a version below that stamp, no quorum holds that version at any later time
+/// and fewer than m of it have held a version below that stamp, no quorum has held that version at any later time
 /// (Frølund et al., DSN 2004; Aguilera and Frølund 2003).
 pub fn no_lost_version_surfaces()
     ensures { NeverSurfaces }

@@ -35,8 +35,8 @@ use std::alloc::Global;
 /// that end with status 0.
 ///
 /// However far a run comes, all laws of the disk hold of what its lines left (`Laws` of `protocol`), and what
-/// further lines leave follows it: no brick has lowered what it had promised or stored, and no version that
-/// was lost has surfaced (`Succeeds`, `specs/Histories.antt`).
+/// further lines leave follows it: no brick has lowered what it had promised or stored, or added a version
+/// below that, and no version that was lost has surfaced (`Succeeds`, `specs/Histories.antt`).
 pub fn replay<S: Source, K: Sink>(
     alloc: Global,
     words: &[String],

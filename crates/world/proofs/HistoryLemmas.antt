@@ -14,6 +14,7 @@ use Rattle.reg_model.specs.declared.marks.Mark.{Mark}
 use Rattle.reg_model.specs.declared.marks.Mark.TheVariants.{Begin, End, Crash}
 use Rattle.protocol.specs.Nodes.{Node, NodeStep, put, stopped, restarted}
 use Rattle.protocol.specs.declared.tellings.Told.TheVariants.{Made, Answers}
+use Rattle.protocol.specs.Settings.{Setting}
 use Rattle.protocol.specs.Worlds.{World, Operation, number_of, with_number, world_began, world_stepped, world_stopped, world_started, with_made, with_answer, version_after, is_answer}
 use Rattle.protocol.specs.Happenings.{writes}
 use Rattle.world.specs.declared.histories.History.{History}
@@ -352,7 +353,7 @@ tells_ended old new w b seq number answer answered seen kept after tells is are 
     ∙ ap (λ (xs : List Mark). xs ++ End (length xs) (number_of w b seq) answer ∷ []) tells.marks)
 
 -- a step that made a version
-pub tells_step_made : (history : History) (w : World) (brick : BrickId) (step : NodeStep) (packets : List Packet) (seq : ℕ) (stamp : Stamp)
+pub tells_step_made : (setting : Setting) (history : History) (w : World) (brick : BrickId) (step : NodeStep) (packets : List Packet) (seq : ℕ) (stamp : Stamp)
     (base : Option Stamp) → step.told ≡ Made seq stamp base → packets ≡ step.packets → step.node.boot ≡ (w.nodes brick.0).boot
     → step.node.seq ≡ (w.nodes brick.0).seq → IsOfCall (w.nodes brick.0) step.told
     → (1 ≤ seq → seq ≤ (w.nodes brick.0).seq
@@ -360,16 +361,16 @@ pub tells_step_made : (history : History) (w : World) (brick : BrickId) (step : 
       packets = w.packets ++ packets;
       operations = put w.operations (number_of w brick.0 seq) (with_made stamp base (w.operations (number_of w brick.0 seq)));
     }))
-    → Tells history (world_stepped w brick step step.told)
-tells_step_made history w brick step packets seq stamp base is sent boot next of made =
+    → Tells history (world_stepped setting w brick step step.told)
+tells_step_made setting history w brick step packets seq stamp base is sent boot next of made =
     let call : (1 ≤ seq) × (seq ≤ (w.nodes brick.0).seq) = subst (IsOfCall (w.nodes brick.0)) is of in
-    subst (λ told. Tells history (world_stepped w brick step told)) (sym is)
-    (tells_other history _ (world_stepped w brick step (Made seq stamp base)) (ap (λ xs. w.packets ++ xs) (sym sent)) refl refl refl
-    (calls_same _ (world_stepped w brick step (Made seq stamp base)) (boots_stay w brick step.node boot) (seqs_stay w brick step.node next) refl)
+    subst (λ told. Tells history (world_stepped setting w brick step told)) (sym is)
+    (tells_other history _ (world_stepped setting w brick step (Made seq stamp base)) (ap (λ xs. w.packets ++ xs) (sym sent)) refl refl refl
+    (calls_same _ (world_stepped setting w brick step (Made seq stamp base)) (boots_stay w brick step.node boot) (seqs_stay w brick step.node next) refl)
     (made call.0 call.1))
 
 -- a step that ended an operation
-pub tells_step_ended : (history : History) (w : World) (brick : BrickId) (step : NodeStep) (packets : List Packet) (seq : ℕ) (answer : Answer)
+pub tells_step_ended : (setting : Setting) (history : History) (w : World) (brick : BrickId) (step : NodeStep) (packets : List Packet) (seq : ℕ) (answer : Answer)
     (seen : Option Stamp)
     → step.told ≡ Answers seq answer seen → packets ≡ step.packets → step.node.boot ≡ (w.nodes brick.0).boot
     → step.node.seq ≡ (w.nodes brick.0).seq → IsOfCall (w.nodes brick.0) step.told
@@ -379,23 +380,23 @@ pub tells_step_ended : (history : History) (w : World) (brick : BrickId) (step :
       marks = w.marks ++ End (length w.marks) (number_of w brick.0 seq) answer ∷ [];
       operations = put w.operations (number_of w brick.0 seq) (with_answer answer seen (w.operations (number_of w brick.0 seq)));
     }))
-    → Tells history (world_stepped w brick step step.told)
-tells_step_ended history w brick step packets seq answer seen is sent boot next of ended =
+    → Tells history (world_stepped setting w brick step step.told)
+tells_step_ended setting history w brick step packets seq answer seen is sent boot next of ended =
     let call : (1 ≤ seq) × (seq ≤ (w.nodes brick.0).seq) = subst (IsOfCall (w.nodes brick.0)) is of in
-    subst (λ told. Tells history (world_stepped w brick step told)) (sym is)
-    (tells_other history _ (world_stepped w brick step (Answers seq answer seen)) (ap (λ xs. w.packets ++ xs) (sym sent)) refl refl refl
-    (calls_same _ (world_stepped w brick step (Answers seq answer seen)) (boots_stay w brick step.node boot) (seqs_stay w brick step.node next) refl)
+    subst (λ told. Tells history (world_stepped setting w brick step told)) (sym is)
+    (tells_other history _ (world_stepped setting w brick step (Answers seq answer seen)) (ap (λ xs. w.packets ++ xs) (sym sent)) refl refl refl
+    (calls_same _ (world_stepped setting w brick step (Answers seq answer seen)) (boots_stay w brick step.node boot) (seqs_stay w brick step.node next) refl)
     (ended call.0 call.1))
 
 -- a brick stopped
-pub tells_crashed : (old new : History) (w : World) (brick : BrickId) → Tells old w → new.sent.items ≡ old.sent.items
+pub tells_crashed : (setting : Setting) (old new : History) (w : World) (brick : BrickId) → Tells old w → new.sent.items ≡ old.sent.items
     → new.marks.items ≡ old.marks.items ++ Crash (length old.marks.items) brick ∷ [] → new.operations.items ≡ old.operations.items
-    → new.numbers ≡ old.numbers → Tells new (world_stopped w brick)
-tells_crashed old new w brick tells sent marks operations numbers =
+    → new.numbers ≡ old.numbers → Tells new (world_stopped setting w brick None)
+tells_crashed setting old new w brick tells sent marks operations numbers =
     let kept : Tells (record new { marks = old.marks }) w = tells_same old (record new { marks = old.marks }) w sent refl operations numbers tells in
-    let other : Tells (record new { marks = old.marks }) (record (world_stopped w brick) { marks = w.marks }) =
-    tells_other (record new { marks = old.marks }) w (record (world_stopped w brick) { marks = w.marks }) refl refl refl refl
-    (calls_same w (record (world_stopped w brick) { marks = w.marks })
+    let other : Tells (record new { marks = old.marks }) (record (world_stopped setting w brick None) { marks = w.marks }) =
+    tells_other (record new { marks = old.marks }) w (record (world_stopped setting w brick None) { marks = w.marks }) refl refl refl refl
+    (calls_same w (record (world_stopped setting w brick None) { marks = w.marks })
     (boots_stay w brick (stopped (w.nodes brick.0)) (stopped_boot (w.nodes brick.0)))
     (seqs_stay w brick (stopped (w.nodes brick.0)) (stopped_seq (w.nodes brick.0))) refl) kept
     in

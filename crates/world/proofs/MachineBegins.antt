@@ -11,7 +11,7 @@ use Rattle.messages.specs.declared.packets.Packet.{Packet}
 use Rattle.fab_base.specs.Layouts.{Layout, Group, group_of}
 use Rattle.protocol.specs.Settings.{Setting}
 use Rattle.protocol.specs.Nodes.{Node, put, is_stripe_op, has_block, has_length, is_spent, most_open, refusal_in, refusal_of, began, invoked, received}
-use Rattle.protocol.specs.Worlds.{World, Invokes, Delivers, Sets, Ticks, Crashes, Starts, is_up, may_start, world_began, world_stepped, world_ticked, world_stopped, world_started, replies_with, delivered, packet_of, happens}
+use Rattle.protocol.specs.Worlds.{World, Invokes, Delivers, Sets, Ticks, Stops, Starts, Before, is_up, may_start, world_began, world_stepped, world_ticked, world_stopped, world_started, replies_with, delivered, packet_of, happens}
 use Rattle.world.specs.Runs.{ask_of, refusal_at}
 
 -- where there is no such group there is no such stripe
@@ -112,7 +112,7 @@ invoked_boot setting brick now node ask = invoked_boot_in setting brick now node
 abbrev pub after_message : Setting → World → Packet → World
 after_message setting w packet =
     let step = received setting packet.to (w.clocks packet.to.0) (w.nodes packet.to.0) packet in
-    world_stepped (record w { replies = replies_with setting w packet }) packet.to step step.told
+    world_stepped setting (record w { replies = replies_with setting w packet }) packet.to step step.told
 
 -- a number that was not sent changes nothing
 pub happens_unsent : (setting : Setting) (w : World) (number : ℕ) → packet_of w.packets number ≡ None → happens setting w (Delivers number) ≡ w
@@ -159,22 +159,22 @@ happens_unticked setting w brick down = ap (λ b. cond b (world_ticked setting w
 
 -- a brick that is up stops
 pub happens_stopped : (setting : Setting) (w : World) (brick : BrickId) → is_up setting.layout w brick ≡ true
-    → happens setting w (Crashes brick) ≡ world_stopped w brick
+    → happens setting w (Stops brick None) ≡ world_stopped setting w brick None
 unfolding happens
-happens_stopped setting w brick up = ap (λ b. cond b (world_stopped w brick) w) up
+happens_stopped setting w brick up = ap (λ b. cond b (world_stopped setting w brick None) w) up
 
 pub happens_unstopped : (setting : Setting) (w : World) (brick : BrickId) → is_up setting.layout w brick ≡ false
-    → happens setting w (Crashes brick) ≡ w
+    → happens setting w (Stops brick None) ≡ w
 unfolding happens
-happens_unstopped setting w brick down = ap (λ b. cond b (world_stopped w brick) w) down
+happens_unstopped setting w brick down = ap (λ b. cond b (world_stopped setting w brick None) w) down
 
 -- a brick that may start does
 pub happens_started : (setting : Setting) (w : World) (brick : BrickId) → may_start setting.layout w brick 1 ≡ true
-    → happens setting w (Starts brick 1) ≡ world_started w brick 1
+    → happens setting w (Starts brick 1 Before) ≡ world_started w brick 1
 unfolding happens
 happens_started setting w brick may = ap (λ b. cond b (world_started w brick 1) w) may
 
 pub happens_unstarted : (setting : Setting) (w : World) (brick : BrickId) → may_start setting.layout w brick 1 ≡ false
-    → happens setting w (Starts brick 1) ≡ w
+    → happens setting w (Starts brick 1 Before) ≡ w
 unfolding happens
 happens_unstarted setting w brick may_not = ap (λ b. cond b (world_started w brick 1) w) may_not

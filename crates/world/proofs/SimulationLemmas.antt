@@ -13,7 +13,7 @@ use Rattle.fab_base.specs.Layouts.{Layout}
 use Rattle.protocol.specs.Nodes.{Node, NodeStep, put, is_stripe_op, refusal_of, invoked, received, ticked, stopped, may_open}
 use Rattle.protocol.specs.declared.tellings.Told.{Told}
 use Rattle.protocol.specs.declared.tellings.Told.TheVariants.{Nothing, Made, Answers}
-use Rattle.protocol.specs.Worlds.{World, Invokes, Delivers, Sets, Ticks, Crashes, Starts, is_up, may_start, packet_of, replies_with, world_began, world_stepped, world_stopped, world_started, happens}
+use Rattle.protocol.specs.Worlds.{World, Invokes, Delivers, Sets, Ticks, Stops, Starts, Before, is_up, may_start, packet_of, replies_with, world_began, world_stepped, world_stopped, world_started, happens}
 use Rattle.world.specs.Runs.{ask_of, brick_of}
 use Rattle.world.specs.Shown.{Shows, ShowsPower, ShowsBricks, ShowsStarted, Tells}
 use Rattle.world.specs.Texts.{handled_or_idle, set_or_idle, done_or_idle, started_or_idle}
@@ -26,6 +26,7 @@ use Rattle.fab_disk.specs.declared.mem_disk.MemDisk.{MemDisk}
 use Rattle.world.specs.declared.simulations.Simulation.{Simulation}
 use Rattle.world.proofs.MachineBegins.{happens_refused, happens_down, happens_begun, happens_unsent, happens_astray, happens_handled, happens_set, happens_unset, happens_ticked, happens_unticked, happens_stopped, happens_unstopped, happens_started, happens_unstarted, after_message}
 use Rattle.world.proofs.HistoryLemmas.{tells_other, calls_same, tells_started}
+use Rattle.protocol.specs.Settings.{Setting}
 
 -- what holds anyway holds where there is an error
 pub on_err_always : {T E P : Type 0} (r : Result T E) → P → OnErr r P
@@ -97,23 +98,23 @@ shows_astray layout state w number packet sent down shows =
     subst (λ (v : World). Shows layout state v) (sym (happens_astray (coding layout) w number packet sent down)) shows
 
 -- a step changes its brick alone, whatever is told
-nodes_stepped : (w : World) (brick : BrickId) (step : NodeStep) (told : Told)
-    → (world_stepped w brick step told).nodes ≡ put w.nodes brick.0 step.node
-nodes_stepped w brick step Nothing = refl
-nodes_stepped w brick step (Made seq stamp base) = refl
-nodes_stepped w brick step (Answers seq answer seen) = refl
+nodes_stepped : (setting : Setting) (w : World) (brick : BrickId) (step : NodeStep) (told : Told)
+    → (world_stepped setting w brick step told).nodes ≡ put w.nodes brick.0 step.node
+nodes_stepped setting w brick step Nothing = refl
+nodes_stepped setting w brick step (Made seq stamp base) = refl
+nodes_stepped setting w brick step (Answers seq answer seen) = refl
 
 -- and no clock
-clocks_stepped : (w : World) (brick : BrickId) (step : NodeStep) (told : Told) → (world_stepped w brick step told).clocks ≡ w.clocks
-clocks_stepped w brick step Nothing = refl
-clocks_stepped w brick step (Made seq stamp base) = refl
-clocks_stepped w brick step (Answers seq answer seen) = refl
+clocks_stepped : (setting : Setting) (w : World) (brick : BrickId) (step : NodeStep) (told : Told) → (world_stepped setting w brick step told).clocks ≡ w.clocks
+clocks_stepped setting w brick step Nothing = refl
+clocks_stepped setting w brick step (Made seq stamp base) = refl
+clocks_stepped setting w brick step (Answers seq answer seen) = refl
 
 -- nor whether a brick is up
-up_stepped : (w : World) (brick : BrickId) (step : NodeStep) (told : Told) → (world_stepped w brick step told).up ≡ w.up
-up_stepped w brick step Nothing = refl
-up_stepped w brick step (Made seq stamp base) = refl
-up_stepped w brick step (Answers seq answer seen) = refl
+up_stepped : (setting : Setting) (w : World) (brick : BrickId) (step : NodeStep) (told : Told) → (world_stepped setting w brick step told).up ≡ w.up
+up_stepped setting w brick step Nothing = refl
+up_stepped setting w brick step (Made seq stamp base) = refl
+up_stepped setting w brick step (Answers seq answer seen) = refl
 
 -- which replies count is told by no history
 pub tells_replies : (layout : Layout) (history : History) (w : World) (packet : Packet) → Tells history w
@@ -136,10 +137,10 @@ shows_handled layout state w number packet sent up bricks history =
     (record {
       bricks = subst (λ (f : ℕ → ℕ). ShowsBricks layout state.bricks.items (after_message (coding layout) w packet).nodes
           (after_message (coding layout) w packet).up f)
-          (sym (clocks_stepped v packet.to step step.told))
+          (sym (clocks_stepped (coding layout) v packet.to step step.told))
           (subst (λ (f : ℕ → Bool). ShowsBricks layout state.bricks.items (after_message (coding layout) w packet).nodes f w.clocks)
-          (sym (up_stepped v packet.to step step.told))
-          (subst (λ (f : ℕ → Node). ShowsBricks layout state.bricks.items f w.up w.clocks) (sym (nodes_stepped v packet.to step step.told)) bricks));
+          (sym (up_stepped (coding layout) v packet.to step step.told))
+          (subst (λ (f : ℕ → Node). ShowsBricks layout state.bricks.items f w.up w.clocks) (sym (nodes_stepped (coding layout) v packet.to step step.told)) bricks));
       history = history;
     })
 
@@ -148,14 +149,14 @@ pub shows_delivered : (layout : Layout) (state : Simulation) (w : World) (number
     → packet_of w.packets number ≡ Some packet → is_up layout w to ≡ true
     → (let step = received (coding layout) to (w.clocks to.0) (w.nodes to.0) packet in
     ShowsBricks layout state.bricks.items (put w.nodes to.0 step.node) w.up w.clocks
-    → Tells state.history (world_stepped (record w { replies = replies_with (coding layout) w packet }) to step step.told)
+    → Tells state.history (world_stepped (coding layout) (record w { replies = replies_with (coding layout) w packet }) to step step.told)
     → Shows layout state (happens (coding layout) w (Delivers number)))
 shows_delivered layout state w number packet to same sent up bricks history =
     shows_handled layout state w number packet sent (subst (λ (b : BrickId). is_up layout w b ≡ true) same up)
     (subst (λ (b : BrickId). ShowsBricks layout state.bricks.items
     (put w.nodes b.0 (received (coding layout) b (w.clocks b.0) (w.nodes b.0) packet).node) w.up w.clocks) same bricks)
     (subst (λ (b : BrickId). let step = received (coding layout) b (w.clocks b.0) (w.nodes b.0) packet in
-    Tells state.history (world_stepped (record w { replies = replies_with (coding layout) w packet }) b step step.told)) same history)
+    Tells state.history (world_stepped (coding layout) (record w { replies = replies_with (coding layout) w packet }) b step step.told)) same history)
 
 -- a clock that was set
 pub shows_set : (layout : Layout) (old new : Simulation) (w : World) (brick : BrickId) (time : ℕ) → brick.0 < layout.bricks
@@ -208,12 +209,12 @@ shows_unticked layout state w brick down shows = subst (λ (v : World). Shows la
     (sym (happens_unticked (coding layout) w brick down)) shows
 
 pub shows_unstopped : (layout : Layout) (state : Simulation) (w : World) (brick : BrickId) → is_up layout w brick ≡ false
-    → Shows layout state w → Shows layout state (happens (coding layout) w (Crashes brick))
+    → Shows layout state w → Shows layout state (happens (coding layout) w (Stops brick None))
 shows_unstopped layout state w brick down shows = subst (λ (v : World). Shows layout state v)
     (sym (happens_unstopped (coding layout) w brick down)) shows
 
 pub shows_nowhere : (layout : Layout) (state : Simulation) (w : World) (brick : BrickId) → layout.bricks ≤ brick.0
-    → Shows layout state w → Shows layout state (happens (coding layout) w (Starts brick 1))
+    → Shows layout state w → Shows layout state (happens (coding layout) w (Starts brick 1 Before))
 shows_nowhere layout state w brick past shows =
     subst (λ (v : World). Shows layout state v) (sym (happens_unstarted (coding layout) w brick (started_nowhere layout w brick past))) shows
 
@@ -228,15 +229,15 @@ shows_ticked layout state w brick up bricks history =
 -- a brick that stopped
 pub shows_crashed : (layout : Layout) (state : Simulation) (w : World) (brick : BrickId) → is_up layout w brick ≡ true
     → ShowsBricks layout state.bricks.items (put w.nodes brick.0 (stopped (w.nodes brick.0))) (put w.up brick.0 false) w.clocks
-    → Tells state.history (world_stopped w brick)
-    → Shows layout state (happens (coding layout) w (Crashes brick))
+    → Tells state.history (world_stopped (coding layout) w brick None)
+    → Shows layout state (happens (coding layout) w (Stops brick None))
 shows_crashed layout state w brick up bricks history =
     subst (λ (v : World). Shows layout state v) (sym (happens_stopped (coding layout) w brick up)) (record { bricks = bricks; history = history })
 
 -- a brick that was to start
 pub shows_start : (layout : Layout) (old new : Simulation) (w : World) (brick : BrickId) (started : Bool)
     → ShowsStarted layout brick w new.bricks.items started → new.history ≡ old.history → Shows layout old w
-    → Shows layout new (happens (coding layout) w (Starts brick 1))
+    → Shows layout new (happens (coding layout) w (Starts brick 1 Before))
 shows_start layout old new w brick true is same shows =
     subst (λ (v : World). Shows layout new v) (sym (happens_started (coding layout) w brick (sym is.may)))
     (record {

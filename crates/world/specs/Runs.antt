@@ -10,7 +10,7 @@ use Rattle.lines.specs.declared.forms.Line.TheVariants.{Nothing, Invoke, Deliver
 use Rattle.fab_base.specs.Layouts.{Layout}
 use Rattle.protocol.specs.Settings.{Setting}
 use Rattle.protocol.specs.Nodes.{refusal_of}
-use Rattle.protocol.specs.Worlds.{World, Event, Invokes, Delivers, Sets, Ticks, Crashes, Starts, first_world, is_up, happens}
+use Rattle.protocol.specs.Worlds.{World, Event, Invokes, Delivers, Sets, Ticks, Stops, Starts, Before, first_world, is_up, happens}
 use Rattle.stripe_code.specs.Codes.{coding}
 
 -- the lines that were run over the disk of this layout
@@ -26,15 +26,15 @@ brick_of b = record { 0 = b }
 abbrev pub ask_of : ℕ → ℕ → Op → Ask
 ask_of g s op = record { group = record { 0 = g }; stripe = record { 0 = s }; op = op }
 
--- the event of a line, if it is one: a brick that starts opens its store once
+-- the event of a line, if it is one: a brick stops during no handling, and one that starts opens its store once, and finds what it kept
 abbrev pub event_of : Line → Option Event
 event_of Nothing = None
 event_of (Invoke b g s op) = Some (Invokes (brick_of b) (ask_of g s op))
 event_of (Deliver k) = Some (Delivers k)
 event_of (SetClock b v) = Some (Sets (brick_of b) v)
 event_of (Tick b) = Some (Ticks (brick_of b))
-event_of (Crash b) = Some (Crashes (brick_of b))
-event_of (Start b) = Some (Starts (brick_of b) 1)
+event_of (Crash b) = Some (Stops (brick_of b) None)
+event_of (Start b) = Some (Starts (brick_of b) 1 Before)
 
 -- the world after an event, if there is one
 abbrev pub after_event : Setting → World → Option Event → World

@@ -129,11 +129,12 @@ fn put_packets(sent: &mut Vec<Packet>, brick: BrickId, messages: Messages)
 }
 
 impl History {
-    ghost use Rattle.std.specs.Prelude.{◌≡◌, ◌+◌, ◌<◌, ◌≤◌, [], ◌∷◌, ◌++◌, Some, length, unwrap_or, OnOk, OnErr, vec_len, vec_capacity};
+    ghost use Rattle.std.specs.Prelude.{◌≡◌, ◌+◌, ◌<◌, ◌≤◌, [], ◌∷◌, ◌++◌, Some, None, length, unwrap_or, OnOk, OnErr, vec_len, vec_capacity};
     ghost use Rattle.std.specs.BTreeMap.{get};
     ghost use Rattle.std.specs.Option.{ForSome};
     ghost use Rattle.fab_base.specs.Layouts.{Layout};
     ghost use Rattle.coord_phase.specs.Messages.{packets_from};
+    ghost use Rattle.protocol.specs.Settings.{Setting};
     ghost use Rattle.protocol.specs.Nodes.{NodeStep};
     ghost use Rattle.protocol.specs.Nodes.{put as changed};
     ghost use Rattle.protocol.specs.Worlds.{World, first_world, number_of, world_began, world_stepped, world_stopped, with_made, with_answer};
@@ -232,7 +233,7 @@ impl History {
     /// Notes that a brick stops.
     pub fn crash(&mut self, brick: BrickId)
         requires { HasStepRoom self.old }
-        ensures crashed { (w : World) → Tells self.old w → Tells self.new (world_stopped w brick) }
+        ensures crashed { (setting : Setting) (w : World) → Tells self.old w → Tells self.new (world_stopped setting w brick None) }
         ensures marks { vec_len self.old.marks ≤ vec_len self.new.marks }
     {
         let position = self.marks.len() as u64;
@@ -308,10 +309,10 @@ impl History {
     pub fn step(&mut self, brick: BrickId, outs: Outs)
         requires room { HasStepRoom self.old }
         requires few { vec_len outs.messages ≤ 32 }
-        ensures stepped { (w : World) (step : NodeStep) → Tells self.old w
+        ensures stepped { (setting : Setting) (w : World) (step : NodeStep) → Tells self.old w
             → packets_from brick outs.messages.items ≡ step.packets → outs.told ≡ step.told
             → step.node.boot ≡ (w.nodes brick.0).boot → step.node.seq ≡ (w.nodes brick.0).seq → IsOfCall (w.nodes brick.0) step.told
-            → Tells self.new (world_stepped w brick step step.told) }
+            → Tells self.new (world_stepped setting w brick step step.told) }
         ensures marks { vec_len self.old.marks ≤ vec_len self.new.marks }
     {
         let Outs { messages, told } = outs;

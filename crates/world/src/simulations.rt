@@ -52,10 +52,11 @@ fn place_of(layout: &Layout, group: u64, stripe: u64) -> Option<(GroupId, Stripe
 }
 
 impl Simulation {
-    ghost use Rattle.std.specs.Prelude.{◌≡◌, ◌<◌, ◌≤◌, true, vec_len, IfOk, OnOk, OnErr};
+    ghost use Rattle.std.specs.Prelude.{◌≡◌, ◌<◌, ◌≤◌, true, None, vec_len, IfOk, OnOk, OnErr};
     ghost use Rattle.protocol.specs.Nodes.{is_stripe_op};
     ghost use Rattle.protocol.specs.Worlds.{World, first_world, happens, packet_of};
-    ghost use Rattle.protocol.specs.Worlds.Event.{Invokes, Delivers, Sets, Ticks, Crashes, Starts};
+    ghost use Rattle.protocol.specs.Worlds.Event.{Invokes, Delivers, Sets, Ticks, Stops, Starts};
+    ghost use Rattle.protocol.specs.Worlds.Found.{Before};
     ghost use Rattle.stripe_code.specs.Codes.{coding};
     ghost use Rattle.world.specs.Runs.{brick_of, ask_of, refusal_at, after_line};
     ghost use Rattle.world.specs.Shown.{AreNodesOf, Shows, IsUp, IsNumbered, IsOfStripes};
@@ -221,7 +222,7 @@ impl Simulation {
         requires nodes { AreNodesOf layout.now self.old.bricks.items }
         requires bricks { vec_len self.old.bricks ≡ layout.now.bricks }
         ensures shows { OnOk result ((w : World) → Shows layout.now self.old w
-            → Shows layout.now self.new (happens (coding layout.now) w (Crashes (brick_of brick)))) }
+            → Shows layout.now self.new (happens (coding layout.now) w (Stops (brick_of brick) None))) }
         ensures outcome { IfOk result (λ outcome. (w : World) → Shows layout.now self.old w
             → outcome ≡ done_or_idle layout.now w (brick_of brick)) }
         ensures err { OnErr result ((w : World) → Shows layout.now self.old w → Shows layout.now self.new w) }
@@ -242,7 +243,7 @@ impl Simulation {
         requires nodes { AreNodesOf layout.now self.old.bricks.items }
         requires bricks { vec_len self.old.bricks ≡ layout.now.bricks }
         ensures shows { OnOk result ((w : World) → Shows layout.now self.old w
-            → Shows layout.now self.new (happens (coding layout.now) w (Starts (brick_of brick) 1))) }
+            → Shows layout.now self.new (happens (coding layout.now) w (Starts (brick_of brick) 1 Before))) }
         ensures outcome { IfOk result (λ outcome. (w : World) → Shows layout.now self.old w
             → outcome ≡ started_or_idle layout.now w (brick_of brick)) }
         ensures err { OnErr result ((w : World) → Shows layout.now self.old w → Shows layout.now self.new w) }

@@ -1,8 +1,8 @@
 -- A brick that is up stops as the machine's does, with its mark.
-use Rattle.std.proofs.Common.{◌≡◌, true, arith, refl, subst}
+use Rattle.std.proofs.Common.{◌≡◌, true, None, arith, refl, subst}
 use Rattle.fab_base.specs.declared.identities.BrickId.{BrickId}
 use Rattle.stripe_code.specs.Codes.{coding}
-use Rattle.protocol.specs.Worlds.{Crashes, is_up, happens}
+use Rattle.protocol.specs.Worlds.{Stops, is_up, happens}
 use Rattle.world.specs.Runs.{brick_of}
 use Rattle.world.specs.Shown.{Shows}
 use Rattle.world.specs.declared.simulations.Simulation.{Simulation}
@@ -38,9 +38,9 @@ returns-clause-shows c w shows =
     up_at c.args.layout.now _ _ c.args.brick (brick_of c.args.brick) c.in-Some.brick c.deref.ensures.value refl c.in-Some.ensures
     in
     let state : Simulation = record { bricks = c.stop_brick.new.bricks; history = c.crash.new.self } in
-    subst (λ (brick : BrickId). Shows c.args.layout.now state (happens (coding c.args.layout.now) w (Crashes brick))) found.0
+    subst (λ (brick : BrickId). Shows c.args.layout.now state (happens (coding c.args.layout.now) w (Stops brick None))) found.0
     (shows_crashed c.args.layout.now state w c.in-Some.brick (found.1.up w shows.bricks) (c.stop_brick.ensures c.args.layout.now w shows.bricks)
-    (c.crash.ensures.crashed w (c.make_room.ensures.same w shows.history)))
+    (c.crash.ensures.crashed (coding c.args.layout.now) w (c.make_room.ensures.same w shows.history)))
 
 pub returns-clause-outcome : goal.returns-clause-outcome
 returns-clause-outcome c w shows =

@@ -72,7 +72,7 @@ returns-clause-shows c w numbered shows =
     shows_delivered c.args.layout.now (record { bricks = c.hand_over.new.bricks; history = c.step.new.self }) w c.args.message packet to found.0
     (the_packet _ _ _ c.args.message _ c.deref.ensures.value (c.make_room.ensures.same w shows.history).packets c.in-Some.ensures)
     (found.1.up w shows.bricks) did.2
-    (c.step.ensures.stepped (record w { replies = replies_with (coding c.args.layout.now) w packet }) step
+    (c.step.ensures.stepped (coding c.args.layout.now) (record w { replies = replies_with (coding c.args.layout.now) w packet }) step
     (tells_replies c.args.layout.now _ w packet (c.make_room.ensures.same w shows.history)) did.0 did.1 opens.boot opens.seq opens.told)
 
 pub returns-clause-outcome : goal.returns-clause-outcome

@@ -1,0 +1,244 @@
+-- What the store of a stopped brick may hold when it starts: what it kept when it stopped, or what the handling of a message that was sent to it
+-- makes of that.
+use Rattle.std.proofs.Common.{◌≡◌, ◌≢◌, ℕ, zero, suc, ◌⊎◌, inl, inr, ⊎_elim, Bool, true, false, not, ◌&&◌, if◌then◌else◌, List, [], ◌∷◌, ◌++◌, Option, Some, None, is_some, refl, sym, ap, ◌∙◌, subst}
+use Rattle.std.specs.Prelude.{slice_get, nat_eq}
+use Rattle.std.proofs.lemmas.Bool.{cond_both, and_parts, cases_eq, eqb-true, both_ways}
+use Rattle.fab_base.specs.declared.identities.BrickId.{BrickId}
+use Rattle.messages.specs.declared.calls.Call.{Call}
+use Rattle.messages.specs.declared.packets.Message.{Message}
+use Rattle.messages.specs.declared.packets.Packet.{Packet}
+use Rattle.messages.specs.declared.requests.Request.{Request}
+use Rattle.fab_base.specs.Layouts.{Group, group_of, seat_in}
+use Rattle.protocol.specs.Settings.{Setting}
+use Rattle.protocol.specs.declared.phases.Counted.{Counted}
+use Rattle.protocol.specs.declared.tellings.Told.{Told}
+use Rattle.protocol.specs.declared.tellings.Told.TheVariants.{Nothing, Made, Answers}
+use Rattle.protocol.specs.Nodes.{Node, NodeStep, put, no_step, is_stripe_op, refusal_of, requested_at, is_served, fits_block, requested_in, requested, absorbed, stopped, restarted, invoked, received}
+use Rattle.protocol.specs.Worlds.{World, Found, Before, After, Event, Invokes, Delivers, Sets, Ticks, Stops, Starts, first_world, is_brick, is_up, may_begin, may_start, world_began, world_stepped, world_ticked, left_after, packet_during, world_stopped, world_found, world_started, replies_with, delivered, packet_of, happens, run}
+use Rattle.protocol_laws.specs.Laws.{WasSent}
+use Rattle.protocol_laws.proofs.Puts.{put_other}
+use Rattle.protocol_laws.proofs.Tables.{put_same, get_kept}
+
+-- a stopped brick that handles a message keeps what it would have kept by handling it before it stopped
+requested_stopped : (setting : Setting) (me from : BrickId) (node : Node) (call : Call) (request : Request)
+    → (requested setting me from (stopped node) call request).node ≡ stopped (requested setting me from node call request).node
+unfolding requested stopped
+requested_stopped setting me from node call request = in_group (group_of setting.layout call.group.0)
+  where
+    at_seat : (z : Option ℕ) → (requested_at setting.layout.records me from (stopped node) call request z).node
+        ≡ stopped (requested_at setting.layout.records me from node call request z).node
+    at_seat None = refl
+    at_seat (Some seat) = refl
+
+    by : (group : Group) (t : Bool)
+        → (if t then requested_at setting.layout.records me from (stopped node) call request (seat_in group.members me.0) else no_step (stopped node)).node
+        ≡ stopped (if t then requested_at setting.layout.records me from node call request (seat_in group.members me.0) else no_step node).node
+    by group true = at_seat (seat_in group.members me.0)
+    by group false = refl
+
+    in_group : (z : Option Group) → (requested_in setting.layout me from (stopped node) call request z).node
+        ≡ stopped (requested_in setting.layout me from node call request z).node
+    in_group None = refl
+    in_group (Some group) = by group (is_served group call && fits_block setting.layout.block request)
+
+absorbed_stopped : (setting : Setting) (me from to : BrickId) (node : Node) (message : Message)
+    → absorbed setting me (stopped node) (record { from = from; to = to; message = message })
+    ≡ stopped (absorbed setting me node (record { from = from; to = to; message = message }))
+unfolding absorbed
+absorbed_stopped setting me from to node (Message.Request call request) = requested_stopped setting me from node call request
+absorbed_stopped setting me from to node message = refl
+
+-- what the store of a brick may hold beside what the brick keeps
+abbrev pub IsLeft : Setting → World → ℕ → Node → Type 0
+IsLeft setting w i node =
+    (node ≡ w.nodes i)
+    ⊎ ((packet : Packet) × (packet.to ≡ record { 0 = i }) × WasSent w packet × (node ≡ absorbed setting (record { 0 = i }) (w.nodes i) packet))
+
+-- of each brick that is down
+abbrev pub Leaves : Setting → World → Type 0
+Leaves setting w = (i : ℕ) → w.up i ≡ false → IsLeft setting w i (w.after i)
+
+-- a brick that was down stays as it is
+abbrev StaysDown : World → World → ℕ → Type 0
+StaysDown w next i = (w.up i ≡ false) × (next.nodes i ≡ w.nodes i) × (next.after i ≡ w.after i)
+
+left_on : (setting : Setting) (w next : World) (i : ℕ) → StaysDown w next i → ((packet : Packet) → WasSent w packet → WasSent next packet)
+    → Leaves setting w → IsLeft setting next i (next.after i)
+left_on setting w next i stays sent leaves = ⊎_elim
+    (λ (same : w.after i ≡ w.nodes i). inl (stays.2 ∙ same ∙ sym stays.1))
+    (λ (handled : (packet : Packet) × (packet.to ≡ record { 0 = i }) × WasSent w packet
+    × (w.after i ≡ absorbed setting (record { 0 = i }) (w.nodes i) packet)). inr (
+      handled.0,
+      handled.1,
+      sent handled.0 handled.2,
+      stays.2 ∙ handled.3 ∙ ap (λ (node : Node). absorbed setting (record { 0 = i }) node handled.0) (sym stays.1),
+    ))
+    (leaves i stays.0)
+
+leaves_on : (setting : Setting) (w next : World) → ((i : ℕ) → next.up i ≡ false → StaysDown w next i)
+    → ((packet : Packet) → WasSent w packet → WasSent next packet) → Leaves setting w → Leaves setting next
+leaves_on setting w next stays sent leaves i down = left_on setting w next i (stays i down) sent leaves
+
+-- what was sent stays sent as more is
+sent_more : (w next : World) (more : List Packet) → next.packets ≡ w.packets ++ more → (packet : Packet) → WasSent w packet → WasSent next packet
+sent_more w next more is packet sent =
+    (sent.0, ap (λ (l : List Packet). slice_get l sent.0) is ∙ get_kept w.packets more sent.0 packet sent.1)
+
+-- a brick that is down is not one that is up
+apart : (w : World) (i b : ℕ) → w.up i ≡ false → w.up b ≡ true → i ≢ b
+apart w i b down up same = both_ways (w.up i) down (ap (λ (j : ℕ). w.up j) same ∙ up)
+
+-- where a brick that is up takes a step
+steps_on : (w : World) (b : ℕ) (node : Node) → w.up b ≡ true → (i : ℕ) → w.up i ≡ false
+    → (w.up i ≡ false) × (put w.nodes b node i ≡ w.nodes i) × (w.after i ≡ w.after i)
+steps_on w b node up i down = (down, put_other w.nodes b node i (apart w i b down up), refl)
+
+leaves_stepped : (setting : Setting) (w : World) (replies : ℕ → ℕ → List Counted) (me : BrickId) (step : NodeStep) (told : Told) → w.up me.0 ≡ true
+    → Leaves setting w → Leaves setting (world_stepped setting (record w { replies = replies }) me step told)
+leaves_stepped setting w replies me step Nothing up leaves =
+    leaves_on setting w (world_stepped setting (record w { replies = replies }) me step Nothing) (steps_on w me.0 step.node up)
+    (λ packet sent. (sent.0, get_kept w.packets step.packets sent.0 packet sent.1)) leaves
+leaves_stepped setting w replies me step (Made seq t base) up leaves =
+    leaves_on setting w (world_stepped setting (record w { replies = replies }) me step (Made seq t base)) (steps_on w me.0 step.node up)
+    (λ packet sent. (sent.0, get_kept w.packets step.packets sent.0 packet sent.1)) leaves
+leaves_stepped setting w replies me step (Answers seq answer seen) up leaves =
+    leaves_on setting w (world_stepped setting (record w { replies = replies }) me step (Answers seq answer seen)) (steps_on w me.0 step.node up)
+    (λ packet sent. (sent.0, get_kept w.packets step.packets sent.0 packet sent.1)) leaves
+
+leaves_delivered : (setting : Setting) (w : World) (packet : Option Packet) → Leaves setting w → Leaves setting (delivered setting w packet)
+leaves_delivered setting w None leaves = leaves
+leaves_delivered setting w (Some packet) leaves =
+    let step : NodeStep = received setting packet.to (w.clocks packet.to.0) (w.nodes packet.to.0) packet in
+    let counted : World = record w { replies = replies_with setting w packet } in
+    cond_both (is_up setting.layout w packet.to) (world_stepped setting counted packet.to step step.told) w (λ (next : World). Leaves setting next)
+    (λ up. leaves_stepped setting w (replies_with setting w packet) packet.to step step.told
+    (and_parts (is_brick setting.layout packet.to) (w.up packet.to.0) up).1 leaves)
+    (λ down. leaves)
+
+-- a packet of a number was sent
+pub packet_was_sent : (w : World) (number : ℕ) (packet : Packet) → packet_of w.packets number ≡ Some packet → WasSent w packet
+packet_was_sent w zero packet is = cc
+packet_was_sent w (suc k) packet is = (k, is)
+
+-- so was one during whose handling a brick stopped
+during_was_sent : (w : World) (during : Option ℕ) (packet : Packet) → packet_during w.packets during ≡ Some packet → WasSent w packet
+during_was_sent w None packet is = cc
+during_was_sent w (Some number) packet is = packet_was_sent w number packet is
+
+-- a brick stops
+module _ (setting : Setting) (w : World) (brick : BrickId) (during : Option ℕ) where
+  abbrev shut : World
+  shut = world_stopped setting w brick during
+
+  after_is : shut.after brick.0 ≡ left_after setting brick (w.nodes brick.0) (packet_during w.packets during)
+  after_is = put_same w.after brick.0 (left_after setting brick (w.nodes brick.0) (packet_during w.packets during))
+
+  node_is : shut.nodes brick.0 ≡ stopped (w.nodes brick.0)
+  node_is = put_same w.nodes brick.0 (stopped (w.nodes brick.0))
+
+  -- what is left is as before, or what the handling of a packet that was sent makes of that
+  left_at_stop : (z : Option Packet) → ((packet : Packet) → z ≡ Some packet → WasSent w packet)
+      → IsLeft setting shut brick.0 (left_after setting brick (w.nodes brick.0) z)
+  left_at_stop None sent = inl (sym node_is)
+  left_at_stop (Some packet) sent =
+      cond_both (nat_eq packet.to.0 brick.0) (stopped (absorbed setting brick (w.nodes brick.0) packet)) (stopped (w.nodes brick.0))
+      (λ (node : Node). IsLeft setting shut brick.0 node)
+      (λ mine. inr (
+        packet,
+        ap (λ (j : ℕ). record { 0 = j }) (eqb-true packet.to.0 brick.0 mine),
+        sent packet refl,
+        sym (absorbed_stopped setting brick packet.from packet.to (w.nodes brick.0) packet.message)
+            ∙ ap (λ (node : Node). absorbed setting brick node packet) (sym node_is),
+      ))
+      (λ other. inl (sym node_is))
+
+  leaves_stopped : Leaves setting w → Leaves setting shut
+  leaves_stopped leaves i down = ⊎_elim
+      (λ (mine : i ≡ brick.0). subst (λ (j : ℕ). IsLeft setting shut j (shut.after j)) (sym mine)
+      (subst (λ (node : Node). IsLeft setting shut brick.0 node) (sym after_is) (left_at_stop (packet_during w.packets during) (during_was_sent w during))))
+      (λ (other : i ≢ brick.0).
+      left_on setting w shut i (
+        sym (put_other w.up brick.0 false i other) ∙ down,
+        put_other w.nodes brick.0 (stopped (w.nodes brick.0)) i other,
+        put_other w.after brick.0 (left_after setting brick (w.nodes brick.0) (packet_during w.packets during)) i other,
+      )
+      (λ packet sent. sent) leaves)
+      (cases_eq i brick.0)
+
+-- a stopped brick starts
+leaves_started : (setting : Setting) (w : World) (brick : BrickId) (openings : ℕ) → Leaves setting w → Leaves setting (world_started w brick openings)
+leaves_started setting w brick openings leaves i down = ⊎_elim
+    (λ (mine : i ≡ brick.0).
+    absurd (both_ways (put w.up brick.0 true i) down (ap (λ (j : ℕ). put w.up brick.0 true j) mine ∙ put_same w.up brick.0 true)))
+    (λ (other : i ≢ brick.0).
+    left_on setting w (world_started w brick openings) i (
+      sym (put_other w.up brick.0 true i other) ∙ down,
+      put_other w.nodes brick.0 (restarted openings (w.nodes brick.0)) i other,
+      refl,
+    )
+    (λ packet sent. sent) leaves)
+    (cases_eq i brick.0)
+
+-- and another brick than the one that starts keeps what it kept
+leaves_after : (setting : Setting) (w : World) (brick : BrickId) (openings : ℕ) → Leaves setting w
+    → Leaves setting (world_started (world_found w brick After) brick openings)
+leaves_after setting w brick openings leaves i down = ⊎_elim
+    (λ (mine : i ≡ brick.0).
+    absurd (both_ways (put w.up brick.0 true i) down (ap (λ (j : ℕ). put w.up brick.0 true j) mine ∙ put_same w.up brick.0 true)))
+    (λ (other : i ≢ brick.0).
+    left_on setting w (world_started (world_found w brick After) brick openings) i (
+      sym (put_other w.up brick.0 true i other) ∙ down,
+      put_other (put w.nodes brick.0 (w.after brick.0)) brick.0 (restarted openings (put w.nodes brick.0 (w.after brick.0) brick.0)) i other
+          ∙ put_other w.nodes brick.0 (w.after brick.0) i other,
+      refl,
+    )
+    (λ packet sent. sent) leaves)
+    (cases_eq i brick.0)
+
+leaves_found : (setting : Setting) (w : World) (brick : BrickId) (openings : ℕ) (found : Found) → Leaves setting w
+    → Leaves setting (world_started (world_found w brick found) brick openings)
+leaves_found setting w brick openings Before leaves = leaves_started setting w brick openings leaves
+leaves_found setting w brick openings After leaves = leaves_after setting w brick openings leaves
+
+-- through any event
+pub leaves_happens : (setting : Setting) (w : World) (event : Event) → Leaves setting w → Leaves setting (happens setting w event)
+unfolding happens
+leaves_happens setting w (Invokes brick ask) leaves =
+    let step : NodeStep = invoked setting brick (w.clocks brick.0) (w.nodes brick.0) ask in
+    cond_both (may_begin setting w brick ask) (world_began w brick ask step) w (λ (next : World). Leaves setting next)
+    (λ may.
+    let up = and_parts (is_up setting.layout w brick) (is_stripe_op ask.op && not (is_some (refusal_of setting.layout (w.nodes brick.0) ask))) may in
+    leaves_on setting w (world_began w brick ask step)
+    (steps_on w brick.0 step.node (and_parts (is_brick setting.layout brick) (w.up brick.0) up.0).1)
+    (λ packet sent. (sent.0, get_kept w.packets step.packets sent.0 packet sent.1)) leaves)
+    (λ isnt. leaves)
+leaves_happens setting w (Delivers number) leaves = leaves_delivered setting w (packet_of w.packets number) leaves
+leaves_happens setting w (Sets brick time) leaves =
+    cond_both (is_brick setting.layout brick) (record w { clocks = put w.clocks brick.0 time }) w (λ (next : World). Leaves setting next)
+    (λ is. leaves) (λ isnt. leaves)
+leaves_happens setting w (Ticks brick) leaves =
+    cond_both (is_up setting.layout w brick) (world_ticked setting w brick) w (λ (next : World). Leaves setting next)
+    (λ up. leaves_on setting w (world_ticked setting w brick) (λ i down. (down, refl, refl))
+    (λ packet sent. (sent.0, get_kept w.packets _ sent.0 packet sent.1)) leaves)
+    (λ down. leaves)
+leaves_happens setting w (Stops brick during) leaves =
+    cond_both (is_up setting.layout w brick) (world_stopped setting w brick during) w (λ (next : World). Leaves setting next)
+    (λ up. leaves_stopped setting w brick during leaves) (λ down. leaves)
+leaves_happens setting w (Starts brick openings found) leaves =
+    cond_both (may_start setting.layout w brick openings) (world_started (world_found w brick found) brick openings) w
+    (λ (next : World). Leaves setting next)
+    (λ may. leaves_found setting w brick openings found leaves) (λ cannot. leaves)
+
+-- and through any schedule
+pub leaves_run : (setting : Setting) (events : List Event) (w : World) → Leaves setting w → Leaves setting (run setting events w)
+leaves_run setting [] w leaves = leaves
+leaves_run setting (event ∷ events) w leaves = leaves_run setting events (happens setting w event) (leaves_happens setting w event leaves)
+
+-- at first every brick is up
+pub always_leaves : (setting : Setting) (events : List Event) → Leaves setting (run setting events (first_world setting.layout))
+always_leaves setting events = leaves_run setting events (first_world setting.layout) (λ i down. absurd (let never : true ≡ false = down in cc))
+
+-- a brick that starts with what its store is found to hold is still down
+pub found_down : (w : World) (brick : BrickId) (found : Found) → w.up brick.0 ≡ false → (world_found w brick found).up brick.0 ≡ false
+found_down w brick Before down = down
+found_down w brick After down = down
