@@ -6,5 +6,6 @@ pub mod Inputs
 pub mod StripeTexts
 pub mod LayoutTexts
 pub mod Successions
+pub mod PrintedMarks
 pub mod Linearity
 pub mod Statuses

@@ -19,6 +19,7 @@ use Rattle.replay.specs.declared.endings.Verdict.TheVariants.{Whole, BadLayout}
 use Rattle.replay.specs.Inputs.{Input, Parted, TooLong, Endless}
 use Rattle.replay.specs.Outputs.{onto, output_line, output_from, output_with, output_of, closing_text, most_lines}
 use Rattle.replay.specs.Replays.{lines_text, left_by, IsStrictWorld, IsLinearizable, StaysStrict}
+use Rattle.replay.proofs.PrintedMarks.{PrintedLines, printed_lines}
 use Rattle.replay.proofs.Successions.{follows_lines}
 
 -- the world that lines leave is strict
@@ -76,7 +77,11 @@ over_layout : (head : List ℕ) (layout : Layout) (schedule : List (List ℕ)) �
 over_layout head layout schedule is h =
     let all = whole layout (first_world layout) 0 schedule h in
     let count : 0 + length all.lines ≡ length all.lines = omega arith in
+    let shown : PrintedLines (coding layout) (first_world layout) all.lines = printed_lines (coding layout) (first_world layout) all.lines in
     record {
+      printed = shown.printed;
+      lines_text_is = shown.text_is;
+      marks_are = sym shown.marks_are;
       head = head;
       layout = layout;
       schedule = schedule;

@@ -23,6 +23,7 @@ use Rattle.replay.specs.declared.endings.Halt.{Halt}
 use Rattle.replay.specs.declared.endings.Halt.TheVariants.{Source, Sink, Memory}
 use Rattle.replay.specs.Inputs.{Input, Parted, input_of, IsInput}
 use Rattle.replay.specs.Outputs.{output_of, closing_text}
+use Rattle.replay.specs.Printed.{Printed, printed_texts, printed_marks}
 use Rattle.replay.specs.Turns.{Prints}
 use Rattle.replay.specs.Histories.{Succeeds}
 
@@ -71,7 +72,8 @@ pub record IsStrictWorld (layout : Layout) (world : World) : Type 0 where
   pub laws : Laws (coding layout) world
 
 -- What was printed is strict. The input has a layout and a schedule, every line of the schedule was run, and
--- the text is theirs and then the happenings of each stripe in the world that they leave, which is strict.
+-- the text is theirs and then the happenings of each stripe in the world that they leave, which is strict. Each
+-- line of their text is a mark, a refusal or `idle`, and the marks among them are, in order, those of that world.
 pub record IsLinearizable (input : Input) (text : List ℕ) : Type 0 where
   pub head : List ℕ
   pub layout : Layout
@@ -82,7 +84,10 @@ pub record IsLinearizable (input : Input) (text : List ℕ) : Type 0 where
   pub layout_is : layout_of head ≡ Ok layout
   pub lines_are : map line_of schedule ≡ map Some lines
   pub world_is : world ≡ left_by layout lines
+  pub printed : List Printed
   pub text_is : text ≡ lines_text (coding layout) (first_world layout) lines ++ closing_text layout world (length lines)
+  pub lines_text_is : lines_text (coding layout) (first_world layout) lines ≡ printed_texts printed
+  pub marks_are : printed_marks printed ≡ world.marks
   pub is_strict : IsStrictWorld layout world
 
 -- these lines are the first of an input's schedule, over its layout
