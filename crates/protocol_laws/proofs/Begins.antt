@@ -30,7 +30,7 @@ use Rattle.protocol_laws.proofs.Said.{Begun, Stamping, Said, IsSaid, IsBegun, Is
 use Rattle.protocol_laws.proofs.Tables.{put_each, put_same, get_grown, get_one, sent_to_member}
 use Rattle.protocol_laws.proofs.Lives.{last_grows}
 use Rattle.protocol_laws.proofs.Growth.{Grows, continues_same}
-use Rattle.protocol_laws.proofs.Steps.{KeepsStamps, keeps_same, parts_by, sent_by, ages_by, calls_by, phase_asked, said_after}
+use Rattle.protocol_laws.proofs.Steps.{KeepsStamps, parts_kept, sent_by, ages_by, calls_by, phase_asked, said_after}
 use Rattle.protocol_laws.proofs.Stampings.{ComesFrom, ages_within, stays_known, later_unknown, with_stamp, stamp_now, stamps_other, stamp_last, stamps_grow, stamps_say}
 
 -- what a phase asks
@@ -144,7 +144,7 @@ module _ (setting : Setting) (w : World) (stamps : Stamping) (me : BrickId) (ask
 
   grows : Grows w next stamps later
   grows = record {
-    parts = parts_by w next me.0 node refl (keeps_same (w.nodes me.0) node refl);
+    parts = parts_kept w next me.0 node refl refl said.logged refl;
     sent = sent_by w next (phase_packets setting group me c) refl;
     operations = λ n o is. (o, goes_on n o is, continues_same o);
     contents = λ g s t made. refl;

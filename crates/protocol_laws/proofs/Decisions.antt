@@ -1,5 +1,5 @@
 -- What the replies that count show of the operation, when they are a quorum.
-use Rattle.std.proofs.Common.{◌≡◌, ℕ, zero, suc, ◌-◌, ◌*◌, ◌/◌, ◌<◌, ◌≤◌, ◌⊎◌, inl, inr, true, false, not, List, [], ◌∷◌, length, replicate, Option, Some, None, refl, sym, ap, ◌∙◌, subst, ⊎_elim, arith}
+use Rattle.std.proofs.Common.{◌≡◌, ℕ, zero, suc, ◌-◌, ◌*◌, ◌/◌, ◌<◌, ◌≤◌, ◌⊎◌, inl, inr, true, false, not, List, [], ◌∷◌, length, replicate, Option, Some, None, refl, sym, ap, ◌∙◌, subst, ⊎_elim, arith, Bool}
 use Rattle.std.specs.Prelude.{nat_eq}
 use Rattle.std.proofs.lemmas.Bool.{false≢true, not_from_false, and_parts}
 use Rattle.std.proofs.lemmas.Option.{same_Some}
@@ -18,7 +18,7 @@ use Rattle.reg_model.specs.Registers.{zero_registers}
 use Rattle.fab_base.specs.Layouts.{Group, group_of, seat_in}
 use Rattle.quorum.specs.Quorums.{quorum_of}
 use Rattle.protocol.specs.Settings.{Setting, IsSound, are_bytes}
-use Rattle.protocol.specs.Replicas.{Replica, top_of, is_held, stamp_max}
+use Rattle.protocol.specs.Replicas.{Replica, top_of, stamp_max}
 use Rattle.protocol.specs.declared.phases.Counted.{Counted}
 use Rattle.protocol.specs.declared.phases.Phase.{Phase}
 use Rattle.protocol.specs.declared.phases.Phase.TheVariants.{Orders, Recovers, Descends, Stores}
@@ -43,7 +43,7 @@ zero_bytes (suc n) = zero_bytes n
 pub record FoundAt (setting : Setting) (w : World) (j : ℕ) (o : Operation) (order : Stamp) (version : Version) : Type 0 where
   pub top : stamp_below (top_of (part_of w o.ask.group.0 o.ask.stripe.0 j)) (stamp_max order version.stamp) ≡ false
   pub floor : stamp_below (stamp_max order version.stamp) (o.floor j) ≡ false
-  pub held : is_held version.stamp (part_of w o.ask.group.0 o.ask.stripe.0 j).log ≡ true
+  pub held : w.held j o.ask.group.0 o.ask.stripe.0 version.stamp ≡ true
   pub made : IsMadeOrFirst w o.ask.group.0 o.ask.stripe.0 version.stamp
   pub block : (group : Group) (seat : ℕ) → group_of setting.layout o.ask.group.0 ≡ Some group → seat_in group.members j ≡ Some seat
       → version.block ≡ setting.code.encode group.m (w.contents o.ask.group.0 o.ask.stripe.0 version.stamp) seat
@@ -59,7 +59,8 @@ found_at setting w j i call o order version is says =
     record {
       top = subst (λ (r : Replica). stamp_below (top_of r) (stamp_max order version.stamp) ≡ false) (sym part) says.top;
       floor = subst (λ (p : Operation). stamp_below (stamp_max order version.stamp) (p.floor j) ≡ false) same says.floor;
-      held = subst (λ (r : Replica). is_held version.stamp r.log ≡ true) (sym part) says.held;
+      held = subst (λ (g : ℕ). w.held j g o.ask.stripe.0 version.stamp ≡ true) (sym group)
+          (subst (λ (s : ℕ). w.held j call.group.0 s version.stamp ≡ true) (sym stripe) says.held);
       made = subst (λ (g : ℕ). IsMadeOrFirst w g o.ask.stripe.0 version.stamp) (sym group)
           (subst (λ (s : ℕ). IsMadeOrFirst w call.group.0 s version.stamp) (sym stripe) says.says.made);
       block = λ its seat its_is at.
@@ -207,6 +208,10 @@ module _ (setting : Setting) (sound : IsSound setting) (w : World) (stamps : Sta
   abbrev pub part_at : ℕ → Replica
   part_at seat = part_of w its_operation.ask.group.0 its_operation.ask.stripe.0 (brick_at group seat)
 
+  -- a version was held at a seat
+  abbrev pub held_at : ℕ → Stamp → Bool
+  held_at seat t = w.held (brick_at group seat) its_operation.ask.group.0 its_operation.ask.stripe.0 t
+
   -- what a member's part has, its seat's part has
   at_seat : (P : ℕ → ℕ → ℕ → Type 0) (x : Counted) → CountedSays setting w me.0 c x → P c.call.group.0 c.call.stripe.0 x.brick.0
       → P its_operation.ask.group.0 its_operation.ask.stripe.0 (brick_at group x.seat)
@@ -272,7 +277,7 @@ module _ (setting : Setting) (sound : IsSound setting) (w : World) (stamps : Sta
 
   -- a write that was answered
   stored_seat : c.phase ≡ Stores → (x : Counted) → CountedSays setting w me.0 c x → Allows x
-      → (x.seat < length group.members) × (is_held c.stamp (part_at x.seat).log ≡ true)
+      → (x.seat < length group.members) × (held_at x.seat c.stamp ≡ true)
   stored_seat stores x says allows =
       let answers : answers_phase setting.layout.block c.stamp Stores x.reply ≡ true
       = subst (λ (p : Phase). answers_phase setting.layout.block c.stamp p x.reply ≡ true) stores says.answers in
@@ -289,17 +294,17 @@ module _ (setting : Setting) (sound : IsSound setting) (w : World) (stamps : Sta
       let same : told.0 ≡ c.stamp
       = (begun_once stamps me.0 c.call.boot c.call.seq c.call.phase Stores c.phase told.0 c.stamp writes.begun its_begun).1 in (
         (seat_fits x says).0,
-        subst (λ (t : Stamp). is_held t (part_at x.seat).log ≡ true) same
-            (at_seat (λ g s j. is_held told.0 (part_of w g s j).log ≡ true) x says told.3),
+        subst (λ (t : Stamp). held_at x.seat t ≡ true) same
+            (at_seat (λ g s j. w.held j g s told.0 ≡ true) x says told.3),
       )
 
   -- a version that a quorum stored stands
   pub stored_stands : c.phase ≡ Stores → greatest_refuser counted ≡ None → lowest_full counted ≡ None
-      → AtQuorum group (λ seat. is_held c.stamp (part_at seat).log)
+      → AtQuorum group (λ seat. held_at seat c.stamp)
   stored_stands stores none roomy =
-      at_quorum group counted (λ seat. is_held c.stamp (part_at seat).log)
+      at_quorum group counted (λ seat. held_at seat c.stamp)
       (each_then (λ x. CountedSays setting w me.0 c x × Allows x) (λ x. (x.seat < length group.members)
-      × (is_held c.stamp (part_at x.seat).log ≡ true))
+      × (held_at x.seat c.stamp ≡ true))
       counted (λ x h. stored_seat stores x h.0 h.1) (each_allows none roomy))
       once many
 
@@ -308,7 +313,7 @@ module _ (setting : Setting) (sound : IsSound setting) (w : World) (stamps : Sta
     pub promises : PromisesAt x
     pub found : Option Version
     pub found_is : told_in x.reply ≡ found
-    pub newest : (d : Stamp) → is_held d (part_at x.seat).log ≡ true → stamp_below d bound ≡ true → IsWithin found d
+    pub newest : (d : Stamp) → held_at x.seat d ≡ true → stamp_below d bound ≡ true → IsWithin found d
     pub below : (version : Version) → found ≡ Some version → stamp_below version.stamp bound ≡ true
     pub made : (version : Version) → found ≡ Some version → IsMadeOrFirst w its_operation.ask.group.0 its_operation.ask.stripe.0 version.stamp
     pub block : (version : Version) → found ≡ Some version
@@ -325,8 +330,8 @@ module _ (setting : Setting) (sound : IsSound setting) (w : World) (stamps : Sta
         promises = promises_at x says told.operation told.stamp told.called same.0 told.promised told.floor;
         found = answer.0;
         found_is = ap told_in answer.1;
-        newest = at_seat (λ g s j. (d : Stamp) → is_held d (part_of w g s j).log ≡ true → stamp_below d bound ≡ true → IsWithin answer.0 d) x says
-            (subst (λ (b : Stamp). (d : Stamp) → is_held d (part_of w c.call.group.0 c.call.stripe.0 x.brick.0).log ≡ true → stamp_below d b ≡ true
+        newest = at_seat (λ g s j. (d : Stamp) → w.held j g s d ≡ true → stamp_below d bound ≡ true → IsWithin answer.0 d) x says
+            (subst (λ (b : Stamp). (d : Stamp) → w.held x.brick.0 c.call.group.0 c.call.stripe.0 d ≡ true → stamp_below d b ≡ true
             → IsWithin answer.0 d) same.1 told.newest);
         below = λ version is.
             found_below setting.layout.block bound version
@@ -349,7 +354,7 @@ module _ (setting : Setting) (sound : IsSound setting) (w : World) (stamps : Sta
     within : x.seat < length group.members
     top : stamp_below (top_of (part_of w its_operation.ask.group.0 its_operation.ask.stripe.0 (brick_at group x.seat))) v ≡ false
     floor : stamp_below v (its_operation.floor (brick_at group x.seat)) ≡ false
-    held : is_held v (part_at x.seat).log ≡ true
+    held : held_at x.seat v ≡ true
     made : IsMadeOrFirst w its_operation.ask.group.0 its_operation.ask.stripe.0 v
     block : found_bytes x.reply ≡ setting.code.encode group.m (w.contents its_operation.ask.group.0 its_operation.ask.stripe.0 v) x.seat
 
@@ -372,8 +377,8 @@ module _ (setting : Setting) (sound : IsSound setting) (w : World) (stamps : Sta
             (stamp_not_below_trans v most (top_of (part_of w its_operation.ask.group.0 its_operation.ask.stripe.0 x.brick.0)) above at.top);
         floor = subst (λ (j : ℕ). stamp_below v (its_operation.floor j) ≡ false) (sym brick)
             (stamp_not_below_trans (its_operation.floor x.brick.0) most v at.floor below);
-        held = subst (λ (t : Stamp). is_held t (part_at x.seat).log ≡ true) tells.stamp
-            (subst (λ (j : ℕ). is_held tells.version.stamp (part_of w its_operation.ask.group.0 its_operation.ask.stripe.0 j).log ≡ true)
+        held = subst (λ (t : Stamp). held_at x.seat t ≡ true) tells.stamp
+            (subst (λ (j : ℕ). w.held j its_operation.ask.group.0 its_operation.ask.stripe.0 tells.version.stamp ≡ true)
             (sym brick) at.held);
         made = subst (λ (t : Stamp). IsMadeOrFirst w its_operation.ask.group.0 its_operation.ask.stripe.0 t) tells.stamp at.made;
         block = ap found_bytes tells.reply_is
@@ -398,10 +403,10 @@ module _ (setting : Setting) (sound : IsSound setting) (w : World) (stamps : Sta
       once many
 
   -- and stands
-  pub fast_stands : (v : Stamp) → fast_version counted ≡ Some v → AtQuorum group (λ seat. is_held v (part_at seat).log)
+  pub fast_stands : (v : Stamp) → fast_version counted ≡ Some v → AtQuorum group (λ seat. held_at seat v)
   fast_stands v fast =
-      at_quorum group counted (λ seat. is_held v (part_at seat).log)
-      (each_then (TellsAt v) (λ x. (x.seat < length group.members) × (is_held v (part_at x.seat).log ≡ true)) counted (λ x h. (h.within, h.held))
+      at_quorum group counted (λ seat. held_at seat v)
+      (each_then (TellsAt v) (λ x. (x.seat < length group.members) × (held_at x.seat v ≡ true)) counted (λ x h. (h.within, h.held))
       (all_tell_at v fast))
       once many
 

@@ -132,7 +132,7 @@ module _ (setting : Setting) (w : World) (stamps : Stamping) (me : BrickId) (c :
 
     grows : Grows w next stamps stamps
     grows =
-        operated_grows setting w stamps stamps me node (collect_packets group me c.call stored) marks n o ended w.contents keeps (stamps_same stamps)
+        operated_grows setting w stamps stamps me node (collect_packets group me c.call stored) marks n o ended w.contents keeps said.logged (stamps_same stamps)
 
     ended_has : (v : Stamp) → version_after o.version seen ≡ Some v → HasVersion setting next ended v
     ended_has v has =

@@ -1,6 +1,6 @@
 -- No event lowers what a brick has promised or stored, or drops a version that it holds.
-use Rattle.std.proofs.Common.{◌≡◌, ℕ, List, [], ◌∷◌, Option, Some, None, refl, ⊎_elim, sym, subst, false, ap}
-use Rattle.std.proofs.lemmas.Bool.{cond_both}
+use Rattle.std.proofs.Common.{◌≡◌, ℕ, List, [], ◌∷◌, Option, Some, None, refl, ⊎_elim, sym, subst, false, ap, Bool, not, ◌&&◌, length, arith}
+use Rattle.std.proofs.lemmas.Bool.{cond_both, and_parts, not-true}
 use Rattle.fab_base.specs.declared.identities.BrickId.{BrickId}
 use Rattle.fab_base.specs.declared.asks.Ask.{Ask}
 use Rattle.fab_base.specs.declared.stamps.Stamp.{Stamp}
@@ -9,28 +9,37 @@ use Rattle.messages.specs.declared.packets.Message.{Message}
 use Rattle.messages.specs.declared.packets.Packet.{Packet}
 use Rattle.messages.specs.declared.requests.Request.{Request}
 use Rattle.messages.specs.declared.replies.Reply.{Reply}
-use Rattle.fab_base.specs.Layouts.{Group, group_of}
+use Rattle.fab_base.specs.Layouts.{Group, group_of, brick_at}
 use Rattle.protocol.specs.Settings.{Setting}
-use Rattle.protocol.specs.Replicas.{handle}
+use Rattle.protocol.specs.Replicas.{handle, top_of}
 use Rattle.protocol.specs.Coordinators.{Coordinator, Next, Ignores, Waits, Sends, Makes, Ends, on_reply}
 use Rattle.protocol.specs.declared.tellings.Told.{Told}
 use Rattle.protocol.specs.declared.tellings.Told.TheVariants.{Nothing, Made, Answers}
 use Rattle.protocol.specs.Nodes.{Node, NodeStep, fresh_stamp, put, began, invoked, replica_at, full_at, requested, absorbed, stopped, restarted, known_after, carried_out, replied_to, replied_at, replied, received}
-use Rattle.protocol.specs.Worlds.{World, Found, Before, After, Event, Invokes, Delivers, Sets, Ticks, Stops, Starts, replies_with, is_brick, is_up, may_start, world_ticked, world_stopped, world_found, world_started, may_begin, world_began, world_stepped, delivered, packet_of, happens, first_world, run}
-use Rattle.protocol_laws.specs.Laws.{WasSent, NoEventLowers, IsGuarded}
+use Rattle.protocol.specs.Worlds.{World, Found, Before, After, Event, Invokes, Delivers, Sets, Ticks, Stops, Starts, replies_with, is_brick, is_up, may_start, world_ticked, world_stopped, world_found, world_started, may_begin, world_began, world_stepped, delivered, packet_of, happens, first_world, run, with_held}
+use Rattle.protocol_laws.specs.Laws.{WasSent, NoEventLowers, IsGuarded, IsBlocked, IsLost, NeverSurfaces, part_of}
 use Rattle.protocol_laws.proofs.Reactions.{handle_after}
 use Rattle.protocol_laws.proofs.Requests.{request_each, parts_keep}
 use Rattle.protocol_laws.proofs.BooksEvents.{start_fits}
 use Rattle.protocol_laws.proofs.Left.{IsLeft, Leaves, always_leaves, leaves_happens}
-use Rattle.protocol_laws.proofs.Blocking.{PartsStay, parts_then}
-use Rattle.protocol_laws.proofs.Steps.{KeepsParts, keeps_same, parts_by, parts_same}
+use Rattle.protocol_laws.proofs.Blocking.{HeldIsLogged, PartsStay, parts_then, passes_by, passes, blocked_by, blocked_stays, blocked_never_stands, count_split}
+use Rattle.protocol_laws.proofs.Steps.{KeepsParts, keeps_same, parts_by, parts_kept, parts_same}
 use Rattle.protocol_laws.proofs.Growth.{guarded_stays}
+use Rattle.quorum.specs.Quorums.{IsWithinLimits}
+use Rattle.quorum.proofs.Counts.{count_monotone}
+use Rattle.protocol_laws.proofs.Logs.{below_above}
 
 -- the bricks after a step
 stepped_nodes : (setting : Setting) (w : World) (me : BrickId) (step : NodeStep) (told : Told) → (world_stepped setting w me step told).nodes ≡ put w.nodes me.0 step.node
 stepped_nodes setting w me step Nothing = refl
 stepped_nodes setting w me step (Made seq t base) = refl
 stepped_nodes setting w me step (Answers seq answer seen) = refl
+
+stepped_held : (setting : Setting) (w : World) (me : BrickId) (step : NodeStep) (told : Told)
+    → (world_stepped setting w me step told).held ≡ with_held w.held me.0 step.node
+stepped_held setting w me step Nothing = refl
+stepped_held setting w me step (Made seq t base) = refl
+stepped_held setting w me step (Answers seq answer seen) = refl
 
 -- a coordinator's decision changes no part of a stripe
 decision_keeps : (setting : Setting) (group : Group) (me : BrickId) (node : Node) (known : ℕ) (c : Coordinator) (decision : Next)
@@ -79,24 +88,25 @@ unfolding absorbed
 absorbed_keeps setting me from to node (Message.Request call request) = request_keeps setting me from node call request
 absorbed_keeps setting me from to node message = keeps_same node node refl
 
--- a brick that stops keeps its parts, and so does one that is started again
-stopped_keeps : (node : Node) → KeepsParts node (stopped node)
+-- a brick stops or starts with its logs as they are
+stopped_replicas : (node : Node) → (stopped node).replicas ≡ node.replicas
 unfolding stopped
-stopped_keeps node = keeps_same node (stopped node) refl
+stopped_replicas node = refl
 
-restarted_keeps : (openings : ℕ) (node : Node) → KeepsParts node (restarted openings node)
+restarted_replicas : (openings : ℕ) (node : Node) → (restarted openings node).replicas ≡ node.replicas
 unfolding restarted
-restarted_keeps openings node = keeps_same node (restarted openings node) refl
+restarted_replicas openings node = refl
 
-delivery_stays : (setting : Setting) (w : World) (z : Option Packet) → PartsStay w (delivered setting w z)
-delivery_stays setting w None = parts_same w w refl
-delivery_stays setting w (Some packet) =
+delivery_stays : (setting : Setting) (w : World) (z : Option Packet) → HeldIsLogged w → PartsStay w (delivered setting w z)
+delivery_stays setting w None logged = parts_same w w refl refl logged
+delivery_stays setting w (Some packet) logged =
     let step : NodeStep = received setting packet.to (w.clocks packet.to.0) (w.nodes packet.to.0) packet in
     let counted : World = record w { replies = replies_with setting w packet } in
     cond_both (is_up setting.layout w packet.to) (world_stepped setting counted packet.to step step.told) w (λ (next : World). PartsStay w next)
     (λ is. parts_by w (world_stepped setting counted packet.to step step.told) packet.to.0 step.node (stepped_nodes setting counted packet.to step step.told)
+    (stepped_held setting counted packet.to step step.told) logged
     (message_keeps setting packet.to packet.from packet.to (w.clocks packet.to.0) (w.nodes packet.to.0) packet.message))
-    (λ isnt. parts_same w w refl)
+    (λ isnt. parts_same w w refl refl logged)
 
 -- what the store of a stopped brick may hold
 pub left_keeps : (setting : Setting) (w : World) (i : ℕ) (node : Node) → IsLeft setting w i node → KeepsParts (w.nodes i) node
@@ -109,65 +119,98 @@ left_keeps setting w i node = ⊎_elim
 
 -- a brick that starts with what its store is found to hold
 found_stays : (setting : Setting) (w : World) (brick : BrickId) (found : Found) → w.up brick.0 ≡ false → Leaves setting w
-    → PartsStay w (world_found w brick found)
-found_stays setting w brick Before down leaves = parts_same w w refl
-found_stays setting w brick After down leaves =
-    parts_by w (world_found w brick After) brick.0 (w.after brick.0) refl (left_keeps setting w brick.0 (w.after brick.0) (leaves brick.0 down))
+    → HeldIsLogged w → PartsStay w (world_found w brick found)
+found_stays setting w brick Before down leaves logged = parts_same w w refl refl logged
+found_stays setting w brick After down leaves logged =
+    parts_by w (world_found w brick After) brick.0 (w.after brick.0) refl refl logged (left_keeps setting w brick.0 (w.after brick.0) (leaves brick.0 down))
 
-invoked_keeps : (setting : Setting) (me : BrickId) (now : ℕ) (node : Node) (ask : Ask) → KeepsParts node (invoked setting me now node ask).node
+invoked_replicas : (setting : Setting) (me : BrickId) (now : ℕ) (node : Node) (ask : Ask)
+    → (invoked setting me now node ask).node.replicas ≡ node.replicas
 unfolding invoked
-invoked_keeps setting me now node ask = in_group (group_of setting.layout ask.group.0)
+invoked_replicas setting me now node ask = in_group (group_of setting.layout ask.group.0)
   where
-    in_group : (z : Option Group) → KeepsParts node (began setting me now node ask z).node
-    in_group None = keeps_same node node refl
-    in_group (Some group) = keeps_same node (began setting me now node ask (Some group)).node refl
+    in_group : (z : Option Group) → (began setting me now node ask z).node.replicas ≡ node.replicas
+    in_group None = refl
+    in_group (Some group) = refl
 
 -- through any event
-pub parts_stay : (setting : Setting) (w : World) (event : Event) → Leaves setting w → PartsStay w (happens setting w event)
+pub parts_stay : (setting : Setting) (w : World) (event : Event) → Leaves setting w → HeldIsLogged w
+    → PartsStay w (happens setting w event)
 unfolding happens
-parts_stay setting w (Invokes brick ask) leaves =
+parts_stay setting w (Invokes brick ask) leaves logged =
     let step : NodeStep = invoked setting brick (w.clocks brick.0) (w.nodes brick.0) ask in
     cond_both (may_begin setting w brick ask) (world_began w brick ask step) w (λ (next : World). PartsStay w next)
-    (λ may. parts_by w (world_began w brick ask step) brick.0 step.node refl (invoked_keeps setting brick (w.clocks brick.0) (w.nodes brick.0) ask))
-    (λ isnt. parts_same w w refl)
-parts_stay setting w (Delivers number) leaves = delivery_stays setting w (packet_of w.packets number)
-parts_stay setting w (Sets brick time) leaves =
+    (λ may. parts_kept w (world_began w brick ask step) brick.0 step.node refl refl logged (invoked_replicas setting brick (w.clocks brick.0) (w.nodes brick.0) ask))
+    (λ isnt. parts_same w w refl refl logged)
+parts_stay setting w (Delivers number) leaves logged = delivery_stays setting w (packet_of w.packets number) logged
+parts_stay setting w (Sets brick time) leaves logged =
     cond_both (is_brick setting.layout brick) (record w { clocks = put w.clocks brick.0 time }) w (λ (next : World). PartsStay w next)
-    (λ is. parts_same w (record w { clocks = put w.clocks brick.0 time }) refl)
-    (λ isnt. parts_same w w refl)
-parts_stay setting w (Ticks brick) leaves =
+    (λ is. parts_same w (record w { clocks = put w.clocks brick.0 time }) refl refl logged)
+    (λ isnt. parts_same w w refl refl logged)
+parts_stay setting w (Ticks brick) leaves logged =
     cond_both (is_up setting.layout w brick) (world_ticked setting w brick) w (λ (next : World). PartsStay w next)
-    (λ up. parts_same w (world_ticked setting w brick) refl)
-    (λ down. parts_same w w refl)
-parts_stay setting w (Stops brick during) leaves =
+    (λ up. parts_same w (world_ticked setting w brick) refl refl logged)
+    (λ down. parts_same w w refl refl logged)
+parts_stay setting w (Stops brick during) leaves logged =
     cond_both (is_up setting.layout w brick) (world_stopped setting w brick during) w (λ (next : World). PartsStay w next)
-    (λ up. parts_by w (world_stopped setting w brick during) brick.0 (stopped (w.nodes brick.0)) refl (stopped_keeps (w.nodes brick.0)))
-    (λ down. parts_same w w refl)
-parts_stay setting w (Starts brick openings found) leaves =
+    (λ up. parts_kept w (world_stopped setting w brick during) brick.0 (stopped (w.nodes brick.0)) refl refl logged (stopped_replicas (w.nodes brick.0)))
+    (λ down. parts_same w w refl refl logged)
+parts_stay setting w (Starts brick openings found) leaves logged =
     let with_found : World = world_found w brick found in
     cond_both (may_start setting.layout w brick openings) (world_started with_found brick openings) w (λ (next : World). PartsStay w next)
-    (λ may. parts_then w with_found (world_started with_found brick openings)
-    (found_stays setting w brick found (start_fits setting w brick openings may).0 leaves)
-    (parts_by with_found (world_started with_found brick openings) brick.0 (restarted openings (with_found.nodes brick.0)) refl
-    (restarted_keeps openings (with_found.nodes brick.0))))
-    (λ cannot. parts_same w w refl)
-
--- no event of any run lowers a top
-pub no_event_lowers : NoEventLowers
-no_event_lowers setting events event sound =
-    let stay : PartsStay _ _ = parts_stay setting (run setting events (first_world setting.layout)) event (always_leaves setting events) in
-    (stay.tops, stay.newer)
+    (λ may.
+    let stays : HeldIsLogged w → PartsStay w with_found
+    = found_stays setting w brick found (start_fits setting w brick openings may).0 leaves in
+    parts_then w with_found (world_started with_found brick openings)
+    (stays logged)
+    (parts_kept with_found (world_started with_found brick openings) brick.0 (restarted openings (with_found.nodes brick.0)) refl refl
+    (stays logged).logged (restarted_replicas openings (with_found.nodes brick.0))))
+    (λ cannot. parts_same w w refl refl logged)
 
 -- and through any schedule
-pub parts_stay_on : (setting : Setting) (more : List Event) (w : World) → Leaves setting w → PartsStay w (run setting more w)
-parts_stay_on setting [] w leaves = parts_same w w refl
-parts_stay_on setting (event ∷ more) w leaves =
-    parts_then w (happens setting w event) (run setting more (happens setting w event)) (parts_stay setting w event leaves)
-    (parts_stay_on setting more (happens setting w event) (leaves_happens setting w event leaves))
+pub parts_stay_on : (setting : Setting) (more : List Event) (w : World) → Leaves setting w → HeldIsLogged w → PartsStay w (run setting more w)
+parts_stay_on setting [] w leaves logged = parts_same w w refl refl logged
+parts_stay_on setting (event ∷ more) w leaves logged =
+    let first : PartsStay w (happens setting w event) = parts_stay setting w event leaves logged in
+    parts_then w (happens setting w event) (run setting more (happens setting w event)) first
+    (parts_stay_on setting more (happens setting w event) (leaves_happens setting w event leaves) first.logged)
+
+-- what bricks have held is in their logs, in every run
+pub always_logged : (setting : Setting) (events : List Event) → HeldIsLogged (run setting events (first_world setting.layout))
+always_logged setting events =
+    (parts_stay_on setting events (first_world setting.layout) (always_leaves setting []) (λ i g s t. refl)).logged
+
+-- no event of any run lowers a top, or adds a version below it
+pub no_event_lowers : NoEventLowers
+no_event_lowers setting events event sound =
+    let stay : PartsStay _ _
+    = parts_stay setting (run setting events (first_world setting.layout)) event (always_leaves setting events) (always_logged setting events) in
+    (stay.tops, stay.adds)
 
 -- what is guarded stays guarded through any event
-pub stays_guarded_through : (setting : Setting) (w : World) (event : Event) (g s : ℕ) (group : Group) (t : Stamp) → Leaves setting w
+pub stays_guarded_through : (setting : Setting) (w : World) (event : Event) (g s : ℕ) (group : Group) (t : Stamp) → Leaves setting w → HeldIsLogged w
     → IsGuarded w g s group t
     → IsGuarded (happens setting w event) g s group t
-stays_guarded_through setting w event g s group t leaves guarded = guarded_stays w (happens setting w event)
-    (parts_stay setting w event leaves).tops g s group t guarded
+stays_guarded_through setting w event g s group t leaves logged guarded = guarded_stays w (happens setting w event)
+    (parts_stay setting w event leaves logged).tops g s group t guarded
+
+-- a lost version is blocked: a quorum is above it, and fewer than m of it have held it
+lost_blocked : (w : World) (g s : ℕ) (group : Group) (v : Stamp) → IsWithinLimits group.m (length group.members) → IsLost w g s group v → IsBlocked w g s group v
+lost_blocked w g s group v limits lost =
+    let held : ℕ → Bool = λ seat. w.held (brick_at group seat) g s v in
+    let split = count_split (length group.members) lost.seats held in
+    let more = count_monotone (length group.members) (λ k. lost.seats k && not (held k)) (passes_by w g s group v)
+    (λ k below is.
+    let parts = and_parts (lost.seats k) (not (held k)) is in
+    passes w g s group v k (below_above v lost.stamp (top_of (part_of w g s (brick_at group k))) lost.above (lost.passed k parts.0))
+    (not-true (held k) parts.1)) in
+    blocked_by w g s group v limits (omega (arith, split, more, lost.quorum, lost.few))
+
+-- no quorum ever holds a lost version
+pub never_surfaces : NeverSurfaces
+never_surfaces setting events more g s group v sound group_is lost later =
+    let w : World = run setting events (first_world setting.layout) in
+    let blocked : IsBlocked w g s group v = lost_blocked w g s group v (sound.limits g group group_is) lost in
+    blocked_never_stands (run setting more w) g s group v
+    (blocked_stays w (run setting more w) (parts_stay_on setting more w (always_leaves setting events) (always_logged setting events))
+    g s group v blocked) later

@@ -19,7 +19,7 @@ use Rattle.messages.specs.declared.replies.Reply.{Reply}
 use Rattle.quorum.proofs.Counts.{count_monotone}
 use Rattle.fab_base.specs.Layouts.{Group}
 use Rattle.protocol.specs.Settings.{Setting}
-use Rattle.protocol.specs.Replicas.{top_of, is_held, stamp_max}
+use Rattle.protocol.specs.Replicas.{top_of, stamp_max}
 use Rattle.protocol.specs.declared.phases.Phase.{Phase}
 use Rattle.protocol.specs.declared.phases.Phase.TheVariants.{Orders, Recovers, Descends, Stores}
 use Rattle.protocol.specs.declared.phases.Counted.{Counted}
@@ -248,7 +248,7 @@ module _ (setting : Setting) (w next : World) (stamps later : Stamping) (books :
         promised = stays_above call.group.0 call.stripe.0 j says.stamp says.promised;
         floor = subst (λ (f : ℕ → Stamp). stamp_below says.stamp (f j) ≡ false) (sym goes.2.floor) says.floor;
         newest = λ d held less. ⊎_elim
-            (λ (was : is_held d (part_of w call.group.0 call.stripe.0 j).log ≡ true). says.newest d was less)
+            (λ (was : w.held j call.group.0 call.stripe.0 d ≡ true). says.newest d was less)
             (λ (new : stamp_below d (top_of (part_of w call.group.0 call.stripe.0 j)) ≡ false).
             let above : stamp_below d says.stamp ≡ false = stamp_not_below_trans says.stamp
             (top_of (part_of w call.group.0 call.stripe.0 j)) d says.promised new in

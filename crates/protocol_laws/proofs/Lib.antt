@@ -16,8 +16,6 @@ pub mod Entries
 pub mod EveryRun
 pub mod Falls
 pub mod Growth
-pub mod Held
-pub mod HeldAlways
 pub mod Left
 pub mod Lives
 pub mod Logs

@@ -17,6 +17,7 @@ use Rattle.protocol.specs.Nodes.{Node, put}
 use Rattle.protocol.specs.Worlds.{World, Operation, with_held}
 use Rattle.protocol_laws.proofs.Books.{Books, IsOperation}
 use Rattle.protocol_laws.proofs.Said.{Stamping, Said, StampsSay, IsMadeOrFirst, PacketSays, OperationSays, CallSays, EndShows, IsInOrder, FloorsAtLeast}
+use Rattle.protocol_laws.proofs.Blocking.{HeldIsLogged}
 use Rattle.protocol_laws.proofs.Tables.{put_each, get_grown}
 use Rattle.protocol_laws.proofs.Stampings.{StampsGrow}
 use Rattle.protocol_laws.proofs.Growth.{Grows, Continues, continues_same}
@@ -74,9 +75,9 @@ module _ (setting : Setting) (w : World) (stamps later : Stamping) (me : BrickId
       (λ is. let same : p ≡ d = cc in (o, keeps.is, subst (λ (z : Operation). Continues o z) same keeps.continues))
       (λ i other is. (d, is, continues_same d)) a
 
-  pub operated_grows : StampsGrow stamps later → Grows w next stamps later
-  operated_grows grow = record {
-    parts = parts_by w next me.0 node refl (keeps_same (w.nodes me.0) node keeps.replicas);
+  pub operated_grows : HeldIsLogged w → StampsGrow stamps later → Grows w next stamps later
+  operated_grows logged grow = record {
+    parts = parts_by w next me.0 node refl refl logged (keeps_same (w.nodes me.0) node keeps.replicas);
     sent = sent_by w next more refl;
     operations = goes_on;
     contents = keeps.kept;
@@ -133,7 +134,7 @@ pub said_operated : (setting : Setting) (w : World) (stamps later : Stamping) (m
     → Said setting (operated w me node more marks n p contents) later
 said_operated setting w stamps later me node more marks n o p contents books said grow keeps owes =
     let after : World = operated w me node more marks n p contents in
-    said_after setting w after stamps later books said (operated_grows setting w stamps later me node more marks n o p contents keeps grow) (record {
+    said_after setting w after stamps later books said (operated_grows setting w stamps later me node more marks n o p contents keeps said.logged grow) (record {
       stamps_say = owes.stamps_say;
       tops = λ g s i. inl (put_each (λ j x. top_of (x.replicas g s) ≡ top_of ((w.nodes j).replicas g s)) w.nodes me.0 node
           (ap (λ r. top_of (r g s)) keeps.replicas) (λ j other. refl) i);

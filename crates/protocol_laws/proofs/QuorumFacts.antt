@@ -26,8 +26,6 @@ use Rattle.protocol.specs.Coordinators.{told_in}
 use Rattle.protocol.specs.Worlds.{World, Event, Operation, zero_content, first_world, run, content_on}
 use Rattle.fab_base.specs.Layouts.{brick_at}
 use Rattle.protocol_laws.specs.Laws.{IsBlocked, OneContent, ContentsAreMade, BasesAreNewest, WritesAreGuarded, StoredIsHeld, FollowsRealTime, FullIsFull, WriteSent}
-use Rattle.protocol_laws.proofs.Held.{HeldIsLogged, passed_blocked}
-use Rattle.protocol_laws.proofs.HeldAlways.{held_is_logged}
 use Rattle.protocol_laws.specs.Marked.{WordsFit}
 use Rattle.protocol_laws.proofs.Books.{Books, OperationBooks, IsOperation}
 use Rattle.protocol_laws.proofs.Words.{words_fit}
@@ -85,8 +83,7 @@ pub record QuorumFacts (setting : Setting) (w : World) : Type 0 where
   pub full : FullIsFull setting w
   pub words : WordsFit setting.layout w.marks
 
-module _ (setting : Setting) (sound : IsSound setting) (w : World) (stamps : Stamping) (books : Books setting w) (said : Said setting w stamps)
-    (logged : HeldIsLogged w) where
+module _ (setting : Setting) (sound : IsSound setting) (w : World) (stamps : Stamping) (books : Books setting w) (said : Said setting w stamps) where
   -- of two versions between which a quorum's floors lie, the lower is not above the other, nor equal to it where the later operation made it
   shared_floor : (b : ℕ) (later : Operation) (u v : Stamp) (i : ℕ) → IsOperation w b later → later.version ≡ Some v
       → stamp_below (later.floor i) u ≡ false → stamp_below v (later.floor i) ≡ false → (stamp_below u v ≡ true) ⊎ ((u ≡ v) × (later.made ≡ false))
@@ -184,7 +181,7 @@ module _ (setting : Setting) (sound : IsSound setting) (w : World) (stamps : Sta
         (λ bytes writes. let never : ReadStripe ≡ WriteStripe bytes = sym back.op ∙ writes in cc),
         back.below,
         (λ d above less.
-            passed_blocked w o.ask.group.0 o.ask.stripe.0 group d logged (back.blocked group group_is d (above, less))),
+            back.blocked group group_is d (above, less)),
       ))
       ((said.operations n o is).maker t made version)
 
@@ -248,9 +245,7 @@ module _ (setting : Setting) (sound : IsSound setting) (w : World) (stamps : Sta
     bases = bases_hold;
     contents = contents_hold;
     guarded = λ call from to t block group group_is sent. (write_says call from to t block sent).guarded group group_is;
-    stored = λ call from to sent.
-        let says = said.packets sent.0 (record { from = from; to = to; message = Message.Reply call Reply.Stored }) sent.1 in
-        (says.0, says.1, says.2, logged from.0 call.group.0 call.stripe.0 says.0 ∙ says.3);
+    stored = λ call from to sent. said.packets sent.0 (record { from = from; to = to; message = Message.Reply call Reply.Stored }) sent.1;
     full = λ call from to live sent. said.packets sent.0 (record { from = from; to = to; message = Message.Reply call (Reply.Full live) }) sent.1;
     words = words_fit setting w stamps books said;
   }
@@ -262,4 +257,4 @@ pub quorum_facts : (setting : Setting) (events : List Event) → IsSound setting
 quorum_facts setting events sound books =
     let said : IsSaid setting (run setting events (first_world setting.layout))
     = said_run setting events (first_world setting.layout) sound (always_leaves setting []) books (said_first setting sound) in
-    facts setting sound (run setting events (first_world setting.layout)) said.0 (books events) said.1 (held_is_logged setting events)
+    facts setting sound (run setting events (first_world setting.layout)) said.0 (books events) said.1

@@ -18,14 +18,13 @@ use Rattle.quorum.proofs.Counts.{count_full}
 use Rattle.fab_base.specs.Layouts.{Group, group_of}
 use Rattle.quorum.specs.Quorums.{quorum_of}
 use Rattle.protocol.specs.Settings.{Setting, IsSound}
-use Rattle.protocol.specs.Replicas.{Replica, top_of, is_held}
+use Rattle.protocol.specs.Replicas.{Replica, top_of}
 use Rattle.protocol.specs.declared.phases.Counted.{Counted}
 use Rattle.protocol.specs.declared.phases.Phase.TheVariants.{Recovers, Descends}
 use Rattle.protocol.specs.Coordinators.{Coordinator, told_in, told_stamp, finds, bytes_of, pieces_at, greater_stamp, greatest_found}
 use Rattle.protocol.specs.Worlds.{World, Operation}
 use Rattle.fab_base.specs.Layouts.{brick_at}
-use Rattle.protocol_laws.specs.Laws.{part_of}
-use Rattle.protocol_laws.proofs.Held.{IsPassedOver}
+use Rattle.protocol_laws.specs.Laws.{part_of, IsBlocked}
 use Rattle.protocol_laws.proofs.Books.{Books, CallBooks, IsCall}
 use Rattle.protocol_laws.proofs.Logs.{IsWithin, below_above}
 use Rattle.protocol_laws.proofs.Blocking.{passes_by, passes, blocked_by, blocked_never_stands}
@@ -141,6 +140,10 @@ module _ (setting : Setting) (sound : IsSound setting) (w : World) (stamps : Sta
   abbrev part : ℕ → Replica
   part seat = part_of w o.ask.group.0 o.ask.stripe.0 (brick_at group seat)
 
+  -- a version was held at a seat
+  abbrev held_in : ℕ → Stamp → Bool
+  held_in seat t = w.held (brick_at group seat) o.ask.group.0 o.ask.stripe.0 t
+
   -- what is below the bound is below the recovery's stamp
   bound_most : (d : Stamp) → stamp_below d bound ≡ true → stamp_below d c.stamp ≡ true
   bound_most d less = ⊎_elim
@@ -178,15 +181,15 @@ module _ (setting : Setting) (sound : IsSound setting) (w : World) (stamps : Sta
 
   -- no member that replied holds a version above v and below the bound
   not_held : (x : Counted) (d : Stamp) → Reads x → TellsAtMost v (told_stamp x.reply) → stamp_below d bound ≡ true → stamp_below v d ≡ true
-      → is_held d (part x.seat).log ≡ false
+      → held_in x.seat d ≡ false
   not_held x d reads most less above = ⊎_elim
-      (λ (held : is_held d (part x.seat).log ≡ true).
+      (λ (held : held_in x.seat d ≡ true).
       absurd (false≢true (sym (within_most x reads.found d reads.found_is (reads.newest d held less) most) ∙ above)))
-      (λ (isnt : is_held d (part x.seat).log ≡ false). isnt)
-      (cases_Bool (is_held d (part x.seat).log))
+      (λ (isnt : held_in x.seat d ≡ false). isnt)
+      (cases_Bool (held_in x.seat d))
 
   -- a member that promised the stamp passes by what it does not hold below that
-  pass_at : (x : Counted) (d : Stamp) → Reads x → stamp_below d c.stamp ≡ true → is_held d (part x.seat).log ≡ false
+  pass_at : (x : Counted) (d : Stamp) → Reads x → stamp_below d c.stamp ≡ true → held_in x.seat d ≡ false
       → (x.seat < length group.members) × (passes_by w o.ask.group.0 o.ask.stripe.0 group d x.seat ≡ true)
   pass_at x d reads less isnt = (
     reads.promises.within,
@@ -194,7 +197,7 @@ module _ (setting : Setting) (sound : IsSound setting) (w : World) (stamps : Sta
   )
 
   -- nothing that a quorum holds lies between v and the bound
-  under_bound : (d : Stamp) → stamp_below v d ≡ true → stamp_below d bound ≡ true → IsPassedOver w o.ask.group.0 o.ask.stripe.0 group d
+  under_bound : (d : Stamp) → stamp_below v d ≡ true → stamp_below d bound ≡ true → IsBlocked w o.ask.group.0 o.ask.stripe.0 group d
   under_bound d above less =
       let seats : length counted ≤ count (length group.members) (passes_by w o.ask.group.0 o.ask.stripe.0 group d)
       = at_seats (length group.members) counted (passes_by w o.ask.group.0 o.ask.stripe.0 group d)
@@ -205,27 +208,27 @@ module _ (setting : Setting) (sound : IsSound setting) (w : World) (stamps : Sta
       blocked_by w o.ask.group.0 o.ask.stripe.0 group d limits (omega (arith, seats, many, limits.some_block))
 
   -- nor from the bound up to the recovery's stamp
-  from_bound : (d : Stamp) → stamp_below d bound ≡ false → stamp_below d c.stamp ≡ true → IsPassedOver w o.ask.group.0 o.ask.stripe.0 group d
+  from_bound : (d : Stamp) → stamp_below d bound ≡ false → stamp_below d c.stamp ≡ true → IsBlocked w o.ask.group.0 o.ask.stripe.0 group d
   from_bound d not_less less = ⊎_elim
       (λ (own : (c.phase ≡ Recovers) × (bound ≡ c.stamp)).
       absurd (false≢true (sym not_less ∙ subst (λ (t : Stamp). stamp_below d t ≡ true) (sym own.1) less)))
       (λ (lower : c.phase ≡ Descends bound).
-      subst (λ (a : Ask). IsPassedOver w a.group.0 a.stripe.0 group d) its.ask (says.covered bound lower group group_is d (not_less, less)))
+      subst (λ (a : Ask). IsBlocked w a.group.0 a.stripe.0 group d) its.ask (says.covered bound lower group group_is d (not_less, less)))
       looks
 
   -- nothing that a quorum holds, or ever will, lies between the version and the recovery's stamp
-  pub between_blocked : (d : Stamp) → stamp_below v d ≡ true → stamp_below d c.stamp ≡ true → IsPassedOver w o.ask.group.0 o.ask.stripe.0 group d
+  pub between_blocked : (d : Stamp) → stamp_below v d ≡ true → stamp_below d c.stamp ≡ true → IsBlocked w o.ask.group.0 o.ask.stripe.0 group d
   between_blocked d above less = ⊎_elim
       (λ (lower : stamp_below d bound ≡ true). under_bound d above lower)
       (λ (upper : stamp_below d bound ≡ false). from_bound d upper less)
       (cases_Bool (stamp_below d bound))
 
   -- a member whose reply does not find v does not hold it
-  not_found : (x : Counted) → Reads x → TellsAtMost v (told_stamp x.reply) → not (finds v x) ≡ true → is_held v (part x.seat).log ≡ false
+  not_found : (x : Counted) → Reads x → TellsAtMost v (told_stamp x.reply) → not (finds v x) ≡ true → held_in x.seat v ≡ false
   not_found x reads most isnt = ⊎_elim
-      (λ (held : is_held v (part x.seat).log ≡ true). absurd (found_at reads.found reads.found_is (reads.newest v held v_below)))
-      (λ (never : is_held v (part x.seat).log ≡ false). never)
-      (cases_Bool (is_held v (part x.seat).log))
+      (λ (held : held_in x.seat v ≡ true). absurd (found_at reads.found reads.found_is (reads.newest v held v_below)))
+      (λ (never : held_in x.seat v ≡ false). never)
+      (cases_Bool (held_in x.seat v))
     where
       found_at : (found : Option Version) → told_in x.reply ≡ found → IsWithin found v → ⊥
       found_at None told within = within
@@ -237,7 +240,7 @@ module _ (setting : Setting) (sound : IsSound setting) (w : World) (stamps : Sta
           false≢true (sym (not-true (finds v x) isnt) ∙ finds_it)
 
   -- a version of which too few blocks were found no quorum holds, or ever will
-  pub too_few_blocked : length (pieces_at v counted) < group.m → IsPassedOver w o.ask.group.0 o.ask.stripe.0 group v
+  pub too_few_blocked : length (pieces_at v counted) < group.m → IsBlocked w o.ask.group.0 o.ask.stripe.0 group v
   too_few_blocked few =
       let test : Counted → Bool = λ x. not (finds v x) in
       let others : List Counted = filter test counted in
@@ -257,8 +260,8 @@ module _ (setting : Setting) (sound : IsSound setting) (w : World) (stamps : Sta
   version_above few =
       above_first v (λ first.
       blocked_never_stands w o.ask.group.0 o.ask.stripe.0 group first_stamp
-      (subst (λ (t : Stamp). IsPassedOver w o.ask.group.0 o.ask.stripe.0 group t) first (too_few_blocked few))
-      (let full = count_full (length group.members) (λ seat. is_held first_stamp (part seat).log)
+      (subst (λ (t : Stamp). IsBlocked w o.ask.group.0 o.ask.stripe.0 group t) first (too_few_blocked few))
+      (let full = count_full (length group.members) (λ seat. held_in seat first_stamp)
       (λ k below. said.first_held o.ask.group.0 o.ask.stripe.0 (brick_at group k)) in
       omega (arith, full)))
 

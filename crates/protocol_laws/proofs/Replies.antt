@@ -17,7 +17,6 @@ use Rattle.messages.specs.declared.replies.Reply.{Reply}
 use Rattle.fab_base.specs.Layouts.{Group, group_of, seat_in}
 use Rattle.quorum.specs.Quorums.{quorum_of}
 use Rattle.protocol.specs.Settings.{Setting, Code, IsSound}
-use Rattle.protocol.specs.Replicas.{is_held}
 use Rattle.protocol.specs.declared.phases.Refuser.{Refuser}
 use Rattle.protocol.specs.declared.phases.FullMember.{FullMember}
 use Rattle.protocol.specs.declared.phases.Phase.{Phase}
@@ -26,8 +25,7 @@ use Rattle.protocol.specs.Coordinators.{Coordinator, Next, Waits, Sends, Makes, 
 use Rattle.protocol.specs.Nodes.{Node, is_stripe_op, with_known, with_call, carried_out}
 use Rattle.protocol.specs.Worlds.{World, Operation, number_of, world_stepped}
 use Rattle.fab_base.specs.Layouts.{brick_at}
-use Rattle.protocol_laws.specs.Laws.{WasSent, part_of, AtQuorum, IsGuarded}
-use Rattle.protocol_laws.proofs.Held.{IsPassedOver}
+use Rattle.protocol_laws.specs.Laws.{WasSent, AtQuorum, IsGuarded, IsBlocked}
 use Rattle.protocol_laws.proofs.Books.{Books, CallBooks, IsUnmade, MadeInPhase, IsCall}
 use Rattle.protocol_laws.proofs.Said.{Stamping, Said, IsSaid, AreBlocked, IsContent, IsMadeOrFirst, IsStampOf, EachCounted, AreOnce, FitsPhase, FloorsAtMost, HasVersion, CountedSays, CallSays}
 use Rattle.protocol_laws.proofs.Tables.{put_each, put_same}
@@ -113,7 +111,7 @@ module _ (setting : Setting) (sound : IsSound setting) (w : World) (stamps : Sta
   said_waits d d_says =
       let node : Node = with_call (w.nodes me.0) known (w.nodes me.0).busy c.call.seq (Some d) in
       let grows : Grows w (quiet w me node []) stamps stamps
-      = quiet_grows w stamps stamps me node [] (stamps_same stamps) (keeps_same (w.nodes me.0) node refl) in (
+      = quiet_grows w stamps stamps me node [] (stamps_same stamps) said.logged (keeps_same (w.nodes me.0) node refl) in (
         stamps,
         said_quiet setting w stamps stamps me node [] books said (stamps_same stamps) (record {
           keeps = keeps_same (w.nodes me.0) node refl;
@@ -228,8 +226,8 @@ module _ (setting : Setting) (sound : IsSound setting) (w : World) (stamps : Sta
                 (λ u now how other other_is.
                 let same : v ≡ u = cc in
                 let group_same : group ≡ other = same_Some group other (sym its_group ∙ other_is) in
-                subst (λ (z : Group). AtQuorum z (λ seat. is_held u (part_of w o.ask.group.0 o.ask.stripe.0 (brick_at z seat)).log)) group_same
-                (subst (λ (t : Stamp). AtQuorum group (λ seat. is_held t (part_of w o.ask.group.0 o.ask.stripe.0 (brick_at group seat)).log)) same
+                subst (λ (z : Group). AtQuorum z (λ seat. w.held (brick_at z seat) o.ask.group.0 o.ask.stripe.0 u)) group_same
+                (subst (λ (t : Stamp). AtQuorum group (λ seat. w.held (brick_at group seat) o.ask.group.0 o.ask.stripe.0 t)) same
                 (fast_stands setting sound w stamps me c group books said is group_is d.counted each once many v fast)))
                 (λ answered bytes op. let e : ReadStripe ≡ WriteStripe bytes = sym reads ∙ op in cc)
                 (reads, (v, refl, fast_decodes setting sound w stamps me c group books said is group_is d.counted each once many v fast)),
@@ -306,7 +304,7 @@ module _ (setting : Setting) (sound : IsSound setting) (w : World) (stamps : Sta
           blocked : AreBlocked setting w o.ask.group.0 o.ask.stripe.0 (λ e. (stamp_below v e ≡ true) × (stamp_below e c.stamp ≡ true))
           blocked other other_is e h =
               let same : group ≡ other = same_Some group other (sym its_group ∙ other_is) in
-              subst (λ (z : Group). IsPassedOver w o.ask.group.0 o.ask.stripe.0 z e) same
+              subst (λ (z : Group). IsBlocked w o.ask.group.0 o.ask.stripe.0 z e) same
               (between_blocked setting sound w stamps me c group books said is group_is d.counted each once many bound looks all v greatest e h.0 h.1)
 
           -- with too few blocks nothing from v up to the stamp is held by a quorum
@@ -316,8 +314,8 @@ module _ (setting : Setting) (sound : IsSound setting) (w : World) (stamps : Sta
               (λ (not_above : stamp_below v e ≡ false).
               let same : v ≡ e = stamp_neither_below v e not_above h.0 in
               let group_same : group ≡ other = same_Some group other (sym its_group ∙ other_is) in
-              subst (λ (z : Group). IsPassedOver w o.ask.group.0 o.ask.stripe.0 z e) group_same
-              (subst (λ (t : Stamp). IsPassedOver w o.ask.group.0 o.ask.stripe.0 group t) same
+              subst (λ (z : Group). IsBlocked w o.ask.group.0 o.ask.stripe.0 z e) group_same
+              (subst (λ (t : Stamp). IsBlocked w o.ask.group.0 o.ask.stripe.0 group t) same
               (too_few_blocked setting sound w stamps me c group books said is group_is d.counted each once many bound looks all v greatest few)))
               (cases_Bool (stamp_below v e))
 
@@ -391,7 +389,7 @@ module _ (setting : Setting) (sound : IsSound setting) (w : World) (stamps : Sta
           → IsSaid setting (after (unless_refused z (Ends (answer_of c.ask.op c.content) None (Some c.stamp))))
       stores_on stores roomy None none =
           let made = subst (λ (p : Phase). MadeInPhase c o p) stores its.made in
-          let stands : AtQuorum group (λ seat. is_held c.stamp (part_of w o.ask.group.0 o.ask.stripe.0 (brick_at group seat)).log)
+          let stands : AtQuorum group (λ seat. w.held (brick_at group seat) o.ask.group.0 o.ask.stripe.0 c.stamp)
           = stored_stands setting sound w stamps me c group books said is group_is d.counted each once many stores none roomy in (
             stamps,
             said_ended setting w stamps me c group known books said is more_known (answer_of c.ask.op c.content) None (Some c.stamp)
@@ -400,9 +398,8 @@ module _ (setting : Setting) (sound : IsSound setting) (w : World) (stamps : Sta
                 (λ v has how other other_is.
                 let same : c.stamp ≡ v = same_Some c.stamp v (sym made.0 ∙ has) in
                 let group_same : group ≡ other = same_Some group other (sym its_group ∙ other_is) in
-                subst (λ (z : Group). AtQuorum z (λ seat. is_held v (part_of w o.ask.group.0 o.ask.stripe.0 (brick_at z seat)).log)) group_same
-                (subst (λ (t : Stamp). AtQuorum group (λ seat. is_held t
-                (part_of w o.ask.group.0 o.ask.stripe.0 (brick_at group seat)).log)) same stands))
+                subst (λ (z : Group). AtQuorum z (λ seat. w.held (brick_at z seat) o.ask.group.0 o.ask.stripe.0 v)) group_same
+                (subst (λ (t : Stamp). AtQuorum group (λ seat. w.held (brick_at group seat) o.ask.group.0 o.ask.stripe.0 t)) same stands))
                 (λ answered bytes op. made.1)
                 (stored_shows c.ask.op c.stamp (ap (λ a. a.op) (sym its.ask))
                 (ap (λ (a : Ask). is_stripe_op a.op) its.ask

@@ -139,7 +139,7 @@ module _ (setting : Setting) (w : World) (stamps : Stamping) (me from : BrickId)
     keeps = parts_keep (w.nodes me.0) call request reaction after
 
     grows : Grows w next stamps stamps
-    grows = quiet_grows w stamps stamps me (with_replica (w.nodes me.0) call reaction) more (stamps_same stamps) keeps
+    grows = quiet_grows w stamps stamps me (with_replica (w.nodes me.0) call reaction) more (stamps_same stamps) said.logged keeps
 
     tops : (g s : ℕ) → (top_of ((with_replica (w.nodes me.0) call reaction).replicas g s) ≡ top_of ((w.nodes me.0).replicas g s))
         ⊎ IsKnown stamps (top_of ((with_replica (w.nodes me.0) call reaction).replicas g s))
@@ -210,7 +210,7 @@ module _ (setting : Setting) (w : World) (stamps : Stamping) (me from : BrickId)
           called = says.1.1;
           top = subst (λ (t : Stamp). stamp_below (top_of before) t ≡ false) top (stamp_below_irrefl (top_of before));
           floor = subst (λ (t : Stamp). stamp_below t (says.1.0.floor me.0) ≡ false) top (floor_below says.1.0 says.1.1);
-          held = newest_held before.log version newest;
+          held = said.logged me.0 call.group.0 call.stripe.0 version.stamp ∙ newest_held before.log version newest;
           says = said.logs call.group.0 call.stripe.0 me.0 stands.0 version stands.1;
         }
 
@@ -257,7 +257,8 @@ module _ (setting : Setting) (w : World) (stamps : Stamping) (me from : BrickId)
           newest = λ d held less.
               subst (λ (z : Option Version). IsWithin z d) (sym found_is)
               (newest_below asked.0 d before.log (said.ascends call.group.0 call.stripe.0 me.0)
-              (subst (λ (r : Replica). is_held d r.log ≡ true) promise held) less);
+              (subst (λ (r : Replica). is_held d r.log ≡ true) promise
+              (sym (grows.parts.logged me.0 call.group.0 call.stripe.0 d) ∙ held)) less);
           says = λ version is.
               let at = newest_stands_below asked.0 before.log version (sym found_is ∙ is) in
               stays_version setting w next stamps stamps books grows call.group.0 call.stripe.0 me.0 version
@@ -302,7 +303,7 @@ module _ (setting : Setting) (w : World) (stamps : Stamping) (me from : BrickId)
       told.1,
       grows.sent (record { from = from; to = me; message = Message.Request call (Request.Write told.0 told.1) })
           (subst (λ (r : Request). WasSent w (record { from = from; to = me; message = Message.Request call r })) told.2 sent),
-      subst (λ (r : Replica). is_held told.0 r.log ≡ true) (sym now) told.3,
+      grows.parts.logged me.0 call.group.0 call.stripe.0 told.0 ∙ subst (λ (r : Replica). is_held told.0 r.log ≡ true) (sym now) told.3,
     )
     reply_says (Reply.Later x) told = (told.0, later_asked told.0 told.1, told.2)
     reply_says (Reply.Full live) told = full_live live told

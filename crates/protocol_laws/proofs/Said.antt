@@ -22,7 +22,7 @@ use Rattle.reg_model.specs.Marks.{life_of}
 use Rattle.reg_model.specs.Walk.{last_of}
 use Rattle.fab_base.specs.Layouts.{Group, group_of, seat_in}
 use Rattle.protocol.specs.Settings.{Setting, are_bytes}
-use Rattle.protocol.specs.Replicas.{top_of, is_held, stamp_max}
+use Rattle.protocol.specs.Replicas.{top_of, stamp_max}
 use Rattle.protocol.specs.declared.phases.Phase.{Phase}
 use Rattle.protocol.specs.declared.phases.Phase.TheVariants.{Looks, Orders, Recovers, Descends, Stores}
 use Rattle.protocol.specs.declared.phases.Counted.{Counted}
@@ -30,9 +30,9 @@ use Rattle.protocol.specs.Coordinators.{Coordinator, answers_phase, has_seat, st
 use Rattle.protocol.specs.Nodes.{Node}
 use Rattle.protocol.specs.Worlds.{World, Operation, zero_content}
 use Rattle.fab_base.specs.Layouts.{brick_at}
-use Rattle.protocol_laws.specs.Laws.{WasSent, WriteSent, AskedAt, part_of, AtQuorum, IsGuarded}
-use Rattle.protocol_laws.proofs.Held.{IsPassedOver}
+use Rattle.protocol_laws.specs.Laws.{WasSent, WriteSent, AskedAt, part_of, AtQuorum, IsGuarded, IsBlocked}
 use Rattle.protocol_laws.proofs.Books.{IsOperation, IsCall}
+use Rattle.protocol_laws.proofs.Blocking.{HeldIsLogged}
 use Rattle.protocol_laws.proofs.Logs.{LogAscends, IsWithin}
 
 -- a phase that was begun: its stamp, and what it does
@@ -60,11 +60,11 @@ IsRecovery stamps i b k p bound t =
 -- a quorum of the stripe's seats holds the version
 abbrev pub Stands : Setting → World → ℕ → ℕ → Stamp → Type 0
 Stands setting w g s v =
-    (group : Group) → group_of setting.layout g ≡ Some group → AtQuorum group (λ seat. is_held v (part_of w g s (brick_at group seat)).log)
+    (group : Group) → group_of setting.layout g ≡ Some group → AtQuorum group (λ seat. w.held (brick_at group seat) g s v)
 
 -- no quorum holds a stamp of these, or ever will
 abbrev pub AreBlocked : Setting → World → ℕ → ℕ → (Stamp → Type 0) → Type 0
-AreBlocked setting w g s Q = (group : Group) → group_of setting.layout g ≡ Some group → (d : Stamp) → Q d → IsPassedOver w g s group d
+AreBlocked setting w g s Q = (group : Group) → group_of setting.layout g ≡ Some group → (d : Stamp) → Q d → IsBlocked w g s group d
 
 -- a stripe's content: the bytes of m blocks
 abbrev pub IsContent : ℕ → ℕ → List ℕ → Type 0
@@ -163,7 +163,7 @@ pub record OrderedReadSays (setting : Setting) (w : World) (stamps : Stamping) (
   pub recovers : IsRecovery stamps i call.boot call.seq call.phase bound stamp
   pub promised : stamp_below (top_of (part_of w call.group.0 call.stripe.0 j)) stamp ≡ false
   pub floor : stamp_below stamp (operation.floor j) ≡ false
-  pub newest : (d : Stamp) → is_held d (part_of w call.group.0 call.stripe.0 j).log ≡ true → stamp_below d bound ≡ true → IsWithin found d
+  pub newest : (d : Stamp) → w.held j call.group.0 call.stripe.0 d ≡ true → stamp_below d bound ≡ true → IsWithin found d
   pub says : (version : Version) → found ≡ Some version → VersionSays setting w call.group.0 call.stripe.0 j version
 
 -- what brick j found
@@ -172,7 +172,7 @@ pub record FoundSays (setting : Setting) (w : World) (j i : ℕ) (call : Call) (
   pub called : IsCalled w i call operation
   pub top : stamp_below (top_of (part_of w call.group.0 call.stripe.0 j)) (stamp_max order version.stamp) ≡ false
   pub floor : stamp_below (stamp_max order version.stamp) (operation.floor j) ≡ false
-  pub held : is_held version.stamp (part_of w call.group.0 call.stripe.0 j).log ≡ true
+  pub held : w.held j call.group.0 call.stripe.0 version.stamp ≡ true
   pub says : VersionSays setting w call.group.0 call.stripe.0 j version
 
 -- what a reply of brick `from` to brick `to` says
@@ -182,7 +182,7 @@ ReplySays setting w stamps from to call Reply.Ordered = OrderedSays w stamps fro
 ReplySays setting w stamps from to call (Reply.OrderedRead found) = OrderedReadSays setting w stamps from.0 to.0 call found
 ReplySays setting w stamps from to call Reply.Stored =
     (t : Stamp) × (block : List ℕ) × WriteSent w call to from t block
-    × (is_held t (part_of w call.group.0 call.stripe.0 from.0).log ≡ true)
+    × (w.held from.0 call.group.0 call.stripe.0 t ≡ true)
 ReplySays setting w stamps from to call (Reply.Later x) = (t : Stamp) × AskedAt w call to from t × (stamp_below t x ≡ true)
 ReplySays setting w stamps from to call (Reply.Full live) = live ≡ setting.layout.records
 ReplySays setting w stamps from to call reply = Unit {0}
@@ -303,13 +303,14 @@ pub record Said (setting : Setting) (w : World) (stamps : Stamping) : Type 0 whe
   pub stamps_say : StampsSay w stamps
   pub tops : (g s i : ℕ) → IsKnown stamps (top_of (part_of w g s i))
   pub ascends : (g s i : ℕ) → LogAscends (part_of w g s i).log
-  pub first_held : (g s i : ℕ) → is_held first_stamp (part_of w g s i).log ≡ true
+  pub first_held : (g s i : ℕ) → w.held i g s first_stamp ≡ true
   pub logs : (g s i k : ℕ) (version : Version) → slice_get (part_of w g s i).log k ≡ Some version → VersionSays setting w g s i version
   pub packets : (k : ℕ) (packet : Packet) → slice_get w.packets k ≡ Some packet → PacketSays setting w stamps packet
   pub operations : (n : ℕ) (o : Operation) → IsOperation w n o → OperationSays setting w stamps n o
   pub calls : (i k : ℕ) (c : Coordinator) → IsCall w i k c → CallSays setting w stamps i k c
   pub ends : (k p n : ℕ) (answer : Answer) → slice_get w.marks k ≡ Some (End p n answer) → EndShows w n answer
   pub order : IsInOrder setting w
+  pub logged : HeldIsLogged w
   pub first : (g s : ℕ) → w.contents g s first_stamp ≡ zero_content setting.layout.block (group_of setting.layout g)
 
 -- what is said of a world, by some stamps of its phases

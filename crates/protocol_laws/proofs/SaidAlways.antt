@@ -289,6 +289,7 @@ said_first setting sound = (
     ends = λ k p n answer is. cc;
     order = λ a b earlier late u earlier_is late_is groups stripes version. cc;
     first = λ g s. refl;
+    logged = λ i g s t. refl;
   },
 )
 

@@ -90,7 +90,7 @@ module _ (setting : Setting) (w : World) (stamps : Stamping) (me : BrickId) (c :
   grow = stamps_grow stamps me.0 boot c.call.seq (c.call.phase + 1) begun none from
 
   grows : Grows w next stamps later
-  grows = quiet_grows w stamps later me node more grow (keeps_same (w.nodes me.0) node refl)
+  grows = quiet_grows w stamps later me node more grow said.logged (keeps_same (w.nodes me.0) node refl)
 
   begun_now : IsBegun later me.0 boot c.call.seq (c.call.phase + 1) phase t
   begun_now = stamp_now stamps me.0 boot c.call.seq (c.call.phase + 1) begun

@@ -1,6 +1,6 @@
 -- What an event owes to the invariant: only what is new.
 use Rattle.std.proofs.Common.{◌≡◌, ◌≢◌, ℕ, ◌+◌, ◌≤◌, ◌⊎◌, inl, inr, true, false, List, ◌++◌, length, zero, suc, Bool, Some, None, [], ◌∷◌, refl, sym, ap, ◌∙◌, subst, ⊎_elim, arith}
-use Rattle.std.specs.Prelude.{slice_get}
+use Rattle.std.specs.Prelude.{slice_get, ◌||◌}
 use Rattle.fab_base.specs.declared.identities.BrickId.{BrickId}
 use Rattle.fab_base.specs.declared.stamps.Stamp.{Stamp}
 use Rattle.fab_base.specs.declared.answers.Answer.{Answer}
@@ -25,11 +25,13 @@ use Rattle.protocol.specs.Worlds.{World, Operation, with_held}
 use Rattle.protocol_laws.specs.Laws.{WasSent, part_of}
 use Rattle.protocol_laws.proofs.Books.{Books, IsOperation, IsCall}
 use Rattle.protocol_laws.proofs.Logs.{LogAscends}
-use Rattle.protocol_laws.proofs.Blocking.{PartsStay}
+use Rattle.protocol_laws.proofs.Blocking.{PartsStay, HeldIsLogged, LogsStay, parts_from}
 use Rattle.protocol_laws.proofs.Said.{Stamping, Said, StampsSay, IsKnown, VersionSays, PacketSays, OperationSays, CallSays, EndShows, IsInOrder, FloorsAtLeast}
-use Rattle.protocol_laws.proofs.Tables.{put_each, get_kept, get_grown, get_added}
+use Rattle.protocol_laws.proofs.Tables.{put_each, get_kept, get_grown, get_added, put_same}
 use Rattle.protocol_laws.proofs.Stampings.{StampsGrow, Ages, ages_within, stamps_same, stays_known, stamps_stay}
 use Rattle.protocol_laws.proofs.Growth.{Grows, continues_same, stays_version, stays_packet, stays_operation, stays_call, stays_end}
+use Rattle.protocol_laws.proofs.Puts.{put_other}
+use Rattle.std.proofs.lemmas.Bool.{cases_eq}
 
 -- call k of brick i's boot b has the stamps that it had
 abbrev pub KeepsStamps : Stamping → Stamping → ℕ → ℕ → ℕ → Type 0
@@ -91,6 +93,7 @@ said_after setting w next stamps later books said grows owes = record {
       (owes.ends k p n answer is);
   order = owes.order;
   first = λ g s. grows.contents g s first_stamp (inl refl) ∙ said.first g s;
+  logged = grows.parts.logged;
 }
 
 -- one brick's parts of stripes do not fall, hold what they held, take nothing new below their stamps, and go on ascending
@@ -112,9 +115,9 @@ keeps_same node next same = record {
   ascends = λ g s ascends. subst (λ (r : ℕ → ℕ → Replica). LogAscends (r g s).log) (sym same) ascends;
 }
 
--- parts stay where one brick keeps its own
-pub parts_by : (w next : World) (me : ℕ) (node : Node) → next.nodes ≡ put w.nodes me node → KeepsParts (w.nodes me) node → PartsStay w next
-parts_by w next me node nodes keeps = record {
+-- logs stay where one brick keeps its own
+logs_by : (w next : World) (me : ℕ) (node : Node) → next.nodes ≡ put w.nodes me node → KeepsParts (w.nodes me) node → LogsStay w next
+logs_by w next me node nodes keeps = record {
   tops = λ g s i.
       subst (λ (f : ℕ → Node). stamp_below (top_of ((f i).replicas g s)) (top_of ((w.nodes i).replicas g s)) ≡ false) (sym nodes)
       (put_each (λ j x. stamp_below (top_of (x.replicas g s)) (top_of ((w.nodes j).replicas g s)) ≡ false) w.nodes me node
@@ -135,15 +138,57 @@ parts_by w next me node nodes keeps = record {
       (keeps.ascends g s) (λ j other ascends. ascends) i);
 }
 
+-- either of two, of which the first makes the second true
+either : (a b : Bool) → (a ≡ true → b ≡ true) → (a || b) ≡ b
+either true b goes = sym (goes refl)
+either false b goes = refl
+
+-- what bricks have held is in their logs, where one of them keeps its logs and adds to them
+logged_step : (w : World) (me : ℕ) (node : Node) → HeldIsLogged w → KeepsParts (w.nodes me) node → (i g s : ℕ) (t : Stamp)
+    → with_held w.held me node i g s t ≡ is_held t ((put w.nodes me node i).replicas g s).log
+logged_step w me node logged keeps i g s t = ⊎_elim
+    (λ (mine : i ≡ me).
+    ap (λ (j : ℕ). with_held w.held me node j g s t) mine
+    ∙ ap (λ (f : ℕ → ℕ → Stamp → Bool). f g s t) (put_same w.held me (λ h r u. w.held me h r u || is_held u (node.replicas h r).log))
+    ∙ ap (λ (b : Bool). b || is_held t (node.replicas g s).log) (logged me g s t)
+    ∙ either (is_held t ((w.nodes me).replicas g s).log) (is_held t (node.replicas g s).log) (keeps.held g s t)
+    ∙ ap (λ (x : Node). is_held t (x.replicas g s).log) (sym (put_same w.nodes me node))
+    ∙ ap (λ (j : ℕ). is_held t ((put w.nodes me node j).replicas g s).log) (sym mine))
+    (λ (other : i ≢ me).
+    ap (λ (f : ℕ → ℕ → Stamp → Bool). f g s t) (put_other w.held me (λ h r u. w.held me h r u || is_held u (node.replicas h r).log) i other)
+    ∙ logged i g s t
+    ∙ ap (λ (x : Node). is_held t (x.replicas g s).log) (sym (put_other w.nodes me node i other)))
+    (cases_eq i me)
+
+-- parts stay where one brick keeps its own, and what it keeps is noted as held
+pub parts_by : (w next : World) (me : ℕ) (node : Node) → next.nodes ≡ put w.nodes me node → next.held ≡ with_held w.held me node → HeldIsLogged w
+    → KeepsParts (w.nodes me) node → PartsStay w next
+parts_by w next me node nodes helds logged keeps =
+    parts_from w next (logs_by w next me node nodes keeps) logged (λ i g s t.
+    ap (λ (f : ℕ → ℕ → ℕ → Stamp → Bool). f i g s t) helds ∙ logged_step w me node logged keeps i g s t
+    ∙ ap (λ (f : ℕ → Node). is_held t ((f i).replicas g s).log) (sym nodes))
+
+-- and where its logs are as they were
+pub parts_kept : (w next : World) (me : ℕ) (node : Node) → next.nodes ≡ put w.nodes me node → next.held ≡ w.held → HeldIsLogged w
+    → node.replicas ≡ (w.nodes me).replicas → PartsStay w next
+parts_kept w next me node nodes helds logged same =
+    parts_from w next (logs_by w next me node nodes (keeps_same (w.nodes me) node same)) logged (λ i g s t.
+    ap (λ (f : ℕ → ℕ → ℕ → Stamp → Bool). f i g s t) helds
+    ∙ put_each (λ j x. w.held j g s t ≡ is_held t (x.replicas g s).log) w.nodes me node
+    (logged me g s t ∙ ap (λ (r : ℕ → ℕ → Replica). is_held t (r g s).log) (sym same)) (λ j other. logged j g s t) i
+    ∙ ap (λ (f : ℕ → Node). is_held t ((f i).replicas g s).log) (sym nodes))
+
 -- a world whose bricks are the same
-pub parts_same : (w next : World) → next.nodes ≡ w.nodes → PartsStay w next
-parts_same w next nodes =
-    subst (λ (f : ℕ → Node). PartsStay w (record next { nodes = f })) (sym nodes) (record {
+pub parts_same : (w next : World) → next.nodes ≡ w.nodes → next.held ≡ w.held → HeldIsLogged w → PartsStay w next
+parts_same w next nodes helds logged =
+    parts_from w next
+    (subst (λ (f : ℕ → Node). LogsStay w (record next { nodes = f })) (sym nodes) (record {
       tops = λ g s i. stamp_below_irrefl (top_of (part_of w g s i));
       held = λ g s i t held. held;
       newer = λ g s i t held. inl held;
       ascends = λ g s i ascends. ascends;
-    })
+    })) logged (λ i g s t.
+    ap (λ (f : ℕ → ℕ → ℕ → Stamp → Bool). f i g s t) helds ∙ logged i g s t ∙ ap (λ (f : ℕ → Node). is_held t ((f i).replicas g s).log) (sym nodes))
 
 -- what was sent stays sent where packets are added
 pub sent_by : (w next : World) (more : List Packet) → next.packets ≡ w.packets ++ more → (packet : Packet) → WasSent w packet → WasSent next packet
@@ -180,9 +225,9 @@ quiet w me node more =
     record w { nodes = put w.nodes me.0 node; held = with_held w.held me.0 node; packets = w.packets ++ more }
 
 pub quiet_grows : (w : World) (stamps later : Stamping) (me : BrickId) (node : Node) (more : List Packet) → StampsGrow stamps later
-    → KeepsParts (w.nodes me.0) node → Grows w (quiet w me node more) stamps later
-quiet_grows w stamps later me node more grow keeps = record {
-  parts = parts_by w (quiet w me node more) me.0 node refl keeps;
+    → HeldIsLogged w → KeepsParts (w.nodes me.0) node → Grows w (quiet w me node more) stamps later
+quiet_grows w stamps later me node more grow logged keeps = record {
+  parts = parts_by w (quiet w me node more) me.0 node refl refl logged keeps;
   sent = sent_by w (quiet w me node more) more refl;
   operations = λ n o is. (o, is, continues_same o);
   contents = λ g s t made. refl;
@@ -209,7 +254,7 @@ pub said_quiet : (setting : Setting) (w : World) (stamps later : Stamping) (me :
     → Said setting w stamps → StampsGrow stamps later → QuietOwes setting w stamps later me node more → Said setting (quiet w me node more) later
 said_quiet setting w stamps later me node more books said grow owes =
     let next : World = quiet w me node more in
-    said_after setting w next stamps later books said (quiet_grows w stamps later me node more grow owes.keeps) (record {
+    said_after setting w next stamps later books said (quiet_grows w stamps later me node more grow said.logged owes.keeps) (record {
       stamps_say = owes.stamps_say;
       tops = λ g s i.
           put_each (λ j x. (top_of (x.replicas g s) ≡ top_of ((w.nodes j).replicas g s)) ⊎ IsKnown later (top_of (x.replicas g s)))
@@ -272,7 +317,7 @@ pub said_added : (setting : Setting) (w : World) (stamps : Stamping) (clocks : �
 said_added setting w stamps clocks replies packets books said kept old =
     let next : World = record w { clocks = clocks; packets = packets; replies = replies } in
     let grows : Grows w next stamps stamps = record {
-      parts = parts_same w next refl;
+      parts = parts_same w next refl refl said.logged;
       sent = kept;
       operations = λ n o is. (o, is, continues_same o);
       contents = λ g s t made. refl;
@@ -311,7 +356,7 @@ said_idle setting w stamps me node after up past marks books said same none ages
     let next : World = record w { nodes = put w.nodes me node; after = after; up = up; past = past; marks = marks } in
     said_after setting w next stamps stamps books said
     (record {
-      parts = parts_by w next me node refl (keeps_same (w.nodes me) node same);
+      parts = parts_kept w next me node refl refl said.logged same;
       sent = λ packet sent. sent;
       operations = λ n o is. (o, is, continues_same o);
       contents = λ g s t made. refl;

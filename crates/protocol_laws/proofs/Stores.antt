@@ -267,7 +267,7 @@ module _ (setting : Setting) (sound : IsSound setting) (w : World) (stamps : Sta
     }
 
     grows : Grows w next stamps later
-    grows = operated_grows setting w stamps later me node more w.marks n o made contents keeps grow
+    grows = operated_grows setting w stamps later me node more w.marks n o made contents keeps said.logged grow
 
     -- the version was made
     made_now : IsMadeOrFirst next o.ask.group.0 o.ask.stripe.0 c.stamp

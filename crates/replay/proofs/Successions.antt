@@ -6,8 +6,7 @@ use Rattle.fab_base.specs.Layouts.{Layout}
 use Rattle.protocol.specs.Settings.{Setting, IsSound}
 use Rattle.protocol.specs.Worlds.{World, Event, first_world, run}
 use Rattle.protocol_laws.proofs.Left.{always_leaves}
-use Rattle.protocol_laws.proofs.Falls.{parts_stay_on}
-use Rattle.protocol_laws.proofs.HeldAlways.{never_surfaces}
+use Rattle.protocol_laws.proofs.Falls.{parts_stay_on, always_logged, never_surfaces}
 use Rattle.world.specs.Runs.{after_line, after_lines, events_of}
 use Rattle.world.proofs.RunLemmas.{after_lines-run, world_of-run}
 use Rattle.replay.specs.Histories.{Succeeds}
@@ -28,8 +27,8 @@ follows_events layout sound events more earlier later first then =
     of_run : Succeeds layout (run (coding layout) events (first_world layout))
         (run (coding layout) more (run (coding layout) events (first_world layout)))
     of_run = record {
-      never_falls = (parts_stay_on (coding layout) more (run (coding layout) events (first_world layout)) (always_leaves (coding layout) events)).tops;
-      adds_nothing_below = (parts_stay_on (coding layout) more (run (coding layout) events (first_world layout)) (always_leaves (coding layout) events)).newer;
+      never_falls = (parts_stay_on (coding layout) more (run (coding layout) events (first_world layout)) (always_leaves (coding layout) events) (always_logged (coding layout) events)).tops;
+      adds_nothing_below = (parts_stay_on (coding layout) more (run (coding layout) events (first_world layout)) (always_leaves (coding layout) events) (always_logged (coding layout) events)).adds;
       never_surfaces = λ g s group v here lost held. never_surfaces (coding layout) events more g s group v sound here lost held;
     }
 
