@@ -6,8 +6,8 @@ use Rattle.std.specs.Str.{bytes_eq}
 use Rattle.lines.specs.Tokens.{tokens, number, bytes_of_hex}
 use Rattle.lines.specs.declared.forms.Line.{Line}
 use Rattle.lines.specs.declared.forms.Line.TheVariants.{Nothing, Invoke, Deliver, SetClock, Tick, Crash, Start}
-use Rattle.fab_base.specs.declared.asks.Op.{Op}
-use Rattle.fab_base.specs.declared.asks.Op.TheVariants.{WriteStripe, ReadStripe}
+use Rattle.lines.specs.declared.forms.Access.{Access}
+use Rattle.lines.specs.declared.forms.Access.TheVariants.{WriteStripe, ReadStripe}
 
 -- the second step, if the first found a value
 infixl 10 ◌>>=◌
@@ -15,12 +15,12 @@ abbrev pub ◌>>=◌ : {A B : Type 0} → Option A → (A → Option B) → Opti
 found >>= next = option_and_then next found
 
 -- an operation on the stripe that the tokens `B G S` name
-unfoldable pub invoke : List ℕ → List ℕ → List ℕ → Op → Option Line
-invoke b g s op = do
+unfoldable pub invoke : List ℕ → List ℕ → List ℕ → Access → Option Line
+invoke b g s access = do
   brick ← number b
   group ← number g
   stripe ← number s
-  Some (Invoke brick group stripe op)
+  Some (Invoke brick group stripe access)
 
 -- `writeall B G S HEX`, behind its first word
 unfoldable pub write_all : List (List ℕ) → Option Line

@@ -3,11 +3,20 @@ ghost use Rattle.std.specs.Prelude.{◌≡◌, map, IfOk};
 ghost use Rattle.lines.specs.Grammar.{line_of, line_of_tokens, form, write_all, read_all, invoke, deliver, clock, one_brick};
 
 use crate::tokens::{parse_hex, parse_number, split};
-use fab_base::{NoMem, Op};
+use fab_base::{Bytes, NoMem};
 use std::alloc::Global;
 
 /// The most bytes of a line, not counting its line feed and the one carriage return before that.
 pub const LINE_LIMIT: usize = 70_000;
+
+/// What an operation is to do with its stripe.
+#[derive(Debug, Drop)]
+pub enum Access {
+    /// To read all data blocks.
+    ReadStripe,
+    /// To write all data blocks: these bytes.
+    WriteStripe(Bytes),
+}
 
 /// What a line of a schedule says. Its numbers are any below 2^64: whether there is such a brick, group, stripe or
 /// message is for the one who runs the line to find.
@@ -23,8 +32,8 @@ pub enum Line {
         group: u64,
         /// The stripe within the group.
         stripe: u64,
-        /// The operation.
-        op: Op,
+        /// What to do with it.
+        access: Access,
     },
     /// A message is to be handled by its receiver: `deliver K`.
     Deliver {
@@ -122,7 +131,7 @@ fn parse_write_all(alloc: Global, arguments: &[&[u8]]) -> Result<Option<Line>, N
         arguments[0],
         arguments[1],
         arguments[2],
-        Op::WriteStripe(bytes),
+        Access::WriteStripe(bytes),
     ))
 }
 
@@ -133,19 +142,19 @@ fn parse_read_all(arguments: &[&[u8]]) -> Option<Line>
     if arguments.len() != 3 {
         return None;
     }
-    parse_invoke(arguments[0], arguments[1], arguments[2], Op::ReadStripe)
+    parse_invoke(arguments[0], arguments[1], arguments[2], Access::ReadStripe)
 }
 
 /// An operation on the stripe that the tokens `B G S` name.
 #[tactic(auto, unfolding(crate::specs::Grammar::invoke))]
-fn parse_invoke(brick: &[u8], group: &[u8], stripe: &[u8], op: Op) -> Option<Line>
-    ensures { result ≡ invoke brick.now group.now stripe.now op }
+fn parse_invoke(brick: &[u8], group: &[u8], stripe: &[u8], access: Access) -> Option<Line>
+    ensures { result ≡ invoke brick.now group.now stripe.now access }
 {
     Some(Line::Invoke {
         brick: parse_number(brick)?,
         group: parse_number(group)?,
         stripe: parse_number(stripe)?,
-        op,
+        access,
     })
 }
 

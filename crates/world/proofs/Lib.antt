@@ -2,7 +2,6 @@ pub mod BrickLemmas
 pub mod EntryMaps
 pub mod HistoryLemmas
 pub mod KeptOperations
-pub mod LineLemmas
 pub mod MachineBegins
 pub mod MachineSteps
 pub mod BrickListLemmas

@@ -3,8 +3,11 @@ use Rattle.std.specs.Prelude.{ℕ, if◌then◌else◌, List, [], ◌∷◌, ◌
 use Rattle.fab_base.specs.declared.identities.BrickId.{BrickId}
 use Rattle.fab_base.specs.declared.asks.Ask.{Ask}
 use Rattle.fab_base.specs.declared.asks.Op.{Op}
+use Rattle.fab_base.specs.declared.asks.Op.TheVariants as op
 use Rattle.fab_base.specs.declared.answers.Refusal.{Refusal}
 use Rattle.fab_base.specs.declared.answers.Refusal.TheVariants.{Down}
+use Rattle.lines.specs.declared.forms.Access.{Access}
+use Rattle.lines.specs.declared.forms.Access.TheVariants.{ReadStripe, WriteStripe}
 use Rattle.lines.specs.declared.forms.Line.{Line}
 use Rattle.lines.specs.declared.forms.Line.TheVariants.{Nothing, Invoke, Deliver, SetClock, Tick, Crash, Start}
 use Rattle.fab_base.specs.Layouts.{Layout}
@@ -26,10 +29,15 @@ brick_of b = record { 0 = b }
 abbrev pub ask_of : ℕ → ℕ → Op → Ask
 ask_of g s op = record { group = record { 0 = g }; stripe = record { 0 = s }; op = op }
 
+-- what an operation is to do, as a brick is asked
+abbrev pub op_of : Access → Op
+op_of ReadStripe = op.ReadStripe
+op_of (WriteStripe bytes) = op.WriteStripe bytes
+
 -- the event of a line, if it is one: a brick stops during no handling, and one that starts opens its store once, and finds what it kept
 abbrev pub event_of : Line → Option Event
 event_of Nothing = None
-event_of (Invoke b g s op) = Some (Invokes (brick_of b) (ask_of g s op))
+event_of (Invoke b g s access) = Some (Invokes (brick_of b) (ask_of g s (op_of access)))
 event_of (Deliver k) = Some (Delivers k)
 event_of (SetClock b v) = Some (Sets (brick_of b) v)
 event_of (Tick b) = Some (Ticks (brick_of b))

@@ -7,8 +7,6 @@ use Rattle.std.specs.Option.{option_map}
 use Rattle.fab_base.specs.declared.faults.NoMem.{NoMem}
 use Rattle.fab_base.specs.declared.identities.BrickId.{BrickId}
 use Rattle.fab_base.specs.declared.stamps.Stamp.{Stamp}
-use Rattle.lines.specs.declared.forms.Line.{Line}
-use Rattle.lines.specs.declared.forms.Line.TheVariants.{Nothing, Invoke, Deliver, SetClock, Tick, Crash, Start}
 use Rattle.fab_disk.specs.Past.{IsImage}
 use Rattle.fab_disk.specs.MemDisk.{content_of, past_of_disk, IsSound}
 use Rattle.fab_disk.specs.declared.mem_disk.MemDisk.{MemDisk}
@@ -175,13 +173,3 @@ abbrev pub IsOfCall : machine.Node → Told → Type 0
 IsOfCall node told.Nothing = Unit {0}
 IsOfCall node (told.Made seq stamp base) = (1 ≤ seq) × (seq ≤ node.seq)
 IsOfCall node (told.Answers seq answer seen) = (1 ≤ seq) × (seq ≤ node.seq)
-
--- a line asks for a whole stripe, where it asks for an operation
-abbrev pub IsOfStripes : Line → Type 0
-IsOfStripes Nothing = Unit {0}
-IsOfStripes (Invoke b g s op) = machine.is_stripe_op op ≡ true
-IsOfStripes (Deliver k) = Unit {0}
-IsOfStripes (SetClock b v) = Unit {0}
-IsOfStripes (Tick b) = Unit {0}
-IsOfStripes (Crash b) = Unit {0}
-IsOfStripes (Start b) = Unit {0}

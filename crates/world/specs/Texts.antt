@@ -21,7 +21,7 @@ use Rattle.protocol.specs.Settings.{Setting}
 use Rattle.protocol.specs.Worlds.{World, is_brick, is_up, may_start, packet_of}
 use Rattle.fab_base.specs.Layouts.{Layout}
 use Rattle.fab_base.specs.declared.identities.BrickId.{BrickId}
-use Rattle.world.specs.Runs.{after_line, brick_of, ask_of, refusal_at}
+use Rattle.world.specs.Runs.{after_line, brick_of, ask_of, op_of, refusal_at}
 use Rattle.world.specs.declared.simulations.Outcome.{Outcome}
 use Rattle.world.specs.declared.simulations.Outcome.TheVariants.{Marks, Refused, Idle}
 
@@ -116,7 +116,7 @@ started_or_idle layout w brick = if may_start layout w brick 1 then Marks else I
 -- what a line comes to
 abbrev pub outcome_of : Setting → World → Line → Outcome
 outcome_of setting w Nothing = Marks
-outcome_of setting w (Invoke b g s op) = refused_or_begun (refusal_at setting w (brick_of b) (ask_of g s op))
+outcome_of setting w (Invoke b g s access) = refused_or_begun (refusal_at setting w (brick_of b) (ask_of g s (op_of access)))
 outcome_of setting w (Deliver k) = handled_or_idle setting w (packet_of w.packets k)
 outcome_of setting w (SetClock b v) = set_or_idle setting.layout (brick_of b)
 outcome_of setting w (Tick b) = done_or_idle setting.layout w (brick_of b)

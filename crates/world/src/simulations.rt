@@ -1,9 +1,9 @@
 //! What a world keeps: its bricks and their clocks, and what happened.
 
-ghost use Rattle.std.specs.Prelude.{◌≡◌, Some, IfNone, IfSome};
+ghost use Rattle.std.specs.Prelude.{◌≡◌, true, Some, IfNone, IfSome, IfOk};
 ghost use Rattle.protocol.specs.Nodes as machine;
-ghost use Rattle.protocol.specs.Nodes.{refusal_of};
-ghost use Rattle.world.specs.Runs.{ask_of};
+ghost use Rattle.protocol.specs.Nodes.{is_stripe_op, refusal_of};
+ghost use Rattle.world.specs.Runs.{ask_of, op_of};
 
 use crate::bricks::{
     Brick, ask_brick, find_up, fresh_bricks, hand_over, next_of, start_brick, stop_brick,
@@ -12,7 +12,7 @@ use crate::bricks::{
 use crate::histories::{History, packet_at};
 use fab_base::{Ask, BrickId, GroupId, NoMem, Op, Refusal, StripeNo};
 use layout::Layout;
-use lines::Line;
+use lines::{Access, Line};
 use node::NodeFault;
 use std::alloc::Global;
 
@@ -51,6 +51,17 @@ fn place_of(layout: &Layout, group: u64, stripe: u64) -> Option<(GroupId, Stripe
     Some((group, StripeNo(stripe as u32)))
 }
 
+/// What an operation is to do, as a brick is asked.
+fn op_of(alloc: Global, access: &Access) -> Result<Op, NoMem>
+    ensures value { IfOk result (λ op. op ≡ op_of access.now) }
+    ensures stripe { IfOk result (λ op. is_stripe_op op ≡ true) }
+{
+    match access {
+        Access::ReadStripe => Ok(Op::ReadStripe),
+        Access::WriteStripe(bytes) => Ok(Op::WriteStripe(bytes.copy(alloc)?)),
+    }
+}
+
 impl Simulation {
     ghost use Rattle.std.specs.Prelude.{◌≡◌, ◌<◌, ◌≤◌, true, None, vec_len, IfOk, OnOk, OnErr};
     ghost use Rattle.protocol.specs.Nodes.{is_stripe_op};
@@ -58,8 +69,8 @@ impl Simulation {
     ghost use Rattle.protocol.specs.Worlds.Event.{Invokes, Delivers, Sets, Ticks, Stops, Starts};
     ghost use Rattle.protocol.specs.Worlds.Found.{Before};
     ghost use Rattle.stripe_code.specs.Codes.{coding};
-    ghost use Rattle.world.specs.Runs.{brick_of, ask_of, refusal_at, after_line};
-    ghost use Rattle.world.specs.Shown.{AreNodesOf, Shows, IsUp, IsNumbered, IsOfStripes};
+    ghost use Rattle.world.specs.Runs.{brick_of, ask_of, op_of, refusal_at, after_line};
+    ghost use Rattle.world.specs.Shown.{AreNodesOf, Shows, IsUp, IsNumbered};
     ghost use Rattle.world.specs.Texts.{refused_or_begun, handled_or_idle, set_or_idle, done_or_idle, started_or_idle, outcome_of};
 
     /// All bricks up, their stores fresh, their clocks at 0, and nothing sent.
@@ -76,7 +87,6 @@ impl Simulation {
     pub fn run(&mut self, alloc: Global, layout: &Layout, line: &Line) -> Result<Outcome, NoMem>
         requires nodes { AreNodesOf layout.now self.old.bricks.items }
         requires bricks { vec_len self.old.bricks ≡ layout.now.bricks }
-        requires stripes { IsOfStripes line.now }
         ensures shows { OnOk result ((w : World) → IsNumbered w → Shows layout.now self.old w
             → Shows layout.now self.new (after_line (coding layout.now) w line.now)) }
         ensures outcome { IfOk result (λ outcome. (w : World) → Shows layout.now self.old w
@@ -90,8 +100,8 @@ impl Simulation {
                 brick,
                 group,
                 stripe,
-                op,
-            } => self.invoke(alloc, layout, *brick, *group, *stripe, op),
+                access,
+            } => self.invoke(alloc, layout, *brick, *group, *stripe, access),
             Line::Deliver { message } => self.deliver(layout, *message),
             Line::SetClock { brick, time } => Ok(self.set_clock(layout, *brick, *time)),
             Line::Tick { brick } => self.tick(layout, *brick),
@@ -108,15 +118,14 @@ impl Simulation {
         brick: u64,
         group: u64,
         stripe: u64,
-        op: &Op,
+        access: &Access,
     ) -> Result<Outcome, NoMem>
         requires nodes { AreNodesOf layout.now self.old.bricks.items }
         requires bricks { vec_len self.old.bricks ≡ layout.now.bricks }
-        requires stripes { is_stripe_op op.now ≡ true }
         ensures shows { OnOk result ((w : World) → Shows layout.now self.old w
-            → Shows layout.now self.new (happens (coding layout.now) w (Invokes (brick_of brick) (ask_of group stripe op.now)))) }
+            → Shows layout.now self.new (happens (coding layout.now) w (Invokes (brick_of brick) (ask_of group stripe (op_of access.now))))) }
         ensures outcome { IfOk result (λ outcome. (w : World) → Shows layout.now self.old w
-            → outcome ≡ refused_or_begun (refusal_at (coding layout.now) w (brick_of brick) (ask_of group stripe op.now))) }
+            → outcome ≡ refused_or_begun (refusal_at (coding layout.now) w (brick_of brick) (ask_of group stripe (op_of access.now)))) }
         ensures err { OnErr result ((w : World) → Shows layout.now self.old w → Shows layout.now self.new w) }
         ensures marks { vec_len self.old.history.marks ≤ vec_len self.new.history.marks }
     {
@@ -128,7 +137,7 @@ impl Simulation {
             Some(place) => place,
             None => return Ok(Outcome::Refused(Refusal::NoStripe)),
         };
-        let op = op.copy(alloc)?;
+        let op = op_of(alloc, access)?;
         self.begin(layout, brick, Ask { group, stripe, op })
     }
 

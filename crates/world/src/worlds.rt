@@ -78,7 +78,6 @@ impl World {
     ghost use Rattle.stripe_code.specs.Codes.{coding};
     ghost use Rattle.protocol.specs.Happenings.{happenings_of};
     ghost use Rattle.world.specs.Runs.{world_of};
-    ghost use Rattle.world.specs.Shown.{IsOfStripes};
     ghost use Rattle.world.specs.Texts.{outcome_of};
     ghost use Rattle.world.specs.Steps.{Ran, Stands, with_line, log_at};
     ghost use Rattle.world.specs.Walks.{AreEntriesOf};
@@ -122,7 +121,6 @@ impl World {
 
     /// Runs a line.
     fn run(&mut self, line: Line) -> Result<Outcome, NoMem>
-        requires stripes { IsOfStripes line }
         ensures ok { OnOk result (self.new ≡ with_line self.old line) }
         ensures outcome { IfOk result (λ outcome. outcome ≡ outcome_of (coding self.old.layout) (world_of self.old) line) }
         ensures marks { OnOk result (length (world_of self.old).marks ≤ length (world_of self.new).marks) }

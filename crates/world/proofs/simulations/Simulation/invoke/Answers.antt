@@ -5,7 +5,7 @@ use Rattle.fab_base.specs.declared.asks.Ask.{Ask}
 use Rattle.fab_base.specs.declared.identities.BrickId.{BrickId}
 use Rattle.stripe_code.specs.Codes.{coding}
 use Rattle.protocol.specs.Worlds.{World, Invokes, is_up, happens}
-use Rattle.world.specs.Runs.{brick_of, ask_of, refusal_at}
+use Rattle.world.specs.Runs.{brick_of, ask_of, op_of, refusal_at}
 use Rattle.world.specs.Shown.{Shows}
 use Rattle.world.specs.Texts.{refused_or_begun}
 use Rattle.world.proofs.MachineBegins.{refusal_down, refusal_here}
@@ -20,7 +20,7 @@ returns-in-None-clause-shows c w shows =
 
 pub returns-in-None-clause-outcome : goal.returns-in-None-clause-outcome
 returns-in-None-clause-outcome c w shows =
-    sym (ap refused_or_begun (refusal_down (coding c.args.layout.now) w (brick_of c.args.brick) (ask_of c.args.group c.args.stripe c.args.op.now)
+    sym (ap refused_or_begun (refusal_down (coding c.args.layout.now) w (brick_of c.args.brick) (ask_of c.args.group c.args.stripe (op_of c.args.access.now))
     (down_at c.args.layout.now _ _ c.args.brick (brick_of c.args.brick) c.deref.ensures.value refl c.in-None.ensures w shows.bricks)))
 
 pub returns-in-None-place_of-clause-shows : goal.returns-in-None-place_of-clause-shows
@@ -32,8 +32,8 @@ returns-in-None-place_of-clause-outcome c w shows =
     up_at c.args.layout.now _ _ c.args.brick (brick_of c.args.brick) c.in-Some.brick c.deref.ensures.value refl c.in-Some.ensures
     in
     let up = subst (λ (brick : BrickId). is_up c.args.layout.now w brick ≡ true) found.0 (found.1.up w shows.bricks) in
-    sym (ap refused_or_begun (refusal_here (coding c.args.layout.now) w (brick_of c.args.brick) (ask_of c.args.group c.args.stripe c.args.op.now) up
-    ∙ c.in-None-place_of.ensures.none (w.nodes c.args.brick) c.args.op.now))
+    sym (ap refused_or_begun (refusal_here (coding c.args.layout.now) w (brick_of c.args.brick) (ask_of c.args.group c.args.stripe (op_of c.args.access.now)) up
+    ∙ c.in-None-place_of.ensures.none (w.nodes c.args.brick) (op_of c.args.access.now)))
 
 pub begin-requires-clause-brick : goal.begin-requires-clause-brick
 begin-requires-clause-brick c =
@@ -50,7 +50,7 @@ returns-clause-shows c =
     let ask : Ask = record { group = c.in-Some-place_of.place.0; stripe = c.in-Some-place_of.place.1; op = c.in_ok-op.op } in
     subst (λ (x : Ask). OnOk c.begin.result ((w : World) → Shows c.args.layout.now c.args.self.now w
     → Shows c.args.layout.now c.begin.new.self (happens (coding c.args.layout.now) w (Invokes (brick_of c.args.brick) x))))
-    (ask_is ask c.args.group c.args.stripe c.args.op.now c.in-Some-place_of.ensures.some.0 c.in-Some-place_of.ensures.some.1 c.in_ok-op.ensures)
+    (ask_is ask c.args.group c.args.stripe (op_of c.args.access.now) c.in-Some-place_of.ensures.some.0 c.in-Some-place_of.ensures.some.1 c.in_ok-op.ensures.value)
     (subst (λ (brick : BrickId). OnOk c.begin.result ((w : World) → Shows c.args.layout.now c.args.self.now w
     → Shows c.args.layout.now c.begin.new.self (happens (coding c.args.layout.now) w (Invokes brick ask)))) found.0
     c.begin.ensures.shows)
@@ -63,7 +63,7 @@ returns-clause-outcome c =
     let ask : Ask = record { group = c.in-Some-place_of.place.0; stripe = c.in-Some-place_of.place.1; op = c.in_ok-op.op } in
     subst (λ (x : Ask). IfOk c.begin.result (λ outcome. (w : World) → Shows c.args.layout.now c.args.self.now w
     → outcome ≡ refused_or_begun (refusal_at (coding c.args.layout.now) w (brick_of c.args.brick) x)))
-    (ask_is ask c.args.group c.args.stripe c.args.op.now c.in-Some-place_of.ensures.some.0 c.in-Some-place_of.ensures.some.1 c.in_ok-op.ensures)
+    (ask_is ask c.args.group c.args.stripe (op_of c.args.access.now) c.in-Some-place_of.ensures.some.0 c.in-Some-place_of.ensures.some.1 c.in_ok-op.ensures.value)
     (subst (λ (brick : BrickId). IfOk c.begin.result (λ outcome. (w : World) → Shows c.args.layout.now c.args.self.now w
     → outcome ≡ refused_or_begun (refusal_at (coding c.args.layout.now) w brick ask))) found.0
     c.begin.ensures.outcome)

@@ -1,12 +1,8 @@
 -- The line was run, and the text is what it prints.
 use Rattle.std.proofs.Common.{length, sym, ap, ◌∙◌}
 use Rattle.world.specs.Runs.{Run, world_of}
-use Rattle.world.proofs.LineLemmas.{asks_stripes}
 use Rattle.world.proofs.RunLemmas.{text_is}
 use Rattle.world.proofs.worlds.World.step.Goals as goal
-
-pub run-requires : goal.run-requires
-run-requires c = record { stripes = asks_stripes c.args.content.now c.in-Some.line (sym c.in_ok-line.ensures ∙ c.in-Some.is) }
 
 pub returns-clause-ok : goal.returns-clause-ok
 returns-clause-ok c = record {
