@@ -13,7 +13,7 @@ ghost use Rattle.world.specs.Shown.{Rests, ShowsBrick, ShowsBricks, ShowsStarted
 
 use brick_store::StoreFault;
 use fab_base::{Ask, BrickId, NoMem};
-use fab_disk::MemDisk;
+use fab_disk::{MemDisk, Plan};
 use layout::Layout;
 use messages::{Messages, Packet};
 use node::{Begun, Node, NodeFault, Outs};
@@ -199,7 +199,11 @@ pub fn hand_over(bricks: &mut Vec<Brick>, number: BrickId, packet: &Packet) -> R
     let brick = &mut bricks[number.0 as usize];
     match &mut brick.power {
         Power::Up(node) => match node.on_message(brick.clock, packet) {
-            Ok(outs) => Ok(outs),
+            Ok(outs) => {
+                // What was synced need not be undone any more: the disk lets go of it.
+                node.arm(Plan::Never);
+                Ok(outs)
+            }
             Err(NodeFault::NoMemory) => Err(NoMem::NoMemory),
             Err(NodeFault::Halted | NodeFault::Refused(_) | NodeFault::Disk) => unreachable!(),
         },

@@ -1,5 +1,6 @@
 -- The brick of the number does what the machine's does.
-use Rattle.std.proofs.Common.{rules}
+use Rattle.std.proofs.Common.{refl, ◌∙◌, rules}
+use Rattle.node.specs.Running.{IsSameBrick}
 use Rattle.world.proofs.BrickListLemmas.{on_at, handed_over, same_shown}
 use Rattle.world.proofs.bricks.hand_over.Goals as goal
 
@@ -17,9 +18,19 @@ returns-in-Ok-clause-stepped c =
     let on =
     on_at c.requires.0 c.args.bricks.now.items c.args.number c.index_mut-brick.result.now _ c.index_mut-brick.ensures.value c.in-Up.is c.requires.1
     in
-    handed_over c.args.bricks.now.items c.args.number.0 c.index_mut-brick.result.now c.in-Up.node c.on_message.new.self c.args.packet.now c.in-Ok.outs
-    c.requires.1.within c.index_mut-brick.ensures.value c.in-Up.is c.on_message.ensures.same (let runs = on.0 in let sound = on.1 in search rules)
-    (let runs = on.0 in let sound = on.1 in search rules) c.in-Ok.ensures.step
+    let same : IsSameBrick c.in-Up.node c.arm.new.self = record {
+      layout = c.arm.ensures.same.layout ∙ c.on_message.ensures.same.layout;
+      me = c.arm.ensures.same.me ∙ c.on_message.ensures.same.me;
+    } in
+    handed_over c.args.bricks.now.items c.args.number.0 c.index_mut-brick.result.now c.in-Up.node c.arm.new.self c.args.packet.now c.in-Ok.outs
+    c.requires.1.within c.index_mut-brick.ensures.value c.in-Up.is same
+    (c.arm.ensures.halted ∙ (let runs = on.0 in let sound = on.1 in search rules))
+    (c.arm.ensures.sound refl (let runs = on.0 in let sound = on.1 in search rules))
+    (record {
+      packets = c.in-Ok.ensures.step.packets;
+      told = c.in-Ok.ensures.step.told;
+      state_is = c.arm.ensures.state ∙ c.in-Ok.ensures.step.state_is;
+    })
 
 pub returns-in-Err-NoMemory-clause-err : goal.returns-in-Err-NoMemory-clause-err
 returns-in-Err-NoMemory-clause-err c =
