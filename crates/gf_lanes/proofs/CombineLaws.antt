@@ -43,6 +43,21 @@ lanes-added n size start at weight weights blocks sum product starts own sums pr
           ∙ sym (sum_to-next n size weights blocks (at + k));
     }
 
+-- a vector of sums is stored
+pub sum-stored : (n size at : ℕ) (weights blocks old sum : List ℕ) → n ≡ length weights → size ≡ length old → at + 32 ≤ length old
+    → HasLanes sum (λ k. sum_to n size weights blocks (at + k)) → IsCombinedWithin at (at + 32) weights blocks old (put_chunk at old sum)
+sum-stored n size at weights blocks old sum all whole room lanes =
+    let long = lanes.long in
+    record {
+      each = λ t from to.
+          let place : at + (t - at) ≡ t = omega arith in
+          subst (λ j. get_or (put_chunk at old sum) j 0 ≡ combined (length old) weights blocks j) place
+          (get_or-put_chunk_at at old sum (t - at) 0 (omega arith) (omega arith) ∙ lanes.each (t - at) (omega arith)
+          ∙ (λ i. sum_to (all i) (whole i) weights blocks (at + (t - at))));
+      below = λ t before. get_or-put_chunk_below at old sum t 0 before;
+      above = λ t behind. get_or-put_chunk_above at old sum t 0 (omega arith);
+    }
+
 -- two vectors of sums are stored one behind the other
 pub sums-stored : (n at : ℕ) (weights blocks old first second : List ℕ) → n ≡ length weights → at + 64 ≤ length old
     → HasLanes first (λ k. sum_to n (length old) weights blocks (at + k)) → HasLanes second (λ k. sum_to n (length old) weights blocks (at + 32 + k))

@@ -1,5 +1,5 @@
 //! A factor, and products by it.
-ghost use Rattle.std.specs.Prelude.{◌≡◌, ◌+◌, ◌*◌, ◌/◌, ◌%◌, slice_index};
+ghost use Rattle.std.specs.Prelude.{◌≡◌, ℕ, ◌+◌, ◌*◌, ◌/◌, ◌%◌, ◌<◌, length, slice_index};
 ghost use Rattle.gf_field.specs.Field.{field_mul};
 ghost use Rattle.gf_lanes.specs.Lanes.{HasLanes};
 
@@ -16,11 +16,11 @@ const HALVES: [u8; 32] = [
 #[derive(Clone, Copy)]
 pub struct Factor {
     value: u8,
-    // Each twice, since a look-up reads the 16 lanes of its own half of the vector.
-    low: u8x32,
-    high: u8x32,
-    ghost low_products: { HasLanes low (λ k. field_mul value (k % 16)) },
-    ghost high_products: { HasLanes high (λ k. field_mul value (k % 16 * 16)) },
+    // Those by the low halves, and behind them those by the high ones.
+    products: u8x32,
+    ghost long: { length products ≡ 32 },
+    ghost by_low_half: { (k : ℕ) → k < 16 → slice_index products k ≡ field_mul value k },
+    ghost by_high_half: { (k : ℕ) → k < 16 → slice_index products (16 + k) ≡ field_mul value (k * 16) },
 }
 
 impl Factor {
@@ -30,15 +30,7 @@ impl Factor {
         ensures { result.value ≡ value }
     {
         let products = mul_lanes(u8x32::from_array(HALVES), value);
-        let low = products.swizzle([
-            0, 1, 2, 3, 4, 5, 6, 7, 8, 9, 10, 11, 12, 13, 14, 15, 0, 1, 2, 3, 4, 5, 6, 7, 8, 9, 10,
-            11, 12, 13, 14, 15,
-        ]);
-        let high = products.swizzle([
-            16, 17, 18, 19, 20, 21, 22, 23, 24, 25, 26, 27, 28, 29, 30, 31, 16, 17, 18, 19, 20, 21,
-            22, 23, 24, 25, 26, 27, 28, 29, 30, 31,
-        ]);
-        Factor { value, low, high }
+        Factor { value, products }
     }
 
     /// Each lane of `v` times the factor.
@@ -46,7 +38,37 @@ impl Factor {
     pub fn times(&self, v: u8x32) -> u8x32
         ensures { HasLanes result (λ k. field_mul self.now.value (slice_index v k)) }
     {
-        by_low_half(self.low, v) ^ by_high_half(self.high, v)
+        by_low_half(self.low_products(), v) ^ by_high_half(self.high_products(), v)
+    }
+
+    /// One byte times the factor.
+    #[inline(always)]
+    pub fn times_byte(&self, byte: u8) -> u8
+        ensures { result ≡ field_mul self.now.value byte }
+    {
+        gf_field::mul(self.value, byte)
+    }
+
+    // The products by the low halves, twice, since a look-up reads the 16 lanes of its own half of the vector.
+    #[inline(always)]
+    fn low_products(&self) -> u8x32
+        ensures { HasLanes result (λ k. field_mul self.now.value (k % 16)) }
+    {
+        self.products.swizzle([
+            0, 1, 2, 3, 4, 5, 6, 7, 8, 9, 10, 11, 12, 13, 14, 15, 0, 1, 2, 3, 4, 5, 6, 7, 8, 9, 10,
+            11, 12, 13, 14, 15,
+        ])
+    }
+
+    // The same of the high halves.
+    #[inline(always)]
+    fn high_products(&self) -> u8x32
+        ensures { HasLanes result (λ k. field_mul self.now.value (k % 16 * 16)) }
+    {
+        self.products.swizzle([
+            16, 17, 18, 19, 20, 21, 22, 23, 24, 25, 26, 27, 28, 29, 30, 31, 16, 17, 18, 19, 20, 21,
+            22, 23, 24, 25, 26, 27, 28, 29, 30, 31,
+        ])
     }
 }
 

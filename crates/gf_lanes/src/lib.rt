@@ -11,7 +11,7 @@ ghost use Rattle.gf_lanes.specs.Lanes.{HasLanes, AddsProduct, AddsProductWithin}
 mod combine;
 mod factor;
 
-pub use combine::{MAX_WEIGHTS, combine_into};
+pub use combine::{MAX_WEIGHTS, combine_into, combine_one_into, combine_two_into, factors_of};
 pub use factor::Factor;
 use std::simd::prelude::*;
 

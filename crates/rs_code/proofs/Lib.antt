@@ -1,2 +1,4 @@
 pub mod CodewordLaws
 pub mod StripeLaws
+mod ParityLaws
+mod WritingLaws

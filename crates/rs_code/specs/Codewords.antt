@@ -1,6 +1,6 @@
 -- Codewords byte by byte: the values of a polynomial at the points 0 to n - 1, of which the first m are the data bytes
 -- (Reed and Solomon 1960; Frølund et al. 2004, `encode` and `decode`).
-use Rattle.std.specs.Prelude.{◌≡◌, ◌≢◌, ℕ, zero, suc, ◌<◌, List, length, slice_index, bit_xor}
+use Rattle.std.specs.Prelude.{◌≡◌, ◌≢◌, ℕ, zero, suc, ◌+◌, ◌*◌, ◌<◌, List, length, slice_index, bit_xor}
 use Rattle.gf_field.specs.Field.{field_mul}
 use Rattle.gf_field.specs.Polynomials.{value, weight_of, HasDegreeBelow}
 
@@ -27,3 +27,7 @@ pub record AreSeats (m n : ℕ) (seats : List ℕ) : Type 0 where
   pub count : length seats ≡ m
   pub within : (i : ℕ) → i < m → slice_index seats i < n
   pub apart : (h i : ℕ) → h < m → i < m → h ≢ i → slice_index seats h ≢ slice_index seats i
+
+-- the weights of the blocks from m on: at place r * m + j that of data block j for block m + r
+pub record AreParityWeights (m n : ℕ) (weights : List ℕ) : Type 0 where
+  pub each : (r j : ℕ) → m + r < n → j < m → slice_index weights (r * m + j) ≡ weight_of m (λ i. i) j (m + r)

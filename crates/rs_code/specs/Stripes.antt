@@ -12,6 +12,17 @@ block_of size blocks j = take size (drop (j * size) blocks)
 abbrev pub byte_of : ℕ → List ℕ → ℕ → ℕ → ℕ
 byte_of size blocks t j = slice_index blocks (j * size + t)
 
+-- block k becomes these bytes, and the others stay
+pub record WritesBlock (size k : ℕ) (byte : ℕ → ℕ) (old new : List ℕ) : Type 0 where
+  pub own : (t : ℕ) → t < size → byte_of size new t k ≡ byte t
+  pub others : (i t : ℕ) → i ≢ k → t < size → byte_of size new t i ≡ byte_of size old t i
+
+-- blocks h and k become these bytes, and the others stay
+pub record WritesBlocks (size h k : ℕ) (first second : ℕ → ℕ) (old new : List ℕ) : Type 0 where
+  pub first_own : (t : ℕ) → t < size → byte_of size new t h ≡ first t
+  pub second_own : (t : ℕ) → t < size → byte_of size new t k ≡ second t
+  pub others : (i t : ℕ) → i ≢ h → i ≢ k → t < size → byte_of size new t i ≡ byte_of size old t i
+
 -- block is block k of the codeword of the stripe
 pub record IsCodedBlock (m size : ℕ) (stripe : List ℕ) (k : ℕ) (block : List ℕ) : Type 0 where
   pub long : length block ≡ size

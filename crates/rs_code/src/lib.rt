@@ -8,5 +8,8 @@
 #![tactic(auto)]
 
 mod code;
+mod encoders;
+mod writing;
 
 pub use code::{Code, MAX_BLOCKS, MAX_DATA_BLOCKS};
+pub use encoders::Encoder;

@@ -7,6 +7,8 @@ use Rattle.gf_lanes.proofs.factor.Factor.times.Goals as goal
 pub returns : goal.returns
 returns c =
     let factor = c.args.self.now in
+    let low_table = c.low_products.ensures in
+    let high_table = c.high_products.ensures in
     let v = c.args.v in
     let low = c.by_low_half.ensures in
     let high = c.by_high_half.ensures in
@@ -20,7 +22,7 @@ returns c =
           let high_place : (16 * (k / 16) + x / 16) % 16 ≡ x / 16 = omega (arith, byte) in
           sums.each k l
           ∙ (λ t. bit_xor
-          ((low.each k l ∙ factor.low_products.each (16 * (k / 16) + x % 16) (omega arith) ∙ ap (field_mul factor.value) low_place) t)
-          ((high.each k l ∙ factor.high_products.each (16 * (k / 16) + x / 16) (omega (arith, byte)) ∙ ap (λ y. field_mul factor.value (y * 16)) high_place) t))
+          ((low.each k l ∙ low_table.each (16 * (k / 16) + x % 16) (omega arith) ∙ ap (field_mul factor.value) low_place) t)
+          ((high.each k l ∙ high_table.each (16 * (k / 16) + x / 16) (omega (arith, byte)) ∙ ap (λ y. field_mul factor.value (y * 16)) high_place) t))
           ∙ field_mul-halves factor.value x;
     }
