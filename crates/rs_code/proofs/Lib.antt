@@ -1,4 +1,5 @@
 pub mod CodewordLaws
 pub mod StripeLaws
+mod DecodingLaws
 mod ParityLaws
 mod WritingLaws

@@ -225,18 +225,22 @@ IsDecoded-from_sums m n size seats blocks j block few few_seats are_seats small 
           ∙ sym (byte_of-stripe_of m size seats blocks t j inside within) ∙ sym (get_or-block_of size (stripe_of m size seats blocks) j t inside));
     }
 
+-- at a seat Lagrange's formula gives the seat's byte
+pub seat_byte : (m n size : ℕ) (seats blocks : List ℕ) (j i t : ℕ) → n ≤ 256 → AreSeats m n seats → HoldsBytes blocks → i < m → get_or seats i 0 ≡ j
+    → byte_of size blocks t i ≡ weighted_sum m m (λ i. get_or seats i 0) (byte_of size blocks t) j
+seat_byte m n size seats blocks j i t few_seats are_seats small hi own =
+    let seat = λ (i : ℕ). get_or seats i 0 in
+    let passes = through-PassesThrough m seat (byte_of size blocks t) (seats_AreDistinct m n seats few_seats are_seats)
+    (λ i hi. small (i * size + t)) in
+    sym (passes.values i hi) ∙ ap (value (through m seat (byte_of size blocks t))) own ∙ value-through m seat (byte_of size blocks t) j
+
 -- a seat that is j holds data block j
 pub IsDecoded-from_seat : (m n size : ℕ) (seats blocks : List ℕ) (j i : ℕ) → m ≤ 256 → n ≤ 256 → AreSeats m n seats → HoldsBytes blocks
     → length blocks ≡ m * size → j < m → i < m → get_or seats i 0 ≡ j → IsDecoded m size seats blocks j (block_of size blocks i)
 IsDecoded-from_seat m n size seats blocks j i few few_seats are_seats small long within hi own =
     IsDecoded-from_sums m n size seats blocks j (block_of size blocks i) few few_seats are_seats small long within
     (length-block_of m size blocks i long hi)
-    (λ t h.
-    let seat = λ (i : ℕ). get_or seats i 0 in
-    let passes = through-PassesThrough m seat (byte_of size blocks t) (seats_AreDistinct m n seats few_seats are_seats)
-    (λ i hi. small (i * size + t)) in
-    get_or-block_of size blocks i t h ∙ sym (passes.values i hi) ∙ ap (value (through m seat (byte_of size blocks t))) own
-    ∙ value-through m seat (byte_of size blocks t) j)
+    (λ t h. get_or-block_of size blocks i t h ∙ seat_byte m n size seats blocks j i t few_seats are_seats small hi own)
 
 -- all blocks decode to one stripe, so a data block is decoded in one way
 pub IsDecoded-unique : (m size : ℕ) (seats blocks : List ℕ) (j : ℕ) (a b : List ℕ) → IsDecoded m size seats blocks j a

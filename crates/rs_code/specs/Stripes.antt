@@ -1,6 +1,6 @@
 -- Stripes of m data blocks and the blocks of their codewords, each of `size` bytes: a stripe is coded per byte place
 -- (Frølund et al. 2004, `encode`, `decode` and `modify`).
-use Rattle.std.specs.Prelude.{◌≡◌, ◌≢◌, ℕ, ◌+◌, ◌*◌, ◌<◌, List, length, take, drop, map, slice_index, bit_xor}
+use Rattle.std.specs.Prelude.{◌≡◌, ◌≢◌, ℕ, ◌+◌, ◌*◌, ◌<◌, List, length, take, drop, map, slice_index, bit_xor, Option, Some, IfSome}
 use Rattle.std.specs.List.{range_with_len}
 use Rattle.rs_code.specs.Codewords.{IsCodedByte, weighted_sum}
 
@@ -47,6 +47,12 @@ pub record IsDecoded (m size : ℕ) (seats blocks : List ℕ) (j : ℕ) (block :
 -- that data block, by Lagrange's formula over the seats
 unfoldable pub data_block : ℕ → ℕ → List ℕ → List ℕ → ℕ → List ℕ
 data_block m size seats blocks j = map (λ t. weighted_sum m m (λ i. slice_index seats i) (byte_of size blocks t) j) (range_with_len 0 size)
+
+-- the data blocks below j of that stripe are there, but for the one that still waits
+pub record HasDataBelow (m size : ℕ) (seats blocks : List ℕ) (waiting : Option ℕ) (j : ℕ) (stripe : List ℕ) : Type 0 where
+  pub each : (i t : ℕ) → i < j → waiting ≢ Some i → t < size
+      → byte_of size stripe t i ≡ weighted_sum m m (λ h. slice_index seats h) (byte_of size blocks t) i
+  pub waits : IfSome waiting (λ h. h < j)
 
 -- new is the stripe old with delta added to data block j
 pub record ChangesBlock (m size j : ℕ) (delta old new : List ℕ) : Type 0 where

@@ -86,7 +86,7 @@ impl Code {
 }
 
 // Where seat `j` stands among the seats.
-fn place_of(seats: &[u8], j: u8) -> Option<usize>
+pub fn place_of(seats: &[u8], j: u8) -> Option<usize>
     ensures found { IfSome result (λ i. (i < length seats.now) × (slice_index seats.now i ≡ j)) }
     ensures none { IfNone result (¬ (Contains seats.now j)) }
 {
@@ -116,7 +116,7 @@ fn data_weights(m: u8, k: u8) -> [u8; MAX_WEIGHTS]
 }
 
 // The weights of the seats at point `j`.
-fn seat_weights(seats: &[u8], j: u8) -> [u8; MAX_WEIGHTS]
+pub fn seat_weights(seats: &[u8], j: u8) -> [u8; MAX_WEIGHTS]
     requires few { length seats.now ≤ 16 }
     requires distinct { AreDistinct (length seats.now) (slice_index seats.now) }
     ensures { (i : ℕ) → i < length seats.now → slice_index result i ≡ weight_of (length seats.now) (slice_index seats.now) i j }

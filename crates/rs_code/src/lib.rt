@@ -8,6 +8,7 @@
 #![tactic(auto)]
 
 mod code;
+mod decoding;
 mod encoders;
 mod writing;
 
