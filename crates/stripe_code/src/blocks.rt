@@ -1,12 +1,13 @@
-//! The two calls of the code: the block of a seat, and the content that m blocks give back.
+//! The calls of the code: the block of a seat, all parity blocks at once, and the content that m blocks give back.
 
-ghost use Rattle.std.specs.Prelude.{◌≡◌, ◌*◌, ◌<◌, ◌≤◌, List, length, IfOk};
+ghost use Rattle.std.specs.Prelude.{◌≡◌, ℕ, ◌-◌, ◌*◌, ◌<◌, ◌≤◌, List, length, IfOk};
 ghost use Rattle.protocol.specs.Settings.{Piece};
 ghost use Rattle.rs_code.specs.Codewords.{AreSeats};
+ghost use Rattle.rs_code.specs.Stripes.{block_of};
 ghost use Rattle.stripe_code.specs.Codes.{block_code, AreFirst};
 
 use fab_base::{Bytes, NoMem};
-use rs_code::{Code, MAX_BLOCKS};
+use rs_code::{Code, Encoder, MAX_BLOCKS};
 use std::alloc::Global;
 
 /// The block that the member at this seat keeps of a stripe's content, `m` data blocks of `size` bytes one after the other.
@@ -26,6 +27,25 @@ pub fn encode(alloc: Global, m: u8, size: u16, content: &[u8], seat: u8) -> Resu
     Ok(Bytes::from_vec(block))
 }
 
+/// The blocks that the members at the seats from `m` up to `n` keep of a stripe's content, one after the other, in one pass
+/// over the content.
+///
+/// `NoMemory` comes where the blocks have no room.
+pub fn parity(alloc: Global, m: u8, n: u8, size: u16, content: &[u8]) -> Result<Bytes, NoMem>
+    requires some_data { 1 ≤ m }
+    requires few_data { m ≤ 16 }
+    requires data_among_blocks { m ≤ n }
+    requires few_blocks { n ≤ 32 }
+    requires long { length content.now ≡ m * size }
+    ensures { IfOk result (λ blocks. (seat : ℕ) → m ≤ seat → seat < n
+        → block_of size blocks (seat - m) ≡ (block_code size).encode m content.now seat) }
+{
+    let size = size as usize;
+    let mut blocks = vec![in alloc; 0; (n - m) as usize * size]?;
+    Encoder::new(Code { m, n }).parity_into(content, size, &mut blocks);
+    Ok(Bytes::from_vec(blocks))
+}
+
 /// The stripe's content, `m` data blocks of `size` bytes one after the other, that `m` blocks of its codeword give back. The
 /// blocks stand one after the other, each at its seat of `seats`.
 ///
@@ -39,11 +59,7 @@ pub fn decode(alloc: Global, m: u8, size: u16, seats: &[u8], blocks: &[u8]) -> R
         → content ≡ (block_code size).decode m pieces) }
 {
     let code = Code { m, n: MAX_BLOCKS };
-    let mut content = Vec::new(alloc);
-    let mut block = vec![in alloc; 0; size as usize]?;
-    for j in 0..m {
-        code.decode_into(seats, blocks, j, &mut block);
-        content.extend_from_slice(&block)?;
-    }
+    let mut content = vec![in alloc; 0; m as usize * size as usize]?;
+    code.decode_all_into(seats, blocks, size as usize, &mut content);
     Ok(Bytes::from_vec(content))
 }

@@ -5,4 +5,4 @@
 mod blocks;
 pub mod laws;
 
-pub use blocks::{decode, encode};
+pub use blocks::{decode, encode, parity};
