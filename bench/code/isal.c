@@ -1,19 +1,22 @@
-// The same parity blocks by Intel's ISA-L, for comparison: the weights and its tables are made before the clock starts.
+// The same by Intel's ISA-L, for comparison: the weights and its tables are made before the clock starts. The argument says
+// which of its calls: `sse` for ec_encode_data_sse, `best` for ec_encode_data. One a process, since a call that leaves the
+// upper halves of vector registers in use slows the other.
 #include <isa-l.h>
 #include <stdio.h>
 #include <stdlib.h>
+#include <string.h>
 #include <time.h>
 
 enum { BLOCK = 4096 };
 
 typedef void encoder(int, int, int, unsigned char *, unsigned char **, unsigned char **);
 
-static unsigned char weight(int m, int j, int k) {
+static unsigned char weight(int m, const unsigned char *points, int j, int x) {
     unsigned char numerator = 1, denominator = 1;
     for (int i = 0; i < m; i++)
         if (i != j) {
-            numerator = gf_mul(numerator, k ^ i);
-            denominator = gf_mul(denominator, j ^ i);
+            numerator = gf_mul(numerator, x ^ points[i]);
+            denominator = gf_mul(denominator, points[j] ^ points[i]);
         }
     return gf_mul(numerator, gf_inv(denominator));
 }
@@ -24,43 +27,55 @@ static double now(void) {
     return t.tv_sec + t.tv_nsec * 1e-9;
 }
 
-static void run(const char *name, encoder *encode, int m, int n, long stripes, int rounds, unsigned char *data, unsigned char *tables) {
-    static unsigned char parity[32][BLOCK];
-    unsigned char *blocks[32], *coded[32], sum = 0;
+// The blocks at the points from `from` up to `to`, of blocks at m points: a copy of one that is there, or a sum.
+static void run(const char *name, encoder *encode, int m, const unsigned char *points, int from, int to, long stripes, int rounds, unsigned char *data) {
+    static unsigned char out[32][BLOCK];
+    unsigned char weights[32 * 32], tables[32 * 32 * 32], *blocks[32], *sums[32], sum = 0;
+    int place[32], rows = 0;
+    for (int x = from; x < to; x++) {
+        unsigned char *found = memchr(points, x, m);
+        place[x - from] = found ? found - points : -1;
+        if (found)
+            continue;
+        for (int j = 0; j < m; j++)
+            weights[rows * m + j] = weight(m, points, j, x);
+        sums[rows++] = out[x - from];
+    }
+    ec_init_tables(m, rows, weights, tables);
     double start = now();
     for (int round = 0; round < rounds; round++)
         for (long s = 0; s < stripes; s++) {
             for (int j = 0; j < m; j++)
                 blocks[j] = data + (s * m + j) * BLOCK;
-            for (int k = 0; k < n - m; k++)
-                coded[k] = parity[k];
-            encode(BLOCK, m, n - m, tables, blocks, coded);
+            encode(BLOCK, m, rows, tables, blocks, sums);
+            for (int k = 0; k < to - from; k++)
+                if (place[k] >= 0)
+                    memcpy(out[k], blocks[place[k]], BLOCK);
             __asm__ volatile("" ::: "memory");
-            for (int k = 0; k < n - m; k++)
-                sum += parity[k][0];
+            for (int k = 0; k < to - from; k++)
+                sum += out[k][0];
         }
-    printf("encode, %s: %.0f bytes a second (sum %d)\n", name, (double)rounds * stripes * m * BLOCK / (now() - start), sum);
+    printf("%s: %.0f bytes a second (sum %d)\n", name, (double)rounds * stripes * m * BLOCK / (now() - start), sum);
 }
 
-static void measure(int m, int n, long stripes, int rounds) {
+static void measure(encoder *encode, int m, int n, long stripes, int rounds) {
     long size = stripes * m * BLOCK;
-    unsigned char *data = malloc(size), weights[32 * 32], tables[32 * 32 * 32];
+    unsigned char *data = malloc(size), points[32];
     for (long i = 0; i < size; i++)
         data[i] = i % 251;
-    for (int k = m; k < n; k++)
-        for (int j = 0; j < m; j++)
-            weights[(k - m) * m + j] = weight(m, j, k);
-    ec_init_tables(m, n - m, weights, tables);
+    for (int k = 0; k < n; k++)
+        points[k] = k;
     printf("(%d, %d), %ld stripes\n", m, n, stripes);
-    run("ec_encode_data_sse", ec_encode_data_sse, m, n, stripes, rounds, data, tables);
-    run("ec_encode_data", ec_encode_data, m, n, stripes, rounds, data, tables);
+    run("encode", encode, m, points, m, n, stripes, rounds, data);
+    run("decode", encode, m, points + n - m, 0, m, stripes, rounds, data);
     free(data);
 }
 
-int main(void) {
-    measure(4, 6, 16, 4096);
-    measure(4, 6, 16384, 4);
-    measure(10, 14, 6, 4096);
-    measure(10, 14, 6553, 4);
+int main(int count, char **words) {
+    encoder *encode = count > 1 && strcmp(words[1], "sse") == 0 ? ec_encode_data_sse : ec_encode_data;
+    measure(encode, 4, 6, 16, 1025);
+    measure(encode, 4, 6, 16384, 1);
+    measure(encode, 10, 14, 6, 1025);
+    measure(encode, 10, 14, 6553, 1);
     return 0;
 }

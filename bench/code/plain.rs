@@ -126,14 +126,14 @@ fn main() {
     let src = [0xA7; BLOCK];
     let mut dst = [0x5C; BLOCK];
     let start = Instant::now();
-    for _ in 0..500 {
+    for _ in 0..50 {
         for row in &full {
             mul_add(&mut dst, black_box(&src), row);
         }
     }
-    report("mul_add", start, 500 * 256 * BLOCK, dst[0]);
-    measure_code(&full, 4, 6, 16, 1024);
+    report("mul_add", start, 50 * 256 * BLOCK, dst[0]);
+    measure_code(&full, 4, 6, 16, 257);
     measure_code(&full, 4, 6, 16384, 1);
-    measure_code(&full, 10, 14, 6, 1024);
+    measure_code(&full, 10, 14, 6, 257);
     measure_code(&full, 10, 14, 6553, 1);
 }
