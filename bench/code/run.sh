@@ -48,10 +48,11 @@ for _ in $(seq "$times"); do
 done
 cd "$work/lines"
 awk '
-    /stripes$/ { section = $0; next }
+    /stripes$/ { section = $0 "; "; next }
+    /^mul_add/ { section = "" }
     {
         split($0, part, ": ")
-        line = section "; " part[1]
+        line = section part[1]
         if (!((FILENAME, line) in best)) order[++count] = FILENAME SUBSEP line
         if (part[2] + 0 > best[FILENAME, line]) best[FILENAME, line] = part[2] + 0
         sub(/.*\(/, "(", part[2])

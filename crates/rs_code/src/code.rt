@@ -1,4 +1,4 @@
-//! The code's limits and its three calls.
+//! The code's limits, and its calls on one block.
 ghost use Rattle.std.specs.Prelude.{◌≡◌, ◌↔◌, ℕ, ◌+◌, ◌*◌, ◌<◌, ◌≤◌, List, length, slice_index, IsSome, IfSome, IfNone, Contains};
 ghost use Rattle.gf_field.specs.Polynomials.{weight_of, AreDistinct};
 ghost use Rattle.gf_lanes.specs.Lanes.{AddsProduct};
