@@ -134,7 +134,8 @@ fn combine_two_step(
 fn combined_byte(factors: &[Factor], blocks: &[u8], size: usize, place: usize) -> u8
     requires within { place < size }
     requires size { length blocks.now ≡ length factors.now * size }
-    ensures { result ≡ sum_of_products (length factors.now) (slice_index (values_of factors.now)) (λ i. slice_index blocks.now (i * size + place)) }
+    ensures { result ≡ sum_of_products (length factors.now) (slice_index (values_of factors.now))
+        (λ i. slice_index blocks.now (i * size + place)) }
 {
     let mut sum = 0;
     for i in 0..factors.len() {

@@ -41,8 +41,8 @@ pub fn combine_both_to(
     requires room { (k + 1) * size ≤ length buffer.old }
     requires factors { length second.now ≡ length first.now }
     requires size { length blocks.now ≡ length first.now * size }
-    ensures { WritesBlocks size h k (combined size (values_of first.now) blocks.now) (combined size (values_of second.now) blocks.now)
-        buffer.old buffer.new }
+    ensures { WritesBlocks size h k (combined size (values_of first.now) blocks.now)
+        (combined size (values_of second.now) blocks.now) buffer.old buffer.new }
 {
     let (before, rest) = buffer.split_at_mut(k * size);
     let (_, between) = before.split_at_mut(h * size);
