@@ -27,42 +27,50 @@ filled_kept uncertain random i byte rest is =
     ap (λ (b : Bool). if b then ((pcg32 random).0 % 256) ∷ filled uncertain (pcg32 random).1 (i + 1) rest else byte ∷ filled uncertain random
     (i + 1) rest) is
 
-module _ (uncertain : ℕ → Bool) (random : Lcg) (content : List ℕ) (i : ℕ) (within : i < length content) where
+module _ (uncertain : ℕ → Bool) (random : Lcg) (content : List ℕ) (start i : ℕ) (within : i < length content) where
+  up : start + (i + 1) ≡ start + i + 1
+  up = omega arith
+
   -- a step of the loop at a place that is drawn
-  pub step_drawn : uncertain i ≡ true → take (i + 1) (set content i ((pcg32 random).0 % 256)) ++ filled uncertain (pcg32 random).1 (i + 1)
-      (drop (i + 1) (set content i ((pcg32 random).0 % 256)))
-      ≡ take i content ++ filled uncertain random i (drop i content)
+  pub step_drawn : uncertain (start + i) ≡ true → take (i + 1) (set content i ((pcg32 random).0 % 256)) ++ filled uncertain (pcg32 random).1
+      (start + (i + 1)) (drop (i + 1) (set content i ((pcg32 random).0 % 256)))
+      ≡ take i content ++ filled uncertain random (start + i) (drop i content)
   step_drawn is =
-      ap (λ (l : List ℕ). l ++ filled uncertain (pcg32 random).1 (i + 1) (drop (i + 1) (set content i ((pcg32 random).0 % 256))))
+      ap (λ (j : ℕ). take (i + 1) (set content i ((pcg32 random).0 % 256)) ++ filled uncertain (pcg32 random).1 j
+      (drop (i + 1) (set content i ((pcg32 random).0 % 256)))) up
+      ∙ ap (λ (l : List ℕ). l ++ filled uncertain (pcg32 random).1 (start + i + 1) (drop (i + 1) (set content i ((pcg32 random).0 % 256))))
       (take_more_set content i ((pcg32 random).0 % 256) within)
-      ∙ ap (λ (l : List ℕ). (take i content ++ (pcg32 random).0 % 256 ∷ []) ++ filled uncertain (pcg32 random).1 (i + 1) l)
+      ∙ ap (λ (l : List ℕ). (take i content ++ (pcg32 random).0 % 256 ∷ []) ++ filled uncertain (pcg32 random).1 (start + i + 1) l)
       (drop-set-lt (i + 1) content i ((pcg32 random).0 % 256) (omega arith))
-      ∙ append_assoc (take i content) ((pcg32 random).0 % 256 ∷ []) (filled uncertain (pcg32 random).1 (i + 1) (drop (i + 1) content))
-      ∙ ap (λ (l : List ℕ). take i content ++ l) (sym (filled_drawn uncertain random i (get_or content i 0) (drop (i + 1) content) is))
-      ∙ ap (λ (l : List ℕ). take i content ++ filled uncertain random i l) (sym (drop_more content i 0 within))
+      ∙ append_assoc (take i content) ((pcg32 random).0 % 256 ∷ []) (filled uncertain (pcg32 random).1 (start + i + 1) (drop (i + 1) content))
+      ∙ ap (λ (l : List ℕ). take i content ++ l) (sym (filled_drawn uncertain random (start + i) (get_or content i 0) (drop (i + 1) content) is))
+      ∙ ap (λ (l : List ℕ). take i content ++ filled uncertain random (start + i) l) (sym (drop_more content i 0 within))
 
   -- and at one that stays
-  pub step_kept : uncertain i ≡ false → take (i + 1) content ++ filled uncertain random (i + 1)
-      (drop (i + 1) content) ≡ take i content ++ filled uncertain random i (drop i content)
+  pub step_kept : uncertain (start + i) ≡ false → take (i + 1) content ++ filled uncertain random (start + (i + 1))
+      (drop (i + 1) content) ≡ take i content ++ filled uncertain random (start + i) (drop i content)
   step_kept is =
-      ap (λ (l : List ℕ). l ++ filled uncertain random (i + 1) (drop (i + 1) content)) (take_more content i 0 within)
-      ∙ append_assoc (take i content) (get_or content i 0 ∷ []) (filled uncertain random (i + 1) (drop (i + 1) content))
-      ∙ ap (λ (l : List ℕ). take i content ++ l) (sym (filled_kept uncertain random i (get_or content i 0) (drop (i + 1) content) is))
-      ∙ ap (λ (l : List ℕ). take i content ++ filled uncertain random i l) (sym (drop_more content i 0 within))
+      ap (λ (j : ℕ). take (i + 1) content ++ filled uncertain random j (drop (i + 1) content)) up
+      ∙ ap (λ (l : List ℕ). l ++ filled uncertain random (start + i + 1) (drop (i + 1) content)) (take_more content i 0 within)
+      ∙ append_assoc (take i content) (get_or content i 0 ∷ []) (filled uncertain random (start + i + 1) (drop (i + 1) content))
+      ∙ ap (λ (l : List ℕ). take i content ++ l) (sym (filled_kept uncertain random (start + i) (get_or content i 0) (drop (i + 1) content) is))
+      ∙ ap (λ (l : List ℕ). take i content ++ filled uncertain random (start + i) l) (sym (drop_more content i 0 within))
 
-  pub goes_on_drawn : (new : List ℕ) (word : ℕ) (after : Lcg) → (word, after) ≡ pcg32 random → new ≡ set content i (word % 256) → uncertain i ≡ true
-      → take (i + 1) new ++ filled uncertain after (i + 1) (drop (i + 1) new) ≡ take i content ++ filled uncertain random i (drop i content)
+  pub goes_on_drawn : (new : List ℕ) (word : ℕ) (after : Lcg) → (word, after) ≡ pcg32 random → new ≡ set content i (word % 256)
+      → uncertain (start + i) ≡ true → take (i + 1) new ++ filled uncertain after (start + (i + 1)) (drop (i + 1) new)
+      ≡ take i content ++ filled uncertain random (start + i) (drop i content)
   goes_on_drawn new word after drawn is place =
-      ap (λ (l : List ℕ). take (i + 1) l ++ filled uncertain after (i + 1) (drop (i + 1) l)) is
-      ∙ ap (λ (p : ℕ × Lcg). take (i + 1) (set content i (p.0 % 256)) ++ filled uncertain p.1 (i + 1)
+      ap (λ (l : List ℕ). take (i + 1) l ++ filled uncertain after (start + (i + 1)) (drop (i + 1) l)) is
+      ∙ ap (λ (p : ℕ × Lcg). take (i + 1) (set content i (p.0 % 256)) ++ filled uncertain p.1 (start + (i + 1))
       (drop (i + 1) (set content i (p.0 % 256)))) drawn
       ∙ step_drawn place
 
-  pub goes_on_kept : (new : List ℕ) (after : Lcg) → after ≡ random → new ≡ content → uncertain i ≡ false
-      → take (i + 1) new ++ filled uncertain after (i + 1) (drop (i + 1) new) ≡ take i content ++ filled uncertain random i (drop i content)
+  pub goes_on_kept : (new : List ℕ) (after : Lcg) → after ≡ random → new ≡ content → uncertain (start + i) ≡ false
+      → take (i + 1) new ++ filled uncertain after (start + (i + 1)) (drop (i + 1) new)
+      ≡ take i content ++ filled uncertain random (start + i) (drop i content)
   goes_on_kept new after same is place =
-      ap (λ (l : List ℕ). take (i + 1) l ++ filled uncertain after (i + 1) (drop (i + 1) l)) is
-      ∙ ap (λ (r : Lcg). take (i + 1) content ++ filled uncertain r (i + 1) (drop (i + 1) content)) same
+      ap (λ (l : List ℕ). take (i + 1) l ++ filled uncertain after (start + (i + 1)) (drop (i + 1) l)) is
+      ∙ ap (λ (r : Lcg). take (i + 1) content ++ filled uncertain r (start + (i + 1)) (drop (i + 1) content)) same
       ∙ step_kept place
 
 -- as many bytes as before

@@ -1,7 +1,11 @@
+pub mod Draws
+pub mod Spreads
 pub mod Moments
 pub mod Writes
 pub mod Pasts
 pub mod Uncertain
 pub mod Images
 pub mod Filled
+pub mod Scattered
+pub mod Held
 pub mod Rooms

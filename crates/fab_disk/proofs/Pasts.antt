@@ -1,5 +1,5 @@
 -- How the past goes on.
-use Rattle.std.proofs.Common.{◌≡◌, ℕ, ◌-◌, List, [], ◌∷◌, ◌++◌, length, reverse, take, ◌∙◌, ap, arith}
+use Rattle.std.proofs.Common.{◌≡◌, ℕ, ◌-◌, List, [], ◌∷◌, ◌++◌, length, reverse, take, drop, ◌∙◌, ap, arith}
 use Rattle.std.proofs.lemmas.List.{reverse-append, take_at, drop_at, length-append}
 use Rattle.fab_disk.specs.Past.{Change, wrote, synced, past_of}
 use Rattle.fab_disk.specs.declared.medium.Overwrite.{Overwrite}
@@ -23,3 +23,9 @@ past_wrote steps w saved before kept =
 -- one sync more
 pub past_synced : (steps : List Step) (saved : List ℕ) → past_of (reverse (steps ++ Synced ∷ [])) saved ≡ synced ∷ past_of (reverse steps) saved
 past_synced steps saved = ap (λ (s : List Step). past_of s saved) (reverse-append steps (Synced ∷ []))
+
+-- the newest call was a write
+pub past_split : (steps older : List Step) (w : Overwrite) (saved : List ℕ) → steps ≡ older ++ Wrote w ∷ [] → past_of (reverse steps) saved
+    ≡ wrote (change_of w (drop (length saved - w.kept) saved)) ∷ past_of (reverse older) (take (length saved - w.kept) saved)
+past_split steps older w saved is =
+    ap (λ (s : List Step). past_of (reverse s) saved) is ∙ ap (λ (s : List Step). past_of s saved) (reverse-append older (Wrote w ∷ []))

@@ -85,16 +85,21 @@ undone_back at n old new w torn starts stood size =
 
 -- the lengths of a write fit
 pub is_placed : (at n : ℕ) (old new : List ℕ) (w : Change) → Torn at n old new → w.at ≡ min at (length new) → w.len ≡ n
-    → w.before ≡ slice_range old (min at (length old)) (min (at + n) (length old)) → w.length_before ≡ length old → IsPlaced w (length new)
-is_placed at n old new w torn starts len stood size =
+    → w.before ≡ slice_range old (min at (length old)) (min (at + n) (length old)) → w.length_before ≡ length old → (1 ≤ n → at + n ≤ length new)
+    → IsPlaced w (length new)
+is_placed at n old new w torn starts len stood size reach =
     let kept : length w.before ≡ min (at + n) (length old) - min at (length old) = ap length stood ∙ grind (arith, places) in
     record {
       no_more = omega arith;
       no_shorter = omega (arith, torn.no_shorter);
+      reach = inside;
       within = omega (arith, torn.no_shorter);
       all_kept = omega (arith, torn.no_shorter);
       no_longer = omega (arith, torn.no_longer);
     }
+  where
+    inside : w.at + w.len ≤ length new
+    inside = elim (cases_lt 0 n) [ inl some ↦ omega (arith, reach some) | inr none ↦ omega arith ]
 
 -- what tears the range that is remembered tears the range that was written
 pub same_range : (at size : ℕ) (bytes old : List ℕ) (before image : List ℕ) → size ≡ length (written at bytes old)
@@ -108,3 +113,8 @@ same_range at size (byte ∷ bytes) old before image is torn =
     let long : at ≤ length (written at (byte ∷ bytes) old) = grind (arith, places) in
     let same : min at size ≡ at = omega arith in
     subst (λ (a : ℕ). Torn a (length (byte ∷ bytes)) before image) same torn
+
+-- how many bytes stood in the range
+pub length-stood : (at n : ℕ) (old : List ℕ) → length (slice_range old (min at (length old)) (min (at + n) (length old)))
+    ≡ min (at + n) (length old) - min at (length old)
+length-stood at n old = grind (arith, places)

@@ -1,8 +1,14 @@
 pub mod Disk
+pub mod Draws
+pub mod Pages
+pub mod PageLaws
+pub mod Stored
 pub mod Plan
 pub mod Past
+pub mod Held
 pub mod PastLaws
 pub mod Settled
+pub mod Uncertain
 pub mod Medium
 pub mod MediumLaws
 pub mod FailingCalls

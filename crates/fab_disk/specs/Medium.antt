@@ -2,6 +2,7 @@
 use Rattle.std.specs.Prelude.{ℕ, ◌≡◌, ◌+◌, ◌≤◌, List, ◌∷◌, reverse, vec_len, vec_capacity}
 use Rattle.fab_disk.specs.Disk.{Torn}
 use Rattle.fab_disk.specs.Past.{Change, Past, wrote, past_of, undone}
+use Rattle.fab_disk.specs.Stored.{CanHold}
 use Rattle.fab_disk.specs.declared.medium.Medium.{Medium}
 
 -- the calls that are remembered, the newest first
@@ -12,7 +13,7 @@ past m = past_of (reverse m.steps.items) m.saved.items
 pub record HasRoom (m : Medium) (calls bytes end : ℕ) : Type 0 where
   pub for_calls : vec_len m.steps + calls ≤ vec_capacity m.steps
   pub for_bytes : vec_len m.saved + bytes ≤ vec_capacity m.saved
-  pub for_end : end ≤ vec_capacity m.content
+  pub for_content : CanHold m.content calls bytes end
 
 -- one write more is remembered, by which the content before comes back
 pub record IsWrittenOver (at n : ℕ) (old new : List Past) (content content_after : List ℕ) : Type 0 where

@@ -2,6 +2,7 @@
 use Rattle.std.specs.Prelude.{◌≡◌, ◌⊎◌, ◌<◌, ◌-◌, ◌^◌, ℕ, List, length}
 use Rattle.fab_disk.specs.Past.{Past, IsImage, HadImage}
 use Rattle.fab_disk.specs.Medium.{past, HasRoom}
+use Rattle.fab_disk.specs.Stored.{shown}
 use Rattle.fab_disk.specs.FailingCalls.{NoneLeft, FailsNext}
 use Rattle.fab_disk.specs.Plan.{IsPlanned, next_fate}
 use Rattle.fab_disk.specs.declared.disk.Fate.TheVariants.{Goes, Fails}
@@ -12,7 +13,7 @@ use Rattle.fab_disk.specs.declared.mem_disk.MemDisk.{MemDisk}
 
 -- the bytes that a read gives
 abbrev pub content_of : MemDisk → List ℕ
-content_of disk = disk.medium.content.items
+content_of disk = shown disk.medium.content
 
 -- the calls that it remembers, the newest first
 abbrev pub past_of_disk : MemDisk → List Past

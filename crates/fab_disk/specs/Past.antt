@@ -48,6 +48,7 @@ HadImage (call ∷ older) content t image =
 pub record IsPlaced (w : Change) (size : ℕ) : Type 0 where
   pub no_more : length w.before ≤ w.len
   pub no_shorter : w.length_before ≤ size
+  pub reach : w.at + w.len ≤ size
   pub within : w.at + length w.before ≤ size
   pub all_kept : min (w.at + w.len) w.length_before ≤ w.at + length w.before
   pub no_longer : size ≤ max w.length_before (w.at + w.len)

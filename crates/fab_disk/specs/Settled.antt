@@ -1,5 +1,5 @@
 -- What a stopped disk in memory is made to hold: one of the images that a crash may leave, chosen by a number.
-use Rattle.std.specs.Prelude.{ℕ, ◌+◌, ◌%◌, ◌==◌, Bool, ◌||◌, ◌&&◌, nat_le, nat_lt, if◌then◌else◌, List, [], ◌∷◌, length}
+use Rattle.std.specs.Prelude.{ℕ, zero, suc, ◌+◌, ◌%◌, ◌==◌, Bool, ◌||◌, ◌&&◌, nat_le, nat_lt, if◌then◌else◌, List, [], ◌∷◌, length}
 use Rattle.rand_core.specs.Pcg32Seed.{pcg32_seed}
 use Rattle.rand_pcg.specs.Lcg.{Lcg}
 use Rattle.rand_pcg.specs.Pcg.{pcg32, pcg32_of_seed}
@@ -24,6 +24,12 @@ filled uncertain random i (byte ∷ bytes) =
     if uncertain i
     then ((pcg32 random).0 % 256) ∷ filled uncertain (pcg32 random).1 (i + 1) bytes
     else byte ∷ filled uncertain random (i + 1) bytes
+
+-- the generator after the next n places from place i on
+abbrev pub left_over : (ℕ → Bool) → Lcg → ℕ → ℕ → Lcg
+left_over uncertain random i zero = random
+left_over uncertain random i (suc n) =
+    if uncertain i then left_over uncertain (pcg32 random).1 (i + 1) n else left_over uncertain random (i + 1) n
 
 -- Pcg32 made from a number
 abbrev pub seeded : ℕ → Lcg

@@ -12,6 +12,8 @@ mod failing_calls;
 mod file_disk;
 mod medium;
 mod mem_disk;
+mod pages;
+mod scattering;
 
 pub use disk::{Armed, Disk, IoFault, MAX_END, Plan};
 pub use file_disk::FileDisk;

@@ -1,12 +1,11 @@
 // Bytes in memory that remember each change, so that it can be undone.
-ghost use Rattle.std.specs.Prelude.{◌≡◌, ◌+◌, ◌≤◌, [], length, reverse, vec_len, vec_capacity, false, ◌&&◌, nat_le, nat_lt, IsTrue, OnOk, OnErr};
-ghost use Rattle.fab_disk.specs.Disk.{written};
+ghost use Rattle.std.specs.Prelude.{◌≡◌, ◌+◌, ◌≤◌, ◌^◌, ◌++◌, [], length, slice_range, reverse, vec_len, vec_capacity, false, ◌&&◌, nat_le, nat_lt, IsTrue, OnOk, OnErr};
 ghost use Rattle.fab_disk.specs.Past.{past_of, Fits, Fits-prop};
-ghost use Rattle.fab_disk.specs.Settled.{is_uncertain, filled, seeded};
+ghost use Rattle.fab_disk.specs.Held.{HoldsWritten, HoldsWritten-prop, HoldsSeam, HoldsSeam-prop};
+ghost use Rattle.fab_disk.specs.Stored.{shown};
 
-use rand_core::SeedableRng;
-use rand_core::utils::NextWord;
-use rand_pcg::Pcg32;
+use crate::pages::Pages;
+use crate::scattering::scatter_all;
 use std::alloc::{AllocError, Global};
 
 // A write: its range, how many bytes stood in the range before, and how long the content was.
@@ -20,7 +19,7 @@ pub struct Overwrite {
 
 impl Overwrite {
     // Whether the place lies in the range.
-    fn covers(&self, place: usize) -> bool
+    pub fn covers(&self, place: usize) -> bool
         ensures { result ≡ (nat_le self.now.at place && nat_lt place (self.now.at + self.now.len)) }
     {
         self.at <= place && place - self.at < self.len
@@ -35,12 +34,14 @@ pub enum Step {
 
 #[derive(Drop)]
 pub struct Medium {
-    pub content: Vec<u8>,
+    pub content: Pages,
     pub steps: Vec<Step>,
     // What stood in the written ranges before, one after the other.
     pub saved: Vec<u8>,
-    ghost fits: { Fits (past_of (reverse steps.items) saved.items) (length content.items) } by { Fits-prop (past_of (reverse steps.items) saved.items)
-        (length content.items) },
+    ghost fits: { Fits (past_of (reverse steps.items) saved.items) content.len } by { Fits-prop (past_of (reverse steps.items) saved.items)
+        content.len },
+    ghost written: { HoldsWritten (length content.front.items) content.pages.items (past_of (reverse steps.items) saved.items) } by { HoldsWritten-prop (length content.front.items) content.pages.items (past_of (reverse steps.items) saved.items) },
+    ghost seam: { HoldsSeam (length content.front.items) content.pages.items (past_of (reverse steps.items) saved.items) content.len } by { HoldsSeam-prop (length content.front.items) content.pages.items (past_of (reverse steps.items) saved.items) content.len },
 }
 
 impl Medium {
@@ -51,11 +52,11 @@ impl Medium {
     ghost use Rattle.fab_disk.specs.Medium.{past, HasRoom, IsWrittenOver};
 
     pub fn new(alloc: Global, content: Vec<u8>) -> Self
-        ensures content { result.content.items ≡ content.items }
+        ensures content { shown result.content ≡ content.items }
         ensures past { past result ≡ [] }
     {
         Medium {
-            content,
+            content: Pages::new(alloc, content),
             steps: Vec::new(alloc),
             saved: Vec::new(alloc),
         }
@@ -66,33 +67,30 @@ impl Medium {
         ensures made { OnOk result (HasRoom self.new calls bytes end) }
         ensures room { (c b e : ℕ) → HasRoom self.old c b e → HasRoom self.new c b e }
         ensures enough { OnErr result (HasRoom self.old calls bytes end → ⊥) }
-        ensures content { self.new.content.items ≡ self.old.content.items }
+        ensures content { shown self.new.content ≡ shown self.old.content }
         ensures past { past self.new ≡ past self.old }
     {
         self.steps.reserve(calls)?;
         self.saved.reserve(bytes)?;
-        self.content
-            .reserve(end.saturating_sub(self.content.len()))?;
-        Ok(())
+        self.content.reserve(calls, bytes, end)
     }
 
     // Writes over what is there. A gap behind the old end is filled with zeros.
     pub fn overwrite(&mut self, at: usize, from: &[u8])
+        requires reach { at + length from.now ≤ 2 ^ 48 }
         requires room { HasRoom self.old 1 (length from.now) (at + length from.now) }
-        ensures content { self.new.content.items ≡ written at from.now self.old.content.items }
-        ensures past { IsWrittenOver at (length from.now) (past self.old) (past self.new) self.old.content.items self.new.content.items }
+        ensures content { shown self.new.content ≡ written at from.now (shown self.old.content) }
+        ensures past { IsWrittenOver at (length from.now) (past self.old) (past self.new) (shown self.old.content) (shown self.new.content) }
         ensures room { (c b e : ℕ) → at + length from.now ≤ e → HasRoom self.old (c + 1) (b + length from.now) e → HasRoom self.new c b e }
     {
-        let length_before = self.content.len();
+        let length_before = self.content.len;
         let start = at.min(length_before);
-        let stood = &self.content[start..(at + from.len()).min(length_before)];
-        let kept = stood.len();
-        self.saved.extend_from_slice(stood).unwrap();
-        put(&mut self.content, at, from);
+        let kept = (at + from.len()).min(length_before) - start;
+        save(&mut self.saved, &self.content, start, kept);
+        self.content.write(at, from);
         // Where nothing was written, the place may lie past the end.
-        let at = at.min(self.content.len());
         let step = Step::Wrote(Overwrite {
-            at,
+            at: at.min(self.content.len),
             len: from.len(),
             kept,
             length_before,
@@ -103,7 +101,7 @@ impl Medium {
     // From now on a crash leaves what stands here.
     pub fn commit(&mut self)
         requires room { vec_len self.old.steps < vec_capacity self.old.steps }
-        ensures content { self.new.content.items ≡ self.old.content.items }
+        ensures content { shown self.new.content ≡ shown self.old.content }
         ensures past { past self.new ≡ synced ∷ past self.old }
         ensures room { (c b e : ℕ) → HasRoom self.old (c + 1) b e → HasRoom self.new c b e }
     {
@@ -112,9 +110,9 @@ impl Medium {
 
     // Forgets the past, where nothing that was written may still be lost.
     pub fn forget(&mut self)
-        ensures content { self.new.content.items ≡ self.old.content.items }
-        ensures crash { (image : List ℕ) → IsImage (past self.new) self.new.content.items image
-            → IsImage (past self.old) self.old.content.items image }
+        ensures content { shown self.new.content ≡ shown self.old.content }
+        ensures crash { (image : List ℕ) → IsImage (past self.new) (shown self.new.content) image
+            → IsImage (past self.old) (shown self.old.content) image }
         ensures settled { IsSettled (past self.old) → past self.new ≡ [] }
         ensures room { KeepsRoom (HasRoom self.old) (HasRoom self.new) }
     {
@@ -127,24 +125,26 @@ impl Medium {
 
     // Undoes the newest call. Whether it was a write.
     fn undo_newest(&mut self) -> bool
-        ensures undone { IsTrue result → rolled_back (past self.new) self.new.content.items ≡ rolled_back (past self.old) self.old.content.items }
-        ensures ended { result ≡ false → self.new.content.items ≡ rolled_back (past self.old) self.old.content.items }
+        ensures undone { IsTrue result → rolled_back (past self.new) (shown self.new.content) ≡ rolled_back (past self.old) (shown self.old.content) }
+        ensures ended { result ≡ false → shown self.new.content ≡ rolled_back (past self.old) (shown self.old.content) }
         ensures fewer { IsTrue result → vec_len self.new.steps < vec_len self.old.steps }
         ensures room { KeepsRoom (HasRoom self.old) (HasRoom self.new) }
     {
-        let Some(Step::Wrote(write)) = self.steps.pop() else {
+        let Some((Step::Wrote(write), older)) = self.steps.split_last() else {
             return false;
         };
+        let write = *write;
+        let calls = older.len();
         let from = self.saved.len().saturating_sub(write.kept);
-        let before = &self.saved[from..];
-        self.content[write.at..write.at + before.len()].copy_from_slice(before);
+        self.content.put(write.at, &self.saved[from..]);
         self.content.truncate(write.length_before);
         self.saved.truncate(from);
+        self.steps.truncate(calls);
         true
     }
 
     fn choose(&mut self, pick: u64)
-        ensures content { self.new.content.items ≡ settled_at pick (past self.old) self.old.content.items }
+        ensures content { shown self.new.content ≡ settled_at pick (past self.old) (shown self.old.content) }
         ensures room { KeepsRoom (HasRoom self.old) (HasRoom self.new) }
     {
         if pick == 0 {
@@ -154,12 +154,12 @@ impl Medium {
         if pick == 1 {
             return;
         }
-        scatter(&mut self.content, &self.steps, pick);
+        scatter_all(&mut self.content, &self.steps, pick);
     }
 
     // Undoes each write since the last sync.
     fn roll_back(&mut self)
-        ensures content { self.new.content.items ≡ rolled_back (past self.old) self.old.content.items }
+        ensures content { shown self.new.content ≡ rolled_back (past self.old) (shown self.old.content) }
         ensures room { KeepsRoom (HasRoom self.old) (HasRoom self.new) }
     {
         while self.undo_newest() {}
@@ -168,7 +168,7 @@ impl Medium {
     // Chooses one of the images that a crash may leave: at 0 what the last sync left, at 1 what was written, above 1 bytes
     // drawn by this number.
     pub fn settle(&mut self, pick: u64)
-        ensures content { self.new.content.items ≡ settled_at pick (past self.old) self.old.content.items }
+        ensures content { shown self.new.content ≡ settled_at pick (past self.old) (shown self.old.content) }
         ensures past { past self.new ≡ [] }
         ensures room { KeepsRoom (HasRoom self.old) (HasRoom self.new) }
     {
@@ -178,52 +178,15 @@ impl Medium {
     }
 }
 
-// Writes over what is there. A gap behind the old end is filled with zeros.
-fn put(content: &mut Vec<u8>, at: usize, from: &[u8])
-    requires { at + length from.now ≤ vec_capacity content.old }
-    ensures content { content.new.items ≡ written at from.now content.old.items }
-    ensures room { vec_capacity content.old ≤ vec_capacity content.new }
+// Adds a part of the content to what is saved.
+fn save(saved: &mut Vec<u8>, content: &Pages, start: usize, count: usize)
+    requires within { start + count ≤ content.now.len }
+    requires room { vec_len saved.old + count ≤ vec_capacity saved.old }
+    ensures items { saved.new.items ≡ saved.old.items ++ slice_range (shown content.now) start (start + count) }
+    ensures capacity { vec_capacity saved.old ≤ vec_capacity saved.new }
+    ensures len { vec_len saved.new ≡ vec_len saved.old + count }
 {
-    if from.is_empty() {
-        return;
-    }
-    let end = at + from.len();
-    if content.len() < end {
-        content.resize(end, 0).unwrap();
-    }
-    content[at..end].copy_from_slice(from);
-}
-
-// Draws each byte that a crash may change.
-fn scatter(content: &mut [u8], steps: &[Step], pick: u64)
-    ensures { content.new ≡ filled (is_uncertain (past_of (reverse steps.now) []) (length content.old)) (seeded pick) 0 content.old }
-{
-    let mut random = Pcg32::seed_from_u64(pick);
-    let size = content.len();
-    for place in 0..size {
-        if is_uncertain(steps, size, place) {
-            content[place] = (random.next_word() % 256) as u8;
-        }
-    }
-}
-
-// Whether a crash may change the byte at this place, in a content of this size.
-fn is_uncertain(steps: &[Step], size: usize, place: usize) -> bool
-    ensures { result ≡ is_uncertain (past_of (reverse steps.now) []) size place }
-{
-    let mut end = size;
-    let mut newer = steps;
-    while let Some((step, older)) = newer.split_last() {
-        match step {
-            Step::Synced => return end <= place,
-            Step::Wrote(write) => {
-                if write.covers(place) {
-                    return true;
-                }
-                end = write.length_before;
-                newer = older;
-            }
-        }
-    }
-    end <= place
+    let seam = saved.len();
+    saved.resize(seam + count, 0).unwrap();
+    content.read(start, &mut saved[seam..]);
 }

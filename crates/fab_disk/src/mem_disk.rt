@@ -6,9 +6,9 @@ use crate::disk::Fate;
 use crate::failing_calls::FailingCalls;
 use crate::medium::Medium;
 use crate::{Armed, Disk, IoFault, Plan};
-use std::alloc::Global;
+use std::alloc::{AllocError, Global};
 
-/// Bytes in memory that behave as a disk, and tell all that they hold.
+/// Bytes in memory that behave as a disk, and tell all that they hold. Pages that were never written take no room.
 ///
 /// It fails at the calls that [`MemDisk::fail_at`] lists and by the plan that [`Armed::arm`] takes, and at no others.
 #[derive(Drop)]
@@ -43,11 +43,16 @@ impl MemDisk {
         }
     }
 
-    /// The bytes that a read gives.
-    pub fn bytes(&self) -> &[u8]
-        ensures { result.now ≡ content_of self.now }
+    /// A copy of the bytes that a read gives. It counts as no call.
+    ///
+    /// # Errors
+    /// Memory was refused.
+    pub fn content(&self, alloc: Global) -> Result<Vec<u8>, AllocError>
+        ensures { IfOk result (λ bytes. bytes.items ≡ content_of self.now) }
     {
-        &self.medium.content
+        let mut bytes = vec![in alloc; 0; self.medium.content.len()]?;
+        self.medium.content.read(0, &mut bytes[..]);
+        Ok(bytes)
     }
 
     /// Lists the calls that are to fail, in the place of those listed before: the calls of `len`, `read_at`, `write_at` and
@@ -125,7 +130,7 @@ impl MemDisk {
 
 impl Disk for MemDisk {
     ghost use Rattle.fab_disk.specs.PastLaws.{content_is_image, image_had, had_now};
-    ghost use Rattle.fab_disk.specs.MediumLaws.{room_for_less};
+    ghost use Rattle.fab_disk.specs.MediumLaws.{room_for_less, fits_shown};
     ghost use Rattle.fab_disk.specs.MemDisk.{content_of, past_of_disk, may_be_left, was_left_since, moment_of, is_planned, room_of, FailsWhole, HoldsAsBefore, IsSound};
 
     ghost tells = { Unit {0} };
@@ -148,7 +153,7 @@ impl Disk for MemDisk {
 
     ghost room_for_less = { λ disk calls bytes end fewer less nearer c b e room. room_for_less disk.medium calls bytes end fewer less nearer c b e room };
 
-    ghost seen_is_left = { λ disk. content_is_image (past_of_disk disk) (content_of disk) disk.medium.fits };
+    ghost seen_is_left = { λ disk. content_is_image (past_of_disk disk) (content_of disk) (fits_shown disk.medium) };
 
     ghost counts_now = { λ disk t image le now. image_had (past_of_disk disk) (content_of disk) t image now };
 
@@ -162,7 +167,7 @@ impl Disk for MemDisk {
     fn read_at(&mut self, at: u64, into: &mut [u8]) -> Result<(), IoFault> {
         self.look()?;
         let at = at as usize;
-        into.copy_from_slice(&self.medium.content[at..at + into.len()]);
+        self.medium.content.read(at, into);
         Ok(())
     }
 

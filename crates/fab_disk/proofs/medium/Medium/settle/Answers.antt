@@ -7,5 +7,5 @@ returns-clause-room c = λ calls bytes end had.
     record {
       for_calls = omega (arith, room.for_calls, c.clear.ensures.capacity, c.clear.ensures.len);
       for_bytes = omega (arith, room.for_bytes, c.clear-2.ensures.capacity, c.clear-2.ensures.len);
-      for_end = room.for_end;
+      for_content = room.for_content;
     }

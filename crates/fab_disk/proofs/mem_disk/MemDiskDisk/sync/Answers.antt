@@ -1,6 +1,8 @@
 use Rattle.std.proofs.Common.{◌≡◌, ◌+◌, List, sym, ◌∙◌, ap, subst}
 use Rattle.fab_disk.specs.Past.{Past, IsImage}
 use Rattle.fab_disk.specs.PastLaws.{content_is_image}
+use Rattle.fab_disk.specs.Stored.{shown}
+use Rattle.fab_disk.specs.MediumLaws.{fits_shown}
 use Rattle.fab_disk.specs.Medium.{past, HasRoom}
 use Rattle.fab_disk.specs.declared.medium.Medium.{Medium}
 use Rattle.fab_disk.proofs.Rooms.{room_less, room_same}
@@ -9,11 +11,11 @@ use Rattle.fab_disk.proofs.mem_disk.MemDiskDisk.sync.Goals as goal
 pub returns-in-Goes-clause-crash : goal.returns-in-Goes-clause-crash
 returns-in-Goes-clause-crash c = λ image left.
     let old = c.args.self.now.medium in
-    let here : image ≡ c.commit.new.self.content.items = subst
-    (λ (p : List Past). IsImage p c.commit.new.self.content.items image) c.commit.ensures.past left in
-    let same : image ≡ old.content.items = here ∙ c.commit.ensures.content ∙ ap (λ (m : Medium). m.content.items) c.next_fate.ensures.medium
+    let here : image ≡ (shown c.commit.new.self.content) = subst
+    (λ (p : List Past). IsImage p (shown c.commit.new.self.content) image) c.commit.ensures.past left in
+    let same : image ≡ (shown old.content) = here ∙ c.commit.ensures.content ∙ ap (λ (m : Medium). (shown m.content)) c.next_fate.ensures.medium
     ∙ c.reserve.ensures.content in
-    subst (IsImage (past old) old.content.items) (sym same) (content_is_image (past old) old.content.items old.fits)
+    subst (IsImage (past old) (shown old.content)) (sym same) (content_is_image (past old) (shown old.content) (fits_shown old))
 
 pub returns-in-Goes-clause-room : goal.returns-in-Goes-clause-room
 returns-in-Goes-clause-room c = record {

@@ -1,5 +1,6 @@
 use Rattle.std.proofs.Common.{◌+◌, List, ℕ, length, sym, subst}
 use Rattle.fab_disk.specs.Past.{Past}
+use Rattle.fab_disk.specs.Stored.{shown}
 use Rattle.fab_disk.specs.Medium.{past, HasRoom, IsWrittenOver}
 use Rattle.fab_disk.specs.declared.medium.Medium.{Medium}
 use Rattle.fab_disk.proofs.Images.{write_crash}
@@ -10,13 +11,13 @@ pub returns-in-Goes-clause-crash : goal.returns-in-Goes-clause-crash
 returns-in-Goes-clause-crash c = λ image left.
     let old = c.args.self.now.medium in
     let over = subst (λ (m : Medium). IsWrittenOver c.args.at (length c.args.from.now) (past m)
-    (past c.overwrite.new.self) m.content.items c.overwrite.new.self.content.items) c.next_fate.ensures.medium c.overwrite.ensures.past in
+    (past c.overwrite.new.self) (shown m.content) (shown c.overwrite.new.self.content)) c.next_fate.ensures.medium c.overwrite.ensures.past in
     let over_past = subst (λ (p : List Past). IsWrittenOver c.args.at (length c.args.from.now) p
-    (past c.overwrite.new.self) c.reserve.new.self.content.items c.overwrite.new.self.content.items) c.reserve.ensures.past over in
+    (past c.overwrite.new.self) (shown c.reserve.new.self.content) (shown c.overwrite.new.self.content)) c.reserve.ensures.past over in
     let over_old = subst (λ (b : List ℕ). IsWrittenOver c.args.at (length c.args.from.now) (past old)
-    (past c.overwrite.new.self) b c.overwrite.new.self.content.items) c.reserve.ensures.content over_past in
+    (past c.overwrite.new.self) b (shown c.overwrite.new.self.content)) c.reserve.ensures.content over_past in
     write_crash c.args.at (length c.args.from.now) (past old)
-    (past c.overwrite.new.self) old.content.items c.overwrite.new.self.content.items over_old image left
+    (past c.overwrite.new.self) (shown old.content) (shown c.overwrite.new.self.content) over_old image left
 
 pub returns-in-Goes-clause-room : goal.returns-in-Goes-clause-room
 returns-in-Goes-clause-room c = record {
@@ -38,13 +39,13 @@ pub returns-in-Stops-clause-crash : goal.returns-in-Stops-clause-crash
 returns-in-Stops-clause-crash c = λ image left.
     let old = c.args.self.now.medium in
     let over = subst (λ (m : Medium). IsWrittenOver c.args.at (length c.args.from.now) (past m)
-    (past c.overwrite-in-Stops.new.self) m.content.items c.overwrite-in-Stops.new.self.content.items) c.next_fate.ensures.medium c.overwrite-in-Stops.ensures.past in
+    (past c.overwrite-in-Stops.new.self) (shown m.content) (shown c.overwrite-in-Stops.new.self.content)) c.next_fate.ensures.medium c.overwrite-in-Stops.ensures.past in
     let over_past = subst (λ (p : List Past). IsWrittenOver c.args.at (length c.args.from.now) p
-    (past c.overwrite-in-Stops.new.self) c.reserve.new.self.content.items c.overwrite-in-Stops.new.self.content.items) c.reserve.ensures.past over in
+    (past c.overwrite-in-Stops.new.self) (shown c.reserve.new.self.content) (shown c.overwrite-in-Stops.new.self.content)) c.reserve.ensures.past over in
     let over_old = subst (λ (b : List ℕ). IsWrittenOver c.args.at (length c.args.from.now) (past old)
-    (past c.overwrite-in-Stops.new.self) b c.overwrite-in-Stops.new.self.content.items) c.reserve.ensures.content over_past in
+    (past c.overwrite-in-Stops.new.self) b (shown c.overwrite-in-Stops.new.self.content)) c.reserve.ensures.content over_past in
     write_crash c.args.at (length c.args.from.now) (past old)
-    (past c.overwrite-in-Stops.new.self) old.content.items c.overwrite-in-Stops.new.self.content.items over_old image left
+    (past c.overwrite-in-Stops.new.self) (shown old.content) (shown c.overwrite-in-Stops.new.self.content) over_old image left
 
 pub returns-in-Stops-clause-room : goal.returns-in-Stops-clause-room
 returns-in-Stops-clause-room c = record {
@@ -61,3 +62,9 @@ returns-in-Fails-clause-room c = record {
       (c.reserve.ensures.room (calls + 1) (bytes + length c.args.from.now) limit had));
   enough = λ calls bytes limit le had refused. cc;
 }
+
+pub returns-in-Goes-clause-whole : goal.returns-in-Goes-clause-whole
+returns-in-Goes-clause-whole c = λ fails. absurd (cc (c.in-Goes.ensures.whole fails))
+
+pub returns-in-Stops-clause-whole : goal.returns-in-Stops-clause-whole
+returns-in-Stops-clause-whole c = λ fails. absurd (cc (c.in-Stops.ensures.whole fails))

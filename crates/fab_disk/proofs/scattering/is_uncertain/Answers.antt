@@ -4,7 +4,7 @@ use Rattle.fab_disk.specs.Past.{past_of}
 use Rattle.fab_disk.specs.Settled.{is_uncertain}
 use Rattle.fab_disk.specs.declared.medium.Step.{Step}
 use Rattle.fab_disk.proofs.Uncertain.{uncertain_wrote, uncertain_synced}
-use Rattle.fab_disk.proofs.medium.is_uncertain.Goals as goal
+use Rattle.fab_disk.proofs.scattering.is_uncertain.Goals as goal
 
 pub loop-step-preserved : goal.loop-step-preserved
 loop-step-preserved c =
