@@ -152,7 +152,7 @@ module _ (shape : Shape) (half : Half) (frames : List Frame) (frame : Frame) (p 
     (place : p ≡ half_at shape half + size_of frames)
     (fits : Fits shape frames (length frame.body)) where
   behind : 64 ≤ p
-  behind = omega (arith, place, half_behind shape half)
+  behind = omega (arith, place, half_behind shape half limits)
 
   -- while the frame is written behind the closed gate, the frames are as they were
   pub index_staged : (content image : List ℕ) → Index shape half frames content → Torn (p + 1) (length (line_of frame)) content image

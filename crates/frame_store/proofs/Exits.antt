@@ -30,7 +30,7 @@ use Rattle.frame_store.proofs.Changes.{laid_opens, append_moment, append_after, 
 pub end_small : (shape : Shape) → IsShape shape → store_end shape ≤ 2 ^ 40
 end_small shape limits =
     let wide : shape.records * shape.block ≤ shape.records * 4096 = mul-le-mul_left {m = shape.block} {n = 4096} shape.records limits.few_bytes in
-    omega (arith, wide, limits.few_slots)
+    omega (arith, wide, limits.few_slots, limits.near)
 
 -- each half ends within it
 pub half_within : (shape : Shape) (half : Half) → half_at shape half + half_size shape ≤ store_end shape

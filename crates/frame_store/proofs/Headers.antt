@@ -7,7 +7,8 @@ use Rattle.frame_store.specs.declared.shapes.Shape.{Shape}
 use Rattle.frame_store.specs.declared.shapes.Half.{Half}
 use Rattle.frame_store.specs.declared.shapes.Half.TheVariants.{A, B}
 use Rattle.frame_store.specs.Layouts.{header_at, identity, header_rest}
-use Rattle.frame_store.specs.Laid.{other}
+use Rattle.frame_store.specs.Laid.{other, IsRenewed}
+use Rattle.frame_store.specs.Steps.{next_of}
 use Rattle.frame_store.specs.Images.{part, IsOpen, InForce, IsLater, IsShut, generation_at}
 use Rattle.frame_store.proofs.Parts.{part_get, part_of_part, part_join, part_one}
 
@@ -109,3 +110,15 @@ next_is_later g small = record { ahead_some = omega arith; ahead_less = omega ar
 
 pub not_later_than_next : (g : ℕ) → g < 2 ^ 64 → IsLater ((g + 1) % 2 ^ 64) g → ⊥
 not_later_than_next g small later = omega (arith, later.ahead_less)
+
+-- an image is read by one half
+one_half : (shape : Shape) (image : List ℕ) → InForce shape A image → InForce shape B image → ⊥
+one_half shape image first second = first.1 second.0 (second.1 first.0)
+
+-- an image that is read by the other half, one generation later
+pub renewed : (shape : Shape) (half : Half) (number : ℕ) (old new : List ℕ) → InForce shape half old → generation_at half old ≡ number
+    → InForce shape (other half) new → generation_at (other half) new ≡ next_of number → IsRenewed shape old new
+renewed shape A number old new was number_was now number_now A force = (now, number_now ∙ ap next_of (sym number_was))
+renewed shape A number old new was number_was now number_now B force = absurd (one_half shape old was force)
+renewed shape B number old new was number_was now number_now A force = absurd (one_half shape old force was)
+renewed shape B number old new was number_was now number_now B force = (now, number_now ∙ ap next_of (sym number_was))

@@ -28,9 +28,9 @@ pub half_small : (shape : Shape) → IsShape shape → half_size shape < 2 ^ 32
 half_small shape limits = omega (arith, limits.few_slots)
 
 -- a half lies behind the headers
-pub half_behind : (shape : Shape) (half : Half) → 64 ≤ half_at shape half
-half_behind shape A = omega arith
-half_behind shape B = omega arith
+pub half_behind : (shape : Shape) (half : Half) → IsShape shape → 64 ≤ half_at shape half
+half_behind shape A limits = omega (arith, limits.behind)
+half_behind shape B limits = omega (arith, limits.behind)
 
 -- the frames and the closed gate, in the half's bytes
 half_split : (at size : ℕ) (length_of : ℕ) (image : List ℕ) → length_of < size → at + length_of < length image
@@ -102,18 +102,18 @@ index_kept shape half frames old new from k torn behind clear clear_gate index =
 }
 
 -- a write before the halves, in a header that is the other's, after which that is not open or as it was
-pub index_kept_header : (shape : Shape) (half : Half) (frames : List Frame) (old new : List ℕ) (from k : ℕ) → Torn from k old new
+pub index_kept_header : (shape : Shape) (half : Half) (frames : List Frame) (old new : List ℕ) (from k : ℕ) → IsShape shape → Torn from k old new
     → header_at (other half) ≤ from → from + k ≤ header_at (other half) + 32
     → (IsOpen shape (other half) new → part (header_at (other half)) 25 new ≡ part (header_at (other half)) 25 old)
     → Index shape half frames old → Index shape half frames new
-index_kept_header shape half frames old new from k torn low high same_other index = record {
+index_kept_header shape half frames old new from k limits torn low high same_other index = record {
   whole = omega (arith, index.whole, torn.no_shorter);
   in_force = in_force_kept shape half old new index.whole (omega (arith, index.whole, torn.no_shorter))
       (part_kept from k old new (header_at half) 25 torn (omega (arith, header_within half, index.whole)) (apart half low high))
       same_other index.in_force;
-  stands = stands_kept shape half frames old new from k torn (above (omega (arith, high, header_within (other half), half_behind shape half)))
+  stands = stands_kept shape half frames old new from k torn (above (omega (arith, high, header_within (other half), half_behind shape half limits)))
       (omega (arith, index.ends.within_file)) index.stands;
-  ends = ends_kept shape half frames old new from k torn (above (omega (arith, high, header_within (other half), half_behind shape half))) index.ends;
+  ends = ends_kept shape half frames old new from k torn (above (omega (arith, high, header_within (other half), half_behind shape half limits))) index.ends;
 }
   where
     apart : (half : Half) → header_at (other half) ≤ from → from + k ≤ header_at (other half) + 32 → IsClear from k (header_at half) 25

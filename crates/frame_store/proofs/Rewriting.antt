@@ -131,7 +131,7 @@ module _ (shape : Shape) (half : Half) (number : ℕ) (other_shut : Bool) (frame
   index_closing : (image : List ℕ) → Index shape half frames content → Torn gate_at (length (closing other_shut)) content image
       → Index shape half frames image
   index_closing image index torn =
-      index_kept_header shape half frames content image gate_at (length (closing other_shut)) torn (omega arith)
+      index_kept_header shape half frames content image gate_at (length (closing other_shut)) limits torn (omega arith)
       (omega (arith, closing_short other_shut)) (same_header other_shut refl image torn) index
 
   -- then it is shut
@@ -152,7 +152,7 @@ module _ (shape : Shape) (half : Half) (number : ℕ) (other_shut : Bool) (frame
   index_header : (old image : List ℕ) → Index shape half frames old → IsShut gate_at old → Torn (gate_at + 1) 31 old image
       → Index shape half frames image
   index_header old image index shut torn =
-      index_kept_header shape half frames old image (gate_at + 1) 31 torn (omega arith) (omega arith)
+      index_kept_header shape half frames old image (gate_at + 1) 31 limits torn (omega arith) (omega arith)
       (λ is_open. absurd (shut_is_not_open shape (other half) image
       (shut_kept old image (gate_at + 1) 31 torn (omega arith) index.whole shut) is_open)) index
 
@@ -160,7 +160,7 @@ module _ (shape : Shape) (half : Half) (number : ℕ) (other_shut : Bool) (frame
   index_list old image index torn =
       let long = length-closed_list new in
       let none : half_at shape half ≡ half_at shape half + 0 = omega arith in
-      index_kept shape half frames old image list_at (length (closed_list new)) torn (half_behind shape (other half))
+      index_kept shape half frames old image list_at (length (closed_list new)) torn (half_behind shape (other half) limits)
       (subst (λ (x : ℕ). IsClear list_at (length (closed_list new)) x (size_of frames)) (sym none)
       (apart_halves shape half 0 (length (closed_list new)) (size_of frames) (omega (arith, index.ends.within_half)) (omega (arith, long))))
       (apart_halves shape half (size_of frames) (length (closed_list new)) 1 (omega (arith, index.ends.within_half)) (omega (arith, long))) index
@@ -195,7 +195,7 @@ module _ (shape : Shape) (half : Half) (number : ℕ) (other_shut : Bool) (frame
 
   shut_behind : IsShut gate_at behind_content
   shut_behind =
-      shut_kept header_written behind_content list_at (length (closed_list new)) torn_list (omega (arith, within, half_behind shape (other half)))
+      shut_kept header_written behind_content list_at (length (closed_list new)) torn_list (omega (arith, within, half_behind shape (other half) limits))
       (omega (arith, rooted.whole, torn_shut.no_shorter, torn_header.no_shorter))
       (shut_kept shut_content header_written (gate_at + 1) 31 torn_header (omega arith) (omega (arith, rooted.whole, torn_shut.no_shorter))
       (is_shut other_shut refl))
@@ -204,14 +204,14 @@ module _ (shape : Shape) (half : Half) (number : ℕ) (other_shut : Bool) (frame
   rest_behind =
       part_kept list_at (length (closed_list new)) header_written behind_content (gate_at + 1) 31 torn_list
       (omega (arith, within, rooted.whole, torn_shut.no_shorter, torn_header.no_shorter))
-      (below (omega (arith, within, half_behind shape (other half))))
+      (below (omega (arith, within, half_behind shape (other half) limits)))
       ∙ part_written (gate_at + 1) (header_rest shape (next_of number)) shut_content
 
   own_behind : part (header_at half) 25 behind_content ≡ part (header_at half) 25 content
   own_behind =
       part_kept list_at (length (closed_list new)) header_written behind_content (header_at half) 25 torn_list
       (omega (arith, header_within half, rooted.whole, torn_shut.no_shorter, torn_header.no_shorter))
-      (below (omega (arith, header_within half, half_behind shape (other half))))
+      (below (omega (arith, header_within half, half_behind shape (other half) limits)))
       ∙ part_kept (gate_at + 1) 31 shut_content header_written (header_at half) 25 torn_header
       (omega (arith, header_within half, rooted.whole, torn_shut.no_shorter)) (apart_headers half (gate_at + 1) 31 (omega arith) (omega arith))
       ∙ part_kept gate_at (length (closing other_shut)) content shut_content (header_at half) 25 torn_shut
@@ -227,7 +227,7 @@ module _ (shape : Shape) (half : Half) (number : ℕ) (other_shut : Bool) (frame
       part_kept gate_at 1 behind_content image (gate_at + 1) 31 torn (omega (arith, within, whole_behind)) (above (omega arith)) ∙ rest_behind in
       let list : part list_at (length (closed_list new)) image ≡ closed_list new =
       part_kept gate_at 1 behind_content image list_at (length (closed_list new)) torn list_long
-      (above (omega (arith, within, half_behind shape (other half))))
+      (above (omega (arith, within, half_behind shape (other half) limits)))
       ∙ part_written list_at (closed_list new) header_written in
       let own : part (header_at half) 25 image ≡ part (header_at half) 25 content =
       part_kept gate_at 1 behind_content image (header_at half) 25 torn (omega (arith, header_within half, whole_behind))
@@ -265,12 +265,12 @@ module _ (shape : Shape) (half : Half) (number : ℕ) (other_shut : Bool) (frame
   slots_shut : (image : List ℕ) → Torn gate_at (length (closing other_shut)) content image → KeepsSlots shape None content image
   slots_shut image torn =
       slots_kept shape None content content image gate_at (length (closing other_shut)) torn
-      (λ slot is any. clear_header shape gate_at (length (closing other_shut)) slot (omega (arith, within, closing_short other_shut)))
+      (λ slot is any. clear_header shape gate_at (length (closing other_shut)) slot limits (omega (arith, within, closing_short other_shut)))
       (slots_same shape None content)
 
   slots_header : (old image : List ℕ) → KeepsSlots shape None content old → Torn (gate_at + 1) 31 old image → KeepsSlots shape None content image
   slots_header old image slots torn = slots_kept shape None content old image (gate_at + 1) 31 torn
-      (λ slot is any. clear_header shape (gate_at + 1) 31 slot (omega (arith, within))) slots
+      (λ slot is any. clear_header shape (gate_at + 1) 31 slot limits (omega (arith, within))) slots
 
   slots_list : (old image : List ℕ) → KeepsSlots shape None content old → Torn list_at (length (closed_list new)) old image
       → KeepsSlots shape None content image
@@ -283,7 +283,7 @@ module _ (shape : Shape) (half : Half) (number : ℕ) (other_shut : Bool) (frame
 
   slots_gate : (image : List ℕ) → Torn gate_at 1 behind_content image → KeepsSlots shape None content image
   slots_gate image torn = slots_kept shape None content behind_content image gate_at 1 torn
-      (λ slot is any. clear_header shape gate_at 1 slot (omega (arith, within))) slots_behind
+      (λ slot is any. clear_header shape gate_at 1 slot limits (omega (arith, within))) slots_behind
 
   -- the moments of a rewrite: while the other header's gate is shut, and afterwards
   pub rewrite_first : Index shape half frames content → (image : List ℕ) → Torn gate_at (length (closing other_shut)) content image
@@ -314,7 +314,7 @@ module _ (shape : Shape) (half : Half) (number : ℕ) (other_shut : Bool) (frame
           let before = index_list header_written behind_content (index_header shut_content header_written (index_closing shut_content index torn_shut)
           (is_shut other_shut refl) torn_header) torn_list in
           inl (index_opens shape half frames image limits
-          (index_kept_header shape half frames behind_content image gate_at 1 torn (omega arith) (omega arith)
+          (index_kept_header shape half frames behind_content image gate_at 1 limits torn (omega arith) (omega arith)
           (λ is_open. absurd (shut_is_not_open shape (other half) image shut is_open)) before))
     ];
     slots = slots_gate image torn;

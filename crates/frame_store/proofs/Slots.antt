@@ -6,16 +6,16 @@ use Rattle.fab_disk.specs.Disk.{Torn}
 use Rattle.frame_store.specs.declared.shapes.Shape.{Shape}
 use Rattle.frame_store.specs.declared.shapes.Half.{Half}
 use Rattle.frame_store.specs.declared.shapes.Half.TheVariants.{A, B}
-use Rattle.frame_store.specs.Layouts.{slot_at, half_at}
+use Rattle.frame_store.specs.Layouts.{IsShape, slot_at, half_at}
 use Rattle.frame_store.specs.Images.{part, HasSlot, StandsIn, IsOther, KeepsSlots, block_in}
 use Rattle.frame_store.proofs.Parts.{IsClear, below, above, part_kept}
 
 -- a slot ends where the next one begins
 pub slot_end : (shape : Shape) (slot : ℕ) → slot_at shape slot + shape.block ≡ slot_at shape (slot + 1)
-slot_end shape slot = step slot shape.block
+slot_end shape slot = step shape.start slot shape.block
   where
-    step : (s b : ℕ) → 64 + s * b + b ≡ 64 + (s + 1) * b
-    step s b = grind arith
+    step : (a s b : ℕ) → a + s * b + b ≡ a + (s + 1) * b
+    step a s b = grind arith
 
 -- a slot of a lower number ends before one of a higher begins
 pub slots_apart : (shape : Shape) (low high : ℕ) → low < high → slot_at shape low + shape.block ≤ slot_at shape high
@@ -42,8 +42,8 @@ pub clear_behind : (shape : Shape) (half : Half) (from k slot : ℕ) → half_at
     → IsClear from k (slot_at shape slot) shape.block
 clear_behind shape half from k slot behind is = below (omega (arith, slot_before_half shape half slot is))
 
-pub clear_header : (shape : Shape) (from k slot : ℕ) → from + k ≤ 64 → IsClear from k (slot_at shape slot) shape.block
-clear_header shape from k slot before = above (omega arith)
+pub clear_header : (shape : Shape) (from k slot : ℕ) → IsShape shape → from + k ≤ 64 → IsClear from k (slot_at shape slot) shape.block
+clear_header shape from k slot limits before = above (omega (arith, limits.behind))
 
 pub clear_slot : (shape : Shape) (put slot : ℕ) → slot ≢ put → IsClear (slot_at shape put) shape.block (slot_at shape slot) shape.block
 clear_slot shape put slot differs = elim (cases_lt slot put) [

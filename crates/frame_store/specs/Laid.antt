@@ -6,11 +6,17 @@ use Rattle.frame_store.specs.declared.shapes.Half.{Half}
 use Rattle.frame_store.specs.declared.shapes.Half.TheVariants.{A, B}
 use Rattle.frame_store.specs.Layouts.{IsShape, header_at, half_at, half_size}
 use Rattle.frame_store.specs.Listed.{frames_of, size_of, spelled}
+use Rattle.frame_store.specs.Steps.{next_of}
 use Rattle.frame_store.specs.Images.{part, InForce, IsShut, EndsClosed, generation_at, half_bytes}
 
 abbrev pub other : Half → Half
 other A = B
 other B = A
+
+-- the new image is read by the other half than the old one, and of the generation after its
+abbrev pub IsRenewed : Shape → List ℕ → List ℕ → Type 0
+IsRenewed shape old new = (half : Half) → InForce shape half old
+    → InForce shape (other half) new × (generation_at (other half) new ≡ next_of (generation_at half old))
 
 -- The image is read by this half, whose header has this generation, and gives these frames. It is known whether the other
 -- header's gate is shut, and whether a closed gate stands after the list.

@@ -5,9 +5,9 @@ use Rattle.frame_store.specs.declared.shapes.Shape.{Shape}
 use Rattle.frame_store.specs.declared.shapes.Half.{Half}
 use Rattle.frame_store.specs.declared.shapes.Half.TheVariants.{A, B}
 
--- what a store was made for: a brick, the bytes of a block, and how many slots there are
+-- what a store is made for: a brick, the bytes of a block, and how many slots there are, which begin behind the headers
 abbrev pub shape_of : ℕ → ℕ → ℕ → Shape
-shape_of me block records = record { me = me; block = block; records = records }
+shape_of me block records = record { me = me; block = block; records = records; start = 64 }
 
 -- the limits of a shape
 pub record IsShape (shape : Shape) : Type 0 where
@@ -15,6 +15,8 @@ pub record IsShape (shape : Shape) : Type 0 where
   pub few_bytes : shape.block ≤ 4096
   pub some_slots : 1 ≤ shape.records
   pub few_slots : shape.records ≤ 1048576
+  pub behind : 64 ≤ shape.start
+  pub near : shape.start ≤ 2 ^ 39
 
 -- where a header begins
 abbrev pub header_at : Half → ℕ
@@ -23,7 +25,7 @@ header_at B = 32
 
 -- where a slot begins
 abbrev pub slot_at : Shape → ℕ → ℕ
-slot_at shape slot = 64 + slot * shape.block
+slot_at shape slot = shape.start + slot * shape.block
 
 -- how long a half is
 abbrev pub half_size : Shape → ℕ

@@ -2,5 +2,5 @@ pub mod Layouts
 pub mod Listed
 pub mod Images
 pub mod Stores
-pub mod Laid
 pub mod Steps
+pub mod Laid

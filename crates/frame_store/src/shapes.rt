@@ -1,7 +1,7 @@
 //! What a store is made for, and where its parts lie.
 
 ghost use Rattle.std.specs.Prelude.{◌≡◌, ◌≤◌, ◌<◌, ◌+◌};
-/// What a store is made for: a brick, the bytes of a block, and how many slots there are.
+/// What a store is made for: a brick, the bytes of a block, how many slots there are, and where these begin.
 #[derive(Clone, Copy, Debug, PartialEq, Eq)]
 pub struct Shape {
     /// The brick.
@@ -10,6 +10,8 @@ pub struct Shape {
     pub block: u16,
     /// How many slots there are, 1 to 1,048,576.
     pub records: u32,
+    /// Where the slots begin, in bytes: 64, behind the headers, in every store that is made today.
+    pub start: u64,
 }
 
 /// A half of the index, with its header.
@@ -53,9 +55,10 @@ impl Shape {
 
     // Where a slot begins.
     pub(crate) fn slot_at(self, slot: u32) -> u64
+        requires { IsShape self }
         ensures { result ≡ slot_at self slot }
     {
-        64 + slot as u64 * self.block as u64
+        self.start + slot as u64 * self.block as u64
     }
 
     // How long a half of the index is.
@@ -67,6 +70,7 @@ impl Shape {
 
     // Where a half of the index begins.
     pub(crate) fn half_at(self, half: Half) -> u64
+        requires { IsShape self }
         ensures { result ≡ half_at self half }
     {
         let first = self.slot_at(self.records);
@@ -78,6 +82,7 @@ impl Shape {
 
     // Where the store ends.
     pub(crate) fn end(self) -> u64
+        requires { IsShape self }
         ensures { result ≡ store_end self }
     {
         self.half_at(Half::B) + self.half_size()

@@ -80,7 +80,12 @@ pub fn format<D: Disk>(
     ensures plan { OnOk result (RunsPlan 5 (D.fails_in disk.old) (D.fails_in disk.new)) }
     ensures cause { Kept (D.faults disk.old) (D.faults disk.new) (D.sound disk.old) (D.sound disk.new) (result ≡ Err FrameFault.Disk) }
 {
-    let shape = Shape { me, block, records };
+    let shape = Shape {
+        me,
+        block,
+        records,
+        start: 64,
+    };
     let headers = shut_headers(shape);
     let first = shape.half_at(Half::A);
     reserve(disk, 5, 66, shape.end())?;
@@ -114,7 +119,12 @@ pub fn open_store<D: Disk>(
     ensures cause { IfOk result (λ store. Kept (D.faults disk) (D.faults store.disk) (D.sound disk) (D.sound store.disk) ⊥) }
     ensures cause_err { IfErr result (λ e. Kept (D.faults disk) (D.faults e.1) (D.sound disk) (D.sound e.1) (e.0 ≡ FrameFault.Disk)) }
 {
-    let shape = Shape { me, block, records };
+    let shape = Shape {
+        me,
+        block,
+        records,
+        start: 64,
+    };
     let mut disk = disk;
     match read_store(alloc, &mut disk, shape) {
         Ok(found) => Ok(FrameStore {
@@ -137,6 +147,8 @@ pub fn open_store<D: Disk>(
 }
 
 impl<D: Disk> FrameStore<D> {
+    ghost use Rattle.frame_store.specs.Laid.{IsRenewed};
+
     /// The list of frames.
     pub fn frames(&self) -> &[Frame]
         ensures { result.now ≡ self.now.frames }
@@ -368,6 +380,8 @@ impl<D: Disk> FrameStore<D> {
         requires fits { size_of frames.items + 1 ≤ half_size self.old.shape }
         // After Ok each image opens as the new list.
         ensures after { D.tells → OnOk result (IsAfter self.old.shape (frames.items) None (D.seen self.old.disk) (D.seen self.new.disk)) }
+        // It stands in the other half, one generation later.
+        ensures renewed { D.tells → OnOk result (IsRenewed self.old.shape (D.seen self.old.disk) (D.seen self.new.disk)) }
         ensures durable { D.tells → OnOk result (IsDurable D.tells D.seen D.may_leave self.new) }
         // At each moment of the call each image opens as the list before it or as the one after it.
         ensures any_moment { IsDurable D.tells D.seen D.may_leave self.old → self.old.closed ≡ true

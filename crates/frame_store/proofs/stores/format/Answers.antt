@@ -16,7 +16,7 @@ on_ok (Err fault) means p = tt
 pub returns-clause-empty : goal.returns-clause-empty
 returns-clause-empty g c = λ told.
     let shape = shape_of c.args.me c.args.block c.args.records in
-    let limits : IsShape shape = record { some_bytes = c.requires.block_range.0; few_bytes = c.requires.block_range.1; some_slots = c.requires.records_range.0; few_slots = c.requires.records_range.1 } in
+    let limits : IsShape shape = record { some_bytes = c.requires.block_range.0; few_bytes = c.requires.block_range.1; some_slots = c.requires.records_range.0; few_slots = c.requires.records_range.1; behind = omega arith; near = omega arith } in
     let content = g.D.Disk.seen c.args.disk.now in
     let same = ap (λ (l : List ℕ). written 0 (165 ∷ [])
     (both_written 0 l c.half_at-first.result (0 ∷ []) (g.D.Disk.seen c.reserve.new.disk))) c.shut_headers-headers.ensures
@@ -28,7 +28,7 @@ returns-clause-empty g c = λ told.
 pub returns-clause-slots : goal.returns-clause-slots
 returns-clause-slots g c = λ told.
     let shape = shape_of c.args.me c.args.block c.args.records in
-    let limits : IsShape shape = record { some_bytes = c.requires.block_range.0; few_bytes = c.requires.block_range.1; some_slots = c.requires.records_range.0; few_slots = c.requires.records_range.1 } in
+    let limits : IsShape shape = record { some_bytes = c.requires.block_range.0; few_bytes = c.requires.block_range.1; some_slots = c.requires.records_range.0; few_slots = c.requires.records_range.1; behind = omega arith; near = omega arith } in
     let content = g.D.Disk.seen c.args.disk.now in
     let same = ap (λ (l : List ℕ). written 0 (165 ∷ [])
     (both_written 0 l c.half_at-first.result (0 ∷ []) (g.D.Disk.seen c.reserve.new.disk))) c.shut_headers-headers.ensures

@@ -9,6 +9,7 @@ use Rattle.frame_store.specs.Laid.{other, Laid, IsCounted}
 use Rattle.frame_store.specs.Stores.{Held, HasRoom}
 use Rattle.frame_store.proofs.Rewriting.{length-closed_list}
 use Rattle.frame_store.proofs.Changes.{laid_opens}
+use Rattle.frame_store.proofs.Headers.{renewed}
 use Rattle.frame_store.proofs.Exits.{Moments, Invariant, end_small, half_within, closing_short, moments_untouched, rewrite_moments, rewrite_done, rewrite_laid, rewrite_counted}
 use Rattle.frame_store.proofs.stores.FrameStore.rewrite.Goals as goal
 
@@ -87,6 +88,31 @@ returns-in-Ok-clause-after g c =
     let line_is : line ≡ closed_list fs = c.deref-2.ensures.value ∙ c.in_ok-stage_list.ensures.line ∙ ap closed_list c.deref.ensures.value in
     let runs = subst (λ (s : Held g.row.D.Denot). s.halted ≡ false) c.self.view_is c.if-self.false in
     rewrite_done d.tells d.seen d.may_leave d.moment d.left_since c.args.self.now x.half x.generation x.other_shut x.used mid new fs gate at c.closing-shut.result.now c.header_rest-rest.result line counted inv untouched c.requires.fits small gate_is at_is c.closing-shut.ensures rest_is line_is runs c.in-Ok.ensures.written
+
+pub returns-in-Ok-clause-renewed : goal.returns-in-Ok-clause-renewed
+returns-in-Ok-clause-renewed g c =
+    let x = c.self.inside in
+    let d = g.D.Disk in
+    let fs = c.args.frames.items in
+    let gate = c.header_at-gate.result in
+    let at = c.half_at-at.result in
+    let line = c.deref-2.result.now in
+    let mid = c.stage_list.new.disk in
+    let new = c.rewrite_gated.new.disk in
+    let counted = subst (λ (s : Held g.row.D.Denot). IsCounted s.shape s.frames x.used) c.self.view_is c.self.invariant.0 in
+    let inv = subst (λ (s : Held g.row.D.Denot). Invariant d.tells d.seen s x.half x.generation x.other_shut) c.self.view_is c.self.invariant.1 in
+    let untouched = subst (λ (s : Held g.row.D.Denot). IsUntouched d.seen d.may_leave d.moment d.left_since s.disk mid) c.self.view_is c.stage_list.ensures.untouched in
+    let small : x.generation < 2 ^ 64 = omega arith in
+    let gate_is : gate ≡ header_at (other x.half) = c.header_at-gate.ensures ∙ ap header_at c.other-other.ensures in
+    let at_is : at ≡ half_at c.args.self.now.shape (other x.half) = c.half_at-at.ensures ∙ ap (half_at x.shape) c.other-other.ensures
+    ∙ ap (λ (s : Held g.row.D.Denot). half_at s.shape (other x.half)) c.self.view_is in
+    let rest_is : c.header_rest-rest.result ≡ header_rest c.args.self.now.shape (next_of x.generation) = c.header_rest-rest.ensures
+    ∙ ap (λ (s : Held g.row.D.Denot). header_rest s.shape (next_of x.generation)) c.self.view_is in
+    let line_is : line ≡ closed_list fs = c.deref-2.ensures.value ∙ c.in_ok-stage_list.ensures.line ∙ ap closed_list c.deref.ensures.value in
+    let runs = subst (λ (s : Held g.row.D.Denot). s.halted ≡ false) c.self.view_is c.if-self.false in
+    let laid = rewrite_laid d.tells d.seen d.may_leave d.moment d.left_since c.args.self.now x.half x.generation x.other_shut x.used mid new fs gate at c.closing-shut.result.now c.header_rest-rest.result line counted inv untouched c.requires.fits small gate_is at_is c.closing-shut.ensures rest_is line_is runs c.in-Ok.ensures.written in
+    λ told. renewed c.args.self.now.shape x.half x.generation (d.seen c.args.self.now.disk) (d.seen new) (inv told runs).0.in_force
+    (inv told runs).0.generation (laid told).0.in_force (laid told).0.generation
 
 pub returns-in-Ok-clause-durable : goal.returns-in-Ok-clause-durable
 returns-in-Ok-clause-durable g c = λ told. record { told = told; runs = c.if-self.false; only = c.in-Ok.ensures.durable told }
