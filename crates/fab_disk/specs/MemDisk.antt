@@ -57,6 +57,10 @@ pub record Lists (disk : MemDisk) (calls : List ℕ) : Type 0 where
 abbrev pub FailsWhole : Plan → FailingCalls → Type 0
 FailsWhole plan failing = (next_fate plan ≡ Fails) ⊎ ((next_fate plan ≡ Goes) × FailsNext failing × (failing.made < 2 ^ 64 - 1))
 
+-- nothing is to befall the next call that changes the disk: its number is not the plan's, and no listed call is left
+abbrev pub GoesOn : Plan → FailingCalls → Type 0
+GoesOn plan failing = (next_fate plan ≡ Goes) × NoneLeft failing
+
 -- the bytes that a read gives, and the calls that are remembered, are as before
 pub record HoldsAsBefore (old new : MemDisk) : Type 0 where
   pub content : content_of new ≡ content_of old

@@ -25,9 +25,9 @@ impl MemDisk {
     ghost use Rattle.fab_disk.specs.Past.{IsImage, IsSettled};
     ghost use Rattle.fab_disk.specs.Medium.{HasRoom};
     ghost use Rattle.fab_disk.specs.Settled.{settled_at};
-    ghost use Rattle.fab_disk.specs.Plan.{IsPlanned};
+    ghost use Rattle.fab_disk.specs.Plan.{IsPlanned, plan_after};
     ghost use Rattle.fab_disk.specs.FailingCalls.{FailsNext};
-    ghost use Rattle.fab_disk.specs.MemDisk.{content_of, past_of_disk, FailsWhole, IsSound, Lists};
+    ghost use Rattle.fab_disk.specs.MemDisk.{content_of, past_of_disk, FailsWhole, GoesOn, IsSound, Lists};
 
     /// A sound disk that holds these bytes. A crash leaves them.
     pub fn new(alloc: Global, content: Vec<u8>) -> MemDisk
@@ -116,6 +116,8 @@ impl MemDisk {
         ensures cause { Kept self.old.faults self.new.faults (IsSound self.old) (IsSound self.new) (result ≢ Fate.Goes) }
         ensures plan { result ≡ Fate.Goes → CountsDown (IsPlanned self.old.plan) (IsPlanned self.new.plan) }
         ensures whole { FailsWhole self.old.plan self.old.failing → result ≡ Fate.Fails }
+        ensures early { GoesOn self.old.plan self.old.failing → result ≡ Fate.Goes }
+        ensures left { self.new.plan ≡ plan_after self.old.plan }
         ensures listed { self.old.failing.made < 2 ^ 64 - 1 → FailsNext self.old.failing → result ≢ Fate.Goes }
     {
         let (planned, left) = self.plan.next();
@@ -131,7 +133,8 @@ impl MemDisk {
 impl Disk for MemDisk {
     ghost use Rattle.fab_disk.specs.PastLaws.{content_is_image, image_had, had_now};
     ghost use Rattle.fab_disk.specs.MediumLaws.{room_for_less, fits_shown};
-    ghost use Rattle.fab_disk.specs.MemDisk.{content_of, past_of_disk, may_be_left, was_left_since, moment_of, is_planned, room_of, FailsWhole, HoldsAsBefore, IsSound};
+    ghost use Rattle.fab_disk.specs.MemDisk.{content_of, past_of_disk, may_be_left, was_left_since, moment_of, is_planned, room_of, FailsWhole, GoesOn, HoldsAsBefore, IsSound};
+    ghost use Rattle.fab_disk.specs.Plan.{plan_after};
 
     ghost tells = { Unit {0} };
 
@@ -187,6 +190,9 @@ impl Disk for MemDisk {
         ensures plan { OnOk result (CountsDown (is_planned self.old) (is_planned self.new)) }
         ensures cause { Kept self.old.faults self.new.faults (IsSound self.old) (IsSound self.new) (result ≡ Err IoFault.Failed) }
         ensures whole { FailsWhole self.old.plan self.old.failing → HoldsAsBefore self.old self.new }
+        // A call before the plan's number is made as if there were no plan.
+        ensures early { GoesOn self.old.plan self.old.failing → result ≢ Err IoFault.Failed }
+        ensures left { result ≢ Err IoFault.NoMemory → self.new.plan ≡ plan_after self.old.plan }
     {
         let at = at as usize;
         self.medium.reserve(1, from.len(), at + from.len())?;
@@ -214,6 +220,9 @@ impl Disk for MemDisk {
         ensures plan { OnOk result (CountsDown (is_planned self.old) (is_planned self.new)) }
         ensures cause { Kept self.old.faults self.new.faults (IsSound self.old) (IsSound self.new) (result ≡ Err IoFault.Failed) }
         ensures whole { FailsWhole self.old.plan self.old.failing → HoldsAsBefore self.old self.new }
+        // A call before the plan's number is made as if there were no plan.
+        ensures early { GoesOn self.old.plan self.old.failing → result ≢ Err IoFault.Failed }
+        ensures left { result ≢ Err IoFault.NoMemory → self.new.plan ≡ plan_after self.old.plan }
     {
         self.medium.reserve(1, 0, 0)?;
         match self.next_fate() {
@@ -227,7 +236,22 @@ impl Disk for MemDisk {
 }
 
 impl Armed for MemDisk {
-    fn arm(&mut self, plan: Plan) {
+    ghost use Rattle.fab_disk.specs.Plan.{IsPlanned};
+    ghost use Rattle.fab_disk.specs.FailingCalls.{NoneLeft};
+    ghost use Rattle.fab_disk.specs.MemDisk.{content_of, may_be_left, is_planned, room_of, IsSound};
+
+    fn arm(&mut self, plan: Plan)
+        ensures content { content_of self.new ≡ content_of self.old }
+        ensures crash { (image : List ℕ) → may_be_left self.new image → may_be_left self.old image }
+        ensures planned { (n : ℕ) → IsPlanned plan n → is_planned self.new n }
+        ensures faults { self.new.faults ≡ self.old.faults }
+        ensures room { KeepsRoom (room_of self.old) (room_of self.new) }
+        ensures sound { plan ≡ Plan.Never → IsSound self.old → IsSound self.new }
+        ensures taken { self.new.plan ≡ plan }
+        ensures listed { self.new.failing ≡ self.old.failing }
+        // A disk is sound again once its plan is replaced by none, where no listed call is left.
+        ensures quiet { plan ≡ Plan.Never → NoneLeft self.old.failing → IsSound self.new }
+    {
         self.plan = plan;
         self.medium.forget();
     }
