@@ -1,7 +1,7 @@
 -- A frame behind a list.
-use Rattle.std.proofs.Common.{◌≡◌, ◌≢◌, ◌⊎◌, inl, inr, ℕ, ◌+◌, ◌-◌, ◌*◌, ◌^◌, ◌<◌, ◌≤◌, Bool, true, false, List, [], ◌∷◌, ◌++◌, length, get_or, take, drop, refl, sym, ◌∙◌, ap, subst, arith, append_assoc, length-append}
+use Rattle.std.proofs.Common.{◌≡◌, ◌⊎◌, inl, inr, ℕ, ◌+◌, ◌-◌, ◌<◌, ◌≤◌, Bool, true, false, List, [], ◌∷◌, ◌++◌, length, get_or, refl, sym, ◌∙◌, ap, arith, length-append}
 use Rattle.std.proofs.lemmas.Bool.{cases_eq}
-use Rattle.std.proofs.lemmas.List.{places, append-nil, take_at, drop_at, get_or_append_left}
+use Rattle.std.proofs.lemmas.List.{places, append-nil, take_at}
 use Rattle.std.proofs.Math.Seq.{get_or-append_right}
 use Rattle.fab_disk.specs.Disk.{Torn, written}
 use Rattle.fab_disk.proofs.Writes.{written_torn}
@@ -9,11 +9,11 @@ use Rattle.frame_store.specs.declared.frames.Frame.{Frame}
 use Rattle.frame_store.specs.declared.shapes.Shape.{Shape}
 use Rattle.frame_store.specs.declared.shapes.Half.{Half}
 use Rattle.frame_store.specs.declared.shapes.Half.TheVariants.{A, B}
-use Rattle.frame_store.specs.Layouts.{IsShape, header_at, half_at, half_size, slot_at}
-use Rattle.frame_store.specs.Listed.{spelled, size_of, frames_of, frame_rest, line_of, Fits}
+use Rattle.frame_store.specs.Layouts.{IsShape, header_at, half_at}
+use Rattle.frame_store.specs.Listed.{spelled, size_of, frame_rest, line_of, Fits}
 use Rattle.frame_store.specs.Laid.{other, Laid}
-use Rattle.frame_store.specs.Images.{part, IsOpen, InForce, IsShut, EndsClosed, OpensAs, half_bytes, generation_at}
-use Rattle.frame_store.proofs.Parts.{IsClear, below, above, part_get, length-part, part_kept, byte_kept, part_join, part_one, part_of_part, part_written, written_get, length-written}
+use Rattle.frame_store.specs.Images.{part, InForce, IsShut, EndsClosed, generation_at}
+use Rattle.frame_store.proofs.Parts.{IsClear, below, above, part_get, part_kept, byte_kept, part_join, part_one, part_of_part, part_written, written_get, length-written}
 use Rattle.frame_store.proofs.Listing.{length-spelled, size_of-append, spelled-append}
 use Rattle.frame_store.proofs.Headers.{header_within, in_force_kept, generation_kept}
 use Rattle.frame_store.proofs.Indexes.{Index, half_behind, index_kept, listed_closed}

@@ -1,5 +1,5 @@
 -- What the moments of an append leave of a store.
-use Rattle.std.proofs.Common.{◌≡◌, ◌⊎◌, inl, inr, ℕ, ◌+◌, ◌<◌, ◌≤◌, Bool, true, List, [], ◌∷◌, ◌++◌, length, Option, Some, None, refl, sym, ◌∙◌, ap, subst, arith}
+use Rattle.std.proofs.Common.{◌≡◌, inl, inr, ℕ, ◌+◌, ◌<◌, ◌≤◌, Bool, true, List, [], ◌∷◌, ◌++◌, length, Option, Some, None, subst, arith}
 use Rattle.fab_disk.specs.Disk.{Torn, written}
 use Rattle.fab_disk.proofs.Writes.{written_torn}
 use Rattle.frame_store.specs.declared.frames.Frame.{Frame}
@@ -8,10 +8,10 @@ use Rattle.frame_store.specs.declared.shapes.Half.{Half}
 use Rattle.frame_store.specs.Layouts.{IsShape, half_at, slot_at}
 use Rattle.frame_store.specs.Listed.{size_of, line_of, Fits}
 use Rattle.frame_store.specs.Laid.{Laid}
-use Rattle.frame_store.specs.Images.{part, HasSlot, StandsIn, KeepsSlots, OpensAs, IsAfter, IsBeforeOrAfter}
-use Rattle.frame_store.specs.Steps.{IsStaged, IsGated, IsBothGated, both_written}
-use Rattle.frame_store.proofs.Parts.{below, above, part_written, length-written}
-use Rattle.frame_store.proofs.Indexes.{Index, index_opens, index_kept, half_behind}
+use Rattle.frame_store.specs.Images.{part, StandsIn, KeepsSlots, OpensAs, IsAfter, IsBeforeOrAfter}
+use Rattle.frame_store.specs.Steps.{IsGated, IsBothGated}
+use Rattle.frame_store.proofs.Parts.{above, part_written, length-written}
+use Rattle.frame_store.proofs.Indexes.{Index, index_opens, index_kept}
 use Rattle.frame_store.proofs.Slots.{slots_kept, clear_behind, clear_slot, slot_before_half, stands_behind}
 use Rattle.frame_store.proofs.Standing.{slots_same}
 use Rattle.frame_store.proofs.Appending.{index_staged, index_gated, appended, appended_laid, Rooted, rooted_kept}

@@ -1,10 +1,7 @@
 -- What the calls of a store leave at each of their exits.
-use Rattle.std.proofs.Common.{◌≡◌, ◌⊎◌, inl, inr, ℕ, ◌+◌, ◌-◌, ◌*◌, ◌^◌, ◌<◌, ◌≤◌, max, min, Bool, true, false, List, [], ◌∷◌, ◌++◌, length, Option, Some, None, refl, sym, ◌∙◌, ap, subst, arith, length-append, length-take, length-drop, take, drop}
-use Rattle.std.proofs.Math.Nat.{mul-le-mul_left, mul-le-mul_right}
-use Rattle.std.proofs.lemmas.Bool.{cases_lt}
-use Rattle.std.proofs.lemmas.Grind.{same_number_lists}
-use Rattle.std.proofs.lemmas.List.{places}
-use Rattle.fab_disk.specs.Disk.{Torn, written, Only, IsUntouched, LeavesOnly}
+use Rattle.std.proofs.Common.{◌≡◌, inl, inr, ℕ, ◌+◌, ◌-◌, ◌*◌, ◌^◌, ◌<◌, ◌≤◌, max, Bool, true, false, List, [], ◌∷◌, ◌++◌, length, Option, Some, None, refl, sym, ◌∙◌, ap, subst, arith}
+use Rattle.std.proofs.Math.Nat.{mul-le-mul_left}
+use Rattle.fab_disk.specs.Disk.{written, Only, IsUntouched, LeavesOnly}
 use Rattle.fab_disk.proofs.Moments.{started, goes_on, joined, widened}
 use Rattle.frame_store.specs.declared.frames.Frame.{Frame}
 use Rattle.frame_store.specs.declared.shapes.Shape.{Shape}
@@ -13,15 +10,15 @@ use Rattle.frame_store.specs.declared.shapes.Half.TheVariants.{A, B}
 use Rattle.frame_store.specs.Layouts.{IsShape, header_at, header_rest, half_at, half_size, slot_at, store_end}
 use Rattle.frame_store.specs.Listed.{size_of, line_of, closed_list, Fits}
 use Rattle.frame_store.specs.Laid.{other, Laid, IsCounted}
-use Rattle.frame_store.specs.Images.{part, OpensAs, IsAfter, IsBeforeOrAfter}
+use Rattle.frame_store.specs.Images.{OpensAs, IsAfter, IsBeforeOrAfter}
 use Rattle.frame_store.specs.Steps.{IsGated, IsBothGated, IsRewritten, both_written, closing, next_of}
-use Rattle.frame_store.specs.Stores.{Held, Shows, IsDurable}
+use Rattle.frame_store.specs.Stores.{Held, IsDurable}
 use Rattle.frame_store.proofs.Parts.{length-written}
 use Rattle.frame_store.proofs.Standing.{before_is}
 use Rattle.frame_store.proofs.Listing.{size_of-append}
 use Rattle.frame_store.proofs.Slots.{slot_before_half}
 use Rattle.frame_store.proofs.Indexes.{Index}
-use Rattle.frame_store.proofs.Appending.{Rooted, length-line, index_of, rooted_of, appended, appended_laid}
+use Rattle.frame_store.proofs.Appending.{Rooted, length-line, index_of, rooted_of, appended_laid}
 use Rattle.frame_store.proofs.Headers.{header_within}
 use Rattle.frame_store.proofs.Rewriting.{length-closed_list, rewrite_first, rewrite_then, rewritten_laid, rewrite_after}
 use Rattle.frame_store.proofs.Changes.{laid_opens, append_moment, append_after, put_moment, put_after, rooted_put}

@@ -1,11 +1,11 @@
 -- A disk after a format.
-use Rattle.std.proofs.Common.{◌≡◌, ℕ, ◌+◌, ◌*◌, ◌<◌, ◌≤◌, max, true, List, [], ◌∷◌, ◌++◌, length, get_or, take, drop, refl, sym, ◌∙◌, ap, subst, arith}
+use Rattle.std.proofs.Common.{◌≡◌, ℕ, ◌+◌, ◌<◌, ◌≤◌, true, List, [], ◌∷◌, ◌++◌, length, get_or, refl, sym, ◌∙◌, ap, arith}
 use Rattle.fab_disk.specs.Disk.{written}
 use Rattle.fab_disk.proofs.Writes.{written_torn}
 use Rattle.frame_store.specs.declared.shapes.Shape.{Shape}
 use Rattle.frame_store.specs.declared.shapes.Half.TheVariants.{A, B}
-use Rattle.frame_store.specs.Layouts.{IsShape, header_rest, half_at, half_size, slot_at}
-use Rattle.frame_store.specs.Images.{part, OpensAs, HasSlot, EndsClosed, IsOpen}
+use Rattle.frame_store.specs.Layouts.{IsShape, header_rest, half_at}
+use Rattle.frame_store.specs.Images.{part, OpensAs, HasSlot}
 use Rattle.frame_store.specs.Steps.{both_written}
 use Rattle.frame_store.proofs.Parts.{below, above, part_get, part_kept, byte_kept, part_of_part, part_written, written_get, length-written}
 use Rattle.frame_store.proofs.Headers.{header_is_open, shut_is_not_open}

@@ -1,20 +1,19 @@
 -- The list of frames in the half by which an image is read.
-use Rattle.std.proofs.Common.{◌≡◌, ◌≢◌, ◌⊎◌, inl, inr, ℕ, ◌+◌, ◌-◌, ◌*◌, ◌^◌, ◌<◌, ◌≤◌, Bool, true, List, [], ◌∷◌, ◌++◌, length, get_or, take, drop, min, refl, sym, ◌∙◌, ap, subst, arith, append_assoc, length-append, length-take, length-drop, take-append-drop}
-use Rattle.std.proofs.lemmas.Bool.{cases_eq}
+use Rattle.std.proofs.Common.{◌≡◌, ℕ, ◌+◌, ◌^◌, ◌<◌, ◌≤◌, true, List, ◌∷◌, ◌++◌, length, get_or, take, drop, refl, sym, ◌∙◌, ap, arith, length-take, length-drop, take-append-drop}
 use Rattle.std.proofs.lemmas.Grind.{same_number_lists}
-use Rattle.std.proofs.lemmas.List.{places, drop_more, get_or-take, get_or-drop}
+use Rattle.std.proofs.lemmas.List.{places, drop_more}
 use Rattle.fab_disk.specs.Disk.{Torn}
 use Rattle.frame_store.specs.declared.frames.Frame.{Frame}
 use Rattle.frame_store.specs.declared.shapes.Shape.{Shape}
 use Rattle.frame_store.specs.declared.shapes.Half.{Half}
 use Rattle.frame_store.specs.declared.shapes.Half.TheVariants.{A, B}
-use Rattle.frame_store.specs.Layouts.{IsShape, header_at, half_at, half_size, slot_at}
-use Rattle.frame_store.specs.Listed.{spelled, size_of, frames_of, frame_rest}
+use Rattle.frame_store.specs.Layouts.{IsShape, header_at, half_at, half_size}
+use Rattle.frame_store.specs.Listed.{spelled, size_of, frames_of}
 use Rattle.frame_store.specs.Laid.{other}
-use Rattle.frame_store.specs.Images.{part, IsOpen, InForce, IsShut, EndsClosed, OpensAs, half_bytes}
-use Rattle.frame_store.proofs.Parts.{IsClear, below, above, part_get, length-part, part_kept, byte_kept, part_join, part_one}
-use Rattle.frame_store.proofs.Listing.{length-spelled, frames_of-spelled, size_of-append, spelled-append}
-use Rattle.frame_store.proofs.Headers.{header_within, in_force_kept, shut_is_not_open}
+use Rattle.frame_store.specs.Images.{part, IsOpen, InForce, EndsClosed, OpensAs, half_bytes}
+use Rattle.frame_store.proofs.Parts.{IsClear, below, above, part_get, part_kept, byte_kept}
+use Rattle.frame_store.proofs.Listing.{frames_of-spelled}
+use Rattle.frame_store.proofs.Headers.{header_within, in_force_kept}
 
 -- An image is read by this half and holds these frames there, with a closed gate after them.
 pub record Index (shape : Shape) (half : Half) (frames : List Frame) (image : List ℕ) : Type 0 where

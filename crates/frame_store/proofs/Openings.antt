@@ -1,5 +1,5 @@
 -- What an image opens as.
-use Rattle.std.proofs.Common.{◌≡◌, ◌≢◌, ◌⊎◌, inl, inr, ⊎_elim, ℕ, ◌+◌, ◌-◌, ◌<◌, ◌≤◌, min, Bool, true, false, not, nat_eq, List, length, get_or, take, drop, IsTrue, refl, sym, ◌∙◌, ap, subst, arith, length-take, length-drop}
+use Rattle.std.proofs.Common.{◌≡◌, ◌≢◌, inl, inr, ⊎_elim, ℕ, ◌+◌, ◌-◌, ◌<◌, ◌≤◌, min, Bool, true, false, not, nat_eq, List, length, get_or, take, drop, IsTrue, refl, sym, ◌∙◌, ap, subst, arith, length-take, length-drop}
 use Rattle.std.proofs.lemmas.Bool.Decides.{nat_tests}
 use Rattle.std.proofs.lemmas.Grind.{same_number_lists}
 use Rattle.std.proofs.lemmas.List.{places}
@@ -11,9 +11,9 @@ use Rattle.frame_store.specs.declared.shapes.Half.TheVariants.{A, B}
 use Rattle.frame_store.specs.Layouts.{header_at, half_at, half_size}
 use Rattle.frame_store.specs.Listed.{spelled, size_of, frames_of}
 use Rattle.frame_store.specs.Laid.{other, Laid}
-use Rattle.frame_store.specs.Images.{part, IsOpen, InForce, IsShut, EndsClosed, OpensAs, IsNoStore, half_bytes, generation_at}
+use Rattle.frame_store.specs.Images.{part, InForce, EndsClosed, OpensAs, IsNoStore, half_bytes, generation_at}
 use Rattle.frame_store.proofs.Parts.{part_get, length-part, part_of_part}
-use Rattle.frame_store.proofs.Headers.{header_within, in_force_kept, generation_kept, open_back, open_kept}
+use Rattle.frame_store.proofs.Headers.{header_within, in_force_kept, generation_kept, open_back}
 
 -- calls that changed nothing, one after the other
 pub untouched_both : {D : Type 0} (seen : D → List ℕ) (may_leave : D → List ℕ → Type 0) (moment : D → ℕ) (left_since : D → ℕ → List ℕ → Type 0)

@@ -1,11 +1,11 @@
 -- Parts of a content, before and after a write.
-use Rattle.std.proofs.Common.{◌≡◌, ◌≢◌, ◌⊎◌, inl, inr, ℕ, zero, suc, ◌+◌, ◌-◌, ◌<◌, ◌≤◌, max, min, List, [], ◌∷◌, ◌++◌, length, get_or, take, drop, replicate, refl, sym, ◌∙◌, ap, arith, length-append}
+use Rattle.std.proofs.Common.{◌≡◌, inl, inr, ℕ, zero, suc, ◌+◌, ◌-◌, ◌<◌, ◌≤◌, max, List, [], ◌∷◌, ◌++◌, length, get_or, drop, replicate, refl, sym, ◌∙◌, ap, arith, length-append}
 use Rattle.std.proofs.lemmas.Bool.{cases_lt}
 use Rattle.std.proofs.lemmas.Grind.{same_number_lists}
 use Rattle.std.proofs.lemmas.List.{places, get_or-take, get_or-drop, get_or_append_left, length-replicate}
 use Rattle.std.proofs.Math.Seq.{get_or-append_right}
 use Rattle.fab_disk.specs.Disk.{padded, overlaid, written, Torn, IsOutside}
-use Rattle.fab_disk.proofs.Writes.{written_some, written_torn}
+use Rattle.fab_disk.proofs.Writes.{written_some}
 use Rattle.frame_store.specs.Images.{part}
 
 -- a byte of a part

@@ -1,5 +1,5 @@
 -- What was to fail, over runs of calls.
-use Rattle.std.proofs.Common.{◌≡◌, ℕ, ◌+◌, ◌-◌, ◌<◌, ◌≤◌, sym, subst, arith}
+use Rattle.std.proofs.Common.{◌≡◌, ℕ, ◌+◌, ◌-◌, subst, arith}
 use Rattle.fab_disk.specs.Disk.{CountsDown}
 use Rattle.frame_store.specs.Stores.{RunsPlan}
 

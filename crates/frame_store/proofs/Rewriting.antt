@@ -1,6 +1,6 @@
 -- A list in the other half, in the place of the one that is there.
-use Rattle.std.proofs.Common.{◌≡◌, ◌≢◌, ◌⊎◌, inl, inr, ℕ, ◌+◌, ◌-◌, ◌*◌, ◌^◌, ◌%◌, ◌<◌, ◌≤◌, Bool, true, false, List, [], ◌∷◌, ◌++◌, length, get_or, take, drop, Option, Some, None, refl, sym, ◌∙◌, ap, subst, arith, length-append}
-use Rattle.std.proofs.lemmas.Bool.{cases_eq, cases_lt}
+use Rattle.std.proofs.Common.{◌≡◌, inl, inr, ℕ, ◌+◌, ◌-◌, ◌^◌, ◌<◌, ◌≤◌, Bool, true, false, List, [], ◌∷◌, length, get_or, None, refl, sym, ◌∙◌, ap, subst, arith, length-append}
+use Rattle.std.proofs.lemmas.Bool.{cases_eq}
 use Rattle.std.proofs.lemmas.List.{take_at}
 use Rattle.std.proofs.Math.Seq.{get_or-append_right}
 use Rattle.fab_disk.specs.Disk.{Torn, written}
@@ -9,18 +9,18 @@ use Rattle.frame_store.specs.declared.frames.Frame.{Frame}
 use Rattle.frame_store.specs.declared.shapes.Shape.{Shape}
 use Rattle.frame_store.specs.declared.shapes.Half.{Half}
 use Rattle.frame_store.specs.declared.shapes.Half.TheVariants.{A, B}
-use Rattle.frame_store.specs.Layouts.{IsShape, header_at, half_at, half_size, slot_at, header_rest}
+use Rattle.frame_store.specs.Layouts.{IsShape, header_at, half_at, half_size, header_rest}
 use Rattle.frame_store.specs.Listed.{spelled, size_of, closed_list}
 use Rattle.frame_store.specs.Laid.{other, Laid}
-use Rattle.frame_store.specs.Images.{part, IsOpen, InForce, IsLater, IsShut, EndsClosed, OpensAs, IsAfter, IsBeforeOrAfter, KeepsSlots, generation_at}
+use Rattle.frame_store.specs.Images.{part, IsOpen, InForce, IsLater, IsShut, EndsClosed, IsAfter, IsBeforeOrAfter, KeepsSlots, generation_at}
 use Rattle.frame_store.specs.Steps.{IsStaged, IsBothGated, both_written, closing, next_of}
 use Rattle.frame_store.proofs.Parts.{IsClear, below, above, unwritten, part_get, part_kept, same_part, byte_kept, part_of_part, part_written, written_get, length-written}
 use Rattle.frame_store.proofs.Listing.{length-spelled}
-use Rattle.frame_store.proofs.Headers.{header_within, gate_of_open, shut_is_not_open, open_back, generation_kept, header_is_open, header_generation, next_is_later, not_later_than_next}
+use Rattle.frame_store.proofs.Headers.{header_within, gate_of_open, shut_is_not_open, generation_kept, header_is_open, header_generation, next_is_later, not_later_than_next}
 use Rattle.frame_store.proofs.Indexes.{Index, half_behind, index_opens, index_kept, index_kept_header}
 use Rattle.frame_store.proofs.Slots.{slots_kept, clear_behind, clear_header}
 use Rattle.frame_store.proofs.Standing.{slots_same}
-use Rattle.frame_store.proofs.Appending.{Rooted, rooted_kept, laid_of}
+use Rattle.frame_store.proofs.Appending.{Rooted, laid_of}
 use Rattle.frame_store.proofs.Changes.{laid_opens}
 
 pub length-closed_list : (frames : List Frame) → length (closed_list frames) ≡ size_of frames + 1

@@ -1,7 +1,7 @@
 -- What a crash leaves in a run of writes that begins on a disk with nothing unsynced.
-use Rattle.std.proofs.Common.{◌≡◌, inl, inr, ℕ, ◌≤◌, List, length, refl, sym, subst, arith}
+use Rattle.std.proofs.Common.{ℕ, List, refl, sym, subst, arith}
 use Rattle.fab_disk.specs.Disk.{Torn, Follows, Only, Elapses, LeavesOnly}
-use Rattle.fab_disk.proofs.Moments.{started, goes_on, widened, joined}
+use Rattle.fab_disk.proofs.Moments.{started, goes_on}
 use Rattle.frame_store.specs.Steps.{IsStaged}
 
 -- nothing is torn

@@ -1,5 +1,5 @@
 -- Slots, where they lie and what writes leave of them.
-use Rattle.std.proofs.Common.{◌≡◌, ◌≢◌, inl, inr, ℕ, ◌+◌, ◌*◌, ◌<◌, ◌≤◌, List, length, Option, Some, None, refl, ◌∙◌, sym, ap, arith}
+use Rattle.std.proofs.Common.{◌≡◌, ◌≢◌, inl, inr, ℕ, ◌+◌, ◌*◌, ◌<◌, ◌≤◌, List, Option, Some, None, ◌∙◌, arith}
 use Rattle.std.proofs.Math.Nat.{mul-le-mul_right}
 use Rattle.std.proofs.lemmas.Bool.{cases_lt}
 use Rattle.fab_disk.specs.Disk.{Torn}
@@ -7,7 +7,7 @@ use Rattle.frame_store.specs.declared.shapes.Shape.{Shape}
 use Rattle.frame_store.specs.declared.shapes.Half.{Half}
 use Rattle.frame_store.specs.declared.shapes.Half.TheVariants.{A, B}
 use Rattle.frame_store.specs.Layouts.{IsShape, slot_at, half_at}
-use Rattle.frame_store.specs.Images.{part, HasSlot, StandsIn, IsOther, KeepsSlots, block_in}
+use Rattle.frame_store.specs.Images.{StandsIn, IsOther, KeepsSlots}
 use Rattle.frame_store.proofs.Parts.{IsClear, below, above, part_kept}
 
 -- a slot ends where the next one begins

@@ -1,11 +1,8 @@
 -- A store that no call has changed.
-use Rattle.std.proofs.Common.{◌≡◌, ℕ, Bool, true, List, Option, length, inl, refl, sym, subst, arith}
-use Rattle.fab_disk.specs.Disk.{Only, LeavesOnly}
-use Rattle.fab_disk.proofs.Moments.{started}
+use Rattle.std.proofs.Common.{◌≡◌, ℕ, true, List, Option, inl, refl, sym, subst, arith}
 use Rattle.frame_store.specs.declared.frames.Frame.{Frame}
 use Rattle.frame_store.specs.declared.shapes.Shape.{Shape}
 use Rattle.frame_store.specs.Images.{OpensAs, KeepsSlots, IsBeforeOrAfter}
-use Rattle.frame_store.specs.Stores.{Held, Shows, IsRead, IsDurable}
 
 -- each slot holds what it holds
 pub slots_same : (shape : Shape) (put : Option (ℕ × List ℕ)) (content : List ℕ) → KeepsSlots shape put content content

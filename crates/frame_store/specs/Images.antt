@@ -1,5 +1,5 @@
 -- What the bytes of a disk stand for as a store.
-use Rattle.std.specs.Prelude.{◌≡◌, ◌≢◌, ◌⊎◌, ℕ, ◌+◌, ◌-◌, ◌*◌, ◌%◌, ◌^◌, ◌<◌, ◌≤◌, List, [], ◌∷◌, length, get_or, take, drop, Bool, true, Option, Some, None}
+use Rattle.std.specs.Prelude.{◌≡◌, ◌≢◌, ◌⊎◌, ℕ, ◌+◌, ◌-◌, ◌%◌, ◌^◌, ◌<◌, ◌≤◌, List, ◌∷◌, length, get_or, take, drop, Bool, true, Option, Some, None}
 use Rattle.std.specs.Int.{w64, from_be_bytes}
 use Rattle.frame_store.specs.declared.frames.Frame.{Frame}
 use Rattle.frame_store.specs.declared.shapes.Shape.{Shape}

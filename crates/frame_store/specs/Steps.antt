@@ -1,5 +1,5 @@
 -- What runs of writes and syncs do to the content of a disk.
-use Rattle.std.specs.Prelude.{◌≡◌, ◌⊎◌, ℕ, ◌+◌, ◌%◌, ◌^◌, Bool, true, false, List, [], ◌∷◌, length}
+use Rattle.std.specs.Prelude.{◌⊎◌, ℕ, ◌+◌, ◌%◌, ◌^◌, Bool, true, false, List, [], ◌∷◌, length}
 use Rattle.fab_disk.specs.Disk.{written, Torn}
 
 -- an image after two writes of which both may be torn

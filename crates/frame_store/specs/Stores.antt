@@ -1,8 +1,8 @@
 -- What a clause sees of a store.
-use Rattle.std.specs.Prelude.{◌≡◌, ◌≢◌, ℕ, ◌+◌, ◌-◌, ◌≤◌, ◌<◌, Bool, true, false, List, [], ◌∷◌, length, Result, Ok, Err}
+use Rattle.std.specs.Prelude.{◌≡◌, ◌≢◌, ℕ, ◌-◌, ◌≤◌, ◌<◌, Bool, true, false, List, length, Result, Ok, Err}
 use Rattle.fab_disk.specs.Disk.{Only}
 use Rattle.frame_store.specs.declared.faults.FrameFault.{FrameFault}
-use Rattle.frame_store.specs.declared.faults.FrameFault.TheVariants.{Disk, Halted, NotAStore, NoMemory}
+use Rattle.frame_store.specs.declared.faults.FrameFault.TheVariants.{Disk, Halted, NotAStore}
 use Rattle.frame_store.specs.declared.frames.Frame.{Frame}
 use Rattle.frame_store.specs.declared.shapes.Shape.{Shape}
 use Rattle.frame_store.specs.Layouts.{store_end}

@@ -1,9 +1,9 @@
-use Rattle.std.proofs.Common.{◌≡◌, ◌++◌, ◌∷◌, [], ◌+◌, List, ℕ, Some, length, sym, ◌∙◌, ap, rules, arith, append_assoc, length-append}
+use Rattle.std.proofs.Common.{◌≡◌, ◌++◌, ◌∷◌, [], List, ℕ, Some, length, sym, ◌∙◌, ap, rules, arith, append_assoc, length-append}
 use Rattle.std.proofs.lemmas.Grind.{common_steps}
 use Rattle.std.proofs.lemmas.List.{append-nil}
 use Rattle.frame_store.specs.declared.frames.Frame.{Frame}
 use Rattle.frame_store.specs.Listed.{frame_at, frame_of, frame_rest, frames_of, spelled, size_of}
-use Rattle.frame_store.proofs.Listing.{frames_of-more, frames_of-none, spelled-append, size_of-append, length-spelled}
+use Rattle.frame_store.proofs.Listing.{frames_of-more, frames_of-none, spelled-append, size_of-append}
 use Rattle.frame_store.proofs.reading.parse.Goals as goal
 
 pub loop-kind-preserved : goal.loop-kind-preserved

@@ -1,4 +1,4 @@
-use Rattle.std.proofs.Common.{◌≡◌, ◌+◌, ◌++◌, ◌≤◌, length}
+use Rattle.std.proofs.Common.{◌≡◌, ◌+◌, ◌++◌, length}
 use Rattle.frame_store.specs.Listed.{frames_of, spelled, size_of}
 use Rattle.frame_store.proofs.reading.parse.Given as goal
 

@@ -1,4 +1,4 @@
-use Rattle.std.proofs.Common.{◌≡◌, ◌≢◌, ◌↔◌, ◌<◌, ◌≤◌, IsTrue, subst, ℕ, List, not, nat_eq, get_or, take, length, sym, ◌∙◌, ap, rules, arith}
+use Rattle.std.proofs.Common.{◌≡◌, ◌≢◌, ◌↔◌, ◌<◌, ◌≤◌, IsTrue, subst, ℕ, List, not, nat_eq, get_or, take, length, ◌∙◌, ap, rules, arith}
 use Rattle.frame_store.specs.Listed.{size_of, frames_of, spelled}
 use Rattle.frame_store.specs.Layouts.{header_at}
 use Rattle.frame_store.specs.Laid.{other}

@@ -1,7 +1,5 @@
 use Rattle.std.proofs.Common.{◌+◌, length, arith}
-use Rattle.fab_disk.proofs.Moments.{goes_on}
-use Rattle.fab_disk.specs.Disk.{Torn}
-use Rattle.frame_store.proofs.Runs.{begun, torn_from, torn_same, write_then_sync}
+use Rattle.frame_store.proofs.Runs.{write_then_sync}
 use Rattle.frame_store.proofs.steps.write_synced.Goals as goal
 
 pub sync-requires : goal.sync-requires

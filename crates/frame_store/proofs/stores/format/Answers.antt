@@ -1,8 +1,7 @@
-use Rattle.std.proofs.Common.{◌≡◌, ℕ, ◌∷◌, [], List, Result, Ok, Err, OnOk, length, ◌<◌, true, sym, ◌∙◌, ap, subst, rules, arith}
+use Rattle.std.proofs.Common.{ℕ, ◌∷◌, [], List, Result, Ok, Err, OnOk, length, ◌<◌, true, sym, ◌∙◌, ap, subst, arith}
 use Rattle.fab_disk.specs.Disk.{written}
 use Rattle.frame_store.specs.declared.faults.FrameFault.{FrameFault}
-use Rattle.frame_store.specs.declared.shapes.Half.TheVariants.{A}
-use Rattle.frame_store.specs.Layouts.{IsShape, half_at, shape_of}
+use Rattle.frame_store.specs.Layouts.{IsShape, shape_of}
 use Rattle.frame_store.specs.Images.{OpensAs, HasSlot}
 use Rattle.frame_store.specs.Steps.{both_written}
 use Rattle.frame_store.proofs.Formatting.{formatted, shut_pair, formatted_opens, formatted_slots}

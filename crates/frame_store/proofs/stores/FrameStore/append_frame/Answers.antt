@@ -1,11 +1,11 @@
-use Rattle.std.proofs.Common.{◌≡◌, ◌++◌, ◌∷◌, [], ◌+◌, max, length, ℕ, List, true, None, sym, ap, subst, rules, arith, ◌∙◌}
+use Rattle.std.proofs.Common.{◌≡◌, ◌++◌, ◌∷◌, [], ◌+◌, max, length, ℕ, List, true, None, sym, subst, rules, arith, ◌∙◌}
 use Rattle.frame_store.specs.declared.frames.Frame.{Frame}
 use Rattle.frame_store.specs.Layouts.{half_at}
 use Rattle.frame_store.specs.Listed.{line_of}
 use Rattle.frame_store.specs.Laid.{Laid, IsCounted}
-use Rattle.frame_store.specs.Stores.{Held, Shows}
+use Rattle.frame_store.specs.Stores.{Held}
 use Rattle.frame_store.proofs.Changes.{laid_opens}
-use Rattle.frame_store.proofs.Exits.{Ready, Moments, After, Invariant, moments_untouched, append_moments, append_done, append_laid, append_counted}
+use Rattle.frame_store.proofs.Exits.{Ready, Moments, moments_untouched, append_moments, append_done, append_laid, append_counted}
 use Rattle.frame_store.proofs.stores.FrameStore.append_frame.Goals as goal
 
 pub returns-in_err-stage-clause-any_moment : goal.returns-in_err-stage-clause-any_moment

@@ -1,4 +1,4 @@
-use Rattle.std.proofs.Common.{◌≡◌, false, ◌++◌, ◌∷◌, [], ◌+◌, ◌-◌, ◌^◌, ◌<◌, ◌≤◌, max, length, ℕ, List, true, None, sym, ap, subst, rules, arith, ◌∙◌, refl}
+use Rattle.std.proofs.Common.{◌≡◌, false, ◌+◌, ◌-◌, ◌^◌, ◌<◌, ◌≤◌, max, length, ℕ, List, true, None, sym, ap, subst, arith, ◌∙◌}
 use Rattle.fab_disk.specs.Disk.{IsUntouched}
 use Rattle.frame_store.specs.Steps.{next_of}
 use Rattle.frame_store.specs.declared.frames.Frame.{Frame}

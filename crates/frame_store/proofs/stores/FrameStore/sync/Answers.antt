@@ -1,4 +1,4 @@
-use Rattle.std.proofs.Common.{◌+◌, ◌≤◌, sym, subst, arith}
+use Rattle.std.proofs.Common.{◌+◌, sym, subst, arith}
 use Rattle.frame_store.specs.Layouts.{store_end}
 use Rattle.frame_store.specs.Stores.{Held, HasRoom, RunsPlan}
 use Rattle.frame_store.proofs.Plans.{ran_one}
