@@ -3,7 +3,7 @@ use Rattle.std.proofs.Common.{◌≡◌, Bool, true, false, cond, Option, Some, 
 use Rattle.stamp_store.specs.declared.log_records.LogChange.{LogChange}
 use Rattle.stamp_store.specs.declared.log_records.LogChange.TheVariants.{Same, Collect, Slot}
 use Rattle.fab_base.specs.declared.stamps.Stamp.{Stamp}
-use Rattle.brick_state.specs.declared.stripes.Entry.{Entry}
+use Rattle.brick_state.specs.Entries.{Entry}
 use Rattle.brick_state.specs.States.{Place, StripeOf, StateOf}
 use Rattle.brick_state.specs.Folds.{Limits, slot_limits, log_changed, placed}
 use Rattle.brick_state.specs.Maps.{AnswersAt}

@@ -8,7 +8,7 @@ use Rattle.std.proofs.lemmas.Bool.{lt-ltb, lt-leb}
 use Rattle.std.proofs.lemmas.List.{map-append}
 use Rattle.std.proofs.lemmas.List.Sums.{sum_by-append, sum_by-cons}
 use Rattle.brick_state.specs.declared.groups.Group.{Group}
-use Rattle.brick_state.specs.declared.stripes.Entry.{Entry}
+use Rattle.brick_state.specs.Entries.{Entry}
 use Rattle.brick_state.specs.States.{Place, StripeOf, StateOf, place_cmp, first_stripe, is_first, stripe_in, stripe_at, put, weight, live_in}
 use Rattle.brick_state.specs.Folds.{Limits, applied, log_changed, is_full, placed}
 use Rattle.brick_state.specs.Rewrites.{version_change, version_record}

@@ -19,7 +19,7 @@ use Rattle.stamp_store.specs.declared.log_records.Logged.{Logged}
 use Rattle.brick_state.specs.declared.groups.Group.{Group}
 use Rattle.brick_state.specs.declared.records.Record.{Record}
 use Rattle.brick_state.specs.declared.records.Record.TheVariants as forms
-use Rattle.brick_state.specs.declared.stripes.Entry.{Entry}
+use Rattle.brick_state.specs.Entries.{Entry}
 use Rattle.brick_state.specs.States.{Place, StripeOf, StateOf, place_cmp, stripe_at, with_stripe, with_order, weight, live, live_in, no_group, group_at, with_view, with_ballots, viewed, balloted, booted, ordered, empty, is_of_view}
 use Rattle.brick_state.specs.Folds.{Limits, applied, folded, log_changed, placed, place, is_full, adds_order, onward}
 use Rattle.brick_state.specs.KeptStates.{IsKeptStripe, IsLearnt, IsKeptState}

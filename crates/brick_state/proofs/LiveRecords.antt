@@ -4,7 +4,7 @@ use Rattle.std.proofs.Math.Seq.{drop-cons}
 use Rattle.fab_base.specs.Stamps.{first_stamp}
 use Rattle.fab_base.proofs.StampOrder.{stamp_same_refl}
 use Rattle.brick_state.specs.declared.groups.Group.{Group}
-use Rattle.brick_state.specs.declared.stripes.Entry.{Entry}
+use Rattle.brick_state.specs.Entries.{Entry}
 use Rattle.brick_state.specs.declared.stripes.Stripe.{Stripe}
 use Rattle.brick_state.specs.States.{Place, first_stripe, is_first, stripe_of}
 use Rattle.brick_state.specs.Maps.{listed}

@@ -8,7 +8,7 @@ use Rattle.std.specs.Option.{unwrap_or, option_map}
 use Rattle.std.proofs.lemmas.Map.Entries.{sum_by-insert_entry, sum_by-remove_entry}
 use Rattle.fab_base.specs.Stamps.{first_stamp}
 use Rattle.fab_base.proofs.StampOrder.{stamp_same_refl}
-use Rattle.brick_state.specs.declared.stripes.Entry.{Entry}
+use Rattle.brick_state.specs.Entries.{Entry}
 use Rattle.brick_state.specs.States.{Place, StripeOf, place_cmp, first_stripe, is_first, stripe_in, put, weight, live_in}
 use Rattle.brick_state.specs.Folds.{Limits}
 use Rattle.brick_state.specs.KeptStates.{IsKeptStripe}

@@ -1,7 +1,7 @@
 -- The records that are written bring back what is kept.
 use Rattle.std.proofs.Common.{◌≡◌, Some, List, [], ◌∷◌, ◌++◌, refl, sym, subst}
 use Rattle.brick_state.specs.declared.records.Record.{Record}
-use Rattle.brick_state.specs.declared.stripes.Entry.{Entry}
+use Rattle.brick_state.specs.Entries.{Entry}
 use Rattle.brick_state.specs.States.{StateOf}
 use Rattle.brick_state.specs.Folds.{Limits, applied, folded}
 

@@ -8,7 +8,7 @@ use Rattle.fab_base.specs.Stamps.{stamp_below, stamp_same, first_stamp}
 use Rattle.fab_base.proofs.StampOrder.{stamp_below_trans, stamp_below_irrefl, stamp_same_true}
 use Rattle.stamp_store.specs.declared.log_records.LogChange.{LogChange}
 use Rattle.stamp_store.specs.declared.log_records.LogChange.TheVariants.{Same, Collect, Slot}
-use Rattle.brick_state.specs.declared.stripes.Entry.{Entry}
+use Rattle.brick_state.specs.Entries.{Entry}
 use Rattle.brick_state.specs.States.{Place, StripeOf, newest_entry, has_version, stamp_of, weight, with_added, with_bottom, with_collected}
 use Rattle.brick_state.specs.Folds.{Limits, log_changed, same_added, is_above, is_slot, entry}
 use Rattle.brick_state.specs.Rewrites.{start_of}
@@ -124,11 +124,11 @@ module _ (limits : Limits) (p : Place) (t : Stamp) (s : StripeOf Entry) (sound :
   same_changed None next at h = absurd cc
   same_changed (Some u) next at h = by (stamp_below u.stamp t) refl h
     where
-      by : (b : Bool) → stamp_below u.stamp t ≡ b → cond b (Some (with_added (entry t u.slot) s)) None ≡ Some next → Changed limits false p s next
+      by : (b : Bool) → stamp_below u.stamp t ≡ b → cond b (Some (with_added (entry t u.block) s)) None ≡ Some next → Changed limits false p s next
       by false below is = absurd cc
       by true below is =
-          let e = entry t u.slot in
-          let slot : is_slot limits u.slot ≡ true = newest_slot limits (start_of s.from_start) s.added u (start_slot limits s.from_start) sound.rises
+          let e = entry t u.block in
+          let slot : is_slot limits u.block ≡ true = newest_slot limits (start_of s.from_start) s.added u (start_slot limits s.from_start) sound.rises
           (sym (newest_entry_is s) ∙ at) in
           let made : Changed limits false p s (with_added e s) = record {
             sound = added_sound limits p s e sound (subst (λ (o : Option Entry). IsAbove o e) (sym at) below) slot;

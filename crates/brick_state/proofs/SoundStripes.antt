@@ -8,11 +8,13 @@ use Rattle.std.specs.Map.{lookup}
 use Rattle.std.specs.BTreeMap.{is_at}
 use Rattle.std.specs.Option.{unwrap_or}
 use Rattle.std.proofs.lemmas.List.{length-append}
+use Rattle.std.proofs.lemmas.Option.{none-some}
 use Rattle.fab_base.specs.declared.stamps.Stamp.{Stamp}
 use Rattle.fab_base.specs.Stamps.{first_stamp}
-use Rattle.brick_state.specs.declared.stripes.Entry.{Entry}
+use Rattle.brick_state.specs.Entries.{Entry}
 use Rattle.brick_state.specs.States.{Place, StripeOf, place_cmp, first_stripe, is_first, stripe_in, last, newest_entry, with_order, with_added, with_bottom}
-use Rattle.brick_state.specs.Folds.{Limits, is_slot}
+use Rattle.version_log.specs.Versions.{IsNewer}
+use Rattle.brick_state.specs.Folds.{Limits, is_slot, is_above}
 use Rattle.brick_state.specs.Rewrites.{start_of}
 use Rattle.brick_state.specs.KeptStates.{IsAbove, Rises, IsKeptStripe}
 use Rattle.brick_state.proofs.StripeMaps.{place_exact}
@@ -51,7 +53,7 @@ newest_of under [] = under
 newest_of under (e ∷ entries) = newest_of (Some e) entries
 
 rises_push : (limits : Limits) (under : Option Entry) (entries : List Entry) (e : Entry) → Rises limits under entries
-    → IsAbove (newest_of under entries) e → is_slot limits e.slot ≡ true → Rises limits under (entries ++ e ∷ [])
+    → IsAbove (newest_of under entries) e → is_slot limits e.block ≡ true → Rises limits under (entries ++ e ∷ [])
 rises_push limits under [] e rises above slot = (above, (slot, tt))
 rises_push limits under (x ∷ entries) e rises above slot = (rises.0, (rises.1.0, rises_push limits (Some x) entries e rises.1.1 above slot))
 
@@ -65,25 +67,33 @@ newest_is x (y ∷ entries) = last_cons x y entries ∙ newest_is y entries
 pub newest_entry_is : (s : StripeOf Entry) → newest_entry s ≡ newest_of (start_of s.from_start) s.added
 newest_entry_is s = by s.from_start s.added
   where
-    by : (from : Bool) (added : List Entry) → last (cond from (record { stamp = first_stamp; slot = 4294967295 } ∷ []) [] ++ added) ≡ newest_of
+    by : (from : Bool) (added : List Entry) → last (cond from (record { stamp = first_stamp; block = 4294967295 } ∷ []) [] ++ added) ≡ newest_of
         (start_of from) added
-    by true added = newest_is (record { stamp = first_stamp; slot = 4294967295 }) added
+    by true added = newest_is (record { stamp = first_stamp; block = 4294967295 }) added
     by false [] = refl
     by false (e ∷ added) = newest_is e added
 
+-- a stamp above the newest version is above those that were added
+pub newer_than_added : (s : StripeOf Entry) (t : Stamp) → is_above (newest_entry s) t ≡ true → IsNewer t s.added
+newer_than_added s t above = by (start_of s.from_start) s.added (subst (λ (o : Option Entry). is_above o t ≡ true) (newest_entry_is s) above)
+  where
+    by : (under : Option Entry) (added : List Entry) → is_above (newest_of under added) t ≡ true → IsNewer t added
+    by under [] h = λ top found. absurd (none-some top found)
+    by under (e ∷ added) h = λ top found. subst (λ (o : Option Entry). is_above o t ≡ true) (sym (newest_is e added) ∙ found) h
+
 -- the slot of the newest version is one of the store's
 pub newest_slot : (limits : Limits) (under : Option Entry) (entries : List Entry) (u : Entry)
-    → ((v : Entry) → under ≡ Some v → is_slot limits v.slot ≡ true) → Rises limits under entries → newest_of under entries ≡ Some u
-    → is_slot limits u.slot ≡ true
+    → ((v : Entry) → under ≡ Some v → is_slot limits v.block ≡ true) → Rises limits under entries → newest_of under entries ≡ Some u
+    → is_slot limits u.block ≡ true
 newest_slot limits under [] u below rises is = below u is
 newest_slot limits under (e ∷ entries) u below rises is =
-    newest_slot limits (Some e) entries u (λ v same. subst (λ (x : Entry). is_slot limits x.slot ≡ true) (some_same same) rises.1.0) rises.1.1 is
+    newest_slot limits (Some e) entries u (λ v same. subst (λ (x : Entry). is_slot limits x.block ≡ true) (some_same same) rises.1.0) rises.1.1 is
   where
     some_same : {a b : Entry} → Some a ≡ Some b → a ≡ b
     some_same h = cc
 
-pub start_slot : (limits : Limits) (from : Bool) (v : Entry) → start_of from ≡ Some v → is_slot limits v.slot ≡ true
-start_slot limits true v same = subst (λ (x : Entry). is_slot limits x.slot ≡ true) (some_same same) refl
+pub start_slot : (limits : Limits) (from : Bool) (v : Entry) → start_of from ≡ Some v → is_slot limits v.block ≡ true
+start_slot limits true v same = subst (λ (x : Entry). is_slot limits x.block ≡ true) (some_same same) refl
   where
     some_same : {a b : Entry} → Some a ≡ Some b → a ≡ b
     some_same h = cc
@@ -91,7 +101,7 @@ start_slot limits false v same = absurd cc
 
 -- a version above the newest, in a slot of the store
 pub added_sound : (limits : Limits) (p : Place) (s : StripeOf Entry) (e : Entry) → IsSound limits p s → IsAbove (newest_entry s) e
-    → is_slot limits e.slot ≡ true → IsSound limits p (with_added e s)
+    → is_slot limits e.block ≡ true → IsSound limits p (with_added e s)
 added_sound limits p s e sound above slot = record {
   start = sound.start;
   no_start = λ from none. absurd (not_nothing s.added e none);
@@ -101,7 +111,7 @@ added_sound limits p s e sound above slot = record {
     not_nothing : (xs : List Entry) (x : Entry) → xs ++ x ∷ [] ≡ [] → ⊥
     not_nothing xs x h = let n : length (xs ++ x ∷ []) ≡ 0 = ap length h in omega (arith, length-append xs (x ∷ []))
 
-pub bottom_sound : (limits : Limits) (p : Place) (s : StripeOf Entry) (e : Entry) → is_slot limits e.slot ≡ true → IsSound limits p (with_bottom e s)
+pub bottom_sound : (limits : Limits) (p : Place) (s : StripeOf Entry) (e : Entry) → is_slot limits e.block ≡ true → IsSound limits p (with_bottom e s)
 bottom_sound limits p s e slot = record { start = λ h. absurd cc; no_start = λ from none. absurd cc; rises = (tt, (slot, tt)) }
 
 pub order_sound : (limits : Limits) (p : Place) (t : Stamp) (s : StripeOf Entry) → IsSound limits p s → IsSound limits p (with_order t s)

@@ -14,7 +14,7 @@ use Rattle.fab_base.specs.declared.identities.BrickId.{BrickId}
 use Rattle.fab_base.specs.declared.member_lists.View.{View}
 use Rattle.fab_base.specs.declared.stamps.Ballot.{Ballot}
 use Rattle.brick_state.specs.declared.groups.Group.{Group}
-use Rattle.brick_state.specs.declared.stripes.Entry.{Entry}
+use Rattle.brick_state.specs.Entries.{Entry}
 use Rattle.brick_state.specs.States.{Place, StripeOf, StateOf, place_cmp, weight, live_in, no_group, group_at, with_view, with_ballots, viewed, balloted, empty}
 use Rattle.brick_state.specs.Folds.{Limits, applied, folded}
 use Rattle.brick_state.specs.Rewrites.{learnt_number, view_record, view_records, ballot_record, ballot_records, group_records, groups_records, stripe_records, stripes_records, live_records}

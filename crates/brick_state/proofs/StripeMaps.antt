@@ -1,5 +1,5 @@
 -- The map of the stripes, and what a clause sees of it.
-use Rattle.std.proofs.Common.{◌≡◌, ℕ, ◌+◌, ◌<◌, ◌≤◌, Bool, true, false, not, ◌&&◌, ◌||◌, cond, eqb, Option, Some, None, Result, Ok, Err, is_ok, OnErr, Bor, List, [], ◌∷◌, ◌++◌, length, map, refl, sym, ap, subst, ◌∙◌, arith}
+use Rattle.std.proofs.Common.{◌≡◌, ℕ, ◌+◌, Bool, true, false, not, ◌&&◌, ◌||◌, cond, eqb, Option, Some, None, Bor, List, [], ◌∷◌, length, map, refl, sym, ap, subst, ◌∙◌, arith}
 use Rattle.std.specs.declared.cmp.Ordering.{Ordering}
 use Rattle.std.specs.declared.cmp.Ordering.TheVariants.{Less, Equal, Greater}
 use Rattle.std.specs.Ordering.{nat_cmp, ordering_then}
@@ -19,8 +19,7 @@ use Rattle.std.proofs.lemmas.List.{nil_from_length}
 use Rattle.fab_base.specs.declared.stamps.Stamp.{Stamp}
 use Rattle.fab_base.specs.Stamps.{stamp_same, first_stamp}
 use Rattle.fab_base.proofs.StampOrder.{stamp_same_true, stamp_same_refl}
-use Rattle.std.specs.declared.alloc.AllocFailed.{AllocFailed}
-use Rattle.brick_state.specs.declared.stripes.Entry.{Entry}
+use Rattle.brick_state.specs.Entries.{Entry}
 use Rattle.brick_state.specs.declared.stripes.Stripe.{Stripe}
 use Rattle.brick_state.specs.States.{Place, StripeOf, place_cmp, first_stripe, is_first, stripe_in, put, weight, live_in, stripe_of}
 use Rattle.brick_state.specs.Maps.{listed, seen_entry, is_listed}
@@ -144,12 +143,6 @@ first_unseen entries p s none first =
 pub same_found : {s t : Stripe} → Some s ≡ Some t → s ≡ t
 same_found h = cc
 
--- a push for which there was room
-pub pushed : (items new : List Entry) (entry : Entry) (r : Result (Unit {0}) (AllocFailed Entry)) (len capacity : ℕ)
-    → new ≡ cond (is_ok r) (items ++ entry ∷ []) items → OnErr r (capacity ≤ len) → len < capacity → new ≡ items ++ entry ∷ []
-pushed items new entry (Ok u) len capacity is full room = is
-pushed items new entry (Err e) len capacity is full room = absurd (omega arith)
-
 -- what a look-up by reference finds
 pub found_in : (entries : List (Place × Stripe)) → IsStrictlySortedBy place_cmp (keys_of entries) → (p : Place) (found : Option (Bor Stripe))
     → lookup (is_at (place_cmp p)) entries ≡ option_copied found
@@ -182,9 +175,9 @@ rewritten_same entries p s new at same =
     ∙ set_value_same (is_at (place_cmp p)) (map seen_entry entries) (stripe_of s) found)
 
 -- stripes with the same parts say the same
-pub same_versions : (s new : Stripe) → new.order ≡ s.order → new.from_start ≡ s.from_start → new.added.items ≡ s.added.items
+pub same_versions : (s new : Stripe) → new.order ≡ s.order → new.from_start ≡ s.from_start → new.added.versions.items ≡ s.added.versions.items
     → stripe_of new ≡ stripe_of s
-same_versions s new order from items = stripe_is (stripe_of new) s.order s.from_start s.added.items order from items
+same_versions s new order from items = stripe_is (stripe_of new) s.order s.from_start s.added.versions.items order from items
 
 -- what a test says is not there
 pub none_is : {X : Type 0} (found : Option X) → is_some found ≡ false → found ≡ None

@@ -8,7 +8,7 @@ use Rattle.fab_base.specs.Stamps.{stamp_same, first_stamp}
 use Rattle.fab_base.proofs.StampOrder.{stamp_same_true}
 use Rattle.stamp_store.specs.declared.log_records.LogChange.TheVariants.{Same, Slot}
 use Rattle.brick_state.specs.declared.groups.Group.{Group}
-use Rattle.brick_state.specs.declared.stripes.Entry.{Entry}
+use Rattle.brick_state.specs.Entries.{Entry}
 use Rattle.brick_state.specs.States.{Place, StripeOf, StateOf, first_stripe, stripe_at, put, ordered, weight, live_in, last, newest_entry, with_order, with_added, with_bottom}
 use Rattle.brick_state.specs.Folds.{Limits, applied, log_changed, same_added, is_above, is_full, is_slot, entry, adds_order}
 use Rattle.brick_state.specs.Rewrites.{version_change, version_records, order_record, order_records, stripe_records, start_of}
@@ -30,8 +30,8 @@ grown (Some under) e s = with_added e s
 newest_grown : (under : Option Entry) (e : Entry) (s : StripeOf Entry) → newest_entry (grown under e s) ≡ Some e
 newest_grown None e s = refl
 newest_grown (Some u) e s =
-    ap last (sym (append_assoc (cond s.from_start (record { stamp = first_stamp; slot = 4294967295 } ∷ []) []) s.added (e ∷ [])))
-    ∙ last_push (cond s.from_start (record { stamp = first_stamp; slot = 4294967295 } ∷ []) [] ++ s.added) e
+    ap last (sym (append_assoc (cond s.from_start (record { stamp = first_stamp; block = 4294967295 } ∷ []) []) s.added (e ∷ [])))
+    ∙ last_push (cond s.from_start (record { stamp = first_stamp; block = 4294967295 } ∷ []) [] ++ s.added) e
 
 -- the version below is the newest
 abbrev UnderIs : Option Entry → StripeOf Entry → Type 0
@@ -39,7 +39,7 @@ UnderIs None s = Unit {0}
 UnderIs (Some under) s = newest_entry s ≡ Some under
 
 -- the change that a version's record tells can be
-change_is : (limits : Limits) (under : Option Entry) (e : Entry) (s : StripeOf Entry) → is_slot limits e.slot ≡ true → UnderIs under s
+change_is : (limits : Limits) (under : Option Entry) (e : Entry) (s : StripeOf Entry) → is_slot limits e.block ≡ true → UnderIs under s
     → IsAbove under e
     → log_changed limits false (version_change under e) e.stamp s ≡ Some (grown under e s)
 unfolding log_changed
@@ -48,22 +48,22 @@ change_is limits None e s slot below above = rw slot (by (eqb (length s.added) 0
     by : (b : Bool) → cond (b && false) None (Some (with_bottom e s)) ≡ Some (with_bottom e s)
     by true = refl
     by false = refl
-change_is limits (Some u) e s slot below above = by (eqb u.slot e.slot) refl
+change_is limits (Some u) e s slot below above = by (eqb u.block e.block) refl
   where
-    same : u.slot ≡ e.slot → same_added (newest_entry s) e.stamp s ≡ Some (with_added e s)
+    same : u.block ≡ e.block → same_added (newest_entry s) e.stamp s ≡ Some (with_added e s)
     same at =
         ap (λ (found : Option Entry). same_added found e.stamp s) below
-        ∙ ap (λ (b : Bool). cond b (Some (with_added (entry e.stamp u.slot) s)) None) above
+        ∙ ap (λ (b : Bool). cond b (Some (with_added (entry e.stamp u.block) s)) None) above
         ∙ ap (λ (k : ℕ). Some (with_added (entry e.stamp k) s)) at
 
-    own : cond (is_slot limits e.slot) (cond (false || not (is_above (newest_entry s) e.stamp)) None (Some (with_added e s))) None ≡ Some
+    own : cond (is_slot limits e.block) (cond (false || not (is_above (newest_entry s) e.stamp)) None (Some (with_added e s))) None ≡ Some
         (with_added e s)
     own =
         ap (λ (b : Bool). cond b (cond (false || not (is_above (newest_entry s) e.stamp)) None (Some (with_added e s))) None) slot
         ∙ ap (λ (found : Option Entry). cond (false || not (is_above found e.stamp)) None (Some (with_added e s))) below
         ∙ ap (λ (b : Bool). cond (false || not b) None (Some (with_added e s))) above
 
-    by : (b : Bool) → eqb u.slot e.slot ≡ b → log_changed limits false (cond b Same (Slot false e.slot)) e.stamp s ≡ Some (with_added e s)
+    by : (b : Bool) → eqb u.block e.block ≡ b → log_changed limits false (cond b Same (Slot false e.block)) e.stamp s ≡ Some (with_added e s)
     by true at = same (eqb-true _ _ at)
     by false at = own
 
@@ -144,7 +144,7 @@ grow_all limits p s kept = by s.from_start s.added refl refl
   where
     by : (from : Bool) (added : List Entry) → s.from_start ≡ from → s.added ≡ added → grow (start_of from) (with_stamp p s.order) added ≡ s
     by true added f a =
-        grow_some (record { stamp = first_stamp; slot = 4294967295 }) (with_stamp p s.order) added
+        grow_some (record { stamp = first_stamp; block = 4294967295 }) (with_stamp p s.order) added
         ∙ sym (stripe_is s s.order (eqb p.1 1) added refl (f ∙ sym (kept.start f)) a)
     by false [] f a = sym (stripe_is s s.order (eqb p.1 1) [] refl (f ∙ sym (kept.no_start f a)) a)
     by false (e ∷ entries) f a = grow_some e (with_bottom e (with_stamp p s.order)) entries ∙ sym (stripe_is s s.order false (e ∷ entries) refl f a)

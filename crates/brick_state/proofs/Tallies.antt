@@ -1,5 +1,5 @@
 -- What is counted of the stripes, after each change of them.
-use Rattle.std.proofs.Common.{◌≡◌, ◌≢◌, ℕ, zero, suc, ◌+◌, ◌-◌, ◌<◌, ◌≤◌, Bool, true, false, not, ◌&&◌, cond, eqb, ltb, leb, Option, Some, None, List, [], ◌∷◌, ◌++◌, length, get_or, set, replicate, map, refl, sym, ap, subst, ◌∙◌, ⊎_elim, arith}
+use Rattle.std.proofs.Common.{◌≡◌, ◌≢◌, ℕ, zero, suc, ◌+◌, ◌-◌, ◌<◌, ◌≤◌, Bool, true, false, not, ◌&&◌, cond, eqb, ltb, leb, List, [], ◌∷◌, ◌++◌, length, get_or, set, replicate, map, refl, sym, ap, subst, ◌∙◌, ⊎_elim, arith}
 use Rattle.std.specs.List.{AllByRecursion, Contains, count_by, sum_by, filter}
 use Rattle.std.specs.List.Sorted.{IsStrictlySortedBy}
 use Rattle.std.specs.Map.{keys_of, values_of}
@@ -9,7 +9,7 @@ use Rattle.std.proofs.lemmas.List.{get_or-set_same, get_or-set_other, get_or-rep
 use Rattle.std.proofs.Math.ListN.{get_or-eq_default}
 use Rattle.std.proofs.lemmas.List.Sums.{sum_by-cons, sum_by-append, count_by-le-length}
 use Rattle.std.proofs.lemmas.List.Filters.{sum_by-filter_both}
-use Rattle.brick_state.specs.declared.stripes.Entry.{Entry}
+use Rattle.brick_state.specs.Entries.{Entry}
 use Rattle.brick_state.specs.declared.stripes.Stripe.{Stripe}
 use Rattle.brick_state.specs.States.{Place, StripeOf, place_cmp, first_stripe, is_first, stripe_in, stripe_of, stamp_of, put, weight, live_in, with_added, with_bottom, with_order, with_collected, is_of_view}
 use Rattle.brick_state.specs.Maps.{listed, seen_entry, is_listed}
@@ -20,18 +20,18 @@ use Rattle.brick_state.specs.Slots.{slot_of, slots_in, IsFree}
 use Rattle.brick_state.specs.SlotTrees.{IsLeastUnused}
 use Rattle.brick_state.specs.Tallies.{names_of, names_in, AreNames, order_weight}
 use Rattle.brick_state.proofs.FreeSlots.{any_free, slots_few}
-use Rattle.brick_state.proofs.Preserving.{sum-put, live-put, sorted-put, weight_none}
+use Rattle.brick_state.proofs.Preserving.{sum-put, live-put, weight_none}
 
 abbrev Stripes : Type 0
 Stripes = List (Place × StripeOf Entry)
 
 -- ---- one slot in lists of versions
 
-names-cons : (slot : ℕ) (e : Entry) (es : List Entry) → names_of slot (e ∷ es) ≡ cond (eqb e.slot slot) 1 0 + names_of slot es
-names-cons slot e es = sum_by-cons (λ (v : Entry). cond (eqb v.slot slot) 1 0) e es
+names-cons : (slot : ℕ) (e : Entry) (es : List Entry) → names_of slot (e ∷ es) ≡ cond (eqb e.block slot) 1 0 + names_of slot es
+names-cons slot e es = sum_by-cons (λ (v : Entry). cond (eqb v.block slot) 1 0) e es
 
 names-append : (slot : ℕ) (xs ys : List Entry) → names_of slot (xs ++ ys) ≡ names_of slot xs + names_of slot ys
-names-append slot xs ys = sum_by-append (λ (v : Entry). cond (eqb v.slot slot) 1 0) xs ys
+names-append slot xs ys = sum_by-append (λ (v : Entry). cond (eqb v.block slot) 1 0) xs ys
 
 -- the stripe without its versions
 abbrev with_bottom_none : StripeOf Entry → StripeOf Entry
@@ -48,7 +48,7 @@ named-map slot (e ∷ es) = omega (
   arith,
   named-map slot es,
   names-cons slot e es,
-  sum_by-cons (λ (other : ℕ). cond (eqb other slot) 1 0) e.slot (map slot_of es),
+  sum_by-cons (λ (other : ℕ). cond (eqb other slot) 1 0) e.block (map slot_of es),
 )
 
 names-slots : (slot : ℕ) (stripes : Stripes) → names_in slot stripes ≡ named slot (slots_in stripes)
@@ -140,52 +140,52 @@ names-put stripes counts counts' p s sorted are size counted slot within =
 
 -- the count of a slot after a version more
 pub count_more : (counts : List ℕ) (e : Entry) (slot : ℕ) → slot < length counts
-    → get_or (set counts e.slot (get_or counts e.slot 0 + 1)) slot 0 ≡ get_or counts slot 0 + names_of slot (e ∷ [])
-count_more counts e slot within = ⊎_elim same other (cases_eq slot e.slot)
+    → get_or (set counts e.block (get_or counts e.block 0 + 1)) slot 0 ≡ get_or counts slot 0 + names_of slot (e ∷ [])
+count_more counts e slot within = ⊎_elim same other (cases_eq slot e.block)
   where
-    one : names_of slot (e ∷ []) ≡ cond (eqb e.slot slot) 1 0 + 0
+    one : names_of slot (e ∷ []) ≡ cond (eqb e.block slot) 1 0 + 0
     one = names-cons slot e []
 
-    same : slot ≡ e.slot → get_or (set counts e.slot (get_or counts e.slot 0 + 1)) slot 0 ≡ get_or counts slot 0 + names_of slot (e ∷ [])
+    same : slot ≡ e.block → get_or (set counts e.block (get_or counts e.block 0 + 1)) slot 0 ≡ get_or counts slot 0 + names_of slot (e ∷ [])
     same is = omega (
       arith,
       one,
-      ap {B = ℕ} (λ (b : Bool). cond b 1 0) (eq-eqb e.slot slot (sym is)),
-      subst (λ (n : ℕ). get_or (set counts e.slot (get_or counts e.slot 0 + 1)) n 0 ≡ get_or counts n 0 + 1) (sym is)
-          (get_or-set_same counts e.slot (get_or counts e.slot 0 + 1) 0 (omega (arith, within, is))),
+      ap {B = ℕ} (λ (b : Bool). cond b 1 0) (eq-eqb e.block slot (sym is)),
+      subst (λ (n : ℕ). get_or (set counts e.block (get_or counts e.block 0 + 1)) n 0 ≡ get_or counts n 0 + 1) (sym is)
+          (get_or-set_same counts e.block (get_or counts e.block 0 + 1) 0 (omega (arith, within, is))),
     )
 
-    other : slot ≢ e.slot → get_or (set counts e.slot (get_or counts e.slot 0 + 1)) slot 0 ≡ get_or counts slot 0 + names_of slot (e ∷ [])
+    other : slot ≢ e.block → get_or (set counts e.block (get_or counts e.block 0 + 1)) slot 0 ≡ get_or counts slot 0 + names_of slot (e ∷ [])
     other is = omega (
       arith,
       one,
-      ap {B = ℕ} (λ (b : Bool). cond b 1 0) (differs e.slot slot (λ (h : e.slot ≡ slot). is (sym h))),
-      get_or-set_other counts e.slot slot (get_or counts e.slot 0 + 1) 0 is,
+      ap {B = ℕ} (λ (b : Bool). cond b 1 0) (differs e.block slot (λ (h : e.block ≡ slot). is (sym h))),
+      get_or-set_other counts e.block slot (get_or counts e.block 0 + 1) 0 is,
     )
 
 -- and after one less
 pub count_less : (counts : List ℕ) (e : Entry) (rest : List Entry) (slot : ℕ) → slot < length counts
-    → get_or (set counts e.slot (get_or counts e.slot 0 - 1)) slot 0 - names_of slot rest ≡ get_or counts slot 0 - names_of slot (e ∷ rest)
-count_less counts e rest slot within = ⊎_elim same other (cases_eq slot e.slot)
+    → get_or (set counts e.block (get_or counts e.block 0 - 1)) slot 0 - names_of slot rest ≡ get_or counts slot 0 - names_of slot (e ∷ rest)
+count_less counts e rest slot within = ⊎_elim same other (cases_eq slot e.block)
   where
-    one : names_of slot (e ∷ rest) ≡ cond (eqb e.slot slot) 1 0 + names_of slot rest
+    one : names_of slot (e ∷ rest) ≡ cond (eqb e.block slot) 1 0 + names_of slot rest
     one = names-cons slot e rest
 
-    same : slot ≡ e.slot → get_or (set counts e.slot (get_or counts e.slot 0 - 1)) slot 0 - names_of slot rest ≡ get_or counts slot 0 - names_of slot (e ∷ rest)
+    same : slot ≡ e.block → get_or (set counts e.block (get_or counts e.block 0 - 1)) slot 0 - names_of slot rest ≡ get_or counts slot 0 - names_of slot (e ∷ rest)
     same is = omega (
       arith,
       one,
-      ap {B = ℕ} (λ (b : Bool). cond b 1 0) (eq-eqb e.slot slot (sym is)),
-      subst (λ (n : ℕ). get_or (set counts e.slot (get_or counts e.slot 0 - 1)) n 0 ≡ get_or counts n 0 - 1) (sym is)
-          (get_or-set_same counts e.slot (get_or counts e.slot 0 - 1) 0 (subst (λ (n : ℕ). n < length counts) is within)),
+      ap {B = ℕ} (λ (b : Bool). cond b 1 0) (eq-eqb e.block slot (sym is)),
+      subst (λ (n : ℕ). get_or (set counts e.block (get_or counts e.block 0 - 1)) n 0 ≡ get_or counts n 0 - 1) (sym is)
+          (get_or-set_same counts e.block (get_or counts e.block 0 - 1) 0 (subst (λ (n : ℕ). n < length counts) is within)),
     )
 
-    other : slot ≢ e.slot → get_or (set counts e.slot (get_or counts e.slot 0 - 1)) slot 0 - names_of slot rest ≡ get_or counts slot 0 - names_of slot (e ∷ rest)
+    other : slot ≢ e.block → get_or (set counts e.block (get_or counts e.block 0 - 1)) slot 0 - names_of slot rest ≡ get_or counts slot 0 - names_of slot (e ∷ rest)
     other is = omega (
       arith,
       one,
-      ap {B = ℕ} (λ (b : Bool). cond b 1 0) (differs e.slot slot (λ (h : e.slot ≡ slot). is (sym h))),
-      get_or-set_other counts e.slot slot (get_or counts e.slot 0 - 1) 0 is,
+      ap {B = ℕ} (λ (b : Bool). cond b 1 0) (differs e.block slot (λ (h : e.block ≡ slot). is (sym h))),
+      get_or-set_other counts e.block slot (get_or counts e.block 0 - 1) 0 is,
     )
 
 -- no slot is named more often than there are live records
@@ -196,15 +196,15 @@ names_few slot (e ∷ stripes) = omega (
   names_few slot stripes,
   sum_by-cons (λ (s : StripeOf Entry). names_of slot s.added) e.1 (values_of stripes),
   sum_by-cons weight e.1 (values_of stripes),
-  count_by-le-length (λ (v : Entry). eqb v.slot slot) e.1.added,
+  count_by-le-length (λ (v : Entry). eqb v.block slot) e.1.added,
 )
 
 -- the counts after a version was added
 pub names-added : (stripes : Stripes) (counts : List ℕ) (p : Place) (e : Entry) → IsStrictlySortedBy place_cmp (keys_of stripes)
-    → AreNames stripes counts → AreNames (put p (with_added e (stripe_in stripes p)) stripes) (set counts e.slot (get_or counts e.slot 0 + 1))
+    → AreNames stripes counts → AreNames (put p (with_added e (stripe_in stripes p)) stripes) (set counts e.block (get_or counts e.block 0 + 1))
 names-added stripes counts p e sorted are =
-    names-put stripes counts (set counts e.slot (get_or counts e.slot 0 + 1)) p (with_added e (stripe_in stripes p)) sorted are
-    (length-set counts e.slot (get_or counts e.slot 0 + 1))
+    names-put stripes counts (set counts e.block (get_or counts e.block 0 + 1)) p (with_added e (stripe_in stripes p)) sorted are
+    (length-set counts e.block (get_or counts e.block 0 + 1))
     (λ slot within few. omega (arith, count_more counts e slot within, names-append slot (stripe_in stripes p).added (e ∷ [])))
 
 pub live-added : (stripes : Stripes) (p : Place) (e : Entry) → IsStrictlySortedBy place_cmp (keys_of stripes)
@@ -237,10 +237,10 @@ order_within stripes p sorted = omega (arith, live_within stripes p sorted)
 pub names-bottom : (stripes : Stripes) (counts less : List ℕ) (p : Place) (e : Entry) → IsStrictlySortedBy place_cmp (keys_of stripes)
     → AreNames stripes counts → length less ≡ length counts
     → ((slot : ℕ) → slot < length counts → get_or less slot 0 ≡ get_or counts slot 0 - names_of slot (stripe_in stripes p).added)
-    → AreNames (put p (with_bottom e (stripe_in stripes p)) stripes) (set less e.slot (get_or less e.slot 0 + 1))
+    → AreNames (put p (with_bottom e (stripe_in stripes p)) stripes) (set less e.block (get_or less e.block 0 + 1))
 names-bottom stripes counts less p e sorted are size released =
-    names-put stripes counts (set less e.slot (get_or less e.slot 0 + 1)) p (with_bottom e (stripe_in stripes p)) sorted are
-    (length-set less e.slot (get_or less e.slot 0 + 1) ∙ size)
+    names-put stripes counts (set less e.block (get_or less e.block 0 + 1)) p (with_bottom e (stripe_in stripes p)) sorted are
+    (length-set less e.block (get_or less e.block 0 + 1) ∙ size)
     (λ slot within few. omega (arith, count_more less e slot (omega (arith, within, size)), released slot within, few))
 
 pub live-bottom : (stripes : Stripes) (p : Place) (e : Entry) → IsStrictlySortedBy place_cmp (keys_of stripes)
@@ -288,7 +288,7 @@ abbrev is_kept : Stamp → Entry → Bool
 is_kept t e = not (stamp_below e.stamp t)
 
 names_split : (slot : ℕ) (t : Stamp) (es : List Entry) → names_of slot (filter (is_old t) es) + names_of slot (filter (is_kept t) es) ≡ names_of slot es
-names_split slot t es = sum_by-filter_both (is_old t) (is_kept t) (λ x. refl) (λ (v : Entry). cond (eqb v.slot slot) 1 0) es
+names_split slot t es = sum_by-filter_both (is_old t) (is_kept t) (λ x. refl) (λ (v : Entry). cond (eqb v.block slot) 1 0) es
 
 length_split : (t : Stamp) (es : List Entry) → length (filter (is_old t) es) + length (filter (is_kept t) es) ≡ length es
 length_split t [] = refl
@@ -374,11 +374,11 @@ live-step group first p s rest iter gone steps is =
 
 pub names-step : (slot group first : ℕ) (p : Place) (s : Stripe) (rest iter : List (Place × Stripe)) (gone : Bool) → iter ≡ (p, s) ∷ rest
     → is_of_view group first p ≡ gone → names_in slot (filter (λ e. is_of_view group first e.0) (listed iter))
-    ≡ cond gone (names_of slot s.added.items) 0 + names_in slot (filter (λ e. is_of_view group first e.0) (listed rest))
+    ≡ cond gone (names_of slot s.added.versions.items) 0 + names_in slot (filter (λ e. is_of_view group first e.0) (listed rest))
 names-step slot group first p s rest iter gone steps is =
     ap (λ (es : List (Place × Stripe)). names_in slot (filter (λ e. is_of_view group first e.0) (listed es))) steps
     ∙ sum-step (λ t. names_of slot t.added) (names_none slot) (is_of_view group first) p s rest
-    ∙ ap {B = ℕ} (λ (b : Bool). cond b (names_of slot s.added.items) 0 + names_in slot (filter (λ e. is_of_view group first e.0) (listed rest))) is
+    ∙ ap {B = ℕ} (λ (b : Bool). cond b (names_of slot s.added.versions.items) 0 + names_in slot (filter (λ e. is_of_view group first e.0) (listed rest))) is
 
 pub none_dropped : (group first : ℕ) (iter : List (Place × Stripe)) → iter ≡ [] → filter (λ e. is_of_view group first e.0) (listed iter) ≡ []
 unfolding listed

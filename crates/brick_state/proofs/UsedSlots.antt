@@ -1,7 +1,7 @@
 -- The slots that versions name, stripe by stripe.
 use Rattle.std.proofs.Common.{◌≡◌, ℕ, Option, Some, Bool, true, false, cond, not, List, [], ◌∷◌, ◌++◌, map, refl, sym, ap}
 use Rattle.std.specs.List.{AllByRecursion, filter}
-use Rattle.brick_state.specs.declared.stripes.Entry.{Entry}
+use Rattle.brick_state.specs.Entries.{Entry}
 use Rattle.brick_state.specs.declared.stripes.Stripe.{Stripe}
 use Rattle.brick_state.specs.States.{Place, StripeOf, StateOf, is_first, stripe_of}
 use Rattle.brick_state.specs.Folds.{Limits, is_slot}
@@ -12,14 +12,14 @@ use Rattle.brick_state.specs.Slots.{slot_of, slots_in, slots_of}
 use Rattle.brick_state.proofs.StripeMaps.{is_first-true}
 
 -- a stripe that nothing happened to names none
-pub slots_step : (p : Place) (s : Stripe) (rest : List (Place × Stripe)) → slots_in (listed ((p, s) ∷ rest)) ≡ map slot_of s.added.items ++ slots_in
+pub slots_step : (p : Place) (s : Stripe) (rest : List (Place × Stripe)) → slots_in (listed ((p, s) ∷ rest)) ≡ map slot_of s.added.versions.items ++ slots_in
     (listed rest)
 unfolding slots_in listed
 slots_step p s rest = by (is_first p (stripe_of s)) refl
   where
     by : (b : Bool) → is_first p (stripe_of s) ≡ b
         → slots_in (cond (not b) (seen_entry (p, s) ∷ filter is_listed (map seen_entry rest))
-        (filter is_listed (map seen_entry rest))) ≡ map slot_of s.added.items ++ slots_in (filter is_listed (map seen_entry rest))
+        (filter is_listed (map seen_entry rest))) ≡ map slot_of s.added.versions.items ++ slots_in (filter is_listed (map seen_entry rest))
     by true first = ap (λ (t : StripeOf Entry). map slot_of t.added ++ slots_in (filter is_listed (map seen_entry rest)))
         (sym (is_first-true p (stripe_of s) first))
     by false other = refl
@@ -30,12 +30,12 @@ slots_none = refl
 
 -- what holds of the slots holds of the slot of each version
 entries_each : (P : ℕ → Type 0) (entries : List Entry) (more : List ℕ) → AllByRecursion P (map slot_of entries ++ more)
-    → AllByRecursion (λ v. P v.slot) entries × AllByRecursion P more
+    → AllByRecursion (λ v. P v.block) entries × AllByRecursion P more
 entries_each P [] more all = (tt, all)
 entries_each P (e ∷ entries) more all = let rest = entries_each P entries more all.1 in ((all.0, rest.0), rest.1)
 
 pub each_slot : (P : ℕ → Type 0) (stripes : List (Place × StripeOf Entry)) → AllByRecursion P (slots_in stripes)
-    → AllByRecursion (λ e. AllByRecursion (λ v. P v.slot) e.1.added) stripes
+    → AllByRecursion (λ e. AllByRecursion (λ v. P v.block) e.1.added) stripes
 unfolding slots_in
 each_slot P [] all = tt
 each_slot P (e ∷ stripes) all = let both = entries_each P e.1.added (slots_in stripes) all in (both.0, each_slot P stripes both.1)

@@ -11,7 +11,7 @@ use Rattle.stamp_store.specs.declared.log_records.LogChange.{LogChange}
 use Rattle.stamp_store.specs.declared.log_records.LogChange.TheVariants.{Same, Collect, Slot}
 use Rattle.brick_state.specs.declared.records.Record.{Record}
 use Rattle.brick_state.specs.declared.records.Record.TheVariants as forms
-use Rattle.brick_state.specs.declared.stripes.Entry.{Entry}
+use Rattle.brick_state.specs.Entries.{Entry}
 use Rattle.brick_state.specs.States.{Place, StripeOf, StateOf, stripe_at, with_stripe, ordered, booted, viewed, balloted, live, newest_entry, has_version, with_added, with_bottom, with_collected, stamp_of}
 
 -- how many live records there may be, and how many slots there are
@@ -27,7 +27,7 @@ abbrev pub place : GroupId → ViewNo → StripeNo → Place
 place g v s = (g.0, v.0, s.0)
 
 abbrev pub entry : Stamp → ℕ → Entry
-entry t slot = record { stamp = t; slot = slot }
+entry t slot = record { stamp = t; block = slot }
 
 -- there are as many live records as there may be
 abbrev pub is_full : Limits → StateOf Entry → Bool
@@ -49,7 +49,7 @@ is_above (Some newest) t = stamp_below newest.stamp t
 -- a version with the newest one's block
 abbrev pub same_added : Option Entry → Stamp → StripeOf Entry → Option (StripeOf Entry)
 same_added None t s = None
-same_added (Some newest) t s = if stamp_below newest.stamp t then Some (with_added (entry t newest.slot) s) else None
+same_added (Some newest) t s = if stamp_below newest.stamp t then Some (with_added (entry t newest.block) s) else None
 
 -- A log's change. None where it can't be: no version below it, a stamp not above the newest, one to keep that is not there, no
 -- such slot, or one live record too many.

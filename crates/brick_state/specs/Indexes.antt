@@ -1,6 +1,6 @@
 -- What the index in memory says.
 use Rattle.std.specs.Prelude.{◌≡◌, Bool, true, false, Option, Some, None, List, length}
-use Rattle.brick_state.specs.declared.stripes.Entry.{Entry}
+use Rattle.brick_state.specs.Entries.{Entry}
 use Rattle.brick_state.specs.declared.indexes.Index.{Index}
 use Rattle.brick_state.specs.States.{StateOf, Place, StripeOf}
 use Rattle.stamp_store.specs.declared.kept_records.Kept.TheVariants.{Boot, Ballots, Order}

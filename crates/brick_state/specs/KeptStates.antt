@@ -1,7 +1,7 @@
 -- What holds of the states that records lead to.
 use Rattle.std.specs.Prelude.{◌≡◌, ◌<◌, ◌≤◌, Bool, true, false, ◌==◌, Option, Some, None, List, [], ◌∷◌, length}
 use Rattle.fab_base.specs.Stamps.{stamp_below}
-use Rattle.brick_state.specs.declared.stripes.Entry.{Entry}
+use Rattle.brick_state.specs.Entries.{Entry}
 use Rattle.std.specs.List.{AllByRecursion}
 use Rattle.std.specs.List.Sorted.{IsStrictlySortedBy}
 use Rattle.std.specs.Map.{keys_of}
@@ -17,7 +17,7 @@ IsAbove (Some under) e = stamp_below under.stamp e.stamp ≡ true
 
 abbrev pub Rises : Limits → Option Entry → List Entry → Type 0
 Rises limits under [] = Unit {0}
-Rises limits under (e ∷ entries) = IsAbove under e × ((is_slot limits e.slot ≡ true) × Rises limits (Some e) entries)
+Rises limits under (e ∷ entries) = IsAbove under e × ((is_slot limits e.block ≡ true) × Rises limits (Some e) entries)
 
 -- something happened to the stripe; only in view 1 there is a version from the start, and only a version takes it away
 pub record IsKeptStripe (limits : Limits) (p : Place) (s : StripeOf Entry) : Type 0 where

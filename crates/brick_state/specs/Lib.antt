@@ -1,3 +1,4 @@
+pub mod Entries
 pub mod States
 pub mod Maps
 pub mod Indexes

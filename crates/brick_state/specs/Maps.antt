@@ -1,7 +1,7 @@
 -- What a map of stripes says.
 use Rattle.std.specs.Prelude.{◌≡◌, ◌<◌, Bool, true, false, not, Option, Some, None, List, map, filter, vec_len, vec_capacity}
 use Rattle.std.specs.BTreeMap.{BTreeMap, get}
-use Rattle.brick_state.specs.declared.stripes.Entry.{Entry}
+use Rattle.brick_state.specs.Entries.{Entry}
 use Rattle.brick_state.specs.declared.stripes.Stripe.{Stripe}
 use Rattle.brick_state.specs.States.{Place, StripeOf, place_cmp, is_first, put, stripe_of}
 
@@ -19,7 +19,7 @@ listed entries = filter is_listed (map seen_entry entries)
 pub record HasRoom (stripes : BTreeMap Place Stripe) (p : Place) : Type 0 where
   pub stripe : Stripe
   pub there : get place_cmp stripes p ≡ Some stripe
-  pub room : vec_len stripe.added < vec_capacity stripe.added
+  pub room : vec_len stripe.added.versions < vec_capacity stripe.added.versions
 
 -- the answer of a change at a place: it was made, or it can't be, and nothing is changed
 abbrev pub AnswersAt : Place → List (Place × StripeOf Entry) → List (Place × StripeOf Entry) → Option (StripeOf Entry) → Bool → Type 0

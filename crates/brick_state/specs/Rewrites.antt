@@ -16,7 +16,7 @@ use Rattle.stamp_store.specs.declared.log_records.LogChange.TheVariants.{Same, S
 use Rattle.brick_state.specs.declared.groups.Group.{Group}
 use Rattle.brick_state.specs.declared.records.Record.{Record}
 use Rattle.brick_state.specs.declared.records.Record.TheVariants as forms
-use Rattle.brick_state.specs.declared.stripes.Entry.{Entry}
+use Rattle.brick_state.specs.Entries.{Entry}
 use Rattle.brick_state.specs.States.{Place, StripeOf, StateOf}
 
 abbrev pub group_id : ℕ → GroupId
@@ -62,8 +62,8 @@ order_records p t = if stamp_same t first_stamp then [] else order_record p t �
 
 -- A version by the one below it: with its block, or in a slot of its own. Where none stays below it, all below were dropped.
 abbrev pub version_change : Option Entry → Entry → LogChange
-version_change None e = Slot true e.slot
-version_change (Some under) e = if under.slot == e.slot then Same else Slot false e.slot
+version_change None e = Slot true e.block
+version_change (Some under) e = if under.block == e.block then Same else Slot false e.block
 
 abbrev pub version_record : Place → Option Entry → Entry → Record
 version_record p under e =
@@ -75,7 +75,7 @@ version_records p under (e ∷ entries) = version_record p under e ∷ version_r
 
 -- the version that a stripe begins with, while it is there
 abbrev pub start_of : Bool → Option Entry
-start_of from_start = if from_start then Some (record { stamp = first_stamp; slot = 4294967295 }) else None
+start_of from_start = if from_start then Some (record { stamp = first_stamp; block = 4294967295 }) else None
 
 abbrev pub stripe_records : Place → StripeOf Entry → List Record
 stripe_records p s = order_records p s.order ++ version_records p (start_of s.from_start) s.added

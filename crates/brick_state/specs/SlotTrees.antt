@@ -1,6 +1,6 @@
 -- A tree of slots in a list: below node i stand the nodes 2 * i and 2 * i + 1, and the last nodes are those of the slots, in order.
 -- Each node has the least free slot in it, 4294967295 where none of its slots is free.
-use Rattle.std.specs.Prelude.{◌≡◌, ◌≢◌, ℕ, zero, suc, ◌+◌, ◌*◌, ◌<◌, ◌≤◌, min, List, length, slice_set, slice_index_or}
+use Rattle.std.specs.Prelude.{◌≡◌, ◌≢◌, ℕ, zero, suc, ◌+◌, ◌*◌, ◌<◌, ◌≤◌, min, List, length, slice_index_or}
 
 -- a node has the lesser slot of the two below it
 abbrev pub IsJoined : List ℕ → ℕ → Type 0

@@ -1,11 +1,11 @@
 -- The slots that the versions of a brick name.
 use Rattle.std.specs.Prelude.{◌≢◌, ℕ, ◌<◌, List, [], ◌∷◌, ◌++◌, map}
 use Rattle.std.specs.List.{AllByRecursion, Contains}
-use Rattle.brick_state.specs.declared.stripes.Entry.{Entry}
+use Rattle.brick_state.specs.Entries.{Entry}
 use Rattle.brick_state.specs.States.{Place, StripeOf, StateOf}
 
 abbrev pub slot_of : Entry → ℕ
-slot_of e = e.slot
+slot_of e = e.block
 
 -- that of each version that was added and not dropped since, stripe by stripe; one that versions share, once for each
 unfoldable pub slots_in : List (Place × StripeOf Entry) → List ℕ

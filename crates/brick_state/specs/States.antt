@@ -12,7 +12,7 @@ use Rattle.fab_base.specs.declared.identities.BrickId.{BrickId}
 use Rattle.fab_base.specs.declared.member_lists.View.{View}
 use Rattle.fab_base.specs.Stamps.{stamp_below, stamp_same, first_stamp}
 use Rattle.brick_state.specs.declared.groups.Group.{Group}
-use Rattle.brick_state.specs.declared.stripes.Entry.{Entry}
+use Rattle.brick_state.specs.Entries.{Entry}
 use Rattle.brick_state.specs.declared.stripes.Stripe.{Stripe}
 
 -- a stripe of a group in a view: group, view, stripe
@@ -100,7 +100,7 @@ last xs = slice_get xs (length xs - 1)
 
 -- the stamp and the slot of the newest version of a stripe, if there is one; the start's slot is the zero block's
 abbrev pub newest_entry : StripeOf Entry → Option Entry
-newest_entry s = last ((if s.from_start then record { stamp = first_stamp; slot = 4294967295 } ∷ [] else []) ++ s.added)
+newest_entry s = last ((if s.from_start then record { stamp = first_stamp; block = 4294967295 } ∷ [] else []) ++ s.added)
 
 -- the stripe has a version of this stamp
 abbrev pub has_version : Stamp → StripeOf Entry → Bool
@@ -108,7 +108,7 @@ has_version t s = (s.from_start && stamp_same first_stamp t) || list_any (λ e. 
 
 -- what a value in memory says
 abbrev pub stripe_of : Stripe → StripeOf Entry
-stripe_of s = record { order = s.order; from_start = s.from_start; added = s.added.items }
+stripe_of s = record { order = s.order; from_start = s.from_start; added = s.added.versions.items }
 
 -- the place is of a view of the group below this one
 abbrev pub is_of_view : ℕ → ℕ → Place → Bool

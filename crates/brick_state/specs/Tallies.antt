@@ -3,12 +3,12 @@ use Rattle.std.specs.Prelude.{◌≡◌, ℕ, ◌<◌, ◌==◌, List, length, c
 use Rattle.std.specs.Map.{values_of}
 use Rattle.fab_base.specs.declared.stamps.Stamp.{Stamp}
 use Rattle.fab_base.specs.Stamps.{stamp_same, first_stamp}
-use Rattle.brick_state.specs.declared.stripes.Entry.{Entry}
+use Rattle.brick_state.specs.Entries.{Entry}
 use Rattle.brick_state.specs.States.{Place, StripeOf}
 
 -- how many of these versions name the slot
 abbrev pub names_of : ℕ → List Entry → ℕ
-names_of slot entries = count_by (λ e. e.slot == slot) entries
+names_of slot entries = count_by (λ e. e.block == slot) entries
 
 abbrev pub names_in : ℕ → List (Place × StripeOf Entry) → ℕ
 names_in slot stripes = sum_by (λ s. names_of slot s.added) (values_of stripes)

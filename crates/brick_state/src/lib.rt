@@ -19,4 +19,4 @@ pub mod stripes;
 pub use groups::Group;
 pub use indexes::Index;
 pub use records::Record;
-pub use stripes::{Entry, Place, Stripe, ZERO_SLOT};
+pub use stripes::{Entry, FIRST_ENTRY, Place, Stripe, ZERO_SLOT};

@@ -10,6 +10,7 @@ use crate::stripe_tables::StripeTable;
 use crate::stripes::{Entry, Place, Stripe, ZERO_SLOT};
 use fab_base::Stamp;
 use stamp_store::LogChange;
+use version_log::Version;
 
 /// Changes a log, for which there is room. False where it can't be: then nothing is changed. `full` tells whether there are
 /// as many live records as there may be.
@@ -34,7 +35,7 @@ pub fn change_log(
             if slot != ZERO_SLOT && !stripes.has_slot(slot) {
                 return false;
             }
-            let entry = Entry { stamp, slot };
+            let entry = Version { stamp, block: slot };
             if bottom {
                 add_bottom(stripes, place, entry, full)
             } else {
@@ -69,9 +70,9 @@ fn add_same(stripes: &mut StripeTable, place: Place, stamp: Stamp, full: bool) -
             if !below.stamp.is_below(stamp) {
                 return false;
             }
-            let entry = Entry {
+            let entry = Version {
                 stamp,
-                slot: below.slot,
+                block: below.block,
             };
             stripes.add(place, entry);
             true

@@ -7,7 +7,7 @@ ghost use Rattle.brick_state.specs.Maps.{listed};
 
 use crate::groups::Group;
 use crate::records::Record;
-use crate::stripes::{Entry, Place, Stripe};
+use crate::stripes::{Entry, FIRST_ENTRY, Place, Stripe};
 use fab_base::{Ballot, GroupId, Members, NoMem, Stamp, StripeNo, View, ViewNo};
 use stamp_store::{Kept, LogChange, Logged};
 use std::collections::BTreeMap;
@@ -109,11 +109,11 @@ fn put_stripe(records: &mut Vec<Record>, place: Place, stripe: &Stripe) -> Resul
 {
     put_order(records, place, stripe.order)?;
     let start = if stripe.from_start {
-        Some(Entry::FIRST)
+        Some(FIRST_ENTRY)
     } else {
         None
     };
-    put_versions(records, place, start, &stripe.added)
+    put_versions(records, place, start, stripe.added.versions())
 }
 
 fn put_order(records: &mut Vec<Record>, place: Place, stamp: Stamp) -> Result<(), NoMem>
@@ -166,15 +166,15 @@ fn version_change(under: Option<Entry>, entry: Entry) -> LogChange
     match under {
         None => LogChange::Slot {
             bottom: true,
-            slot: entry.slot,
+            slot: entry.block,
         },
         Some(below) => {
-            if below.slot == entry.slot {
+            if below.block == entry.block {
                 LogChange::Same
             } else {
                 LogChange::Slot {
                     bottom: false,
-                    slot: entry.slot,
+                    slot: entry.block,
                 }
             }
         }

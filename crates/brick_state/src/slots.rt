@@ -13,7 +13,7 @@ pub fn put_slots(slots: &mut Vec<u32>, stripes: &BTreeMap<Place, Stripe>) -> Res
     ensures { OnOk result (slots.new.items ≡ slots.old.items ++ slots_in (listed stripes.now.entries)) }
 {
     for (_, stripe) in stripes {
-        put_entries(slots, &stripe.added)?;
+        put_entries(slots, stripe.added.versions())?;
     }
     Ok(())
 }
@@ -22,7 +22,7 @@ fn put_entries(slots: &mut Vec<u32>, entries: &[Entry]) -> Result<(), NoMem>
     ensures { OnOk result (slots.new.items ≡ slots.old.items ++ map slot_of entries.now) }
 {
     for entry in entries {
-        slots.push(entry.slot)?;
+        slots.push(entry.block)?;
     }
     Ok(())
 }

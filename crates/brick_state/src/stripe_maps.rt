@@ -1,6 +1,6 @@
 //! The stripes of a brick by their places. Places where nothing happened may be in the map or not: a clause sees no difference.
 
-ghost use Rattle.std.specs.Prelude.{◌≡◌, ◌-◌, ◌^◌, ◌==◌, ◌&&◌, ◌||◌, Some, None, if◌then◌else◌, length, min, sum_by, not, filter, IsOk, IsSome, OnOk, IfNone, IfSome};
+ghost use Rattle.std.specs.Prelude.{◌≡◌, true, ◌-◌, ◌^◌, ◌==◌, ◌&&◌, ◌||◌, Some, None, if◌then◌else◌, length, min, sum_by, not, filter, IsOk, IsSome, OnOk, IfNone, IfSome};
 ghost use Rattle.brick_state.specs.States.{place_cmp, weight, first_stripe, stripe_in, stripe_of, put, with_order, with_added, with_bottom, with_collected, stamp_of, is_of_view, newest_entry, has_version};
 ghost use Rattle.fab_base.specs.Stamps.{stamp_below};
 ghost use Rattle.std.specs.BTreeMap.{get, values};
@@ -63,7 +63,7 @@ pub fn added(stripes: &BTreeMap<Place, Stripe>, place: Place) -> &[Entry]
     ensures sorted { IsStrictlySortedBy place_cmp (keys_of (listed stripes.now.entries)) }
 {
     match find(stripes, place) {
-        Some(stripe) => &stripe.added,
+        Some(stripe) => stripe.added.versions(),
         None => &[],
     }
 }
@@ -98,7 +98,7 @@ pub fn make_room(
     make_entry(alloc, stripes, place)?;
     match stripes.get_mut(&place) {
         Some(stripe) => {
-            stripe.added.reserve(1)?;
+            stripe.added.reserve()?;
             Ok(())
         }
         None => Ok(()),
@@ -117,12 +117,13 @@ pub fn set_order(stripes: &mut BTreeMap<Place, Stripe>, place: Place, stamp: Sta
 
 /// Adds a version.
 pub fn add(stripes: &mut BTreeMap<Place, Stripe>, place: Place, entry: Entry)
-    requires { HasRoom stripes.old place }
+    requires room { HasRoom stripes.old place }
+    requires above { is_above (newest_entry (stripe_in (listed stripes.old.entries) place)) entry.stamp ≡ true }
     ensures sorted { IsStrictlySortedBy place_cmp (keys_of (listed stripes.old.entries)) }
     ensures added { listed stripes.new.entries ≡ put place (with_added entry (stripe_in (listed stripes.old.entries) place)) (listed stripes.old.entries) }
 {
     if let Some(stripe) = stripes.get_mut(&place) {
-        let _ = stripe.added.push(entry);
+        stripe.added.put(entry.stamp, entry.block);
     }
 }
 
@@ -133,8 +134,7 @@ pub fn set_bottom(stripes: &mut BTreeMap<Place, Stripe>, place: Place, entry: En
 {
     if let Some(stripe) = stripes.get_mut(&place) {
         stripe.from_start = false;
-        stripe.added.clear();
-        let _ = stripe.added.push(entry);
+        stripe.added.restart(entry.stamp, entry.block);
     }
 }
 
@@ -146,15 +146,8 @@ pub fn collect(stripes: &mut BTreeMap<Place, Stripe>, place: Place, stamp: Stamp
 {
     if let Some(stripe) = stripes.get_mut(&place) {
         stripe.from_start = stripe.from_start && !Stamp::FIRST.is_below(stamp);
-        drop_below(&mut stripe.added, stamp);
+        stripe.added.drop_below(stamp);
     }
-}
-
-// Drops the entries below the stamp, in place.
-fn drop_below(entries: &mut Vec<Entry>, stamp: Stamp)
-    ensures { entries.new.items ≡ filter (λ e. not (stamp_below (stamp_of e) stamp)) entries.old.items }
-{
-    entries.retain(|entry| !entry.stamp.is_below(stamp));
 }
 
 /// Drops the stripes of a group in the views below one.

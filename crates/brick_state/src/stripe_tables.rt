@@ -2,9 +2,9 @@
 
 ghost use Rattle.std.specs.Prelude.{◌≡◌, ◌≢◌, ◌+◌, ◌-◌, ◌<◌, ◌≤◌, ℕ, ◌==◌, ◌^◌, not, filter, length, IfOk, OnOk, IsOk, IfNone, IfSome, nat_lt, replicate, slice_index_or, count_by, if◌then◌else◌, true, min, []};
 ghost use Rattle.fab_base.specs.Stamps.{stamp_below, stamp_same, first_stamp};
-ghost use Rattle.brick_state.specs.States.{first_stripe, stripe_in, stripe_of, stamp_of, put, live_in, weight, with_order, with_added, with_bottom, with_collected, is_of_view};
+ghost use Rattle.brick_state.specs.States.{first_stripe, stripe_in, stripe_of, stamp_of, put, live_in, weight, with_order, with_added, with_bottom, with_collected, is_of_view, newest_entry};
 ghost use Rattle.brick_state.specs.Maps.{listed, HasRoom};
-ghost use Rattle.brick_state.specs.Folds.{adds_order};
+ghost use Rattle.brick_state.specs.Folds.{adds_order, is_above};
 ghost use Rattle.brick_state.specs.Slots.{slots_in, IsFree};
 ghost use Rattle.brick_state.specs.Tallies.{names_of, names_in, AreNames, order_weight};
 
@@ -95,6 +95,7 @@ impl StripeTable {
     /// Adds a version.
     pub fn add(&mut self, place: Place, entry: Entry)
         requires room { HasRoom self.old.map place }
+        requires above { is_above (newest_entry (stripe_in (listed self.old.map.entries) place)) entry.stamp ≡ true }
         requires fits { live_in (listed self.old.map.entries) < 4294967295 }
         ensures added { listed self.new.map.entries ≡ put place (with_added entry (stripe_in (listed self.old.map.entries) place))
             (listed self.old.map.entries) }
@@ -102,7 +103,7 @@ impl StripeTable {
     {
         stripe_maps::add(&mut self.map, place, entry);
         self.live += 1;
-        self.counts.take(entry.slot);
+        self.counts.take(entry.block);
     }
 
     /// Adds a version in the place of all that are there.
@@ -116,7 +117,7 @@ impl StripeTable {
         let dropped = release_all(&mut self.counts, stripe_maps::added(&self.map, place));
         stripe_maps::set_bottom(&mut self.map, place, entry);
         self.live = self.live - dropped as u32 + 1;
-        self.counts.take(entry.slot);
+        self.counts.take(entry.block);
     }
 
     /// Drops the versions below a stamp.
@@ -160,7 +161,7 @@ fn release_all(counts: &mut SlotTable, entries: &[Entry]) -> usize
     ensures counts { (slot : ℕ) → slot < length counts.old → slice_index_or counts.new slot 0 ≡ slice_index_or counts.old slot 0 - names_of slot entries.now }
 {
     for entry in entries {
-        counts.release(entry.slot);
+        counts.release(entry.block);
     }
     entries.len()
 }
@@ -175,7 +176,7 @@ fn release_below(counts: &mut SlotTable, entries: &[Entry], stamp: Stamp) -> usi
     let mut dropped = 0usize;
     for entry in entries {
         if entry.stamp.is_below(stamp) {
-            counts.release(entry.slot);
+            counts.release(entry.block);
             dropped += 1;
         }
     }
@@ -197,7 +198,7 @@ fn release_views(
     let mut dropped = 0usize;
     for (place, stripe) in stripes {
         if place.0 == group && place.1 < first {
-            let _ = release_all(counts, &stripe.added);
+            let _ = release_all(counts, stripe.added.versions());
             dropped = dropped.saturating_add(stripe.weight());
         }
     }

@@ -8,6 +8,7 @@ ghost use Rattle.brick_state.specs.Times.{greatest, stripe_time};
 
 use fab_base::{NoMem, Stamp};
 use std::alloc::Global;
+use version_log::{Version, VersionLog};
 
 /// A stripe of a group in a view: the group, the view and the stripe's number.
 pub type Place = (u32, u32, u32);
@@ -16,21 +17,13 @@ pub type Place = (u32, u32, u32);
 pub const ZERO_SLOT: u32 = 4294967295;
 
 /// A version: its stamp, and the slot that its block lies in.
-#[derive(Clone, Copy, Debug, PartialEq, Eq)]
-pub struct Entry {
-    /// The stamp.
-    pub stamp: Stamp,
-    /// The slot.
-    pub slot: u32,
-}
+pub type Entry = Version<u32>;
 
-impl Entry {
-    /// The version that a stripe of view 1 begins with.
-    pub const FIRST: Entry = Entry {
-        stamp: Stamp::FIRST,
-        slot: ZERO_SLOT,
-    };
-}
+/// The version that a stripe of view 1 begins with.
+pub const FIRST_ENTRY: Entry = Version {
+    stamp: Stamp::FIRST,
+    block: ZERO_SLOT,
+};
 
 /// The order stamp and the log of a stripe in a view.
 #[derive(Debug, Drop)]
@@ -40,7 +33,7 @@ pub struct Stripe {
     /// Whether the version that a stripe of view 1 begins with, the zero block of the first stamp, is still in the log.
     pub from_start: bool,
     /// The versions that were added and not dropped since.
-    pub added: Vec<Entry>,
+    pub added: VersionLog<u32>,
 }
 
 impl Stripe {
@@ -51,7 +44,7 @@ impl Stripe {
         Stripe {
             order: Stamp::FIRST,
             from_start: place.1 == 1,
-            added: Vec::new(alloc),
+            added: VersionLog::new(alloc),
         }
     }
 
@@ -71,7 +64,7 @@ impl Stripe {
     pub fn top_time(&self) -> u64
         ensures { result ≡ stripe_time stamp_of (stripe_of self.now) }
     {
-        self.order.time.max(newest_time(&self.added))
+        self.order.time.max(newest_time(self.added.versions()))
     }
 
     /// The version that a stripe of this place begins with, if there is one.
@@ -79,7 +72,7 @@ impl Stripe {
         ensures { result ≡ newest_entry (first_stripe place) }
     {
         if place.1 == 1 {
-            Some(Entry::FIRST)
+            Some(FIRST_ENTRY)
         } else {
             None
         }
@@ -89,11 +82,14 @@ impl Stripe {
     pub fn newest(&self) -> Option<Entry>
         ensures { result ≡ newest_entry (stripe_of self.now) }
     {
-        match self.added.last() {
-            Some(entry) => Some(*entry),
+        match self.added.newest() {
+            Some((stamp, slot)) => Some(Version {
+                stamp,
+                block: *slot,
+            }),
             None => {
                 if self.from_start {
-                    Some(Entry::FIRST)
+                    Some(FIRST_ENTRY)
                 } else {
                     None
                 }
@@ -105,8 +101,7 @@ impl Stripe {
     pub fn has(&self, stamp: Stamp) -> bool
         ensures { result ≡ has_version stamp (stripe_of self.now) }
     {
-        let added = any_has(&self.added, stamp);
-        (self.from_start && Stamp::FIRST.is_same(stamp)) || added
+        (self.from_start && Stamp::FIRST.is_same(stamp)) || self.added.has(stamp)
     }
 }
 
@@ -118,10 +113,4 @@ fn newest_time(entries: &[Entry]) -> u64
         top = top.max(entry.stamp.time);
     }
     top
-}
-
-fn any_has(entries: &[Entry], stamp: Stamp) -> bool
-    ensures { result ≡ list_any (λ e. stamp_same e.stamp stamp) entries.now }
-{
-    entries.iter().any(|entry| entry.stamp.is_same(stamp))
 }

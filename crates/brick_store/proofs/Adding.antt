@@ -17,7 +17,7 @@ use Rattle.frame_store.specs.Images.{OpensAs, StandsIn, KeepsSlots}
 use Rattle.frame_store.specs.Stores.{Held}
 use Rattle.version_log.specs.Versions.{Version}
 use Rattle.brick_state.specs.declared.records.Record.{Record}
-use Rattle.brick_state.specs.declared.stripes.Entry.{Entry}
+use Rattle.brick_state.specs.Entries.{Entry}
 use Rattle.brick_state.specs.declared.indexes.Index.{Index}
 use Rattle.brick_state.specs.States.{Place, StripeOf, StateOf, live}
 use Rattle.brick_state.specs.Folds.{Limits, applied, is_full}
@@ -45,14 +45,14 @@ pub no_slot_fault : (fault : StoreFault) → no_slot fault ≡ no_slot NoMemory 
 no_slot_fault fault h = cc
 
 -- both hold of the slot of each version
-entries_both : (P Q : ℕ → Type 0) (entries : List Entry) → AllByRecursion (λ v. P v.slot) entries → AllByRecursion (λ v. Q v.slot) entries
-    → AllByRecursion (λ v. P v.slot × Q v.slot) entries
+entries_both : (P Q : ℕ → Type 0) (entries : List Entry) → AllByRecursion (λ v. P v.block) entries → AllByRecursion (λ v. Q v.block) entries
+    → AllByRecursion (λ v. P v.block × Q v.block) entries
 entries_both P Q [] all also = tt
 entries_both P Q (e ∷ entries) all also = ((all.0, also.0), entries_both P Q entries all.1 also.1)
 
-stripes_both : (P Q : ℕ → Type 0) (stripes : List (Place × StripeOf Entry)) → AllByRecursion (λ e. AllByRecursion (λ v. P v.slot) e.1.added) stripes
-    → AllByRecursion (λ e. AllByRecursion (λ v. Q v.slot) e.1.added) stripes
-    → AllByRecursion (λ e. AllByRecursion (λ v. P v.slot × Q v.slot) e.1.added) stripes
+stripes_both : (P Q : ℕ → Type 0) (stripes : List (Place × StripeOf Entry)) → AllByRecursion (λ e. AllByRecursion (λ v. P v.block) e.1.added) stripes
+    → AllByRecursion (λ e. AllByRecursion (λ v. Q v.block) e.1.added) stripes
+    → AllByRecursion (λ e. AllByRecursion (λ v. P v.block × Q v.block) e.1.added) stripes
 stripes_both P Q [] all also = tt
 stripes_both P Q (e ∷ stripes) all also = (entries_both P Q e.1.added all.0 also.0, stripes_both P Q stripes all.1 also.1)
 
@@ -79,12 +79,12 @@ same_others blocks now slot st updates unnamed = slots_imply (λ other. other �
     (λ other apart. updates other (other_apart slot other apart)) st unnamed
 
 -- it is so of each version where it is so of each slot
-entries_every : (P : ℕ → Type 0) → ((slot : ℕ) → P slot) → (entries : List Entry) → AllByRecursion (λ v. P v.slot) entries
+entries_every : (P : ℕ → Type 0) → ((slot : ℕ) → P slot) → (entries : List Entry) → AllByRecursion (λ v. P v.block) entries
 entries_every P each [] = tt
-entries_every P each (e ∷ entries) = (each e.slot, entries_every P each entries)
+entries_every P each (e ∷ entries) = (each e.block, entries_every P each entries)
 
 stripes_every : (P : ℕ → Type 0) → ((slot : ℕ) → P slot) → (stripes : List (Place × StripeOf Entry))
-    → AllByRecursion (λ e. AllByRecursion (λ v. P v.slot) e.1.added) stripes
+    → AllByRecursion (λ e. AllByRecursion (λ v. P v.block) e.1.added) stripes
 stripes_every P each [] = tt
 stripes_every P each (e ∷ stripes) = (entries_every P each e.1.added, stripes_every P each stripes)
 

@@ -27,7 +27,7 @@ use Rattle.brick_state.specs.KeptStates.{IsLearnt, IsKeptState}
 use Rattle.brick_state.specs.Rewrites.{learnt_number}
 use Rattle.brick_state.specs.declared.records.Record.{Record}
 use Rattle.brick_state.specs.declared.records.Record.TheVariants as forms
-use Rattle.brick_state.specs.declared.stripes.Entry.{Entry}
+use Rattle.brick_state.specs.Entries.{Entry}
 use Rattle.brick_state.specs.States.{Place, StripeOf, StateOf, place_cmp, first_stripe, is_first, stripe_in, stripe_at, with_stripe, ordered, with_order, live, no_group, group_at, is_numbered, with_view, with_ballots, viewed, balloted, collected, with_collected, stamp_of, has_version}
 use Rattle.brick_state.specs.Folds.{Limits, applied, log_changed, place, is_full, adds_order}
 use Rattle.brick_state.proofs.Listings.{all_insert, all_remove, all_filter}
@@ -40,25 +40,25 @@ use Rattle.brick_store.specs.Steps.{changed}
 
 -- the slots of the stripe at a place
 pub slots_at : (P : ℕ → Type 0) (p : Place) (stripes : List (Place × StripeOf Entry))
-    → AllByRecursion (λ e. AllByRecursion (λ v. P v.slot) e.1.added) stripes → AllByRecursion (λ v. P v.slot) (stripe_in stripes p).added
+    → AllByRecursion (λ e. AllByRecursion (λ v. P v.block) e.1.added) stripes → AllByRecursion (λ v. P v.block) (stripe_in stripes p).added
 slots_at P p [] all = tt
 slots_at P p (e ∷ stripes) all = by (place_cmp p e.0) (slots_at P p stripes all.1)
   where
-    by : (r : Ordering) → AllByRecursion (λ v. P v.slot) (stripe_in stripes p).added → AllByRecursion (λ v. P v.slot)
+    by : (r : Ordering) → AllByRecursion (λ v. P v.block) (stripe_in stripes p).added → AllByRecursion (λ v. P v.block)
         (unwrap_or (cond (is_eq r) (Some e.1) (lookup (is_at (place_cmp p)) stripes)) (first_stripe p)).added
     by Less rest = rest
     by Greater rest = rest
     by Equal rest = all.0
 
 -- and of a stripe that is put there
-pub slots_put : (P : ℕ → Type 0) (p : Place) (s : StripeOf Entry) (st : StateOf Entry) → AllByRecursion (λ v. P v.slot) s.added → AllSlots P st
+pub slots_put : (P : ℕ → Type 0) (p : Place) (s : StripeOf Entry) (st : StateOf Entry) → AllByRecursion (λ v. P v.block) s.added → AllSlots P st
     → AllSlots P (with_stripe p s st)
 slots_put P p s st here all = by (is_first p s)
   where
-    by : (b : Bool) → AllByRecursion (λ (e : Place × StripeOf Entry). AllByRecursion (λ v. P v.slot) e.1.added)
+    by : (b : Bool) → AllByRecursion (λ (e : Place × StripeOf Entry). AllByRecursion (λ v. P v.block) e.1.added)
         (cond b (remove_entry (is_at (place_cmp p)) st.stripes) (insert_entry place_cmp st.stripes p s))
-    by true = all_remove (λ e. AllByRecursion (λ v. P v.slot) e.1.added) (is_at (place_cmp p)) st.stripes all
-    by false = all_insert (λ e. AllByRecursion (λ v. P v.slot) e.1.added) place_cmp place_exact p s st.stripes here all
+    by true = all_remove (λ e. AllByRecursion (λ v. P v.block) e.1.added) (is_at (place_cmp p)) st.stripes all
+    by false = all_insert (λ e. AllByRecursion (λ v. P v.block) e.1.added) place_cmp place_exact p s st.stripes here all
 
 pub slots_ordered : (P : ℕ → Type 0) (p : Place) (t : Stamp) (st : StateOf Entry) → AllSlots P st → AllSlots P (ordered p t st)
 slots_ordered P p t st all = slots_put P p (with_order t (stripe_at st p)) st (slots_at P p st.stripes all) all
@@ -141,7 +141,7 @@ members_viewed g view synced st some prior all = all_set GroupHasMembers st.grou
     by false = tt
 
 pub slots_viewed : (P : ℕ → Type 0) (g : ℕ) (view : View) (synced : Bool) (st : StateOf Entry) → AllSlots P st → AllSlots P (viewed g view synced st)
-slots_viewed P g view synced st all = all_filter (λ (e : Place × StripeOf Entry). AllByRecursion (λ v. P v.slot) e.1.added) _ st.stripes all
+slots_viewed P g view synced st all = all_filter (λ (e : Place × StripeOf Entry). AllByRecursion (λ v. P v.block) e.1.added) _ st.stripes all
 
 pub ballots_applied : (limits : Limits) (g : GroupId) (v : ViewNo) (promised : Ballot) (accepted : Option (Ballot × List BrickId))
     (st : StateOf Entry) → g.0 < 64
@@ -184,7 +184,7 @@ learnt_view_is limits g st view is kept all = known_view (group_at st g).known v
 
 pub slots_collected : (P : ℕ → Type 0) (p : Place) (t : Stamp) (st : StateOf Entry) → AllSlots P st → AllSlots P (collected stamp_of p t st)
 slots_collected P p t st all = slots_put P p (with_collected stamp_of t (stripe_at st p)) st
-    (all_filter (λ (v : Entry). P v.slot) _ (stripe_at st p).added (slots_at P p st.stripes all)) all
+    (all_filter (λ (v : Entry). P v.block) _ (stripe_at st p).added (slots_at P p st.stripes all)) all
 
 pub collect_applied : (limits : Limits) (g : GroupId) (v : ViewNo) (s : StripeNo) (t : Stamp) (st : StateOf Entry) → g.0 < 64
     → has_version t (stripe_at st (place g v s)) ≡ true
@@ -194,14 +194,14 @@ unfolding applied log_changed
 collect_applied limits g v s t st group held = rw (lt-ltb g.0 64 group) (rw held refl)
 
 -- a version of this stamp among those of a log with blocks is one among those with slots
-any_of : (block : ℕ → List ℕ) (t : Stamp) (entries : List Entry) → IsSome (find (has_stamp t) (map (λ e. version e.stamp (block e.slot)) entries))
+any_of : (block : ℕ → List ℕ) (t : Stamp) (entries : List Entry) → IsSome (find (has_stamp t) (map (λ e. version e.stamp (block e.block)) entries))
     → list_any (λ e. stamp_same e.stamp t) entries ≡ true
 any_of block t [] found = absurd cc
 any_of block t (e ∷ entries) found = by (stamp_same e.stamp t) (any_of block t entries) found
   where
-    by : (b : Bool) → (IsSome (find (has_stamp t) (map (λ x. version x.stamp (block x.slot)) entries))
+    by : (b : Bool) → (IsSome (find (has_stamp t) (map (λ x. version x.stamp (block x.block)) entries))
         → list_any (λ x. stamp_same x.stamp t) entries ≡ true)
-        → IsSome (cond b (Some (version e.stamp (block e.slot))) (find (has_stamp t) (map (λ x. version x.stamp (block x.slot)) entries)))
+        → IsSome (cond b (Some (version e.stamp (block e.block))) (find (has_stamp t) (map (λ x. version x.stamp (block x.block)) entries)))
         → (b || list_any (λ x. stamp_same x.stamp t) entries) ≡ true
     by true more h = refl
     by false more h = more h
@@ -211,16 +211,16 @@ pub held_of : (size : ℕ) (block : ℕ → List ℕ) (t : Stamp) (s : StripeOf 
 held_of size block t s found = by s.from_start (stamp_same first_stamp t) (shown s.from_start found)
   where
     shown : (from : Bool) → IsSome (find (has_stamp t) (cond from (version first_stamp (replicate size 0) ∷ []) [] ++ map
-        (λ e. version e.stamp (block e.slot)) s.added))
+        (λ e. version e.stamp (block e.block)) s.added))
         → IsSome (cond from (cond (stamp_same first_stamp t) (Some (version first_stamp (replicate size 0)))
-        (find (has_stamp t) (map (λ e. version e.stamp (block e.slot)) s.added)))
-        (find (has_stamp t) (map (λ e. version e.stamp (block e.slot)) s.added)))
+        (find (has_stamp t) (map (λ e. version e.stamp (block e.block)) s.added)))
+        (find (has_stamp t) (map (λ e. version e.stamp (block e.block)) s.added)))
     shown true h = h
     shown false h = h
 
     by : (from same : Bool) → IsSome (cond from (cond same (Some (version first_stamp (replicate size 0)))
-        (find (has_stamp t) (map (λ e. version e.stamp (block e.slot)) s.added)))
-        (find (has_stamp t) (map (λ e. version e.stamp (block e.slot)) s.added)))
+        (find (has_stamp t) (map (λ e. version e.stamp (block e.block)) s.added)))
+        (find (has_stamp t) (map (λ e. version e.stamp (block e.block)) s.added)))
         → ((from && same) || list_any (λ e. stamp_same e.stamp t) s.added) ≡ true
     by true true h = refl
     by true false h = any_of block t s.added h

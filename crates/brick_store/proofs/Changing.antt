@@ -15,7 +15,7 @@ use Rattle.frame_store.specs.Images.{OpensAs, block_in, StandsIn, IsOther, Keeps
 use Rattle.frame_store.specs.Stores.{Held, IsSame}
 use Rattle.version_log.specs.Versions.{Version}
 use Rattle.brick_state.specs.declared.records.Record.{Record}
-use Rattle.brick_state.specs.declared.stripes.Entry.{Entry}
+use Rattle.brick_state.specs.Entries.{Entry}
 use Rattle.brick_state.specs.States.{StateOf, empty, live}
 use Rattle.brick_state.specs.declared.indexes.Index.{Index}
 use Rattle.brick_state.specs.Folds.{Limits, applied, folded, is_full}

@@ -6,7 +6,7 @@ use Rattle.frame_store.specs.declared.frames.Frame.{Frame}
 use Rattle.frame_store.specs.declared.shapes.Shape.{Shape}
 use Rattle.frame_store.specs.Images.{OpensAs, IsBeforeOrAfter}
 use Rattle.frame_store.specs.Stores.{Held}
-use Rattle.brick_state.specs.declared.stripes.Entry.{Entry}
+use Rattle.brick_state.specs.Entries.{Entry}
 use Rattle.brick_state.specs.States.{StateOf, empty}
 use Rattle.brick_state.specs.Folds.{Limits, folded}
 use Rattle.brick_state.specs.Rewrites.{live_records}

@@ -12,7 +12,7 @@ use Rattle.fab_base.specs.Stamps.{stamp_below, stamp_same}
 use Rattle.version_log.specs.Versions.{Version, newest, below, is_below, has_stamp, block_of}
 use Rattle.version_log.proofs.RisingLogs.{find-map, filter-map, last-map}
 use Rattle.std.specs.BTreeMap.{BTreeMap}
-use Rattle.brick_state.specs.declared.stripes.Entry.{Entry}
+use Rattle.brick_state.specs.Entries.{Entry}
 use Rattle.brick_state.specs.States.{last, Place, StripeOf, StateOf, stripe_at}
 use Rattle.brick_state.proofs.Listings.{all_filter}
 use Rattle.brick_store.specs.Blocks.{resolved, cached, log_of, log_at}
@@ -83,14 +83,14 @@ module _ (zero : List ℕ) (blocks : BTreeMap ℕ (List ℕ)) (from_start : Bool
   below_start bound none = sym (below-held bound ∙ ap (λ (o : Option Entry). option_or (option_map made o) (below bound start)) none)
 
   at-held : (t : Stamp) → option_map block_of (find (has_stamp t) log) ≡ option_or (option_map block_of (find (has_stamp t) start))
-      (option_map (λ e. held zero blocks e.slot) (find (λ e. stamp_same e.stamp t) added))
+      (option_map (λ e. held zero blocks e.block) (find (λ e. stamp_same e.stamp t) added))
   at-held t =
       ap (option_map block_of) (find-append (has_stamp t) start (map made added) ∙ ap (λ (o : Option Version). option_or (find (has_stamp t) start) o)
       (find-map made (has_stamp t) added))
       ∙ blocks_or (find (has_stamp t) start) (find (λ e. stamp_same e.stamp t) added)
     where
       blocks_or : (under : Option Version) (found : Option Entry) → option_map block_of (option_or under (option_map made found)) ≡ option_or
-          (option_map block_of under) (option_map (λ e. held zero blocks e.slot) found)
+          (option_map block_of under) (option_map (λ e. held zero blocks e.block) found)
       blocks_or None None = refl
       blocks_or None (Some e) = refl
       blocks_or (Some v) found = refl
@@ -98,34 +98,42 @@ module _ (zero : List ℕ) (blocks : BTreeMap ℕ (List ℕ)) (from_start : Bool
   pub at_start : (t : Stamp) (block : List ℕ) → Some block ≡ option_map block_of (find (has_stamp t) start) → Some block ≡ option_map block_of
       (find (has_stamp t) log)
   at_start t block is = sym (at-held t ∙ ap (λ (o : Option (List ℕ)). option_or o
-      (option_map (λ e. held zero blocks e.slot) (find (λ e. stamp_same e.stamp t) added))) (sym is))
+      (option_map (λ e. held zero blocks e.block) (find (λ e. stamp_same e.stamp t) added))) (sym is))
 
-  pub at_added : (t : Stamp) (found : Option Entry) → None ≡ option_map block_of (find (has_stamp t) start)
-      → found ≡ find (λ e. stamp_same e.stamp t) added
-      → option_map (λ e. held zero blocks e.slot) found ≡ option_map block_of (find (has_stamp t) log)
+  pub at_added : (t : Stamp) (found : Option ℕ) → None ≡ option_map block_of (find (has_stamp t) start)
+      → found ≡ option_map block_of (find (has_stamp t) added)
+      → option_map (held zero blocks) found ≡ option_map block_of (find (has_stamp t) log)
   at_added t found none is =
-      ap (option_map (λ e. held zero blocks e.slot)) is
+      ap (option_map (held zero blocks)) is ∙ mapped (find (has_stamp t) added)
       ∙ sym (at-held t ∙ ap (λ (o : Option (List ℕ)). option_or o
-      (option_map (λ e. held zero blocks e.slot) (find (λ e. stamp_same e.stamp t) added))) (sym none))
+      (option_map (λ e. held zero blocks e.block) (find (λ e. stamp_same e.stamp t) added))) (sym none))
+    where
+      mapped : (o : Option Entry) → option_map (held zero blocks) (option_map block_of o) ≡ option_map (λ e. held zero blocks e.block) o
+      mapped None = refl
+      mapped (Some e) = refl
 
   -- what is found is held
 
   pub below_is_held : (bound : Stamp) (e : Entry) → AllHeld blocks added → last (filter (λ e. stamp_below e.stamp bound) added) ≡ Some e
-      → IsHeld blocks e.slot
+      → IsHeld blocks e.block
   below_is_held bound e all found =
-      all_last (λ (v : Entry). IsHeld blocks v.slot) (filter (λ v. stamp_below v.stamp bound) added) e
-      (all_filter (λ (v : Entry). IsHeld blocks v.slot) (λ v. stamp_below v.stamp bound) added all) found
+      all_last (λ (v : Entry). IsHeld blocks v.block) (filter (λ v. stamp_below v.stamp bound) added) e
+      (all_filter (λ (v : Entry). IsHeld blocks v.block) (λ v. stamp_below v.stamp bound) added all) found
 
-  pub found_is_held : (t : Stamp) (e : Entry) → AllHeld blocks added → find (λ e. stamp_same e.stamp t) added ≡ Some e → IsHeld blocks e.slot
-  found_is_held t e all found = all_found (λ (v : Entry). IsHeld blocks v.slot) (λ v. stamp_same v.stamp t) added e all found
+  pub found_is_held : (t : Stamp) (slot : ℕ) → AllHeld blocks added → option_map block_of (find (has_stamp t) added) ≡ Some slot → IsHeld blocks slot
+  found_is_held t slot all found = by (find (has_stamp t) added) refl found
+    where
+      by : (o : Option Entry) → find (has_stamp t) added ≡ o → option_map block_of o ≡ Some slot → IsHeld blocks slot
+      by None at is = absurd (none-some slot is)
+      by (Some e) at is = subst (IsHeld blocks) (same_Some _ _ is) (all_found (λ (v : Entry). IsHeld blocks v.block) (has_stamp t) added e all at)
 
 -- what lies in memory is held
-pub cached_held : (size : ℕ) (blocks : BTreeMap ℕ (List ℕ)) (added : List Entry) → AllByRecursion (λ e. IsCached size blocks e.slot) added
+pub cached_held : (size : ℕ) (blocks : BTreeMap ℕ (List ℕ)) (added : List Entry) → AllByRecursion (λ e. IsCached size blocks e.block) added
     → AllHeld blocks added
 cached_held size blocks [] all = tt
 cached_held size blocks (e ∷ added) all = (by all.0, cached_held size blocks added all.1)
   where
-    by : IsCached size blocks e.slot → IsHeld blocks e.slot
+    by : IsCached size blocks e.block → IsHeld blocks e.block
     by (inl zero) = inl zero
     by (inr there) = inr (subst (λ (o : Option (List ℕ)). IsSome o) (sym there.1) refl)
 

@@ -14,7 +14,7 @@ use Rattle.fab_base.proofs.StampOrder.{stamp_below_trans}
 use Rattle.frame_store.specs.Images.{OpensAs}
 use Rattle.frame_store.specs.Stores.{Held}
 use Rattle.version_log.specs.Versions.{Version, version, IsRising}
-use Rattle.brick_state.specs.declared.stripes.Entry.{Entry}
+use Rattle.brick_state.specs.Entries.{Entry}
 use Rattle.brick_state.specs.declared.indexes.Index.{Index}
 use Rattle.brick_state.specs.Indexes.{state_of}
 use Rattle.brick_state.specs.States.{Place, StripeOf, StateOf, place_cmp, stripe_at}
@@ -41,7 +41,7 @@ all_above block limits t u (e ∷ entries) over rises =
     (over e rises.0, all_above block limits t e entries (λ x above. stamp_below_trans t e.stamp x.stamp (over e rises.0) above) rises.1.1)
 
 -- entries that rise are a log that rises
-rising_nothing : IsRising []
+rising_nothing : IsRising {B = List ℕ} []
 rising_nothing = λ i j d lt within. absurd (omega arith)
 
 rising_entries : (block : ℕ → List ℕ) (limits : Limits) (under : Option Entry) (entries : List Entry) → Rises limits under entries
@@ -61,8 +61,8 @@ rising_log size block limits order false entries rises = rising_entries block li
 rising_log size block limits order true entries rises =
     AllPairs-cons Above (version first_stamp (replicate size 0)) (map (version_of block) entries)
     (All-from_recursion (λ (v : Version). Above (version first_stamp (replicate size 0)) v) (map (version_of block) entries)
-    (all_above block limits first_stamp (record { stamp = first_stamp; slot = 4294967295 }) entries (λ x above. above) rises))
-    (rising_entries block limits (Some (record { stamp = first_stamp; slot = 4294967295 })) entries rises)
+    (all_above block limits first_stamp (record { stamp = first_stamp; block = 4294967295 }) entries (λ x above. above) rises))
+    (rising_entries block limits (Some (record { stamp = first_stamp; block = 4294967295 })) entries rises)
 
 -- the state of a store as a clause sees it
 pub kept_ordered : (size : ℕ) (block : ℕ → List ℕ) (limits : Limits) (st : StateOf Entry) → IsKeptState limits st → IsOrdered size (resolved block st)

@@ -10,7 +10,7 @@ use Rattle.fab_base.specs.declared.stamps.Ballot.{Ballot}
 use Rattle.fab_base.specs.Stamps.{stamp_same, first_stamp}
 use Rattle.brick_state.specs.declared.groups.Group.{Group}
 use Rattle.brick_state.specs.declared.records.Record.{Record}
-use Rattle.brick_state.specs.declared.stripes.Entry.{Entry}
+use Rattle.brick_state.specs.Entries.{Entry}
 use Rattle.brick_state.specs.States.{Place, StripeOf, StateOf, weight, live, live_in}
 use Rattle.brick_state.specs.Rewrites.{learnt_number, view_records, ballot_records, groups_records, order_records, order_record, version_records, start_of, stripe_records, stripes_records, live_records}
 use Rattle.brick_store.specs.Sizes.{most_of}

@@ -16,7 +16,7 @@ use Rattle.frame_store.specs.Listed.{frames_of, frames_in}
 use Rattle.frame_store.specs.Images.{OpensAs, HasSlot, half_bytes}
 use Rattle.frame_store.specs.Stores.{Held, Shows}
 use Rattle.frame_store.proofs.Slots.{slot_before_half}
-use Rattle.brick_state.specs.declared.stripes.Entry.{Entry}
+use Rattle.brick_state.specs.Entries.{Entry}
 use Rattle.brick_state.specs.States.{StateOf, empty}
 use Rattle.brick_state.specs.Folds.{Limits, is_slot, folded}
 use Rattle.brick_state.specs.Slots.{slots_in, slots_of}

@@ -14,7 +14,7 @@ use Rattle.stamp_store.specs.Spelling.{AcceptedHasMembers}
 use Rattle.brick_state.specs.declared.groups.Group.{Group}
 use Rattle.brick_state.specs.declared.records.Record.{Record}
 use Rattle.brick_state.specs.declared.records.Record.TheVariants as forms
-use Rattle.brick_state.specs.declared.stripes.Entry.{Entry}
+use Rattle.brick_state.specs.Entries.{Entry}
 use Rattle.brick_state.specs.States.{Place, StripeOf, StateOf, stripe_at, no_group, group_at, is_numbered, with_view, with_ballots, viewed, balloted, ordered, empty}
 use Rattle.brick_state.specs.Folds.{Limits, applied, placed, place, is_full, adds_order, log_changed}
 use Rattle.brick_state.proofs.Keeping.{all_set, all_at}

@@ -12,7 +12,7 @@ use Rattle.frame_store.specs.Stores.{Held, Shows}
 use Rattle.frame_store.proofs.Openings.{opens_once}
 use Rattle.version_log.specs.Versions.{Version}
 use Rattle.brick_state.specs.declared.indexes.Index.{Index}
-use Rattle.brick_state.specs.declared.stripes.Entry.{Entry}
+use Rattle.brick_state.specs.Entries.{Entry}
 use Rattle.brick_state.specs.Indexes.{state_of}
 use Rattle.brick_state.specs.Slots.{slots_of}
 use Rattle.brick_state.specs.States.{StateOf, booted, empty}

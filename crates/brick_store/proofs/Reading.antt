@@ -18,7 +18,7 @@ use Rattle.fab_base.specs.declared.identities.BrickId.{BrickId}
 use Rattle.frame_store.specs.declared.frames.Frame.{Frame}
 use Rattle.brick_state.specs.declared.records.Record.{Record}
 use Rattle.brick_state.specs.declared.records.Record.TheVariants as forms
-use Rattle.brick_state.specs.declared.stripes.Entry.{Entry}
+use Rattle.brick_state.specs.Entries.{Entry}
 use Rattle.brick_state.specs.States.{StateOf, empty}
 use Rattle.brick_state.specs.Folds.{Limits, applied, folded}
 use Rattle.brick_store.specs.Images.{or_logged, record_of, records_of}

@@ -14,7 +14,7 @@ use Rattle.fab_base.specs.declared.identities.BrickId.{BrickId}
 use Rattle.fab_base.specs.declared.member_lists.View.{View}
 use Rattle.fab_base.specs.Stamps.{stamp_below, stamp_same, first_stamp}
 use Rattle.version_log.specs.Versions.{Version, version}
-use Rattle.brick_state.specs.declared.stripes.Entry.{Entry}
+use Rattle.brick_state.specs.Entries.{Entry}
 use Rattle.brick_state.specs.States.{Place, StripeOf, StateOf, place_cmp, first_stripe, is_first, stripe_at, put, weight, live, live_in, stamp_of, with_stripe, with_order, with_added, with_collected, ordered, added, collected, viewed, balloted, booted, is_of_view}
 use Rattle.brick_state.specs.Times.{greatest, stripe_time, top_time}
 use Rattle.brick_state.proofs.Greatest.{greatest-map}
@@ -25,7 +25,7 @@ use Rattle.brick_store.specs.Standing.{AllSlots}
 module _ (block : ℕ → List ℕ) where
   -- the version of an entry
   abbrev pub version_of : Entry → Version
-  version_of e = version e.stamp (block e.slot)
+  version_of e = version e.stamp (block e.block)
 
   abbrev stripes_of : List (Place × StripeOf Entry) → List (Place × StripeOf Version)
   stripes_of stripes = map_values (resolved_stripe block) stripes
@@ -89,7 +89,7 @@ module _ (block : ℕ → List ℕ) where
       with_stripe-resolved p (with_order t (stripe_at st p)) st
       ∙ ap (λ (s : StripeOf Version). with_stripe p (with_order t s) (resolved block st)) (sym (stripe_at-resolved st p))
 
-  pub added-resolved : (p : Place) (e : Entry) (st : StateOf Entry) → resolved block (added p e st) ≡ added p (version e.stamp (block e.slot))
+  pub added-resolved : (p : Place) (e : Entry) (st : StateOf Entry) → resolved block (added p e st) ≡ added p (version e.stamp (block e.block))
       (resolved block st)
   added-resolved p e st =
       with_stripe-resolved p (with_added e (stripe_at st p)) st
@@ -148,7 +148,7 @@ module _ (block : ℕ → List ℕ) where
 -- ---- other blocks
 
 -- a state is seen the same by blocks that agree on its slots
-added_same : (block other : ℕ → List ℕ) (entries : List Entry) → AllByRecursion (λ v. block v.slot ≡ other v.slot) entries
+added_same : (block other : ℕ → List ℕ) (entries : List Entry) → AllByRecursion (λ v. block v.block ≡ other v.block) entries
     → map (version_of block) entries ≡ map (version_of other) entries
 added_same block other [] same = refl
 added_same block other (e ∷ entries) same =
@@ -156,7 +156,7 @@ added_same block other (e ∷ entries) same =
     (added_same block other entries same.1)
 
 stripes_same : (block other : ℕ → List ℕ) (stripes : List (Place × StripeOf Entry))
-    → AllByRecursion (λ e. AllByRecursion (λ v. block v.slot ≡ other v.slot) e.1.added) stripes
+    → AllByRecursion (λ e. AllByRecursion (λ v. block v.block ≡ other v.block) e.1.added) stripes
     → map_values (resolved_stripe block) stripes ≡ map_values (resolved_stripe other) stripes
 stripes_same block other [] same = refl
 stripes_same block other (e ∷ stripes) same =
@@ -174,13 +174,13 @@ resolved_same block other st same = ap (λ (stripes : List
     (Place × StripeOf Version)). record { boot = st.boot; groups = st.groups; stripes = stripes }) (stripes_same block other st.stripes same)
 
 -- what holds of each slot is so of what follows from it
-entries_imply : (P Q : ℕ → Type 0) → ((slot : ℕ) → P slot → Q slot) → (entries : List Entry) → AllByRecursion (λ v. P v.slot) entries
-    → AllByRecursion (λ v. Q v.slot) entries
+entries_imply : (P Q : ℕ → Type 0) → ((slot : ℕ) → P slot → Q slot) → (entries : List Entry) → AllByRecursion (λ v. P v.block) entries
+    → AllByRecursion (λ v. Q v.block) entries
 entries_imply P Q step [] all = tt
-entries_imply P Q step (e ∷ entries) all = (step e.slot all.0, entries_imply P Q step entries all.1)
+entries_imply P Q step (e ∷ entries) all = (step e.block all.0, entries_imply P Q step entries all.1)
 
 stripes_imply : (P Q : ℕ → Type 0) → ((slot : ℕ) → P slot → Q slot) → (stripes : List (Place × StripeOf Entry))
-    → AllByRecursion (λ e. AllByRecursion (λ v. P v.slot) e.1.added) stripes → AllByRecursion (λ e. AllByRecursion (λ v. Q v.slot) e.1.added) stripes
+    → AllByRecursion (λ e. AllByRecursion (λ v. P v.block) e.1.added) stripes → AllByRecursion (λ e. AllByRecursion (λ v. Q v.block) e.1.added) stripes
 stripes_imply P Q step [] all = tt
 stripes_imply P Q step (e ∷ stripes) all = (entries_imply P Q step e.1.added all.0, stripes_imply P Q step stripes all.1)
 

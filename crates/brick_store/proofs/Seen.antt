@@ -1,9 +1,9 @@
 -- The groups of a state with blocks are those of the state with slots.
-use Rattle.std.proofs.Common.{◌≡◌, ◌≤◌, ℕ, List, None, length, sym, ◌∙◌, ap, arith}
+use Rattle.std.proofs.Common.{◌≡◌, ◌≤◌, ℕ, List, None, length, sym, ap, arith}
 use Rattle.std.proofs.lemmas.List.{get_or_past}
 use Rattle.std.specs.List.{slice_index_or}
 use Rattle.brick_state.specs.declared.groups.Group.{Group}
-use Rattle.brick_state.specs.declared.stripes.Entry.{Entry}
+use Rattle.brick_state.specs.Entries.{Entry}
 use Rattle.brick_state.specs.Folds.{Limits}
 use Rattle.brick_state.specs.KeptStates.{IsKeptState}
 use Rattle.brick_state.specs.States.{StateOf, group_at, no_group}

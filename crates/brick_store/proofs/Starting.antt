@@ -12,7 +12,7 @@ use Rattle.frame_store.specs.Layouts.{IsShape}
 use Rattle.frame_store.specs.Stores.{Held}
 use Rattle.frame_store.specs.Images.{KeepsSlots}
 use Rattle.brick_state.specs.declared.records.Record.TheVariants as forms
-use Rattle.brick_state.specs.declared.stripes.Entry.{Entry}
+use Rattle.brick_state.specs.Entries.{Entry}
 use Rattle.brick_state.specs.States.{StateOf, booted, empty}
 use Rattle.brick_state.specs.Folds.{Limits, applied}
 use Rattle.brick_state.specs.declared.indexes.Index.{Index}

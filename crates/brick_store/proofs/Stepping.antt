@@ -13,7 +13,7 @@ use Rattle.frame_store.specs.Layouts.{store_end}
 use Rattle.frame_store.specs.Stores.{Held, IsDurable, IsRead, Shows, IsSame, HasNow, HasRoom}
 use Rattle.frame_store.specs.Stores as held
 use Rattle.brick_state.specs.declared.records.Record.{Record}
-use Rattle.brick_state.specs.declared.stripes.Entry.{Entry}
+use Rattle.brick_state.specs.Entries.{Entry}
 use Rattle.brick_state.specs.States.{StateOf, empty}
 use Rattle.brick_state.specs.Folds.{Limits, applied}
 use Rattle.brick_state.proofs.Rewriting as records

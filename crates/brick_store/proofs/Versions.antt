@@ -16,7 +16,7 @@ use Rattle.fab_base.specs.Stamps.{stamp_below, first_stamp}
 use Rattle.stamp_store.specs.declared.log_records.LogChange.TheVariants.{Same, Slot}
 use Rattle.version_log.specs.Versions.{Version, version, newest, block_of}
 use Rattle.brick_state.specs.declared.records.Record.TheVariants as forms
-use Rattle.brick_state.specs.declared.stripes.Entry.{Entry}
+use Rattle.brick_state.specs.Entries.{Entry}
 use Rattle.brick_state.specs.States.{Place, StripeOf, StateOf, stripe_at, with_added, added, newest_entry, last}
 use Rattle.brick_state.specs.Folds.{Limits, applied, log_changed, same_added, place, placed, entry, is_full, is_above}
 use Rattle.brick_state.specs.Rewrites.{start_of}
@@ -38,14 +38,14 @@ newest_some : (x : Entry) (entries : List Entry) → (u : Entry) × (newest_of (
 newest_some x [] = (x, refl)
 newest_some x (e ∷ entries) = newest_some e entries
 
-newest_all : (P : ℕ → Type 0) (under : Option Entry) (entries : List Entry) (u : Entry) → ((v : Entry) → under ≡ Some v → P v.slot)
-    → AllByRecursion (λ v. P v.slot) entries → newest_of under entries ≡ Some u → P u.slot
+newest_all : (P : ℕ → Type 0) (under : Option Entry) (entries : List Entry) (u : Entry) → ((v : Entry) → under ≡ Some v → P v.block)
+    → AllByRecursion (λ v. P v.block) entries → newest_of under entries ≡ Some u → P u.block
 newest_all P under [] u below all is = below u is
 newest_all P under (e ∷ entries) u below all is = newest_all P (Some e) entries u
-    (λ v same. subst (λ (x : Entry). P x.slot) (some_same same) all.0) all.1 is
+    (λ v same. subst (λ (x : Entry). P x.block) (some_same same) all.0) all.1 is
 
-start_all : (P : ℕ → Type 0) → P 4294967295 → (from : Bool) (v : Entry) → start_of from ≡ Some v → P v.slot
-start_all P zero true v same = subst (λ (x : Entry). P x.slot) (some_same same) zero
+start_all : (P : ℕ → Type 0) → P 4294967295 → (from : Bool) (v : Entry) → start_of from ≡ Some v → P v.block
+start_all P zero true v same = subst (λ (x : Entry). P x.block) (some_same same) zero
 start_all P zero false v same = absurd cc
 
 -- the slots of the state with a version more, in the slot of the newest one or in this one
@@ -54,15 +54,15 @@ pub slots_added : (P : ℕ → Type 0) (p : Place) (t : Stamp) (slot : ℕ) (st 
 slots_added P p t slot st here all = slots_put P p (with_added (entry t slot) (stripe_at st p)) st
     (push (stripe_at st p).added (slots_at P p st.stripes all)) all
   where
-    push : (entries : List Entry) → AllByRecursion (λ v. P v.slot) entries → AllByRecursion (λ v. P v.slot) (entries ++ entry t slot ∷ [])
+    push : (entries : List Entry) → AllByRecursion (λ v. P v.block) entries → AllByRecursion (λ v. P v.block) (entries ++ entry t slot ∷ [])
     push [] h = (here, tt)
     push (e ∷ entries) h = (h.0, push entries h.1)
 
 pub slots_same : (P : ℕ → Type 0) (p : Place) (t : Stamp) (u : Entry) (st : StateOf Entry) → newest_entry (stripe_at st p) ≡ Some u → P 4294967295
-    → AllSlots P st → AllSlots P (added p (entry t u.slot) st)
+    → AllSlots P st → AllSlots P (added p (entry t u.block) st)
 slots_same P p t u st is zero all =
     let s = stripe_at st p in
-    slots_added P p t u.slot st (newest_all P (start_of s.from_start) s.added u (start_all P zero s.from_start) (slots_at P p st.stripes all)
+    slots_added P p t u.block st (newest_all P (start_of s.from_start) s.added u (start_all P zero s.from_start) (slots_at P p st.stripes all)
     (sym (newest_entry_is s) ∙ is)) all
 
 -- the newest version of a log is that of the newest entry
@@ -77,8 +77,8 @@ newest_seen size blocks s = by s.from_start
     f = version_of (cached size blocks)
 
     by : (from : Bool) → newest (cond from (version first_stamp (replicate size 0) ∷ []) [] ++ map f s.added) ≡ option_map f
-        (last (cond from (record { stamp = first_stamp; slot = 4294967295 } ∷ []) [] ++ s.added))
-    by true = last_map f (record { stamp = first_stamp; slot = 4294967295 } ∷ s.added)
+        (last (cond from (record { stamp = first_stamp; block = 4294967295 } ∷ []) [] ++ s.added))
+    by true = last_map f (record { stamp = first_stamp; block = 4294967295 } ∷ s.added)
     by false = last_map f s.added
 
 -- a stamp that may be the next one is above the newest entry's; without a block of its own there is one
@@ -105,7 +105,7 @@ some_newest size blocks s t next =
 
     by : (from : Bool) (entries : List Entry) → (cond from (version first_stamp (replicate size 0) ∷ []) [] ++ map f entries ≡ [] → IsSome no_block)
         → (u : Entry) × (newest_of (start_of from) entries ≡ Some u)
-    by true entries content = newest_some (record { stamp = first_stamp; slot = 4294967295 }) entries
+    by true entries content = newest_some (record { stamp = first_stamp; block = 4294967295 }) entries
     by false [] content = absurd (nothing (content refl))
       where
         nothing : IsSome no_block → ⊥
@@ -114,7 +114,7 @@ some_newest size blocks s t next =
 
 -- and the block that is added is the newest version's
 pub same_block : (size : ℕ) (blocks : BTreeMap ℕ (List ℕ)) (s : StripeOf Entry) (u : Entry) → newest_entry s ≡ Some u
-    → cached size blocks u.slot ≡ block_added None (log_of size (resolved_stripe (cached size blocks) s))
+    → cached size blocks u.block ≡ block_added None (log_of size (resolved_stripe (cached size blocks) s))
 same_block size blocks s u is = sym (ap (λ (o : Option Version). unwrap_or (option_map block_of o) [])
     (newest_seen size blocks s ∙ ap (option_map (version_of (cached size blocks))) is))
 
@@ -162,7 +162,7 @@ pub same_applied : (limits : Limits) (g : GroupId) (v : ViewNo) (s : StripeNo) (
     → is_full limits st ≡ false
     → newest_entry (stripe_at st (place g v s)) ≡ Some u → is_above (newest_entry (stripe_at st (place g v s))) t ≡ true
     → applied limits (forms.Logged (record { group = g; view = v; stripe = s; stamp = t; change = Same })) st ≡ Some
-    (added (place g v s) (entry t u.slot) st)
+    (added (place g v s) (entry t u.block) st)
 unfolding applied log_changed
 same_applied limits g v s t u st group free is above =
     let below : stamp_below u.stamp t ≡ true = subst (λ (o : Option Entry). is_above o t ≡ true) is above in

@@ -11,12 +11,12 @@ use Rattle.fab_base.specs.Stamps.{first_stamp, stamp_below, stamp_same}
 use Rattle.brick_state.specs.declared.groups.Group.{Group}
 use Rattle.brick_state.specs.Rewrites.{learnt_number}
 use Rattle.version_log.specs.Versions.{Version, version, newest, block_of, has_stamp}
-use Rattle.brick_state.specs.declared.stripes.Entry.{Entry}
+use Rattle.brick_state.specs.Entries.{Entry}
 use Rattle.brick_state.specs.States.{StripeOf, StateOf, Place, stripe_at, group_at, viewed, added}
 
 -- a stripe and a state whose slots are seen as what lies in them
 abbrev pub resolved_stripe : (ℕ → List ℕ) → StripeOf Entry → StripeOf Version
-resolved_stripe block s = record { order = s.order; from_start = s.from_start; added = map (λ e. version e.stamp (block e.slot)) s.added }
+resolved_stripe block s = record { order = s.order; from_start = s.from_start; added = map (λ e. version e.stamp (block e.block)) s.added }
 
 unfoldable pub resolved : (ℕ → List ℕ) → StateOf Entry → StateOf Version
 resolved block st = record { boot = st.boot; groups = st.groups; stripes = map (λ e. (e.0, resolved_stripe block e.1)) st.stripes }

@@ -1,24 +1,30 @@
 -- What a look-up sees of one stripe.
-use Rattle.std.specs.Prelude.{◌≡◌, ◌⊎◌, ℕ, Bool, true, ◌==◌, if◌then◌else◌, IsSome, List, [], ◌∷◌, ◌++◌, map, unwrap_or}
+use Rattle.std.specs.Prelude.{◌≡◌, ◌⊎◌, ℕ, Bool, true, ◌==◌, if◌then◌else◌, IsSome, Option, Some, None, List, [], ◌∷◌, ◌++◌, map, unwrap_or}
 use Rattle.std.specs.Ordering.{nat_cmp}
 use Rattle.std.specs.List.{AllByRecursion}
 use Rattle.std.specs.BTreeMap.{BTreeMap, get}
 use Rattle.fab_base.specs.declared.stamps.Stamp.{Stamp}
 use Rattle.fab_base.specs.Stamps.{first_stamp}
+use Rattle.version_log.specs.declared.logs.VersionLog.{VersionLog}
 use Rattle.version_log.specs.Versions.{Version, version}
-use Rattle.brick_state.specs.declared.stripes.Entry.{Entry}
+use Rattle.brick_state.specs.Entries.{Entry}
 
 -- the order stamp and the log of a stripe
 pub record StripeLog : Type 0 where
   pub order : Stamp
   pub log : List Version
 
+-- the versions that were added to a stripe: none where nothing is kept of it
+abbrev pub added_in : Option (VersionLog ℕ) → List Entry
+added_in None = []
+added_in (Some log) = log.versions.items
+
 -- the block that memory holds for a slot
 abbrev pub held : List ℕ → BTreeMap ℕ (List ℕ) → ℕ → List ℕ
 held zero blocks slot = if slot == 4294967295 then zero else unwrap_or (get nat_cmp blocks slot) []
 
 abbrev pub held_version : List ℕ → BTreeMap ℕ (List ℕ) → Entry → Version
-held_version zero blocks e = version e.stamp (held zero blocks e.slot)
+held_version zero blocks e = version e.stamp (held zero blocks e.block)
 
 -- what was added, and under it the version that a stripe begins with, while it is there
 abbrev pub start_held : List ℕ → Bool → List Version
@@ -32,4 +38,4 @@ abbrev pub IsHeld : BTreeMap ℕ (List ℕ) → ℕ → Type 0
 IsHeld blocks slot = ((slot == 4294967295) ≡ true) ⊎ IsSome (get nat_cmp blocks slot)
 
 abbrev pub AllHeld : BTreeMap ℕ (List ℕ) → List Entry → Type 0
-AllHeld blocks added = AllByRecursion (λ e. IsHeld blocks e.slot) added
+AllHeld blocks added = AllByRecursion (λ e. IsHeld blocks e.block) added

@@ -15,7 +15,7 @@ use Rattle.frame_store.specs.Stores.{Held, IsDurable, Shows}
 use Rattle.brick_state.specs.declared.groups.Group.{Group}
 use Rattle.brick_state.specs.declared.indexes.Index.{Index}
 use Rattle.brick_state.specs.declared.records.Record.{Record}
-use Rattle.brick_state.specs.declared.stripes.Entry.{Entry}
+use Rattle.brick_state.specs.Entries.{Entry}
 use Rattle.brick_state.specs.States.{StateOf, empty}
 use Rattle.brick_state.specs.Folds.{Limits, applied}
 use Rattle.brick_state.specs.Indexes.{state_of}
@@ -32,7 +32,7 @@ Leads limits (frame ∷ frames) old new =
 
 -- this holds of the slot of each version that was added
 abbrev pub AllSlots : (ℕ → Type 0) → StateOf Entry → Type 0
-AllSlots P st = AllByRecursion (λ e. AllByRecursion (λ v. P v.slot) e.1.added) st.stripes
+AllSlots P st = AllByRecursion (λ e. AllByRecursion (λ v. P v.block) e.1.added) st.stripes
 
 -- the block in a slot is held in memory; that of the zero block always is
 abbrev pub IsCached : ℕ → BTreeMap ℕ (List ℕ) → ℕ → Type 0

@@ -8,7 +8,7 @@ use Rattle.frame_store.specs.Stores.{Held, IsDurable, Shows, IsSame, HasRoom}
 use Rattle.brick_state.specs.declared.records.Record.{Record}
 use Rattle.brick_state.specs.declared.records.Record.TheVariants as forms
 use Rattle.stamp_store.specs.Spelling.{HasMembers}
-use Rattle.brick_state.specs.declared.stripes.Entry.{Entry}
+use Rattle.brick_state.specs.Entries.{Entry}
 use Rattle.brick_state.specs.States.{StateOf, empty}
 use Rattle.brick_state.specs.Folds.{Limits, applied}
 use Rattle.brick_store.specs.declared.faults.StoreFault.{StoreFault}

@@ -1,19 +1,19 @@
 //! What a store tells of one stripe. No look-up needs memory.
 
-ghost use Rattle.std.specs.Prelude.{◌≡◌, ◌-◌, ◌^◌, ◌==◌, length, find, filter, min, option_map, option_copied, slice_get};
+ghost use Rattle.std.specs.Prelude.{◌≡◌, ◌<◌, ◌^◌, length, find, option_map, option_copied};
 ghost use Rattle.version_log.specs.Versions.{version, block_of, newest, below, has_stamp};
-ghost use Rattle.fab_base.specs.Stamps.{stamp_below, stamp_same};
 ghost use Rattle.brick_state.specs.States.{stripe_at, last};
 ghost use Rattle.brick_state.specs.Folds.{place};
 ghost use Rattle.brick_store.specs.Blocks.{log_at};
-ghost use Rattle.brick_store.specs.Logs.{held, start_held, IsHeld};
+ghost use Rattle.brick_store.specs.Logs.{added_in, held, start_held, IsHeld};
 
 use crate::stores::BrickStore;
-use brick_state::stripes::{Entry, ZERO_SLOT};
+use brick_state::{Entry, ZERO_SLOT};
 use fab_base::{Bytes, GroupId, Stamp, StripeNo, ViewNo};
 use fab_disk::Disk;
 use std::collections::BTreeMap;
 use std::marker::Model;
+use version_log::{Version, VersionLog};
 
 /// The order stamp of a stripe, and its log: versions with rising stamps, each with its block.
 ///
@@ -22,19 +22,20 @@ use std::marker::Model;
 pub struct State<'a> {
     order: Stamp,
     from_start: bool,
-    added: &'a [Entry],
+    added: Option<&'a VersionLog<u32>>,
     blocks: &'a BTreeMap<u32, Bytes>,
     zero: &'a Bytes,
 }
 
 impl<'a> Model for State<'a> {
-    ghost use Rattle.brick_store.specs.Logs.{StripeLog, log_held, AllHeld};
+    ghost use Rattle.std.specs.Prelude.{option_copied};
+    ghost use Rattle.brick_store.specs.Logs.{StripeLog, added_in, log_held, AllHeld};
 
     ghost Value = { StripeLog };
 
-    ghost view = { λ s. record { order = s.order; log = log_held s.zero.now s.blocks.now s.from_start s.added.now } };
+    ghost view = { λ s. record { order = s.order; log = log_held s.zero.now s.blocks.now s.from_start (added_in (option_copied s.added)) } };
 
-    ghost invariant = { λ s. AllHeld s.blocks.now s.added.now };
+    ghost invariant = { λ s. AllHeld s.blocks.now (added_in (option_copied s.added)) };
 }
 
 impl<'a> State<'a> {
@@ -49,15 +50,15 @@ impl<'a> State<'a> {
     pub fn len(&self) -> usize
         ensures { result ≡ length self.now.log }
     {
-        self.added.len() + self.from_start as usize
+        count_in(self.added) + self.from_start as usize
     }
 
     /// The version with the greatest stamp, and its block.
     pub fn newest(&self) -> Option<(Stamp, &Bytes)>
         ensures { option_map (λ found. version found.0 found.1.now) result ≡ newest self.now.log }
     {
-        match last_of(self.added) {
-            Some(entry) => Some((entry.stamp, block_in(self.zero, self.blocks, entry.slot))),
+        match newest_in(self.added) {
+            Some(entry) => Some((entry.stamp, block_in(self.zero, self.blocks, entry.block))),
             None => start_of(self.zero, self.from_start),
         }
     }
@@ -66,8 +67,8 @@ impl<'a> State<'a> {
     pub fn below(&self, bound: Stamp) -> Option<(Stamp, &Bytes)>
         ensures { option_map (λ found. version found.0 found.1.now) result ≡ below bound self.now.log }
     {
-        match last_below(self.added, bound) {
-            Some(entry) => Some((entry.stamp, block_in(self.zero, self.blocks, entry.slot))),
+        match below_in(self.added, bound) {
+            Some(entry) => Some((entry.stamp, block_in(self.zero, self.blocks, entry.block))),
             None => start_below(self.zero, self.from_start, bound),
         }
     }
@@ -79,8 +80,8 @@ impl<'a> State<'a> {
         if let Some(block) = start_at(self.zero, self.from_start, stamp) {
             return Some(block);
         }
-        match find_at(self.added, stamp) {
-            Some(entry) => Some(block_in(self.zero, self.blocks, entry.slot)),
+        match slot_in(self.added, stamp) {
+            Some(slot) => Some(block_in(self.zero, self.blocks, slot)),
             None => None,
         }
     }
@@ -98,14 +99,14 @@ impl<D: Disk> BrickStore<D> {
             Some(kept) => State {
                 order: kept.order,
                 from_start: kept.from_start,
-                added: kept.added.as_slice(),
+                added: Some(&kept.added),
                 blocks,
                 zero,
             },
             None => State {
                 order: Stamp::FIRST,
                 from_start: view.0 == 1,
-                added: &[],
+                added: None,
                 blocks,
                 zero,
             },
@@ -160,25 +161,55 @@ fn start_at(zero: &Bytes, from_start: bool, stamp: Stamp) -> Option<&Bytes>
     }
 }
 
-fn last_of(entries: &[Entry]) -> Option<Entry>
-    ensures { result ≡ last entries.now }
+// How many versions were added.
+fn count_in(added: Option<&VersionLog<u32>>) -> usize
+    ensures value { result ≡ length (added_in (option_copied added.entry)) }
+    ensures bound { result < 2 ^ 63 }
 {
-    entries.last().copied()
+    match added {
+        Some(log) => log.versions().len(),
+        None => 0,
+    }
 }
 
-fn last_below(entries: &[Entry], bound: Stamp) -> Option<Entry>
-    ensures { result ≡ last (filter (λ e. stamp_below e.stamp bound) entries.now) }
+// The newest of them.
+fn newest_in(added: Option<&VersionLog<u32>>) -> Option<Entry>
+    ensures { result ≡ last (added_in (option_copied added.entry)) }
 {
-    let found = entries
-        .iter()
-        .rev()
-        .find(|entry| entry.stamp.is_below(bound));
-    found.copied()
+    match added {
+        Some(log) => entry_of(log.newest()),
+        None => None,
+    }
 }
 
-fn find_at(entries: &[Entry], stamp: Stamp) -> Option<Entry>
-    ensures { result ≡ find (λ e. stamp_same e.stamp stamp) entries.now }
+// The newest of them below a bound.
+fn below_in(added: Option<&VersionLog<u32>>, bound: Stamp) -> Option<Entry>
+    ensures { result ≡ below bound (added_in (option_copied added.entry)) }
 {
-    let found = entries.iter().find(|entry| entry.stamp.is_same(stamp));
-    found.copied()
+    match added {
+        Some(log) => entry_of(log.below(bound)),
+        None => None,
+    }
+}
+
+fn entry_of(found: Option<(Stamp, &u32)>) -> Option<Entry>
+    ensures { result ≡ option_map (λ pair. version pair.0 pair.1.now) found.entry }
+{
+    match found {
+        Some((stamp, slot)) => Some(Version {
+            stamp,
+            block: *slot,
+        }),
+        None => None,
+    }
+}
+
+// The slot of the one with this stamp.
+fn slot_in(added: Option<&VersionLog<u32>>, stamp: Stamp) -> Option<u32>
+    ensures { result ≡ option_map block_of (find (has_stamp stamp) (added_in (option_copied added.entry))) }
+{
+    match added {
+        Some(log) => log.at(stamp).copied(),
+        None => None,
+    }
 }

@@ -2,7 +2,8 @@
 //! Erasure-Coded Virtual Disks", DSN 2004: the log of a process).
 #![tactic(auto)]
 
-mod entries;
 pub mod logs;
+pub mod versions;
 
 pub use logs::VersionLog;
+pub use versions::Version;

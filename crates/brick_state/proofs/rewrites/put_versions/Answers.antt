@@ -2,13 +2,13 @@
 use Rattle.std.proofs.Common.{◌+◌, Some, [], ◌∷◌, ◌++◌, drop, get_or, sym, ap, ◌∙◌, append_assoc, arith}
 use Rattle.std.proofs.lemmas.List.{append-nil, drop_all}
 use Rattle.fab_base.specs.Stamps.{first_stamp}
-use Rattle.brick_state.specs.declared.stripes.Entry.{Entry}
+use Rattle.brick_state.specs.Entries.{Entry}
 use Rattle.brick_state.specs.Rewrites.{version_record, version_records}
 use Rattle.brick_state.proofs.LiveRecords.{versions_step, versions_none}
 use Rattle.brick_state.proofs.rewrites.put_versions.Goals as goal
 
 none : Entry
-none = record { stamp = first_stamp; slot = 0 }
+none = record { stamp = first_stamp; block = 0 }
 
 pub loop-entry-preserved : goal.loop-entry-preserved
 unfolding none

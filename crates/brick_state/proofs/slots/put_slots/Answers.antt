@@ -14,8 +14,8 @@ loop-stripe-preserved c =
     let s = c.in-Some.stripe.now in
     let rest = c.next.new.self in
     let done = c.loop-stripe.slots.items in
-    ap (λ xs. xs ++ slots_in (listed rest)) (c.in_ok-put_entries.ensures ∙ ap (λ xs. done ++ map slot_of xs) c.deref.ensures.value)
-    ∙ append_assoc done (map slot_of s.added.items) (slots_in (listed rest))
+    ap (λ xs. xs ++ slots_in (listed rest)) (c.in_ok-put_entries.ensures ∙ ap (λ xs. done ++ map slot_of xs) c.versions.ensures.value)
+    ∙ append_assoc done (map slot_of s.added.versions.items) (slots_in (listed rest))
     ∙ ap (λ xs. done ++ xs) (sym (slots_step p s rest))
     ∙ ap (λ (es : List (Place × Stripe)). done ++ slots_in (listed es)) (sym c.in-Some.ensures.steps)
     ∙ c.loop-stripe.invariant

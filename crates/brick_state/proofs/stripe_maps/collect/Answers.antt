@@ -18,7 +18,7 @@ pub returns-after-stripe : goal.returns-after-stripe
 returns-after-stripe c =
     let entries = c.args.stripes.now.entries in
     let old = c.in-Some.stripe.now in
-    let new : Stripe = record { order = old.order; from_start = c.if-stripe.stripe; added = c.drop_below.new.entries } in
+    let new : Stripe = record { order = old.order; from_start = c.if-stripe.stripe; added = c.drop_below.new.self } in
     let at = sym c.in-Some.ensures.value in
     let from : c.if-stripe.stripe ≡ (old.from_start && not (stamp_below first_stamp c.args.stamp)) =
     elim c.if-stripe.branch [
@@ -28,7 +28,7 @@ returns-after-stripe c =
     ] in
     ap listed (c.get_mut.follows.holds new).0
     ∙ written_at entries c.get_mut.ensures.ordered c.args.place old new at
-    ∙ ap (λ b. put c.args.place (record { order = old.order; from_start = b; added = c.drop_below.new.entries.items }) (listed entries)) from
+    ∙ ap (λ b. put c.args.place (record { order = old.order; from_start = b; added = c.drop_below.new.self.versions.items }) (listed entries)) from
     ∙ ap (λ items. put c.args.place (record {
       order = old.order;
       from_start = old.from_start && not

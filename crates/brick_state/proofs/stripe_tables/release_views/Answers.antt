@@ -1,12 +1,6 @@
 -- One stripe more is counted less where its place is dropped, and at the end all of these are.
-use Rattle.std.proofs.Common.{◌≡◌, ℕ, ◌+◌, ◌-◌, ◌^◌, ◌<◌, Bool, true, false, ◌&&◌, eqb, ltb, cond, min, List, [], length, get_or, refl, sym, ap, subst, ◌∙◌, arith}
-use Rattle.std.specs.List.{filter, sum_by}
-use Rattle.std.specs.Map.{values_of}
-use Rattle.std.proofs.lemmas.Bool.{eq-eqb, lt-ltb, eqb-true, ltb-true}
-use Rattle.brick_state.specs.declared.stripes.Entry.{Entry}
-use Rattle.brick_state.specs.declared.stripes.Stripe.{Stripe}
-use Rattle.brick_state.specs.States.{Place, StripeOf, live_in, weight, stripe_of, is_of_view}
-use Rattle.brick_state.specs.Maps.{listed}
+use Rattle.std.proofs.Common.{◌≡◌, true, false, ap, ◌∙◌, arith}
+use Rattle.brick_state.specs.States.{live_in, is_of_view}
 use Rattle.brick_state.specs.Tallies.{names_of, names_in}
 use Rattle.brick_state.proofs.Tallies.{live-step, names-step, none_dropped, drops_true, drops_not_group, drops_not_view}
 use Rattle.brick_state.proofs.stripe_tables.release_views.Goals as goal
@@ -32,7 +26,7 @@ loop-place-preserved-then-place-first c =
         arith,
         inv.2 slot within,
         c.release_all.ensures.counts slot (omega (arith, within, inv.0)),
-        ap (names_of slot) c.deref.ensures.value,
+        ap (names_of slot) c.versions.ensures.value,
         names-step slot group first p s c.next.new.self c.loop-place.place-iterator true c.in-Some.ensures.steps gone,
       ),
       omega (arith, c.saturating_add-dropped.ensures),

@@ -1,7 +1,7 @@
 -- One version more.
 use Rattle.std.proofs.Common.{ℕ, max, get_or, take, refl, sym, ap, ◌∙◌, add-one}
 use Rattle.std.proofs.Math.Seq.{take-suc}
-use Rattle.brick_state.specs.declared.stripes.Entry.{Entry}
+use Rattle.brick_state.specs.Entries.{Entry}
 use Rattle.fab_base.specs.Stamps.{first_stamp}
 use Rattle.brick_state.specs.States.{stamp_of}
 use Rattle.brick_state.specs.Times.{greatest}
@@ -13,7 +13,7 @@ unfolding greatest
 loop-entry-init c = refl
 
 none : Entry
-none = record { stamp = first_stamp; slot = 0 }
+none = record { stamp = first_stamp; block = 0 }
 
 pub loop-entry-preserved : goal.loop-entry-preserved
 unfolding none

@@ -1,21 +1,18 @@
 -- The frames of the live records bring the state back, and all memory is taken first.
-use Rattle.std.proofs.Common.{◌≡◌, ◌+◌, ℕ, None, false, List, length, sym, ap, subst, ◌∙◌, arith}
+use Rattle.std.proofs.Common.{◌≡◌, ◌+◌, false, List, length, sym, ap, subst, ◌∙◌, arith}
 use Rattle.std.proofs.lemmas.Result.{err_from_is_err_and}
 use Rattle.frame_store.specs.declared.faults.FrameFault.{FrameFault}
 use Rattle.frame_store.specs.declared.frames.Frame.{Frame}
 use Rattle.frame_store.specs.declared.shapes.Shape.{Shape}
-use Rattle.frame_store.specs.Images.{KeepsSlots}
 use Rattle.frame_store.specs.Listed.{size_of}
 use Rattle.frame_store.specs.Stores.{HasRoom}
 use Rattle.brick_state.specs.States.{empty}
 use Rattle.brick_state.specs.Indexes.{state_of}
 use Rattle.brick_store.specs.Bricks.{fault_of}
 use Rattle.brick_store.specs.Images.{limits_of}
-use Rattle.brick_store.specs.Openings.{IsKeptIn}
 use Rattle.brick_store.specs.Standing.{Leads}
 use Rattle.brick_store.specs.declared.faults.StoreFault.TheVariants.{NoMemory}
-use Rattle.brick_store.proofs.FreshLists.{live_lead, renewed, synced_allowed}
-use Rattle.brick_store.proofs.Starting.{still_allowed}
+use Rattle.brick_store.proofs.FreshLists.{live_lead, renewed}
 use Rattle.brick_store.proofs.Stepping.{memory_refused, refused, room_less}
 use Rattle.brick_store.proofs.fresh_lists.renew.Goals as goal
 

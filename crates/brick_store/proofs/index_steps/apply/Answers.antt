@@ -1,7 +1,7 @@
 -- The index makes the change, since there is room for it.
 use Rattle.std.proofs.Common.{◌≡◌, Bool, Option, Some, Result, Ok, Err, subst}
 use Rattle.std.specs.Result.{IsOk, IfOk}
-use Rattle.brick_state.specs.declared.stripes.Entry.{Entry}
+use Rattle.brick_state.specs.Entries.{Entry}
 use Rattle.brick_state.specs.States.{StateOf}
 use Rattle.brick_state.specs.Indexes.{state_of, limits_of, Answers}
 use Rattle.brick_store.proofs.Stepping.{changed_is}

@@ -1,6 +1,6 @@
 -- The index is what the frames so far lead to.
 use Rattle.std.proofs.Common.{refl, sym, ap, subst, ◌∙◌, Ok, IsOk}
-use Rattle.brick_state.specs.declared.stripes.Entry.{Entry}
+use Rattle.brick_state.specs.Entries.{Entry}
 use Rattle.brick_state.specs.States.{StateOf, empty}
 use Rattle.brick_state.specs.Folds.{Limits}
 use Rattle.brick_state.specs.Indexes.{state_of}

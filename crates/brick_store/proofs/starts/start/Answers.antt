@@ -4,7 +4,7 @@ use Rattle.fab_disk.specs.Disk.{LeavesOnly}
 use Rattle.stamp_store.specs.declared.kept_records.Kept.TheVariants.{Boot}
 use Rattle.frame_store.specs.declared.shapes.Shape.{Shape}
 use Rattle.brick_state.specs.declared.records.Record.TheVariants as forms
-use Rattle.brick_state.specs.declared.stripes.Entry.{Entry}
+use Rattle.brick_state.specs.Entries.{Entry}
 use Rattle.brick_state.specs.States.{StateOf, booted}
 use Rattle.brick_state.specs.Indexes.{state_of}
 use Rattle.brick_state.specs.Indexes as indexes

@@ -1,7 +1,7 @@
 -- The change of the stripe is that of the state.
 use Rattle.std.proofs.Common.{nat_lt, ℕ, Bool, Option, List, length, subst, sym, ◌∙◌, arith}
 use Rattle.std.proofs.lemmas.Bool.{lt-ltb}
-use Rattle.brick_state.specs.declared.stripes.Entry.{Entry}
+use Rattle.brick_state.specs.Entries.{Entry}
 use Rattle.brick_state.specs.States.{Place, stripe_in, StripeOf}
 use Rattle.brick_state.specs.Folds.{place, is_full, log_changed, slot_limits, placed}
 use Rattle.brick_state.specs.Indexes.{state_of, limits_of}

@@ -2,7 +2,7 @@
 use Rattle.std.proofs.Common.{◌≡◌, ℕ, List, [], refl, ap, ◌∙◌, arith}
 use Rattle.std.specs.Prelude.{replicate}
 use Rattle.brick_state.specs.declared.groups.Group.{Group}
-use Rattle.brick_state.specs.declared.stripes.Entry.{Entry}
+use Rattle.brick_state.specs.Entries.{Entry}
 use Rattle.brick_state.specs.States.{no_group, Place, StripeOf, StateOf}
 use Rattle.brick_state.specs.Maps.{listed}
 use Rattle.brick_state.proofs.indexes.Index.new.Goals as goal

@@ -1,9 +1,8 @@
 -- A stamp that adds a live record is set only where there are fewer than there may be.
-use Rattle.std.proofs.Common.{◌≡◌, ◌&&◌, Bool, true, false, not, sym, ap, ◌∙◌}
+use Rattle.std.proofs.Common.{◌≡◌, ◌&&◌, true, false, not, sym, ap, ◌∙◌}
 use Rattle.fab_base.specs.declared.stamps.Stamp.{Stamp}
 use Rattle.fab_base.specs.Stamps.{stamp_same, first_stamp}
 use Rattle.brick_state.specs.Maps.{listed}
-use Rattle.brick_state.specs.States.{stripe_in}
 use Rattle.brick_state.proofs.Tallies.{full_fits}
 use Rattle.brick_state.proofs.indexes.Index.set_order.Goals as goal
 use Rattle.brick_state.proofs.indexes.Index.set_order.Goals.{else-adds-via-then-adds+else-is_full, else-adds-via-else-adds}

@@ -1,6 +1,6 @@
 -- One live record more, and one name more of the version's slot.
-use Rattle.std.proofs.Common.{◌≡◌, ◌+◌, List, get_or, set, subst, sym, ap, ◌∙◌, arith}
-use Rattle.brick_state.specs.declared.stripes.Entry.{Entry}
+use Rattle.std.proofs.Common.{◌+◌, List, get_or, set, subst, sym, ap, arith}
+use Rattle.brick_state.specs.Entries.{Entry}
 use Rattle.brick_state.specs.States.{Place, StripeOf, live_in}
 use Rattle.brick_state.specs.Maps.{listed}
 use Rattle.brick_state.specs.Tallies.{AreNames}
@@ -8,7 +8,7 @@ use Rattle.brick_state.proofs.Tallies.{names-added, live-added, count_fits}
 use Rattle.brick_state.proofs.stripe_tables.StripeTable.add.Goals as goal
 
 pub take-requires : goal.take-requires
-take-requires c = count_fits (listed c.args.self.now.map.entries) c.args.self.now.counts c.args.entry.slot c.args.self.now.named c.requires.fits
+take-requires c = count_fits (listed c.args.self.now.map.entries) c.args.self.now.counts c.args.entry.block c.args.self.now.named c.requires.fits
 
 pub invariant_of-self : goal.invariant_of-self
 invariant_of-self c =
@@ -18,6 +18,6 @@ invariant_of-self c =
       fits = omega (arith, t.counted, c.requires.fits);
       counted = omega (arith, t.counted, ap live_in c.add.ensures.added, live-added stripes c.args.place c.args.entry c.add.ensures.sorted);
       named = subst (λ (counts : List _). AreNames (listed c.add.new.stripes.entries) counts) (sym c.take.ensures)
-          (subst (λ (now : List (Place × StripeOf Entry)). AreNames now (set t.counts c.args.entry.slot (get_or t.counts c.args.entry.slot 0 + 1)))
+          (subst (λ (now : List (Place × StripeOf Entry)). AreNames now (set t.counts c.args.entry.block (get_or t.counts c.args.entry.block 0 + 1)))
           (sym c.add.ensures.added) (names-added stripes t.counts c.args.place c.args.entry c.add.ensures.sorted t.named));
     }

@@ -1,9 +1,9 @@
 -- The names of the dropped versions are counted less.
-use Rattle.std.proofs.Common.{◌≡◌, ◌+◌, ◌-◌, ◌<◌, ◌≤◌, ℕ, List, length, get_or, subst, sym, ap, ◌∙◌, arith}
+use Rattle.std.proofs.Common.{◌-◌, List, length, get_or, subst, sym, ap, ◌∙◌, arith}
 use Rattle.std.specs.List.{filter}
 use Rattle.fab_base.specs.Stamps.{stamp_below}
-use Rattle.brick_state.specs.declared.stripes.Entry.{Entry}
-use Rattle.brick_state.specs.States.{Place, StripeOf, stripe_in, live_in}
+use Rattle.brick_state.specs.Entries.{Entry}
+use Rattle.brick_state.specs.States.{Place, StripeOf, live_in}
 use Rattle.brick_state.specs.Maps.{listed}
 use Rattle.brick_state.specs.Tallies.{AreNames, names_of}
 use Rattle.brick_state.proofs.Tallies.{names-collected, live-collected}

@@ -1,6 +1,6 @@
 -- The names of the versions of the dropped stripes are counted less.
-use Rattle.std.proofs.Common.{◌≡◌, ◌+◌, ◌-◌, ◌<◌, ◌≤◌, ℕ, List, length, get_or, subst, sym, ap, ◌∙◌, arith}
-use Rattle.brick_state.specs.declared.stripes.Entry.{Entry}
+use Rattle.std.proofs.Common.{List, subst, sym, ap, arith}
+use Rattle.brick_state.specs.Entries.{Entry}
 use Rattle.brick_state.specs.States.{Place, StripeOf, live_in, is_of_view}
 use Rattle.brick_state.specs.Maps.{listed}
 use Rattle.brick_state.specs.Tallies.{AreNames}

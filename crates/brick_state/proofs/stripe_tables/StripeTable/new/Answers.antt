@@ -1,5 +1,5 @@
 -- No stripes: no live records, and no names.
-use Rattle.std.proofs.Common.{◌≡◌, ℕ, List, [], replicate, refl, ap, sym, subst, ◌∙◌, arith}
+use Rattle.std.proofs.Common.{◌≡◌, ℕ, List, [], refl, ap, sym, subst, ◌∙◌, arith}
 use Rattle.brick_state.specs.States.{live_in}
 use Rattle.brick_state.specs.Maps.{listed}
 use Rattle.brick_state.specs.Tallies.{AreNames}

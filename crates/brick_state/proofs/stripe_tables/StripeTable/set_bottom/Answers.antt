@@ -1,7 +1,7 @@
 -- The names of the dropped versions are counted less, and that of the new one more.
-use Rattle.std.proofs.Common.{◌≡◌, ◌+◌, ◌-◌, ◌<◌, ℕ, List, length, get_or, set, subst, sym, ap, ◌∙◌, arith}
-use Rattle.brick_state.specs.declared.stripes.Entry.{Entry}
-use Rattle.brick_state.specs.States.{Place, StripeOf, stripe_in, live_in}
+use Rattle.std.proofs.Common.{◌+◌, ◌-◌, ◌<◌, ℕ, List, length, get_or, set, subst, sym, ap, ◌∙◌, arith}
+use Rattle.brick_state.specs.Entries.{Entry}
+use Rattle.brick_state.specs.States.{Place, StripeOf, live_in}
 use Rattle.brick_state.specs.Maps.{listed}
 use Rattle.brick_state.specs.Tallies.{AreNames, names_of}
 use Rattle.brick_state.proofs.Tallies.{names-bottom, live-bottom, added_within, less_fits, bottom_fits}
@@ -36,7 +36,7 @@ take-requires c =
     let t = c.args.self.now in
     let most = t.fits in
     let stripes = listed t.map.entries in
-    less_fits stripes t.counts c.release_all-dropped.new.counts c.args.place c.args.entry.slot c.added.ensures.sorted t.named
+    less_fits stripes t.counts c.release_all-dropped.new.counts c.args.place c.args.entry.block c.added.ensures.sorted t.named
     (omega (arith, t.counted, most))
     c.requires.fits c.release_all-dropped.ensures.length
     (λ s within. c.release_all-dropped.ensures.counts s within ∙ ap (λ (es : List Entry). get_or t.counts s 0 - names_of s es) c.added.ensures.added)
@@ -61,7 +61,7 @@ invariant_of-self c =
         added_within stripes c.args.place sorted,
       );
       named = subst (λ (counts : List ℕ). AreNames (listed c.set_bottom.new.stripes.entries) counts) (sym c.take.ensures)
-          (subst (λ (now : List (Place × StripeOf Entry)). AreNames now (set less c.args.entry.slot (get_or less c.args.entry.slot 0 + 1)))
+          (subst (λ (now : List (Place × StripeOf Entry)). AreNames now (set less c.args.entry.block (get_or less c.args.entry.block 0 + 1)))
           (sym c.set_bottom.ensures) (names-bottom stripes t.counts less c.args.place c.args.entry sorted t.named c.release_all-dropped.ensures.length
           (λ s within. c.release_all-dropped.ensures.counts s within ∙ ap (λ (es : List Entry). get_or t.counts s 0 - names_of s es) c.added.ensures.added)));
     }

@@ -1,6 +1,6 @@
 -- One live record more or less, as the stamps say, and the same names.
-use Rattle.std.proofs.Common.{◌≡◌, ◌<◌, ℕ, ◌&&◌, Bool, not, List, subst, sym, ap, ◌∙◌, arith}
-use Rattle.brick_state.specs.declared.stripes.Entry.{Entry}
+use Rattle.std.proofs.Common.{◌<◌, ℕ, ◌&&◌, Bool, not, List, subst, sym, ap, ◌∙◌, arith}
+use Rattle.brick_state.specs.Entries.{Entry}
 use Rattle.brick_state.specs.States.{Place, StripeOf, live_in}
 use Rattle.brick_state.specs.Maps.{listed}
 use Rattle.brick_state.specs.Tallies.{AreNames, order_weight}

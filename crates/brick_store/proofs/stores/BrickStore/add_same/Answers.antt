@@ -36,7 +36,7 @@ invariant_of-self g c =
     let above = above_of size x.blocks (stripe_at st p) c.args.stamp None next in
     standing_plain d.tells d.seen d.may_leave d.moment d.left_since d.faults d.sound x.blocks x.zero x.frames c.commit.new.frames x.index c.commit.new.index
     (forms.Logged (record { group = c.args.group; view = c.args.view; stripe = c.args.stripe; stamp = c.args.stamp; change = Same }))
-    (added p (entry c.args.stamp u.0.slot) st) c.commit.result c.self.invariant c.in_ok-ready.ensures.runs
+    (added p (entry c.args.stamp u.0.block) st) c.commit.result c.self.invariant c.in_ok-ready.ensures.runs
     (same_applied (limits_of x.index) c.args.group c.args.view c.args.stripe c.args.stamp u.0 st c.requires.group
     (c.in_ok-ready.ensures.free refl) u.1 above)
     (λ P zero all. slots_same P p c.args.stamp u.0 st u.1 zero all) c.self.invariant.indexed.members c.commit.ensures.limits c.commit.ensures.step c.commit.ensures.made c.commit.ensures.not_made
@@ -54,13 +54,13 @@ returns g c =
     let above = above_of size x.blocks (stripe_at st p) t None next in
     let tried = changes_plain d.tells d.seen d.may_leave d.moment d.left_since d.faults d.sound x.blocks x.zero x.frames c.commit.new.frames x.index
     (forms.Logged (record { group = c.args.group; view = c.args.view; stripe = c.args.stripe; stamp = t; change = Same }))
-    (state_of c.commit.new.index) (added p (entry t u.0.slot) st) true c.commit.result c.self.invariant c.in_ok-ready.ensures.runs c.in_ok-ready.ensures.free
+    (state_of c.commit.new.index) (added p (entry t u.0.block) st) true c.commit.result c.self.invariant c.in_ok-ready.ensures.runs c.in_ok-ready.ensures.free
     (same_applied (limits_of x.index) c.args.group c.args.view c.args.stripe t u.0 st c.requires.group (c.in_ok-ready.ensures.free refl) u.1 above)
     (λ P zero all. slots_same P p t u.0 st u.1 zero all) c.commit.ensures.step c.commit.ensures.made c.commit.ensures.not_made c.commit.ensures.cause c.commit.ensures.counted in
     told_of d.tells d.seen d.may_leave d.moment d.left_since d.faults d.sound x.blocks x.frames c.commit.new.frames st (state_of c.commit.new.index)
-    (added p (entry t u.0.slot) st) c.args.self.now
+    (added p (entry t u.0.block) st) c.args.self.now
     (with_version c.args.self.now.shape.block p t None) (λ s. true) true 4 c.commit.result c.self.view_is
-    (with_version_seen x.blocks x.frames st p t None u.0.slot c.args.self.now c.self.view_is
+    (with_version_seen x.blocks x.frames st p t None u.0.block c.args.self.now c.self.view_is
     (same_block size x.blocks (stripe_at st p) u.0 u.1)) refl tried
 
 pub returns-in_err-ready : goal.returns-in_err-ready

@@ -1,6 +1,6 @@
 -- What the index and the blocks in memory say is what a clause sees.
 use Rattle.std.proofs.Common.{List, ap, sym, subst, ◌∙◌}
-use Rattle.brick_state.specs.declared.stripes.Entry.{Entry}
+use Rattle.brick_state.specs.Entries.{Entry}
 use Rattle.brick_state.specs.States.{StripeOf, stripe_at}
 use Rattle.brick_state.specs.Folds.{place}
 use Rattle.brick_state.specs.Indexes.{state_of}
@@ -19,7 +19,7 @@ invariant_of-t-11 g c =
     let size = x.frames.shape.block in
     let p = place c.args.group c.args.view c.args.stripe in
     let all = cached_held size x.blocks (stripe_at st p).added (slots_at (IsCached size x.blocks) p st.stripes c.self.invariant.cached_all) in
-    subst (λ (es : List Entry). AllHeld x.blocks es) (ap (λ (s : StripeOf Entry). s.added) c.in-Some.ensures.some ∙ sym c.as_slice.ensures.value) all
+    subst (λ (es : List Entry). AllHeld x.blocks es) (ap (λ (s : StripeOf Entry). s.added) c.in-Some.ensures.some) all
 
 pub returns-in-Some-clause-order : goal.returns-in-Some-clause-order
 returns-in-Some-clause-order g c =
@@ -34,9 +34,8 @@ returns-in-Some-clause-log g c =
     let x = c.self.inside in
     let st = state_of x.index in
     let p = place c.args.group c.args.view c.args.stripe in
-    log_seen x.frames.shape.block x.zero x.blocks st p c.in-Some.kept.now.from_start c.as_slice.result.now c.self.invariant.zero_is
-    (ap (λ (s : StripeOf Entry). s.from_start) c.in-Some.ensures.some) (ap (λ (s : StripeOf Entry). s.added) c.in-Some.ensures.some
-    ∙ sym c.as_slice.ensures.value)
+    log_seen x.frames.shape.block x.zero x.blocks st p c.in-Some.kept.now.from_start c.in-Some.kept.now.added.versions.items c.self.invariant.zero_is
+    (ap (λ (s : StripeOf Entry). s.from_start) c.in-Some.ensures.some) (ap (λ (s : StripeOf Entry). s.added) c.in-Some.ensures.some)
     ∙ ap (λ (b : Brick g.row.D.Denot). log_at b.shape.block b.state p) c.self.view_is
 
 pub returns-in-None-clause-order : goal.returns-in-None-clause-order
