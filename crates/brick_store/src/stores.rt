@@ -8,7 +8,7 @@ ghost use Rattle.brick_store.specs.Blocks.{log_at, version_stamp, HasStamp, IsSe
 ghost use Rattle.brick_store.specs.Calls.{version_calls};
 ghost use Rattle.brick_store.specs.Changes.{Changes};
 
-use crate::additions::{forget_refused, hold_new};
+use crate::additions::{forget_refused, held_under, hold_new};
 use crate::commits::{commit, commit_with, ready};
 use crate::faults::StoreFault;
 use crate::index_steps::{accepted_of, adds_stamp, learnt_view};
@@ -274,7 +274,7 @@ impl<D: Disk> BrickStore<D> {
             (with_version self.old.shape.block (place group view stripe) stamp (Some block) self.old.state) true 5 result }
     {
         ready(&self.frames, &self.index, true)?;
-        let slot = hold_new(self.alloc, &self.index, &mut self.blocks, &block)?;
+        let slot = hold_new(&self.index, &mut self.blocks, block)?;
         let item = Record::Logged(Logged {
             group,
             view,
@@ -291,7 +291,7 @@ impl<D: Disk> BrickStore<D> {
             &mut self.index,
             &item,
             slot,
-            block.as_slice(),
+            held_under(&self.blocks, slot),
         );
         forget_refused(&mut self.blocks, slot, answer)
     }

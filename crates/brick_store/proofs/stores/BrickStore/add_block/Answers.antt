@@ -1,5 +1,6 @@
 -- The record of a version with a block of its own.
 use Rattle.std.proofs.Common.{◌<◌, Result, true, false, Some, length, refl, sym, ap, subst, ◌∙◌, arith}
+use Rattle.std.proofs.lemmas.Option.{same_Some}
 use Rattle.std.proofs.lemmas.Result.{err_from_is_err_and}
 use Rattle.stamp_store.specs.declared.log_records.LogChange.TheVariants.{Slot}
 use Rattle.brick_state.specs.declared.records.Record.TheVariants as forms
@@ -77,13 +78,13 @@ invariant_of-self-2 g c =
     let last = c.forget_refused.new.blocks in
     let settled = same_settled now last slot st (state_of c.commit_with-answer.new.index) c.commit_with-answer.result c.forget_refused.ensures.added c.forget_refused.ensures.others c.commit_with-answer.ensures.not_made c.in_ok-slot.ensures.unnamed in
     standing_same d.tells d.seen d.may_leave d.moment d.left_since d.faults d.sound now last x.zero c.commit_with-answer.new.frames c.commit_with-answer.new.index settled
-    (standing_put d.tells d.seen d.may_leave d.moment d.left_since d.faults d.sound slot c.as_slice.result.now now x.zero x.frames c.commit_with-answer.new.frames x.index c.commit_with-answer.new.index
+    (standing_put d.tells d.seen d.may_leave d.moment d.left_since d.faults d.sound slot c.held_under.result.now now x.zero x.frames c.commit_with-answer.new.frames x.index c.commit_with-answer.new.index
     (forms.Logged (record { group = c.args.group; view = c.args.view; stripe = c.args.stripe; stamp = t; change = Slot false slot }))
     (added p (entry t slot) st) c.commit_with-answer.result standing c.in_ok-ready.ensures.runs
     (slot_applied (limits_of x.index) c.args.group c.args.view c.args.stripe t slot st c.requires.group
     (c.in_ok-ready.ensures.free refl) c.in_ok-slot.ensures.slot above)
-    (λ P here all. slots_added P p t slot st here all) small (c.in_ok-slot.ensures.held ∙ ap Some (sym c.as_slice.ensures.value))
-    (ap length c.as_slice.ensures.value ∙ c.requires.block
+    (λ P here all. slots_added P p t slot st here all) small c.held_under.ensures
+    (ap length (same_Some _ _ (sym c.held_under.ensures ∙ c.in_ok-slot.ensures.held)) ∙ c.requires.block
     ∙ sym (ap (λ (b : Brick g.row.D.Denot). b.shape.block) c.self.view_is)) c.in_ok-slot.ensures.unnamed
     c.self.invariant.indexed.members c.commit_with-answer.ensures.limits c.commit_with-answer.ensures.step c.commit_with-answer.ensures.made c.commit_with-answer.ensures.not_made)
 
@@ -106,14 +107,14 @@ returns g c =
       c.self.invariant.limits.few_slots,
     ) in
     let view = brick_same x.blocks now x.frames st c.hold_new.ensures.same ∙ c.self.view_is in
-    let tried = changes_put d.tells d.seen d.may_leave d.moment d.left_since d.faults d.sound slot c.as_slice.result.now now x.zero x.frames c.commit_with-answer.new.frames x.index
+    let tried = changes_put d.tells d.seen d.may_leave d.moment d.left_since d.faults d.sound slot c.held_under.result.now now x.zero x.frames c.commit_with-answer.new.frames x.index
     (forms.Logged (record { group = c.args.group; view = c.args.view; stripe = c.args.stripe; stamp = t; change = Slot false slot }))
     (state_of c.commit_with-answer.new.index) (added p (entry t slot) st) c.commit_with-answer.result standing c.in_ok-ready.ensures.runs
     (c.in_ok-ready.ensures.free refl)
     (slot_applied (limits_of x.index) c.args.group c.args.view c.args.stripe t slot st c.requires.group
     (c.in_ok-ready.ensures.free refl) c.in_ok-slot.ensures.slot above)
     (λ P here all. slots_added P p t slot st here all) small
-    (c.in_ok-slot.ensures.held ∙ ap Some (sym c.as_slice.ensures.value)) c.in_ok-slot.ensures.unnamed
+    c.held_under.ensures c.in_ok-slot.ensures.unnamed
     c.commit_with-answer.ensures.step c.commit_with-answer.ensures.made c.commit_with-answer.ensures.not_made c.commit_with-answer.ensures.cause c.commit_with-answer.ensures.counted in
     let last = c.forget_refused.new.blocks in
     let B = Brick g.row.D.Denot in
