@@ -1,7 +1,8 @@
 -- What the first node of a tree of slots has.
-use Rattle.std.proofs.Common.{◌≡◌, ◌⊎◌, inl, inr, ⊎_elim, ℕ, zero, suc, ◌+◌, ◌*◌, ◌-◌, ◌<◌, ◌≤◌, List, length, get_or, refl, sym, ap, subst, ◌∙◌, arith}
-use Rattle.std.proofs.lemmas.Bool.{cases_lt}
-use Rattle.brick_state.specs.SlotTrees.{IsTree, IsTreeOf, IsLeastUnused, leaf}
+use Rattle.std.proofs.Common.{◌≡◌, ◌⊎◌, inl, inr, ⊎_elim, ℕ, zero, suc, ◌+◌, ◌*◌, ◌-◌, ◌<◌, ◌≤◌, List, length, get_or, refl, sym, ap, subst, ◌∙◌, arith, ◌≢◌, [], ◌∷◌, ◌++◌, replicate}
+use Rattle.std.proofs.lemmas.Bool.{cases_lt, cases_eq}
+use Rattle.std.proofs.Math.ListN.{get_or-eq_default}
+use Rattle.brick_state.specs.SlotTrees.{IsTree, IsTreeOf, IsLeastUnused, IsJoined, leaf}
 
 -- the half of a number
 half : (i : ℕ) → (p : ℕ) × ((i ≡ 2 * p) ⊎ (i ≡ 2 * p + 1))
@@ -70,13 +71,11 @@ node_found least counts tree (suc fuel) i enough some within = ⊎_elim (inside 
         subst (λ (n : ℕ). IsFound counts (get_or least n 0)) here
         (leaf_found counts slot (get_or counts slot 0) (get_or least (length counts + slot) 0) slot_lt refl (tree.leaves slot slot_lt))
 
--- it is the least slot whose count is 0
-pub root_least : (least counts : List ℕ) → IsTreeOf least counts → 1 ≤ length counts → IsLeastUnused counts (get_or least 1 0)
-root_least least counts tree some = record {
-  least = below;
-  unused = λ other within unused. ⊎_elim (λ none. absurd (omega (arith, none, below other within unused, within, tree.few))) (λ found. found)
-      (node_found least counts tree (2 * length counts) 1 (omega arith) (omega arith) (omega (arith, some)));
-}
+-- the least slot whose count is 0 is that of the first node, or the table's length where it has none
+pub first_least : (least counts : List ℕ) (slot : ℕ) → IsTreeOf least counts → 1 ≤ length counts
+    → (get_or least 1 0 ≡ 4294967295 → slot ≡ length counts) → (get_or least 1 0 ≢ 4294967295 → slot ≡ get_or least 1 0)
+    → IsLeastUnused counts slot
+first_least least counts slot tree some none one = ⊎_elim full free (cases_eq (get_or least 1 0) 4294967295)
   where
     below : (other : ℕ) → other < length counts → get_or counts other 0 ≡ 0 → get_or least 1 0 ≤ other
     below other within unused = omega (
@@ -84,3 +83,45 @@ root_least least counts tree some = record {
       root_below (length counts) least tree.tree (length counts + other) (length counts + other) (omega arith) (omega (arith, some)) (omega (arith, within)),
       tree.leaves other within ∙ ap (leaf other) unused,
     )
+
+    full : get_or least 1 0 ≡ 4294967295 → IsLeastUnused counts slot
+    full is = record {
+      unused = get_or-eq_default counts 0 {n = slot} (omega (arith, none is));
+      least = λ other unused. ⊎_elim (λ within. absurd (omega (arith, below other within unused, is, within, tree.few)))
+          (λ past. omega (arith, none is, past)) (cases_lt other (length counts));
+    }
+
+    free : get_or least 1 0 ≢ 4294967295 → IsLeastUnused counts slot
+    free other = ⊎_elim (λ is. absurd (other is)) (λ found. record {
+      unused = subst (λ (n : ℕ). get_or counts n 0 ≡ 0) (sym (one other)) found.1;
+      least = λ more unused. ⊎_elim (λ within. omega (arith, one other, below more within unused))
+          (λ past. omega (arith, one other, found.0, past)) (cases_lt more (length counts));
+    }) (node_found least counts tree (2 * length counts) 1 (omega arith) (omega arith) (omega (arith, some)))
+
+pub empty_least : (counts : List ℕ) → length counts ≡ 0 → IsLeastUnused counts 0
+empty_least counts none = record { unused = get_or-eq_default counts 0 {n = 0} (omega (arith, none)); least = λ other unused. omega arith }
+
+-- ---- the loops over the nodes
+
+-- while nodes are written upward: all are joined but the one above this node
+pub record IsClimbing (slots : ℕ) (leaves least : List ℕ) (node : ℕ) : Type 0 where
+  pub size : length least ≡ 2 * slots
+  pub within : node < 2 * slots
+  pub above : 1 ≤ node
+  pub same : (i : ℕ) → slots ≤ i → get_or least i 0 ≡ get_or leaves i 0
+  pub inner : (i : ℕ) → 1 ≤ i → i < slots → node ≢ 2 * i → node ≢ 2 * i + 1 → IsJoined least i
+
+-- while nodes are written downward: those from this one on are as they are to be where slots have these counts
+pub record IsBuilt (slots : ℕ) (counts least : List ℕ) (node : ℕ) : Type 0 where
+  pub size : length least ≡ 2 * slots
+  pub within : node ≤ 2 * slots
+  pub leaves : (slot : ℕ) → slot < slots → node ≤ slots + slot → get_or least (slots + slot) 0 ≡ leaf slot (get_or counts slot 0)
+  pub inner : (i : ℕ) → 1 ≤ i → node ≤ i → i < slots → IsJoined least i
+
+-- counts that were made longer by zeros
+pub padded_count : (counts : List ℕ) (more slot : ℕ) → get_or (counts ++ replicate more 0) slot 0 ≡ get_or counts slot 0
+padded_count [] zero slot = refl
+padded_count [] (suc more) zero = refl
+padded_count [] (suc more) (suc slot) = padded_count [] more slot
+padded_count (x ∷ counts) more zero = refl
+padded_count (x ∷ counts) more (suc slot) = padded_count counts more slot

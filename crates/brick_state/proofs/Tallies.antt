@@ -1,24 +1,28 @@
 -- What is counted of the stripes, after each change of them.
-use Rattle.std.proofs.Common.{◌≡◌, ◌≢◌, ℕ, zero, suc, ◌+◌, ◌-◌, ◌<◌, ◌≤◌, Bool, true, false, not, ◌&&◌, cond, eqb, ltb, leb, List, [], ◌∷◌, ◌++◌, length, get_or, set, replicate, map, refl, sym, ap, subst, ◌∙◌, ⊎_elim, arith}
+use Rattle.std.proofs.Common.{◌≡◌, ◌≢◌, ℕ, zero, suc, ◌+◌, ◌-◌, ◌<◌, ◌≤◌, Bool, true, false, not, ◌&&◌, cond, eqb, ltb, leb, List, [], ◌∷◌, ◌++◌, length, get_or, set, map, refl, sym, ap, subst, ◌∙◌, ◌⊎◌, inl, inr, ⊎_elim, Option, Some, None, arith}
 use Rattle.std.specs.List.{AllByRecursion, Contains, count_by, sum_by, filter}
 use Rattle.std.specs.List.Sorted.{IsStrictlySortedBy}
 use Rattle.std.specs.Map.{keys_of, values_of}
+use Rattle.std.specs.Option.{IfSome}
 use Rattle.std.proofs.lemmas.Bool.{cases_eq, cases_lt, eqb-true, eq-eqb, lt-ltb, leb-false}
 use Rattle.std.proofs.lemmas.Bool.Decides.{nat_tests}
-use Rattle.std.proofs.lemmas.List.{get_or-set_same, get_or-set_other, get_or-replicate, length-set, length_push, length-replicate}
+use Rattle.std.proofs.lemmas.Option.{same_Some, none-some}
+use Rattle.std.proofs.lemmas.List.{get_or-set_same, get_or-set_other, length-set, length_push}
 use Rattle.std.proofs.Math.ListN.{get_or-eq_default}
 use Rattle.std.proofs.lemmas.List.Sums.{sum_by-cons, sum_by-append, count_by-le-length}
 use Rattle.std.proofs.lemmas.List.Filters.{sum_by-filter_both}
 use Rattle.brick_state.specs.Entries.{Entry}
 use Rattle.brick_state.specs.declared.stripes.Stripe.{Stripe}
-use Rattle.brick_state.specs.States.{Place, StripeOf, place_cmp, first_stripe, is_first, stripe_in, stripe_of, stamp_of, put, weight, live_in, with_added, with_bottom, with_order, with_collected, is_of_view}
+use Rattle.brick_state.specs.States.{Place, StripeOf, place_cmp, first_stripe, is_first, stripe_in, stripe_of, stamp_of, put, weight, live_in, with_added, with_bottom, with_order, with_collected, is_of_view, newest_entry}
 use Rattle.brick_state.specs.Maps.{listed, seen_entry, is_listed}
 use Rattle.fab_base.specs.declared.stamps.Stamp.{Stamp}
 use Rattle.fab_base.specs.Stamps.{stamp_below, stamp_same, first_stamp}
 use Rattle.brick_state.proofs.StripeMaps.{is_first-true}
 use Rattle.brick_state.specs.Slots.{slot_of, slots_in, IsFree}
 use Rattle.brick_state.specs.SlotTrees.{IsLeastUnused}
-use Rattle.brick_state.specs.Tallies.{names_of, names_in, AreNames, order_weight}
+use Rattle.brick_state.specs.Tallies.{names_of, names_in, AreNames, NoneBeyond, HasSlotRoom, order_weight}
+use Rattle.brick_state.specs.Rewrites.{start_of}
+use Rattle.brick_state.proofs.SoundStripes.{newest_of, newest_entry_is}
 use Rattle.brick_state.proofs.FreeSlots.{any_free, slots_few}
 use Rattle.brick_state.proofs.Preserving.{sum-put, live-put, weight_none}
 
@@ -94,21 +98,44 @@ contains_not slot [] all (k, lt, e) = absurd (omega (arith, lt))
 contains_not slot (x ∷ xs) all (zero, lt, e) = all.0 e
 contains_not slot (x ∷ xs) all (suc k, lt, e) = contains_not slot xs all.1 (k, omega (arith, lt), e)
 
+-- a count past the end is 0
+count_past : (counts : List ℕ) (slot : ℕ) → length counts ≤ slot → get_or counts slot 0 ≡ 0
+count_past counts slot past = get_or-eq_default counts 0 {n = slot} past
+
+-- each slot's count, past the end too
+counted_at : (slots : ℕ) (stripes : Stripes) (counts : List ℕ) → AreNames stripes counts → NoneBeyond slots stripes counts
+    → (slot : ℕ) → slot < slots → get_or counts slot 0 ≡ names_in slot stripes
+counted_at slots stripes counts are beyond slot is_slot = ⊎_elim (λ within. are slot within)
+    (λ past. count_past counts slot past ∙ sym (beyond slot past is_slot)) (cases_lt slot (length counts))
+
 -- the least slot whose count is 0 is the least that no version names
-pub least_free : (stripes : Stripes) (counts : List ℕ) (slot : ℕ) → AreNames stripes counts → live_in stripes < length counts
-    → IsLeastUnused counts slot → IsFree (length counts) (slots_in stripes) slot
-least_free stripes counts slot are few is =
-    let some = any_free (length counts) (slots_in stripes) (omega (arith, few, slots_few stripes)) in
+pub least_free : (slots : ℕ) (stripes : Stripes) (counts : List ℕ) (slot : ℕ) → AreNames stripes counts → NoneBeyond slots stripes counts
+    → live_in stripes < slots → IsLeastUnused counts slot → IsFree slots (slots_in stripes) slot
+least_free slots stripes counts slot are beyond few is =
+    let some = any_free slots (slots_in stripes) (omega (arith, few, slots_few stripes)) in
     found some.0 some.1
   where
-    found : (i : ℕ) → IsFree (length counts) (slots_in stripes) i → IsFree (length counts) (slots_in stripes) slot
+    found : (i : ℕ) → IsFree slots (slots_in stripes) i → IsFree slots (slots_in stripes) slot
     found i free =
-        let unused : get_or counts i 0 ≡ 0 = are i free.is_slot ∙ names-slots i stripes ∙ none_named i (slots_in stripes) free.unused in
-        let here = is.unused i free.is_slot unused in
-        let none = not_named slot (slots_in stripes) (sym (names-slots slot stripes) ∙ sym (are slot here.0) ∙ here.1) in
-        ⊎_elim (λ lower. absurd (contains_not slot (slots_in stripes) none (free.least slot lower)))
-        (λ past. subst (λ (s : ℕ). IsFree (length counts) (slots_in stripes) s) (omega (arith, past, is.least i free.is_slot unused)) free)
+        let unused : get_or counts i 0 ≡ 0 = counted_at slots stripes counts are beyond i free.is_slot ∙ names-slots i stripes
+        ∙ none_named i (slots_in stripes) free.unused in
+        let lower : slot ≤ i = is.least i unused in
+        let here : slot < slots = omega (arith, lower, free.is_slot) in
+        let none = not_named slot (slots_in stripes)
+        (sym (names-slots slot stripes) ∙ sym (counted_at slots stripes counts are beyond slot here) ∙ is.unused) in
+        ⊎_elim (λ below. absurd (contains_not slot (slots_in stripes) none (free.least slot below)))
+        (λ past. subst (λ (s : ℕ). IsFree slots (slots_in stripes) s) (omega (arith, past, lower)) free)
         (cases_lt slot i)
+
+-- the counts of a longer table
+pub names-grown : (slots : ℕ) (stripes : Stripes) (counts grown : List ℕ) → AreNames stripes counts → NoneBeyond slots stripes counts
+    → ((slot : ℕ) → get_or grown slot 0 ≡ get_or counts slot 0) → length grown ≤ slots → AreNames stripes grown
+names-grown slots stripes counts grown are beyond same most slot within =
+    same slot ∙ counted_at slots stripes counts are beyond slot (omega (arith, within, most))
+
+pub beyond-grown : (slots : ℕ) (stripes : Stripes) (counts grown : List ℕ) → NoneBeyond slots stripes counts → length counts ≤ length grown
+    → NoneBeyond slots stripes grown
+beyond-grown slots stripes counts grown beyond longer slot past is_slot = beyond slot (omega (arith, past, longer)) is_slot
 
 -- ---- changes of a stripe
 
@@ -137,6 +164,73 @@ names-put stripes counts counts' p s sorted are size counted slot within =
     let old : slot < length counts = omega (arith, within, size) in
     let few : names_of slot (stripe_in stripes p).added ≤ get_or counts slot 0 = omega (arith, are slot old, names_within slot stripes p sorted) in
     omega (arith, counted slot old few, are slot old, sum-put (λ t. names_of slot t.added) (names_none slot) p s stripes sorted)
+
+-- past the counts too, where the stripe that was put in place names no more slots there than the one before
+pub beyond-put : (slots : ℕ) (stripes : Stripes) (counts counts' : List ℕ) (p : Place) (s : StripeOf Entry) → IsStrictlySortedBy place_cmp (keys_of stripes)
+    → NoneBeyond slots stripes counts → length counts' ≡ length counts
+    → ((slot : ℕ) → length counts ≤ slot → slot < slots → names_of slot s.added ≤ names_of slot (stripe_in stripes p).added)
+    → NoneBeyond slots (put p s stripes) counts'
+beyond-put slots stripes counts counts' p s sorted beyond size fewer slot past is_slot =
+    let old : length counts ≤ slot = omega (arith, past, size) in
+    omega (arith, beyond slot old is_slot, fewer slot old is_slot, sum-put (λ t. names_of slot t.added) (names_none slot) p s stripes sorted)
+
+-- a version whose slot has a count names none past the counts
+other_named : (slots : ℕ) (counts : List ℕ) (e : Entry) (slot : ℕ) → HasSlotRoom slots counts e.block → length counts ≤ slot → slot < slots
+    → names_of slot (e ∷ []) ≡ 0
+other_named slots counts e slot room past is_slot = omega (
+  arith,
+  names-cons slot e [],
+  ap {B = ℕ} (λ (b : Bool). cond b 1 0)
+      (differs e.block slot (λ is. omega (arith, past, room (subst (λ (n : ℕ). n < slots) (sym is) is_slot), is))),
+)
+
+pub beyond-added : (slots : ℕ) (stripes : Stripes) (counts counts' : List ℕ) (p : Place) (e : Entry) → IsStrictlySortedBy place_cmp (keys_of stripes)
+    → NoneBeyond slots stripes counts → length counts' ≡ length counts → HasSlotRoom slots counts e.block
+    → NoneBeyond slots (put p (with_added e (stripe_in stripes p)) stripes) counts'
+beyond-added slots stripes counts counts' p e sorted beyond size room =
+    beyond-put slots stripes counts counts' p (with_added e (stripe_in stripes p)) sorted beyond size
+    (λ slot past is_slot. omega (arith, names-append slot (stripe_in stripes p).added (e ∷ []), other_named slots counts e slot room past is_slot))
+
+pub beyond-bottom : (slots : ℕ) (stripes : Stripes) (counts counts' : List ℕ) (p : Place) (e : Entry) → IsStrictlySortedBy place_cmp (keys_of stripes)
+    → NoneBeyond slots stripes counts → length counts' ≡ length counts → HasSlotRoom slots counts e.block
+    → NoneBeyond slots (put p (with_bottom e (stripe_in stripes p)) stripes) counts'
+beyond-bottom slots stripes counts counts' p e sorted beyond size room =
+    beyond-put slots stripes counts counts' p (with_bottom e (stripe_in stripes p)) sorted beyond size
+    (λ slot past is_slot. omega (arith, other_named slots counts e slot room past is_slot))
+
+-- the newest version's slot has a count
+newest_one : (slots : ℕ) (stripes : Stripes) (counts : List ℕ) (p : Place) (e : Entry) → slots ≤ 4294967295
+    → IsStrictlySortedBy place_cmp (keys_of stripes) → NoneBeyond slots stripes counts → Some e ≡ newest_entry (stripe_in stripes p)
+    → HasSlotRoom slots counts e.block
+newest_one slots stripes counts p e few sorted beyond at is_slot = ⊎_elim (λ within. within)
+    (λ past. absurd (omega (arith, named_once, names_within e.block stripes p sorted, beyond e.block past is_slot)))
+    (cases_lt e.block (length counts))
+  where
+    named_or : (under : Option Entry) (added : List Entry) → newest_of under added ≡ Some e → (under ≡ Some e) ⊎ (1 ≤ names_of e.block added)
+    named_or under [] h = inl h
+    named_or under (x ∷ added) h = ⊎_elim
+        (λ same. inr (omega (
+          arith,
+          names-cons e.block x added,
+          ap {B = ℕ} (λ (b : Bool). cond b 1 0)
+              (eq-eqb x.block e.block (ap (λ (v : Entry). v.block) (same_Some _ _ same))),
+        )))
+        (λ more. inr (omega (arith, more, names-cons e.block x added)))
+        (named_or (Some x) added h)
+
+    not_start : (from : Bool) → start_of from ≡ Some e → ⊥
+    not_start true h = omega (arith, few, is_slot, ap (λ (v : Entry). v.block) (same_Some _ _ h))
+    not_start false h = none-some e h
+
+    named_once : 1 ≤ names_of e.block (stripe_in stripes p).added
+    named_once = ⊎_elim (λ start. absurd (not_start (stripe_in stripes p).from_start start)) (λ more. more)
+        (named_or (start_of (stripe_in stripes p).from_start) (stripe_in stripes p).added (sym (newest_entry_is (stripe_in stripes p)) ∙ sym at))
+
+pub newest_counted : (slots : ℕ) (stripes : Stripes) (counts : List ℕ) (p : Place) → slots ≤ 4294967295
+    → IsStrictlySortedBy place_cmp (keys_of stripes) → NoneBeyond slots stripes counts → (found : Option Entry)
+    → found ≡ newest_entry (stripe_in stripes p) → IfSome found (λ e. HasSlotRoom slots counts e.block)
+newest_counted slots stripes counts p few sorted beyond None at = tt
+newest_counted slots stripes counts p few sorted beyond (Some e) at = newest_one slots stripes counts p e few sorted beyond at
 
 -- the count of a slot after a version more
 pub count_more : (counts : List ℕ) (e : Entry) (slot : ℕ) → slot < length counts
@@ -309,6 +403,13 @@ names-collected stripes counts less p t sorted are size released =
     names-put stripes counts less p (with_collected stamp_of t (stripe_in stripes p)) sorted are size
     (λ slot within few. omega (arith, released slot within, few, names_split slot t (stripe_in stripes p).added))
 
+pub beyond-collected : (slots : ℕ) (stripes : Stripes) (counts less : List ℕ) (p : Place) (t : Stamp) → IsStrictlySortedBy place_cmp (keys_of stripes)
+    → NoneBeyond slots stripes counts → length less ≡ length counts
+    → NoneBeyond slots (put p (with_collected stamp_of t (stripe_in stripes p)) stripes) less
+beyond-collected slots stripes counts less p t sorted beyond size =
+    beyond-put slots stripes counts less p (with_collected stamp_of t (stripe_in stripes p)) sorted beyond size
+    (λ slot past is_slot. omega (arith, names_split slot t (stripe_in stripes p).added))
+
 pub live-collected : (stripes : Stripes) (p : Place) (t : Stamp) → IsStrictlySortedBy place_cmp (keys_of stripes)
     → live_in (put p (with_collected stamp_of t (stripe_in stripes p)) stripes) + length (filter (is_old t) (stripe_in stripes p).added) ≡ live_in stripes
 live-collected stripes p t sorted = omega (
@@ -341,6 +442,11 @@ pub names-filter : (drops : Place → Bool) (stripes : Stripes) (counts less : L
 names-filter drops stripes counts less are size released slot within =
     let old : slot < length counts = omega (arith, within, size) in
     omega (arith, released slot old, are slot old, sum_split (λ s. names_of slot s.added) drops stripes)
+
+pub beyond-filter : (slots : ℕ) (drops : Place → Bool) (stripes : Stripes) (counts less : List ℕ) → NoneBeyond slots stripes counts
+    → length less ≡ length counts → NoneBeyond slots (filter (λ e. not (drops e.0)) stripes) less
+beyond-filter slots drops stripes counts less beyond size slot past is_slot =
+    omega (arith, beyond slot (omega (arith, past, size)) is_slot, sum_split (λ s. names_of slot s.added) drops stripes)
 
 pub live-filter_both : (drops : Place → Bool) (stripes : Stripes) → live_in (filter (λ e. drops e.0) stripes)
     + live_in (filter (λ e. not (drops e.0)) stripes) ≡ live_in stripes
@@ -408,9 +514,11 @@ pub drops_not_view : (group first : ℕ) (p : Place) → first ≤ p.1 → is_of
 drops_not_view group first p past = second_not (eqb p.0 group) (ltb p.1 first) (grind (arith, nat_tests))
 
 -- no stripes, and no names
-pub names-none : (stripes : Stripes) (slots : ℕ) → stripes ≡ [] → AreNames stripes (replicate slots 0)
-names-none stripes slots none slot within =
-    get_or-replicate slots slot 0 0 (omega (arith, within, length-replicate {A = ℕ} slots 0)) ∙ ap (names_in slot) (sym none)
+pub names-none : (stripes : Stripes) (counts : List ℕ) → length counts ≡ 0 → AreNames stripes counts
+names-none stripes counts none slot within = absurd (omega (arith, within, none))
+
+pub beyond-none : (slots : ℕ) (stripes : Stripes) (counts : List ℕ) → stripes ≡ [] → NoneBeyond slots stripes counts
+beyond-none slots stripes counts none slot past is_slot = ap (names_in slot) none
 
 -- the number of live records goes on fitting
 pub order_fits : (live before now : ℕ) (t old : Stamp) → before ≡ order_weight old → now ≡ order_weight t

@@ -51,6 +51,12 @@ abbrev pub same_added : Option Entry → Stamp → StripeOf Entry → Option (St
 same_added None t s = None
 same_added (Some newest) t s = if stamp_below newest.stamp t then Some (with_added (entry t newest.block) s) else None
 
+-- the slot that a log's change names, that of the zero block where it names none
+abbrev pub slot_named : LogChange → ℕ
+slot_named Same = 4294967295
+slot_named Collect = 4294967295
+slot_named (Slot bottom slot) = slot
+
 -- A log's change. None where it can't be: no version below it, a stamp not above the newest, one to keep that is not there, no
 -- such slot, or one live record too many.
 unfoldable pub log_changed : Limits → Bool → LogChange → Stamp → StripeOf Entry → Option (StripeOf Entry)

@@ -1,5 +1,5 @@
 -- What the index in memory says.
-use Rattle.std.specs.Prelude.{◌≡◌, Bool, true, false, Option, Some, None, List, length}
+use Rattle.std.specs.Prelude.{◌≡◌, Bool, true, false, Option, Some, None, List}
 use Rattle.brick_state.specs.Entries.{Entry}
 use Rattle.brick_state.specs.declared.indexes.Index.{Index}
 use Rattle.brick_state.specs.States.{StateOf, Place, StripeOf}
@@ -7,14 +7,15 @@ use Rattle.stamp_store.specs.declared.kept_records.Kept.TheVariants.{Boot, Ballo
 use Rattle.stamp_store.specs.declared.kept_records.Kept.TheVariants as kinds
 use Rattle.brick_state.specs.declared.records.Record.{Record}
 use Rattle.brick_state.specs.declared.records.Record.TheVariants as forms
-use Rattle.brick_state.specs.Folds.{Limits, place}
+use Rattle.brick_state.specs.Folds.{Limits, place, slot_named}
 use Rattle.brick_state.specs.Maps.{listed, HasRoom}
+use Rattle.brick_state.specs.Tallies.{HasSlotRoom}
 
 abbrev pub stripes_of : Index → List (Place × StripeOf Entry)
 stripes_of index = listed index.stripes.map.entries
 
 abbrev pub limits_of : Index → Limits
-limits_of index = record { records = index.records; slots = length index.stripes.counts }
+limits_of index = record { records = index.records; slots = index.stripes.slots }
 
 -- what the brick keeps
 abbrev pub state_of : Index → StateOf Entry
@@ -32,3 +33,4 @@ IsReady index (forms.Kept (kinds.View g view synced)) = Unit {0}
 IsReady index (forms.Kept (Ballots g v promised accepted)) = Unit {0}
 IsReady index (forms.Kept (Order g v s t)) = HasRoom index.stripes.map (place g v s)
 IsReady index (forms.Logged r) = HasRoom index.stripes.map (place r.group r.view r.stripe)
+    × HasSlotRoom index.stripes.slots index.stripes.counts (slot_named r.change)

@@ -1,6 +1,6 @@
 -- A tree of slots in a list: below node i stand the nodes 2 * i and 2 * i + 1, and the last nodes are those of the slots, in order.
 -- Each node has the least free slot in it, 4294967295 where none of its slots is free.
-use Rattle.std.specs.Prelude.{◌≡◌, ◌≢◌, ℕ, zero, suc, ◌+◌, ◌*◌, ◌<◌, ◌≤◌, min, List, length, slice_index_or}
+use Rattle.std.specs.Prelude.{◌≡◌, ℕ, zero, suc, ◌+◌, ◌*◌, ◌<◌, ◌≤◌, min, List, length, slice_index_or}
 
 -- a node has the lesser slot of the two below it
 abbrev pub IsJoined : List ℕ → ℕ → Type 0
@@ -22,22 +22,7 @@ pub record IsTreeOf (least counts : List ℕ) : Type 0 where
   pub tree : IsTree (length counts) least
   pub leaves : (slot : ℕ) → slot < length counts → slice_index_or least (length counts + slot) 0 ≡ leaf slot (slice_index_or counts slot 0)
 
--- while nodes are written upward: all are joined but the one above this node
-pub record IsClimbing (slots : ℕ) (leaves least : List ℕ) (node : ℕ) : Type 0 where
-  pub size : length least ≡ 2 * slots
-  pub within : node < 2 * slots
-  pub above : 1 ≤ node
-  pub same : (i : ℕ) → slots ≤ i → slice_index_or least i 0 ≡ slice_index_or leaves i 0
-  pub inner : (i : ℕ) → 1 ≤ i → i < slots → node ≢ 2 * i → node ≢ 2 * i + 1 → IsJoined least i
-
--- while nodes are written downward: those from this one on are as they are to be where all slots are free
-pub record IsBuilt (slots : ℕ) (least : List ℕ) (node : ℕ) : Type 0 where
-  pub size : length least ≡ 2 * slots
-  pub within : node ≤ 2 * slots
-  pub leaves : (slot : ℕ) → slot < slots → node ≤ slots + slot → slice_index_or least (slots + slot) 0 ≡ slot
-  pub inner : (i : ℕ) → 1 ≤ i → node ≤ i → i < slots → IsJoined least i
-
--- where there are slots whose counts are 0: the least of them
+-- the least slot whose count is 0: past the end all are
 pub record IsLeastUnused (counts : List ℕ) (slot : ℕ) : Type 0 where
-  pub least : (other : ℕ) → other < length counts → slice_index_or counts other 0 ≡ 0 → slot ≤ other
-  pub unused : (other : ℕ) → other < length counts → slice_index_or counts other 0 ≡ 0 → (slot < length counts) × (slice_index_or counts slot 0 ≡ 0)
+  pub unused : slice_index_or counts slot 0 ≡ 0
+  pub least : (other : ℕ) → slice_index_or counts other 0 ≡ 0 → slot ≤ other

@@ -2,14 +2,15 @@
 
 ghost use Rattle.std.specs.Prelude.{◌≡◌, ◌≤◌, ◌&&◌, not, length};
 ghost use Rattle.fab_base.specs.Stamps.{stamp_same, first_stamp};
+ghost use Rattle.brick_state.specs.Folds.{slot_named};
 
 use crate::groups::Group;
 use crate::records::Record;
 use crate::stripe_tables::StripeTable;
-use crate::stripes::{Place, Stripe};
+use crate::stripes::{Place, Stripe, ZERO_SLOT};
 use crate::{log_changes, rewrites, slots, stripe_maps};
 use fab_base::{Ballot, Members, NoMem, Stamp, View};
-use stamp_store::{Kept, Logged};
+use stamp_store::{Kept, LogChange, Logged};
 use std::alloc::Global;
 
 /// What a brick keeps, with the slots of its blocks.
@@ -28,8 +29,9 @@ impl Index {
     ghost use Rattle.std.specs.Prelude.{◌≡◌, ◌-◌, ◌^◌, min, true, false, Ok, Some, None, ◌&&◌, nat_lt, nat_le, ◌<◌, if◌then◌else◌, IfNone, IfSome, IfOk, OnOk, OnErr, IsOk};
     ghost use Rattle.brick_state.specs.States.{empty, live, group_at, first_stripe, stripe_of, stamp_of, viewed, balloted, ordered, stripe_at};
     ghost use Rattle.brick_state.specs.Times.{top_time};
-    ghost use Rattle.brick_state.specs.Folds.{applied, place, is_full, adds_order, placed, log_changed};
+    ghost use Rattle.brick_state.specs.Folds.{applied, place, is_full, adds_order, placed, log_changed, slot_named};
     ghost use Rattle.brick_state.specs.Maps.{HasRoom};
+    ghost use Rattle.brick_state.specs.Tallies.{HasSlotRoom};
     ghost use Rattle.brick_state.specs.Slots.{slots_of, IsFree};
     ghost use Rattle.brick_state.specs.Rewrites.{live_records};
     ghost use Rattle.brick_state.specs.Indexes.{state_of, limits_of, Answers, IsReady};
@@ -39,7 +41,7 @@ impl Index {
         ensures nothing { IfOk result (λ index. state_of index ≡ empty) }
         ensures limits { IfOk result (λ index. limits_of index ≡ record { records = records; slots = slots }) }
     {
-        let stripes = StripeTable::new(alloc, slots)?;
+        let stripes = StripeTable::new(alloc, slots);
         let mut groups = Vec::new(alloc);
         for _ in 0..64u8 {
             groups.push(Group {
@@ -122,17 +124,36 @@ impl Index {
         Ok(made)
     }
 
-    /// Makes room for a change of a stripe.
-    pub fn reserve(&mut self, place: Place) -> Result<(), NoMem>
+    /// Makes room for a change.
+    pub fn reserve(&mut self, item: &Record) -> Result<(), NoMem>
         ensures same { state_of self.new ≡ state_of self.old }
         ensures limits { limits_of self.new ≡ limits_of self.old }
-        ensures room { OnOk result (HasRoom self.new.stripes.map place) }
+        ensures ready { OnOk result (IsReady self.new item.now) }
     {
-        self.stripes.make_room(self.alloc, place)
+        match item {
+            Record::Kept(
+                Kept::Order {
+                    group,
+                    view,
+                    stripe,
+                    ..
+                },
+            ) => self
+                .stripes
+                .make_room(self.alloc, (group.0, view.0, stripe.0), ZERO_SLOT),
+            Record::Logged(logged) => self.stripes.make_room(
+                self.alloc,
+                (logged.group.0, logged.view.0, logged.stripe.0),
+                slot_named(logged.change),
+            ),
+            Record::Kept(Kept::Boot(_)) => Ok(()),
+            Record::Kept(Kept::View { .. }) => Ok(()),
+            Record::Kept(Kept::Ballots { .. }) => Ok(()),
+        }
     }
 
     /// Makes a change. False where the record can't be: then nothing is changed. It takes no memory where
-    /// [`Index::reserve`] made room at the record's place.
+    /// [`Index::reserve`] made room for the record.
     #[tactic(auto, unfolding(crate::specs::Folds::applied))]
     pub fn apply(&mut self, record: &Record) -> Result<bool, NoMem>
         ensures answer { IfOk result (Answers (state_of self.new) (applied (limits_of self.old) record.now (state_of self.old))) }
@@ -231,7 +252,7 @@ impl Index {
         if place.0 >= 64 {
             return Ok(false);
         }
-        self.stripes.make_room(self.alloc, place)?;
+        self.stripes.make_room(self.alloc, place, ZERO_SLOT)?;
         let adds = adds_record(stamp, self.order(place));
         if adds && self.is_full() {
             return Ok(false);
@@ -255,15 +276,28 @@ impl Index {
         ensures refused { result ≡ Ok false → state_of self.new ≡ state_of self.old }
         ensures err { OnErr result (state_of self.new ≡ state_of self.old) }
         ensures limits { limits_of self.new ≡ limits_of self.old }
-        ensures enough { HasRoom self.old.stripes.map (place logged.now.group logged.now.view logged.now.stripe) → IsOk result }
+        ensures enough { HasRoom self.old.stripes.map (place logged.now.group logged.now.view logged.now.stripe)
+            → HasSlotRoom self.old.stripes.slots self.old.stripes.counts (slot_named logged.now.change) → IsOk result }
     {
         if logged.group.0 >= 64 {
             return Ok(false);
         }
         let place = (logged.group.0, logged.view.0, logged.stripe.0);
-        self.stripes.make_room(self.alloc, place)?;
+        self.stripes
+            .make_room(self.alloc, place, slot_named(logged.change))?;
         let full = self.is_full();
         Ok(log_changes::change_log(&mut self.stripes, place, logged.stamp, logged.change, full))
+    }
+}
+
+// The slot that a change names.
+fn slot_named(change: LogChange) -> u32
+    ensures { result ≡ slot_named change }
+{
+    match change {
+        LogChange::Same => ZERO_SLOT,
+        LogChange::Collect => ZERO_SLOT,
+        LogChange::Slot { slot, .. } => slot,
     }
 }
 

@@ -3,7 +3,8 @@
 ghost use Rattle.std.specs.Prelude.{◌≡◌, ◌<◌, ◌==◌, ◌&&◌, ◌||◌, false, Some, None, if◌then◌else◌, length, not};
 ghost use Rattle.brick_state.specs.States.{live_in, stripe_in, with_added, with_bottom, with_collected, stamp_of, newest_entry, has_version};
 ghost use Rattle.brick_state.specs.Maps.{listed, HasRoom, AnswersAt};
-ghost use Rattle.brick_state.specs.Folds.{log_changed, same_added, is_above, slot_limits};
+ghost use Rattle.brick_state.specs.Tallies.{HasSlotRoom};
+ghost use Rattle.brick_state.specs.Folds.{log_changed, same_added, is_above, slot_limits, slot_named};
 
 use crate::stripe_maps;
 use crate::stripe_tables::StripeTable;
@@ -23,10 +24,11 @@ pub fn change_log(
     full: bool,
 ) -> bool
     requires room { HasRoom stripes.old.map place }
+    requires slot { HasSlotRoom stripes.old.slots stripes.old.counts (slot_named change) }
     requires fits { full ≡ false → live_in (listed stripes.old.map.entries) < 4294967295 }
     ensures answer { AnswersAt place (listed stripes.old.map.entries) (listed stripes.new.map.entries)
-        (log_changed (slot_limits (length stripes.old.counts)) full change stamp (stripe_in (listed stripes.old.map.entries) place)) result }
-    ensures slots { length stripes.new.counts ≡ length stripes.old.counts }
+        (log_changed (slot_limits stripes.old.slots) full change stamp (stripe_in (listed stripes.old.map.entries) place)) result }
+    ensures slots { stripes.new.slots ≡ stripes.old.slots }
 {
     match change {
         LogChange::Same => add_same(stripes, place, stamp, full),
@@ -45,27 +47,18 @@ pub fn change_log(
     }
 }
 
-fn newest(stripes: &StripeTable, place: Place) -> Option<Entry>
-    ensures { result ≡ newest_entry (stripe_in (listed stripes.now.map.entries) place) }
-{
-    match stripe_maps::find(stripes.map(), place) {
-        Some(stripe) => stripe.newest(),
-        None => Stripe::first_entry(place),
-    }
-}
-
 fn add_same(stripes: &mut StripeTable, place: Place, stamp: Stamp, full: bool) -> bool
     requires room { HasRoom stripes.old.map place }
     requires fits { full ≡ false → live_in (listed stripes.old.map.entries) < 4294967295 }
     ensures answer { AnswersAt place (listed stripes.old.map.entries) (listed stripes.new.map.entries)
         (if full then None else same_added (newest_entry (stripe_in (listed stripes.old.map.entries) place)) stamp
         (stripe_in (listed stripes.old.map.entries) place)) result }
-    ensures slots { length stripes.new.counts ≡ length stripes.old.counts }
+    ensures slots { stripes.new.slots ≡ stripes.old.slots }
 {
     if full {
         return false;
     }
-    match newest(stripes, place) {
+    match stripes.newest(place) {
         Some(below) => {
             if !below.stamp.is_below(stamp) {
                 return false;
@@ -83,16 +76,17 @@ fn add_same(stripes: &mut StripeTable, place: Place, stamp: Stamp, full: bool) -
 
 fn add_above(stripes: &mut StripeTable, place: Place, entry: Entry, full: bool) -> bool
     requires room { HasRoom stripes.old.map place }
+    requires slot { HasSlotRoom stripes.old.slots stripes.old.counts entry.block }
     requires fits { full ≡ false → live_in (listed stripes.old.map.entries) < 4294967295 }
     ensures answer { AnswersAt place (listed stripes.old.map.entries) (listed stripes.new.map.entries)
         (if full || not (is_above (newest_entry (stripe_in (listed stripes.old.map.entries) place)) entry.stamp) then None else Some
         (with_added entry (stripe_in (listed stripes.old.map.entries) place))) result }
-    ensures slots { length stripes.new.counts ≡ length stripes.old.counts }
+    ensures slots { stripes.new.slots ≡ stripes.old.slots }
 {
     if full {
         return false;
     }
-    if let Some(below) = newest(stripes, place) {
+    if let Some(below) = stripes.newest(place) {
         if !below.stamp.is_below(entry.stamp) {
             return false;
         }
@@ -103,11 +97,12 @@ fn add_above(stripes: &mut StripeTable, place: Place, entry: Entry, full: bool) 
 
 fn add_bottom(stripes: &mut StripeTable, place: Place, entry: Entry, full: bool) -> bool
     requires room { HasRoom stripes.old.map place }
+    requires slot { HasSlotRoom stripes.old.slots stripes.old.counts entry.block }
     requires fits { full ≡ false → live_in (listed stripes.old.map.entries) < 4294967295 }
     ensures answer { AnswersAt place (listed stripes.old.map.entries) (listed stripes.new.map.entries)
         (if (length (stripe_in (listed stripes.old.map.entries) place).added == 0) && full then None else Some
         (with_bottom entry (stripe_in (listed stripes.old.map.entries) place))) result }
-    ensures slots { length stripes.new.counts ≡ length stripes.old.counts }
+    ensures slots { stripes.new.slots ≡ stripes.old.slots }
 {
     let count = match stripe_maps::find(stripes.map(), place) {
         Some(stripe) => stripe.added.len(),
@@ -125,7 +120,7 @@ fn collect_held(stripes: &mut StripeTable, place: Place, stamp: Stamp) -> bool
     ensures answer { AnswersAt place (listed stripes.old.map.entries) (listed stripes.new.map.entries)
         (if has_version stamp (stripe_in (listed stripes.old.map.entries) place) then Some
         (with_collected stamp_of stamp (stripe_in (listed stripes.old.map.entries) place)) else None) result }
-    ensures slots { length stripes.new.counts ≡ length stripes.old.counts }
+    ensures slots { stripes.new.slots ≡ stripes.old.slots }
 {
     let held = match stripe_maps::find(stripes.map(), place) {
         Some(stripe) => stripe.has(stamp),

@@ -1,7 +1,7 @@
 //! How many versions name each slot, and which slot is the least that none names.
 
-ghost use Rattle.std.specs.Prelude.{◌≡◌, ℕ, ◌+◌, ◌-◌, ◌*◌, ◌<◌, ◌≤◌, IfOk, length, replicate, slice_set, slice_index_or, nat_lt};
-ghost use Rattle.brick_state.specs.SlotTrees.{IsTree, IsTreeOf, IsLeastUnused};
+ghost use Rattle.std.specs.Prelude.{◌≡◌, ◌≢◌, ℕ, [], ◌+◌, ◌-◌, ◌*◌, ◌<◌, ◌≤◌, IfOk, OnOk, length, slice_set, slice_index_or, nat_lt};
+ghost use Rattle.brick_state.specs.SlotTrees.{IsTree, IsTreeOf, IsLeastUnused, leaf};
 
 use fab_base::NoMem;
 use std::alloc::Global;
@@ -10,7 +10,7 @@ use std::marker::Model;
 // What a node has where none of its slots is free.
 const NONE: u32 = 4294967295;
 
-/// A count for each slot. Changing one takes logarithmic time, finding the least slot with the count 0 takes constant time, and
+/// A count for each slot below the table's length. Changing one takes logarithmic time, finding the least slot with the count 0 takes constant time, and
 /// neither takes memory.
 #[derive(Drop)]
 pub struct SlotTable {
@@ -30,13 +30,39 @@ impl Model for SlotTable {
 }
 
 impl SlotTable {
-    /// A table of so many slots, that no version names.
-    pub fn new(alloc: Global, slots: u32) -> Result<SlotTable, NoMem>
-        ensures { IfOk result (λ table. table ≡ replicate slots 0) }
+    /// A table of no slots. It takes no memory.
+    pub fn new(alloc: Global) -> SlotTable
+        ensures { result ≡ [] }
     {
-        let counts = vec![in alloc; 0u32; slots as usize]?;
-        let least = build(alloc, slots as usize)?;
-        Ok(SlotTable { counts, least })
+        SlotTable {
+            counts: Vec::new(alloc),
+            least: Vec::new(alloc),
+        }
+    }
+
+    /// How many slots there are.
+    pub fn len(&self) -> usize
+        ensures value { result ≡ length self.now }
+        ensures few { length self.now ≤ 4294967295 }
+    {
+        self.counts.len()
+    }
+
+    /// Makes it a table of so many slots: no version names those that are new.
+    pub fn grow(&mut self, alloc: Global, slots: usize) -> Result<(), NoMem>
+        requires more { length self.old ≤ slots }
+        requires few { slots ≤ 4294967295 }
+        ensures same { (slot : ℕ) → slice_index_or self.new slot 0 ≡ slice_index_or self.old slot 0 }
+        ensures longer { length self.old ≤ length self.new }
+        ensures most { length self.new ≤ slots }
+        ensures slots { OnOk result (length self.new ≡ slots) }
+    {
+        let more = slots - self.counts.len();
+        self.counts.reserve(more)?;
+        let least = build(alloc, &self.counts, slots)?;
+        let _ = self.counts.resize(slots, 0);
+        self.least = least;
+        Ok(())
     }
 
     /// Whether there is such a slot.
@@ -67,12 +93,14 @@ impl SlotTable {
         }
     }
 
-    /// The least slot with the count 0, where there is one.
+    /// The least slot with the count 0, or the length where there is none.
     pub fn first_free(&self) -> u32
-        requires { 1 ≤ length self.now }
         ensures { IsLeastUnused self.now result }
     {
-        self.least[1]
+        if self.counts.is_empty() {
+            return 0;
+        }
+        first_in(self.least[1], self.counts.len())
     }
 
     fn set(&mut self, slot: usize, count: u32)
@@ -81,8 +109,7 @@ impl SlotTable {
     {
         let slots = self.counts.len();
         self.counts[slot] = count;
-        let value = if count == 0 { slot as u32 } else { NONE };
-        put_leaf(&mut self.least, slots, slot, value);
+        put_leaf(&mut self.least, slots, slot, leaf(slot, count));
     }
 }
 
@@ -101,11 +128,35 @@ fn put_leaf(least: &mut Vec<u32>, slots: usize, slot: usize, value: u32)
     }
 }
 
-// The tree where all slots are free.
-fn build(alloc: Global, slots: usize) -> Result<Vec<u32>, NoMem>
+// What the node of a slot has.
+fn leaf(slot: usize, count: u32) -> u32
+    requires { slot ≤ 4294967295 }
+    ensures { result ≡ leaf slot count }
+{
+    if count == 0 { slot as u32 } else { NONE }
+}
+
+// The slot that the first node tells, or the number of slots where that has none.
+fn first_in(root: u32, slots: usize) -> u32
+    requires { slots ≤ 4294967295 }
+    ensures none { root ≡ 4294967295 → result ≡ slots }
+    ensures one { root ≢ 4294967295 → result ≡ root }
+{
+    if root == NONE { slots as u32 } else { root }
+}
+
+fn count_of(counts: &[u32], slot: usize) -> u32
+    ensures { result ≡ slice_index_or counts.now slot 0 }
+{
+    counts.get(slot).copied().unwrap_or(0)
+}
+
+// The tree of so many slots with these counts, where those past the end have none.
+fn build(alloc: Global, counts: &[u32], slots: usize) -> Result<Vec<u32>, NoMem>
     requires few { slots ≤ 4294967295 }
     ensures tree { IfOk result (λ least. IsTree slots least.items) }
-    ensures leaves { IfOk result (λ least. (slot : ℕ) → slot < slots → slice_index_or least.items (slots + slot) 0 ≡ slot) }
+    ensures leaves { IfOk result (λ least. (slot : ℕ) → slot < slots
+        → slice_index_or least.items (slots + slot) 0 ≡ leaf slot (slice_index_or counts.now slot 0)) }
 {
     let mut least = vec![in alloc; 0u32; 2 * slots]?;
     let mut node = 2 * slots;
@@ -114,7 +165,7 @@ fn build(alloc: Global, slots: usize) -> Result<Vec<u32>, NoMem>
         least[node] = if node < slots {
             least[2 * node].min(least[2 * node + 1])
         } else {
-            (node - slots) as u32
+            leaf(node - slots, count_of(counts, node - slots))
         };
     }
     Ok(least)

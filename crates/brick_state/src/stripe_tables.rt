@@ -6,7 +6,7 @@ ghost use Rattle.brick_state.specs.States.{first_stripe, stripe_in, stripe_of, s
 ghost use Rattle.brick_state.specs.Maps.{listed, HasRoom};
 ghost use Rattle.brick_state.specs.Folds.{adds_order, is_above};
 ghost use Rattle.brick_state.specs.Slots.{slots_in, IsFree};
-ghost use Rattle.brick_state.specs.Tallies.{names_of, names_in, AreNames, order_weight};
+ghost use Rattle.brick_state.specs.Tallies.{names_of, names_in, AreNames, NoneBeyond, HasSlotRoom, order_weight};
 
 use crate::slot_tables::SlotTable;
 use crate::stripe_maps;
@@ -15,29 +15,33 @@ use fab_base::{NoMem, Stamp};
 use std::alloc::Global;
 use std::collections::BTreeMap;
 
-/// The stripes by their places, how many live records they have, and how often versions name each slot.
+/// The stripes by their places, how many live records they have, and how often versions name each slot. There are counts for
+/// the slots that were named: so a table of many slots and few versions takes little memory.
 #[derive(Drop)]
 pub struct StripeTable {
     map: BTreeMap<Place, Stripe>,
     live: u32,
+    slots: u32,
     counts: SlotTable,
     ghost fits: { live ≤ 4294967295 },
+    ghost few: { slots ≤ 4294967295 },
     ghost counted: { live ≡ live_in (listed map.entries) },
     ghost named: { AreNames (listed map.entries) counts },
+    ghost beyond: { NoneBeyond slots (listed map.entries) counts },
 }
 
 impl StripeTable {
-    /// No stripes, and so many slots.
-    pub fn new(alloc: Global, slots: u32) -> Result<StripeTable, NoMem>
-        ensures nothing { IfOk result (λ table. listed table.map.entries ≡ listed []) }
-        ensures slots { IfOk result (λ table. length table.counts ≡ slots) }
+    /// No stripes, and so many slots. It takes no memory.
+    pub fn new(alloc: Global, slots: u32) -> StripeTable
+        ensures nothing { listed result.map.entries ≡ listed [] }
+        ensures slots { result.slots ≡ slots }
     {
-        let counts = SlotTable::new(alloc, slots)?;
-        Ok(StripeTable {
+        StripeTable {
             map: BTreeMap::new(alloc),
             live: 0,
-            counts,
-        })
+            slots,
+            counts: SlotTable::new(alloc),
+        }
     }
 
     /// The stripes by their places.
@@ -56,27 +60,57 @@ impl StripeTable {
 
     /// Whether there is such a slot.
     pub fn has_slot(&self, slot: u32) -> bool
-        ensures { result ≡ nat_lt slot (length self.now.counts) }
+        ensures { result ≡ nat_lt slot self.now.slots }
     {
-        self.counts.has(slot)
+        slot < self.slots
+    }
+
+    /// The newest version of a stripe.
+    pub fn newest(&self, place: Place) -> Option<Entry>
+        ensures newest { result ≡ newest_entry (stripe_in (listed self.now.map.entries) place) }
+        ensures counted { IfSome result (λ entry. HasSlotRoom self.now.slots self.now.counts entry.block) }
+    {
+        match stripe_maps::find(&self.map, place) {
+            Some(stripe) => stripe.newest(),
+            None => Stripe::first_entry(place),
+        }
     }
 
     /// The least slot that no version names, where there are fewer live records than slots.
     pub fn free_slot(&self) -> u32
-        requires { live_in (listed self.now.map.entries) < (length self.now.counts) }
-        ensures { IsFree (length self.now.counts) (slots_in (listed self.now.map.entries)) result }
+        requires { live_in (listed self.now.map.entries) < self.now.slots }
+        ensures { IsFree self.now.slots (slots_in (listed self.now.map.entries)) result }
     {
         self.counts.first_free()
     }
 
-    /// Makes room for a change of a stripe.
-    pub fn make_room(&mut self, alloc: Global, place: Place) -> Result<(), NoMem>
+    /// Makes room for a change of a stripe that names this slot.
+    pub fn make_room(&mut self, alloc: Global, place: Place, slot: u32) -> Result<(), NoMem>
         ensures same { listed self.new.map.entries ≡ listed self.old.map.entries }
-        ensures slots { length self.new.counts ≡ length self.old.counts }
+        ensures slots { self.new.slots ≡ self.old.slots }
         ensures room { OnOk result (HasRoom self.new.map place) }
-        ensures enough { HasRoom self.old.map place → IsOk result }
+        ensures slot_room { OnOk result (HasSlotRoom self.new.slots self.new.counts slot) }
+        ensures enough { HasRoom self.old.map place → HasSlotRoom self.old.slots self.old.counts slot → IsOk result }
     {
-        stripe_maps::make_room(alloc, &mut self.map, place)
+        self.make_slot_room(alloc, slot)?;
+        stripe_maps::make_room(alloc, &mut self.map, place)?;
+        Ok(())
+    }
+
+    // Has a count for this slot: the table at least doubles, so that all of its growths take the time of the last.
+    fn make_slot_room(&mut self, alloc: Global, slot: u32) -> Result<(), NoMem>
+        ensures same { self.new.map ≡ self.old.map }
+        ensures slots { self.new.slots ≡ self.old.slots }
+        ensures room { OnOk result (HasSlotRoom self.new.slots self.new.counts slot) }
+        ensures enough { HasSlotRoom self.old.slots self.old.counts slot → IsOk result }
+    {
+        if slot >= self.slots || self.counts.has(slot) {
+            return Ok(());
+        }
+        let doubled = self.counts.len().saturating_mul(2);
+        let slots = doubled.max(slot as usize + 1).min(self.slots as usize);
+        self.counts.grow(alloc, slots)?;
+        Ok(())
     }
 
     /// Sets an order stamp.
@@ -85,7 +119,7 @@ impl StripeTable {
         requires fits { adds_order stamp (stripe_in (listed self.old.map.entries) place) ≡ true → live_in (listed self.old.map.entries) < 4294967295 }
         ensures order { listed self.new.map.entries ≡ put place (with_order stamp (stripe_in (listed self.old.map.entries) place))
             (listed self.old.map.entries) }
-        ensures slots { length self.new.counts ≡ length self.old.counts }
+        ensures slots { self.new.slots ≡ self.old.slots }
     {
         let before = order_weight(stripe_maps::order(&self.map, place));
         stripe_maps::set_order(&mut self.map, place, stamp);
@@ -96,10 +130,11 @@ impl StripeTable {
     pub fn add(&mut self, place: Place, entry: Entry)
         requires room { HasRoom self.old.map place }
         requires above { is_above (newest_entry (stripe_in (listed self.old.map.entries) place)) entry.stamp ≡ true }
+        requires slot { HasSlotRoom self.old.slots self.old.counts entry.block }
         requires fits { live_in (listed self.old.map.entries) < 4294967295 }
         ensures added { listed self.new.map.entries ≡ put place (with_added entry (stripe_in (listed self.old.map.entries) place))
             (listed self.old.map.entries) }
-        ensures slots { length self.new.counts ≡ length self.old.counts }
+        ensures slots { self.new.slots ≡ self.old.slots }
     {
         stripe_maps::add(&mut self.map, place, entry);
         self.live += 1;
@@ -109,10 +144,11 @@ impl StripeTable {
     /// Adds a version in the place of all that are there.
     pub fn set_bottom(&mut self, place: Place, entry: Entry)
         requires room { HasRoom self.old.map place }
+        requires slot { HasSlotRoom self.old.slots self.old.counts entry.block }
         requires fits { length (stripe_in (listed self.old.map.entries) place).added ≡ 0 → live_in (listed self.old.map.entries) < 4294967295 }
         ensures added { listed self.new.map.entries ≡ put place (with_bottom entry (stripe_in (listed self.old.map.entries) place))
             (listed self.old.map.entries) }
-        ensures slots { length self.new.counts ≡ length self.old.counts }
+        ensures slots { self.new.slots ≡ self.old.slots }
     {
         let dropped = release_all(&mut self.counts, stripe_maps::added(&self.map, place));
         stripe_maps::set_bottom(&mut self.map, place, entry);
@@ -125,7 +161,7 @@ impl StripeTable {
         requires room { HasRoom self.old.map place }
         ensures kept { listed self.new.map.entries ≡ put place (with_collected stamp_of stamp (stripe_in (listed self.old.map.entries) place))
             (listed self.old.map.entries) }
-        ensures slots { length self.new.counts ≡ length self.old.counts }
+        ensures slots { self.new.slots ≡ self.old.slots }
     {
         let dropped = release_below(
             &mut self.counts,
@@ -139,7 +175,7 @@ impl StripeTable {
     /// Drops the stripes of a group in the views below one.
     pub fn drop_views(&mut self, group: u32, first: u32)
         ensures kept { listed self.new.map.entries ≡ filter (λ e. not (is_of_view group first e.0)) (listed self.old.map.entries) }
-        ensures slots { length self.new.counts ≡ length self.old.counts }
+        ensures slots { self.new.slots ≡ self.old.slots }
     {
         let dropped = release_views(&mut self.counts, &self.map, group, first);
         stripe_maps::drop_views(&mut self.map, group, first);

@@ -14,7 +14,7 @@ ghost use Rattle.brick_store.specs.Standing.{GroupHasMembers, IsIndexed};
 ghost use Rattle.brick_store.specs.Steps.{RecordHasMembers, Step, MayStep, changed, HasAppendRoom, IsRefused};
 
 use crate::faults::StoreFault;
-use crate::index_steps::{apply, reserve};
+use crate::index_steps::apply;
 use crate::rewrites::{frame_of, live_frames};
 use brick_state::{Index, Record};
 use fab_disk::Disk;
@@ -170,7 +170,7 @@ pub fn commit<D: Disk>(
     ensures cause { Kept (D.faults frames.old.disk) (D.faults frames.new.disk) (D.sound frames.old.disk) (D.sound frames.new.disk)
         (result ≡ Err StoreFault.Disk) }
 {
-    reserve(index, item)?;
+    index.reserve(item)?;
     append_record(alloc, frames, index, item)?;
     apply(index, item);
     Ok(())
@@ -206,7 +206,7 @@ pub fn commit_with<D: Disk>(
     ensures cause { Kept (D.faults frames.old.disk) (D.faults frames.new.disk) (D.sound frames.old.disk) (D.sound frames.new.disk)
         (result ≡ Err StoreFault.Disk) }
 {
-    reserve(index, item)?;
+    index.reserve(item)?;
     append_version(alloc, frames, index, item, slot, block)?;
     apply(index, item);
     Ok(())

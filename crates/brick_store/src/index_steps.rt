@@ -1,14 +1,13 @@
 //! The change of a record in the index.
 
-ghost use Rattle.std.specs.Prelude.{◌≡◌, IsSome, Some, OnOk};
+ghost use Rattle.std.specs.Prelude.{◌≡◌, IsSome, Some};
 ghost use Rattle.brick_state.specs.Indexes.{state_of, limits_of, IsReady};
 ghost use Rattle.brick_state.specs.Folds.{applied};
 ghost use Rattle.brick_store.specs.Blocks.{adds_stamp, accepted_of, learnt_view};
 ghost use Rattle.brick_store.specs.Steps.{changed};
 
 use brick_state::{Group, Index, Record};
-use fab_base::{Ballot, Members, NoMem, Stamp, View};
-use stamp_store::Kept;
+use fab_base::{Ballot, Members, Stamp, View};
 
 /// Whether an order stamp in the place of another one is one live record more.
 pub fn adds_stamp(stamp: Stamp, order: Stamp) -> bool
@@ -36,30 +35,6 @@ pub fn learnt_view(group: &Group) -> View
     match &group.known {
         Some((view, _)) => view.copy(),
         None => unreachable!(),
-    }
-}
-
-/// Makes room in the index for the change of a record.
-pub fn reserve(index: &mut Index, item: &Record) -> Result<(), NoMem>
-    ensures same { state_of index.new ≡ state_of index.old }
-    ensures limits { limits_of index.new ≡ limits_of index.old }
-    ensures ready { OnOk result (IsReady index.new item.now) }
-{
-    match item {
-        Record::Kept(
-            Kept::Order {
-                group,
-                view,
-                stripe,
-                ..
-            },
-        ) => index.reserve((group.0, view.0, stripe.0)),
-        Record::Logged(logged) => {
-            index.reserve((logged.group.0, logged.view.0, logged.stripe.0))
-        }
-        Record::Kept(Kept::Boot(_)) => Ok(()),
-        Record::Kept(Kept::View { .. }) => Ok(()),
-        Record::Kept(Kept::Ballots { .. }) => Ok(()),
     }
 }
 

@@ -1,5 +1,5 @@
 use Rattle.std.proofs.Common.{◌+◌, set}
-use Rattle.brick_state.specs.SlotTrees.{IsClimbing}
+use Rattle.brick_state.proofs.SlotTrees.{IsClimbing}
 use Rattle.brick_state.proofs.slot_tables.put_leaf.Given as goal
 
 abbrev pub invariant-loop-node : goal.invariant-loop-node

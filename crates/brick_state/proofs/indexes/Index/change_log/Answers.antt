@@ -1,5 +1,5 @@
 -- The change of the stripe is that of the state.
-use Rattle.std.proofs.Common.{nat_lt, ℕ, Bool, Option, List, length, subst, sym, ◌∙◌, arith}
+use Rattle.std.proofs.Common.{nat_lt, ℕ, Bool, Option, List, subst, sym, ◌∙◌, arith}
 use Rattle.std.proofs.lemmas.Bool.{lt-ltb}
 use Rattle.brick_state.specs.Entries.{Entry}
 use Rattle.brick_state.specs.States.{Place, stripe_in, StripeOf}
@@ -19,7 +19,7 @@ returns-clause-answer c =
     let new = listed c.change_log.new.stripes.map.entries in
     let mid = listed c.make_room.new.self.map.entries in
     let answer = c.change_log.result in
-    let told = subst (λ (b : Bool). AnswersAt p mid new (log_changed (slot_limits (length c.make_room.new.self.counts)) b logged.change logged.stamp
+    let told = subst (λ (b : Bool). AnswersAt p mid new (log_changed (slot_limits c.make_room.new.self.slots) b logged.change logged.stamp
     (stripe_in mid p)) answer) c.is_full-full.ensures c.change_log.ensures.answer in
     let slots = subst (λ (n : ℕ). AnswersAt p mid new (log_changed (slot_limits n) (is_full limits (with_stripes st mid)) logged.change logged.stamp
     (stripe_in mid p)) answer) c.make_room.ensures.slots told in

@@ -22,4 +22,4 @@ unfolding made
 returns-clause-nothing c =
     let count : c.loop.counter ≡ 64 = omega arith in
     let groups = c.loop.invariant ∙ ap (λ (n : ℕ). replicate n no_group) count in
-    same_parts c.loop.groups.items (replicate 64 no_group) (listed c.in_ok-stripes.stripes.map.entries) [] groups (c.in_ok-stripes.ensures.nothing ∙ none_listed)
+    same_parts c.loop.groups.items (replicate 64 no_group) (listed c.new-stripes.result.map.entries) [] groups (c.new-stripes.ensures.nothing ∙ none_listed)

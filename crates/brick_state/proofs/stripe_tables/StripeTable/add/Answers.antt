@@ -1,10 +1,11 @@
 -- One live record more, and one name more of the version's slot.
-use Rattle.std.proofs.Common.{◌+◌, List, get_or, set, subst, sym, ap, arith}
+use Rattle.std.proofs.Common.{◌+◌, List, length, get_or, set, subst, sym, ap, ◌∙◌, arith}
+use Rattle.std.proofs.lemmas.List.{length-set}
 use Rattle.brick_state.specs.Entries.{Entry}
 use Rattle.brick_state.specs.States.{Place, StripeOf, live_in}
 use Rattle.brick_state.specs.Maps.{listed}
-use Rattle.brick_state.specs.Tallies.{AreNames}
-use Rattle.brick_state.proofs.Tallies.{names-added, live-added, count_fits}
+use Rattle.brick_state.specs.Tallies.{AreNames, NoneBeyond}
+use Rattle.brick_state.proofs.Tallies.{names-added, beyond-added, live-added, count_fits}
 use Rattle.brick_state.proofs.stripe_tables.StripeTable.add.Goals as goal
 
 pub take-requires : goal.take-requires
@@ -17,6 +18,10 @@ invariant_of-self c =
     record {
       fits = omega (arith, t.counted, c.requires.fits);
       counted = omega (arith, t.counted, ap live_in c.add.ensures.added, live-added stripes c.args.place c.args.entry c.add.ensures.sorted);
+      few = t.few;
+      beyond = subst (λ (now : List (Place × StripeOf Entry)). NoneBeyond t.slots now c.take.new.self) (sym c.add.ensures.added)
+          (beyond-added t.slots stripes t.counts c.take.new.self c.args.place c.args.entry c.add.ensures.sorted t.beyond
+          (ap length c.take.ensures ∙ length-set t.counts c.args.entry.block (get_or t.counts c.args.entry.block 0 + 1)) c.requires.slot);
       named = subst (λ (counts : List _). AreNames (listed c.add.new.stripes.entries) counts) (sym c.take.ensures)
           (subst (λ (now : List (Place × StripeOf Entry)). AreNames now (set t.counts c.args.entry.block (get_or t.counts c.args.entry.block 0 + 1)))
           (sym c.add.ensures.added) (names-added stripes t.counts c.args.place c.args.entry c.add.ensures.sorted t.named));

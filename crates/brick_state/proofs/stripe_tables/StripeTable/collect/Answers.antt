@@ -5,8 +5,8 @@ use Rattle.fab_base.specs.Stamps.{stamp_below}
 use Rattle.brick_state.specs.Entries.{Entry}
 use Rattle.brick_state.specs.States.{Place, StripeOf, live_in}
 use Rattle.brick_state.specs.Maps.{listed}
-use Rattle.brick_state.specs.Tallies.{AreNames, names_of}
-use Rattle.brick_state.proofs.Tallies.{names-collected, live-collected}
+use Rattle.brick_state.specs.Tallies.{AreNames, NoneBeyond, names_of}
+use Rattle.brick_state.proofs.Tallies.{names-collected, beyond-collected, live-collected}
 use Rattle.brick_state.proofs.stripe_tables.StripeTable.collect.Goals as goal
 
 pub overflow_cast-self : goal.overflow_cast-self
@@ -47,6 +47,10 @@ invariant_of-self c =
         ap live_in c.collect.ensures,
         live-collected stripes c.args.place c.args.stamp c.added.ensures.sorted,
       );
+      few = t.few;
+      beyond = subst (λ (now : List (Place × StripeOf Entry)). NoneBeyond t.slots now c.release_below-dropped.new.counts) (sym c.collect.ensures)
+          (beyond-collected t.slots stripes t.counts c.release_below-dropped.new.counts c.args.place c.args.stamp c.added.ensures.sorted t.beyond
+          c.release_below-dropped.ensures.length);
       named = subst (λ (now : List (Place × StripeOf Entry)). AreNames now c.release_below-dropped.new.counts) (sym c.collect.ensures)
           (names-collected stripes t.counts c.release_below-dropped.new.counts c.args.place c.args.stamp c.added.ensures.sorted t.named
           c.release_below-dropped.ensures.length

@@ -3,8 +3,8 @@ use Rattle.std.proofs.Common.{List, subst, sym, ap, arith}
 use Rattle.brick_state.specs.Entries.{Entry}
 use Rattle.brick_state.specs.States.{Place, StripeOf, live_in, is_of_view}
 use Rattle.brick_state.specs.Maps.{listed}
-use Rattle.brick_state.specs.Tallies.{AreNames}
-use Rattle.brick_state.proofs.Tallies.{names-filter, live-filter_both}
+use Rattle.brick_state.specs.Tallies.{AreNames, NoneBeyond}
+use Rattle.brick_state.proofs.Tallies.{names-filter, beyond-filter, live-filter_both}
 use Rattle.brick_state.proofs.stripe_tables.StripeTable.drop_views.Goals as goal
 
 pub overflow_cast-self : goal.overflow_cast-self
@@ -26,6 +26,9 @@ invariant_of-self c =
     record {
       fits = omega (arith, t.fits);
       counted = omega (arith, t.counted, c.release_views-dropped.ensures.number, ap live_in c.drop_views.ensures, live-filter_both drops stripes);
+      few = t.few;
+      beyond = subst (λ (now : List (Place × StripeOf Entry)). NoneBeyond t.slots now c.release_views-dropped.new.counts) (sym c.drop_views.ensures)
+          (beyond-filter t.slots drops stripes t.counts c.release_views-dropped.new.counts t.beyond c.release_views-dropped.ensures.length);
       named = subst (λ (now : List (Place × StripeOf Entry)). AreNames now c.release_views-dropped.new.counts) (sym c.drop_views.ensures)
           (names-filter drops stripes t.counts c.release_views-dropped.new.counts t.named c.release_views-dropped.ensures.length
           c.release_views-dropped.ensures.counts);

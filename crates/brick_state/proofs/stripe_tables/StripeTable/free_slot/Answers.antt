@@ -4,4 +4,5 @@ use Rattle.brick_state.proofs.Tallies.{least_free}
 use Rattle.brick_state.proofs.stripe_tables.StripeTable.free_slot.Goals as goal
 
 pub returns : goal.returns
-returns c = least_free (listed c.args.self.now.map.entries) c.args.self.now.counts c.first_free.result c.args.self.now.named c.requires c.first_free.ensures
+returns c = least_free c.args.self.now.slots (listed c.args.self.now.map.entries) c.args.self.now.counts c.first_free.result c.args.self.now.named c.args.self.now.beyond
+    c.requires c.first_free.ensures

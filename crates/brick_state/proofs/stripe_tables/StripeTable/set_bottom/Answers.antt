@@ -1,10 +1,11 @@
 -- The names of the dropped versions are counted less, and that of the new one more.
 use Rattle.std.proofs.Common.{◌+◌, ◌-◌, ◌<◌, ℕ, List, length, get_or, set, subst, sym, ap, ◌∙◌, arith}
+use Rattle.std.proofs.lemmas.List.{length-set}
 use Rattle.brick_state.specs.Entries.{Entry}
 use Rattle.brick_state.specs.States.{Place, StripeOf, live_in}
 use Rattle.brick_state.specs.Maps.{listed}
-use Rattle.brick_state.specs.Tallies.{AreNames, names_of}
-use Rattle.brick_state.proofs.Tallies.{names-bottom, live-bottom, added_within, less_fits, bottom_fits}
+use Rattle.brick_state.specs.Tallies.{AreNames, NoneBeyond, names_of}
+use Rattle.brick_state.proofs.Tallies.{names-bottom, beyond-bottom, live-bottom, added_within, less_fits, bottom_fits}
 use Rattle.brick_state.proofs.stripe_tables.StripeTable.set_bottom.Goals as goal
 
 pub overflow_cast-self : goal.overflow_cast-self
@@ -60,6 +61,10 @@ invariant_of-self c =
         live-bottom stripes c.args.place c.args.entry sorted,
         added_within stripes c.args.place sorted,
       );
+      few = t.few;
+      beyond = subst (λ (now : List (Place × StripeOf Entry)). NoneBeyond t.slots now c.take.new.self) (sym c.set_bottom.ensures)
+          (beyond-bottom t.slots stripes t.counts c.take.new.self c.args.place c.args.entry sorted t.beyond
+          (ap length c.take.ensures ∙ length-set less c.args.entry.block (get_or less c.args.entry.block 0 + 1) ∙ c.release_all-dropped.ensures.length) c.requires.slot);
       named = subst (λ (counts : List ℕ). AreNames (listed c.set_bottom.new.stripes.entries) counts) (sym c.take.ensures)
           (subst (λ (now : List (Place × StripeOf Entry)). AreNames now (set less c.args.entry.block (get_or less c.args.entry.block 0 + 1)))
           (sym c.set_bottom.ensures) (names-bottom stripes t.counts less c.args.place c.args.entry sorted t.named c.release_all-dropped.ensures.length

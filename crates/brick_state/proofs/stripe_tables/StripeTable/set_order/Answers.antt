@@ -1,10 +1,10 @@
 -- One live record more or less, as the stamps say, and the same names.
-use Rattle.std.proofs.Common.{◌<◌, ℕ, ◌&&◌, Bool, not, List, subst, sym, ap, ◌∙◌, arith}
+use Rattle.std.proofs.Common.{◌<◌, ℕ, ◌&&◌, Bool, not, refl, List, subst, sym, ap, ◌∙◌, arith}
 use Rattle.brick_state.specs.Entries.{Entry}
-use Rattle.brick_state.specs.States.{Place, StripeOf, live_in}
+use Rattle.brick_state.specs.States.{Place, StripeOf, stripe_in, with_order, live_in}
 use Rattle.brick_state.specs.Maps.{listed}
-use Rattle.brick_state.specs.Tallies.{AreNames, order_weight}
-use Rattle.brick_state.proofs.Tallies.{names-ordered, live-ordered, order_within, order_fits}
+use Rattle.brick_state.specs.Tallies.{AreNames, NoneBeyond, order_weight}
+use Rattle.brick_state.proofs.Tallies.{names-ordered, beyond-put, live-ordered, order_within, order_fits}
 use Rattle.fab_base.specs.declared.stamps.Stamp.{Stamp}
 use Rattle.fab_base.specs.Stamps.{stamp_same, first_stamp}
 use Rattle.brick_state.proofs.stripe_tables.StripeTable.set_order.Goals as goal
@@ -41,6 +41,10 @@ invariant_of-self c =
         live-ordered stripes c.args.place c.args.stamp sorted,
         order_within stripes c.args.place sorted,
       );
+      few = t.few;
+      beyond = subst (λ (now : List (Place × StripeOf Entry)). NoneBeyond t.slots now t.counts) (sym c.set_order.ensures)
+          (beyond-put t.slots stripes t.counts t.counts c.args.place (with_order c.args.stamp (stripe_in stripes c.args.place)) sorted t.beyond refl
+          (λ slot past is_slot. omega arith));
       named = subst (λ (now : List (Place × StripeOf Entry)). AreNames now t.counts) (sym c.set_order.ensures)
           (names-ordered stripes t.counts c.args.place c.args.stamp sorted t.named);
     }
