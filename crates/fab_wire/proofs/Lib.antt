@@ -1,6 +1,3 @@
 pub mod Writings
-pub mod MessageKinds
-pub mod ClientKinds
-pub mod MessageLimits
 pub mod WholeMessages
 pub mod Sizes

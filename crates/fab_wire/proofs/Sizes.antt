@@ -6,8 +6,7 @@ use Rattle.byteorder.specs.Endian.{big_number}
 use Rattle.fields.specs.Parts.{Part}
 use Rattle.fab_wire.specs.Spelling.{IsAt}
 use Rattle.fields.specs.Laws.{IsBytes, IsBytes-drop, bind_ok, bind_err, ok_is, ok_not_err, made_is, IsPlain}
-use Rattle.fields.specs.Numbers.{guard_past}
-use Rattle.fields.specs.Choices.{chosen}
+use Rattle.fields.specs.Numbers.{guard_past, chosen}
 use Rattle.fab_base.specs.declared.identities.BrickId.{BrickId}
 use Rattle.fab_base.specs.declared.identities.GroupId.{GroupId}
 use Rattle.fab_base.specs.declared.identities.StripeNo.{StripeNo}
@@ -110,10 +109,9 @@ found_at law bytes at x rest isb within e =
       at_is = omega (arith, length-take at bytes);
     }
 
-pub ends_within : {X : Type 0} {size : ℕ} {reads : Reads X} → IsSized size reads → (bytes : List ℕ) (at : ℕ) (x : X) (rest : List ℕ)
-    → at ≤ length bytes
-    → reads (drop at bytes) ≡ Ok (x, rest) → at + size ≤ length bytes
-ends_within sized bytes at x rest within e = omega (arith, sized.read (drop at bytes) (x, rest) e, length-drop at bytes)
+pub not_short : {X : Type 0} {size : ℕ} {reads : Reads X} → IsSized size reads → (bytes : List ℕ) (at : ℕ) (x : X) (rest : List ℕ)
+    → at ≤ length bytes → reads (drop at bytes) ≡ Ok (x, rest) → length bytes < at + size → ⊥
+not_short sized bytes at x rest within e short = absurd (omega (arith, short, sized.read (drop at bytes) (x, rest) e, length-drop at bytes))
 
 pub ends_past : {X : Type 0} {size : ℕ} {reads : Reads X} → IsSized size reads → (bytes : List ℕ) (at left : ℕ) → at ≤ length bytes
     → reads (drop at bytes) ≡ Err left → length bytes < at + size

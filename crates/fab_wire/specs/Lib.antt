@@ -1,4 +1,5 @@
 pub mod Values
-pub mod Limits
+pub mod Requests
+pub mod Replies
+pub mod Clients
 pub mod Spelling
-pub mod Reading

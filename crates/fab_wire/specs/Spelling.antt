@@ -1,100 +1,248 @@
--- The bytes of messages. The kinds and their fields stand in the order of the table of docs/formats.md.
-use Rattle.std.specs.Prelude.{◌≡◌, ℕ, ◌≤◌, List, [], ◌∷◌, ◌++◌, length}
-use Rattle.fab_base.specs.declared.answers.Answer.TheVariants.{Data, Done, Aborted}
-use Rattle.fab_base.specs.declared.answers.Cause.TheVariants as causes
-use Rattle.fab_base.specs.declared.answers.Refusal.{Refusal}
-use Rattle.fab_base.specs.declared.answers.Refusal.TheVariants.{Down, NoStripe, NoBlock, Length, Busy, Spent}
-use Rattle.messages.specs.declared.clients.ClientAnswer.{ClientAnswer}
-use Rattle.messages.specs.declared.clients.ClientAnswer.TheVariants.{Ended, Refused}
+-- The bytes of messages: FABW, the version, the number of the kind, and its fields.
+use Rattle.std.proofs.Common.{◌≡◌, ℕ, Bool, true, false, cond, leb, ◌&&◌, ◌<◌, ◌≤◌, ◌^◌, List, [], ◌∷◌, ◌++◌, length, Option, Some, Result, Ok, Err, refl, sym, ap, ◌∙◌, arith, inl, inr}
+use Rattle.std.proofs.lemmas.Bool.{leb-true, and_parts}
+use Rattle.std.specs.Prelude.{nat_le, ◌==◌, if◌then◌else◌}
 use Rattle.fab_wire.specs.declared.faults.WireFault.{WireFault}
 use Rattle.fab_wire.specs.declared.faults.WireFault.TheVariants.{Malformed, NoMemory}
 use Rattle.messages.specs.declared.packets.Message.{Message}
-use Rattle.messages.specs.declared.packets.Message.TheVariants.{Learn, Synced, Client, ClientReply}
 use Rattle.messages.specs.declared.packets.Message.TheVariants as messages
 use Rattle.messages.specs.declared.requests.Request.{Request}
-use Rattle.messages.specs.declared.requests.Request.TheVariants as requests
 use Rattle.messages.specs.declared.replies.Reply.{Reply}
-use Rattle.messages.specs.declared.replies.Reply.TheVariants as replies
-use Rattle.fields.specs.Parts.{Part, Limited, spelled, AllFit, u8, u16, u32, u64, exactly}
-use Rattle.fields.specs.Codecs.{option_parts}
-use Rattle.fields.specs.Values.{ballot_codec, block_codec, content_codec, members_codec, stamp_codec}
-use Rattle.fab_wire.specs.Values.{call_codec, choice_codec, lineage_codec, look_codec, op_number, version_codec, want_codec}
+use Rattle.fields.specs.Codecs.{Codec, u64_codec, pair, seen, limited_to}
+use Rattle.fields.specs.Kinds.{Row, of, Kinds, IsKind, fields_at, kinds_at, kinds_law, kinds_within}
+use Rattle.fields.specs.Laws.{IsPlain, IsMade, same_reading, made_then}
+use Rattle.fields.specs.Numbers.{Stands, chosen, found_fits, found_or, exactly8, exactly32}
+use Rattle.fields.specs.Parts.{Part, Limited, Fits, AllFit, spelled, exactly}
+use Rattle.fields.specs.Reading.{Reads, ◌>>=◌, then_at, as_at, number_at, find, exactly_at}
+use Rattle.fields.specs.Values.{HasMembers, ContentFits, group_codec, view_number_codec, view_codec}
+use Rattle.fab_wire.specs.Values.{call_codec}
+use Rattle.fab_wire.specs.Requests.{RequestKind, Read, Accept, request_number, request_kinds, request_of, request_kind, request_row, request_made, request_at, request_same, request_parts, RequestFits, each_request, request_from}
+use Rattle.fab_wire.specs.Replies.{ReplyKind, Found, NotSynced, reply_number, reply_kinds, reply_of, reply_kind, reply_row, reply_made, reply_at, reply_same, reply_parts, ReplyFits, each_reply, reply_from}
+use Rattle.fab_wire.specs.Clients.{AnswerFits, client_codec, answer_codec}
+use Rattle.fab_wire.specs.declared.numbers.TheConstants.{FABW, VERSION, READ, ACCEPT, LEARN, SYNCED, FOUND, NOT_SYNCED, CLIENT, CLIENT_REPLY}
 
--- a request's kind, and its fields after the call
-abbrev pub request_row : Request → ℕ × List Part
-request_row (requests.Read want) = (1, want_codec.parts want)
-request_row (requests.Order stamp) = (2, stamp_codec.parts stamp)
-request_row (requests.OrderRead stamp look want) = (3, stamp_codec.parts stamp ++ (look_codec.parts look ++ want_codec.parts want))
-request_row (requests.Write stamp block) = (4, stamp_codec.parts stamp ++ block_codec.parts block)
-request_row (requests.Modify stamp base data_block delta) = (5, stamp_codec.parts stamp ++ (stamp_codec.parts base ++ (Limited 1 0 15 data_block ∷ block_codec.parts delta)))
-request_row (requests.Collect stamp) = (6, stamp_codec.parts stamp)
-request_row (requests.OldRead bound) = (7, option_parts stamp_codec.parts bound)
-request_row (requests.Prepare ballot) = (8, ballot_codec.parts ballot)
-request_row (requests.Accept ballot members) = (9, ballot_codec.parts ballot ++ members_codec.parts members)
+-- ---- the kinds of messages
 
--- a reply's kind, and its fields after the call
-abbrev pub reply_row : Reply → ℕ × List Part
-reply_row (replies.Found order newest) = (32, stamp_codec.parts order ++ option_parts version_codec.parts newest)
-reply_row replies.Ordered = (33, [])
-reply_row (replies.OrderedRead found) = (34, option_parts version_codec.parts found)
-reply_row replies.Stored = (35, [])
-reply_row (replies.Behind newest) = (36, option_parts stamp_codec.parts newest)
-reply_row (replies.Later stamp) = (37, stamp_codec.parts stamp)
-reply_row (replies.Full live) = (38, u32 live ∷ [])
-reply_row (replies.Moved view lineage) = (39, u32 view.0 ∷ option_parts lineage_codec.parts lineage)
-reply_row (replies.Old found) = (40, option_parts version_codec.parts found)
-reply_row replies.Retired = (41, [])
-reply_row (replies.Promise accepted) = (42, option_parts choice_codec.parts accepted)
-reply_row replies.Accepted = (43, [])
-reply_row (replies.Outbid ballot) = (44, ballot_codec.parts ballot)
-reply_row replies.NotSynced = (45, [])
+pub data Kind : Type 0 where
+  OfRequest : RequestKind → Kind
+  OfReply : ReplyKind → Kind
+  Learn : Kind
+  Synced : Kind
+  Client : Kind
+  ClientReply : Kind
 
--- Down has no status: its byte has no value allowed
-abbrev pub refusal_field : Refusal → Part
-refusal_field Down = Limited 1 1 0 0
-refusal_field NoStripe = exactly 16
-refusal_field NoBlock = exactly 17
-refusal_field Length = exactly 18
-refusal_field Busy = exactly 19
-refusal_field Spent = exactly 20
+abbrev pub kind_number : Kind → ℕ
+kind_number (OfRequest kind) = request_number kind
+kind_number (OfReply kind) = reply_number kind
+kind_number Learn = LEARN
+kind_number Synced = SYNCED
+kind_number Client = CLIENT
+kind_number ClientReply = CLIENT_REPLY
 
--- a client's answer: status, and what goes with it
-unfoldable pub answer_fields : ClientAnswer → List Part
-answer_fields (Ended (Data bytes)) = exactly 0 ∷ content_codec.parts bytes
-answer_fields (Ended Done) = exactly 1 ∷ []
-answer_fields (Ended (Aborted (causes.Later brick stamp))) = exactly 2 ∷ u16 brick.0 ∷ stamp_codec.parts stamp
-answer_fields (Ended (Aborted (causes.Gone brick))) = exactly 3 ∷ u16 brick.0 ∷ []
-answer_fields (Ended (Aborted (causes.Full brick live))) = exactly 4 ∷ u16 brick.0 ∷ u32 live ∷ []
-answer_fields (Ended (Aborted (causes.Moved brick view))) = exactly 5 ∷ u16 brick.0 ∷ u32 view.0 ∷ []
-answer_fields (Refused refusal) = refusal_field refusal ∷ []
+abbrev pub others : List Kind
+others = Learn ∷ Synced ∷ Client ∷ ClientReply ∷ []
 
--- the kind, and the fields after it
-unfoldable pub kind_of : Message → ℕ
-kind_of (messages.Request call request) = (request_row request).0
-kind_of (Learn group view) = 10
-kind_of (Synced group view) = 11
-kind_of (messages.Reply call reply) = (reply_row reply).0
-kind_of (Client ask) = 64
-kind_of (ClientReply id answer) = 65
+-- the kind of a number
+abbrev pub kind_value : ℕ → Option Kind
+kind_value n =
+    if nat_le READ n && nat_le n ACCEPT then Some (OfRequest (request_of n)) else
+    if nat_le FOUND n && nat_le n NOT_SYNCED then Some (OfReply (reply_of n)) else find kind_number others n
 
-unfoldable pub body_fields : Message → List Part
-body_fields (messages.Request call request) = call_codec.parts call ++ (request_row request).1
-body_fields (Learn group view) = u32 group.0 ∷ u32 view.number.0 ∷ members_codec.parts view.members ++ members_codec.parts view.prior
-body_fields (Synced group view) = u32 group.0 ∷ u32 view.0 ∷ []
-body_fields (messages.Reply call reply) = call_codec.parts call ++ (reply_row reply).1
-body_fields (Client ask) = u64 ask.id ∷ u32 ask.group.0 ∷ u32 ask.stripe.0 ∷ exactly (op_number ask.op) ∷ u8 ask.block ∷ content_codec.parts ask.bytes
-body_fields (ClientReply id answer) = u64 id ∷ answer_fields answer
+abbrev pub kind_of : Message → Kind
+kind_of (messages.Request call request) = OfRequest (request_kind request)
+kind_of (messages.Reply call reply) = OfReply (reply_kind reply)
+kind_of (messages.Learn group view) = Learn
+kind_of (messages.Synced group view) = Synced
+kind_of (messages.Client ask) = Client
+kind_of (messages.ClientReply id answer) = ClientReply
 
--- FABW
-abbrev pub fabw : ℕ
-fabw = 0x4641_4257
+-- the fields of each kind
+abbrev pub kind_row : Kind → Row
+kind_row (OfRequest kind) = of (pair call_codec (request_row kind).codec)
+kind_row (OfReply kind) = of (pair call_codec (reply_row kind).codec)
+kind_row Learn = of (pair group_codec view_codec)
+kind_row Synced = of (pair group_codec view_number_codec)
+kind_row Client = of client_codec
+kind_row ClientReply = of (pair u64_codec answer_codec)
 
--- FABW, version 1, the kind
-abbrev pub opening_fields : ℕ → List Part
-opening_fields kind = Limited 4 fabw fabw fabw ∷ exactly 1 ∷ exactly kind ∷ []
+abbrev pub message_made : (kind : Kind) → (kind_row kind).Value → Message
+message_made (OfRequest kind) (call, fields) = messages.Request call (request_made kind fields)
+message_made (OfReply kind) (call, fields) = messages.Reply call (reply_made kind fields)
+message_made Learn (group, view) = messages.Learn group view
+message_made Synced (group, view) = messages.Synced group view
+message_made Client ask = messages.Client ask
+message_made ClientReply (id, answer) = messages.ClientReply id answer
 
-unfoldable pub fields_of : Message → List Part
-fields_of message = opening_fields (kind_of message) ++ body_fields message
+-- what is spelled after the kind
+abbrev pub body_parts : Message → List Part
+body_parts (messages.Request call request) = call_codec.parts call ++ request_parts request
+body_parts (messages.Reply call reply) = call_codec.parts call ++ reply_parts reply
+body_parts (messages.Learn group view) = group_codec.parts group ++ view_codec.parts view
+body_parts (messages.Synced group view) = group_codec.parts group ++ view_number_codec.parts view
+body_parts (messages.Client ask) = client_codec.parts ask
+body_parts (messages.ClientReply id answer) = u64_codec.parts id ++ answer_codec.parts answer
+
+-- the message has a spelling: each number of its types has room in its field, and the other limits hold
+abbrev pub HasSpelling : Message → Type 0
+HasSpelling (messages.Request call request) = RequestFits request
+HasSpelling (messages.Reply call reply) = ReplyFits reply
+HasSpelling (messages.Learn group view) = HasMembers view.members × HasMembers view.prior
+HasSpelling (messages.Synced group view) = Unit {0}
+HasSpelling (messages.Client ask) = ContentFits ask.bytes
+HasSpelling (messages.ClientReply id answer) = AnswerFits answer
+
+abbrev pub kind_part : Kind → Part
+kind_part kind = exactly (kind_number kind)
+
+known : (kind : Kind) → kind_value (kind_number kind) ≡ Some kind
+known (OfRequest Read) = refl
+known (OfRequest kind) = refl
+known (OfReply Found) = refl
+known (OfReply kind) = refl
+known kind = refl
+
+made_only : {A : Type 0} (number : A → ℕ) (made : A → Kind) (a : A) (n : ℕ) (kind : Kind) → n < 256 ^ 1 → number a ≡ n
+    → ((b : A) → kind_number (made b) ≡ number b) → made a ≡ kind → (kind_number kind ≡ n) × Fits (kind_part kind)
+made_only number made a n kind lt is numbers same =
+    let k : kind_number kind ≡ n = ap kind_number (sym same) ∙ numbers a ∙ is in
+    (k, (omega arith, (omega arith, omega arith)))
+
+kind_only : (n : ℕ) (kind : Kind) → n < 256 ^ 1 → kind_value n ≡ Some kind → (kind_number kind ≡ n) × Fits (kind_part kind)
+kind_only n kind lt e =
+    elim (chosen (leb READ n && leb n ACCEPT) (Some (OfRequest (request_of n))) (cond (leb FOUND n && leb n NOT_SYNCED) (Some (OfReply (reply_of n)))
+    (find kind_number others n)) (Some kind) e) [
+      | inl w ↦
+          let both = and_parts (leb READ n) (leb n ACCEPT) w.0 in
+          made_only request_number (λ (k : RequestKind). OfRequest k) (request_of n) n kind lt
+          (found_or Accept request_number READ request_kinds (refl, (refl, (refl, (refl, (refl, (refl, (refl, (refl, tt)))))))) refl n (leb-true _ _ both.0) (leb-true _ _ both.1))
+          (λ b. refl) cc
+      | inr w ↦ elim (chosen (leb FOUND n && leb n NOT_SYNCED) (Some (OfReply (reply_of n))) (find kind_number others n) (Some kind) w.1) [
+        | inl v ↦
+            let both = and_parts (leb FOUND n) (leb n NOT_SYNCED) v.0 in
+            made_only reply_number (λ (k : ReplyKind). OfReply k) (reply_of n) n kind lt
+            (found_or NotSynced reply_number FOUND reply_kinds (refl, (refl, (refl, (refl, (refl, (refl, (refl, (refl, (refl, (refl, (refl, (refl, (refl, tt))))))))))))) refl n
+            (leb-true _ _ both.0) (leb-true _ _ both.1))
+            (λ b. refl) cc
+        | inr v ↦ found_fits kind_number others n kind lt v.1
+      ]
+    ]
+
+each_message : (kind : Kind) (v : (kind_row kind).Value)
+    → IsKind kind_part kind_of body_parts HasSpelling kind (kind_row kind).codec (message_made kind v) v
+each_message (OfRequest kind) v =
+    let e = each_request kind v.1 in
+    record { is = ap (λ (k : RequestKind). OfRequest k) e.is; spells = ap (λ (fs : List Part). call_codec.parts v.0 ++ fs) e.spells; keeps = λ t l. e.keeps t l.1 }
+each_message (OfReply kind) v =
+    let e = each_reply kind v.1 in
+    record { is = ap (λ (k : ReplyKind). OfReply k) e.is; spells = ap (λ (fs : List Part). call_codec.parts v.0 ++ fs) e.spells; keeps = λ t l. e.keeps t l.1 }
+each_message Learn v = record { is = refl; spells = refl; keeps = λ t l. l.1 }
+each_message Synced v = record { is = refl; spells = refl; keeps = λ t l. tt }
+each_message Client v = record { is = refl; spells = refl; keeps = λ t l. l }
+each_message ClientReply v = record { is = refl; spells = refl; keeps = λ t l. l.1 }
+
+message_from : (message : Message) → IsMade (λ (v : (kind_row (kind_of message)).Value). Unit {0}) (message_made (kind_of message)) message
+message_from (messages.Request call request) =
+    let f = request_from request in
+    record { from = (call, f.from); is = tt; same = ap (λ (r : Request). messages.Request call r) f.same }
+message_from (messages.Reply call reply) =
+    let f = reply_from reply in
+    record { from = (call, f.from); is = tt; same = ap (λ (r : Reply). messages.Reply call r) f.same }
+message_from (messages.Learn group view) = record { from = (group, view); is = tt; same = refl }
+message_from (messages.Synced group view) = record { from = (group, view); is = tt; same = refl }
+message_from (messages.Client ask) = record { from = ask; is = tt; same = refl }
+message_from (messages.ClientReply id answer) = record { from = (id, answer); is = tt; same = refl }
+
+pub kind_stands : Stands 1 kind_part kind_value
+kind_stands = record {
+  number = kind_number;
+  written = λ kind. refl;
+  there = λ kind fits. (fits.0, known kind);
+  only = kind_only;
+  example = Synced;
+  example_fits = (omega arith, (omega arith, omega arith));
+}
+
+pub message_kinds : Kinds kind_part kind_value kind_row message_made kind_of body_parts HasSpelling
+message_kinds = record { stands = kind_stands; each = each_message; from = message_from }
+
+-- ---- messages
+
+pub fabw_law : IsPlain (λ (u : Unit {0}). Limited 4 FABW FABW FABW ∷ []) (exactly_at 4 FABW)
+fabw_law = exactly32 FABW (omega arith)
+
+pub format_law : IsPlain (λ (u : Unit {0}). Limited 1 VERSION VERSION VERSION ∷ []) (exactly_at 1 VERSION)
+format_law = exactly8 VERSION (omega arith)
+
+abbrev pub fabw_codec : Codec (Unit {0})
+fabw_codec = record { Limits = λ u. Unit {0}; parts = λ u. Limited 4 FABW FABW FABW ∷ []; read = exactly_at 4 FABW; law = fabw_law; within = λ u fits. tt }
+
+abbrev pub format_codec : Codec (Unit {0})
+format_codec = record { Limits = λ u. Unit {0}; parts = λ u. Limited 1 VERSION VERSION VERSION ∷ []; read = exactly_at 1 VERSION; law = format_law; within = λ u fits. tt }
+
+-- how a message is read, by the number of its kind; so many bytes are left from the number on
+abbrev pub body_of : ℕ → ℕ → Reads Message
+body_of here n bytes =
+    if nat_le READ n && nat_le n ACCEPT then as_at (λ p. messages.Request p.0 p.1) (then_at call_codec.read (request_at n)) bytes else
+    if nat_le FOUND n && nat_le n NOT_SYNCED then as_at (λ p. messages.Reply p.0 p.1) (then_at call_codec.read (reply_at n)) bytes else
+    fields_at kind_row message_made here (find kind_number others n) bytes
+
+unfoldable pub body_at : Reads Message
+body_at bytes = number_at 1 bytes >>= λ x. body_of (length bytes) x.0 x.1
+
+pick : {A B : Type 0} (f : A → B) (a b : Bool) (x y z : A) (r s : B) → f x ≡ r → f y ≡ s → f (cond a x (cond b y z)) ≡ cond a r (cond b s (f z))
+pick f true b x y z r s e1 e2 = e1
+pick f false true x y z r s e1 e2 = e2
+pick f false false x y z r s e1 e2 = refl
+
+body_same : (here n : ℕ) (bytes : List ℕ) → fields_at kind_row message_made here (kind_value n) bytes ≡ body_of here n bytes
+body_same here n bytes =
+    pick (λ (kind : Option Kind). fields_at kind_row message_made here kind bytes) (leb READ n && leb n ACCEPT) (leb FOUND n && leb n NOT_SYNCED)
+    (Some (OfRequest (request_of n))) (Some (OfReply (reply_of n))) (find kind_number others n)
+    (as_at (λ p. messages.Request p.0 p.1) (then_at call_codec.read (request_at n)) bytes)
+    (as_at (λ p. messages.Reply p.0 p.1) (then_at call_codec.read (reply_at n)) bytes)
+    (made_then (λ call request. messages.Request call request) (request_made (request_of n)) call_codec.read (request_row (request_of n)).codec.read
+    (request_at n) (request_same n) bytes)
+    (made_then (λ call reply. messages.Reply call reply) (reply_made (reply_of n)) call_codec.read (reply_row (reply_of n)).codec.read
+    (reply_at n) (reply_same n) bytes)
+
+body_reads_by : (here : ℕ) (r : Result (ℕ × List ℕ) ℕ)
+    → (r >>= λ x. fields_at kind_row message_made here (kind_value x.0) x.1) ≡ (r >>= λ x. body_of here x.0 x.1)
+body_reads_by here (Ok x) = body_same here x.0 x.1
+body_reads_by here (Err left) = refl
+
+body_reads : (bytes : List ℕ) → kinds_at kind_value kind_row message_made bytes ≡ body_at bytes
+unfolding body_at
+body_reads bytes = body_reads_by (length bytes) (number_at 1 bytes)
+
+pub body_law : IsPlain (λ (message : Message). kind_part (kind_of message) ∷ body_parts message) body_at
+body_law = same_reading (kinds_at kind_value kind_row message_made) body_at body_reads (kinds_law message_kinds)
+
+abbrev pub body_codec : Codec Message
+body_codec = record {
+  Limits = HasSpelling;
+  parts = λ message. kind_part (kind_of message) ∷ body_parts message;
+  read = body_at;
+  law = body_law;
+  within = kinds_within message_kinds;
+}
+
+-- FABW, the version, the kind and its fields
+unfoldable pub message_fields : Codec Message
+message_fields = seen (λ p. p.1.1) (λ message. (tt, (tt, message))) (λ message. refl) (λ p. refl) (pair fabw_codec (pair format_codec body_codec))
+
+pub message_within : (message : Message) → AllFit (message_fields.parts message) → HasSpelling message
+unfolding message_fields
+message_within message fits = (message_fields.within message fits).1.1
+
+abbrev pub message_codec : Codec Message
+message_codec = limited_to HasSpelling message_fields message_within
+
+abbrev pub fields_of : Message → List Part
+fields_of message = message_codec.parts message
+
+-- all of the bytes
+unfoldable pub datagram_of : List ℕ → Result Message ℕ
+datagram_of bytes = message_codec.read bytes >>= λ x. if length x.1 == 0 then Ok x.0 else Err (length x.1)
 
 -- these bytes spell this message
 pub record Spells (bytes : List ℕ) (message : Message) : Type 0 where

@@ -1,5 +1,5 @@
 -- How the values of messages are spelled and read: calls, which seats and which entry are meant, versions, choices and lineages.
-use Rattle.std.proofs.Common.{◌≡◌, ℕ, cond, ltb, eqb, ◌<◌, ◌≤◌, List, [], ◌∷◌, ◌++◌, length, Result, Ok, Err, refl, sym, ap, subst, ◌∙◌, arith, inl, inr}
+use Rattle.std.proofs.Common.{◌≡◌, ℕ, cond, ltb, eqb, ◌<◌, ◌≤◌, ◌^◌, Bool, true, false, List, [], ◌∷◌, Option, Some, None, refl, sym, subst, arith, inl, inr}
 use Rattle.std.specs.Prelude.{nat_lt, ◌==◌, if◌then◌else◌}
 use Rattle.std.proofs.lemmas.Bool.{eqb-true, ltb-true, lt-ltb}
 use Rattle.fab_base.specs.declared.identities.BrickId.{BrickId}
@@ -18,13 +18,14 @@ use Rattle.messages.specs.declared.requests.Look.{Look}
 use Rattle.messages.specs.declared.requests.Look.TheVariants.{Below, At}
 use Rattle.messages.specs.declared.replies.Choice.{Choice}
 use Rattle.messages.specs.declared.replies.Lineage.{Lineage}
-use Rattle.fields.specs.Codecs.{Codec, u32_codec, u64_codec, pair, seen, limited_to}
-use Rattle.fields.specs.Parts.{Part, Number, Limited, number_bytes, bytes_of, spelled, Fits, AllFit, exactly}
-use Rattle.fields.specs.Reading.{Reads, ◌>>=◌, as_at, nothing_at, number_at, choice_at, row, no_row}
-use Rattle.fields.specs.Laws.{IsBytes, bind_ok, bind_err, ok_is, ok_not_err, Takes, IsField, IsPlain, IsMade, made_field, nothing_field, same_parts, single_field}
-use Rattle.fields.specs.Numbers.{field8, number_again, number_fails, guard_held, held_err}
-use Rattle.fields.specs.Choices.{chosen, HasRow, with_row, without_rows, choice_field}
+use Rattle.fields.specs.Codecs.{Codec, u32_codec, u64_codec, pair, seen, limited_to, byte_of}
+use Rattle.fields.specs.Kinds.{Row, of, Kinds, IsKind, one_of, flag_part, flag_value, flag_stands}
+use Rattle.fields.specs.Parts.{Part, Limited, number_bytes, bytes_of, Fits, AllFit, exactly}
+use Rattle.fields.specs.Reading.{find, limited_at}
+use Rattle.fields.specs.Laws.{IsPlain, IsMade}
+use Rattle.fields.specs.Numbers.{Stands, listed, limited8, chosen, chosen_some}
 use Rattle.fields.specs.Values.{HasMembers, BlockFits, group_codec, stripe_codec, view_number_codec, stamp_codec, ballot_codec, members_codec, block_codec}
+use Rattle.fab_wire.specs.declared.numbers.TheConstants.{ALL_SEATS, READ_BLOCK, WRITE_BLOCK, READ_STRIPE, WRITE_STRIPE}
 
 -- boot, seq, phase, group, view, stripe
 abbrev pub made_call : ℕ × (ℕ × (ℕ × (GroupId × (ViewNo × StripeNo)))) → Call
@@ -80,195 +81,115 @@ lineage_within l fits = lineage_fields.within l fits
 abbrev pub lineage_codec : Codec Lineage
 lineage_codec = limited_to (λ l. HasMembers l.members × HasMembers l.prior) lineage_fields lineage_within
 
--- a seat is one of 32
+-- ---- which seats: one from 0 to 31, or 255 for all
+
 abbrev pub WantFits : Want → Type 0
 WantFits (Seat seat) = seat ≤ 31
 WantFits All = Unit {0}
 
--- a seat from 0 to 31, or 255 for all
-unfoldable pub want_parts : Want → List Part
-want_parts (Seat seat) = Limited 1 0 31 seat ∷ []
-want_parts All = exactly 255 ∷ []
-
-unfoldable pub want_at : Reads Want
-want_at bytes =
-    number_at 1 bytes >>= λ x. if nat_lt x.0 32 then Ok (Seat x.0, x.1) else if x.0 == 255 then Ok (All, x.1) else Err (length bytes)
-
--- 0 below or 1 at, and the stamp
-unfoldable pub look_parts : Look → List Part
-look_parts (Below stamp) = exactly 0 ∷ stamp_codec.parts stamp
-look_parts (At stamp) = exactly 1 ∷ stamp_codec.parts stamp
-
-unfoldable pub look_at : Reads Look
-look_at = choice_at (row 0 (as_at (λ s. Below s) stamp_codec.read) (row 1 (as_at (λ s. At s) stamp_codec.read) no_row))
-
-abbrev pub op_number : ClientOp → ℕ
-op_number ReadBlock = 0
-op_number WriteBlock = 1
-op_number ReadStripe = 2
-op_number WriteStripe = 3
-
-unfoldable pub op_at : Reads ClientOp
-op_at = choice_at (row 0 (as_at (λ u. ReadBlock) nothing_at) (row 1 (as_at (λ u. WriteBlock) nothing_at) (row 2 (as_at (λ u. ReadStripe) nothing_at) (row 3 (as_at (λ u. WriteStripe) nothing_at) no_row))))
-
--- ---- which seats, which entry, which operation
-
-look_number : Look → ℕ
-look_number (Below stamp) = 0
-look_number (At stamp) = 1
-
-look_inner : Look → List Part
-look_inner (Below stamp) = stamp_codec.parts stamp
-look_inner (At stamp) = stamp_codec.parts stamp
-
-look_same : (l : Look) → exactly (look_number l) ∷ look_inner l ≡ look_parts l
-unfolding look_number look_inner look_parts
-look_same (Below stamp) = refl
-look_same (At stamp) = refl
-
-abbrev below_of : Stamp → Look
-below_of stamp = Below stamp
-
-abbrev at_of : Stamp → Look
-at_of stamp = At stamp
-
-is_below : (l : Look) → look_number l ≡ 0 → IsMade (λ (s : Stamp). Unit {0}) below_of l
-unfolding look_number
-is_below (Below stamp) e = record { from = stamp; is = tt; same = refl }
-is_below (At stamp) e = absurd (omega arith)
-
-is_at : (l : Look) → look_number l ≡ 1 → IsMade (λ (s : Stamp). Unit {0}) at_of l
-unfolding look_number
-is_at (Below stamp) e = absurd (omega arith)
-is_at (At stamp) e = record { from = stamp; is = tt; same = refl }
-
-look_rows : (l : Look) → HasRow (row 0 (as_at below_of stamp_codec.read) (row 1 (as_at at_of stamp_codec.read) no_row)) (look_number l)
-unfolding look_number
-look_rows (Below stamp) = record { at = as_at below_of stamp_codec.read; is = refl }
-look_rows (At stamp) = record { at = as_at at_of stamp_codec.read; is = refl }
-
-pub look_law : IsPlain look_parts look_at
-unfolding look_at look_number look_inner
-look_law =
-    same_parts look_parts (λ l u. look_same l)
-    (choice_field {number = look_number} {parts = look_inner}
-    (with_row 0 (made_field (λ (l : Look). look_number l ≡ 0) look_inner below_of (λ s is. refl) (λ s is. refl) is_below stamp_codec.law)
-    (with_row 1 (made_field (λ (l : Look). look_number l ≡ 1) look_inner at_of (λ s is. refl) (λ s is. refl) is_at stamp_codec.law)
-    without_rows))
-    0 (as_at below_of stamp_codec.read) refl (omega arith) look_rows)
-
-abbrev made_op : ClientOp → Unit {0} → ClientOp
-made_op op u = op
-
-op_is : (op other : ClientOp) → op_number other ≡ op_number op → other ≡ op
-op_is ReadBlock ReadBlock e = refl
-op_is WriteBlock WriteBlock e = refl
-op_is ReadStripe ReadStripe e = refl
-op_is WriteStripe WriteStripe e = refl
-op_is op other e = absurd (omega arith)
-
-op_row : (op : ClientOp) → IsField (λ (o : ClientOp). op_number o ≡ op_number op) (λ (o : ClientOp). []) (as_at (made_op op) nothing_at)
-op_row op = made_field (λ (o : ClientOp). op_number o ≡ op_number op) (λ (o : ClientOp). []) (made_op op) (λ u is. refl) (λ u is. refl)
-    (λ o e. record { from = tt; is = tt; same = sym (op_is op o e) }) nothing_field
-
-op_rows : (op : ClientOp) → HasRow (row 0 (as_at (made_op ReadBlock) nothing_at) (row 1 (as_at (made_op WriteBlock) nothing_at)
-    (row 2 (as_at (made_op ReadStripe) nothing_at) (row 3 (as_at (made_op WriteStripe) nothing_at) no_row)))) (op_number op)
-op_rows ReadBlock = record { at = as_at (made_op ReadBlock) nothing_at; is = refl }
-op_rows WriteBlock = record { at = as_at (made_op WriteBlock) nothing_at; is = refl }
-op_rows ReadStripe = record { at = as_at (made_op ReadStripe) nothing_at; is = refl }
-op_rows WriteStripe = record { at = as_at (made_op WriteStripe) nothing_at; is = refl }
-
-pub op_law : IsPlain (λ (op : ClientOp). exactly (op_number op) ∷ []) op_at
-unfolding op_at
-op_law =
-    choice_field {number = op_number} {parts = λ (op : ClientOp). []}
-    (with_row 0 (op_row ReadBlock) (with_row 1 (op_row WriteBlock) (with_row 2 (op_row ReadStripe) (with_row 3 (op_row WriteStripe) without_rows))))
-    0 (as_at (made_op ReadBlock) nothing_at) refl (omega arith) op_rows
-
-abbrev want_is : ℕ × List ℕ → ℕ → Result (Want × List ℕ) ℕ
-want_is x here = cond (ltb x.0 32) (Ok (Seat x.0, x.1)) (cond (eqb x.0 255) (Ok (All, x.1)) (Err here))
-
-want_part : Want → Part
+abbrev pub want_part : Want → Part
 want_part (Seat seat) = Limited 1 0 31 seat
-want_part All = exactly 255
+want_part All = exactly ALL_SEATS
 
-want_same : (w : Want) → want_part w ∷ [] ≡ want_parts w
-unfolding want_part want_parts
-want_same (Seat seat) = refl
-want_same All = refl
+abbrev pub want_value : ℕ → Option Want
+want_value n = if nat_lt n 32 then Some (Seat n) else if n == ALL_SEATS then Some All else None
 
-want_takes : (bytes : List ℕ) (w : Want) (rest : List ℕ) → IsBytes bytes → want_at bytes ≡ Ok (w, rest) → (Unit {0})
-    × Takes bytes (want_part w ∷ []) rest
-unfolding want_at want_part
-want_takes bytes w rest isb e =
-    let a = bind_ok (number_at 1 bytes) (λ x. want_is x (length bytes)) (w, rest) e in
-    let took = (field8.takes bytes a.0.0 a.0.1 isb a.1).1 in
-    elim (chosen (ltb a.0.0 32) (Ok (Seat a.0.0, a.0.1)) (cond (eqb a.0.0 255) (Ok (All, a.0.1)) (Err (length bytes))) (Ok (w, rest)) a.2) [
+abbrev want_number : Want → ℕ
+want_number (Seat seat) = seat
+want_number All = ALL_SEATS
+
+want_written : (w : Want) → bytes_of (want_part w) ≡ number_bytes 1 (want_number w)
+want_written (Seat seat) = refl
+want_written All = refl
+
+want_there : (w : Want) → Fits (want_part w) → (want_number w < 256 ^ 1) × (want_value (want_number w) ≡ Some w)
+want_there (Seat seat) fits = (fits.0, rw (lt-ltb seat 32 (omega (arith, fits.1.1))) refl)
+want_there All fits = (fits.0, refl)
+
+want_only : (n : ℕ) (w : Want) → n < 256 ^ 1 → want_value n ≡ Some w → (want_number w ≡ n) × Fits (want_part w)
+want_only n w lt e =
+    elim (chosen (ltb n 32) (Some (Seat n)) (cond (eqb n ALL_SEATS) (Some All) None) (Some w) e) [
       | inl c ↦
-          let lt : a.0.0 < 32 = ltb-true _ _ c.0 in
-          let whole : Takes bytes (want_part (Seat a.0.0) ∷ []) a.0.1 = record {
-            parts = took.parts;
-            fits = (
-              (
-                took.fits.0,
-                (omega arith, omega arith),
-              ),
-              tt,
-            );
-            rest_fits = took.rest_fits;
-          } in
-          (tt, subst (λ (p : Want × List ℕ). Takes bytes (want_part p.0 ∷ []) p.1) (ok_is (Seat a.0.0, a.0.1) (w, rest) c.1) whole)
+          let low : n < 32 = ltb-true _ _ c.0 in
+          let same : Seat n ≡ w = cc in
+          subst (λ (v : Want). (want_number v ≡ n) × Fits (want_part v)) same (refl, (lt, (omega arith, omega arith)))
       | inr c ↦
-          let held = guard_held (eqb a.0.0 255) (length bytes) (Ok (All, a.0.1)) (w, rest) c.1 in
-          let last : a.0.0 ≡ 255 = eqb-true _ _ held.0 in
-          let parts : bytes ≡ spelled (exactly 255 ∷ []) ++ a.0.1 = subst (λ (n : ℕ). bytes ≡ spelled (Number 1 n ∷ []) ++ a.0.1) last took.parts in
-          let whole : Takes bytes (want_part All ∷ []) a.0.1 = record {
-            parts = parts;
-            fits = (
-              (omega arith, (omega arith, omega arith)),
-              tt,
-            );
-            rest_fits = took.rest_fits;
-          } in
-          (tt, subst (λ (p : Want × List ℕ). Takes bytes (want_part p.0 ∷ []) p.1) (ok_is (All, a.0.1) (w, rest) held.1) whole)
+          let last = chosen_some (eqb n ALL_SEATS) All w c.1 in
+          subst (λ (v : Want). (want_number v ≡ n) × Fits (want_part v)) last.1 (sym (eqb-true _ _ last.0), (omega arith, (omega arith, omega arith)))
     ]
 
-want_again : (w : Want) (rest : List ℕ) → Fits (want_part w) → want_at (bytes_of (want_part w) ++ rest) ≡ Ok (w, rest)
-unfolding want_at want_part
-want_again (Seat seat) rest fits =
-    ap (λ (r : Result (ℕ × List ℕ) ℕ). r >>= λ x. want_is x (length (number_bytes 1 seat ++ rest))) (number_again 1 seat rest fits.0)
-    ∙ rw (lt-ltb seat 32 (omega (arith, fits.1.1))) refl
-want_again All rest fits =
-    ap (λ (r : Result (ℕ × List ℕ) ℕ). r >>= λ x. want_is x (length (number_bytes 1 255 ++ rest))) (number_again 1 255 rest fits.0)
+pub want_stands : Stands 1 want_part want_value
+want_stands = record { number = want_number; written = want_written; there = want_there; only = want_only; example = All; example_fits = (omega arith, (omega arith, omega arith)) }
 
-want_fails : (bytes : List ℕ) (left : ℕ) → want_at bytes ≡ Err left → left ≡ length bytes
-unfolding want_at
-want_fails bytes left e =
-    elim (bind_err (number_at 1 bytes) (λ x. want_is x (length bytes)) left e) [
-      | inl e1 ↦ number_fails 1 bytes left e1
-      | inr w ↦
-          elim (chosen (ltb w.0.0 32) (Ok (Seat w.0.0, w.0.1)) (cond (eqb w.0.0 255) (Ok (All, w.0.1)) (Err (length bytes))) (Err left) w.2) [
-            | inl c ↦ absurd (ok_not_err (Seat w.0.0, w.0.1) left c.1)
-            | inr c ↦ held_err (eqb w.0.0 255) (length bytes) (All, w.0.1) left c.1
-          ]
-    ]
-
-pub want_law : IsPlain want_parts want_at
-unfolding want_part
-want_law = same_parts want_parts (λ w u. want_same w)
-    (single_field (λ (w : Want). Unit {0}) want_part want_at (Seat 0) tt (omega arith, (omega arith, omega arith))
-    want_takes (λ w rest u fits. want_again w rest fits) want_fails)
-
-pub want_within : (w : Want) → AllFit (want_parts w) → WantFits w
-unfolding want_parts
-want_within (Seat seat) fits = fits.0.1.1
+pub want_within : (w : Want) → Fits (want_part w) → WantFits w
+want_within (Seat seat) fits = fits.1.1
 want_within All fits = tt
 
 abbrev pub want_codec : Codec Want
-want_codec = record { Limits = WantFits; parts = want_parts; read = want_at; law = want_law; within = want_within }
+want_codec = byte_of WantFits want_within want_stands
+
+-- ---- which entry: 0 below or 1 at, and the stamp
+
+abbrev pub look_row : Bool → Row
+look_row at = of stamp_codec
+
+abbrev pub look_made : (at : Bool) → (look_row at).Value → Look
+look_made false stamp = Below stamp
+look_made true stamp = At stamp
+
+abbrev pub is_at : Look → Bool
+is_at (Below stamp) = false
+is_at (At stamp) = true
+
+abbrev pub look_parts : Look → List Part
+look_parts (Below stamp) = stamp_codec.parts stamp
+look_parts (At stamp) = stamp_codec.parts stamp
+
+each_look : (at : Bool) (stamp : Stamp) → IsKind flag_part is_at look_parts (λ look. Unit {0}) at stamp_codec (look_made at stamp) stamp
+each_look false stamp = record { is = refl; spells = refl; keeps = λ t l. tt }
+each_look true stamp = record { is = refl; spells = refl; keeps = λ t l. tt }
+
+look_from : (look : Look) → IsMade (λ (stamp : Stamp). Unit {0}) (look_made (is_at look)) look
+look_from (Below stamp) = record { from = stamp; is = tt; same = refl }
+look_from (At stamp) = record { from = stamp; is = tt; same = refl }
+
+pub look_kinds : Kinds flag_part flag_value look_row look_made is_at look_parts (λ look. Unit {0})
+look_kinds = record { stands = flag_stands; each = each_look; from = look_from }
 
 abbrev pub look_codec : Codec Look
-look_codec = record { Limits = λ l. Unit {0}; parts = look_parts; read = look_at; law = look_law; within = λ l fits. tt }
+look_codec = one_of look_kinds
+
+-- ---- which operation
+
+abbrev pub op_number : ClientOp → ℕ
+op_number ReadBlock = READ_BLOCK
+op_number WriteBlock = WRITE_BLOCK
+op_number ReadStripe = READ_STRIPE
+op_number WriteStripe = WRITE_STRIPE
+
+abbrev pub ops : List ClientOp
+ops = ReadBlock ∷ WriteBlock ∷ ReadStripe ∷ WriteStripe ∷ []
+
+op_known : (op : ClientOp) → find op_number ops (op_number op) ≡ Some op
+op_known ReadBlock = refl
+op_known op = refl
+
+pub op_stands : Stands 1 (λ (op : ClientOp). exactly (op_number op)) (find op_number ops)
+op_stands = listed op_number ops op_known ReadBlock (omega arith)
 
 abbrev pub op_codec : Codec ClientOp
-op_codec = record { Limits = λ op. Unit {0}; parts = λ op. exactly (op_number op) ∷ []; read = op_at; law = op_law; within = λ op fits. tt }
+op_codec = byte_of (λ op. Unit {0}) (λ op fits. tt) op_stands
+
+-- ---- a data block is one of 16
+
+pub data_block_law : IsPlain (λ (n : ℕ). Limited 1 0 15 n ∷ []) (limited_at 1 0 15)
+data_block_law = limited8 0 15 (omega arith) (omega arith)
+
+abbrev pub data_block_codec : Codec ℕ
+data_block_codec = record {
+  Limits = λ n. n ≤ 15;
+  parts = λ n. Limited 1 0 15 n ∷ [];
+  read = limited_at 1 0 15;
+  law = data_block_law;
+  within = λ n fits. fits.0.1.1;
+}

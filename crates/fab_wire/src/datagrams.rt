@@ -3,24 +3,21 @@
 ghost use Rattle.std.specs.Prelude.{◌≡◌, ◌≤◌, ◌<◌, ◌+◌, ◌↔◌, List, ℕ, length, IfOk, IfErr, IfSome, IsNone, OnOk, ◌++◌};
 ghost use Rattle.messages.specs.declared.packets.Message.{Message};
 ghost use Rattle.fields.specs.Parts.{spelled, AllFit};
-ghost use Rattle.fab_wire.specs.Limits.{HasSpelling};
-ghost use Rattle.fields.specs.Reading.{GivesOrNoMemory, exactly_at, choice_at};
-ghost use Rattle.fab_wire.specs.Reading.{kinds, message_at, datagram_of};
-ghost use Rattle.fab_wire.specs.Spelling.{fabw, fields_of, Spells, MalformedIs, IsAt};
+ghost use Rattle.fields.specs.Reading.{GivesOrNoMemory, GivesAll};
 ghost use Rattle.fields.specs.Values.{ballot_codec, stamp_codec};
 ghost use Rattle.fab_wire.specs.Values.{call_codec};
+ghost use Rattle.fab_wire.specs.Spelling.{HasSpelling, fields_of, message_codec, body_codec, datagram_of, Spells, MalformedIs, IsAt};
 
-use crate::client_reads::client_message_of;
-use crate::client_writes::{put_client, put_client_reply};
+use crate::clients::{put_answer, put_client, take_answer, take_client};
 use crate::faults::WireFault;
-use crate::field_writes::{FABW, VERSION};
-use crate::reply_reads::reply_of;
-use crate::reply_writes::put_reply;
-use crate::request_reads::request_of;
-use crate::request_writes::{put_learn, put_request, put_synced};
-use crate::values::take_call;
+use crate::numbers::{
+    ACCEPT, CLIENT, CLIENT_REPLY, FABW, FOUND, LEARN, NOT_SYNCED, READ, SYNCED, VERSION,
+};
+use crate::replies::{number_of_reply, put_reply, take_reply};
+use crate::requests::{number_of_request, put_request, take_request};
+use crate::values::{put_call, take_call};
 use fab_base::{Ballot, Bytes, NoMem, Stamp};
-use fields::{Field, ReadFault};
+use fields::{Field, ReadFault, Reader};
 use messages::{Call, Message};
 use std::alloc::Global;
 
@@ -50,7 +47,7 @@ pub fn decode(alloc: Global, bytes: &[u8]) -> Result<Message, WireFault>
     // What has a spelling may be encoded.
     ensures limits { (message : Message) → Spells bytes.now message → HasSpelling message }
 {
-    match datagram(alloc, bytes) {
+    match take_datagram(alloc, bytes) {
         Ok(message) => Ok(message),
         Err(ReadFault::Malformed(left)) => Err(WireFault::Malformed {
             at: bytes.len() - left,
@@ -68,8 +65,8 @@ pub fn read_call(bytes: &[u8], at: usize) -> Option<Call>
         return None;
     }
     let (_, rest) = bytes.split_at(at);
-    match take_call(rest) {
-        Ok((call, _)) => Some(call),
+    match take_call(&mut Reader { rest }) {
+        Ok(call) => Some(call),
         Err(_) => None,
     }
 }
@@ -83,8 +80,8 @@ pub fn read_stamp(bytes: &[u8], at: usize) -> Option<Stamp>
         return None;
     }
     let (_, rest) = bytes.split_at(at);
-    match Stamp::take(rest) {
-        Ok((stamp, _)) => Some(stamp),
+    match Stamp::take(&mut Reader { rest }) {
+        Ok(stamp) => Some(stamp),
         Err(_) => None,
     }
 }
@@ -98,86 +95,112 @@ pub fn read_ballot(bytes: &[u8], at: usize) -> Option<Ballot>
         return None;
     }
     let (_, rest) = bytes.split_at(at);
-    match Ballot::take(rest) {
-        Ok((ballot, _)) => Some(ballot),
+    match Ballot::take(&mut Reader { rest }) {
+        Ok(ballot) => Some(ballot),
         Err(_) => None,
     }
 }
 
-// Adds the message's bytes.
+/// Adds the message's bytes.
+#[tactic(auto, using(crate::proofs::Writings::joined), unfolding(crate::specs::Spelling::message_fields))]
 fn put_message(out: &mut Vec<u8>, message: &Message) -> Result<(), NoMem>
     requires { HasSpelling message.now }
     ensures bytes { OnOk result (out.new.items ≡ out.old.items ++ spelled (fields_of message.now)) }
     ensures fits { OnOk result (AllFit (fields_of message.now)) }
 {
+    (FABW, VERSION).put(out)?;
+    put_body(out, message)
+}
+
+/// Adds the number of the message's kind, and the message's fields.
+#[tactic(auto, using(crate::proofs::Writings::joined))]
+fn put_body(out: &mut Vec<u8>, message: &Message) -> Result<(), NoMem>
+    requires { HasSpelling message.now }
+    ensures bytes { OnOk result (out.new.items ≡ out.old.items ++ spelled (body_codec.parts message.now)) }
+    ensures fits { OnOk result (AllFit (body_codec.parts message.now)) }
+{
     match message {
-        Message::Request(call, request) => put_request(out, *call, request),
-        Message::Reply(call, reply) => put_reply(out, *call, reply),
-        Message::Learn { group, view } => put_learn(out, *group, view),
-        Message::Synced { group, view } => put_synced(out, *group, *view),
-        Message::Client(ask) => put_client(out, ask),
-        Message::ClientReply { id, answer } => put_client_reply(out, *id, answer),
+        Message::Request(call, request) => {
+            number_of_request(request).put(out)?;
+            put_call(out, *call)?;
+            put_request(out, request)
+        }
+        Message::Reply(call, reply) => {
+            number_of_reply(reply).put(out)?;
+            put_call(out, *call)?;
+            put_reply(out, reply)
+        }
+        Message::Learn { group, view } => {
+            (LEARN, *group).put(out)?;
+            view.put(out)
+        }
+        Message::Synced { group, view } => (SYNCED, (*group, *view)).put(out),
+        Message::Client(ask) => {
+            CLIENT.put(out)?;
+            put_client(out, ask)
+        }
+        Message::ClientReply { id, answer } => {
+            (CLIENT_REPLY, *id).put(out)?;
+            put_answer(out, answer)
+        }
     }
 }
 
-// The message that is all of the bytes.
-#[tactic(auto, unfolding(crate::specs::Reading::datagram_of))]
-fn datagram(alloc: Global, bytes: &[u8]) -> Result<Message, ReadFault>
-    ensures { GivesOrNoMemory (λ message. message) result (datagram_of bytes.now) }
+/// The message that is all of the bytes.
+#[tactic(auto, unfolding(crate::specs::Spelling::datagram_of))]
+fn take_datagram(alloc: Global, bytes: &[u8]) -> Result<Message, ReadFault>
+    ensures { GivesAll result (datagram_of bytes.now) }
 {
-    let (message, rest) = message_of(alloc, bytes)?;
-    if rest.is_empty() {
+    let mut from = Reader { rest: bytes };
+    let message = take_message(alloc, &mut from)?;
+    if from.rest.is_empty() {
         Ok(message)
     } else {
-        Err(ReadFault::Malformed(rest.len()))
+        Err(ReadFault::Malformed(from.rest.len()))
     }
 }
 
-// The message that the bytes begin with, and the bytes after it.
-#[tactic(auto, unfolding(crate::specs::Reading::message_at))]
-fn message_of(alloc: Global, bytes: &[u8]) -> Result<(Message, &[u8]), ReadFault>
-    ensures { GivesOrNoMemory (λ x. (x.0, x.1.now)) result (message_at bytes.now) }
+/// Reads a message.
+#[tactic(auto, unfolding(crate::specs::Spelling::message_fields))]
+fn take_message(alloc: Global, from: &mut Reader<'_>) -> Result<Message, ReadFault>
+    ensures { GivesOrNoMemory result from.new.rest.now (message_codec.read from.old.rest.now) }
 {
-    let rest = after_name(bytes)?;
-    let rest = after_version(rest)?;
-    kind_and_fields(alloc, rest)
+    let left = from.rest.len();
+    let fabw: u32 = from.take()?;
+    if fabw != FABW {
+        return Err(ReadFault::Malformed(left));
+    }
+    let left = from.rest.len();
+    let version: u8 = from.take()?;
+    if version != VERSION {
+        return Err(ReadFault::Malformed(left));
+    }
+    take_body(alloc, from)
 }
 
-// What follows the four bytes FABW.
-fn after_name(bytes: &[u8]) -> Result<&[u8], ReadFault>
-    ensures { GivesOrNoMemory (λ rest. (tt, rest.now)) result (exactly_at 4 fabw bytes.now) }
+/// Reads the number of a kind, and the fields of a message of this kind.
+#[tactic(auto, unfolding(crate::specs::Spelling::body_at))]
+fn take_body(alloc: Global, from: &mut Reader<'_>) -> Result<Message, ReadFault>
+    ensures { GivesOrNoMemory result from.new.rest.now (body_codec.read from.old.rest.now) }
 {
-    let (name, rest) = u32::take(bytes)?;
-    if name == FABW {
-        Ok(rest)
-    } else {
-        Err(ReadFault::Malformed(bytes.len()))
-    }
-}
-
-// What follows the version.
-fn after_version(bytes: &[u8]) -> Result<&[u8], ReadFault>
-    ensures { GivesOrNoMemory (λ rest. (tt, rest.now)) result (exactly_at 1 1 bytes.now) }
-{
-    let (version, rest) = u8::take(bytes)?;
-    if version == VERSION {
-        Ok(rest)
-    } else {
-        Err(ReadFault::Malformed(bytes.len()))
-    }
-}
-
-// A kind and its fields.
-#[tactic(auto, unfolding(crate::specs::Reading::kinds))]
-fn kind_and_fields(alloc: Global, bytes: &[u8]) -> Result<(Message, &[u8]), ReadFault>
-    ensures { GivesOrNoMemory (λ x. (x.0, x.1.now)) result (choice_at kinds bytes.now) }
-{
-    let (kind, rest) = u8::take(bytes)?;
-    if kind < 32 {
-        request_of(alloc, kind, bytes.len(), rest)
-    } else if kind < 64 {
-        reply_of(alloc, kind, bytes.len(), rest)
-    } else {
-        client_message_of(alloc, kind, bytes.len(), rest)
-    }
+    let left = from.rest.len();
+    let number = from.take()?;
+    Ok(match number {
+        READ..=ACCEPT => { Message::Request(take_call(from)?, take_request(alloc, from, number)?) }
+        FOUND..=NOT_SYNCED => Message::Reply(take_call(from)?, take_reply(alloc, from, number)?),
+        LEARN => Message::Learn {
+            group: from.take()?,
+            view: from.take()?,
+        },
+        SYNCED => Message::Synced {
+            group: from.take()?,
+            view: from.take()?,
+        },
+        CLIENT => Message::Client(take_client(alloc, from)?),
+        CLIENT_REPLY => Message::ClientReply {
+            id: from.take()?,
+            answer: take_answer(alloc, from)?,
+        },
+        _ => return Err(ReadFault::Malformed(left)),
+    })
 }

@@ -4,16 +4,12 @@
 //! Erasure-Coded Virtual Disks" (DSN 2004), with views and their agreement after Saito et al. (ASPLOS 2004).
 #![tactic(auto)]
 
-mod client_reads;
-mod client_writes;
+mod clients;
 mod datagrams;
 mod faults;
-mod field_reads;
-mod field_writes;
-mod reply_reads;
-mod reply_writes;
-mod request_reads;
-mod request_writes;
+mod numbers;
+mod replies;
+mod requests;
 mod values;
 
 pub use datagrams::{decode, encode, read_ballot, read_call, read_stamp};

@@ -1,16 +1,16 @@
-//! Calls, which seats and which entry are meant, choices and lineages as fields.
+//! Calls, which seats and which entry are meant, versions, choices and lineages as fields.
 
 ghost use Rattle.std.specs.Prelude.{◌≡◌, ◌++◌, OnOk};
-ghost use Rattle.fields.specs.Codecs.{option_at, option_parts};
+ghost use Rattle.fields.specs.Kinds.{option};
 ghost use Rattle.fields.specs.Parts.{spelled, AllFit};
-ghost use Rattle.fields.specs.Reading.{Gives};
-ghost use Rattle.fields.specs.Values.{HasMembers};
-ghost use Rattle.fab_wire.specs.Limits.{LineageFits, ChoiceFits};
-ghost use Rattle.fab_wire.specs.Values.{WantFits, call_codec, want_codec, look_codec, op_codec, choice_codec, lineage_codec};
+ghost use Rattle.fields.specs.Reading.{Gives, GivesOrNoMemory};
+ghost use Rattle.fab_wire.specs.Values.{call_codec, want_codec, look_codec, op_codec, data_block_codec, version_codec, choice_codec, lineage_codec};
 
+use crate::numbers::{ALL_SEATS, READ_BLOCK, READ_STRIPE, WRITE_BLOCK, WRITE_STRIPE};
 use fab_base::NoMem;
-use fields::{Field, Malformed};
-use messages::{Call, Choice, ClientOp, Lineage, Look, Want};
+use fields::{Field, Malformed, ReadFault, Reader, put_block, take_block};
+use messages::{Call, Choice, ClientOp, Lineage, Look, Version, Want};
+use std::alloc::Global;
 
 /// Adds a call.
 #[tactic(auto, unfolding(crate::specs::Values::call_fields))]
@@ -24,51 +24,46 @@ pub fn put_call(out: &mut Vec<u8>, call: Call) -> Result<(), NoMem>
 
 /// Reads a call.
 #[tactic(auto, unfolding(crate::specs::Values::call_fields))]
-pub fn take_call(bytes: &[u8]) -> Result<(Call, &[u8]), Malformed>
-    ensures { Gives (λ x. (x.0, x.1.now)) result (call_codec.read bytes.now) }
+pub fn take_call(from: &mut Reader<'_>) -> Result<Call, Malformed>
+    ensures { Gives result from.new.rest.now (call_codec.read from.old.rest.now) }
 {
-    let ((boot, (seq, (phase, (group, (view, stripe))))), rest) = Field::take(bytes)?;
-    let call = Call {
-        boot,
-        seq,
-        phase,
-        group,
-        view,
-        stripe,
-    };
-    Ok((call, rest))
+    Ok(Call {
+        boot: from.take()?,
+        seq: from.take()?,
+        phase: from.take()?,
+        group: from.take()?,
+        view: from.take()?,
+        stripe: from.take()?,
+    })
 }
 
-/// Adds which seats are to send bytes: one from 0 to 31, or 255 for all.
-#[tactic(auto, using(crate::proofs::Writings::joined), unfolding(crate::specs::Values::want_parts))]
+/// Adds which seats are to send bytes: one from 0 to 31, or all.
+#[tactic(auto, using(crate::proofs::Writings::joined))]
 pub fn put_want(out: &mut Vec<u8>, want: Want) -> Result<(), NoMem>
-    requires { WantFits want }
+    requires { want_codec.Limits want }
     ensures bytes { OnOk result (out.new.items ≡ out.old.items ++ spelled (want_codec.parts want)) }
     ensures fits { OnOk result (AllFit (want_codec.parts want)) }
 {
     match want {
         Want::Seat(seat) => seat.put(out),
-        Want::All => 255u8.put(out),
+        Want::All => ALL_SEATS.put(out),
     }
 }
 
-/// Reads which seats are to send bytes: one from 0 to 31, or 255 for all.
-#[tactic(auto, unfolding(crate::specs::Values::want_at))]
-pub fn take_want(bytes: &[u8]) -> Result<(Want, &[u8]), Malformed>
-    ensures { Gives (λ x. (x.0, x.1.now)) result (want_codec.read bytes.now) }
+/// Reads which seats are to send bytes.
+pub fn take_want(from: &mut Reader<'_>) -> Result<Want, Malformed>
+    ensures { Gives result from.new.rest.now (want_codec.read from.old.rest.now) }
 {
-    let (seat, rest) = u8::take(bytes)?;
-    if seat < 32 {
-        Ok((Want::Seat(seat), rest))
-    } else if seat == 255 {
-        Ok((Want::All, rest))
-    } else {
-        Err(Malformed { left: bytes.len() })
+    let left = from.rest.len();
+    match from.take()? {
+        ALL_SEATS => Ok(Want::All),
+        seat if seat < 32 => Ok(Want::Seat(seat)),
+        _ => Err(Malformed { left }),
     }
 }
 
-/// Adds which entry of a log is looked for: 0 below or 1 at, and a stamp.
-#[tactic(auto, using(crate::proofs::Writings::joined), unfolding(crate::specs::Values::look_parts))]
+/// Adds which entry of a log is looked for: a byte 0 for one below, or 1 for one at, and a stamp.
+#[tactic(auto, using(crate::proofs::Writings::joined))]
 pub fn put_look(out: &mut Vec<u8>, look: Look) -> Result<(), NoMem>
     ensures bytes { OnOk result (out.new.items ≡ out.old.items ++ spelled (look_codec.parts look)) }
     ensures fits { OnOk result (AllFit (look_codec.parts look)) }
@@ -79,153 +74,150 @@ pub fn put_look(out: &mut Vec<u8>, look: Look) -> Result<(), NoMem>
     }
 }
 
-/// Reads which entry of a log is looked for: 0 below or 1 at, and a stamp.
-#[tactic(auto, unfolding(crate::specs::Values::look_at))]
-pub fn take_look(bytes: &[u8]) -> Result<(Look, &[u8]), Malformed>
-    ensures { Gives (λ x. (x.0, x.1.now)) result (look_codec.read bytes.now) }
+/// Reads which entry of a log is looked for.
+pub fn take_look(from: &mut Reader<'_>) -> Result<Look, Malformed>
+    ensures { Gives result from.new.rest.now (look_codec.read from.old.rest.now) }
 {
-    let (look, rest) = u8::take(bytes)?;
-    match look {
-        0 => {
-            let (stamp, rest) = Field::take(rest)?;
-            Ok((Look::Below(stamp), rest))
-        }
-        1 => {
-            let (stamp, rest) = Field::take(rest)?;
-            Ok((Look::At(stamp), rest))
-        }
-        _ => Err(Malformed { left: bytes.len() }),
+    let left = from.rest.len();
+    match from.take()? {
+        0u8 => Ok(Look::Below(from.take()?)),
+        1 => Ok(Look::At(from.take()?)),
+        _ => Err(Malformed { left }),
     }
 }
 
-/// Adds what an invocation does, by its number.
+/// Adds what an invocation does.
 #[tactic(auto, using(crate::proofs::Writings::joined))]
 pub fn put_op(out: &mut Vec<u8>, op: ClientOp) -> Result<(), NoMem>
     ensures bytes { OnOk result (out.new.items ≡ out.old.items ++ spelled (op_codec.parts op)) }
     ensures fits { OnOk result (AllFit (op_codec.parts op)) }
 {
     match op {
-        ClientOp::ReadBlock => 0u8.put(out),
-        ClientOp::WriteBlock => 1u8.put(out),
-        ClientOp::ReadStripe => 2u8.put(out),
-        ClientOp::WriteStripe => 3u8.put(out),
+        ClientOp::ReadBlock => READ_BLOCK.put(out),
+        ClientOp::WriteBlock => WRITE_BLOCK.put(out),
+        ClientOp::ReadStripe => READ_STRIPE.put(out),
+        ClientOp::WriteStripe => WRITE_STRIPE.put(out),
     }
 }
 
-/// Reads what an invocation does, by its number.
-#[tactic(auto, unfolding(crate::specs::Values::op_at))]
-pub fn take_op(bytes: &[u8]) -> Result<(ClientOp, &[u8]), Malformed>
-    ensures { Gives (λ x. (x.0, x.1.now)) result (op_codec.read bytes.now) }
+/// Reads what an invocation does.
+pub fn take_op(from: &mut Reader<'_>) -> Result<ClientOp, Malformed>
+    ensures { Gives result from.new.rest.now (op_codec.read from.old.rest.now) }
 {
-    let (op, rest) = u8::take(bytes)?;
-    match op {
-        0 => Ok((ClientOp::ReadBlock, rest)),
-        1 => Ok((ClientOp::WriteBlock, rest)),
-        2 => Ok((ClientOp::ReadStripe, rest)),
-        3 => Ok((ClientOp::WriteStripe, rest)),
-        _ => Err(Malformed { left: bytes.len() }),
+    let left = from.rest.len();
+    match from.take()? {
+        READ_BLOCK => Ok(ClientOp::ReadBlock),
+        WRITE_BLOCK => Ok(ClientOp::WriteBlock),
+        READ_STRIPE => Ok(ClientOp::ReadStripe),
+        WRITE_STRIPE => Ok(ClientOp::WriteStripe),
+        _ => Err(Malformed { left }),
     }
 }
 
-/// Adds a ballot, and the members that were accepted under it.
+/// Reads the number of a data block, from 0 to 15.
+pub fn take_data_block(from: &mut Reader<'_>) -> Result<u8, Malformed>
+    ensures { Gives result from.new.rest.now (data_block_codec.read from.old.rest.now) }
+{
+    let left = from.rest.len();
+    match from.take()? {
+        block if block < 16 => Ok(block),
+        _ => Err(Malformed { left }),
+    }
+}
+
+/// Adds a version, if there is one: its stamp and its bytes.
+#[tactic(auto, using(crate::proofs::Writings::joined), unfolding(crate::specs::Values::version_fields))]
+pub fn put_version(out: &mut Vec<u8>, version: &Option<Version>) -> Result<(), NoMem>
+    requires { (option version_codec).Limits version.now }
+    ensures bytes { OnOk result (out.new.items ≡ out.old.items ++ spelled ((option version_codec).parts version.now)) }
+    ensures fits { OnOk result (AllFit ((option version_codec).parts version.now)) }
+{
+    match version {
+        None => false.put(out),
+        Some(version) => {
+            (true, version.stamp).put(out)?;
+            put_block(out, &version.block)
+        }
+    }
+}
+
+/// Reads a version, if there is one.
+#[tactic(auto, unfolding(crate::specs::Values::version_fields))]
+pub fn take_version(alloc: Global, from: &mut Reader<'_>) -> Result<Option<Version>, ReadFault>
+    ensures { GivesOrNoMemory result from.new.rest.now ((option version_codec).read from.old.rest.now) }
+{
+    let left = from.rest.len();
+    match from.take()? {
+        0u8 => Ok(None),
+        1 => Ok(Some(Version {
+            stamp: from.take()?,
+            block: take_block(alloc, from)?,
+        })),
+        _ => Err(ReadFault::Malformed(left)),
+    }
+}
+
+/// Adds a choice, if there is one: the ballot, and the members that were accepted under it.
 #[tactic(auto, using(crate::proofs::Writings::joined), unfolding(crate::specs::Values::choice_fields))]
-fn put_choice(out: &mut Vec<u8>, choice: &Choice) -> Result<(), NoMem>
-    requires { HasMembers choice.now.members }
-    ensures bytes { OnOk result (out.new.items ≡ out.old.items ++ spelled (choice_codec.parts choice.now)) }
-    ensures fits { OnOk result (AllFit (choice_codec.parts choice.now)) }
-{
-    choice.ballot.put(out)?;
-    choice.members.put(out)
-}
-
-/// Reads a ballot, and the members that were accepted under it.
-#[tactic(auto, unfolding(crate::specs::Values::choice_fields))]
-fn take_choice(bytes: &[u8]) -> Result<(Choice, &[u8]), Malformed>
-    ensures { Gives (λ x. (x.0, x.1.now)) result (choice_codec.read bytes.now) }
-{
-    let ((ballot, members), rest) = Field::take(bytes)?;
-    Ok((Choice { ballot, members }, rest))
-}
-
-/// Adds a view's members, and those of the view before.
-#[tactic(auto, using(crate::proofs::Writings::joined), unfolding(crate::specs::Values::lineage_fields))]
-fn put_lineage(out: &mut Vec<u8>, lineage: &Lineage) -> Result<(), NoMem>
-    requires some { HasMembers lineage.now.members }
-    requires some_before { HasMembers lineage.now.prior }
-    ensures bytes { OnOk result (out.new.items ≡ out.old.items ++ spelled (lineage_codec.parts lineage.now)) }
-    ensures fits { OnOk result (AllFit (lineage_codec.parts lineage.now)) }
-{
-    lineage.members.put(out)?;
-    lineage.prior.put(out)
-}
-
-/// Reads a view's members, and those of the view before.
-#[tactic(auto, unfolding(crate::specs::Values::lineage_fields))]
-fn take_lineage(bytes: &[u8]) -> Result<(Lineage, &[u8]), Malformed>
-    ensures { Gives (λ x. (x.0, x.1.now)) result (lineage_codec.read bytes.now) }
-{
-    let ((members, prior), rest) = Field::take(bytes)?;
-    Ok((Lineage { members, prior }, rest))
-}
-
-/// Adds the choice, if there is one.
-#[tactic(auto, using(crate::proofs::Writings::joined))]
-pub fn put_choice_option(out: &mut Vec<u8>, choice: &Option<Choice>) -> Result<(), NoMem>
-    requires { ChoiceFits choice.now }
-    ensures bytes { OnOk result (out.new.items ≡ out.old.items ++ spelled (option_parts choice_codec.parts choice.now)) }
-    ensures fits { OnOk result (AllFit (option_parts choice_codec.parts choice.now)) }
+pub fn put_choice(out: &mut Vec<u8>, choice: &Option<Choice>) -> Result<(), NoMem>
+    requires { (option choice_codec).Limits choice.now }
+    ensures bytes { OnOk result (out.new.items ≡ out.old.items ++ spelled ((option choice_codec).parts choice.now)) }
+    ensures fits { OnOk result (AllFit ((option choice_codec).parts choice.now)) }
 {
     match choice {
-        None => 0u8.put(out),
+        None => false.put(out),
         Some(choice) => {
-            1u8.put(out)?;
-            put_choice(out, choice)
+            (true, choice.ballot).put(out)?;
+            choice.members.put(out)
         }
     }
 }
 
 /// Reads a choice, if there is one.
-pub fn take_choice_option(bytes: &[u8]) -> Result<(Option<Choice>, &[u8]), Malformed>
-    ensures { Gives (λ x. (x.0, x.1.now)) result (option_at choice_codec.read bytes.now) }
+#[tactic(auto, unfolding(crate::specs::Values::choice_fields))]
+pub fn take_choice(from: &mut Reader<'_>) -> Result<Option<Choice>, Malformed>
+    ensures { Gives result from.new.rest.now ((option choice_codec).read from.old.rest.now) }
 {
-    let (is_there, rest) = u8::take(bytes)?;
-    match is_there {
-        0 => Ok((None, rest)),
-        1 => {
-            let (choice, rest) = take_choice(rest)?;
-            Ok((Some(choice), rest))
-        }
-        _ => Err(Malformed { left: bytes.len() }),
+    let left = from.rest.len();
+    match from.take()? {
+        0u8 => Ok(None),
+        1 => Ok(Some(Choice {
+            ballot: from.take()?,
+            members: from.take()?,
+        })),
+        _ => Err(Malformed { left }),
     }
 }
 
-/// Adds the lineage, if there is one.
-#[tactic(auto, using(crate::proofs::Writings::joined))]
-pub fn put_lineage_option(out: &mut Vec<u8>, lineage: &Option<Lineage>) -> Result<(), NoMem>
-    requires { LineageFits lineage.now }
-    ensures bytes { OnOk result (out.new.items ≡ out.old.items ++ spelled (option_parts lineage_codec.parts lineage.now)) }
-    ensures fits { OnOk result (AllFit (option_parts lineage_codec.parts lineage.now)) }
+/// Adds a lineage, if there is one: a view's members, and those of the view before.
+#[tactic(auto, using(crate::proofs::Writings::joined), unfolding(crate::specs::Values::lineage_fields))]
+pub fn put_lineage(out: &mut Vec<u8>, lineage: &Option<Lineage>) -> Result<(), NoMem>
+    requires { (option lineage_codec).Limits lineage.now }
+    ensures bytes { OnOk result (out.new.items ≡ out.old.items ++ spelled ((option lineage_codec).parts lineage.now)) }
+    ensures fits { OnOk result (AllFit ((option lineage_codec).parts lineage.now)) }
 {
     match lineage {
-        None => 0u8.put(out),
+        None => false.put(out),
         Some(lineage) => {
-            1u8.put(out)?;
-            put_lineage(out, lineage)
+            true.put(out)?;
+            lineage.members.put(out)?;
+            lineage.prior.put(out)
         }
     }
 }
 
 /// Reads a lineage, if there is one.
-pub fn take_lineage_option(bytes: &[u8]) -> Result<(Option<Lineage>, &[u8]), Malformed>
-    ensures { Gives (λ x. (x.0, x.1.now)) result (option_at lineage_codec.read bytes.now) }
+#[tactic(auto, unfolding(crate::specs::Values::lineage_fields))]
+pub fn take_lineage(from: &mut Reader<'_>) -> Result<Option<Lineage>, Malformed>
+    ensures { Gives result from.new.rest.now ((option lineage_codec).read from.old.rest.now) }
 {
-    let (is_there, rest) = u8::take(bytes)?;
-    match is_there {
-        0 => Ok((None, rest)),
-        1 => {
-            let (lineage, rest) = take_lineage(rest)?;
-            Ok((Some(lineage), rest))
-        }
-        _ => Err(Malformed { left: bytes.len() }),
+    let left = from.rest.len();
+    match from.take()? {
+        0u8 => Ok(None),
+        1 => Ok(Some(Lineage {
+            members: from.take()?,
+            prior: from.take()?,
+        })),
+        _ => Err(Malformed { left }),
     }
 }

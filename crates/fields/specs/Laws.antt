@@ -203,6 +203,46 @@ same_parts {X} {I} {p} {at} q same field = record {
       field.furthest bytes x front back tail isb is (subst (λ (fs : List Part). AllFit fs) (sym (same x is)) fits) (same x is ∙ fields) are;
 }
 
+-- two readers that always give the same
+pub same_reading : {X : Type 0} {Is : X → Type 0} {parts : X → List Part} (a b : Reads X) → ((bytes : List ℕ) → a bytes ≡ b bytes) → IsField Is parts a
+    → IsField Is parts b
+same_reading {X} {Is} {parts} a b same field = record {
+  example = field.example;
+  example_is = field.example_is;
+  example_fits = field.example_fits;
+  takes = λ bytes x rest isb e. field.takes bytes x rest isb (same bytes ∙ e);
+  again = λ x rest is fits. sym (same (spelled (parts x) ++ rest)) ∙ field.again x rest is fits;
+  stops = λ bytes left isb e. field.stops bytes left isb (same bytes ∙ e);
+  furthest = λ bytes x front back tail isb is fits fields are.
+      subst (λ (r : Result (X × List ℕ) ℕ). left_of r ≤ length tail) (same bytes) (field.furthest bytes x front back tail isb is fits fields are);
+}
+
+abbrev seen_by : {X Y : Type 0} → (X → Y) → X × List ℕ → Result (Y × List ℕ) ℕ
+seen_by made x = Ok (made x.0, x.1)
+
+abbrev with_first : {X Y : Type 0} → X → Y × List ℕ → Result ((X × Y) × List ℕ) ℕ
+with_first x y = Ok ((x, y.0), y.1)
+
+made_after : {X Y Z W : Type 0} (f : X → Z → W) (made : Y → Z) (x : X) (r : Result (Y × List ℕ) ℕ)
+    → ((r >>= with_first x) >>= seen_by (λ (p : X × Y). f p.0 (made p.1)))
+    ≡ (((r >>= seen_by made) >>= with_first x) >>= seen_by (λ (p : X × Z). f p.0 p.1))
+made_after f made x (Ok y) = refl
+made_after f made x (Err left) = refl
+
+made_before : {X Y Z W : Type 0} (f : X → Z → W) (made : Y → Z) (r : Result (X × List ℕ) ℕ) (second : Reads Y) (third : Reads Z)
+    → ((bytes : List ℕ) → as_at made second bytes ≡ third bytes)
+    → ((r >>= λ x. second x.1 >>= with_first x.0) >>= seen_by (λ (p : X × Y). f p.0 (made p.1)))
+    ≡ ((r >>= λ x. third x.1 >>= with_first x.0) >>= seen_by (λ (p : X × Z). f p.0 p.1))
+made_before {X} {Y} {Z} f made (Ok x) second third same = made_after f made x.0 (second x.1)
+    ∙ ap (λ (t : Result (Z × List ℕ) ℕ). (t >>= with_first x.0) >>= seen_by (λ (p : X × Z). f p.0 p.1)) (same x.1)
+made_before f made (Err left) second third same = refl
+
+-- a second field may be seen as something else first
+pub made_then : {X Y Z W : Type 0} (f : X → Z → W) (made : Y → Z) (first : Reads X) (second : Reads Y) (third : Reads Z)
+    → ((bytes : List ℕ) → as_at made second bytes ≡ third bytes) → (bytes : List ℕ)
+    → as_at (λ (p : X × Y). f p.0 (made p.1)) (then_at first second) bytes ≡ as_at (λ (p : X × Z). f p.0 p.1) (then_at first third) bytes
+made_then f made first second third same bytes = made_before f made (first bytes) second third same
+
 -- ---- a field that depends on the one before
 
 bind_takes : {X Z : Type 0} {Ix : X → Type 0} {px : X → List Part} {ax : Reads X} {Iz : Z → Type 0} (key : Z → X) {pz : Z → List Part} {az : X

@@ -4,4 +4,5 @@ pub mod Laws
 pub mod Numbers
 pub mod Choices
 pub mod Codecs
+pub mod Kinds
 pub mod Values

@@ -1,12 +1,12 @@
 -- Numbers and counted bytes are fields: each is read as it is spelled.
-use Rattle.std.proofs.Common.{◌≡◌, ℕ, zero, suc, ◌^◌, ◌<◌, ◌≤◌, Bool, true, false, ◌&&◌, cond, eqb, ltb, leb, List, [], ◌∷◌, ◌++◌, length, take, drop, Result, Ok, Err, refl, sym, ap, subst, ◌∙◌, arith, inl, inr}
-use Rattle.std.proofs.lemmas.Bool.{eqb-true, eq-eqb, ltb-false, le-ltb, leb-true, le-leb, and_parts, and_from}
+use Rattle.std.proofs.Common.{◌≡◌, ℕ, zero, suc, ◌+◌, ◌^◌, ◌<◌, ◌≤◌, Bool, true, false, ◌&&◌, cond, eqb, ltb, leb, List, [], ◌∷◌, ◌++◌, length, take, drop, Option, Some, None, Result, Ok, Err, refl, sym, ap, subst, ◌∙◌, arith, ◌⊎◌, inl, inr}
+use Rattle.std.proofs.lemmas.Bool.{cases_lt, eqb-true, eq-eqb, ltb-false, le-ltb, leb-true, le-leb, and_parts, and_from}
 use Rattle.std.proofs.lemmas.List.{append-nil, take_at, drop_at, take-append-drop, length-append, length-take}
 use Rattle.std.proofs.lemmas.Nat.{be_bytes_2, be_bytes_4, be_bytes_8}
 use Rattle.byteorder.specs.Endian.{big_number}
 use Rattle.byteorder.specs.Numbers.{big_number-reads_back, big_from-lt, length-bytes_high_first}
-use Rattle.fields.specs.Parts.{Number, Limited, Raw, number_bytes, Fits}
-use Rattle.fields.specs.Reading.{◌>>=◌, number_at, limited_at, exactly_at, raw_at}
+use Rattle.fields.specs.Parts.{Part, Number, Limited, Raw, number_bytes, bytes_of, exactly, Fits}
+use Rattle.fields.specs.Reading.{◌>>=◌, number_at, valued, value_at, within, equals, find, find_or, find_last, limited_at, exactly_at, raw_at}
 use Rattle.fields.specs.Laws.{IsBytes, IsBytes-take, IsBytes-drop, bind_ok, bind_err, ok_is, Takes, IsField, IsPlain, single_field}
 
 -- the bytes of a number of this size are its own
@@ -39,21 +39,31 @@ pub guard_past : {A : Type 0} (b : Bool) (left : ℕ) (r : Result A ℕ) (y : A)
 guard_past true left r y e = absurd cc
 guard_past false left r y e = (refl, e)
 
-pub guard_held : {A : Type 0} (b : Bool) (left : ℕ) (r : Result A ℕ) (y : A) → cond b r (Err left) ≡ Ok y → (b ≡ true) × (r ≡ Ok y)
-guard_held true left r y e = (refl, e)
-guard_held false left r y e = absurd cc
-
 guard_err : {A : Type 0} (b : Bool) (here : ℕ) (x : A) (left : ℕ) → cond b (Err here) (Ok x) ≡ Err left → left ≡ here
 guard_err true here x left e = cc
 guard_err false here x left e = absurd cc
+
+pub guard_held : {A : Type 0} (b : Bool) (left : ℕ) (r : Result A ℕ) (y : A) → cond b r (Err left) ≡ Ok y → (b ≡ true) × (r ≡ Ok y)
+guard_held true left r y e = (refl, e)
+guard_held false left r y e = absurd cc
 
 pub held_err : {A : Type 0} (b : Bool) (here : ℕ) (x : A) (left : ℕ) → cond b (Ok x) (Err here) ≡ Err left → left ≡ here
 held_err true here x left e = absurd cc
 held_err false here x left e = cc
 
+-- which of two answers a test chose
+pub chosen : {A : Type 0} (b : Bool) (x y z : A) → cond b x y ≡ z → ((b ≡ true) × (x ≡ z)) ⊎ ((b ≡ false) × (y ≡ z))
+chosen true x y z e = inl (refl, e)
+chosen false x y z e = inr (refl, e)
+
+-- the one answer of a test
+pub chosen_some : {A : Type 0} (b : Bool) (x y : A) → cond b (Some x) None ≡ Some y → (b ≡ true) × (x ≡ y)
+chosen_some true x y e = (refl, cc)
+chosen_some false x y e = absurd cc
+
 -- ---- numbers
 
-number_takes : (size : ℕ) → IsSize size → (bytes : List ℕ) (n : ℕ) (rest : List ℕ) → IsBytes bytes → number_at size bytes ≡ Ok (n, rest)
+pub number_takes : (size : ℕ) → IsSize size → (bytes : List ℕ) (n : ℕ) (rest : List ℕ) → IsBytes bytes → number_at size bytes ≡ Ok (n, rest)
     → (bytes ≡ number_bytes size n ++ rest) × (n < 256 ^ size) × IsBytes rest
 unfolding number_at
 number_takes size is bytes n rest fits e =
@@ -113,98 +123,202 @@ field32 = number_field 4 size4 (omega arith)
 pub field64 : IsPlain (λ (n : ℕ). Number 8 n ∷ []) (number_at 8)
 field64 = number_field 8 size8 (omega arith)
 
--- ---- numbers with limits
+-- ---- numbers that stand for values
 
-limited_takes : (size : ℕ) → IsSize size → (least most : ℕ) (bytes : List ℕ) (n : ℕ) (rest : List ℕ) → IsBytes bytes
-    → limited_at size least most bytes ≡ Ok (n, rest)
-    → Takes bytes (Limited size least most n ∷ []) rest
-limited_takes size is least most bytes n rest isb e =
-    let a = bind_ok (number_at size bytes) (λ x. cond (leb least x.0 && leb x.0 most) (Ok x) (Err (length bytes))) (n, rest) e in
-    let held = guard_held (leb least a.0.0 && leb a.0.0 most) (length bytes) (Ok a.0) (n, rest) a.2 in
-    let within = and_parts (leb least a.0.0) (leb a.0.0 most) held.0 in
+-- part is what a value is written as, and value which one a number stands for
+pub record Stands {K : Type 0} (size : ℕ) (part : K → Part) (value : ℕ → Option K) : Type 0 where
+  pub number : K → ℕ
+  pub written : (k : K) → bytes_of (part k) ≡ number_bytes size (number k)
+  pub there : (k : K) → Fits (part k) → (number k < 256 ^ size) × (value (number k) ≡ Some k)
+  pub only : (n : ℕ) (k : K) → n < 256 ^ size → value n ≡ Some k → (number k ≡ n) × Fits (part k)
+  pub example : K
+  pub example_fits : Fits (part example)
+
+valued_ok : {K : Type 0} (o : Option K) (rest : List ℕ) (here : ℕ) (k : K) (after : List ℕ) → valued o rest here ≡ Ok (k, after)
+    → (o ≡ Some k) × (rest ≡ after)
+valued_ok None rest here k after e = absurd cc
+valued_ok {K} (Some j) rest here k after e =
+    let one : K × List ℕ = (j, rest) in
+    let two : K × List ℕ = (k, after) in
+    let same = ok_is one two e in
+    (ap (λ (p : K × List ℕ). Some p.0) same, ap (λ (p : K × List ℕ). p.1) same)
+
+valued_err : {K : Type 0} (o : Option K) (rest : List ℕ) (here left : ℕ) → valued o rest here ≡ Err left → left ≡ here
+valued_err None rest here left e = cc
+valued_err (Some k) rest here left e = absurd cc
+
+stands_takes : {K : Type 0} {part : K → Part} {value : ℕ → Option K} (size : ℕ) → IsSize size → Stands size part value → (bytes : List ℕ) (k : K)
+    (rest : List ℕ) → IsBytes bytes → value_at size value bytes ≡ Ok (k, rest) → Takes bytes (part k ∷ []) rest
+stands_takes {K} {part} {value} size is stands bytes k rest isb e =
+    let a = bind_ok (number_at size bytes) (λ x. valued (value x.0) x.1 (length bytes)) (k, rest) e in
+    let held = valued_ok (value a.0.0) a.0.1 (length bytes) k rest a.2 in
     let took = number_takes size is bytes a.0.0 a.0.1 isb a.1 in
-    let whole : Takes bytes (Limited size least most a.0.0 ∷ []) a.0.1 = record {
-      parts = took.0 ∙ ap (λ (t : List ℕ). t ++ a.0.1) (sym (append-nil (number_bytes size a.0.0)));
-      fits = ((took.1, (leb-true _ _ within.0, leb-true _ _ within.1)), tt);
-      rest_fits = took.2;
-    } in
-    subst (λ (p : ℕ × List ℕ). Takes bytes (Limited size least most p.0 ∷ []) p.1) (ok_is a.0 (n, rest) held.1) whole
-
-limited_again : (size least most n : ℕ) (rest : List ℕ) → Fits (Limited size least most n)
-    → limited_at size least most (number_bytes size n ++ rest) ≡ Ok (n, rest)
-limited_again size least most n rest fits =
-    ap (λ (r : Result (ℕ × List ℕ) ℕ). r >>= λ x. cond (leb least x.0 && leb x.0 most) (Ok x) (Err (length (number_bytes size n ++ rest))))
-    (number_again size n rest fits.0)
-    ∙ rw (and_from (leb least n) (leb n most) (le-leb least n fits.1.0) (le-leb n most fits.1.1)) refl
-
-limited_fails : (size least most : ℕ) (bytes : List ℕ) (left : ℕ) → limited_at size least most bytes ≡ Err left → left ≡ length bytes
-limited_fails size least most bytes left e =
-    elim (bind_err (number_at size bytes) (λ x. cond (leb least x.0 && leb x.0 most) (Ok x) (Err (length bytes))) left e) [
-      | inl e1 ↦ number_fails size bytes left e1
-      | inr w ↦ held_err (leb least w.0.0 && leb w.0.0 most) (length bytes) w.0 left w.2
-    ]
-
-limited_field : (size : ℕ) → IsSize size → (least most : ℕ) → least ≤ most → least < 256 ^ size → IsPlain (λ (n : ℕ). Limited size least most n ∷ [])
-    (limited_at size least most)
-limited_field size is least most le some = single_field (λ (n : ℕ). Unit {0}) (λ (n : ℕ). Limited size least most n)
-    (limited_at size least most) least tt (some, (omega arith, le))
-    (λ bytes n rest isb e. (tt, limited_takes size is least most bytes n rest isb e))
-    (λ n rest u fits. limited_again size least most n rest fits)
-    (limited_fails size least most)
-
-pub limited8 : (least most : ℕ) → least ≤ most → least < 256 ^ 1 → IsPlain (λ (n : ℕ). Limited 1 least most n ∷ []) (limited_at 1 least most)
-limited8 = limited_field 1 size1
-
-pub limited16 : (least most : ℕ) → least ≤ most → least < 256 ^ 2 → IsPlain (λ (n : ℕ). Limited 2 least most n ∷ []) (limited_at 2 least most)
-limited16 = limited_field 2 size2
-
-pub limited32 : (least most : ℕ) → least ≤ most → least < 256 ^ 4 → IsPlain (λ (n : ℕ). Limited 4 least most n ∷ []) (limited_at 4 least most)
-limited32 = limited_field 4 size4
-
--- ---- numbers that have one value alone
-
-exactly_takes : (size : ℕ) → IsSize size → (value : ℕ) (bytes : List ℕ) (u : Unit {0}) (rest : List ℕ) → IsBytes bytes
-    → exactly_at size value bytes ≡ Ok (u, rest)
-    → Takes bytes (Limited size value value value ∷ []) rest
-exactly_takes size is value bytes u rest isb e =
-    let a = bind_ok (number_at size bytes) (λ x. cond (eqb x.0 value) (Ok (tt, x.1)) (Err (length bytes))) (u, rest) e in
-    let held = guard_held (eqb a.0.0 value) (length bytes) (Ok (tt, a.0.1)) (u, rest) a.2 in
-    let value-is : a.0.0 ≡ value = eqb-true _ _ held.0 in
-    let rest-is : a.0.1 ≡ rest = ap (λ (p : (Unit {0}) × List ℕ). p.1) (ok_is (tt, a.0.1) (u, rest) held.1) in
-    let took = number_takes size is bytes a.0.0 a.0.1 isb a.1 in
+    let only = stands.only a.0.0 k took.1 held.0 in
     record {
-      parts = took.0 ∙ ap (λ (n : ℕ). number_bytes size n ++ a.0.1) value-is ∙ ap (λ (t : List ℕ). number_bytes size value ++ t) rest-is
-          ∙ ap (λ (t : List ℕ). t ++ rest) (sym (append-nil (number_bytes size value)));
-      fits = ((subst (λ (n : ℕ). n < 256 ^ size) value-is took.1, (omega arith, omega arith)), tt);
-      rest_fits = subst IsBytes rest-is took.2;
+      parts = took.0 ∙ ap (λ (n : ℕ). number_bytes size n ++ a.0.1) (sym only.0) ∙ ap (λ (t : List ℕ). t ++ a.0.1) (sym (stands.written k))
+          ∙ ap (λ (t : List ℕ). bytes_of (part k) ++ t) held.1 ∙ ap (λ (t : List ℕ). t ++ rest) (sym (append-nil (bytes_of (part k))));
+      fits = (only.1, tt);
+      rest_fits = subst IsBytes held.1 took.2;
     }
 
-exactly_again : (size value : ℕ) (rest : List ℕ) → value < 256 ^ size → exactly_at size value (number_bytes size value ++ rest) ≡ Ok (tt, rest)
-exactly_again size value rest lt =
-    ap (λ (r : Result (ℕ × List ℕ) ℕ). r >>= λ x. cond (eqb x.0 value) (Ok (tt, x.1)) (Err (length (number_bytes size value ++ rest))))
-    (number_again size value rest lt)
-    ∙ rw (eq-eqb value value refl) refl
+stands_again : {K : Type 0} {part : K → Part} {value : ℕ → Option K} (size : ℕ) → Stands size part value → (k : K) (rest : List ℕ) → Fits (part k)
+    → value_at size value (bytes_of (part k) ++ rest) ≡ Ok (k, rest)
+stands_again {K} {part} {value} size stands k rest fits =
+    let there = stands.there k fits in
+    let bytes = number_bytes size (stands.number k) ++ rest in
+    ap (λ (t : List ℕ). value_at size value (t ++ rest)) (stands.written k)
+    ∙ ap (λ (r : Result (ℕ × List ℕ) ℕ). r >>= λ x. valued (value x.0) x.1 (length bytes)) (number_again size (stands.number k) rest there.0)
+    ∙ ap (λ (o : Option K). valued o rest (length bytes)) there.1
 
-exactly_fails : (size value : ℕ) (bytes : List ℕ) (left : ℕ) → exactly_at size value bytes ≡ Err left → left ≡ length bytes
-exactly_fails size value bytes left e =
-    elim (bind_err (number_at size bytes) (λ x. cond (eqb x.0 value) (Ok (tt, x.1)) (Err (length bytes))) left e) [
+stands_fails : {K : Type 0} (value : ℕ → Option K) (size : ℕ) (bytes : List ℕ) (left : ℕ) → value_at size value bytes ≡ Err left → left ≡ length bytes
+stands_fails value size bytes left e =
+    elim (bind_err (number_at size bytes) (λ x. valued (value x.0) x.1 (length bytes)) left e) [
       | inl e1 ↦ number_fails size bytes left e1
-      | inr w ↦ held_err (eqb w.0.0 value) (length bytes) (tt, w.0.1) left w.2
+      | inr w ↦ valued_err (value w.0.0) w.0.1 (length bytes) left w.2
     ]
 
-exactly_field : (size : ℕ) → IsSize size → (value : ℕ) → value < 256 ^ size → IsPlain (λ (u : Unit {0}). Limited size value value value ∷ [])
-    (exactly_at size value)
-exactly_field size is value some = single_field (λ (u : Unit {0}). Unit {0}) (λ (u : Unit {0}). Limited size value value value)
-    (exactly_at size value) tt tt (some, (omega arith, omega arith))
-    (λ bytes u rest isb e. (tt, exactly_takes size is value bytes u rest isb e))
-    (λ u rest v fits. exactly_again size value rest fits.0)
-    (exactly_fails size value)
+stands_field : {K : Type 0} {part : K → Part} {value : ℕ → Option K} (size : ℕ) → IsSize size → Stands size part value
+    → IsPlain (λ (k : K). part k ∷ []) (value_at size value)
+stands_field {K} {part} {value} size is stands = single_field (λ (k : K). Unit {0}) part (value_at size value) stands.example tt stands.example_fits
+    (λ bytes k rest isb e. (tt, stands_takes size is stands bytes k rest isb e))
+    (λ k rest u fits. stands_again size stands k rest fits)
+    (stands_fails value size)
+
+pub stands8 : {K : Type 0} {part : K → Part} {value : ℕ → Option K} → Stands 1 part value → IsPlain (λ (k : K). part k ∷ []) (value_at 1 value)
+stands8 = stands_field 1 size1
+
+-- ---- numbers with limits, and numbers that have one value alone
+
+limited_stands : (size least most : ℕ) → least ≤ most → least < 256 ^ size → Stands size (λ (n : ℕ). Limited size least most n) (within least most)
+limited_stands size least most le some = record {
+  number = λ n. n;
+  written = λ n. refl;
+  there = λ n fits. (fits.0, rw (and_from (leb least n) (leb n most) (le-leb least n fits.1.0) (le-leb n most fits.1.1)) refl);
+  only = λ n k lt e.
+      let c = chosen_some (leb least n && leb n most) n k e in
+      let both = and_parts (leb least n) (leb n most) c.0 in
+      (sym c.1, subst (λ (j : ℕ). Fits (Limited size least most j)) c.1 (lt, (leb-true _ _ both.0, leb-true _ _ both.1)));
+  example = least;
+  example_fits = (some, (omega arith, le));
+}
+
+pub limited8 : (least most : ℕ) → least ≤ most → least < 256 ^ 1 → IsPlain (λ (n : ℕ). Limited 1 least most n ∷ []) (limited_at 1 least most)
+limited8 least most le some = stands_field 1 size1 (limited_stands 1 least most le some)
+
+pub limited16 : (least most : ℕ) → least ≤ most → least < 256 ^ 2 → IsPlain (λ (n : ℕ). Limited 2 least most n ∷ []) (limited_at 2 least most)
+limited16 least most le some = stands_field 2 size2 (limited_stands 2 least most le some)
+
+pub limited32 : (least most : ℕ) → least ≤ most → least < 256 ^ 4 → IsPlain (λ (n : ℕ). Limited 4 least most n ∷ []) (limited_at 4 least most)
+limited32 least most le some = stands_field 4 size4 (limited_stands 4 least most le some)
+
+only_stands : (size v : ℕ) → v < 256 ^ size → Stands size (λ (u : Unit {0}). Limited size v v v) (equals v)
+only_stands size v some = record {
+  number = λ u. v;
+  written = λ u. refl;
+  there = λ u fits. (fits.0, rw (eq-eqb v v refl) refl);
+  only = λ n u lt e.
+      let same : n ≡ v = eqb-true n v (chosen_some (eqb n v) tt u e).0 in
+      (sym same, (subst (λ (m : ℕ). m < 256 ^ size) same lt, (omega arith, omega arith)));
+  example = tt;
+  example_fits = (some, (omega arith, omega arith));
+}
 
 pub exactly8 : (value : ℕ) → value < 256 ^ 1 → IsPlain (λ (u : Unit {0}). Limited 1 value value value ∷ []) (exactly_at 1 value)
-exactly8 = exactly_field 1 size1
+exactly8 value some = stands_field 1 size1 (only_stands 1 value some)
 
 pub exactly32 : (value : ℕ) → value < 256 ^ 4 → IsPlain (λ (u : Unit {0}). Limited 4 value value value ∷ []) (exactly_at 4 value)
-exactly32 = exactly_field 4 size4
+exactly32 value some = stands_field 4 size4 (only_stands 4 value some)
+
+-- ---- numbers of the values of a list
+
+-- what is found has the number
+pub found_is : {K : Type 0} (number : K → ℕ) (ks : List K) (n : ℕ) (k : K) → find number ks n ≡ Some k → number k ≡ n
+found_is number [] n k e = absurd cc
+found_is {K} number (j ∷ ks) n k e =
+    elim (chosen (eqb n (number j)) (Some j) (find number ks n) (Some k) e) [
+      | inl w ↦ let same : j ≡ k = cc in ap number (sym same) ∙ sym (eqb-true n (number j) w.0)
+      | inr w ↦ found_is number ks n k w.1
+    ]
+
+pub found_fits : {K : Type 0} (number : K → ℕ) (ks : List K) (n : ℕ) (k : K) → n < 256 ^ 1 → find number ks n ≡ Some k
+    → (number k ≡ n) × Fits (exactly (number k))
+found_fits number ks n k lt e =
+    let same = found_is number ks n k e in
+    (same, (subst (λ (m : ℕ). m < 256 ^ 1) (sym same) lt, (omega arith, omega arith)))
+
+-- where each value has a place in the list
+pub listed : {K : Type 0} (number : K → ℕ) (ks : List K) → ((k : K) → find number ks (number k) ≡ Some k) → (k : K) → number k < 256 ^ 1
+    → Stands 1 (λ (k : K). exactly (number k)) (find number ks)
+listed number ks known k lt = record {
+  number = number;
+  written = λ j. refl;
+  there = λ j fits. (fits.0, known j);
+  only = found_fits number ks;
+  example = k;
+  example_fits = (lt, (omega arith, omega arith));
+}
+
+-- each value of a list
+abbrev pub AllOf : {K : Type 0} → (K → Type 0) → List K → Type 0
+AllOf P [] = Unit {0}
+AllOf P (k ∷ ks) = P k × AllOf P ks
+
+found_of : {K : Type 0} (number : K → ℕ) (P : K → Type 0) (ks : List K) (n : ℕ) (k : K) → AllOf P ks → find number ks n ≡ Some k → P k
+found_of number P [] n k all e = absurd cc
+found_of {K} number P (j ∷ ks) n k all e =
+    elim (chosen (eqb n (number j)) (Some j) (find number ks n) (Some k) e) [
+      | inl w ↦ let same : j ≡ k = cc in subst P same all.0
+      | inr w ↦ found_of number P ks n k all.1 w.1
+    ]
+
+-- where values without a place in the list fit no field
+pub listed_parts : {K : Type 0} (number : K → ℕ) (part : K → Part) (ks : List K) → ((k : K) → bytes_of (part k) ≡ number_bytes 1 (number k))
+    → ((k : K) → Fits (part k) → (number k < 256 ^ 1) × (find number ks (number k) ≡ Some k))
+    → AllOf (λ k. part k ≡ exactly (number k)) ks → (k : K) → Fits (part k) → Stands 1 part (find number ks)
+listed_parts {K} number part ks written there all k fits = record {
+  number = number;
+  written = written;
+  there = there;
+  only = λ n j lt e.
+      let found = found_fits number ks n j lt e in
+      let same : part j ≡ exactly (number j) = found_of number (λ (i : K). part i ≡ exactly (number i)) ks n j all e in
+      (found.0, subst (λ (p : Part). Fits p) (sym same) found.1);
+  example = k;
+  example_fits = fits;
+}
+
+-- the numbers of a list are this one and those after it
+abbrev pub CountFrom : {K : Type 0} → (K → ℕ) → ℕ → List K → Type 0
+CountFrom number first [] = Unit {0}
+CountFrom number first (k ∷ ks) = (number k ≡ first) × CountFrom number (suc first) ks
+
+one_has : {K : Type 0} (number : K → ℕ) (n : ℕ) (b : Bool) (x y : K) → (b ≡ true → number x ≡ n) → (b ≡ false → number y ≡ n)
+    → number (cond b x y) ≡ n
+one_has number n true x y yes_is no_is = yes_is refl
+one_has number n false x y yes_is no_is = no_is refl
+
+not_equal : (n m : ℕ) → eqb n m ≡ false → m ≤ n → m < n
+not_equal n m e le =
+    elim (cases_lt m n) [
+      | inl lt ↦ lt
+      | inr ge ↦ let same : n ≡ m = omega arith in let two : eqb n m ≡ true = eq-eqb n m same in absurd cc
+    ]
+
+-- a number from the first one's to the last one's is that of the value found
+pub found_or : {K : Type 0} (last : K) (number : K → ℕ) (first : ℕ) (ks : List K) → CountFrom number first ks → number last ≡ first + length ks
+    → (n : ℕ) → first ≤ n → n ≤ number last → number (find_or last number ks n) ≡ n
+found_or last number first [] counts ends n low high = omega arith
+found_or last number first (k ∷ ks) counts ends n low high =
+    one_has number n (eqb n (number k)) k (find_or last number ks n) (λ e. sym (eqb-true n (number k) e))
+    (λ e. found_or last number (suc first) ks counts.1 (omega arith) n (omega (arith, counts.0, not_equal n (number k) e (omega (arith, counts.0)))) high)
+
+chosen_same : {K : Type 0} (b : Bool) (x y : K) (o : Option K) → o ≡ Some y → cond b (Some x) o ≡ Some (cond b x y)
+chosen_same true x y o e = refl
+chosen_same false x y o e = e
+
+pub find_last_is : {K : Type 0} (last : K) (number : K → ℕ) (ks : List K) (n : ℕ) → find_last last number ks n ≡ Some (find_or last number ks n)
+find_last_is last number [] n = refl
+find_last_is last number (k ∷ ks) n = chosen_same (eqb n (number k)) k (find_or last number ks n) (find_last last number ks n) (find_last_is last number ks n)
 
 -- ---- bytes whose count was told before
 

@@ -15,19 +15,29 @@ abbrev pub ◌>>=◌ : {A B : Type 0} → Result A ℕ → (A → Result B ℕ) 
 (Ok x) >>= f = f x
 (Err left) >>= f = Err left
 
--- what a function returned, seen by view, is what reading gives
-abbrev pub Gives : {X Y : Type 0} → (X → Y) → Result X Malformed → Result Y ℕ → Type 0
-Gives view (Ok x) read = read ≡ Ok (view x)
-Gives view (Err fault) read = read ≡ Err fault.left
+-- what a function took from the front of bytes, with these bytes after it, is what reading gives
+abbrev pub Gives : {X : Type 0} → Result X Malformed → List ℕ → Result (X × List ℕ) ℕ → Type 0
+Gives (Ok x) rest read = read ≡ Ok (x, rest)
+Gives (Err fault) rest read = read ≡ Err fault.left
+
+-- the same of bytes that were lent
+abbrev pub Shows : {X : Type 0} → (X → List ℕ) → Result X Malformed → List ℕ → Result (List ℕ × List ℕ) ℕ → Type 0
+Shows lent (Ok x) rest read = read ≡ Ok (lent x, rest)
+Shows lent (Err fault) rest read = read ≡ Err fault.left
 
 -- the same, unless memory ran out
 abbrev pub Fails : {Y : Type 0} → ReadFault → Result Y ℕ → Type 0
 Fails (faults.Malformed left) read = read ≡ Err left
 Fails faults.NoMemory read = Unit {0}
 
-abbrev pub GivesOrNoMemory : {X Y : Type 0} → (X → Y) → Result X ReadFault → Result Y ℕ → Type 0
-GivesOrNoMemory view (Ok x) read = read ≡ Ok (view x)
-GivesOrNoMemory view (Err fault) read = Fails fault read
+abbrev pub GivesOrNoMemory : {X : Type 0} → Result X ReadFault → List ℕ → Result (X × List ℕ) ℕ → Type 0
+GivesOrNoMemory (Ok x) rest read = read ≡ Ok (x, rest)
+GivesOrNoMemory (Err fault) rest read = Fails fault read
+
+-- what a function made of all of the bytes is what reading gives, unless memory ran out
+abbrev pub GivesAll : {X : Type 0} → Result X ReadFault → Result X ℕ → Type 0
+GivesAll (Ok x) read = read ≡ Ok x
+GivesAll (Err fault) read = Fails fault read
 
 -- one field after another, and fields seen as something else
 abbrev pub then_at : {X Y : Type 0} → Reads X → Reads Y → Reads (X × Y)
@@ -43,14 +53,41 @@ nothing_at bytes = Ok (tt, bytes)
 unfoldable pub number_at : ℕ → Reads ℕ
 number_at size bytes = if nat_lt (length bytes) size then Err (length bytes) else Ok (big_number size (take size bytes), drop size bytes)
 
+-- a number that stands for a value, if it stands for one
+abbrev pub valued : {K : Type 0} → Option K → List ℕ → ℕ → Result (K × List ℕ) ℕ
+valued None rest here = Err here
+valued (Some k) rest here = Ok (k, rest)
+
+abbrev pub value_at : {K : Type 0} → ℕ → (ℕ → Option K) → Reads K
+value_at size value bytes = number_at size bytes >>= λ x. valued (value x.0) x.1 (length bytes)
+
 -- a number with limits
+abbrev pub within : ℕ → ℕ → ℕ → Option ℕ
+within least most n = if nat_le least n && nat_le n most then Some n else None
+
 abbrev pub limited_at : ℕ → ℕ → ℕ → Reads ℕ
-limited_at size least most bytes =
-    number_at size bytes >>= λ x. if nat_le least x.0 && nat_le x.0 most then Ok x else Err (length bytes)
+limited_at size least most = value_at size (within least most)
 
 -- a number that has one value alone
+abbrev pub equals : ℕ → ℕ → Option (Unit {0})
+equals value n = if n == value then Some tt else None
+
 abbrev pub exactly_at : ℕ → ℕ → Reads (Unit {0})
-exactly_at size value bytes = number_at size bytes >>= λ x. if x.0 == value then Ok (tt, x.1) else Err (length bytes)
+exactly_at size value = value_at size (equals value)
+
+-- the number of one of the values of a list
+abbrev pub find : {K : Type 0} → (K → ℕ) → List K → ℕ → Option K
+find number [] n = None
+find number (k ∷ ks) n = if n == number k then Some k else find number ks n
+
+-- the same, or the last value
+abbrev pub find_or : {K : Type 0} → K → (K → ℕ) → List K → ℕ → K
+find_or last number [] n = last
+find_or last number (k ∷ ks) n = if n == number k then k else find_or last number ks n
+
+abbrev pub find_last : {K : Type 0} → K → (K → ℕ) → List K → ℕ → Option K
+find_last last number [] n = Some last
+find_last last number (k ∷ ks) n = if n == number k then Some k else find_last last number ks n
 
 -- so many bytes
 unfoldable pub raw_at : ℕ → Reads (List ℕ)

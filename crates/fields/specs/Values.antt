@@ -1,5 +1,5 @@
 -- How names, stamps, ballots, lists of members, views and bytes are spelled.
-use Rattle.std.proofs.Common.{◌≡◌, ℕ, ◌<◌, ◌≤◌, ◌^◌, List, [], ◌∷◌, length, map, refl, arith}
+use Rattle.std.proofs.Common.{ℕ, ◌≤◌, List, [], ◌∷◌, length, map, refl, arith}
 use Rattle.fab_base.specs.declared.identities.BrickId.{BrickId}
 use Rattle.fab_base.specs.declared.identities.GroupId.{GroupId}
 use Rattle.fab_base.specs.declared.identities.StripeNo.{StripeNo}
@@ -8,9 +8,9 @@ use Rattle.fab_base.specs.declared.member_lists.View.{View}
 use Rattle.fab_base.specs.declared.stamps.Stamp.{Stamp}
 use Rattle.fab_base.specs.declared.stamps.Ballot.{Ballot}
 use Rattle.fields.specs.Parts.{Part, Number, Limited, Raw, AllFit}
-use Rattle.fields.specs.Reading.{Reads, ◌>>=◌, as_at, number_at, limited_at, raw_at, times_at}
-use Rattle.fields.specs.Laws.{IsPlain, plain_made, times_field}
-use Rattle.fields.specs.Numbers.{field16, limited8, limited16, limited32, raw_field}
+use Rattle.fields.specs.Reading.{Reads, ◌>>=◌, limited_at, raw_at, times_at}
+use Rattle.fields.specs.Laws.{IsPlain, times_field}
+use Rattle.fields.specs.Numbers.{limited8, limited16, limited32, raw_field}
 use Rattle.fields.specs.Codecs.{Codec, u16_codec, u32_codec, u64_codec, pair, seen, limited_to, counted_law}
 
 abbrev pub brick_codec : Codec BrickId

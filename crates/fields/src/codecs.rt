@@ -3,9 +3,11 @@
 ghost use Rattle.std.specs.Prelude.{◌≡◌, ◌++◌, OnOk};
 ghost use Rattle.fields.specs.Parts.{spelled, AllFit};
 ghost use Rattle.fields.specs.Reading.{Gives};
-ghost use Rattle.fields.specs.Codecs.{Codec, pair, option};
+ghost use Rattle.fields.specs.Codecs.{Codec, pair};
+ghost use Rattle.fields.specs.Kinds.{option};
 
 use crate::faults::Malformed;
+use crate::readers::Reader;
 use fab_base::NoMem;
 
 /// A value with one spelling, whose room is fixed.
@@ -19,10 +21,10 @@ pub trait Field: Drop + Sized {
         ensures bytes { OnOk result (out.new.items ≡ out.old.items ++ spelled (codec.parts self.now)) }
         ensures fits { OnOk result (AllFit (codec.parts self.now)) };
 
-    /// The value that the bytes begin with, and the bytes after it. `Malformed` exactly where they begin with none, from the
-    /// first part on that is cut short or has a value that is not allowed.
-    fn take(bytes: &[u8]) -> Result<(Self, &[u8]), Malformed>
-        ensures { Gives (λ x. (x.0, x.1.now)) result (codec.read bytes.now) };
+    /// The value that the bytes begin with. `Malformed` exactly where they begin with none, from the first part on that is cut
+    /// short or has a value that is not allowed.
+    fn take(from: &mut Reader<'_>) -> Result<Self, Malformed>
+        ensures { Gives result from.new.rest.now (codec.read from.old.rest.now) };
 }
 
 impl<A: Field, B: Field> Field for (A, B) {
@@ -34,10 +36,8 @@ impl<A: Field, B: Field> Field for (A, B) {
         self.1.put(out)
     }
 
-    fn take(bytes: &[u8]) -> Result<((A, B), &[u8]), Malformed> {
-        let (first, rest) = A::take(bytes)?;
-        let (second, rest) = B::take(rest)?;
-        Ok(((first, second), rest))
+    fn take(from: &mut Reader<'_>) -> Result<(A, B), Malformed> {
+        Ok((from.take()?, from.take()?))
     }
 }
 
@@ -47,23 +47,20 @@ impl<A: Field> Field for Option<A> {
     #[tactic(auto, using(crate::proofs::Writings::joined))]
     fn put(&self, out: &mut Vec<u8>) -> Result<(), NoMem> {
         match self {
-            None => 0u8.put(out),
+            None => false.put(out),
             Some(value) => {
-                1u8.put(out)?;
+                true.put(out)?;
                 value.put(out)
             }
         }
     }
 
-    fn take(bytes: &[u8]) -> Result<(Option<A>, &[u8]), Malformed> {
-        let (has_value, rest) = u8::take(bytes)?;
-        match has_value {
-            0 => Ok((None, rest)),
-            1 => {
-                let (value, rest) = A::take(rest)?;
-                Ok((Some(value), rest))
-            }
-            _ => Err(Malformed { left: bytes.len() }),
+    fn take(from: &mut Reader<'_>) -> Result<Option<A>, Malformed> {
+        let left = from.rest.len();
+        match from.take()? {
+            0u8 => Ok(None),
+            1 => Ok(Some(from.take()?)),
+            _ => Err(Malformed { left }),
         }
     }
 }

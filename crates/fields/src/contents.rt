@@ -2,11 +2,12 @@
 
 ghost use Rattle.std.specs.Prelude.{◌≡◌, ◌≤◌, ◌++◌, OnOk, length};
 ghost use Rattle.fields.specs.Parts.{spelled, AllFit};
-ghost use Rattle.fields.specs.Reading.{GivesOrNoMemory, raw_at};
+ghost use Rattle.fields.specs.Reading.{GivesOrNoMemory};
 ghost use Rattle.fields.specs.Values.{block_codec, content_codec};
 
 use crate::codecs::Field;
 use crate::faults::ReadFault;
+use crate::readers::Reader;
 use fab_base::{Bytes, NoMem};
 use std::alloc::Global;
 
@@ -34,39 +35,28 @@ pub fn put_content(out: &mut Vec<u8>, content: &Bytes) -> Result<(), NoMem>
     Ok(())
 }
 
-/// The block that the bytes begin with, and the bytes after it. `Malformed` exactly where they begin with none.
+/// The block that the bytes begin with. `Malformed` exactly where they begin with none.
 #[tactic(auto, unfolding(crate::specs::Values::block_fields))]
-pub fn take_block(alloc: Global, bytes: &[u8]) -> Result<(Bytes, &[u8]), ReadFault>
-    ensures { GivesOrNoMemory (λ x. (x.0, x.1.now)) result (block_codec.read bytes.now) }
+pub fn take_block(alloc: Global, from: &mut Reader<'_>) -> Result<Bytes, ReadFault>
+    ensures { GivesOrNoMemory result from.new.rest.now (block_codec.read from.old.rest.now) }
 {
-    let (length, rest) = u16::take(bytes)?;
+    let left = from.rest.len();
+    let length: u16 = from.take()?;
     if length > 4096 {
-        return Err(ReadFault::Malformed(bytes.len()));
+        return Err(ReadFault::Malformed(left));
     }
-    take_raw(alloc, usize::from(length), rest)
+    Ok(Bytes::from_slice(alloc, from.raw(usize::from(length))?)?)
 }
 
-/// The client's bytes that the bytes begin with, and the bytes after them. `Malformed` exactly where they begin with none.
+/// The client's bytes that the bytes begin with. `Malformed` exactly where they begin with none.
 #[tactic(auto, unfolding(crate::specs::Values::content_fields))]
-pub fn take_content(alloc: Global, bytes: &[u8]) -> Result<(Bytes, &[u8]), ReadFault>
-    ensures { GivesOrNoMemory (λ x. (x.0, x.1.now)) result (content_codec.read bytes.now) }
+pub fn take_content(alloc: Global, from: &mut Reader<'_>) -> Result<Bytes, ReadFault>
+    ensures { GivesOrNoMemory result from.new.rest.now (content_codec.read from.old.rest.now) }
 {
-    let (length, rest) = u32::take(bytes)?;
+    let left = from.rest.len();
+    let length: u32 = from.take()?;
     if length > 32768 {
-        return Err(ReadFault::Malformed(bytes.len()));
+        return Err(ReadFault::Malformed(left));
     }
-    take_raw(alloc, length as usize, rest)
-}
-
-/// So many bytes.
-#[tactic(auto, unfolding(crate::specs::Reading::raw_at))]
-fn take_raw(alloc: Global, count: usize, bytes: &[u8]) -> Result<(Bytes, &[u8]), ReadFault>
-    ensures { GivesOrNoMemory (λ x. (x.0, x.1.now)) result (raw_at count bytes.now) }
-{
-    if bytes.len() < count {
-        return Err(ReadFault::Malformed(bytes.len()));
-    }
-    let (front, rest) = bytes.split_at(count);
-    let taken = Bytes::from_slice(alloc, front)?;
-    Ok((taken, rest))
+    Ok(Bytes::from_slice(alloc, from.raw(length as usize)?)?)
 }

@@ -1,9 +1,11 @@
 //! Numbers from the high byte on, and flags.
 
-ghost use Rattle.fields.specs.Codecs.{u8_codec, u16_codec, u32_codec, u64_codec, flag_codec};
+ghost use Rattle.fields.specs.Codecs.{u8_codec, u16_codec, u32_codec, u64_codec};
+ghost use Rattle.fields.specs.Kinds.{flag_codec};
 
 use crate::codecs::Field;
 use crate::faults::Malformed;
+use crate::readers::Reader;
 use byteorder::{BigEndian, ByteOrder};
 use fab_base::NoMem;
 
@@ -16,13 +18,9 @@ impl Field for u8 {
         Ok(())
     }
 
-    #[tactic(auto, unfolding(crate::specs::Reading::number_at))]
-    fn take(bytes: &[u8]) -> Result<(u8, &[u8]), Malformed> {
-        if bytes.is_empty() {
-            return Err(Malformed { left: 0 });
-        }
-        let (front, rest) = bytes.split_at(1);
-        Ok((front[0], rest))
+    #[tactic(auto, unfolding(crate::specs::Reading::number_at, crate::specs::Reading::raw_at))]
+    fn take(from: &mut Reader<'_>) -> Result<u8, Malformed> {
+        Ok(from.raw(1)?[0])
     }
 }
 
@@ -37,13 +35,9 @@ impl Field for u16 {
         Ok(())
     }
 
-    #[tactic(auto, unfolding(crate::specs::Reading::number_at))]
-    fn take(bytes: &[u8]) -> Result<(u16, &[u8]), Malformed> {
-        if bytes.len() < 2 {
-            return Err(Malformed { left: bytes.len() });
-        }
-        let (front, rest) = bytes.split_at(2);
-        Ok((BigEndian::read_u16(front), rest))
+    #[tactic(auto, unfolding(crate::specs::Reading::number_at, crate::specs::Reading::raw_at))]
+    fn take(from: &mut Reader<'_>) -> Result<u16, Malformed> {
+        Ok(BigEndian::read_u16(from.raw(2)?))
     }
 }
 
@@ -58,13 +52,9 @@ impl Field for u32 {
         Ok(())
     }
 
-    #[tactic(auto, unfolding(crate::specs::Reading::number_at))]
-    fn take(bytes: &[u8]) -> Result<(u32, &[u8]), Malformed> {
-        if bytes.len() < 4 {
-            return Err(Malformed { left: bytes.len() });
-        }
-        let (front, rest) = bytes.split_at(4);
-        Ok((BigEndian::read_u32(front), rest))
+    #[tactic(auto, unfolding(crate::specs::Reading::number_at, crate::specs::Reading::raw_at))]
+    fn take(from: &mut Reader<'_>) -> Result<u32, Malformed> {
+        Ok(BigEndian::read_u32(from.raw(4)?))
     }
 }
 
@@ -79,13 +69,9 @@ impl Field for u64 {
         Ok(())
     }
 
-    #[tactic(auto, unfolding(crate::specs::Reading::number_at))]
-    fn take(bytes: &[u8]) -> Result<(u64, &[u8]), Malformed> {
-        if bytes.len() < 8 {
-            return Err(Malformed { left: bytes.len() });
-        }
-        let (front, rest) = bytes.split_at(8);
-        Ok((BigEndian::read_u64(front), rest))
+    #[tactic(auto, unfolding(crate::specs::Reading::number_at, crate::specs::Reading::raw_at))]
+    fn take(from: &mut Reader<'_>) -> Result<u64, Malformed> {
+        Ok(BigEndian::read_u64(from.raw(8)?))
     }
 }
 
@@ -97,12 +83,12 @@ impl Field for bool {
         u8::from(*self).put(out)
     }
 
-    fn take(bytes: &[u8]) -> Result<(bool, &[u8]), Malformed> {
-        let (flag, rest) = u8::take(bytes)?;
-        match flag {
-            0 => Ok((false, rest)),
-            1 => Ok((true, rest)),
-            _ => Err(Malformed { left: bytes.len() }),
+    fn take(from: &mut Reader<'_>) -> Result<bool, Malformed> {
+        let left = from.rest.len();
+        match from.take()? {
+            0u8 => Ok(false),
+            1 => Ok(true),
+            _ => Err(Malformed { left }),
         }
     }
 }

@@ -7,6 +7,7 @@ ghost use Rattle.fields.specs.Values.{members_codec, view_codec};
 
 use crate::codecs::Field;
 use crate::faults::Malformed;
+use crate::readers::Reader;
 use fab_base::{Ballot, BrickId, GroupId, Members, NoMem, Stamp, StripeNo, View, ViewNo};
 
 impl Field for BrickId {
@@ -16,9 +17,8 @@ impl Field for BrickId {
         self.0.put(out)
     }
 
-    fn take(bytes: &[u8]) -> Result<(BrickId, &[u8]), Malformed> {
-        let (number, rest) = u16::take(bytes)?;
-        Ok((BrickId(number), rest))
+    fn take(from: &mut Reader<'_>) -> Result<BrickId, Malformed> {
+        Ok(BrickId(from.take()?))
     }
 }
 
@@ -29,9 +29,8 @@ impl Field for GroupId {
         self.0.put(out)
     }
 
-    fn take(bytes: &[u8]) -> Result<(GroupId, &[u8]), Malformed> {
-        let (number, rest) = u32::take(bytes)?;
-        Ok((GroupId(number), rest))
+    fn take(from: &mut Reader<'_>) -> Result<GroupId, Malformed> {
+        Ok(GroupId(from.take()?))
     }
 }
 
@@ -42,9 +41,8 @@ impl Field for StripeNo {
         self.0.put(out)
     }
 
-    fn take(bytes: &[u8]) -> Result<(StripeNo, &[u8]), Malformed> {
-        let (number, rest) = u32::take(bytes)?;
-        Ok((StripeNo(number), rest))
+    fn take(from: &mut Reader<'_>) -> Result<StripeNo, Malformed> {
+        Ok(StripeNo(from.take()?))
     }
 }
 
@@ -55,9 +53,8 @@ impl Field for ViewNo {
         self.0.put(out)
     }
 
-    fn take(bytes: &[u8]) -> Result<(ViewNo, &[u8]), Malformed> {
-        let (number, rest) = u32::take(bytes)?;
-        Ok((ViewNo(number), rest))
+    fn take(from: &mut Reader<'_>) -> Result<ViewNo, Malformed> {
+        Ok(ViewNo(from.take()?))
     }
 }
 
@@ -70,15 +67,13 @@ impl Field for Stamp {
     }
 
     #[tactic(auto, unfolding(crate::specs::Values::stamp_fields))]
-    fn take(bytes: &[u8]) -> Result<(Stamp, &[u8]), Malformed> {
-        let ((view, (time, (brick, boot))), rest) = Field::take(bytes)?;
-        let stamp = Stamp {
-            view,
-            time,
-            brick,
-            boot,
-        };
-        Ok((stamp, rest))
+    fn take(from: &mut Reader<'_>) -> Result<Stamp, Malformed> {
+        Ok(Stamp {
+            view: from.take()?,
+            time: from.take()?,
+            brick: from.take()?,
+            boot: from.take()?,
+        })
     }
 }
 
@@ -91,9 +86,12 @@ impl Field for Ballot {
     }
 
     #[tactic(auto, unfolding(crate::specs::Values::ballot_fields))]
-    fn take(bytes: &[u8]) -> Result<(Ballot, &[u8]), Malformed> {
-        let ((round, (brick, boot)), rest) = Field::take(bytes)?;
-        Ok((Ballot { round, brick, boot }, rest))
+    fn take(from: &mut Reader<'_>) -> Result<Ballot, Malformed> {
+        Ok(Ballot {
+            round: from.take()?,
+            brick: from.take()?,
+            boot: from.take()?,
+        })
     }
 }
 
@@ -112,29 +110,27 @@ impl Field for Members {
     }
 
     #[tactic(auto, unfolding(crate::specs::Values::members_fields))]
-    fn take(bytes: &[u8]) -> Result<(Members, &[u8]), Malformed> {
-        let (count, rest) = u8::take(bytes)?;
+    fn take(from: &mut Reader<'_>) -> Result<Members, Malformed> {
+        let left = from.rest.len();
+        let count = from.take()?;
         if count < 1 || count > 32 {
-            return Err(Malformed { left: bytes.len() });
+            return Err(Malformed { left });
         }
-        take_bricks(count, rest)
+        take_bricks(count, from)
     }
 }
 
 /// So many bricks, at most 32.
-fn take_bricks(count: u8, bytes: &[u8]) -> Result<(Members, &[u8]), Malformed>
+fn take_bricks(count: u8, from: &mut Reader<'_>) -> Result<Members, Malformed>
     requires { count ≤ 32 }
-    ensures { Gives (λ x. (x.0, x.1.now)) result (times_at brick_codec.read count bytes.now) }
+    ensures { Gives result from.new.rest.now (times_at brick_codec.read count from.old.rest.now) }
 {
     let mut bricks = [BrickId(0); 32];
-    let mut rest = bytes;
     for seat in 0..usize::from(count) {
-        let (brick, after) = BrickId::take(rest)?;
+        let brick = from.take()?;
         bricks[seat] = brick;
-        rest = after;
     }
-    let members = Members::new(&bricks[..usize::from(count)]).unwrap();
-    Ok((members, rest))
+    Ok(Members::new(&bricks[..usize::from(count)]).unwrap())
 }
 
 /// The number, the members, and the members of the view before.
@@ -149,13 +145,11 @@ impl Field for View {
     }
 
     #[tactic(auto, unfolding(crate::specs::Values::view_fields))]
-    fn take(bytes: &[u8]) -> Result<(View, &[u8]), Malformed> {
-        let ((number, (members, prior)), rest) = Field::take(bytes)?;
-        let view = View {
-            number,
-            members,
-            prior,
-        };
-        Ok((view, rest))
+    fn take(from: &mut Reader<'_>) -> Result<View, Malformed> {
+        Ok(View {
+            number: from.take()?,
+            members: from.take()?,
+            prior: from.take()?,
+        })
     }
 }

@@ -1,5 +1,5 @@
 -- What the fields of a record mean in bytes.
-use Rattle.std.proofs.Common.{◌≡◌, ℕ, ◌<◌, ◌^◌, ◌≤◌, Bool, true, false, List, [], ◌∷◌, ◌++◌, length, map, get_or, Option, Some, None, All, refl, sym, ap, ◌∙◌, arith}
+use Rattle.std.proofs.Common.{◌≡◌, ℕ, ◌<◌, ◌^◌, Bool, true, false, List, [], ◌∷◌, ◌++◌, length, map, get_or, Option, Some, None, All, refl, sym, ap, ◌∙◌, arith}
 use Rattle.std.specs.List.{flat_map}
 use Rattle.std.specs.Int.{w16, w32, w64}
 use Rattle.std.proofs.lemmas.List.{append-nil}
@@ -9,9 +9,9 @@ use Rattle.fab_base.specs.declared.identities.BrickId.{BrickId}
 use Rattle.fab_base.specs.declared.identities.GroupId.{GroupId}
 use Rattle.fab_base.specs.declared.identities.StripeNo.{StripeNo}
 use Rattle.fab_base.specs.declared.identities.ViewNo.{ViewNo}
-use Rattle.fab_base.specs.declared.stamps.Stamp.{Stamp}
 use Rattle.fab_base.specs.declared.stamps.Ballot.{Ballot}
-use Rattle.fields.specs.Codecs.{Codec, u16_codec, u32_codec, u64_codec, flag_codec, pair, option}
+use Rattle.fields.specs.Codecs.{Codec, u32_codec, u64_codec, pair}
+use Rattle.fields.specs.Kinds.{flag_codec}
 use Rattle.fields.specs.Laws.{spelled-append, AllFit-append, AllFit-front, AllFit-back}
 use Rattle.fields.specs.Parts as parts
 use Rattle.fields.specs.Parts.{spelled, AllFit}

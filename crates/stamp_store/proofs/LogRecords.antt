@@ -14,7 +14,7 @@ use Rattle.fields.proofs.Tables.{rows_read, rows_again}
 use Rattle.stamp_store.specs.declared.log_records.LogChange.{LogChange}
 use Rattle.stamp_store.specs.declared.log_records.LogChange.TheVariants.{Same, Collect, Slot}
 use Rattle.stamp_store.specs.declared.log_records.Logged.{Logged}
-use Rattle.stamp_store.specs.LogSpelling.{logged_kind, logged_body, SpellsLogged, place_fields, slot_fields, made_change, made_slot, logged_parts, logged_rows, logged_at, logged_of}
+use Rattle.stamp_store.specs.LogSpelling.{logged_kind, SpellsLogged, place_fields, slot_fields, made_change, made_slot, logged_parts, logged_rows, logged_at, logged_of}
 use Rattle.stamp_store.specs.Reading.{whole}
 use Rattle.stamp_store.proofs.Bodies.{changed_same, changed_fits, changed_back}
 use Rattle.stamp_store.proofs.Fields.{IsBytes}

@@ -1,12 +1,13 @@
 -- The fields of a store's records, and how a record is read from them.
-use Rattle.std.specs.Prelude.{ℕ, Bool, List, ◌++◌, length, Option, Some, None, Result, Ok, Err, ◌==◌, if◌then◌else◌}
+use Rattle.std.specs.Prelude.{ℕ, Bool, List, length, Option, Some, None, Result, Ok, Err, ◌==◌, if◌then◌else◌}
 use Rattle.fab_base.specs.declared.identities.BrickId.{BrickId}
 use Rattle.fab_base.specs.declared.identities.GroupId.{GroupId}
 use Rattle.fab_base.specs.declared.identities.StripeNo.{StripeNo}
 use Rattle.fab_base.specs.declared.identities.ViewNo.{ViewNo}
 use Rattle.fab_base.specs.declared.stamps.Stamp.{Stamp}
 use Rattle.fab_base.specs.declared.stamps.Ballot.{Ballot}
-use Rattle.fields.specs.Codecs.{Codec, u32_codec, flag_codec, pair, option}
+use Rattle.fields.specs.Codecs.{Codec, u32_codec, pair}
+use Rattle.fields.specs.Kinds.{flag_codec, option}
 use Rattle.fields.specs.Parts.{Part}
 use Rattle.fields.specs.Reading.{Reads, as_at, row_at, row, no_row}
 use Rattle.fields.specs.Values.{group_codec, stripe_codec, view_number_codec, stamp_codec, ballot_codec, members_codec}

@@ -5,7 +5,7 @@ ghost use Rattle.fields.specs.Parts.{spelled, AllFit};
 ghost use Rattle.fields.specs.Reading.{Gives};
 
 use fab_base::{Ballot, Bytes, GroupId, Members, NoMem, Stamp, StripeNo, View, ViewNo};
-use fields::{Field, Malformed};
+use fields::{Field, Malformed, Reader};
 use std::alloc::Global;
 
 /// A record of a brick's store.
@@ -86,8 +86,15 @@ impl Kept {
     fn whole(kind: u8, body: &[u8]) -> Option<Kept>
         ensures { result ≡ read_of kind body.now }
     {
-        match Kept::take(kind, body) {
-            Ok((kept, rest)) => { if rest.is_empty() { Some(kept) } else { None } }
+        let mut from = Reader { rest: body };
+        match Kept::take(kind, &mut from) {
+            Ok(kept) => {
+                if from.rest.is_empty() {
+                    Some(kept)
+                } else {
+                    None
+                }
+            }
             Err(_) => None,
         }
     }
@@ -129,51 +136,39 @@ impl Kept {
         }
     }
 
-    /// The record of a kind that these bytes begin with, and the bytes after it.
+    /// The record of a kind that these bytes begin with.
     #[tactic(auto, unfolding(crate::specs::Reading::kept_at))]
-    fn take(kind: u8, bytes: &[u8]) -> Result<(Kept, &[u8]), Malformed>
-        ensures { Gives (λ x. (x.0, x.1.now)) result (kept_at kind bytes.now) }
+    fn take(kind: u8, from: &mut Reader<'_>) -> Result<Kept, Malformed>
+        ensures { Gives result from.new.rest.now (kept_at kind from.old.rest.now) }
     {
-        match kind {
-            1 => {
-                let (count, rest) = Field::take(bytes)?;
-                Ok((Kept::Boot(count), rest))
+        Ok(match kind {
+            1 => Kept::Boot(from.take()?),
+            2 => Kept::View {
+                group: from.take()?,
+                view: View {
+                    number: from.take()?,
+                    members: from.take()?,
+                    prior: from.take()?,
+                },
+                synced: from.take()?,
+            },
+            3 => Kept::Ballots {
+                group: from.take()?,
+                view: from.take()?,
+                promised: from.take()?,
+                accepted: from.take()?,
+            },
+            4 => Kept::Order {
+                group: from.take()?,
+                view: from.take()?,
+                stripe: from.take()?,
+                stamp: from.take()?,
+            },
+            _ => {
+                return Err(Malformed {
+                    left: from.rest.len(),
+                });
             }
-            2 => {
-                let ((group, (number, (members, (prior, synced)))), rest) = Field::take(bytes)?;
-                let view = View {
-                    number,
-                    members,
-                    prior,
-                };
-                let kept = Kept::View {
-                    group,
-                    view,
-                    synced,
-                };
-                Ok((kept, rest))
-            }
-            3 => {
-                let ((group, (view, (promised, accepted))), rest) = Field::take(bytes)?;
-                let kept = Kept::Ballots {
-                    group,
-                    view,
-                    promised,
-                    accepted,
-                };
-                Ok((kept, rest))
-            }
-            4 => {
-                let ((group, (view, (stripe, stamp))), rest) = Field::take(bytes)?;
-                let kept = Kept::Order {
-                    group,
-                    view,
-                    stripe,
-                    stamp,
-                };
-                Ok((kept, rest))
-            }
-            _ => Err(Malformed { left: bytes.len() }),
-        }
+        })
     }
 }

@@ -5,7 +5,7 @@ ghost use Rattle.fields.specs.Parts.{spelled, AllFit};
 ghost use Rattle.fields.specs.Reading.{Gives, as_at};
 
 use fab_base::{Bytes, GroupId, NoMem, Stamp, StripeNo, ViewNo};
-use fields::{Field, Malformed};
+use fields::{Field, Malformed, Reader};
 use std::alloc::Global;
 
 /// What happens to a log.
@@ -77,8 +77,15 @@ impl Logged {
     fn whole(kind: u8, body: &[u8]) -> Option<Logged>
         ensures { result ≡ logged_of kind body.now }
     {
-        match Logged::take(kind, body) {
-            Ok((logged, rest)) => { if rest.is_empty() { Some(logged) } else { None } }
+        let mut from = Reader { rest: body };
+        match Logged::take(kind, &mut from) {
+            Ok(logged) => {
+                if from.rest.is_empty() {
+                    Some(logged)
+                } else {
+                    None
+                }
+            }
             Err(_) => None,
         }
     }
@@ -96,43 +103,40 @@ impl Logged {
         }
     }
 
-    /// The record of a kind that these bytes begin with, and the bytes after it.
+    /// The record of a kind that these bytes begin with.
     #[tactic(auto, unfolding(crate::specs::LogSpelling::logged_at))]
-    fn take(kind: u8, bytes: &[u8]) -> Result<(Logged, &[u8]), Malformed>
-        ensures { Gives (λ x. (x.0, x.1.now)) result (logged_at kind bytes.now) }
+    fn take(kind: u8, from: &mut Reader<'_>) -> Result<Logged, Malformed>
+        ensures { Gives result from.new.rest.now (logged_at kind from.old.rest.now) }
     {
         match kind {
-            6 => Logged::take_change(LogChange::Same, bytes),
-            7 => Logged::take_change(LogChange::Collect, bytes),
-            8 => {
-                let ((group, (view, (stripe, (stamp, (bottom, slot))))), rest) = Field::take(
-                    bytes,
-                )?;
-                let logged = Logged {
-                    group,
-                    view,
-                    stripe,
-                    stamp,
-                    change: LogChange::Slot { bottom, slot },
-                };
-                Ok((logged, rest))
-            }
-            _ => Err(Malformed { left: bytes.len() }),
+            6 => Logged::take_change(LogChange::Same, from),
+            7 => Logged::take_change(LogChange::Collect, from),
+            8 => Ok(Logged {
+                group: from.take()?,
+                view: from.take()?,
+                stripe: from.take()?,
+                stamp: from.take()?,
+                change: LogChange::Slot {
+                    bottom: from.take()?,
+                    slot: from.take()?,
+                },
+            }),
+            _ => Err(Malformed {
+                left: from.rest.len(),
+            }),
         }
     }
 
     /// A record of a change without fields.
-    fn take_change(change: LogChange, bytes: &[u8]) -> Result<(Logged, &[u8]), Malformed>
-        ensures { Gives (λ x. (x.0, x.1.now)) result (as_at (made_change change) place_fields.read bytes.now) }
+    fn take_change(change: LogChange, from: &mut Reader<'_>) -> Result<Logged, Malformed>
+        ensures { Gives result from.new.rest.now (as_at (made_change change) place_fields.read from.old.rest.now) }
     {
-        let ((group, (view, (stripe, stamp))), rest) = Field::take(bytes)?;
-        let logged = Logged {
-            group,
-            view,
-            stripe,
-            stamp,
+        Ok(Logged {
+            group: from.take()?,
+            view: from.take()?,
+            stripe: from.take()?,
+            stamp: from.take()?,
             change,
-        };
-        Ok((logged, rest))
+        })
     }
 }

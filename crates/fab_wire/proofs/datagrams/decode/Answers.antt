@@ -1,7 +1,6 @@
 -- What is read is spelled so, and where nothing is read no message goes further.
 use Rattle.std.proofs.Common.{◌-◌, length, arith}
-use Rattle.fab_wire.proofs.MessageLimits.{spells_limits}
-use Rattle.fab_wire.proofs.WholeMessages.{read_spells, one_message, left_within, malformed_at}
+use Rattle.fab_wire.proofs.WholeMessages.{spells_limits, read_spells, one_message, left_within, malformed_at}
 use Rattle.fab_wire.proofs.datagrams.decode.Goals as goal
 
 pub overflow_sub-result : goal.overflow_sub-result
