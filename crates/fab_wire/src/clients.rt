@@ -1,10 +1,8 @@
 //! A client's invocation, and its answer.
 
 ghost use Rattle.std.specs.Prelude.{◌≡◌, ◌++◌, OnOk};
-ghost use Rattle.fab_base.specs.declared.answers.Answer.TheVariants as answers;
 ghost use Rattle.fields.specs.Parts.{spelled, AllFit};
 ghost use Rattle.fields.specs.Reading.{GivesOrNoMemory};
-ghost use Rattle.messages.specs.declared.clients.ClientAnswer.TheVariants.{Ended, Refused};
 ghost use Rattle.fab_wire.specs.Clients.{client_codec, answer_codec};
 
 use crate::numbers::{
@@ -45,37 +43,6 @@ pub fn take_client(alloc: Global, from: &mut Reader<'_>) -> Result<ClientAsk, Re
     })
 }
 
-/// Adds the status of a refusal.
-#[tactic(auto, using(crate::proofs::Writings::joined))]
-fn put_refusal(out: &mut Vec<u8>, refusal: Refusal) -> Result<(), NoMem>
-    requires { answer_codec.Limits (Refused refusal) }
-    ensures bytes { OnOk result (out.new.items ≡ out.old.items ++ spelled (answer_codec.parts (Refused refusal))) }
-    ensures fits { OnOk result (AllFit (answer_codec.parts (Refused refusal))) }
-{
-    match refusal {
-        Refusal::NoStripe => STATUS_NO_STRIPE.put(out),
-        Refusal::NoBlock => STATUS_NO_BLOCK.put(out),
-        Refusal::Length => STATUS_LENGTH.put(out),
-        Refusal::Busy => STATUS_BUSY.put(out),
-        Refusal::Spent => STATUS_SPENT.put(out),
-        Refusal::Down => unreachable!(),
-    }
-}
-
-/// Adds the status of an abort, and what goes with it.
-#[tactic(auto, using(crate::proofs::Writings::joined))]
-fn put_cause(out: &mut Vec<u8>, cause: Cause) -> Result<(), NoMem>
-    ensures bytes { OnOk result (out.new.items ≡ out.old.items ++ spelled (answer_codec.parts (Ended (answers.Aborted cause)))) }
-    ensures fits { OnOk result (AllFit (answer_codec.parts (Ended (answers.Aborted cause)))) }
-{
-    match cause {
-        Cause::Later { brick, stamp } => (STATUS_LATER, (brick, stamp)).put(out),
-        Cause::Gone { brick } => (STATUS_GONE, brick).put(out),
-        Cause::Full { brick, live } => (STATUS_FULL, (brick, live)).put(out),
-        Cause::Moved { brick, view } => (STATUS_MOVED, (brick, view)).put(out),
-    }
-}
-
 /// Adds the answer to a client's invocation: its status, and what goes with it.
 #[tactic(auto, using(crate::proofs::Writings::joined))]
 pub fn put_answer(out: &mut Vec<u8>, answer: &ClientAnswer) -> Result<(), NoMem>
@@ -89,8 +56,18 @@ pub fn put_answer(out: &mut Vec<u8>, answer: &ClientAnswer) -> Result<(), NoMem>
             put_content(out, bytes)
         }
         ClientAnswer::Ended(Answer::Done) => STATUS_DONE.put(out),
-        ClientAnswer::Ended(Answer::Aborted(cause)) => put_cause(out, *cause),
-        ClientAnswer::Refused(refusal) => put_refusal(out, *refusal),
+        ClientAnswer::Ended(Answer::Aborted(cause)) => match *cause {
+            Cause::Later { brick, stamp } => (STATUS_LATER, (brick, stamp)).put(out),
+            Cause::Gone { brick } => (STATUS_GONE, brick).put(out),
+            Cause::Full { brick, live } => (STATUS_FULL, (brick, live)).put(out),
+            Cause::Moved { brick, view } => (STATUS_MOVED, (brick, view)).put(out),
+        },
+        ClientAnswer::Refused(Refusal::NoStripe) => STATUS_NO_STRIPE.put(out),
+        ClientAnswer::Refused(Refusal::NoBlock) => STATUS_NO_BLOCK.put(out),
+        ClientAnswer::Refused(Refusal::Length) => STATUS_LENGTH.put(out),
+        ClientAnswer::Refused(Refusal::Busy) => STATUS_BUSY.put(out),
+        ClientAnswer::Refused(Refusal::Spent) => STATUS_SPENT.put(out),
+        ClientAnswer::Refused(Refusal::Down) => unreachable!(),
     }
 }
 

@@ -6,7 +6,7 @@ ghost use Rattle.fields.specs.Parts.{spelled, AllFit};
 ghost use Rattle.fields.specs.Reading.{GivesOrNoMemory, GivesAll};
 ghost use Rattle.fields.specs.Values.{ballot_codec, stamp_codec};
 ghost use Rattle.fab_wire.specs.Values.{call_codec};
-ghost use Rattle.fab_wire.specs.Spelling.{HasSpelling, fields_of, message_codec, body_codec, datagram_of, Spells, MalformedIs, IsAt};
+ghost use Rattle.fab_wire.specs.Spelling.{HasSpelling, fields_of, message_codec, datagram_of, Spells, MalformedIs, IsAt};
 
 use crate::clients::{put_answer, put_client, take_answer, take_client};
 use crate::faults::WireFault;
@@ -109,16 +109,6 @@ fn put_message(out: &mut Vec<u8>, message: &Message) -> Result<(), NoMem>
     ensures fits { OnOk result (AllFit (fields_of message.now)) }
 {
     (FABW, VERSION).put(out)?;
-    put_body(out, message)
-}
-
-/// Adds the number of the message's kind, and the message's fields.
-#[tactic(auto, using(crate::proofs::Writings::joined))]
-fn put_body(out: &mut Vec<u8>, message: &Message) -> Result<(), NoMem>
-    requires { HasSpelling message.now }
-    ensures bytes { OnOk result (out.new.items ≡ out.old.items ++ spelled (body_codec.parts message.now)) }
-    ensures fits { OnOk result (AllFit (body_codec.parts message.now)) }
-{
     match message {
         Message::Request(call, request) => {
             number_of_request(request).put(out)?;
@@ -161,7 +151,7 @@ fn take_datagram(alloc: Global, bytes: &[u8]) -> Result<Message, ReadFault>
 }
 
 /// Reads a message.
-#[tactic(auto, unfolding(crate::specs::Spelling::message_fields))]
+#[tactic(auto, unfolding(crate::specs::Spelling::message_fields, crate::specs::Spelling::body_at))]
 fn take_message(alloc: Global, from: &mut Reader<'_>) -> Result<Message, ReadFault>
     ensures { GivesOrNoMemory result from.new.rest.now (message_codec.read from.old.rest.now) }
 {
@@ -175,14 +165,6 @@ fn take_message(alloc: Global, from: &mut Reader<'_>) -> Result<Message, ReadFau
     if version != VERSION {
         return Err(ReadFault::Malformed(left));
     }
-    take_body(alloc, from)
-}
-
-/// Reads the number of a kind, and the fields of a message of this kind.
-#[tactic(auto, unfolding(crate::specs::Spelling::body_at))]
-fn take_body(alloc: Global, from: &mut Reader<'_>) -> Result<Message, ReadFault>
-    ensures { GivesOrNoMemory result from.new.rest.now (body_codec.read from.old.rest.now) }
-{
     let left = from.rest.len();
     let number = from.take()?;
     Ok(match number {
