@@ -1,3 +1,2 @@
 pub mod Writings
 pub mod Loops
-pub mod Tables

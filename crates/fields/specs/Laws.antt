@@ -171,38 +171,6 @@ pub no_more : {X : Type 0} {Is : X → Type 0} {parts : X → List Part} {at : R
 no_more {X} {Is} {parts} {at} field bytes isb = field.furthest bytes field.example []
     (parts field.example) bytes isb field.example_is field.example_fits refl refl
 
--- the same of another spelling, which is equal
-pub same_parts : {X : Type 0} {I : X → Type 0} {p : X → List Part} {at : Reads X} (q : X → List Part) → ((x : X) → I x → p x ≡ q x) → IsField I p at
-    → IsField I q at
-same_parts {X} {I} {p} {at} q same field = record {
-  example = field.example;
-  example_is = field.example_is;
-  example_fits = subst (λ (fs : List Part). AllFit fs) (same field.example field.example_is) field.example_fits;
-  takes = λ bytes x rest isb e. let took = field.takes bytes x rest isb e in (
-    took.0,
-    subst (λ (fs : List Part). Takes bytes fs rest)
-        (same x took.0) took.1,
-  );
-  again = λ x rest is fits.
-      ap (λ (fs : List Part). at (spelled fs ++ rest)) (sym (same x is))
-      ∙ field.again x rest is (subst (λ (fs : List Part). AllFit fs) (sym (same x is)) fits);
-  stops = λ bytes left isb e.
-      let s = field.stops bytes left isb e in
-      record {
-        value = s.value;
-        is = s.is;
-        fits = subst (λ (fs : List Part). AllFit fs) (same s.value s.is) s.fits;
-        front = s.front;
-        back = s.back;
-        tail = s.tail;
-        fields = sym (same s.value s.is) ∙ s.fields;
-        bytes_are = s.bytes_are;
-        left_is = s.left_is;
-      };
-  furthest = λ bytes x front back tail isb is fits fields are.
-      field.furthest bytes x front back tail isb is (subst (λ (fs : List Part). AllFit fs) (sym (same x is)) fits) (same x is ∙ fields) are;
-}
-
 -- two readers that always give the same
 pub same_reading : {X : Type 0} {Is : X → Type 0} {parts : X → List Part} (a b : Reads X) → ((bytes : List ℕ) → a bytes ≡ b bytes) → IsField Is parts a
     → IsField Is parts b

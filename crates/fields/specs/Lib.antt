@@ -2,7 +2,6 @@ pub mod Parts
 pub mod Reading
 pub mod Laws
 pub mod Numbers
-pub mod Choices
 pub mod Codecs
 pub mod Kinds
 pub mod Values

@@ -32,18 +32,6 @@ abbrev pub AllFit : List Part → Type 0
 AllFit [] = Unit {0}
 AllFit (part ∷ parts) = Fits part × AllFit parts
 
-abbrev pub u8 : ℕ → Part
-u8 n = Number 1 n
-
-abbrev pub u16 : ℕ → Part
-u16 n = Number 2 n
-
-abbrev pub u32 : ℕ → Part
-u32 n = Number 4 n
-
-abbrev pub u64 : ℕ → Part
-u64 n = Number 8 n
-
 -- a byte that has this value alone
 abbrev pub exactly : ℕ → Part
 exactly n = Limited 1 n n n

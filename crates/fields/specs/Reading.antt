@@ -97,17 +97,3 @@ raw_at count bytes = if nat_lt (length bytes) count then Err (length bytes) else
 unfoldable pub times_at : {X : Type 0} → Reads X → ℕ → Reads (List X)
 times_at at zero = as_at (λ u. []) nothing_at
 times_at at (suc n) = as_at (λ p. p.0 ∷ p.1) (then_at at (times_at at n))
-
--- a byte that says which fields follow
-abbrev pub row_at : {X : Type 0} → Option (Reads X) → ℕ → Reads X
-row_at None here bytes = Err here
-row_at (Some at) here bytes = at bytes
-
-abbrev pub choice_at : {X : Type 0} → (ℕ → Option (Reads X)) → Reads X
-choice_at rows bytes = number_at 1 bytes >>= λ x. row_at (rows x.0) (length bytes) x.1
-
-abbrev pub row : {X : Type 0} → ℕ → Reads X → (ℕ → Option (Reads X)) → ℕ → Option (Reads X)
-row value at others n = if n == value then Some at else others n
-
-abbrev pub no_row : {X : Type 0} → ℕ → Option (Reads X)
-no_row n = None

@@ -112,36 +112,6 @@ pub enum Reply {
     NotSynced,
 }
 
-/// An equal version, if there is one.
-fn copy_version(alloc: Global, version: &Option<Version>) -> Result<Option<Version>, NoMem>
-    ensures { IfOk result (λ made. made ≡ version.now) }
-{
-    match version {
-        None => Ok(None),
-        Some(version) => Ok(Some(version.copy(alloc)?)),
-    }
-}
-
-/// An equal lineage, if there is one.
-fn copy_lineage(lineage: &Option<Lineage>) -> Option<Lineage>
-    ensures { result ≡ lineage.now }
-{
-    match lineage {
-        None => None,
-        Some(lineage) => Some(lineage.copy()),
-    }
-}
-
-/// An equal choice, if there is one.
-fn copy_choice(choice: &Option<Choice>) -> Option<Choice>
-    ensures { result ≡ choice.now }
-{
-    match choice {
-        None => None,
-        Some(choice) => Some(choice.copy()),
-    }
-}
-
 impl Reply {
     /// An equal value.
     pub fn copy(&self, alloc: Global) -> Result<Reply, NoMem>
@@ -150,11 +120,17 @@ impl Reply {
         Ok(match self {
             Reply::Found { order, newest } => Reply::Found {
                 order: *order,
-                newest: copy_version(alloc, newest)?,
+                newest: newest
+                    .as_ref()
+                    .map(|version| version.copy(alloc))
+                    .transpose()?,
             },
             Reply::Ordered => Reply::Ordered,
             Reply::OrderedRead { found } => Reply::OrderedRead {
-                found: copy_version(alloc, found)?,
+                found: found
+                    .as_ref()
+                    .map(|version| version.copy(alloc))
+                    .transpose()?,
             },
             Reply::Stored => Reply::Stored,
             Reply::Behind { newest } => Reply::Behind { newest: *newest },
@@ -162,14 +138,17 @@ impl Reply {
             Reply::Full { live } => Reply::Full { live: *live },
             Reply::Moved { view, lineage } => Reply::Moved {
                 view: *view,
-                lineage: copy_lineage(lineage),
+                lineage: lineage.as_ref().map(Lineage::copy),
             },
             Reply::Old { found } => Reply::Old {
-                found: copy_version(alloc, found)?,
+                found: found
+                    .as_ref()
+                    .map(|version| version.copy(alloc))
+                    .transpose()?,
             },
             Reply::Retired => Reply::Retired,
             Reply::Promise { accepted } => Reply::Promise {
-                accepted: copy_choice(accepted),
+                accepted: accepted.as_ref().map(Choice::copy),
             },
             Reply::Accepted => Reply::Accepted,
             Reply::Outbid { ballot } => Reply::Outbid { ballot: *ballot },

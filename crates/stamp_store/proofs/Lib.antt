@@ -1,3 +1,4 @@
+pub mod Rows
 pub mod Bodies
 pub mod Fields
 pub mod LogRecords

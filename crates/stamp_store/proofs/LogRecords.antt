@@ -7,15 +7,14 @@ use Rattle.fab_base.specs.declared.identities.StripeNo.{StripeNo}
 use Rattle.fab_base.specs.declared.identities.ViewNo.{ViewNo}
 use Rattle.fab_base.specs.declared.stamps.Stamp.{Stamp}
 use Rattle.fields.specs.Parts.{spelled}
-use Rattle.fields.specs.Reading.{as_at, row_at}
+use Rattle.fields.specs.Reading.{as_at}
 use Rattle.fields.specs.Laws.{IsMade, made_field}
-use Rattle.fields.specs.Choices.{Rows, HasRow, with_row, without_rows}
-use Rattle.fields.proofs.Tables.{rows_read, rows_again}
+use Rattle.stamp_store.proofs.Rows.{Rows, HasRow, with_row, without_rows, rows_read, rows_again}
 use Rattle.stamp_store.specs.declared.log_records.LogChange.{LogChange}
 use Rattle.stamp_store.specs.declared.log_records.LogChange.TheVariants.{Same, Collect, Slot}
 use Rattle.stamp_store.specs.declared.log_records.Logged.{Logged}
 use Rattle.stamp_store.specs.LogSpelling.{logged_kind, SpellsLogged, place_fields, slot_fields, made_change, made_slot, logged_parts, logged_rows, logged_at, logged_of}
-use Rattle.stamp_store.specs.Reading.{whole}
+use Rattle.stamp_store.specs.Reading.{row_at, whole}
 use Rattle.stamp_store.proofs.Bodies.{changed_same, changed_fits, changed_back}
 use Rattle.stamp_store.proofs.Fields.{IsBytes}
 use Rattle.stamp_store.proofs.Records.{whole_is}

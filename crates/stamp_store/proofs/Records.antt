@@ -11,15 +11,14 @@ use Rattle.fab_base.specs.declared.stamps.Stamp.{Stamp}
 use Rattle.fab_base.specs.declared.stamps.Ballot.{Ballot}
 use Rattle.fields.specs.Codecs.{u32_codec}
 use Rattle.fields.specs.Parts.{spelled}
-use Rattle.fields.specs.Reading.{as_at, row_at}
+use Rattle.fields.specs.Reading.{as_at}
 use Rattle.fields.specs.Laws.{IsMade, made_field}
-use Rattle.fields.specs.Choices.{Rows, HasRow, with_row, without_rows}
-use Rattle.fields.proofs.Tables.{rows_read, rows_again}
+use Rattle.stamp_store.proofs.Rows.{Rows, HasRow, with_row, without_rows, rows_read, rows_again}
 use Rattle.stamp_store.specs.declared.kept_records.Kept.{Kept}
 use Rattle.stamp_store.specs.declared.kept_records.Kept.TheVariants.{Boot, Ballots, Order}
 use Rattle.stamp_store.specs.declared.kept_records.Kept.TheVariants as kinds
 use Rattle.stamp_store.specs.Spelling.{kind_of, Spells}
-use Rattle.stamp_store.specs.Reading.{view_fields, ballots_fields, order_fields, made_boot, made_view, made_ballots, made_order, kept_parts, kept_rows, kept_at, whole, read_of}
+use Rattle.stamp_store.specs.Reading.{row_at, view_fields, ballots_fields, order_fields, made_boot, made_view, made_ballots, made_order, kept_parts, kept_rows, kept_at, whole, read_of}
 use Rattle.stamp_store.proofs.Fields.{IsBytes}
 use Rattle.stamp_store.proofs.Bodies.{kept_same, kept_fits, kept_back}
 

@@ -8,13 +8,13 @@ use Rattle.fab_base.specs.declared.stamps.Stamp.{Stamp}
 use Rattle.fields.specs.Codecs.{Codec, u32_codec, pair}
 use Rattle.fields.specs.Kinds.{flag_codec}
 use Rattle.fields.specs.Parts.{Part}
-use Rattle.fields.specs.Reading.{Reads, as_at, row_at, row, no_row}
+use Rattle.fields.specs.Reading.{Reads, as_at}
 use Rattle.fields.specs.Values.{group_codec, stripe_codec, view_number_codec, stamp_codec}
 use Rattle.stamp_store.specs.declared.log_records.LogChange.{LogChange}
 use Rattle.stamp_store.specs.declared.log_records.LogChange.TheVariants.{Same, Collect, Slot}
 use Rattle.stamp_store.specs.declared.log_records.Logged.{Logged}
 use Rattle.stamp_store.specs.Spelling.{number_bytes, stamp_bytes, flag_bytes, StampFits}
-use Rattle.stamp_store.specs.Reading.{whole}
+use Rattle.stamp_store.specs.Reading.{row_at, row, no_row, whole}
 
 -- a record's kind
 abbrev pub logged_kind : LogChange → ℕ

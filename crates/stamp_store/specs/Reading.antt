@@ -9,7 +9,7 @@ use Rattle.fab_base.specs.declared.stamps.Ballot.{Ballot}
 use Rattle.fields.specs.Codecs.{Codec, u32_codec, pair}
 use Rattle.fields.specs.Kinds.{flag_codec, option}
 use Rattle.fields.specs.Parts.{Part}
-use Rattle.fields.specs.Reading.{Reads, as_at, row_at, row, no_row}
+use Rattle.fields.specs.Reading.{Reads, as_at}
 use Rattle.fields.specs.Values.{group_codec, stripe_codec, view_number_codec, stamp_codec, ballot_codec, members_codec}
 use Rattle.stamp_store.specs.declared.kept_records.Kept.{Kept}
 use Rattle.stamp_store.specs.declared.kept_records.Kept.TheVariants.{Boot, Ballots, Order}
@@ -49,6 +49,17 @@ kept_parts (Boot count) = u32_codec.parts count
 kept_parts (kinds.View group view synced) = view_fields.parts (group, (view.number, (view.members, (view.prior, synced))))
 kept_parts (Ballots group view promised accepted) = ballots_fields.parts (group, (view, (promised, accepted)))
 kept_parts (Order group view stripe stamp) = order_fields.parts (group, (view, (stripe, stamp)))
+
+-- the row of a kind; so many bytes are left where it has none
+abbrev pub row_at : {X : Type 0} → Option (Reads X) → ℕ → Reads X
+row_at None here bytes = Err here
+row_at (Some at) here bytes = at bytes
+
+abbrev pub row : {X : Type 0} → ℕ → Reads X → (ℕ → Option (Reads X)) → ℕ → Option (Reads X)
+row value at others n = if n == value then Some at else others n
+
+abbrev pub no_row : {X : Type 0} → ℕ → Option (Reads X)
+no_row n = None
 
 -- how the body of a record of each kind is read
 abbrev pub kept_rows : ℕ → Option (Reads Kept)
