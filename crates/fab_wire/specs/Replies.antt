@@ -1,5 +1,5 @@
 -- The kinds of replies: the number of each, and the fields after its call.
-use Rattle.std.proofs.Common.{◌≡◌, ℕ, List, [], ◌∷◌, ◌++◌, length, Option, refl, sym, ap}
+use Rattle.std.proofs.Common.{◌≡◌, ℕ, List, [], ◌∷◌, ◌++◌, length, Option, Some, None, refl, sym, ap}
 use Rattle.messages.specs.declared.replies.Reply.{Reply}
 use Rattle.messages.specs.declared.replies.Reply.TheVariants as replies
 use Rattle.fields.specs.Codecs.{pair, nothing, u32_codec}
@@ -9,7 +9,7 @@ use Rattle.fields.specs.Parts.{Part, exactly}
 use Rattle.fields.specs.Reading.{Reads, as_at, find_or, find_last}
 use Rattle.fields.specs.Numbers.{find_last_is}
 use Rattle.fields.specs.Values.{stamp_codec, ballot_codec, view_number_codec}
-use Rattle.fab_wire.specs.Values.{version_codec, choice_codec, lineage_codec}
+use Rattle.fab_wire.specs.Values.{version_codec, pair_of_choice, choice_of, choice_codec, pair_of_lineage, lineage_of, lineage_codec}
 use Rattle.fab_wire.specs.declared.numbers.TheConstants.{FOUND, ORDERED, ORDERED_READ, STORED, BEHIND, LATER, FULL, MOVED, OLD, RETIRED, PROMISE, ACCEPTED, OUTBID, NOT_SYNCED}
 
 pub data ReplyKind : Type 0 where
@@ -76,10 +76,10 @@ reply_row Stored = of nothing
 reply_row Behind = of (option stamp_codec)
 reply_row Later = of stamp_codec
 reply_row Full = of u32_codec
-reply_row Moved = of (pair view_number_codec (option lineage_codec))
+reply_row Moved = of (pair view_number_codec lineage_codec)
 reply_row Old = of (option version_codec)
 reply_row Retired = of nothing
-reply_row Promise = of (option choice_codec)
+reply_row Promise = of choice_codec
 reply_row Accepted = of nothing
 reply_row Outbid = of ballot_codec
 reply_row NotSynced = of nothing
@@ -92,10 +92,10 @@ reply_made Stored none = replies.Stored
 reply_made Behind newest = replies.Behind newest
 reply_made Later stamp = replies.Later stamp
 reply_made Full live = replies.Full live
-reply_made Moved (view, lineage) = replies.Moved view lineage
+reply_made Moved (view, lineage) = replies.Moved view (lineage_of lineage)
 reply_made Old found = replies.Old found
 reply_made Retired none = replies.Retired
-reply_made Promise accepted = replies.Promise accepted
+reply_made Promise accepted = replies.Promise (choice_of accepted)
 reply_made Accepted none = replies.Accepted
 reply_made Outbid ballot = replies.Outbid ballot
 reply_made NotSynced none = replies.NotSynced
@@ -118,10 +118,10 @@ reply_parts replies.Stored = []
 reply_parts (replies.Behind newest) = (option stamp_codec).parts newest
 reply_parts (replies.Later stamp) = stamp_codec.parts stamp
 reply_parts (replies.Full live) = u32_codec.parts live
-reply_parts (replies.Moved view lineage) = view_number_codec.parts view ++ (option lineage_codec).parts lineage
+reply_parts (replies.Moved view lineage) = view_number_codec.parts view ++ lineage_codec.parts (pair_of_lineage lineage)
 reply_parts (replies.Old found) = (option version_codec).parts found
 reply_parts replies.Retired = []
-reply_parts (replies.Promise accepted) = (option choice_codec).parts accepted
+reply_parts (replies.Promise accepted) = choice_codec.parts (pair_of_choice accepted)
 reply_parts replies.Accepted = []
 reply_parts (replies.Outbid ballot) = ballot_codec.parts ballot
 reply_parts replies.NotSynced = []
@@ -130,9 +130,9 @@ reply_parts replies.NotSynced = []
 abbrev pub ReplyFits : Reply → Type 0
 ReplyFits (replies.Found order newest) = (option version_codec).Limits newest
 ReplyFits (replies.OrderedRead found) = (option version_codec).Limits found
-ReplyFits (replies.Moved view lineage) = (option lineage_codec).Limits lineage
+ReplyFits (replies.Moved view lineage) = lineage_codec.Limits (pair_of_lineage lineage)
 ReplyFits (replies.Old found) = (option version_codec).Limits found
-ReplyFits (replies.Promise accepted) = (option choice_codec).Limits accepted
+ReplyFits (replies.Promise accepted) = choice_codec.Limits (pair_of_choice accepted)
 ReplyFits reply = Unit {0}
 
 abbrev pub reply_part : ReplyKind → Part
@@ -142,9 +142,11 @@ pub each_reply : (kind : ReplyKind) (v : (reply_row kind).Value)
     → IsKind reply_part reply_kind reply_parts ReplyFits kind (reply_row kind).codec (reply_made kind v) v
 each_reply Found v = record { is = refl; spells = refl; keeps = λ t l. l.1 }
 each_reply OrderedRead v = record { is = refl; spells = refl; keeps = λ t l. l }
-each_reply Moved v = record { is = refl; spells = refl; keeps = λ t l. l.1 }
+each_reply Moved (view, None) = record { is = refl; spells = refl; keeps = λ t l. tt }
+each_reply Moved (view, Some lineage) = record { is = refl; spells = refl; keeps = λ t l. l.1 }
 each_reply Old v = record { is = refl; spells = refl; keeps = λ t l. l }
-each_reply Promise v = record { is = refl; spells = refl; keeps = λ t l. l }
+each_reply Promise None = record { is = refl; spells = refl; keeps = λ t l. tt }
+each_reply Promise (Some accepted) = record { is = refl; spells = refl; keeps = λ t l. l }
 each_reply kind v = record { is = refl; spells = refl; keeps = λ t l. tt }
 
 pub reply_from : (reply : Reply) → IsMade (λ (v : (reply_row (reply_kind reply)).Value). Unit {0}) (reply_made (reply_kind reply)) reply
@@ -155,10 +157,12 @@ reply_from replies.Stored = record { from = tt; is = tt; same = refl }
 reply_from (replies.Behind newest) = record { from = newest; is = tt; same = refl }
 reply_from (replies.Later stamp) = record { from = stamp; is = tt; same = refl }
 reply_from (replies.Full live) = record { from = live; is = tt; same = refl }
-reply_from (replies.Moved view lineage) = record { from = (view, lineage); is = tt; same = refl }
+reply_from (replies.Moved view None) = record { from = (view, None); is = tt; same = refl }
+reply_from (replies.Moved view (Some lineage)) = record { from = (view, Some (lineage.members, lineage.prior)); is = tt; same = refl }
 reply_from (replies.Old found) = record { from = found; is = tt; same = refl }
 reply_from replies.Retired = record { from = tt; is = tt; same = refl }
-reply_from (replies.Promise accepted) = record { from = accepted; is = tt; same = refl }
+reply_from (replies.Promise None) = record { from = None; is = tt; same = refl }
+reply_from (replies.Promise (Some choice)) = record { from = Some (choice.ballot, choice.members); is = tt; same = refl }
 reply_from replies.Accepted = record { from = tt; is = tt; same = refl }
 reply_from (replies.Outbid ballot) = record { from = ballot; is = tt; same = refl }
 reply_from replies.NotSynced = record { from = tt; is = tt; same = refl }

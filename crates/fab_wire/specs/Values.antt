@@ -19,12 +19,12 @@ use Rattle.messages.specs.declared.requests.Look.TheVariants.{Below, At}
 use Rattle.messages.specs.declared.replies.Choice.{Choice}
 use Rattle.messages.specs.declared.replies.Lineage.{Lineage}
 use Rattle.fields.specs.Codecs.{Codec, u32_codec, u64_codec, pair, seen, limited_to, byte_of}
-use Rattle.fields.specs.Kinds.{Row, of, Kinds, IsKind, one_of, flag_part, flag_value, flag_stands}
+use Rattle.fields.specs.Kinds.{Row, of, Kinds, IsKind, one_of, flag_part, flag_value, flag_stands, option}
 use Rattle.fields.specs.Parts.{Part, Limited, number_bytes, bytes_of, Fits, AllFit, exactly}
 use Rattle.fields.specs.Reading.{find, limited_at}
 use Rattle.fields.specs.Laws.{IsPlain, IsMade}
 use Rattle.fields.specs.Numbers.{Stands, listed, limited8, chosen, chosen_some}
-use Rattle.fields.specs.Values.{HasMembers, BlockFits, group_codec, stripe_codec, view_number_codec, stamp_codec, ballot_codec, members_codec, block_codec}
+use Rattle.fields.specs.Values.{BlockFits, group_codec, stripe_codec, view_number_codec, stamp_codec, ballot_codec, members_codec, block_codec}
 use Rattle.fab_wire.specs.declared.numbers.TheConstants.{ALL_SEATS, READ_BLOCK, WRITE_BLOCK, READ_STRIPE, WRITE_STRIPE}
 
 -- boot, seq, phase, group, view, stripe
@@ -53,33 +53,31 @@ version_within v fits = (version_fields.within v fits).1
 abbrev pub version_codec : Codec Version
 version_codec = limited_to (λ v. BlockFits v.block) version_fields version_within
 
--- ballot, members
-abbrev pub made_choice : Ballot × List BrickId → Choice
-made_choice (ballot, members) = record { ballot = ballot; members = members }
+-- ---- what was accepted, if anything was: ballot, members
 
-unfoldable pub choice_fields : Codec Choice
-choice_fields = seen made_choice (λ c. (c.ballot, c.members)) (λ c. refl) (λ p. refl) (pair ballot_codec members_codec)
+abbrev pub pair_of_choice : Option Choice → Option (Ballot × List BrickId)
+pair_of_choice None = None
+pair_of_choice (Some choice) = Some (choice.ballot, choice.members)
 
-pub choice_within : (c : Choice) → AllFit (choice_fields.parts c) → HasMembers c.members
-unfolding choice_fields
-choice_within c fits = (choice_fields.within c fits).1
+abbrev pub choice_of : Option (Ballot × List BrickId) → Option Choice
+choice_of None = None
+choice_of (Some (ballot, members)) = Some (record { ballot = ballot; members = members })
 
-abbrev pub choice_codec : Codec Choice
-choice_codec = limited_to (λ c. HasMembers c.members) choice_fields choice_within
+abbrev pub choice_codec : Codec (Option (Ballot × List BrickId))
+choice_codec = option (pair ballot_codec members_codec)
 
--- members, prior members
-abbrev pub made_lineage : List BrickId × List BrickId → Lineage
-made_lineage (members, prior) = record { members = members; prior = prior }
+-- ---- the members of a view and those of the view before, if they are known
 
-unfoldable pub lineage_fields : Codec Lineage
-lineage_fields = seen made_lineage (λ l. (l.members, l.prior)) (λ l. refl) (λ p. refl) (pair members_codec members_codec)
+abbrev pub pair_of_lineage : Option Lineage → Option (List BrickId × List BrickId)
+pair_of_lineage None = None
+pair_of_lineage (Some lineage) = Some (lineage.members, lineage.prior)
 
-pub lineage_within : (l : Lineage) → AllFit (lineage_fields.parts l) → HasMembers l.members × HasMembers l.prior
-unfolding lineage_fields
-lineage_within l fits = lineage_fields.within l fits
+abbrev pub lineage_of : Option (List BrickId × List BrickId) → Option Lineage
+lineage_of None = None
+lineage_of (Some (members, prior)) = Some (record { members = members; prior = prior })
 
-abbrev pub lineage_codec : Codec Lineage
-lineage_codec = limited_to (λ l. HasMembers l.members × HasMembers l.prior) lineage_fields lineage_within
+abbrev pub lineage_codec : Codec (Option (List BrickId × List BrickId))
+lineage_codec = option (pair members_codec members_codec)
 
 -- ---- which seats: one from 0 to 31, or 255 for all
 

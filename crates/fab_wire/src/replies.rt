@@ -9,12 +9,10 @@ use crate::numbers::{
     ACCEPTED, BEHIND, FOUND, FULL, LATER, MOVED, NOT_SYNCED, OLD, ORDERED, ORDERED_READ, OUTBID,
     PROMISE, RETIRED, STORED,
 };
-use crate::values::{
-    put_choice, put_lineage, put_version, take_choice, take_lineage, take_version,
-};
-use fab_base::NoMem;
+use crate::values::{put_version, take_version};
+use fab_base::{Ballot, Members, NoMem};
 use fields::{Field, ReadFault, Reader};
-use messages::Reply;
+use messages::{Choice, Lineage, Reply};
 use std::alloc::Global;
 
 /// The number of a reply's kind.
@@ -57,9 +55,17 @@ pub fn put_reply(out: &mut Vec<u8>, reply: &Reply) -> Result<(), NoMem>
         Reply::Full { live } => live.put(out),
         Reply::Moved { view, lineage } => {
             view.put(out)?;
-            put_lineage(out, lineage)
+            let pair = lineage
+                .as_ref()
+                .map(|known| (known.members.copy(), known.prior.copy()));
+            pair.put(out)
         }
-        Reply::Promise { accepted } => put_choice(out, accepted),
+        Reply::Promise { accepted } => {
+            let pair = accepted
+                .as_ref()
+                .map(|choice| (choice.ballot, choice.members.copy()));
+            pair.put(out)
+        }
         Reply::Outbid { ballot } => ballot.put(out),
         Reply::Ordered | Reply::Stored | Reply::Retired | Reply::Accepted | Reply::NotSynced => Ok(
             (),
@@ -91,14 +97,18 @@ pub fn take_reply(alloc: Global, from: &mut Reader<'_>, number: u8) -> Result<Re
         FULL => Reply::Full { live: from.take()? },
         MOVED => Reply::Moved {
             view: from.take()?,
-            lineage: take_lineage(from)?,
+            lineage: from
+                .take::<Option<(Members, Members)>>()?
+                .map(|(members, prior)| Lineage { members, prior }),
         },
         OLD => Reply::Old {
             found: take_version(alloc, from)?,
         },
         RETIRED => Reply::Retired,
         PROMISE => Reply::Promise {
-            accepted: take_choice(from)?,
+            accepted: from
+                .take::<Option<(Ballot, Members)>>()?
+                .map(|(ballot, members)| Choice { ballot, members }),
         },
         ACCEPTED => Reply::Accepted,
         OUTBID => Reply::Outbid {

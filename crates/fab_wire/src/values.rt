@@ -4,12 +4,12 @@ ghost use Rattle.std.specs.Prelude.{◌≡◌, ◌++◌, OnOk};
 ghost use Rattle.fields.specs.Kinds.{option};
 ghost use Rattle.fields.specs.Parts.{spelled, AllFit};
 ghost use Rattle.fields.specs.Reading.{Gives, GivesOrNoMemory};
-ghost use Rattle.fab_wire.specs.Values.{call_codec, want_codec, look_codec, op_codec, data_block_codec, version_codec, choice_codec, lineage_codec};
+ghost use Rattle.fab_wire.specs.Values.{call_codec, want_codec, look_codec, op_codec, data_block_codec, version_codec};
 
 use crate::numbers::{ALL_SEATS, READ_BLOCK, READ_STRIPE, WRITE_BLOCK, WRITE_STRIPE};
 use fab_base::NoMem;
 use fields::{Field, Malformed, ReadFault, Reader, put_block, take_block};
-use messages::{Call, Choice, ClientOp, Lineage, Look, Version, Want};
+use messages::{Call, ClientOp, Look, Version, Want};
 use std::alloc::Global;
 
 /// Adds a call.
@@ -154,70 +154,5 @@ pub fn take_version(alloc: Global, from: &mut Reader<'_>) -> Result<Option<Versi
             block: take_block(alloc, from)?,
         })),
         _ => Err(ReadFault::Malformed(left)),
-    }
-}
-
-/// Adds a choice, if there is one: the ballot, and the members that were accepted under it.
-#[tactic(auto, using(crate::proofs::Writings::joined), unfolding(crate::specs::Values::choice_fields))]
-pub fn put_choice(out: &mut Vec<u8>, choice: &Option<Choice>) -> Result<(), NoMem>
-    requires { (option choice_codec).Limits choice.now }
-    ensures bytes { OnOk result (out.new.items ≡ out.old.items ++ spelled ((option choice_codec).parts choice.now)) }
-    ensures fits { OnOk result (AllFit ((option choice_codec).parts choice.now)) }
-{
-    match choice {
-        None => false.put(out),
-        Some(choice) => {
-            (true, choice.ballot).put(out)?;
-            choice.members.put(out)
-        }
-    }
-}
-
-/// Reads a choice, if there is one.
-#[tactic(auto, unfolding(crate::specs::Values::choice_fields))]
-pub fn take_choice(from: &mut Reader<'_>) -> Result<Option<Choice>, Malformed>
-    ensures { Gives result from.new.rest.now ((option choice_codec).read from.old.rest.now) }
-{
-    let left = from.rest.len();
-    match from.take()? {
-        0u8 => Ok(None),
-        1 => Ok(Some(Choice {
-            ballot: from.take()?,
-            members: from.take()?,
-        })),
-        _ => Err(Malformed { left }),
-    }
-}
-
-/// Adds a lineage, if there is one: a view's members, and those of the view before.
-#[tactic(auto, using(crate::proofs::Writings::joined), unfolding(crate::specs::Values::lineage_fields))]
-pub fn put_lineage(out: &mut Vec<u8>, lineage: &Option<Lineage>) -> Result<(), NoMem>
-    requires { (option lineage_codec).Limits lineage.now }
-    ensures bytes { OnOk result (out.new.items ≡ out.old.items ++ spelled ((option lineage_codec).parts lineage.now)) }
-    ensures fits { OnOk result (AllFit ((option lineage_codec).parts lineage.now)) }
-{
-    match lineage {
-        None => false.put(out),
-        Some(lineage) => {
-            true.put(out)?;
-            lineage.members.put(out)?;
-            lineage.prior.put(out)
-        }
-    }
-}
-
-/// Reads a lineage, if there is one.
-#[tactic(auto, unfolding(crate::specs::Values::lineage_fields))]
-pub fn take_lineage(from: &mut Reader<'_>) -> Result<Option<Lineage>, Malformed>
-    ensures { Gives result from.new.rest.now ((option lineage_codec).read from.old.rest.now) }
-{
-    let left = from.rest.len();
-    match from.take()? {
-        0u8 => Ok(None),
-        1 => Ok(Some(Lineage {
-            members: from.take()?,
-            prior: from.take()?,
-        })),
-        _ => Err(Malformed { left }),
     }
 }
