@@ -19,10 +19,10 @@ use Rattle.messages.specs.declared.requests.Look.TheVariants.{Below, At}
 use Rattle.messages.specs.declared.replies.Choice.{Choice}
 use Rattle.messages.specs.declared.replies.Lineage.{Lineage}
 use Rattle.fields.specs.Codecs.{Codec, u32_codec, u64_codec, pair, seen, limited_to, byte_of}
-use Rattle.fields.specs.Kinds.{Row, of, Kinds, IsKind, one_of, flag_part, flag_value, flag_stands, option}
+use Rattle.fields.specs.Kinds.{flag_codec, option}
 use Rattle.fields.specs.Parts.{Part, Limited, number_bytes, bytes_of, Fits, AllFit, exactly}
 use Rattle.fields.specs.Reading.{find, limited_at}
-use Rattle.fields.specs.Laws.{IsPlain, IsMade}
+use Rattle.fields.specs.Laws.{IsPlain}
 use Rattle.fields.specs.Numbers.{Stands, listed, limited8, chosen, chosen_some}
 use Rattle.fields.specs.Values.{BlockFits, group_codec, stripe_codec, view_number_codec, stamp_codec, ballot_codec, members_codec, block_codec}
 use Rattle.fab_wire.specs.declared.numbers.TheConstants.{ALL_SEATS, READ_BLOCK, WRITE_BLOCK, READ_STRIPE, WRITE_STRIPE}
@@ -128,34 +128,24 @@ want_codec = byte_of WantFits want_within want_stands
 
 -- ---- which entry: 0 below or 1 at, and the stamp
 
-abbrev pub look_row : Bool → Row
-look_row at = of stamp_codec
+abbrev pub look_of : Bool × Stamp → Look
+look_of (false, stamp) = Below stamp
+look_of (true, stamp) = At stamp
 
-abbrev pub look_made : (at : Bool) → (look_row at).Value → Look
-look_made false stamp = Below stamp
-look_made true stamp = At stamp
+abbrev pub pair_of_look : Look → Bool × Stamp
+pair_of_look (Below stamp) = (false, stamp)
+pair_of_look (At stamp) = (true, stamp)
 
-abbrev pub is_at : Look → Bool
-is_at (Below stamp) = false
-is_at (At stamp) = true
+pub look_back : (look : Look) → look_of (pair_of_look look) ≡ look
+look_back (Below stamp) = refl
+look_back (At stamp) = refl
 
-abbrev pub look_parts : Look → List Part
-look_parts (Below stamp) = stamp_codec.parts stamp
-look_parts (At stamp) = stamp_codec.parts stamp
-
-each_look : (at : Bool) (stamp : Stamp) → IsKind flag_part is_at look_parts (λ look. Unit {0}) at stamp_codec (look_made at stamp) stamp
-each_look false stamp = record { is = refl; spells = refl; keeps = λ t l. tt }
-each_look true stamp = record { is = refl; spells = refl; keeps = λ t l. tt }
-
-look_from : (look : Look) → IsMade (λ (stamp : Stamp). Unit {0}) (look_made (is_at look)) look
-look_from (Below stamp) = record { from = stamp; is = tt; same = refl }
-look_from (At stamp) = record { from = stamp; is = tt; same = refl }
-
-pub look_kinds : Kinds flag_part flag_value look_row look_made is_at look_parts (λ look. Unit {0})
-look_kinds = record { stands = flag_stands; each = each_look; from = look_from }
+pub look_forth : (p : Bool × Stamp) → pair_of_look (look_of p) ≡ p
+look_forth (false, stamp) = refl
+look_forth (true, stamp) = refl
 
 abbrev pub look_codec : Codec Look
-look_codec = one_of look_kinds
+look_codec = limited_to (λ look. Unit {0}) (seen look_of pair_of_look look_back look_forth (pair flag_codec stamp_codec)) (λ look fits. tt)
 
 -- ---- which operation
 

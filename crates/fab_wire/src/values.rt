@@ -69,8 +69,8 @@ pub fn put_look(out: &mut Vec<u8>, look: Look) -> Result<(), NoMem>
     ensures fits { OnOk result (AllFit (look_codec.parts look)) }
 {
     match look {
-        Look::Below(stamp) => (0u8, stamp).put(out),
-        Look::At(stamp) => (1u8, stamp).put(out),
+        Look::Below(stamp) => (false, stamp).put(out),
+        Look::At(stamp) => (true, stamp).put(out),
     }
 }
 
@@ -78,12 +78,10 @@ pub fn put_look(out: &mut Vec<u8>, look: Look) -> Result<(), NoMem>
 pub fn take_look(from: &mut Reader<'_>) -> Result<Look, Malformed>
     ensures { Gives result from.new.rest.now (look_codec.read from.old.rest.now) }
 {
-    let left = from.rest.len();
-    match from.take()? {
-        0u8 => Ok(Look::Below(from.take()?)),
-        1 => Ok(Look::At(from.take()?)),
-        _ => Err(Malformed { left }),
-    }
+    Ok(match from.take()? {
+        (false, stamp) => Look::Below(stamp),
+        (true, stamp) => Look::At(stamp),
+    })
 }
 
 /// Adds what an invocation does.
