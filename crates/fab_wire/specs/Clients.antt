@@ -30,6 +30,7 @@ unfoldable pub client_fields : Codec ClientAsk
 client_fields = seen made_client (λ a. (a.id, (a.group, (a.stripe, (a.op, (a.block, a.bytes)))))) (λ a. refl) (λ p. refl)
     (pair u64_codec (pair group_codec (pair stripe_codec (pair op_codec (pair u8_codec content_codec)))))
 
+-- an invocation that fits keeps its limits
 pub client_within : (ask : ClientAsk) → AllFit (client_fields.parts ask) → ContentFits ask.bytes
 unfolding client_fields
 client_within ask fits = (client_fields.within ask fits).1.1.1.1.1
@@ -39,6 +40,7 @@ client_codec = limited_to (λ ask. ContentFits ask.bytes) client_fields client_w
 
 -- ---- an answer
 
+-- the statuses: what an operation ended with, or why it was not begun
 pub data Status : Type 0 where
   Data : Status
   Done : Status
@@ -119,16 +121,19 @@ AnswerFits (Ended (answers.Data bytes)) = ContentFits bytes
 AnswerFits (Refused Down) = ⊥
 AnswerFits answer = Unit {0}
 
+-- the status is spelled by its number
 status_written : (status : Status) → bytes_of (status_part status) ≡ number_bytes 1 (status_number status)
 status_written (Refuse Down) = refl
 status_written (Refuse refusal) = refl
 status_written status = refl
 
+-- the number of a status that fits is its own
 status_there : (status : Status) → Fits (status_part status) → (status_number status < 256 ^ 1) × (find status_number statuses (status_number status) ≡ Some status)
 status_there (Refuse Down) fits = absurd (omega (arith, fits.1.0))
 status_there (Refuse refusal) fits = (fits.0, refl)
 status_there status fits = (fits.0, refl)
 
+-- what is made of a status and its fields has that status, spells them and keeps their limits
 each_answer : (status : Status) (v : (answer_row status).Value)
     → IsKind status_part status_of answer_parts AnswerFits status (answer_row status).codec (answer_made status v) v
 each_answer Data v = record { is = refl; spells = refl; keeps = λ t l. l }
@@ -136,6 +141,7 @@ each_answer (Refuse Down) v = record { is = refl; spells = refl; keeps = λ t l.
 each_answer (Refuse refusal) v = record { is = refl; spells = refl; keeps = λ t l. tt }
 each_answer status v = record { is = refl; spells = refl; keeps = λ t l. tt }
 
+-- each answer is made of a status and its fields
 answer_from : (answer : ClientAnswer) → IsMade (λ (v : (answer_row (status_of answer)).Value). Unit {0}) (answer_made (status_of answer)) answer
 answer_from (Ended (answers.Data bytes)) = record { from = bytes; is = tt; same = refl }
 answer_from (Ended answers.Done) = record { from = tt; is = tt; same = refl }

@@ -12,6 +12,7 @@ use Rattle.fields.specs.Values.{stamp_codec, ballot_codec, view_number_codec}
 use Rattle.fab_wire.specs.Values.{version_codec, pair_of_choice, choice_of, choice_codec, pair_of_lineage, lineage_of, lineage_codec}
 use Rattle.fab_wire.specs.declared.numbers.TheConstants.{FOUND, ORDERED, ORDERED_READ, STORED, BEHIND, LATER, FULL, MOVED, OLD, RETIRED, PROMISE, ACCEPTED, OUTBID, NOT_SYNCED}
 
+-- the kinds, in the order of their numbers
 pub data ReplyKind : Type 0 where
   Found : ReplyKind
   Ordered : ReplyKind
@@ -104,6 +105,7 @@ reply_made NotSynced none = replies.NotSynced
 unfoldable pub reply_at : ℕ → Reads Reply
 reply_at n bytes = fields_at reply_row reply_made (length bytes) (find_last NotSynced reply_number reply_kinds n) bytes
 
+-- the number picks the fields of its kind
 pub reply_same : (n : ℕ) (bytes : List ℕ) → as_at (reply_made (reply_of n)) (reply_row (reply_of n)).codec.read bytes ≡ reply_at n bytes
 unfolding reply_at
 reply_same n bytes = ap (λ (kind : Option ReplyKind). fields_at reply_row reply_made (length bytes) kind bytes)
@@ -138,6 +140,7 @@ ReplyFits reply = Unit {0}
 abbrev pub reply_part : ReplyKind → Part
 reply_part kind = exactly (reply_number kind)
 
+-- what is made of a kind's fields is of that kind, spells them and keeps their limits
 pub each_reply : (kind : ReplyKind) (v : (reply_row kind).Value)
     → IsKind reply_part reply_kind reply_parts ReplyFits kind (reply_row kind).codec (reply_made kind v) v
 each_reply Found v = record { is = refl; spells = refl; keeps = λ t l. l.1 }
@@ -149,6 +152,7 @@ each_reply Promise None = record { is = refl; spells = refl; keeps = λ t l. tt 
 each_reply Promise (Some accepted) = record { is = refl; spells = refl; keeps = λ t l. l }
 each_reply kind v = record { is = refl; spells = refl; keeps = λ t l. tt }
 
+-- each reply is made of fields of its kind
 pub reply_from : (reply : Reply) → IsMade (λ (v : (reply_row (reply_kind reply)).Value). Unit {0}) (reply_made (reply_kind reply)) reply
 reply_from (replies.Found order newest) = record { from = (order, newest); is = tt; same = refl }
 reply_from replies.Ordered = record { from = tt; is = tt; same = refl }

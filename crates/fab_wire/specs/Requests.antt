@@ -12,6 +12,7 @@ use Rattle.fields.specs.Values.{HasMembers, BlockFits, stamp_codec, ballot_codec
 use Rattle.fab_wire.specs.Values.{WantFits, want_codec, look_codec, data_block_codec}
 use Rattle.fab_wire.specs.declared.numbers.TheConstants.{READ, ORDER, ORDER_READ, WRITE, MODIFY, COLLECT, OLD_READ, PREPARE, ACCEPT}
 
+-- the kinds, in the order of their numbers
 pub data RequestKind : Type 0 where
   Read : RequestKind
   Order : RequestKind
@@ -79,6 +80,7 @@ request_made Accept (ballot, members) = requests.Accept ballot members
 unfoldable pub request_at : ℕ → Reads Request
 request_at n bytes = fields_at request_row request_made (length bytes) (find_last Accept request_number request_kinds n) bytes
 
+-- the number picks the fields of its kind
 pub request_same : (n : ℕ) (bytes : List ℕ) → as_at (request_made (request_of n)) (request_row (request_of n)).codec.read bytes ≡ request_at n bytes
 unfolding request_at
 request_same n bytes = ap (λ (kind : Option RequestKind). fields_at request_row request_made (length bytes) kind bytes)
@@ -108,6 +110,7 @@ RequestFits request = Unit {0}
 abbrev pub request_part : RequestKind → Part
 request_part kind = exactly (request_number kind)
 
+-- what is made of a kind's fields is of that kind, spells them and keeps their limits
 pub each_request : (kind : RequestKind) (v : (request_row kind).Value)
     → IsKind request_part request_kind request_parts RequestFits kind (request_row kind).codec (request_made kind v) v
 each_request Read v = record { is = refl; spells = refl; keeps = λ t l. l }
@@ -117,6 +120,7 @@ each_request Modify v = record { is = refl; spells = refl; keeps = λ t l. l.1.1
 each_request Accept v = record { is = refl; spells = refl; keeps = λ t l. l.1 }
 each_request kind v = record { is = refl; spells = refl; keeps = λ t l. tt }
 
+-- each request is made of fields of its kind
 pub request_from : (request : Request) → IsMade (λ (v : (request_row (request_kind request)).Value). Unit {0}) (request_made (request_kind request)) request
 request_from (requests.Read want) = record { from = want; is = tt; same = refl }
 request_from (requests.Order stamp) = record { from = stamp; is = tt; same = refl }

@@ -94,6 +94,7 @@ HasSpelling (messages.ClientReply id answer) = AnswerFits answer
 abbrev pub kind_part : Kind → Part
 kind_part kind = exactly (kind_number kind)
 
+-- the number of a kind is its own
 known : (kind : Kind) → kind_value (kind_number kind) ≡ Some kind
 known (OfRequest Read) = refl
 known (OfRequest kind) = refl
@@ -101,12 +102,14 @@ known (OfReply Found) = refl
 known (OfReply kind) = refl
 known kind = refl
 
+-- a kind made of one of a group has the number of that one
 made_only : {A : Type 0} (number : A → ℕ) (made : A → Kind) (a : A) (n : ℕ) (kind : Kind) → n < 256 ^ 1 → number a ≡ n
     → ((b : A) → kind_number (made b) ≡ number b) → made a ≡ kind → (kind_number kind ≡ n) × Fits (kind_part kind)
 made_only number made a n kind lt is numbers same =
     let k : kind_number kind ≡ n = ap kind_number (sym same) ∙ numbers a ∙ is in
     (k, (omega arith, (omega arith, omega arith)))
 
+-- a number that stands for a kind is that kind's
 kind_only : (n : ℕ) (kind : Kind) → n < 256 ^ 1 → kind_value n ≡ Some kind → (kind_number kind ≡ n) × Fits (kind_part kind)
 kind_only n kind lt e =
     elim (chosen (leb READ n && leb n ACCEPT) (Some (OfRequest (request_of n))) (cond (leb FOUND n && leb n NOT_SYNCED) (Some (OfReply (reply_of n)))
@@ -127,6 +130,7 @@ kind_only n kind lt e =
       ]
     ]
 
+-- what is made of a kind's fields is of that kind, spells them and keeps their limits
 each_message : (kind : Kind) (v : (kind_row kind).Value)
     → IsKind kind_part kind_of body_parts HasSpelling kind (kind_row kind).codec (message_made kind v) v
 each_message (OfRequest kind) v =
@@ -140,6 +144,7 @@ each_message Synced v = record { is = refl; spells = refl; keeps = λ t l. tt }
 each_message Client v = record { is = refl; spells = refl; keeps = λ t l. l }
 each_message ClientReply v = record { is = refl; spells = refl; keeps = λ t l. l.1 }
 
+-- each message is made of fields of its kind
 message_from : (message : Message) → IsMade (λ (v : (kind_row (kind_of message)).Value). Unit {0}) (message_made (kind_of message)) message
 message_from (messages.Request call request) =
     let f = request_from request in
@@ -189,11 +194,13 @@ body_of here n bytes =
 unfoldable pub body_at : Reads Message
 body_at bytes = number_at 1 bytes >>= λ x. body_of (length bytes) x.0 x.1
 
+-- a function of one of three choices
 pick : {A B : Type 0} (f : A → B) (a b : Bool) (x y z : A) (r s : B) → f x ≡ r → f y ≡ s → f (cond a x (cond b y z)) ≡ cond a r (cond b s (f z))
 pick f true b x y z r s e1 e2 = e1
 pick f false true x y z r s e1 e2 = e2
 pick f false false x y z r s e1 e2 = refl
 
+-- so a kind's fields are read
 body_same : (here n : ℕ) (bytes : List ℕ) → fields_at kind_row message_made here (kind_value n) bytes ≡ body_of here n bytes
 body_same here n bytes =
     pick (λ (kind : Option Kind). fields_at kind_row message_made here kind bytes) (leb READ n && leb n ACCEPT) (leb FOUND n && leb n NOT_SYNCED)
@@ -230,6 +237,7 @@ body_codec = record {
 unfoldable pub message_fields : Codec Message
 message_fields = seen (λ p. p.1.1) (λ message. (tt, (tt, message))) (λ message. refl) (λ p. refl) (pair fabw_codec (pair format_codec body_codec))
 
+-- a message that fits has a spelling
 pub message_within : (message : Message) → AllFit (message_fields.parts message) → HasSpelling message
 unfolding message_fields
 message_within message fits = (message_fields.within message fits).1.1

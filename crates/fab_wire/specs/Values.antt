@@ -96,14 +96,17 @@ abbrev want_number : Want → ℕ
 want_number (Seat seat) = seat
 want_number All = ALL_SEATS
 
+-- seats are spelled by a number
 want_written : (w : Want) → bytes_of (want_part w) ≡ number_bytes 1 (want_number w)
 want_written (Seat seat) = refl
 want_written All = refl
 
+-- the number of seats that fit is theirs alone
 want_there : (w : Want) → Fits (want_part w) → (want_number w < 256 ^ 1) × (want_value (want_number w) ≡ Some w)
 want_there (Seat seat) fits = (fits.0, rw (lt-ltb seat 32 (omega (arith, fits.1.1))) refl)
 want_there All fits = (fits.0, refl)
 
+-- a number that stands for seats is theirs, and they fit
 want_only : (n : ℕ) (w : Want) → n < 256 ^ 1 → want_value n ≡ Some w → (want_number w ≡ n) × Fits (want_part w)
 want_only n w lt e =
     elim (chosen (ltb n 32) (Some (Seat n)) (cond (eqb n ALL_SEATS) (Some All) None) (Some w) e) [
@@ -136,6 +139,7 @@ abbrev pub pair_of_look : Look → Bool × Stamp
 pair_of_look (Below stamp) = (false, stamp)
 pair_of_look (At stamp) = (true, stamp)
 
+-- an entry is a flag and a stamp, and each such pair an entry
 pub look_back : (look : Look) → look_of (pair_of_look look) ≡ look
 look_back (Below stamp) = refl
 look_back (At stamp) = refl
@@ -158,6 +162,7 @@ op_number WriteStripe = WRITE_STRIPE
 abbrev pub ops : List ClientOp
 ops = ReadBlock ∷ WriteBlock ∷ ReadStripe ∷ WriteStripe ∷ []
 
+-- the number of an operation is its own
 op_known : (op : ClientOp) → find op_number ops (op_number op) ≡ Some op
 op_known ReadBlock = refl
 op_known op = refl
