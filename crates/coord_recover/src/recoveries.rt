@@ -87,7 +87,8 @@ impl Decide for Recovery {
 }
 
 impl Recovery {
-    ghost use Rattle.std.specs.Prelude.{◌≡◌, ◌≤◌, true, [], None, IfOk, OnErr, length, option_copied};
+    ghost use Rattle.std.specs.Prelude.{◌≡◌, ◌↔◌, ◌≤◌, IsTrue, true, [], None, IfOk, OnErr, length, option_copied};
+    ghost use Rattle.protocol.specs.declared.phases.Phase.TheVariants.{Stores};
     ghost use Rattle.quorum.specs.Quorums.{IsWithinLimits};
     ghost use Rattle.protocol.specs.Nodes.{has_length};
     ghost use Rattle.protocol.specs.Coordinators.{stored_by};
@@ -210,10 +211,9 @@ impl Recovery {
     /// # Errors
     ///
     /// `NoMemory` where no memory was left.
-    pub fn on_tick(&mut self) -> Result<Next, NoMem>
+    pub fn on_tick(&self) -> Result<Next, NoMem>
         ensures send { IfOk result (λ next. IsSend next) }
-        ensures sent { IfOk result (λ next. SendsPhase self.old next) }
-        ensures same { self.new ≡ self.old }
+        ensures sent { IfOk result (λ next. SendsPhase self.now next) }
     {
         self.op.on_tick(self.alloc)
     }
@@ -223,6 +223,13 @@ impl Recovery {
         ensures { result ≡ self.now.state.call.phase }
     {
         self.op.stage().call.phase
+    }
+
+    /// Whether the recovery stores its version. Only then may a reply end it with a version that may be collected.
+    pub fn is_storing(&self) -> bool
+        ensures { IsTrue result ↔ (self.now.state.phase ≡ Stores) }
+    {
+        matches!(self.op.stage().phase, Phase::Stores)
     }
 
     /// What the last step told of the recovery's version, if anything.

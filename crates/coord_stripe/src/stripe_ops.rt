@@ -156,7 +156,7 @@ impl Decide for StripeOp {
 }
 
 impl StripeOp {
-    ghost use Rattle.std.specs.Prelude.{◌≡◌, true, IfOk, OnErr, OnOk, length, option_copied};
+    ghost use Rattle.std.specs.Prelude.{◌≡◌, ◌↔◌, IsTrue, true, IfOk, OnErr, OnOk, length, option_copied};
     ghost use Rattle.quorum.specs.Quorums.{IsWithinLimits};
     ghost use Rattle.protocol.specs.Nodes.{is_stripe_op, has_length};
     ghost use Rattle.coord_phase.specs.Operations.{group_in_view, counts, with_state, without_last};
@@ -242,10 +242,9 @@ impl StripeOp {
     /// # Errors
     ///
     /// `NoMemory` where no memory was left.
-    pub fn on_tick(&mut self) -> Result<Next, NoMem>
+    pub fn on_tick(&self) -> Result<Next, NoMem>
         ensures send { IfOk result (λ next. IsSend next) }
-        ensures sent { IfOk result (λ next. SendsPhase self.old next) }
-        ensures same { self.new ≡ self.old }
+        ensures sent { IfOk result (λ next. SendsPhase self.now next) }
     {
         self.op.on_tick(self.alloc)
     }
@@ -255,6 +254,13 @@ impl StripeOp {
         ensures { result ≡ self.now.state.call.phase }
     {
         self.op.stage().call.phase
+    }
+
+    /// Whether the operation stores its version. Only then may a reply end it with a version that may be collected.
+    pub fn is_storing(&self) -> bool
+        ensures { IsTrue result ↔ (self.now.state.phase ≡ Stores) }
+    {
+        matches!(self.op.stage().phase, Phase::Stores)
     }
 
     /// What the last reply let the operation tell of its version, if anything.

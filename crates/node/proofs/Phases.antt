@@ -16,6 +16,7 @@ use Rattle.quorum.specs.Quorums.{quorum_of}
 use Rattle.protocol.specs.Settings.{Code}
 use Rattle.protocol.specs.Coordinators.{Coordinator, Next, Ignores, Waits, Sends, Makes, Ends, next_phase, in_phase, fast_version, greatest_refuser, greatest_found, pieces_at, answered_fast, once_ordered, ordered_again, unless_refused, unless_told_full, lowest_full, read_back, answer_of, decided, once_full, counted_at, counts_at, on_reply, most_rounds}
 use Rattle.node.specs.Operations.{IsFirst, IsNoRecovery}
+use Rattle.node.specs.Decisions.{Collects}
 
 -- the coordinator waits: it is in the same phase of its call
 pub record Stays (c d : Coordinator) : Type 0 where
@@ -33,7 +34,7 @@ Follows c Ignores = Unit {0}
 Follows c (Waits d) = Stays c d
 Follows c (Sends d) = Begins c d × (IsNoRecovery c.phase c → ((d.phase ≡ Recovers) × IsFirst d) ⊎ IsNoRecovery d.phase d)
 Follows c (Makes d) = Begins c d × (IsNoRecovery c.phase c → (d.base ≡ None) × IsNoRecovery d.phase d)
-Follows c (Ends answer seen stored) = Unit {0}
+Follows c (Ends answer seen stored) = Collects stored (c.phase ≡ Stores)
 
 -- the coordinator with these replies counted may be of the kind that it is with those
 with_counted : (ask : Ask) (stamp : Stamp) (round : ℕ) (base : Option Stamp) (content : List ℕ) (call : Call) (counted more : List Counted)
@@ -97,7 +98,7 @@ module _ (ask : Ask) (stamp : Stamp) (round : ℕ) (base : Option Stamp) (conten
   descends code m bound (Some r) = tt
 
   stores : (r : Option Refuser) → Follows (before Stores) (unless_refused r (Ends (answer_of ask.op content) None (Some stamp)))
-  stores None = tt
+  stores None = refl
   stores (Some r) = tt
 
   unless_full : (told : Option FullMember) (phase : Phase) (next : Next) → Follows (before phase) next

@@ -1,6 +1,8 @@
 -- What an open operation sends again.
 use Rattle.std.proofs.Common.{◌≡◌, ◌≤◌, ℕ, zero, suc, ◌+◌, Bool, true, false, if◌then◌else◌, List, [], ◌∷◌, ◌++◌, length, Option, Some, None, refl, sym, ◌∙◌, ap, arith}
 use Rattle.std.specs.Option.{option_map}
+use Rattle.std.specs.List.{flat_map, AllByRecursion}
+use Rattle.std.proofs.lemmas.List.{map-append}
 use Rattle.fab_base.specs.declared.identities.BrickId.{BrickId}
 use Rattle.messages.specs.declared.calls.Call.{Call}
 use Rattle.messages.specs.declared.packets.Message.{Message}
@@ -15,7 +17,7 @@ use Rattle.stripe_code.specs.Codes.{block_code, coding}
 use Rattle.coord_phase.specs.Operations as phased
 use Rattle.coord_phase.specs.Messages.{to_silent, phase_messages, packets_from}
 use Rattle.node.specs.declared.operations.Operation.{Operation}
-use Rattle.node.specs.Operations.{coordinator_of, IsOfLayout}
+use Rattle.node.specs.Operations.{shown_of, coordinator_of, IsOfLayout, IsOperationOf}
 use Rattle.node.proofs.Ticks.{of_value, by_key}
 
 -- one message more, or none, is one packet more, or none
@@ -57,6 +59,17 @@ sends_again layout op me is =
     silent_again me op.state.call (request_of (block_code op.block) op.group.m op.state) op.state.counted 0 op.group.members
     ∙ ap (λ block. resent_to me op.state.call (request_of (block_code block) op.group.m op.state) op.state.counted 0 op.group.members) is.block
     ∙ sym (ap (resent_in (coding layout) me op.state) is.group)
+
+-- so do all the operations of a layout, one after the other
+pub all_send_again : (layout : Layout) (me : BrickId) (ops : List Operation) → AllByRecursion (λ (op : Operation). IsOperationOf layout op) ops
+    → packets_from me (flat_map (λ (op : Operation). phase_messages (shown_of op)) ops)
+    ≡ flat_map (λ (op : Operation). resent (coding layout) me (Some (coordinator_of op))) ops
+all_send_again layout me [] each = refl
+all_send_again layout me (op ∷ ops) each =
+    map-append (λ (sent : BrickId × Message). record { from = me; to = sent.0; message = sent.1 }) (phase_messages (shown_of op))
+    (flat_map (λ (op : Operation). phase_messages (shown_of op)) ops)
+    ∙ ap (λ front. front ++ packets_from me (flat_map (λ (op : Operation). phase_messages (shown_of op)) ops)) (sends_again layout (shown_of op) me each.0.of_layout)
+    ∙ ap (λ back. resent (coding layout) me (Some (coordinator_of op)) ++ back) (all_send_again layout me ops each.1)
 
 -- what the machine sends again is what the calls 1 to n give
 pub resent_by_key : (setting : Setting) (me : BrickId) (calls : ℕ → Option Coordinator) (n : ℕ)

@@ -1,8 +1,8 @@
 -- A brick's state, as the machine sees it.
-use Rattle.std.specs.Prelude.{◌≡◌, ℕ, Some}
+use Rattle.std.specs.Prelude.{◌≡◌, ℕ, ◌+◌, if◌then◌else◌, Some, None}
 use Rattle.std.specs.Option.{option_map}
 use Rattle.std.specs.Ordering.{nat_cmp}
-use Rattle.std.specs.BTreeMap.{get, btree_map_len}
+use Rattle.std.specs.BTreeMap.{BTreeMap, get, is_at, btree_map_len}
 use Rattle.fab_base.specs.declared.identities.BrickId.{BrickId}
 use Rattle.version_log.specs.Versions.{Version}
 use Rattle.brick_state.specs.States.{StateOf, live}
@@ -12,6 +12,8 @@ use Rattle.node.specs.declared.open_calls.OpenCalls.{OpenCalls}
 use Rattle.node.specs.declared.outs.Outs.{Outs}
 use Rattle.node.specs.declared.outs.Begun.{Begun}
 use Rattle.fab_base.specs.Layouts.{Layout}
+use Rattle.protocol.specs.declared.tellings.Told.{Told}
+use Rattle.protocol.specs.declared.tellings.Told.TheVariants.{Nothing, Made, Answers}
 use Rattle.protocol.specs.Replicas.{Replica}
 use Rattle.node.specs.declared.operations.Operation.{Operation}
 use Rattle.node.specs.Operations.{coordinator_of, IsOperationOf}
@@ -47,6 +49,17 @@ pub record IsAt (layout : Layout) (k : ℕ) (operation : Operation) : Type 0 whe
 -- the open calls of a brick of this layout: each operation is of a group of the layout
 abbrev pub AreCallsOf : Layout → OpenCalls → Type 0
 AreCallsOf layout calls = (k : ℕ) (operation : Operation) → get nat_cmp calls.operations k ≡ Some operation → IsAt layout k operation
+
+-- the operation of this number is open no more, and the others are
+pub record IsClosed (k : ℕ) (before after : BTreeMap ℕ Operation) : Type 0 where
+  pub calls : (q : ℕ) → get nat_cmp after q ≡ (if is_at (nat_cmp k) q then None else get nat_cmp before q)
+  pub count : btree_map_len after + 1 ≡ btree_map_len before
+
+-- the open operations after a step that tells this of the call of number k: an answered one is open no more
+abbrev pub AreCallsAfter : Told → ℕ → BTreeMap ℕ Operation → BTreeMap ℕ Operation → Type 0
+AreCallsAfter Nothing k before after = after ≡ before
+AreCallsAfter (Made seq stamp base) k before after = after ≡ before
+AreCallsAfter (Answers seq answer seen) k before after = IsClosed k before after
 
 -- what a new operation of this brick sends is the machine's, its call is the brick's last, and the brick's new state is the machine's
 pub record BeginsAs (me : BrickId) (state : machine.Node) (step : machine.NodeStep) (begun : Begun) : Type 0 where

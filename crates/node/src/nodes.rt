@@ -170,7 +170,7 @@ impl<D: Disk> Node<D> {
         if self.is_halted() {
             return Err(NodeFault::Halted);
         }
-        Ok(self.calls.on_tick(self.alloc, &self.layout)?)
+        Ok(self.calls.on_tick(self.alloc)?)
     }
 
     /// Handles a message, at this time of the brick's clock. What it keeps of a request is on the disk before it answers.

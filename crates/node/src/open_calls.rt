@@ -6,9 +6,8 @@ ghost use Rattle.std.specs.Ordering.{nat_cmp};
 ghost use Rattle.protocol.specs.Nodes.{known_after, fresh_stamp};
 
 use crate::admissions::{has_block, has_later_time, has_length};
-use crate::operations::{Decision, Operation};
+use crate::operations::Operation;
 use crate::outs::{Begun, Outs};
-use crate::sending::collect_messages;
 use fab_base::{Ask, BrickId, CallId, NoMem, Refusal, Stamp, ViewNo};
 use layout::{Group, Layout};
 use messages::{Call, Messages, Packet, Reply};
@@ -57,13 +56,11 @@ impl OpenCalls {
     ghost use Rattle.std.specs.Result.{result_err};
     ghost use Rattle.fab_base.specs.Layouts as layouts;
     ghost use Rattle.fab_base.specs.Layouts.{group_of};
-    ghost use Rattle.protocol.specs.Nodes.{is_stripe_op, has_length, refusal_in, refusal_of, new_coordinator, with_call, began_in, carried_out, replied, resent, ticked, no_calls};
+    ghost use Rattle.protocol.specs.Nodes.{is_stripe_op, has_length, refusal_in, refusal_of, new_coordinator, began_in, replied, ticked, no_calls};
     ghost use Rattle.messages.specs.declared.packets.Message.TheVariants as message;
     ghost use Rattle.stripe_code.specs.Codes.{coding};
     ghost use Rattle.coord_phase.specs.Messages.{packets_from};
-    ghost use Rattle.node.specs.Operations.{shown_of, coordinator_of, IsOperationOf};
-    ghost use Rattle.node.specs.Decisions.{machine_next, IsDecisionOf, HasFewMessages};
-    ghost use Rattle.node.specs.States.{state_with, Parts, IsAt, AreCallsOf, BeginsAs, StepsAs};
+    ghost use Rattle.node.specs.States.{state_with, Parts, AreCallsOf, AreCallsAfter, BeginsAs, StepsAs};
 
     /// No operation is open, and none was since the store was opened for the so-manieth time.
     pub(crate) fn new(alloc: Global, me: BrickId, boot: u32) -> OpenCalls
@@ -221,152 +218,51 @@ impl OpenCalls {
         ensures me { self.new.me ≡ self.old.me }
         ensures boot { self.new.stamps.boot ≡ self.old.stamps.boot }
     {
-        let stamps = after_reply(self.stamps, reply);
-        let Some(open) = self.operations.get(&call.seq) else {
+        let mut stamps = after_reply(self.stamps, reply);
+        let fresh = fresh_stamp(stamps, now, self.me);
+        let Some(open) = self.operations.get_mut(&call.seq) else {
             self.stamps = stamps;
             return Ok(Outs::nothing(alloc));
         };
-        let last = open.call();
-        let Some(group) = layout.group(last.group) else {
-            return Ok(Outs::nothing(alloc));
-        };
-        let fresh = fresh_stamp(stamps, now, self.me);
-        let decision = open
-            .copy(alloc)?
-            .on_reply(alloc, layout, group, packet.from, &packet.message, fresh)?;
-        self.carry_out(alloc, group, stamps, last, decision)
-    }
-
-    /// Carries out what the open operation of this call decided; the brick now makes its stamps from this source, which has seen that of a
-    /// new round too.
-    fn carry_out(
-        &mut self,
-        alloc: Global,
-        group: &Group,
-        mut stamps: StampSource,
-        call: Call,
-        decision: Decision,
-    ) -> Result<Outs, NoMem>
-        requires held { is_some (tree.get nat_cmp self.old.operations call.seq) ≡ true }
-        requires boot { stamps.boot ≡ self.old.stamps.boot }
-        requires few { HasFewMessages decision }
-        ensures step { (parts : Parts) (layout : layouts.Layout) (before : Operation) → (coordinator_of before).call ≡ call
-            → (shown_of before).group ≡ group.now → IsDecisionOf layout before decision
-            → IfOk result (StepsAs self.old.me (state_with parts self.new) (carried_out (coding layout) group.now self.old.me (state_with parts self.old) stamps.known
-            (coordinator_of before) (machine_next decision))) }
-        ensures node { (layout : layouts.Layout) (before : Operation) → (coordinator_of before).call ≡ call → IsDecisionOf layout before decision
-            → AreCallsOf layout self.old → AreCallsOf layout self.new }
-        ensures few { IfOk result (λ outs. vec_len outs.messages ≤ 32) }
-        ensures err { OnErr result ((parts : Parts) → state_with parts self.new ≡ state_with parts self.old) }
-        ensures me { self.new.me ≡ self.old.me }
-        ensures boot { self.new.stamps.boot ≡ self.old.stamps.boot }
-    {
-        match decision {
-            Decision::Waits(operation) => {
-                self.put_back(stamps, call.seq, operation);
-                Ok(Outs::nothing(alloc))
-            }
-            Decision::Sends(operation, messages) => {
-                stamps.saw(operation.stamp());
-                self.put_back(stamps, call.seq, operation);
-                Ok(Outs {
-                    messages,
-                    told: Told::Nothing,
-                })
-            }
-            Decision::Makes {
-                operation,
-                messages,
-                stamp,
-                base,
-            } => {
-                self.put_back(stamps, call.seq, operation);
-                Ok(Outs {
-                    messages,
-                    told: Told::Made {
-                        seq: call.seq,
-                        stamp,
-                        base,
-                    },
-                })
-            }
-            Decision::Ends {
-                answer,
-                seen,
-                stored,
-            } => {
-                let messages = collect_messages(alloc, group, call, stored)?;
-                self.close(stamps, call.seq);
-                Ok(Outs {
-                    messages,
-                    told: Told::Answers {
-                        seq: call.seq,
-                        answer,
-                        seen,
-                    },
-                })
-            }
-        }
-    }
-
-    /// Puts back the open operation of this number; the brick now makes its stamps from this source.
-    fn put_back(&mut self, stamps: StampSource, seq: u64, operation: Operation)
-        requires held { is_some (tree.get nat_cmp self.old.operations seq) ≡ true }
-        requires boot { stamps.boot ≡ self.old.stamps.boot }
-        ensures state { (parts : Parts) → state_with parts self.new ≡ with_call (state_with parts self.old) stamps.known (state_with parts self.old).busy seq
-            (Some (coordinator_of operation)) }
-        ensures node { (layout : layouts.Layout) → AreCallsOf layout self.old → IsAt layout seq operation → AreCallsOf layout self.new }
-        ensures me { self.new.me ≡ self.old.me }
-        ensures boot { self.new.stamps.boot ≡ self.old.stamps.boot }
-    {
+        let outs = open.on_reply(
+            alloc,
+            layout,
+            packet.from,
+            &packet.message,
+            fresh,
+            &mut stamps,
+        )?;
         self.stamps = stamps;
-        if let Some(open) = self.operations.get_mut(&seq) {
-            *open = operation;
-        }
+        self.close_answered(call.seq, &outs.told);
+        Ok(outs)
     }
 
-    /// Forgets the open operation of this number, which has ended; the brick now makes its stamps from this source.
-    fn close(&mut self, stamps: StampSource, seq: u64)
+    /// Forgets the open operation of this number where a step tells its answer.
+    fn close_answered(&mut self, seq: u64, told: &Told)
         requires held { is_some (tree.get nat_cmp self.old.operations seq) ≡ true }
-        requires boot { stamps.boot ≡ self.old.stamps.boot }
-        ensures state { (parts : Parts) → state_with parts self.new ≡ with_call (state_with parts self.old) stamps.known
-            ((state_with parts self.old).busy - 1) seq None }
-        ensures node { (layout : layouts.Layout) → AreCallsOf layout self.old → AreCallsOf layout self.new }
+        ensures calls { AreCallsAfter told.now seq self.old.operations self.new.operations }
         ensures me { self.new.me ≡ self.old.me }
-        ensures boot { self.new.stamps.boot ≡ self.old.stamps.boot }
+        ensures seq { self.new.seq ≡ self.old.seq }
+        ensures stamps { self.new.stamps ≡ self.old.stamps }
     {
-        self.stamps = stamps;
-        self.operations.remove(&seq);
-    }
-
-    /// The messages that send the present phase of an open operation again, to each member without a reply that counts.
-    fn send_again(
-        &self,
-        alloc: Global,
-        layout: &Layout,
-        operation: &Operation,
-    ) -> Result<Messages, NoMem>
-        requires { IsOperationOf layout.now operation.now }
-        ensures packets { IfOk result (λ messages. packets_from self.now.me messages.items ≡ resent (coding layout.now) self.now.me (Some (coordinator_of operation.now))) }
-        ensures few { IfOk result (λ messages. vec_len messages ≤ 32) }
-    {
-        let Some(group) = layout.group(operation.call().group) else {
-            return Ok(Vec::new(alloc));
-        };
-        operation.on_tick(alloc, group)
+        match told {
+            Told::Answers { .. } => {
+                self.operations.remove(&seq);
+            }
+            Told::Nothing | Told::Made { .. } => {}
+        }
     }
 
     /// At a tick of the brick's clock each open operation, in the order of beginning, sends its present phase again to each member
     /// without a reply that counts.
-    pub(crate) fn on_tick(&self, alloc: Global, layout: &Layout) -> Result<Messages, NoMem>
-        requires { AreCallsOf layout.now self.now }
-        ensures packets { (parts : Parts) → IfOk result (λ messages. packets_from self.now.me messages.items ≡ ticked (coding layout.now) self.now.me
-            (state_with parts self.now)) }
+    pub(crate) fn on_tick(&self, alloc: Global) -> Result<Messages, NoMem>
+        ensures packets { IfOk result (λ messages. (layout : layouts.Layout) (parts : Parts) → AreCallsOf layout self.now
+            → packets_from self.now.me messages.items ≡ ticked (coding layout) self.now.me (state_with parts self.now)) }
         ensures few { IfOk result (λ messages. vec_len messages ≤ 2048) }
     {
         let mut messages = Vec::new(alloc);
         for operation in self.operations.values() {
-            let mut again = self.send_again(alloc, layout, operation)?;
+            let mut again = operation.on_tick(alloc)?;
             messages.append(&mut again)?;
         }
         Ok(messages)

@@ -1,18 +1,23 @@
 //! The open operations of a brick.
 
-ghost use Rattle.std.specs.Prelude.{◌≡◌, ◌-◌, ◌<◌, ◌≤◌, ◌^◌, IfOk, length, vec_len};
+ghost use Rattle.std.specs.Prelude.{◌≡◌, ◌-◌, ◌<◌, ◌≤◌, ◌^◌, IfOk, OnErr, length, vec_len};
 ghost use Rattle.quorum.specs.Quorums.{IsWithinLimits};
 ghost use Rattle.protocol.specs.Coordinators.{Sends, in_phase};
 ghost use Rattle.protocol.specs.declared.phases.Phase.TheVariants.{Recovers};
-ghost use Rattle.coord_phase.specs.Decisions.{IsSend, decided_on};
-ghost use Rattle.node.specs.Operations.{first_view, IsOfLayout, IsFirst, IsNoRecovery};
-ghost use Rattle.node.specs.Decisions.{machine_next, or_waits, IsDecisionOf};
+ghost use Rattle.coord_phase.specs.Decisions.{decision};
+ghost use Rattle.coord_phase.specs.Operations.{with_state, without_last};
+ghost use Rattle.node.specs.Operations.{first_view, IsOfLayout, IsFirst};
+ghost use Rattle.node.specs.Decisions.{messages_in, GoesOnBy};
 
+use crate::outs::Outs;
+use crate::sending::put_collects;
 use coord_recover::Recovery;
 use coord_stripe::StripeOp;
 use fab_base::{Answer, Ask, BrickId, CallId, NoMem, Note, Stamp, View, ViewNo};
 use layout::{Group, Layout};
 use messages::{Call, Message, Messages, Next, Turn};
+use protocol::Told;
+use stamp_store::StampSource;
 use std::alloc::Global;
 
 /// The first view of a group: the members that its layout names.
@@ -20,6 +25,7 @@ pub(crate) fn first_view(group: &Group) -> View
     ensures view { result ≡ first_view group.now }
     ensures limits { IsWithinLimits group.now.m (length group.now.members) }
 {
+    // The policy tells that the members are as many as a quorum allows.
     let _ = group.policy();
     View {
         number: ViewNo(1),
@@ -28,15 +34,14 @@ pub(crate) fn first_view(group: &Group) -> View
     }
 }
 
-/// The messages of what is sent.
-fn messages_in(next: Next) -> Messages
-    requires { IsSend next }
-    ensures { next ≡ Next.Send result }
+/// The messages that are sent; none where nothing is.
+fn messages_in(alloc: Global, next: Next) -> Messages
+    ensures { result.items ≡ messages_in next }
 {
-    let Next::Send(messages) = next else {
-        unreachable!()
-    };
-    messages
+    match next {
+        Next::Send(messages) => messages,
+        Next::Wait | Next::End(_) | Next::Recover(_) => Vec::new(alloc),
+    }
 }
 
 /// An open operation at its coordinator.
@@ -48,54 +53,18 @@ pub enum Operation {
     Recovery(Recovery),
 }
 
-/// What an operation does with a message.
-#[derive(Debug, Drop)]
-pub enum Decision {
-    /// It stays open, and sends nothing.
-    Waits(Operation),
-    /// It begins a phase with these messages.
-    Sends(Operation, Messages),
-    /// It makes its version: it begins to store it.
-    Makes {
-        /// The operation.
-        operation: Operation,
-        /// The messages of its phase.
-        messages: Messages,
-        /// The version's stamp.
-        stamp: Stamp,
-        /// The version that it was made on, if it was read back.
-        base: Option<Stamp>,
-    },
-    /// It ends.
-    Ends {
-        /// Its answer.
-        answer: Answer,
-        /// The version that a read answered at once.
-        seen: Option<Stamp>,
-        /// The version that it stored, which may be collected.
-        stored: Option<Stamp>,
-    },
-}
-
 impl Operation {
-    ghost use Rattle.std.specs.Prelude.{◌≡◌, ◌-◌, ◌<◌, ◌≤◌, ◌^◌, true, IfOk, Some, length, vec_len, option_copied};
+    ghost use Rattle.std.specs.Prelude.{◌≡◌, ◌-◌, ◌<◌, ◌≤◌, ◌^◌, ◌↔◌, IsTrue, true, IfOk, OnErr, [], Some, length, vec_len, vec_capacity, option_copied};
     ghost use Rattle.fab_base.specs.Layouts.{Layout, group_of};
+    ghost use Rattle.protocol.specs.declared.phases.Phase.TheVariants.{Stores};
     ghost use Rattle.protocol.specs.Nodes.{is_stripe_op, has_length};
-    ghost use Rattle.coord_phase.specs.Decisions.{decided_on, begins_in, seen_in, note_told};
+    ghost use Rattle.coord_phase.specs.Decisions as decisions;
+    ghost use Rattle.coord_phase.specs.Decisions.{IsSend, decision, decided_on, begins_in, seen_in, note_told};
     ghost use Rattle.coord_phase.specs.Messages.{phase_messages};
     ghost use Rattle.coord_stripe.specs.StripeOps.{first_op};
     ghost use Rattle.node.specs.Operations.{shown_of, coordinator_of, IsOperationOf};
-    ghost use Rattle.node.specs.Decisions.{made_in, machine_next, or_waits, SendsPhase, BeginsPhase, IsDecisionOf, HasFewMessages};
-
-    /// An equal value.
-    pub fn copy(&self, alloc: Global) -> Result<Operation, NoMem>
-        ensures { IfOk result (λ made. made ≡ self.now) }
-    {
-        match self {
-            Operation::Stripe(op) => Ok(Operation::Stripe(op.copy(alloc)?)),
-            Operation::Recovery(op) => Ok(Operation::Recovery(op.copy(alloc)?)),
-        }
-    }
+    ghost use Rattle.node.specs.Decisions.{made_in, told_in, or_waits, known_by, SendsPhase, GoesOn, GoesOnBy, CarriesOut, Collects};
+    ghost use Rattle.node.specs.Sending.{collect_messages};
 
     /// The call of the present phase.
     pub fn call(&self) -> Call
@@ -114,6 +83,26 @@ impl Operation {
         match self {
             Operation::Stripe(op) => op.stamp(),
             Operation::Recovery(op) => op.stamp(),
+        }
+    }
+
+    /// The group, with the members that are asked.
+    pub fn group(&self) -> &Group
+        ensures { result.now ≡ (shown_of self.now).group }
+    {
+        match self {
+            Operation::Stripe(op) => op.group(),
+            Operation::Recovery(op) => op.group(),
+        }
+    }
+
+    /// Whether the operation stores its version.
+    fn is_storing(&self) -> bool
+        ensures { IsTrue result ↔ ((coordinator_of self.now).phase ≡ Stores) }
+    {
+        match self {
+            Operation::Stripe(op) => op.is_storing(),
+            Operation::Recovery(op) => op.is_storing(),
         }
     }
 
@@ -157,34 +146,6 @@ impl Operation {
         }
     }
 
-    /// Begins a phase, in which the operation makes its version where its note tells so.
-    fn begin_phase(self, messages: Messages) -> Decision
-        requires { (shown_of self).note ≡ note_told (coordinator_of self).call (begins_in (coordinator_of self).phase (coordinator_of self)) }
-        ensures decided { machine_next result ≡ begins_in (coordinator_of self).phase (coordinator_of self) }
-        ensures kept { (layout : Layout) (before : Operation) → BeginsPhase layout before self messages.items → IsDecisionOf layout before result }
-    {
-        match self.version() {
-            Some((stamp, base)) => Decision::Makes {
-                operation: self,
-                messages,
-                stamp,
-                base,
-            },
-            None => Decision::Sends(self, messages),
-        }
-    }
-
-    /// Ends with this answer.
-    fn end(self, answer: Answer) -> Decision
-        ensures { result ≡ Decision.Ends answer (seen_in (shown_of self).note) (shown_of self).made }
-    {
-        Decision::Ends {
-            answer,
-            seen: self.seen(),
-            stored: self.made(),
-        }
-    }
-
     /// Begins an operation on a whole stripe of a group, in the group's first view: the operation, and the messages of its first phase.
     pub fn begin(
         alloc: Global,
@@ -204,124 +165,212 @@ impl Operation {
     {
         let view = first_view(group);
         let (op, next) = StripeOp::start(alloc, layout, view, call, ask, stamp)?;
-        Ok((Operation::Stripe(op), messages_in(next)))
+        Ok((Operation::Stripe(op), messages_in(alloc, next)))
     }
 
     /// The messages of the present phase again, to each member of the group without a reply that counts.
-    pub fn on_tick(&self, alloc: Global, group: &Group) -> Result<Messages, NoMem>
-        requires { (shown_of self.now).group ≡ group.now }
+    pub fn on_tick(&self, alloc: Global) -> Result<Messages, NoMem>
         ensures messages { IfOk result (λ messages. messages.items ≡ phase_messages (shown_of self.now)) }
         ensures few { IfOk result (λ messages. vec_len messages ≤ 32) }
     {
-        let _ = group.policy();
+        // There is at most a message for each member, and these are few.
+        let _ = self.member_count();
+        let next = self.phase_again()?;
+        Ok(messages_in(alloc, next))
+    }
+
+    /// The present phase again.
+    fn phase_again(&self) -> Result<Next, NoMem>
+        ensures send { IfOk result (λ next. IsSend next) }
+        ensures sent { IfOk result (λ next. decisions.SendsPhase (shown_of self.now) next) }
+    {
         match self {
-            Operation::Stripe(op) => {
-                let mut op = op.copy(alloc)?;
-                Ok(messages_in(op.on_tick()?))
-            }
-            Operation::Recovery(op) => {
-                let mut op = op.copy(alloc)?;
-                Ok(messages_in(op.on_tick()?))
-            }
+            Operation::Stripe(op) => op.on_tick(),
+            Operation::Recovery(op) => op.on_tick(),
         }
     }
 
-    /// What the operation of a group does with a message, in the group's first view. A new round of ordering would have the fresh
-    /// stamp; there is none where no later time is left.
-    pub fn on_reply(
-        self,
+    /// How many members are asked, at most 32.
+    fn member_count(&self) -> usize
+        ensures value { result ≡ length (shown_of self.now).group.members }
+        ensures few { result ≤ 32 }
+    {
+        self.group().policy().n() as usize
+    }
+
+    /// Room for the messages that let all members collect. Only an operation that stores its version may end with such messages.
+    fn room_to_collect(&self, alloc: Global) -> Result<Messages, NoMem>
+        ensures empty { IfOk result (λ room. room.items ≡ []) }
+        ensures few { length (shown_of self.now).group.members ≤ 32 }
+        ensures room { IfOk result (λ room. (coordinator_of self.now).phase ≡ Stores → length (shown_of self.now).group.members ≤ vec_capacity room) }
+    {
+        let most = self.member_count();
+        if !self.is_storing() {
+            return Ok(Vec::new(alloc));
+        }
+        Ok(Vec::with_capacity(alloc, most)?)
+    }
+
+    /// Takes a message in place, in the group's first view. A new round of ordering would have the fresh stamp; there is none where no
+    /// later time is left. A read whose stripe is to be recovered becomes the recovery, in the next phase of its call.
+    fn take_reply(
+        &mut self,
         alloc: Global,
         layout: &Layout,
-        group: &Group,
         from: BrickId,
         message: &Message,
         fresh: Option<Stamp>,
-    ) -> Result<Decision, NoMem>
-        requires operation { IsOperationOf layout.now self }
-        requires group { (shown_of self).group ≡ group.now }
-        ensures decided { IfOk result (λ decision. machine_next decision ≡ or_waits (coordinator_of self)
-            (decided_on fresh (shown_of self) from message.now)) }
-        ensures kept { IfOk result (λ decision. IsDecisionOf layout.now self decision) }
-        ensures few { IfOk result HasFewMessages }
+    ) -> Result<Next, NoMem>
+        requires operation { IsOperationOf layout.now self.old }
+        ensures decided { IfOk result (λ next. decision (shown_of self.new) next ≡ or_waits (coordinator_of self.old)
+            (decided_on fresh (shown_of self.old) from message.now)) }
+        ensures kept { IfOk result (λ next. GoesOnBy layout.now self.old self.new next) }
+        ensures same { OnErr result (coordinator_of self.new ≡ coordinator_of self.old) }
+        ensures kept_err { OnErr result (GoesOn layout.now self.old self.new) }
     {
-        let view = first_view(group);
         match self {
-            Operation::Stripe(op) => {
-                on_stripe_reply(alloc, layout, view, op, from, message, fresh)
+            Operation::Recovery(op) => {
+                let next = op.on_reply(from, message, fresh)?;
+                Ok(next)
             }
-            Operation::Recovery(op) => on_recovery_reply(layout, op, from, message, fresh),
+            Operation::Stripe(op) => match op.on_reply(from, message, fresh)? {
+                Next::Wait => Ok(Next::Wait),
+                Next::Send(messages) => Ok(Next::Send(messages)),
+                Next::End(answer) => Ok(Next::End(answer)),
+                Next::Recover(turn) => {
+                    let (recovery, next) = recover(alloc, layout, op, turn)?;
+                    *self = Operation::Recovery(recovery);
+                    Ok(next)
+                }
+            },
+        }
+    }
+
+    /// What is sent and told as a phase begins: the version, where the operation makes it. The stamp of a new round is known from now on.
+    fn begin_phase(&self, messages: Messages, stamps: &mut StampSource) -> Outs
+        requires { (shown_of self.now).note ≡ note_told (coordinator_of self.now).call (begins_in (coordinator_of self.now).phase (coordinator_of self.now)) }
+        ensures messages { result.messages ≡ messages }
+        ensures told { result.told ≡ told_in (coordinator_of self.now).call.seq (begins_in (coordinator_of self.now).phase (coordinator_of self.now)) }
+        ensures known { stamps.new.known ≡ known_by stamps.old.known (begins_in (coordinator_of self.now).phase (coordinator_of self.now)) }
+        ensures boot { stamps.new.boot ≡ stamps.old.boot }
+    {
+        match self.version() {
+            Some((stamp, base)) => Outs {
+                messages,
+                told: Told::Made {
+                    seq: self.call().seq,
+                    stamp,
+                    base,
+                },
+            },
+            None => {
+                stamps.saw(self.stamp());
+                Outs {
+                    messages,
+                    told: Told::Nothing,
+                }
+            }
+        }
+    }
+
+    /// What is sent and told at the end of a call, in this room: all members may collect what is below the version that was stored.
+    fn end(&self, room: Messages, call: Call, answer: Answer) -> Outs
+        requires empty { room.items ≡ [] }
+        requires room { Collects (shown_of self.now).made (length (shown_of self.now).group.members ≤ vec_capacity room) }
+        ensures messages { result.messages.items ≡ collect_messages call (shown_of self.now).made (shown_of self.now).group.members }
+        ensures told { result.told ≡ Told.Answers call.seq answer (seen_in (shown_of self.now).note) }
+    {
+        Outs {
+            messages: put_collects(room, self.group(), call, self.made()),
+            told: Told::Answers {
+                seq: call.seq,
+                answer,
+                seen: self.seen(),
+            },
+        }
+    }
+
+    /// What the operation does with a message, in place and in the group's first view: what is sent and told. A new round of ordering
+    /// would have the fresh stamp; there is none where no later time is left. The stamp of a new round is known from then on.
+    ///
+    /// # Errors
+    ///
+    /// `NoMemory` where no memory was left: the operation is as it was.
+    pub fn on_reply(
+        &mut self,
+        alloc: Global,
+        layout: &Layout,
+        from: BrickId,
+        message: &Message,
+        fresh: Option<Stamp>,
+        stamps: &mut StampSource,
+    ) -> Result<Outs, NoMem>
+        requires operation { IsOperationOf layout.now self.old }
+        ensures step { IfOk result (λ outs. CarriesOut layout.now self.old self.new stamps.old.known stamps.new.known
+            (or_waits (coordinator_of self.old) (decided_on fresh (shown_of self.old) from message.now)) outs) }
+        ensures few { IfOk result (λ outs. vec_len outs.messages ≤ 32) }
+        ensures boot { stamps.new.boot ≡ stamps.old.boot }
+        ensures same { OnErr result (coordinator_of self.new ≡ coordinator_of self.old) }
+        ensures kept_err { OnErr result (GoesOn layout.now self.old self.new) }
+    {
+        // All that an end needs is there before the reply counts: nothing can fail after it.
+        let room = self.room_to_collect(alloc)?;
+        let call = self.call();
+        match self.take_reply(alloc, layout, from, message, fresh)? {
+            Next::Wait => Ok(Outs::nothing(alloc)),
+            Next::Send(messages) => Ok(self.begin_phase(messages, stamps)),
+            Next::End(answer) => Ok(self.end(room, call, answer)),
+            Next::Recover(_) => unreachable!(),
         }
     }
 }
 
-/// What an operation on a whole stripe does with a message; its group has this first view.
-fn on_stripe_reply(
-    alloc: Global,
-    layout: &Layout,
-    view: View,
-    mut op: StripeOp,
-    from: BrickId,
-    message: &Message,
-    fresh: Option<Stamp>,
-) -> Result<Decision, NoMem>
-    requires of_layout { IsOfLayout layout.now op }
-    requires of_kind { IsNoRecovery op.state.phase op.state }
-    requires view { view ≡ first_view op.group }
-    requires limits { IsWithinLimits op.group.m (length op.group.members) }
-    ensures decided { IfOk result (λ decision. machine_next decision ≡ or_waits op.state (decided_on fresh op from message.now)) }
-    ensures kept { IfOk result (λ decision. IsDecisionOf layout.now (Operation.Stripe op) decision) }
-{
-    match op.on_reply(from, message, fresh)? {
-        Next::Wait => Ok(Decision::Waits(Operation::Stripe(op))),
-        Next::Send(messages) => Ok(Operation::Stripe(op).begin_phase(messages)),
-        Next::End(answer) => Ok(Operation::Stripe(op).end(answer)),
-        Next::Recover(turn) => recover(alloc, layout, view, op, turn),
-    }
-}
-
-/// What a recovery does with a message.
-fn on_recovery_reply(
-    layout: &Layout,
-    mut op: Recovery,
-    from: BrickId,
-    message: &Message,
-    fresh: Option<Stamp>,
-) -> Result<Decision, NoMem>
-    requires { IsOfLayout layout.now op }
-    ensures decided { IfOk result (λ decision. machine_next decision ≡ or_waits op.state (decided_on fresh op from message.now)) }
-    ensures kept { IfOk result (λ decision. IsDecisionOf layout.now (Operation.Recovery op) decision) }
-{
-    match op.on_reply(from, message, fresh)? {
-        Next::Wait => Ok(Decision::Waits(Operation::Recovery(op))),
-        Next::Send(messages) => Ok(Operation::Recovery(op).begin_phase(messages)),
-        Next::End(answer) => Ok(Operation::Recovery(op).end(answer)),
-        Next::Recover(_) => unreachable!(),
-    }
-}
-
-/// Recovers the stripe of a read: the recovery begins in the next phase of the read's call.
+/// Begins the recovery of the stripe of a read, in the next phase of the read's call. Where memory runs out, the read takes the reply
+/// back on which it asked for this.
 fn recover(
     alloc: Global,
     layout: &Layout,
-    view: View,
-    op: StripeOp,
+    op: &mut StripeOp,
     turn: Turn,
-) -> Result<Decision, NoMem>
-    requires of_layout { IsOfLayout layout.now op }
-    requires first { IsFirst op.state }
+) -> Result<(Recovery, Next), NoMem>
+    requires of_layout { IsOfLayout layout.now op.old }
+    requires first { IsFirst op.old.state }
     requires order { turn ≡ Turn.Order }
-    requires phase { op.state.call.phase < 2 ^ 32 - 1 }
-    requires view { view ≡ first_view op.group }
-    requires limits { IsWithinLimits op.group.m (length op.group.members) }
-    ensures decided { IfOk result (λ decision. machine_next decision ≡ Sends (in_phase op.state Recovers)) }
-    ensures kept { IfOk result (λ decision. IsDecisionOf layout.now (Operation.Stripe op) decision) }
+    requires phase { op.old.state.call.phase < 2 ^ 32 - 1 }
+    ensures decided { IfOk result (λ begun. decision begun.0 begun.1 ≡ Sends (in_phase op.old.state Recovers)) }
+    ensures kept { IfOk result (λ begun. GoesOnBy layout.now (Operation.Stripe op.old) (Operation.Recovery begun.0) begun.1) }
+    ensures err { OnErr result (op.new ≡ with_state op.old (without_last op.old.state)) }
+{
+    match begin_recovery(alloc, layout, op, turn) {
+        Ok(begun) => Ok(begun),
+        Err(fault) => {
+            op.take_back();
+            Err(fault)
+        }
+    }
+}
+
+/// The recovery of the stripe of a read, as it begins in the next phase of the read's call.
+fn begin_recovery(
+    alloc: Global,
+    layout: &Layout,
+    op: &StripeOp,
+    turn: Turn,
+) -> Result<(Recovery, Next), NoMem>
+    requires of_layout { IsOfLayout layout.now op.now }
+    requires first { IsFirst op.now.state }
+    requires order { turn ≡ Turn.Order }
+    requires phase { op.now.state.call.phase < 2 ^ 32 - 1 }
+    ensures decided { IfOk result (λ begun. decision begun.0 begun.1 ≡ Sends (in_phase op.now.state Recovers)) }
+    ensures kept { IfOk result (λ begun. GoesOnBy layout.now (Operation.Stripe op.now) (Operation.Recovery begun.0) begun.1) }
 {
     let last = op.call();
     let call = CallId {
         boot: last.boot,
         seq: last.seq,
     };
-    let stamp = op.stamp();
+    let ask = op.ask().copy(alloc)?;
+    let view = first_view(op.group());
     let phase = last.phase + 1;
     let (recovery, next) = Recovery::start(
         alloc,
@@ -329,9 +378,9 @@ fn recover(
         view,
         call,
         phase,
-        op.into_ask(),
-        stamp,
+        ask,
+        op.stamp(),
         turn,
     )?;
-    Ok(Operation::Recovery(recovery).begin_phase(messages_in(next)))
+    Ok((recovery, next))
 }

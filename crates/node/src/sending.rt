@@ -1,32 +1,32 @@
 //! What a brick sends of itself.
 
-ghost use Rattle.std.specs.Prelude.{◌≡◌, ◌≤◌, [], IfOk, vec_len, vec_capacity};
+ghost use Rattle.std.specs.Prelude.{◌≡◌, ◌≤◌, [], length, vec_len, vec_capacity};
 ghost use Rattle.node.specs.Sending.{answer_messages, collect_messages};
+ghost use Rattle.node.specs.Decisions.{Collects};
 
-use fab_base::{BrickId, NoMem, Stamp};
+use fab_base::{BrickId, Stamp};
 use layout::Group;
 use messages::{Call, Message, Messages, Request};
-use std::alloc::Global;
 
-/// The messages that let all members collect what is below a version.
-pub(crate) fn collect_messages(
-    alloc: Global,
+/// The messages that let all members collect what is below a version, in room that was made for them.
+pub(crate) fn put_collects(
+    mut room: Messages,
     group: &Group,
     call: Call,
     stored: Option<Stamp>,
-) -> Result<Messages, NoMem>
-    ensures items { IfOk result (λ messages. messages.items ≡ collect_messages call stored group.now.members) }
-    ensures few { IfOk result (λ messages. vec_len messages ≤ 32) }
+) -> Messages
+    requires empty { room.items ≡ [] }
+    requires room { Collects stored (length group.now.members ≤ vec_capacity room) }
+    ensures items { result.items ≡ collect_messages call stored group.now.members }
 {
-    let mut messages = Vec::new(alloc);
     let Some(stamp) = stored else {
-        return Ok(messages);
+        return room;
     };
     for member in group.members().as_slice() {
         let message = Message::Request(call, Request::Collect { stamp });
-        messages.push((*member, message))?;
+        room.push_reserved((*member, message));
     }
-    Ok(messages)
+    room
 }
 
 /// The answer to a message's sender, if there is one, in room that was made for it.
@@ -37,7 +37,7 @@ pub(crate) fn answer_messages(mut room: Messages, to: BrickId, answer: Option<Me
     ensures few { vec_len result ≤ 1 }
 {
     if let Some(answer) = answer {
-        room.push((to, answer)).unwrap();
+        room.push_reserved((to, answer));
     }
     room
 }

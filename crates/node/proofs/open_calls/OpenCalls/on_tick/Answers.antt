@@ -1,5 +1,5 @@
 -- What the open operations send in the order of their numbers is what the machine's calls send.
-use Rattle.std.proofs.Common.{◌≡◌, ℕ, List, [], ◌++◌, Some, length, sym, ◌∙◌, ap, subst, arith}
+use Rattle.std.proofs.Common.{◌≡◌, ℕ, [], ◌++◌, Some, length, sym, ◌∙◌, ap, arith}
 use Rattle.std.specs.Option.{option_map}
 use Rattle.std.specs.List.{flat_map, AllByRecursion}
 use Rattle.std.specs.Map.Iter.{deref}
@@ -9,44 +9,41 @@ use Rattle.std.proofs.lemmas.List.{append-nil}
 use Rattle.std.proofs.lemmas.Map.Iter.{rest_all}
 use Rattle.protocol.specs.Nodes.{resent, ticked}
 use Rattle.stripe_code.specs.Codes.{coding}
-use Rattle.coord_phase.specs.Messages.{packets_from}
+use Rattle.coord_phase.specs.Messages.{packets_from, phase_messages}
 use Rattle.node.specs.declared.operations.Operation.{Operation}
-use Rattle.node.specs.Operations.{coordinator_of, IsOperationOf}
+use Rattle.node.specs.Operations.{shown_of, coordinator_of, IsOperationOf}
 use Rattle.node.specs.States.{state_with}
 use Rattle.node.proofs.Ticks.{IsWithin, values_by_key, all_values}
-use Rattle.node.proofs.Resending.{resent_by_key, resent_of}
+use Rattle.node.proofs.Resending.{all_send_again, resent_by_key, resent_of}
 use Rattle.node.proofs.open_calls.OpenCalls.on_tick.Goals as goal
 
 pub loop-operation-init : goal.loop-operation-init
 loop-operation-init c =
-    let layout = c.args.layout.now in
-    let node = c.args.self.now in
-    let sends = λ (op : Operation). resent (coding layout) node.me (Some (coordinator_of op)) in
-    let left : c.into_iter-operation-iterator.result ≡ values node.operations = c.into_iter-operation-iterator.ensures.into_iter_gives
+    let sends = λ (op : Operation). phase_messages (shown_of op) in
+    let left : c.into_iter-operation-iterator.result ≡ values c.args.self.now.operations = c.into_iter-operation-iterator.ensures.into_iter_gives
     ∙ c.values-operation-items.ensures.rest in
-    let within : IsWithin node.operations node.seq = record { ordered = c.values-operation-items.ensures.ordered; none = node.from_one; fresh = node.fresh } in
-    let each : AllByRecursion (λ (op : Operation). IsOperationOf layout op) (values node.operations) =
-    all_values (λ (op : Operation). IsOperationOf layout op) node.operations node.seq within (λ k op is. (c.requires k op is).is_operation) in
     let same = ap length c.into_iter-operation-iterator.ensures.into_iter_gives in
     record {
-      sends = ap (λ front. packets_from node.me front ++ flat_map sends c.into_iter-operation-iterator.result) c.new-messages.ensures.items ∙ ap (flat_map sends) left;
-      kept = subst (λ (ops : List Operation). AllByRecursion (λ (op : Operation). IsOperationOf layout op) ops) (sym left) each;
-      few = omega (arith, node.few, c.values-operation-items.ensures.len);
+      sends = ap (λ front. front ++ flat_map sends c.into_iter-operation-iterator.result) c.new-messages.ensures.items ∙ ap (flat_map sends) left;
+      few = omega (arith, c.args.self.now.few, c.values-operation-items.ensures.len);
     }
 
 pub returns-clause-packets : goal.returns-clause-packets
 unfolding ticked state_with
-returns-clause-packets c = λ parts.
-    let layout = c.args.layout.now in
+returns-clause-packets c = λ layout parts calls_of.
     let node = c.args.self.now in
-    let sends = λ (op : Operation). resent (coding layout) node.me (Some (coordinator_of op)) in
+    let sends = λ (op : Operation). phase_messages (shown_of op) in
     let calls = λ (k : ℕ). option_map coordinator_of (get nat_cmp node.operations k) in
     let within : IsWithin node.operations node.seq = record { ordered = c.values-operation-items.ensures.ordered; none = node.from_one; fresh = node.fresh } in
     let none : c.loop-operation.operation-iterator ≡ [] =
     rest_all (deref {X = Operation}) c.loop-operation.operation-iterator c.next.new.self c.next.result c.in-None.is c.next.ensures.steps in
-    sym (append-nil (packets_from node.me c.loop-operation.messages.items))
-    ∙ ap (λ left. packets_from node.me c.loop-operation.messages.items ++ flat_map sends left) (sym none)
-    ∙ c.loop-operation.invariant.sends
-    ∙ values_by_key sends (λ k. resent (coding layout) node.me (calls k)) node.operations node.seq within
+    let each : AllByRecursion (λ (op : Operation). IsOperationOf layout op) (values node.operations) =
+    all_values (λ (op : Operation). IsOperationOf layout op) node.operations node.seq within (λ k op is. (calls_of k op is).is_operation) in
+    ap (packets_from node.me) (sym (append-nil c.loop-operation.messages.items)
+    ∙ ap (λ left. c.loop-operation.messages.items ++ flat_map sends left) (sym none)
+    ∙ c.loop-operation.invariant.sends)
+    ∙ all_send_again layout node.me (values node.operations) each
+    ∙ values_by_key (λ (op : Operation). resent (coding layout) node.me (Some (coordinator_of op))) (λ k. resent (coding layout) node.me (calls k))
+    node.operations node.seq within
     (λ k. resent_of (coding layout) node.me (get nat_cmp node.operations k))
     ∙ sym (resent_by_key (coding layout) node.me calls node.seq)

@@ -1,22 +1,20 @@
 -- The first phase is sent to all members.
-use Rattle.std.proofs.Common.{◌≡◌, length, ◌∙◌, ap, subst, arith}
-use Rattle.messages.specs.declared.turns.Next.{Next}
+use Rattle.std.proofs.Common.{◌≡◌, length, ◌∙◌, ap, arith}
 use Rattle.fab_base.specs.Layouts.{Group}
 use Rattle.coord_phase.specs.Operations as phased
 use Rattle.coord_phase.specs.Messages.{packets_from, phase_messages}
-use Rattle.coord_phase.specs.Decisions as decisions
 use Rattle.node.specs.declared.operations.Operation.TheVariants.{Stripe}
 use Rattle.node.specs.Decisions.{SendsPhase}
 use Rattle.node.proofs.Answered.{phase_sent, group_in_first_view}
-use Rattle.node.proofs.GoingOn.{count_of_phase}
+use Rattle.node.proofs.GoingOn.{count_of_phase, sent_so}
 use Rattle.node.proofs.operations.Operation.begin.Goals as goal
 use Rattle.node.proofs.operations.Operation.begin.Goals.{After-messages_in}
 
 -- the messages are those of the operation's phase
 sends : (c : After-messages_in) → SendsPhase c.args.layout.now (Stripe c.in_ok-op.op) c.messages_in.result.items
 sends c =
-    let sent : c.messages_in.result.items ≡ phase_messages c.in_ok-op.op =
-    subst (λ (next : Next). decisions.SendsPhase c.in_ok-op.op next) c.messages_in.ensures c.in_ok-op.ensures.sent in
+    let sent : c.messages_in.result.items ≡ phase_messages c.in_ok-op.op = c.messages_in.ensures
+    ∙ sent_so c.in_ok-op.op _ c.in_ok-op.ensures.send c.in_ok-op.ensures.sent in
     λ me. ap (packets_from me) sent
     ∙ phase_sent c.args.layout.now c.in_ok-op.op me (ap (λ (op : phased.Operation). op.block) c.in_ok-op.ensures.op)
     (ap (λ (op : phased.Operation). op.state.counted) c.in_ok-op.ensures.op)
