@@ -1,5 +1,6 @@
 pub mod Answered
 pub mod Pieces
-pub mod Replies
+pub mod PhaseReplies
+pub mod TallyOf
 pub mod Requests
 pub mod Foremost

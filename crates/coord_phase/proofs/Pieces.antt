@@ -21,7 +21,7 @@ use Rattle.protocol.specs.declared.phases.Phase.TheVariants.{Looks, Orders, Reco
 use Rattle.protocol.specs.Coordinators.{Coordinator, has_seat, answers_phase, finds, found_bytes, pieces_of, pieces_at}
 use Rattle.stripe_code.specs.Codes.{AreFirst, decoded, decoded_block}
 use Rattle.coord_phase.specs.Operations.{are_apart, IsInPhase}
-use Rattle.coord_phase.proofs.Replies.{all-take, apart-take}
+use Rattle.coord_phase.proofs.PhaseReplies.{all-take, apart-take}
 
 -- there is one for each reply
 pub length-pieces_of : (counted : List Counted) → length (pieces_of counted) ≡ length counted

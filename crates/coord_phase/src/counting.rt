@@ -2,7 +2,7 @@
 
 ghost use Rattle.std.specs.Prelude.{◌≡◌, ◌≤◌, ◌<◌, length, IfSome};
 ghost use Rattle.fab_base.specs.Layouts.{seat_in};
-ghost use Rattle.protocol.specs.Coordinators.{call_same, may_be_found, answers_phase, has_seat};
+ghost use Rattle.protocol.specs.Coordinators.{call_same, may_be_found, answers_phase};
 
 use crate::operations::Operation;
 use fab_base::{BrickId, NoMem, Stamp};
@@ -50,24 +50,20 @@ fn answers(block: u16, stamp: Stamp, phase: Phase, reply: &Reply) -> bool
     }
 }
 
-/// Whether a seat has a reply that counts.
-pub(crate) fn has_reply(seat: u8, counted: &[Counted]) -> bool
-    ensures { result ≡ has_seat seat counted.now }
-{
-    for reply in counted {
-        if reply.seat == seat {
-            return true;
-        }
-    }
-    false
-}
-
 impl Operation {
     ghost use Rattle.std.specs.Prelude.{◌≡◌, ◌-◌, ◌<◌, ◌≤◌, ◌^◌, not, nat_lt, true, None, Some, IfSome, IfOk, OnOk, OnErr, length};
     ghost use Rattle.quorum.specs.Quorums.{quorum_of};
-    ghost use Rattle.protocol.specs.Coordinators.{counts_at, with_reply};
+    ghost use Rattle.protocol.specs.Coordinators.{has_seat, counts_at};
     ghost use Rattle.protocol.specs.Nodes.{has_length};
     ghost use Rattle.coord_phase.specs.Operations.{with_state, without_last, counts, heard};
+
+    /// Whether the member at a seat has a reply that counts.
+    pub(crate) fn has_reply(&self, seat: u8) -> bool
+        requires { seat < length self.now.group.members }
+        ensures { result ≡ has_seat seat self.now.state.counted }
+    {
+        self.replies.has_reply(seat)
+    }
 
     /// The seat at which a reply counts: it is to this very phase, answers it, and is its seat's first.
     #[tactic(auto, unfolding(protocol::specs::Coordinators::counts_at))]
@@ -82,7 +78,7 @@ impl Operation {
             return None;
         }
         let seat = self.group.seat_of(from)?;
-        if has_reply(seat, self.counted.as_slice()) {
+        if self.has_reply(seat) {
             return None;
         }
         Some(seat)
@@ -118,7 +114,7 @@ impl Operation {
         let Some(seat) = self.seat_to_count(from, *call, reply) else {
             return Ok(false);
         };
-        self.counted.push(Counted {
+        self.replies.push(Counted {
             seat,
             brick: from,
             reply: reply.copy(alloc)?,
@@ -130,8 +126,7 @@ impl Operation {
     pub fn take_back(&mut self)
         ensures { self.new ≡ with_state self.old (without_last self.old.state) }
     {
-        let count = self.counted.len();
-        self.counted.truncate(count.saturating_sub(1));
+        self.replies.take_back();
     }
 
     /// Whether a quorum of replies counts.
@@ -140,6 +135,6 @@ impl Operation {
         ensures enough { result ≡ true → self.now.group.m ≤ length self.now.state.counted }
         ensures long { has_length self.now.group.m self.now.block self.now.state.ask.op ≡ true }
     {
-        self.counted.len() >= self.group.policy().q() as usize
+        self.replies.is_quorum()
     }
 }

@@ -11,6 +11,6 @@ impl Operation {
     pub fn forget(&mut self)
         ensures { self.new ≡ with_state self.old (forgetting self.old.state) }
     {
-        self.counted.clear();
+        self.replies.clear(self.group.policy());
     }
 }

@@ -7,6 +7,7 @@ mod counting;
 mod deciding;
 mod forgetting;
 pub mod operations;
+pub mod replies;
 mod reports;
 mod sending;
 mod stages;

@@ -6,6 +6,7 @@ ghost use Rattle.protocol.specs.Coordinators.{stored_by, stored_content};
 ghost use Rattle.protocol.specs.Nodes.{has_length};
 ghost use Rattle.coord_phase.specs.Operations.{group_in_view, StoresBlocks};
 
+use crate::replies::Replies;
 use fab_base::{Ask, Bytes, GroupId, Members, NoMem, Note, Op, Stamp, View};
 use layout::{Group, Layout};
 use messages::Call;
@@ -36,26 +37,28 @@ pub struct Operation {
     pub(crate) stage: Stage,
     pub(crate) base: Option<Stamp>,
     pub(crate) content: Bytes,
-    pub(crate) counted: Vec<Counted>,
+    pub(crate) replies: Replies,
     pub(crate) note: Option<Note>,
     pub(crate) made: Option<Stamp>,
 }
 
 impl Model for Operation {
     ghost use Rattle.coord_phase.specs.Operations.{Operation, IsInPhase};
+    ghost use Rattle.coord_phase.specs.Tallies.{IsTallyFor};
 
     ghost Value = { Operation };
 
     ghost view = { λ op. record {
       block = op.block;
       group = op.group;
-      state = record { ask = op.ask; stamp = op.stage.stamp; round = op.stage.round; base = op.base; content = op.content; call = op.stage.call; phase = op.stage.phase; counted = op.counted.items };
+      state = record { ask = op.ask; stamp = op.stage.stamp; round = op.stage.round; base = op.base; content = op.content; call = op.stage.call; phase = op.stage.phase; counted = op.replies.list.items };
       note = op.note;
       made = op.made;
     } };
 
     ghost invariant = { λ op. IsInPhase op.block op.group
-        (record { ask = op.ask; stamp = op.stage.stamp; round = op.stage.round; base = op.base; content = op.content; call = op.stage.call; phase = op.stage.phase; counted = op.counted.items }) };
+        (record { ask = op.ask; stamp = op.stage.stamp; round = op.stage.round; base = op.base; content = op.content; call = op.stage.call; phase = op.stage.phase; counted = op.replies.list.items })
+        × IsTallyFor op.group op.replies.tally };
 }
 
 /// A group of these members, within the limits of a quorum.
@@ -88,21 +91,6 @@ fn copy_note(alloc: Global, note: &Option<Note>) -> Result<Option<Note>, NoMem>
         None => Ok(None),
         Some(note) => Ok(Some(note.copy(alloc)?)),
     }
-}
-
-/// A copy of the replies that count.
-fn copy_counted(alloc: Global, counted: &[Counted]) -> Result<Vec<Counted>, NoMem>
-    ensures { IfOk result (λ made. made.items ≡ counted.now) }
-{
-    let mut made = Vec::new(alloc);
-    for reply in counted {
-        made.push(Counted {
-            seat: reply.seat,
-            brick: reply.brick,
-            reply: reply.reply.copy(alloc)?,
-        })?;
-    }
-    Ok(made)
 }
 
 /// What an operation stores: what it is given to write, or what it read back.
@@ -147,6 +135,7 @@ impl Operation {
         } }
     {
         let group = group_in_view(layout, view, ask.group);
+        let replies = Replies::new(alloc, group.policy());
         Operation {
             block: layout.block(),
             group,
@@ -154,7 +143,7 @@ impl Operation {
             stage,
             base,
             content,
-            counted: Vec::new(alloc),
+            replies,
             note: None,
             made: None,
         }
@@ -176,17 +165,10 @@ impl Operation {
             stage: self.stage,
             base: self.base,
             content: self.content.copy(alloc)?,
-            counted: copy_counted(alloc, self.counted.as_slice())?,
+            replies: self.replies.copy(alloc)?,
             note: copy_note(alloc, &self.note)?,
             made: self.made,
         })
-    }
-
-    /// The bytes of a block.
-    pub fn block(&self) -> u16
-        ensures { result ≡ self.now.block }
-    {
-        self.block
     }
 
     /// The group, with the members that are asked.
@@ -217,13 +199,6 @@ impl Operation {
         self.stage
     }
 
-    /// The version that it read back, where it did.
-    pub fn base(&self) -> Option<Stamp>
-        ensures { result ≡ self.now.state.base }
-    {
-        self.base
-    }
-
     /// What the operation stores: what it is given to write, or what it read back.
     pub fn stored(&self) -> &[u8]
         ensures value { result.now ≡ stored_content self.now.state }
@@ -236,7 +211,7 @@ impl Operation {
     pub fn counted(&self) -> &[Counted]
         ensures { result.now ≡ self.now.state.counted }
     {
-        self.counted.as_slice()
+        self.replies.as_slice()
     }
 
     /// What the operation has told of its version: none before it made one, or read one at once.

@@ -8,6 +8,7 @@ ghost use Rattle.protocol.specs.Coordinators.{refuser_of, full_member_of};
 ghost use Rattle.coord_phase.specs.Foremost.{foremost, foremost_of, told_version, yields_refuser, yields_full};
 
 use crate::operations::Operation;
+use crate::versions::told_stamp;
 use fab_base::Stamp;
 use messages::Reply;
 use protocol::{Counted, FullMember, Refuser};
@@ -63,16 +64,7 @@ impl Report for Stamp {
     ghost yields = { stamp_below };
 
     fn told(counted: &Counted) -> Option<Stamp> {
-        match &counted.reply {
-            Reply::Found {
-                newest: Some(version),
-                ..
-            }
-            | Reply::OrderedRead {
-                found: Some(version),
-            } => Some(version.stamp),
-            _ => None,
-        }
+        told_stamp(&counted.reply)
     }
 
     fn yields_to(self, other: Stamp) -> bool {
@@ -134,7 +126,7 @@ impl Operation {
     pub fn refuser(&self) -> Option<Refuser>
         ensures { result ≡ greatest_refuser self.now.state.counted }
     {
-        foremost(self.counted.as_slice())
+        foremost(self.counted())
     }
 
     /// The member of the lowest seat that told that its store is full, if one did.
@@ -142,7 +134,7 @@ impl Operation {
     pub fn full_member(&self) -> Option<FullMember>
         ensures { result ≡ lowest_full self.now.state.counted }
     {
-        foremost(self.counted.as_slice())
+        foremost(self.counted())
     }
 
     /// The stamp of the greatest version that the replies tell, if they tell one.
@@ -150,6 +142,6 @@ impl Operation {
     pub fn greatest_version(&self) -> Option<Stamp>
         ensures { result ≡ greatest_found self.now.state.counted }
     {
-        foremost(self.counted.as_slice())
+        foremost(self.counted())
     }
 }

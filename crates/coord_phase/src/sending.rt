@@ -1,6 +1,5 @@
 //! The messages of a phase.
 
-use crate::counting::has_reply;
 use crate::operations::Operation;
 use fab_base::NoMem;
 use messages::{Look, Message, Messages, Request, Want};
@@ -48,7 +47,7 @@ impl Operation {
         let mut messages = Vec::new(alloc);
         for (seat, member) in self.group.members().as_slice().iter().enumerate() {
             let seat = seat as u8;
-            if has_reply(seat, self.counted.as_slice()) {
+            if self.has_reply(seat) {
                 continue;
             }
             let request = self.request(alloc, seat)?;

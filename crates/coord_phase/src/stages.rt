@@ -3,6 +3,7 @@
 ghost use Rattle.std.specs.Prelude.{◌≡◌, length};
 
 use crate::operations::{Operation, Stage, stored};
+use crate::replies::Replies;
 use fab_base::{Answer, Bytes, CallId, Cause, NoMem, Note, Op, Stamp};
 use messages::{Messages, Next, Turn};
 use protocol::{FullMember, Phase, Refuser};
@@ -31,13 +32,20 @@ impl Operation {
         stage
     }
 
+    /// Has nothing to tell of a version.
+    fn tell_nothing(&mut self)
+        ensures { self.new ≡ telling self.old self.old.state None }
+    {
+        self.note = None;
+        self.made = None;
+    }
+
     /// Waits for more replies, with nothing to tell.
     pub fn wait(&mut self) -> Next
         ensures next { result ≡ Next.Wait }
         ensures state { self.new ≡ telling self.old self.old.state None }
     {
-        self.note = None;
-        self.made = None;
+        self.tell_nothing();
         Next::Wait
     }
 
@@ -72,8 +80,7 @@ impl Operation {
         ensures next { result ≡ Next.Recover turn }
         ensures state { self.new ≡ telling self.old self.old.state None }
     {
-        self.note = None;
-        self.made = None;
+        self.tell_nothing();
         Next::Recover(turn)
     }
 
@@ -85,16 +92,16 @@ impl Operation {
         ensures err { OnErr result (self.new ≡ self.old) }
     {
         let before = mem::replace(&mut self.stage, stage);
-        let counted = mem::replace(&mut self.counted, Vec::new(alloc));
+        let none = Replies::new(alloc, self.group.policy());
+        let replies = mem::replace(&mut self.replies, none);
         match self.messages(alloc) {
             Ok(messages) => {
-                self.note = None;
-                self.made = None;
+                self.tell_nothing();
                 Ok(messages)
             }
             Err(fault) => {
                 self.stage = before;
-                self.counted = counted;
+                self.replies = replies;
                 Err(fault)
             }
         }
@@ -147,8 +154,7 @@ impl Operation {
         ensures sent { SendsPhase self.new result }
         ensures never { NeverRecovers result }
     {
-        self.note = None;
-        self.made = None;
+        self.tell_nothing();
         Next::End(Answer::Aborted(Cause::Later {
             brick: refuser.brick,
             stamp: refuser.stamp,
@@ -162,8 +168,7 @@ impl Operation {
         ensures sent { SendsPhase self.new result }
         ensures never { NeverRecovers result }
     {
-        self.note = None;
-        self.made = None;
+        self.tell_nothing();
         Next::End(Answer::Aborted(Cause::Full {
             brick: member.brick,
             live: member.live,

@@ -2,13 +2,29 @@
 
 ghost use Rattle.std.specs.Prelude.{◌≡◌, length, map, IfOk};
 ghost use Rattle.std.specs.List.{concat};
-ghost use Rattle.protocol.specs.Coordinators.{finds, found_bytes, pieces_at};
+ghost use Rattle.protocol.specs.Coordinators.{told_stamp, finds, found_bytes, pieces_at};
 
 use crate::operations::Operation;
 use fab_base::{Bytes, NoMem, Stamp};
 use messages::Reply;
 use protocol::Counted;
 use std::alloc::Global;
+
+/// The stamp of the version that a reply tells, if it tells one.
+pub(crate) fn told_stamp(reply: &Reply) -> Option<Stamp>
+    ensures { result ≡ told_stamp reply.now }
+{
+    match reply {
+        Reply::Found {
+            newest: Some(version),
+            ..
+        }
+        | Reply::OrderedRead {
+            found: Some(version),
+        } => Some(version.stamp),
+        _ => None,
+    }
+}
 
 /// Whether a reply tells this version.
 fn finds(counted: &Counted, version: Stamp) -> bool
@@ -36,16 +52,6 @@ fn found_bytes(reply: &Reply) -> &[u8]
         | Reply::OrderedRead { found: Some(found) } => found.block.as_slice(),
         _ => &[],
     }
-}
-
-/// How many of the replies tell this version.
-fn count_finding(counted: &[Counted], version: Stamp) -> usize
-    ensures { result ≡ length (pieces_at version counted.now) }
-{
-    counted
-        .iter()
-        .filter(|counted| finds(counted, version))
-        .count()
 }
 
 /// The seats of the replies that tell this version.
@@ -77,7 +83,9 @@ fn blocks_finding(alloc: Global, counted: &[Counted], version: Stamp) -> Result<
 }
 
 impl Operation {
-    ghost use Rattle.std.specs.Prelude.{◌≡◌, ◌≤◌, ◌*◌, IfOk, length};
+    ghost use Rattle.std.specs.Prelude.{◌≡◌, ◌≤◌, ◌*◌, IfOk, MatchOption, length};
+    ghost use Rattle.fab_base.specs.declared.stamps.Stamp.{Stamp};
+    ghost use Rattle.coord_phase.specs.Tallies.{IsAgreed};
     ghost use Rattle.protocol.specs.Coordinators.{pieces_at};
     ghost use Rattle.stripe_code.specs.Codes.{block_code};
 
@@ -85,7 +93,14 @@ impl Operation {
     pub fn blocks_of(&self, version: Stamp) -> usize
         ensures { result ≡ length (pieces_at version self.now.state.counted) }
     {
-        count_finding(self.counted.as_slice(), version)
+        self.replies.count_telling(version)
+    }
+
+    /// The version that all replies tell. None exactly where they do not, or there is no reply.
+    pub fn agreed(&self) -> Option<Stamp>
+        ensures { MatchOption result ((v : Stamp) → ¬ (IsAgreed self.now.state.counted v)) (IsAgreed self.now.state.counted) }
+    {
+        self.replies.agreed()
     }
 
     /// The content of a version, by the first m of its blocks that the replies tell.
@@ -96,8 +111,8 @@ impl Operation {
         ensures long { IfOk result (λ content. length content ≡ self.now.group.m * self.now.block) }
     {
         let m = self.group.policy().m();
-        let seats = seats_finding(alloc, self.counted.as_slice(), version)?;
-        let blocks = blocks_finding(alloc, self.counted.as_slice(), version)?;
+        let seats = seats_finding(alloc, self.replies.as_slice(), version)?;
+        let blocks = blocks_finding(alloc, self.replies.as_slice(), version)?;
         let long = m as usize * self.block as usize;
         stripe_code::decode(alloc, m, self.block, &seats[..m as usize], &blocks[..long])
     }

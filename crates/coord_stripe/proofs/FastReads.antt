@@ -1,15 +1,18 @@
 -- A version that all replies tell is the one whose blocks they tell.
-use Rattle.std.proofs.Common.{◌≡◌, ℕ, ◌≤◌, Bool, true, cond, not, List, [], ◌∷◌, length, Some, refl, ap, ◌∙◌, arith}
+use Rattle.std.proofs.Common.{◌≡◌, ℕ, ◌≤◌, Bool, true, cond, if◌then◌else◌, not, List, [], ◌∷◌, length, Option, Some, None, refl, ap, ◌∙◌, arith}
+use Rattle.std.specs.List.{list_all}
 use Rattle.std.specs.Prelude.{filter}
-use Rattle.std.proofs.lemmas.Bool.{and_parts, false≢true}
+use Rattle.std.proofs.lemmas.Bool.{and_parts, and_from, cond_both, false≢true}
 use Rattle.fab_base.specs.declared.identities.BrickId.{BrickId}
 use Rattle.fab_base.specs.declared.stamps.Stamp.{Stamp}
 use Rattle.fab_base.specs.Stamps.{stamp_below, stamp_same}
 use Rattle.messages.specs.declared.replies.Reply.{Reply}
 use Rattle.messages.specs.declared.replies.Reply.TheVariants as replies
 use Rattle.protocol.specs.declared.phases.Counted.{Counted}
-use Rattle.protocol.specs.Coordinators.{tells, all_tell, finds, pieces_of, pieces_at}
+use Rattle.protocol.specs.Coordinators.{tells, all_tell, told_stamp, told_by_all, fast_version, finds, pieces_of, pieces_at}
+use Rattle.coord_phase.specs.Tallies.{IsAgreed}
 use Rattle.coord_phase.proofs.Pieces.{length-pieces_of}
+use Rattle.coord_phase.proofs.TallyOf.{found_stamp}
 
 -- a reply that tells it as the newest tells it
 tells_found : (v : Stamp) (seat : ℕ) (brick : BrickId) (reply : Reply) → tells v reply ≡ true
@@ -33,3 +36,31 @@ pub enough_pieces : (m : ℕ) (v : Stamp) (counted : List Counted) → m ≤ len
 enough_pieces m v counted enough told =
     let many : length (pieces_at v counted) ≡ length counted = ap length (all_pieces v counted told) ∙ length-pieces_of counted in
     omega (arith, many, enough)
+
+-- replies that all tell a version agree on it
+found_by_all : (v : Stamp) (counted : List Counted) → all_tell v counted ≡ true → list_all (finds v) counted ≡ true
+found_by_all v [] told = refl
+found_by_all v (c ∷ counted) told =
+    let parts = and_parts (tells v c.reply) (all_tell v counted) told in
+    and_from (finds v c) (list_all (finds v) counted) (tells_found v c.seat c.brick c.reply parts.0) (found_by_all v counted parts.1)
+
+-- where they agree on none, none may be answered at once
+pub fast_none : (counted : List Counted) → ((v : Stamp) → ¬ (IsAgreed counted v)) → None ≡ fast_version counted
+unfolding fast_version
+fast_none [] none = refl
+fast_none (c ∷ counted) none = by (told_stamp c.reply)
+  where
+    by : (told : Option Stamp) → None ≡ told_by_all told (c ∷ counted)
+    by None = refl
+    by (Some v) =
+        cond_both (all_tell v (c ∷ counted)) (Some v) None (λ (z : Option Stamp). None ≡ z)
+        (λ is. absurd (none v (record { some = omega arith; all = found_by_all v (c ∷ counted) is })))
+        (λ isnt. refl)
+
+-- the version that they agree on may be, where they tell no order above it
+pub fast_some : (v : Stamp) (counted : List Counted) → IsAgreed counted v → fast_version counted ≡ (if all_tell v counted then Some v else None)
+unfolding fast_version
+fast_some v [] agreed = absurd (omega (arith, agreed.some))
+fast_some v (c ∷ counted) agreed =
+    ap (λ (told : Option Stamp). told_by_all told (c ∷ counted))
+    (found_stamp v c (and_parts (finds v c) (list_all (finds v) counted) agreed.all).0)

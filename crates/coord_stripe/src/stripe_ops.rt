@@ -72,26 +72,20 @@ fn is_told_by_all(version: Stamp, counted: &[Counted]) -> bool
     true
 }
 
-/// The version that a read may answer at once: the one that all replies tell.
-#[tactic(auto, unfolding(protocol::specs::Coordinators::fast_version))]
-fn version_told_by_all(counted: &[Counted]) -> Option<Stamp>
-    ensures value { result ≡ fast_version counted.now }
-    ensures all { IfSome result (λ version. all_tell version counted.now ≡ true) }
+/// The version that a read may answer at once: the one that all replies tell, with no order above it.
+fn version_told_by_all(op: &Operation) -> Option<Stamp>
+    ensures value { result ≡ fast_version op.now.state.counted }
+    ensures all { IfSome result (λ version. all_tell version op.now.state.counted ≡ true) }
 {
-    let Some(first) = counted.first() else {
-        return None;
-    };
-    let Reply::Found {
-        newest: Some(newest),
-        ..
-    } = &first.reply
-    else {
-        return None;
-    };
-    if is_told_by_all(newest.stamp, counted) {
-        Some(newest.stamp)
-    } else {
-        None
+    match op.agreed() {
+        None => None,
+        Some(version) => {
+            if is_told_by_all(version, op.counted()) {
+                Some(version)
+            } else {
+                None
+            }
+        }
     }
 }
 
@@ -108,7 +102,7 @@ fn end_look(op: &mut Operation, alloc: Global) -> Result<Next, NoMem>
     ensures state { OnOk result (op.new.state ≡ op.old.state) }
     ensures err { OnErr result (op.new ≡ op.old) }
 {
-    let Some(version) = version_told_by_all(op.counted()) else {
+    let Some(version) = version_told_by_all(op) else {
         return Ok(op.recover(Turn::Order));
     };
     let content = op.content_of(alloc, version)?;

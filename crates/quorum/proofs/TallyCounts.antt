@@ -9,7 +9,7 @@ use Rattle.fab_base.specs.declared.stamps.Stamp.{Stamp}
 use Rattle.quorum.specs.declared.seats.Seat.{Seat}
 use Rattle.quorum.specs.declared.seats.Seat.TheVariants.{Silent, Counted}
 use Rattle.quorum.specs.Quorums.{count, one_if, with_seat}
-use Rattle.quorum.specs.Tallies.{Votes, seat_of, is_counted, counted, after_reply, with_vote}
+use Rattle.quorum.specs.Tallies.{Votes, seat_of, is_counted, counted, after_reply, with_vote, without_vote}
 use Rattle.std.proofs.lemmas.List.Recursion.{is_count_by}
 use Rattle.quorum.proofs.Counts.{count_none, count_same, count_with_seat, with_seat_same, with_seat_other}
 
@@ -46,6 +46,11 @@ vote_within n q place mark seats lt =
     ap (votes_of n q)
     (take-set-lt n seats place (after_reply (get_or seats place Silent) mark) lt
     ∙ ap (λ seat. set (take n seats) place (after_reply seat mark)) (sym (get_or-take n seats place Silent lt)))
+
+-- a vote taken back within the first n seats is taken back from the tally
+pub taken_within : (n q place : ℕ) (seats : List Seat) → place < n
+    → votes_of n q (take n (set seats place Silent)) ≡ without_vote (votes_of n q (take n seats)) place
+taken_within n q place seats lt = ap (votes_of n q) (take-set-lt n seats place Silent lt)
 
 -- the seats of a tally that pass, by list and by place
 pub count_of_seats : (p : Seat → Bool) (votes : Votes) → length votes.seats ≡ votes.n → count_by p votes.seats ≡ count votes.n

@@ -60,6 +60,10 @@ after_reply (Counted first) mark = Counted first
 abbrev pub with_vote : Votes → ℕ → Option Stamp → Votes
 with_vote votes seat mark = record votes { seats = slice_set votes.seats seat (after_reply (seat_of votes seat) mark) }
 
+-- the votes without a seat's reply
+abbrev pub without_vote : Votes → ℕ → Votes
+without_vote votes seat = record votes { seats = slice_set votes.seats seat Silent }
+
 -- some seat is counted, and all that are report the stamp v
 pub record IsUnanimous (votes : Votes) (v : Stamp) : Type 0 where
   pub some : 1 ≤ count votes.n (counted votes)

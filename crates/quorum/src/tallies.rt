@@ -30,7 +30,7 @@ impl Model for Tally {
 }
 
 impl Tally {
-    ghost use Rattle.quorum.specs.Tallies.{no_votes, with_vote, counted, counted_with, IsUnanimous};
+    ghost use Rattle.quorum.specs.Tallies.{no_votes, with_vote, without_vote, counted, counted_with, IsUnanimous};
 
     /// A tally of this policy's seats, none of which has replied.
     pub fn new(policy: Policy) -> Tally
@@ -43,6 +43,17 @@ impl Tally {
         }
     }
 
+    /// An equal tally.
+    pub fn copy(&self) -> Tally
+        ensures { result ≡ self.now }
+    {
+        Tally {
+            n: self.n,
+            q: self.q,
+            seats: self.seats,
+        }
+    }
+
     /// Counts a seat's reply, with the stamp that it reports, if any. A seat that is counted keeps its first reply.
     pub fn add(&mut self, seat: u8, mark: Option<Stamp>)
         requires { seat < self.old.n }
@@ -52,6 +63,30 @@ impl Tally {
     {
         let place = usize::from(seat);
         self.seats[place] = self.seats[place].after_reply(mark);
+    }
+
+    /// Takes a seat's reply back: the seat has not replied.
+    pub fn take_back(&mut self, seat: u8)
+        requires { seat < self.old.n }
+        ensures taken { self.new ≡ without_vote self.old seat }
+        ensures places { length self.new.seats ≡ self.new.n }
+    {
+        self.seats[usize::from(seat)] = Seat::Silent;
+    }
+
+    /// Whether a seat's reply is counted.
+    pub fn is_counted(&self, seat: u8) -> bool
+        requires { seat < self.now.n }
+        ensures { result ≡ counted self.now seat }
+    {
+        self.seats[usize::from(seat)].is_counted()
+    }
+
+    /// Whether at least a quorum of seats is counted.
+    pub fn has_quorum(&self) -> bool
+        ensures { IsTrue result ↔ (self.now.q ≤ count self.now.n (counted self.now)) }
+    {
+        counted_seats(self.replies()) >= usize::from(self.q)
     }
 
     /// Whether exactly a quorum of seats is counted.

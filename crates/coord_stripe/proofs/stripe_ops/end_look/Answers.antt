@@ -9,17 +9,14 @@ use Rattle.coord_stripe.proofs.stripe_ops.end_look.Goals as goal
 
 pub content_of-requires : goal.content_of-requires
 content_of-requires c =
-    let told : all_tell c.in-Some.version c.args.op.now.state.counted ≡ true =
-    subst (λ (counted : List Counted). all_tell c.in-Some.version counted ≡ true) c.counted.ensures c.in-Some.ensures.all in
-    enough_pieces _ _ _ c.requires.enough told
+    enough_pieces _ _ _ c.requires.enough c.in-Some.ensures.all
 
 pub returns-clause-next : goal.returns-clause-next
 returns-clause-next c =
     let op = c.args.op.now in
     let version = c.in-Some.version in
-    let told : all_tell version op.state.counted ≡ true =
-    subst (λ (counted : List Counted). all_tell version counted ≡ true) c.counted.ensures c.in-Some.ensures.all in
-    let fast : Some version ≡ fast_version op.state.counted = c.in-Some.ensures.value ∙ ap fast_version c.counted.ensures in
+    let told : all_tell version op.state.counted ≡ true = c.in-Some.ensures.all in
+    let fast : Some version ≡ fast_version op.state.counted = c.in-Some.ensures.value in
     let content : c.in_ok-content.content ≡ decoded op.group.m op.block (pieces_of op.state.counted) =
     c.in_ok-content.ensures.value ∙ ap (decoded op.group.m op.block) (all_pieces version op.state.counted told) in
     c.end_look.ensures.next

@@ -13,12 +13,12 @@ decode-requires-clause-seats c =
     let v = c.args.version in
     let m_is : c.m-m.result ≡ inside.group.m = c.m-m.ensures.value ∙ c.policy.ensures.m in
     let few : length inside.group.members ≤ 32 = omega (arith, c.policy.ensures.limits.few_seats) in
-    let needed : inside.group.m ≤ length (pieces_at v inside.counted.items) = subst
+    let needed : inside.group.m ≤ length (pieces_at v inside.replies.list.items) = subst
     (λ (op : Operation). op.group.m ≤ length (pieces_at v op.state.counted)) (sym c.self.view_is) c.requires in
-    let enough : c.m-m.result ≤ length (pieces_at v inside.counted.items) = omega (arith, needed, m_is) in
-    (give_back _ _ _ v _ _ _ c.self.invariant few enough
-    (c.deref.ensures.value ∙ c.in_ok-seats.ensures ∙ ap (λ counted. seats_of (pieces_at v counted)) c.as_slice.ensures.value)
-    (c.deref-2.ensures.value ∙ c.in_ok-blocks.ensures ∙ ap (λ counted. blocks_of (pieces_at v counted)) c.as_slice-2.ensures.value)).at_seats
+    let enough : c.m-m.result ≤ length (pieces_at v inside.replies.list.items) = omega (arith, needed, m_is) in
+    (give_back _ _ _ v _ _ _ c.self.invariant.0 few enough
+    (c.deref.ensures.value ∙ c.in_ok-seats.ensures ∙ ap (λ counted. seats_of (pieces_at v counted)) c.as_slice.ensures)
+    (c.deref-2.ensures.value ∙ c.in_ok-blocks.ensures ∙ ap (λ counted. blocks_of (pieces_at v counted)) c.as_slice-2.ensures)).at_seats
 
 pub decode-requires-clause-long : goal.decode-requires-clause-long
 decode-requires-clause-long c =
@@ -26,12 +26,12 @@ decode-requires-clause-long c =
     let v = c.args.version in
     let m_is : c.m-m.result ≡ inside.group.m = c.m-m.ensures.value ∙ c.policy.ensures.m in
     let few : length inside.group.members ≤ 32 = omega (arith, c.policy.ensures.limits.few_seats) in
-    let needed : inside.group.m ≤ length (pieces_at v inside.counted.items) = subst
+    let needed : inside.group.m ≤ length (pieces_at v inside.replies.list.items) = subst
     (λ (op : Operation). op.group.m ≤ length (pieces_at v op.state.counted)) (sym c.self.view_is) c.requires in
-    let enough : c.m-m.result ≤ length (pieces_at v inside.counted.items) = omega (arith, needed, m_is) in
-    (give_back _ _ _ v _ _ _ c.self.invariant few enough
-    (c.deref.ensures.value ∙ c.in_ok-seats.ensures ∙ ap (λ counted. seats_of (pieces_at v counted)) c.as_slice.ensures.value)
-    (c.deref-2.ensures.value ∙ c.in_ok-blocks.ensures ∙ ap (λ counted. blocks_of (pieces_at v counted)) c.as_slice-2.ensures.value)).long
+    let enough : c.m-m.result ≤ length (pieces_at v inside.replies.list.items) = omega (arith, needed, m_is) in
+    (give_back _ _ _ v _ _ _ c.self.invariant.0 few enough
+    (c.deref.ensures.value ∙ c.in_ok-seats.ensures ∙ ap (λ counted. seats_of (pieces_at v counted)) c.as_slice.ensures)
+    (c.deref-2.ensures.value ∙ c.in_ok-blocks.ensures ∙ ap (λ counted. blocks_of (pieces_at v counted)) c.as_slice-2.ensures)).long
 
 pub slice_bounds-decode-end-2 : goal.slice_bounds-decode-end-2
 slice_bounds-decode-end-2 c = sym (decode-requires-clause-long c)
@@ -42,16 +42,16 @@ returns-clause-value c =
     let v = c.args.version in
     let m_is : c.m-m.result ≡ inside.group.m = c.m-m.ensures.value ∙ c.policy.ensures.m in
     let few : length inside.group.members ≤ 32 = omega (arith, c.policy.ensures.limits.few_seats) in
-    let needed : inside.group.m ≤ length (pieces_at v inside.counted.items) = subst
+    let needed : inside.group.m ≤ length (pieces_at v inside.replies.list.items) = subst
     (λ (op : Operation). op.group.m ≤ length (pieces_at v op.state.counted)) (sym c.self.view_is) c.requires in
-    let enough : c.m-m.result ≤ length (pieces_at v inside.counted.items) = omega (arith, needed, m_is) in
-    let back = give_back _ _ _ v _ _ _ c.self.invariant few enough
-    (c.deref.ensures.value ∙ c.in_ok-seats.ensures ∙ ap (λ counted. seats_of (pieces_at v counted)) c.as_slice.ensures.value)
-    (c.deref-2.ensures.value ∙ c.in_ok-blocks.ensures ∙ ap (λ counted. blocks_of (pieces_at v counted)) c.as_slice-2.ensures.value) in
+    let enough : c.m-m.result ≤ length (pieces_at v inside.replies.list.items) = omega (arith, needed, m_is) in
+    let back = give_back _ _ _ v _ _ _ c.self.invariant.0 few enough
+    (c.deref.ensures.value ∙ c.in_ok-seats.ensures ∙ ap (λ counted. seats_of (pieces_at v counted)) c.as_slice.ensures)
+    (c.deref-2.ensures.value ∙ c.in_ok-blocks.ensures ∙ ap (λ counted. blocks_of (pieces_at v counted)) c.as_slice-2.ensures) in
     IfOk-weaker c.decode.result _ _
     (λ content is.
     is _ back.first
-    ∙ ap (λ m. decoded m inside.block (pieces_at v inside.counted.items)) m_is
+    ∙ ap (λ m. decoded m inside.block (pieces_at v inside.replies.list.items)) m_is
     ∙ ap (λ (op : Operation). decoded op.group.m op.block (pieces_at v op.state.counted)) c.self.view_is)
     c.decode.ensures
 

@@ -49,7 +49,7 @@ fewer_replies block group c n is =
     }
 
 -- one more reply
-all-more : {X : Type 0} (p : X → Bool) (xs : List X) (x : X) → list_all p xs ≡ true → p x ≡ true → list_all p (xs ++ (x ∷ [])) ≡ true
+pub all-more : {X : Type 0} (p : X → Bool) (xs : List X) (x : X) → list_all p xs ≡ true → p x ≡ true → list_all p (xs ++ (x ∷ [])) ≡ true
 all-more p [] x all here = and_from (p x) true here refl
 all-more p (y ∷ xs) x all here =
     let parts = and_parts (p y) (list_all p xs) all in and_from (p y) (list_all p (xs ++ (x ∷ []))) parts.0 (all-more p xs x parts.1 here)
@@ -61,7 +61,7 @@ seat-more seat (c ∷ counted) x none other =
     let parts = or_parts (nat_eq c.seat seat) (has_seat seat counted) none in
     or_from (nat_eq c.seat seat) (has_seat seat (counted ++ (x ∷ []))) parts.0 (seat-more seat counted x parts.1 other)
 
-apart-more : (counted : List Counted) (x : Counted) → are_apart counted ≡ true → has_seat x.seat counted ≡ false
+pub apart-more : (counted : List Counted) (x : Counted) → are_apart counted ≡ true → has_seat x.seat counted ≡ false
     → are_apart (counted ++ (x ∷ [])) ≡ true
 apart-more [] x apart none = refl
 apart-more (c ∷ counted) x apart none =
