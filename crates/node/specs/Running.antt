@@ -14,6 +14,7 @@ use Rattle.fab_base.specs.Layouts.{Layout}
 use Rattle.protocol.specs.Coordinators.{Coordinator}
 use Rattle.protocol.specs.Nodes as machine
 use Rattle.replica.specs.Parts.{part_in, IsPartsOf, IsFirstView}
+use Rattle.replica.specs.Reactions.{KeepsOtherViews}
 use Rattle.node.specs.declared.open_calls.OpenCalls.{OpenCalls}
 use Rattle.node.specs.declared.operations.Operation.{Operation}
 use Rattle.node.specs.Operations.{coordinator_of}
@@ -78,6 +79,12 @@ LeavesBrick layout me node may_leave = (image : List ℕ) → may_leave image �
 -- the brick, with its store opened once more
 abbrev pub reopened : machine.Node → machine.Node
 reopened node = record node { boot = node.boot + 1 }
+
+-- What the machine does not see of a store is as it was: the views that were learnt and the ballots of each group, and what is kept of stripes in
+-- other views than the first.
+pub record KeepsUnseen (before after : StateOf Version) : Type 0 where
+  pub groups : after.groups ≡ before.groups
+  pub views : KeepsOtherViews before after
 
 -- it is the same brick of the same disk
 pub record IsSameBrick {D : Type 0} (old new : Running D) : Type 0 where

@@ -16,10 +16,11 @@ ghost use Rattle.messages.specs.declared.packets.Message.TheVariants as message;
 ghost use Rattle.stripe_code.specs.Codes.{coding};
 ghost use Rattle.replica.specs.Parts.{IsFirstView, part_seen};
 ghost use Rattle.replica.specs.Reactions.{member_step};
+ghost use Rattle.replica.specs.Handling.{KeepsParts};
 ghost use Rattle.coord_phase.specs.Messages.{packets_from};
 ghost use Rattle.node.specs.Faults.{halted_after, RefusesAs};
 ghost use Rattle.node.specs.States.{BeginsAs, StepsAs};
-ghost use Rattle.node.specs.Running.{shape_at, state_of, IsKept, ImageShows, ShowsEither, LeavesBrick, IsSameBrick, reopened};
+ghost use Rattle.node.specs.Running.{shape_at, state_of, IsKept, ImageShows, ShowsEither, LeavesBrick, KeepsUnseen, IsSameBrick, reopened};
 
 use crate::faults::NodeFault;
 use crate::open_calls::OpenCalls;
@@ -173,7 +174,8 @@ impl<D: Disk> Node<D> {
         Ok(self.calls.on_tick(self.alloc)?)
     }
 
-    /// Handles a message, at this time of the brick's clock. What it keeps of a request is on the disk before it answers.
+    /// Handles a message, at this time of the brick's clock. What it keeps of a request is on the disk before it answers; a message that
+    /// changes nothing that is kept makes no call of the disk.
     ///
     /// # Errors
     ///
@@ -185,6 +187,10 @@ impl<D: Disk> Node<D> {
         ensures few { IfOk result (λ outs. vec_len outs.messages ≤ 32) }
         ensures err { OnErr result (state_of self.new ≡ state_of self.old) }
         ensures same { IsSameBrick self.old self.new }
+        ensures unseen { KeepsUnseen self.old.brick.state self.new.brick.state }
+        // Where no stripe's part changes, nothing that is kept does, and no call of the disk is made.
+        ensures still { OnOk result (KeepsParts self.old.layout.block self.old.brick.state self.new.brick.state
+            → (self.new.brick.state ≡ self.old.brick.state) × IsUntouched D.seen D.may_leave D.moment D.left_since self.old.brick.disk self.new.brick.disk) }
         // After it a crash leaves only what shows the brick as it is now.
         ensures durable { D.tells → OnOk result (LeavesBrick self.old.layout self.old.me (state_of self.new) (D.may_leave self.new.brick.disk)) }
         // At each moment of the call each image shows the brick as it was, or with what the request makes it keep.
@@ -223,6 +229,9 @@ impl<D: Disk> Node<D> {
         ensures few { IfOk result (λ outs. vec_len outs.messages ≤ 32) }
         ensures err { OnErr result (state_of self.new ≡ state_of self.old) }
         ensures same { IsSameBrick self.old self.new }
+        ensures unseen { KeepsUnseen self.old.brick.state self.new.brick.state }
+        ensures still { OnOk result (KeepsParts self.old.layout.block self.old.brick.state self.new.brick.state
+            → (self.new.brick.state ≡ self.old.brick.state) × IsUntouched D.seen D.may_leave D.moment D.left_since self.old.brick.disk self.new.brick.disk) }
         ensures durable { D.tells → OnOk result (LeavesBrick self.old.layout self.old.me (state_of self.new) (D.may_leave self.new.brick.disk)) }
         ensures moments { D.tells → LeavesOnly D.moment D.left_since self.old.brick.disk self.new.brick.disk
             (ShowsEither self.old.layout self.old.me (state_of self.old)

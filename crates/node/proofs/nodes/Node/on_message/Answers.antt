@@ -1,8 +1,11 @@
 -- A reply leaves the store as it was.
-use Rattle.std.proofs.Common.{◌≡◌, false, sym, subst}
+use Rattle.std.proofs.Common.{◌≡◌, false, refl, sym, subst}
 use Rattle.std.specs.Result.{OnOk}
+use Rattle.fab_disk.specs.Disk.{IsUntouched}
 use Rattle.brick_store.specs.Bricks.{Brick}
-use Rattle.node.specs.Running.{state_of, LeavesBrick}
+use Rattle.replica.specs.Handling.{KeepsParts}
+use Rattle.node.specs.Running.{state_of, LeavesBrick, KeepsUnseen}
+use Rattle.node.proofs.Moments.{untouched_same}
 use Rattle.node.proofs.States.{on_ok}
 use Rattle.node.proofs.nodes.Node.on_message.Goals as goal
 
@@ -17,3 +20,17 @@ returns-in-Reply-clause-durable g c = λ told.
     subst (λ (b : Brick g.row.D.Denot). OnOk c.on_reply.result (LeavesBrick old.layout old.me (state_of new) (d.may_leave b.disk)))
     (sym c.on_reply.ensures.brick)
     (on_ok c.on_reply.result leaves)
+
+pub returns-in-Reply-clause-unseen : goal.returns-in-Reply-clause-unseen
+returns-in-Reply-clause-unseen g c =
+    let old = c.args.self.now.brick in
+    subst (λ (b : Brick g.row.D.Denot). KeepsUnseen old.state b.state) (sym c.on_reply.ensures.brick)
+    (record { groups = refl; views = λ group view stripe other. refl })
+
+pub returns-in-Reply-clause-still : goal.returns-in-Reply-clause-still
+returns-in-Reply-clause-still g c =
+    let d = g.D.Disk in
+    let old = c.args.self.now in
+    subst (λ (b : Brick g.row.D.Denot). OnOk c.on_reply.result (KeepsParts old.layout.block old.brick.state b.state
+    → (b.state ≡ old.brick.state) × IsUntouched d.seen d.may_leave d.moment d.left_since old.brick.disk b.disk)) (sym c.on_reply.ensures.brick)
+    (on_ok c.on_reply.result (λ same. (refl, untouched_same d.moment d.left_since d.seen d.may_leave old.brick.disk)))

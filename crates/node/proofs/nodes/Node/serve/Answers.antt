@@ -1,13 +1,14 @@
 -- What follows of the store is what the machine's brick does.
 use Rattle.std.proofs.Common.{◌≡◌, false, inl, sym, ◌∙◌, ap, subst}
 use Rattle.fab_base.specs.declared.identities.BrickId.{BrickId}
-use Rattle.fab_disk.specs.Disk.{LeavesOnly}
+use Rattle.fab_disk.specs.Disk.{IsUntouched, LeavesOnly}
+use Rattle.frame_store.specs.declared.shapes.Shape.{Shape}
 use Rattle.protocol.specs.declared.tellings.Told.TheVariants.{Nothing}
 use Rattle.coord_phase.specs.Messages.{packets_from}
 use Rattle.replica.specs.Reactions.{IsStep, member_step}
-use Rattle.replica.specs.Handling.{OpensAsEither}
+use Rattle.replica.specs.Handling.{OpensAsEither, KeepsParts}
 use Rattle.node.specs.States.{StepsAs}
-use Rattle.node.specs.Running.{Running, running, state_of, ShowsEither, LeavesBrick}
+use Rattle.node.specs.Running.{Running, running, state_of, ShowsEither, LeavesBrick, KeepsUnseen}
 use Rattle.node.proofs.Views.{kept_so, leaves_so, same_kept}
 use Rattle.node.proofs.Moments.{leaves_more, leaves_still}
 use Rattle.node.proofs.States.{on_err}
@@ -110,3 +111,18 @@ returns-clause-moments g c = λ told.
     c.self.view_is
     (leaves_more d.moment d.left_since old.disk new.disk _ _
     (follows_shown x.layout x.calls old from message shape (kept_so x.layout x.calls old c.self.invariant)) moved)
+
+pub returns-clause-unseen : goal.returns-clause-unseen
+returns-clause-unseen g c =
+    let is = c.in_ok-answer.ensures.ok in
+    subst (λ (n : Running g.row.D.Denot). KeepsUnseen n.brick.state c.handle.new.store.state) c.self.view_is (record { groups = is.groups; views = is.views })
+
+pub returns-clause-still : goal.returns-clause-still
+returns-clause-still g c =
+    let d = g.D.Disk in
+    let x = c.self.inside in
+    let new = c.handle.new.store in
+    subst (λ (n : Running g.row.D.Denot). KeepsParts n.layout.block n.brick.state new.state → (new.state ≡ n.brick.state)
+    × IsUntouched d.seen d.may_leave d.moment d.left_since n.brick.disk new.disk) c.self.view_is
+    (λ same. c.in_ok-answer.ensures.still
+    (subst (λ (s : Shape). KeepsParts s.block x.store.state new.state) (sym c.self.invariant.shape_is) same))
