@@ -11,19 +11,19 @@ use Rattle.fab_base.specs.Layouts.{Layout}
 use Rattle.protocol.specs.Nodes.{Node, restarted, no_calls}
 use Rattle.replica.specs.Parts.{part_in}
 use Rattle.node.specs.declared.open_calls.OpenCalls.{OpenCalls}
-use Rattle.node.specs.States.{Parts, state_with, parts_in}
+use Rattle.node.specs.States.{KeptParts, state_with, parts_in}
 use Rattle.node.specs.Running.{running, state_of, shape_at, ImageShows, ShowsEither, LeavesBrick, reopened}
 use Rattle.node.proofs.States.{same_states}
 use Rattle.node.proofs.Views.{seen_so}
 use Rattle.node.proofs.Moments.{leaves_more}
 
 -- a brick of which no call was made, and no time known
-abbrev pub fresh_node : ℕ → Parts → Node
+abbrev pub fresh_node : ℕ → KeptParts → Node
 fresh_node boot parts = record { boot = boot; seq = 0; known = 0; busy = 0; live = parts.live; replicas = parts.replicas; calls = no_calls }
 
 -- over a store that was opened once more, the brick is the one that the image showed, restarted
 pub restarts_so : {D : Type 0} (layout : Layout) (me : BrickId) (calls : OpenCalls) (store : Brick D) (boot : ℕ) (node : Node) (image : List ℕ)
-    → calls.stamps.boot ≡ store.state.boot → boot ≡ store.state.boot → ((parts : Parts) → state_with parts calls ≡ fresh_node boot parts)
+    → calls.stamps.boot ≡ store.state.boot → boot ≡ store.state.boot → ((parts : KeptParts) → state_with parts calls ≡ fresh_node boot parts)
     → (shows : ImageShows layout me node image) → store.state ≡ booted (shows.st.boot + 1) shows.st
     → state_of (running layout calls store) ≡ restarted 1 node
 unfolding restarted

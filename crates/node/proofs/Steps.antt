@@ -8,14 +8,14 @@ use Rattle.stripe_code.specs.Codes.{coding}
 use Rattle.node.specs.declared.open_calls.OpenCalls.{OpenCalls}
 use Rattle.node.specs.declared.outs.Begun.{Begun}
 use Rattle.node.specs.declared.outs.Outs.{Outs}
-use Rattle.node.specs.States.{Parts, state_with, parts_in, BeginsAs, StepsAs}
+use Rattle.node.specs.States.{KeptParts, state_with, parts_in, BeginsAs, StepsAs}
 use Rattle.node.specs.Running.{running, state_of}
 use Rattle.node.proofs.Views.{seen_so}
 
 module _ {D : Type 0} (layout : Layout) (before after : OpenCalls) (store : Brick D) (boot : before.stamps.boot ≡ store.state.boot) where
   -- an operation that the open calls begin, the brick begins
   pub begins_so : (now : ℕ) (ask : Ask) (group : Group) (begun : Begun) → after.stamps.boot ≡ before.stamps.boot → group_of layout ask.group.0 ≡ Some group
-      → ((parts : Parts) → BeginsAs before.me (state_with parts after)
+      → ((parts : KeptParts) → BeginsAs before.me (state_with parts after)
       (began_in (coding layout) group before.me (state_with parts before) (new_coordinator before.me now (state_with parts before) ask)) begun)
       → BeginsAs before.me (state_of (running layout after store)) (invoked (coding layout) before.me now (state_of (running layout before store)) ask) begun
   unfolding invoked
@@ -31,7 +31,7 @@ module _ {D : Type 0} (layout : Layout) (before after : OpenCalls) (store : Bric
 
   -- a step of the open calls is the brick's
   pub steps_so : (step : Node → NodeStep) (outs : Outs) → after.stamps.boot ≡ before.stamps.boot
-      → ((parts : Parts) → StepsAs before.me (state_with parts after) (step (state_with parts before)) outs)
+      → ((parts : KeptParts) → StepsAs before.me (state_with parts after) (step (state_with parts before)) outs)
       → StepsAs before.me (state_of (running layout after store)) (step (state_of (running layout before store))) outs
   steps_so step outs stays steps =
       subst (λ (s : Node). StepsAs before.me s (step (state_of (running layout before store))) outs) (sym (seen_so layout after store (stays ∙ boot)))
@@ -39,7 +39,7 @@ module _ {D : Type 0} (layout : Layout) (before after : OpenCalls) (store : Bric
       (steps (parts_in layout.block store.state)))
 
   -- where the calls are as they were, so is the brick
-  pub stays_so : after.stamps.boot ≡ before.stamps.boot → ((parts : Parts) → state_with parts after ≡ state_with parts before)
+  pub stays_so : after.stamps.boot ≡ before.stamps.boot → ((parts : KeptParts) → state_with parts after ≡ state_with parts before)
       → state_of (running layout after store) ≡ state_of (running layout before store)
   stays_so stays same =
       seen_so layout after store (stays ∙ boot) ∙ same (parts_in layout.block store.state) ∙ sym (seen_so layout before store boot)

@@ -20,16 +20,16 @@ use Rattle.node.specs.Operations.{coordinator_of, IsOperationOf}
 use Rattle.protocol.specs.Nodes as machine
 
 -- what a brick keeps of stripes: how many live records, and its part of each stripe, by group and stripe
-pub record Parts : Type 0 where
+pub record KeptParts : Type 0 where
   pub live : ℕ
   pub replicas : ℕ → ℕ → Replica
 
 -- what a store's state keeps of stripes whose blocks have this many bytes
-abbrev pub parts_in : ℕ → StateOf Version → Parts
+abbrev pub parts_in : ℕ → StateOf Version → KeptParts
 parts_in block st = record { live = live st; replicas = part_in block st }
 
 -- the state of a brick that keeps these parts and has these calls open
-unfoldable pub state_with : Parts → OpenCalls → machine.Node
+unfoldable pub state_with : KeptParts → OpenCalls → machine.Node
 state_with parts calls =
     record {
       boot = calls.stamps.boot;

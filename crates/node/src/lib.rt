@@ -2,12 +2,12 @@
 //! protocol's machine says, from the brick's own state and the message alone, and what it keeps is kept before it answers.
 #![tactic(auto)]
 
-mod admissions;
 pub mod faults;
 pub mod nodes;
 pub mod open_calls;
 pub mod operations;
 pub mod outs;
+mod refusals;
 mod sending;
 
 pub use faults::NodeFault;

@@ -304,6 +304,7 @@ impl<D: Disk> Node<D> {
         ensures kept { IsKept self.now.layout.block self.now.brick.state (state_of self.now) }
         ensures shape { self.now.brick.shape ≡ shape_at self.now.layout self.now.me }
     {
+        // The clauses speak of the whole brick, so all of it is looked at.
         let _ = &self.calls;
         self.store.is_halted()
     }

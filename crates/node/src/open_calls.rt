@@ -5,9 +5,9 @@ ghost use Rattle.std.specs.BTreeMap as tree;
 ghost use Rattle.std.specs.Ordering.{nat_cmp};
 ghost use Rattle.protocol.specs.Nodes.{known_after, fresh_stamp};
 
-use crate::admissions::{has_block, has_later_time, has_length};
 use crate::operations::Operation;
 use crate::outs::{Begun, Outs};
+use crate::refusals::{has_block, has_later_time, has_length};
 use fab_base::{Ask, BrickId, CallId, NoMem, Refusal, Stamp, ViewNo};
 use layout::{Group, Layout};
 use messages::{Call, Messages, Packet, Reply};
@@ -60,13 +60,13 @@ impl OpenCalls {
     ghost use Rattle.messages.specs.declared.packets.Message.TheVariants as message;
     ghost use Rattle.stripe_code.specs.Codes.{coding};
     ghost use Rattle.coord_phase.specs.Messages.{packets_from};
-    ghost use Rattle.node.specs.States.{state_with, Parts, AreCallsOf, AreCallsAfter, BeginsAs, StepsAs};
+    ghost use Rattle.node.specs.States.{state_with, KeptParts, AreCallsOf, AreCallsAfter, BeginsAs, StepsAs};
 
     /// No operation is open, and none was since the store was opened for the so-manieth time.
     pub(crate) fn new(alloc: Global, me: BrickId, boot: u32) -> OpenCalls
         ensures me { result.me ≡ me }
         ensures boot { result.stamps.boot ≡ boot }
-        ensures state { (parts : Parts) → state_with parts result ≡ record { boot = boot; seq = 0; known = 0; busy = 0; live = parts.live; replicas = parts.replicas; calls = no_calls } }
+        ensures state { (parts : KeptParts) → state_with parts result ≡ record { boot = boot; seq = 0; known = 0; busy = 0; live = parts.live; replicas = parts.replicas; calls = no_calls } }
         ensures calls { (layout : layouts.Layout) → AreCallsOf layout result }
     {
         let stamps = StampSource::new(boot);
@@ -104,7 +104,7 @@ impl OpenCalls {
     /// block; the bytes are not one block, or m blocks; 64 operations are open; no later time or call number is left.
     #[tactic(auto, unfolding(crate::specs::States::state_with))]
     pub(crate) fn refusal(&self, block: u16, group: &Group, ask: &Ask) -> Option<Refusal>
-        ensures value { (parts : Parts) → result ≡ refusal_in block (state_with parts self.now) ask.now (Some group.now) }
+        ensures value { (parts : KeptParts) → result ≡ refusal_in block (state_with parts self.now) ask.now (Some group.now) }
         ensures known { result ≡ None → self.now.stamps.known + 1 < 2 ^ 64 }
         ensures room { result ≡ None → btree_map_len self.now.operations < 64 }
         ensures seq { result ≡ None → self.now.seq + 1 < 2 ^ 64 }
@@ -128,7 +128,7 @@ impl OpenCalls {
     /// The group that is asked for, where the brick begins the operation; else why it does not.
     #[tactic(auto, unfolding(protocol::specs::Nodes::refusal_of))]
     pub(crate) fn admit<'a>(&self, layout: &'a Layout, ask: &Ask) -> Result<&'a Group, Refusal>
-        ensures refused { (parts : Parts) → result_err result ≡ refusal_of layout.now (state_with parts self.now) ask.now }
+        ensures refused { (parts : KeptParts) → result_err result ≡ refusal_of layout.now (state_with parts self.now) ask.now }
         ensures group { IfOk result (λ group. group_of layout.now ask.now.group.0 ≡ Some group.now) }
         ensures room { OnOk result (btree_map_len self.now.operations < 64) }
         ensures known { OnOk result (self.now.stamps.known + 1 < 2 ^ 64) }
@@ -167,10 +167,10 @@ impl OpenCalls {
         requires group { group_of layout.now ask.now.group.0 ≡ Some group.now }
         requires fits { has_length group.now.m layout.now.block ask.now.op ≡ true }
         requires node { AreCallsOf layout.now self.old }
-        ensures begun { (parts : Parts) → IfOk result
+        ensures begun { (parts : KeptParts) → IfOk result
             (BeginsAs self.old.me (state_with parts self.new) (began_in (coding layout.now) group.now self.old.me (state_with parts self.old)
             (new_coordinator self.old.me now (state_with parts self.old) ask.now))) }
-        ensures err { OnErr result ((parts : Parts) → state_with parts self.new ≡ state_with parts self.old) }
+        ensures err { OnErr result ((parts : KeptParts) → state_with parts self.new ≡ state_with parts self.old) }
         ensures me { self.new.me ≡ self.old.me }
         ensures boot { self.new.stamps.boot ≡ self.old.stamps.boot }
         ensures node { AreCallsOf layout.now self.new }
@@ -210,10 +210,10 @@ impl OpenCalls {
     ) -> Result<Outs, NoMem>
         requires reply { packet.now.message ≡ message.Reply call reply.now }
         requires node { AreCallsOf layout.now self.old }
-        ensures step { (parts : Parts) → IfOk result (StepsAs self.old.me (state_with parts self.new)
+        ensures step { (parts : KeptParts) → IfOk result (StepsAs self.old.me (state_with parts self.new)
             (replied (coding layout.now) self.old.me now packet.now.from (state_with parts self.old) call reply.now)) }
         ensures few { IfOk result (λ outs. vec_len outs.messages ≤ 32) }
-        ensures err { OnErr result ((parts : Parts) → state_with parts self.new ≡ state_with parts self.old) }
+        ensures err { OnErr result ((parts : KeptParts) → state_with parts self.new ≡ state_with parts self.old) }
         ensures node { AreCallsOf layout.now self.new }
         ensures me { self.new.me ≡ self.old.me }
         ensures boot { self.new.stamps.boot ≡ self.old.stamps.boot }
@@ -256,7 +256,7 @@ impl OpenCalls {
     /// At a tick of the brick's clock each open operation, in the order of beginning, sends its present phase again to each member
     /// without a reply that counts.
     pub(crate) fn on_tick(&self, alloc: Global) -> Result<Messages, NoMem>
-        ensures packets { IfOk result (λ messages. (layout : layouts.Layout) (parts : Parts) → AreCallsOf layout self.now
+        ensures packets { IfOk result (λ messages. (layout : layouts.Layout) (parts : KeptParts) → AreCallsOf layout self.now
             → packets_from self.now.me messages.items ≡ ticked (coding layout) self.now.me (state_with parts self.now)) }
         ensures few { IfOk result (λ messages. vec_len messages ≤ 2048) }
     {

@@ -95,6 +95,7 @@ fn seat_served(layout: &Layout, me: BrickId, call: Call, request: &Request) -> O
     ensures group { IsSome result → call.group.0 < 64 }
     ensures fits { IsSome result → IsTrue (fits_block layout.now.block request.now) }
 {
+    // Both calls only tell limits: a layout has at most 64 groups, and a group at most 32 seats.
     let _ = layout.group_count();
     let group = layout.group(call.group)?;
     let _ = group.policy();

@@ -176,6 +176,7 @@ pub(crate) fn decide(
         (part_seen part.now) request.now) }
     ensures change { IfOk result (λ plan. IsChange block (part_seen part.now) plan) }
 {
+    // Only the clauses speak of a block's length.
     let _ = block;
     match request {
         Request::Read { want } => read(alloc, part, is_wanted(*want, seat)),

@@ -12,7 +12,7 @@ use Rattle.stripe_code.specs.Codes.{coding}
 use Rattle.coord_phase.specs.Operations as phased
 use Rattle.node.specs.declared.operations.Operation.{Operation}
 use Rattle.node.specs.Operations.{shown_of, coordinator_of}
-use Rattle.node.specs.States.{Parts, state_with, IsAt}
+use Rattle.node.specs.States.{KeptParts, state_with, IsAt}
 use Rattle.node.proofs.States.{same_states, on_err}
 use Rattle.node.proofs.Tables.{shown_after, same_calls, each_after, each_same, one_more}
 use Rattle.node.proofs.Sent.{made_is}
@@ -25,7 +25,7 @@ returns-in_err-insert-clause-err c =
     let m = c.args.self.now.operations in
     let n = c.insert.new.self in
     let entries = c.in_err-insert.ensures.err in
-    let same : (parts : Parts) → record (state_with parts c.args.self.now) {
+    let same : (parts : KeptParts) → record (state_with parts c.args.self.now) {
       busy = btree_map_len n;
       calls = λ k. option_map coordinator_of
           (get nat_cmp n k);

@@ -18,7 +18,7 @@ use Rattle.protocol.specs.declared.tellings.Told.{Told}
 use Rattle.node.specs.declared.operations.Operation.{Operation}
 use Rattle.node.specs.Operations.{shown_of, coordinator_of}
 use Rattle.node.specs.Decisions.{or_waits, known_by, left_by, left_open, CarriesOut}
-use Rattle.node.specs.States.{Parts, state_with, IsAt}
+use Rattle.node.specs.States.{KeptParts, state_with, IsAt}
 use Rattle.node.proofs.States.{steps_as, same_states, on_err}
 use Rattle.node.proofs.Tables.{shown_after, each_after}
 use Rattle.node.proofs.Replied.{put_held, no_call, replied_is, busy_after, does_node, does_send, does_tell, calls_left, goes_if_open}
@@ -57,7 +57,7 @@ returns-in_err-outs-clause-err c =
     let held : f c.args.call.seq ≡ Some (coordinator_of after) =
     ap (option_map coordinator_of) (sym c.in-Some.ensures.value) ∙ ap (λ (k : Coordinator). Some k) (sym c.in_err-outs.ensures.same) in
     let now = c.get_mut.follows.lender after in
-    let same : (parts : Parts) → record (state_with parts c.args.self.now) {
+    let same : (parts : KeptParts) → record (state_with parts c.args.self.now) {
       busy = btree_map_len now;
       calls = λ k. option_map coordinator_of (get nat_cmp now k);
     } ≡ state_with parts c.args.self.now =
