@@ -1,5 +1,5 @@
 -- A tally is that of the replies that count.
-use Rattle.std.proofs.Common.{◌≡◌, ◌≢◌, ℕ, zero, suc, ◌+◌, ◌<◌, ◌≤◌, Bool, true, false, not, cond, if◌then◌else◌, ◌||◌, List, [], ◌∷◌, ◌++◌, length, Option, Some, None, get_or, set, refl, sym, ◌∙◌, ap, subst, ⊎_elim, arith}
+use Rattle.std.proofs.Common.{◌≡◌, ◌≢◌, ℕ, zero, suc, ◌<◌, ◌≤◌, Bool, true, false, not, cond, if◌then◌else◌, ◌||◌, List, [], ◌∷◌, ◌++◌, length, Option, Some, None, get_or, refl, sym, ◌∙◌, ap, subst, ⊎_elim, arith}
 use Rattle.std.specs.Prelude.{nat_eq, nat_lt, filter, replicate}
 use Rattle.std.specs.List.{list_all}
 use Rattle.std.proofs.lemmas.Bool.{and_parts, and_from, or_parts, or_from, not-true, lt-ltb, ltb-true, eqb-false, ne_eqb, eq-eqb, cases_eq, cases_Bool, false≢true}
@@ -12,7 +12,7 @@ use Rattle.fab_base.proofs.StampOrder.{stamp_same_refl, stamp_same_true}
 use Rattle.messages.specs.declared.replies.Reply.{Reply}
 use Rattle.messages.specs.declared.replies.Reply.TheVariants.{Found, OrderedRead}
 use Rattle.protocol.specs.declared.phases.Counted.{Counted}
-use Rattle.protocol.specs.Coordinators.{has_seat, told_stamp, finds, pieces_of, pieces_at}
+use Rattle.protocol.specs.Coordinators.{has_seat, told_stamp, finds, pieces_at}
 use Rattle.quorum.specs.declared.seats.Seat.{Seat}
 use Rattle.quorum.specs.declared.seats.Seat.TheVariants as seat
 use Rattle.quorum.specs.Quorums.{Scheme, count, with_seat}

@@ -1,5 +1,5 @@
 -- What a phase sends.
-use Rattle.std.specs.Prelude.{ℕ, ◌+◌, if◌then◌else◌, List, [], ◌∷◌, map}
+use Rattle.std.specs.Prelude.{◌≡◌, ℕ, ◌+◌, if◌then◌else◌, List, [], ◌∷◌, length, map}
 use Rattle.fab_base.specs.declared.identities.BrickId.{BrickId}
 use Rattle.messages.specs.declared.calls.Call.{Call}
 use Rattle.messages.specs.declared.packets.Message.{Message}
@@ -7,8 +7,9 @@ use Rattle.messages.specs.declared.packets.Packet.{Packet}
 use Rattle.messages.specs.declared.requests.Request.{Request}
 use Rattle.fab_base.specs.Layouts.{Group}
 use Rattle.protocol.specs.declared.phases.Counted.{Counted}
-use Rattle.protocol.specs.Coordinators.{Coordinator, has_seat, request_of}
-use Rattle.stripe_code.specs.Codes.{block_code}
+use Rattle.protocol.specs.declared.phases.Phase.TheVariants.{Stores}
+use Rattle.protocol.specs.Coordinators.{Coordinator, has_seat, request_of, stored_content}
+use Rattle.stripe_code.specs.Codes.{block_code, AreParity}
 use Rattle.coord_phase.specs.Operations.{Operation}
 
 -- one request to each member whose reply is not counted, in the order of seats, the first of them at this seat
@@ -25,6 +26,11 @@ asked_of block group c = to_silent c.counted c.call (request_of (block_code bloc
 -- the messages of an operation's phase: as it begins they go to all members, and later to those without a counted reply
 abbrev pub phase_messages : Operation → List (BrickId × Message)
 phase_messages op = asked_of op.block op.group op.state
+
+-- these are the parity blocks of what an operation stores, in the phase that stores it
+abbrev pub HasParity : Operation → List ℕ → Type 0
+HasParity op parity =
+    op.state.phase ≡ Stores → AreParity op.group.m (length op.group.members) op.block (stored_content op.state) parity
 
 -- the machine's packets for messages of this brick
 abbrev pub packets_from : BrickId → List (BrickId × Message) → List Packet

@@ -1,21 +1,54 @@
 //! The messages of a phase.
 
 use crate::operations::Operation;
-use fab_base::NoMem;
+use fab_base::{Bytes, NoMem};
 use messages::{Look, Message, Messages, Request, Want};
 use protocol::Phase;
 use std::alloc::Global;
 
 impl Operation {
-    ghost use Rattle.std.specs.Prelude.{◌≡◌, ◌<◌, IfOk};
+    ghost use Rattle.std.specs.Prelude.{◌≡◌, ◌<◌, IfOk, length};
     ghost use Rattle.stripe_code.specs.Codes.{block_code};
-    ghost use Rattle.protocol.specs.Coordinators.{request_of};
-    ghost use Rattle.coord_phase.specs.Messages.{phase_messages};
+    ghost use Rattle.protocol.specs.declared.phases.Phase.TheVariants.{Stores};
+    ghost use Rattle.protocol.specs.Coordinators.{request_of, stored_content};
+    ghost use Rattle.coord_phase.specs.Messages.{phase_messages, HasParity};
 
-    /// What the phase asks of the member at a seat.
+    /// All parity blocks of what the phase stores, made in one pass; none where it stores nothing.
+    fn parity(&self, alloc: Global) -> Result<Bytes, NoMem>
+        ensures { IfOk result (HasParity self.now) }
+    {
+        match self.stage.phase {
+            Phase::Stores => {
+                let policy = self.group.policy();
+                stripe_code::parity(alloc, policy.m(), policy.n(), self.block, self.stored())
+            }
+            Phase::Looks | Phase::Orders | Phase::Recovers | Phase::Descends(_) => {
+                Ok(Bytes::empty(alloc))
+            }
+        }
+    }
+
+    /// The block that the member at a seat is to keep, of which there are the parity blocks.
+    fn block_at(&self, alloc: Global, seat: u8, parity: &[u8]) -> Result<Bytes, NoMem>
+        requires stores { self.now.state.phase ≡ Stores }
+        requires seat { seat < length self.now.group.members }
+        requires parity { HasParity self.now parity.now }
+        ensures { IfOk result (λ block. block ≡ (block_code self.now.block).encode self.now.group.m (stored_content self.now.state) seat) }
+    {
+        let m = self.group.policy().m();
+        if seat < m {
+            return stripe_code::encode(alloc, m, self.block, self.stored(), seat);
+        }
+        let size = self.block as usize;
+        let at = (seat - m) as usize * size;
+        Bytes::from_slice(alloc, &parity[at..at + size])
+    }
+
+    /// What the phase asks of the member at a seat. What it stores has these parity blocks.
     #[tactic(auto, unfolding(protocol::specs::Coordinators::request_of))]
-    fn request(&self, alloc: Global, seat: u8) -> Result<Request, NoMem>
-        requires { seat < 32 }
+    fn request(&self, alloc: Global, seat: u8, parity: &[u8]) -> Result<Request, NoMem>
+        requires seat { seat < length self.now.group.members }
+        requires parity { HasParity self.now parity.now }
         ensures { IfOk result (λ request. request ≡ request_of (block_code self.now.block) self.now.group.m self.now.state seat) }
     {
         let stamp = self.stage.stamp;
@@ -32,11 +65,10 @@ impl Operation {
                 look: Look::Below(bound),
                 want: Want::All,
             }),
-            Phase::Stores => {
-                let m = self.group.policy().m();
-                let block = stripe_code::encode(alloc, m, self.block, self.stored(), seat)?;
-                Ok(Request::Write { stamp, block })
-            }
+            Phase::Stores => Ok(Request::Write {
+                stamp,
+                block: self.block_at(alloc, seat, parity)?,
+            }),
         }
     }
 
@@ -44,13 +76,14 @@ impl Operation {
     pub fn messages(&self, alloc: Global) -> Result<Messages, NoMem>
         ensures { IfOk result (λ messages. messages.items ≡ phase_messages self.now) }
     {
+        let parity = self.parity(alloc)?;
         let mut messages = Vec::new(alloc);
         for (seat, member) in self.group.members().as_slice().iter().enumerate() {
             let seat = seat as u8;
             if self.has_reply(seat) {
                 continue;
             }
-            let request = self.request(alloc, seat)?;
+            let request = self.request(alloc, seat, parity.as_slice())?;
             messages.push((*member, Message::Request(self.stage.call, request)))?;
         }
         Ok(messages)

@@ -1,8 +1,8 @@
 -- The disk's code, as the machine is told it: block k of a stripe's content, and the content that blocks at m seats give back.
-use Rattle.std.specs.Prelude.{◌≡◌, ℕ, ◌≤◌, List, [], length, map, take, slice_index, slice_index_or}
+use Rattle.std.specs.Prelude.{◌≡◌, ℕ, ◌-◌, ◌*◌, ◌<◌, ◌≤◌, List, [], length, map, take, slice_index, slice_index_or}
 use Rattle.std.specs.List.{concat, range_with_len, AllByRecursion}
 use Rattle.rs_code.specs.Codewords.{weighted_sum}
-use Rattle.rs_code.specs.Stripes.{coded_block}
+use Rattle.rs_code.specs.Stripes.{coded_block, block_of}
 use Rattle.fab_base.specs.Layouts.{Layout}
 use Rattle.protocol.specs.Settings.{Piece, Code, Setting, IsSound}
 use Rattle.layout.specs.Limits.{IsLayout}
@@ -32,6 +32,11 @@ decoded m size pieces = concat (map (decoded_block m size (take m pieces)) (rang
 -- the code of blocks of this many bytes
 abbrev pub block_code : ℕ → Code
 block_code size = record { encode = λ m content seat. coded_block m size content seat; decode = λ m pieces. decoded m size pieces }
+
+-- these are, one after the other, the blocks that the members at the seats from m up to n keep of a content
+pub record AreParity (m n size : ℕ) (content parity : List ℕ) : Type 0 where
+  pub long : length parity ≡ (n - m) * size
+  pub each : (seat : ℕ) → m ≤ seat → seat < n → block_of size parity (seat - m) ≡ (block_code size).encode m content seat
 
 -- a disk of this layout with this code
 abbrev pub coding : Layout → Setting

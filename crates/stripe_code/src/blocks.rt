@@ -3,8 +3,7 @@
 ghost use Rattle.std.specs.Prelude.{◌≡◌, ℕ, ◌-◌, ◌*◌, ◌<◌, ◌≤◌, List, length, IfOk};
 ghost use Rattle.protocol.specs.Settings.{Piece};
 ghost use Rattle.rs_code.specs.Codewords.{AreSeats};
-ghost use Rattle.rs_code.specs.Stripes.{block_of};
-ghost use Rattle.stripe_code.specs.Codes.{block_code, AreFirst};
+ghost use Rattle.stripe_code.specs.Codes.{block_code, AreFirst, AreParity};
 
 use fab_base::{Bytes, NoMem};
 use rs_code::{Code, Encoder, MAX_BLOCKS};
@@ -37,8 +36,7 @@ pub fn parity(alloc: Global, m: u8, n: u8, size: u16, content: &[u8]) -> Result<
     requires data_among_blocks { m ≤ n }
     requires few_blocks { n ≤ 32 }
     requires long { length content.now ≡ m * size }
-    ensures { IfOk result (λ blocks. (seat : ℕ) → m ≤ seat → seat < n
-        → block_of size blocks (seat - m) ≡ (block_code size).encode m content.now seat) }
+    ensures { IfOk result (AreParity m n size content.now) }
 {
     let size = size as usize;
     let mut blocks = vec![in alloc; 0; (n - m) as usize * size]?;
