@@ -155,14 +155,14 @@ impl Index {
     /// Makes a change. False where the record can't be: then nothing is changed. It takes no memory where
     /// [`Index::reserve`] made room for the record.
     #[tactic(auto, unfolding(crate::specs::Folds::applied))]
-    pub fn apply(&mut self, record: &Record) -> Result<bool, NoMem>
-        ensures answer { IfOk result (Answers (state_of self.new) (applied (limits_of self.old) record.now (state_of self.old))) }
+    pub fn apply(&mut self, change: &Record) -> Result<bool, NoMem>
+        ensures answer { IfOk result (Answers (state_of self.new) (applied (limits_of self.old) change.now (state_of self.old))) }
         ensures refused { result ≡ Ok false → state_of self.new ≡ state_of self.old }
         ensures err { OnErr result (state_of self.new ≡ state_of self.old) }
         ensures limits { limits_of self.new ≡ limits_of self.old }
-        ensures enough { IsReady self.old record.now → IsOk result }
+        ensures enough { IsReady self.old change.now → IsOk result }
     {
-        match record {
+        match change {
             Record::Kept(Kept::Boot(count)) => {
                 self.boot = *count;
                 Ok(true)

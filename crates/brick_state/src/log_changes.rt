@@ -8,7 +8,7 @@ ghost use Rattle.brick_state.specs.Folds.{log_changed, same_added, is_above, slo
 
 use crate::stripe_maps;
 use crate::stripe_tables::StripeTable;
-use crate::stripes::{Entry, Place, Stripe, ZERO_SLOT};
+use crate::stripes::{Entry, Place, ZERO_SLOT};
 use fab_base::Stamp;
 use stamp_store::LogChange;
 use version_log::Version;

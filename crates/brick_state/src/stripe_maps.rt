@@ -12,7 +12,6 @@ ghost use Rattle.brick_state.specs.Folds.{log_changed, same_added, is_above, slo
 
 use crate::stripes::{Entry, Place, Stripe, ZERO_SLOT};
 use fab_base::{NoMem, Stamp};
-use stamp_store::LogChange;
 use std::alloc::Global;
 use std::collections::BTreeMap;
 

@@ -1,7 +1,6 @@
 -- What all replies tell is decoded from the blocks that they tell.
-use Rattle.std.proofs.Common.{◌≡◌, ℕ, true, List, Some, None, ap, ◌∙◌, subst}
+use Rattle.std.proofs.Common.{◌≡◌, ℕ, true, List, Some, None, ap, ◌∙◌}
 use Rattle.fab_base.specs.declared.answers.Answer.TheVariants.{Data}
-use Rattle.protocol.specs.declared.phases.Counted.{Counted}
 use Rattle.protocol.specs.Coordinators.{Ends, all_tell, fast_version, answered_fast, pieces_of}
 use Rattle.stripe_code.specs.Codes.{block_code, decoded}
 use Rattle.coord_stripe.proofs.FastReads.{all_pieces, enough_pieces}

@@ -2,8 +2,6 @@
 use Rattle.std.proofs.Common.{◌≡◌, ℕ, Option, Some, List, Result, sym, ap, subst, ◌∙◌}
 use Rattle.fab_base.specs.declared.identities.BrickId.{BrickId}
 use Rattle.fab_base.specs.declared.stamps.Stamp.{Stamp}
-use Rattle.messages.specs.declared.calls.Call.{Call}
-use Rattle.messages.specs.declared.requests.Request.{Request}
 use Rattle.messages.specs.declared.packets.Message.{Message}
 use Rattle.messages.specs.declared.replies.Reply.{Reply}
 use Rattle.replica.specs.declared.faults.ReplicaFault.{ReplicaFault}
@@ -17,7 +15,7 @@ use Rattle.protocol.specs.Replicas.{Replica, Reaction, handle}
 use Rattle.replica.specs.Parts.{part_of, part_seen, part_in}
 use Rattle.replica.specs.Plans.{planned}
 use Rattle.replica.specs.Reactions.{full_in, seat_served, IsReacted, IsStep}
-use Rattle.replica.specs.Handling.{me_of, seen_as, Handles}
+use Rattle.replica.specs.Handling.{me_of, Handles}
 use Rattle.replica.proofs.Answering.{handles_seen}
 use Rattle.replica.proofs.Stepping.{step_served}
 use Rattle.replica.proofs.handling.handle.Goals as goal

@@ -1,5 +1,5 @@
 -- The seat's place is within the tally.
-use Rattle.std.proofs.Common.{◌≡◌, ◌<◌, take, ap, sym, ◌∙◌, subst}
+use Rattle.std.proofs.Common.{◌≡◌, ◌<◌, ap, sym, ◌∙◌, subst}
 use Rattle.std.proofs.lemmas.List.{get_or-take}
 use Rattle.std.specs.Prelude.{slice_index_or}
 use Rattle.quorum.specs.declared.seats.Seat.TheVariants.{Silent}
