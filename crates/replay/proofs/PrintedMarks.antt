@@ -14,7 +14,7 @@ use Rattle.protocol.specs.declared.tellings.Told.{Told}
 use Rattle.protocol.specs.declared.tellings.Told.TheVariants as told
 use Rattle.protocol.specs.Nodes.{NodeStep, put, is_stripe_op, refusal_of, invoked, received}
 use Rattle.protocol.specs.Worlds.{World, number_of, is_brick, is_up, may_start, world_began, world_stepped, world_ticked, world_stopped, world_started, replies_with, delivered, packet_of, happens}
-use Rattle.world.specs.Runs.{brick_of, ask_of, after_line, after_lines}
+use Rattle.world.specs.Runs.{brick_of, ask_of, op_of, after_line, after_lines}
 use Rattle.world.specs.Texts.{mark_text, marks_text, new_marks, outcome_of, outcome_text, refused_or_begun, handled_or_idle}
 use Rattle.world.specs.declared.simulations.Outcome.{Outcome}
 use Rattle.world.specs.declared.simulations.Outcome.TheVariants.{Marks, Refused, Idle}
@@ -110,11 +110,11 @@ invoked_printed w next true true (Some refusal) printed = printed_refused w refu
 line_printed : (setting : Setting) (w : World) (line : Line) → IsPrinted w (after_line setting w line) (outcome_of setting w line)
 unfolding happens
 line_printed setting w Nothing = printed_none w w refl
-line_printed setting w (Invoke b g s op) =
+line_printed setting w (Invoke b g s access) =
     let brick : BrickId = brick_of b in
-    let ask : Ask = ask_of g s op in
+    let ask : Ask = ask_of g s (op_of access) in
     let step : NodeStep = invoked setting brick (w.clocks brick.0) (w.nodes brick.0) ask in
-    invoked_printed w (world_began w brick ask step) (is_up setting.layout w brick) (is_stripe_op op)
+    invoked_printed w (world_began w brick ask step) (is_up setting.layout w brick) (is_stripe_op (op_of access))
     (refusal_of setting.layout (w.nodes brick.0) ask) (printed_more w (world_began w brick ask step)
     (mark.Begin (length w.marks) (w.begun + 1) brick ask ∷ []) refl)
 line_printed setting w (Deliver k) = delivered_printed setting w (packet_of w.packets k)
