@@ -30,10 +30,14 @@ unfoldable pub client_fields : Codec ClientAsk
 client_fields = seen made_client (λ a. (a.id, (a.group, (a.stripe, (a.op, (a.block, a.bytes)))))) (λ a. refl) (λ p. refl)
     (pair u64_codec (pair group_codec (pair stripe_codec (pair op_codec (pair u8_codec content_codec)))))
 
+-- the last of what holds of the six fields
+of_bytes : {A B C D E F : Type 0} → A × (B × (C × (D × (E × F)))) → F
+of_bytes (id, (group, (stripe, (op, (block, bytes))))) = bytes
+
 -- an invocation that fits keeps its limits
 pub client_within : (ask : ClientAsk) → AllFit (client_fields.parts ask) → ContentFits ask.bytes
 unfolding client_fields
-client_within ask fits = (client_fields.within ask fits).1.1.1.1.1
+client_within ask fits = of_bytes (client_fields.within ask fits)
 
 abbrev pub client_codec : Codec ClientAsk
 client_codec = limited_to (λ ask. ContentFits ask.bytes) client_fields client_within
