@@ -34,7 +34,7 @@ use std::alloc::Global;
 /// for its marks, `IsStrict` (`specs/Strict.antt` of `reg_model`). The schedules that are accepted are those
 /// that end with status 0.
 ///
-/// However far a run comes, all laws of the disk hold of what its lines left (`Laws` of `protocol`), and what
+/// However far a run comes, all laws of the disk hold of what its lines left (`Laws` of `protocol_laws`), and what
 /// further lines leave follows it: no brick has lowered what it had promised or stored, or added a version
 /// below that, and no version that was lost has surfaced (`Succeeds`, `specs/Histories.antt`).
 pub fn replay<S: Source, K: Sink>(
