@@ -18,7 +18,7 @@ use Rattle.fields.specs.Parts.{Part, Limited, Fits, AllFit, number_bytes, bytes_
 use Rattle.fields.specs.Reading.{find}
 use Rattle.fields.specs.Values.{ContentFits, brick_codec, group_codec, stripe_codec, view_number_codec, stamp_codec, content_codec}
 use Rattle.fab_wire.specs.Values.{op_codec}
-use Rattle.fab_wire.specs.declared.numbers.TheConstants.{STATUS_DATA, STATUS_DONE, STATUS_LATER, STATUS_GONE, STATUS_FULL, STATUS_MOVED, STATUS_NO_STRIPE, STATUS_NO_BLOCK, STATUS_LENGTH, STATUS_BUSY, STATUS_SPENT}
+use Rattle.fab_wire.specs.Format.{STATUS_DATA, STATUS_DONE, STATUS_LATER, STATUS_GONE, STATUS_FULL, STATUS_MOVED, STATUS_NO_STRIPE, STATUS_NO_BLOCK, STATUS_LENGTH, STATUS_BUSY, STATUS_SPENT}
 
 -- ---- an invocation: id, group, stripe, operation, data block, bytes
 

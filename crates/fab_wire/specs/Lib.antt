@@ -1,3 +1,4 @@
+pub mod Format
 pub mod Values
 pub mod Requests
 pub mod Replies

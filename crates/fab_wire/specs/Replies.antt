@@ -10,7 +10,7 @@ use Rattle.fields.specs.Reading.{Reads, as_at, find_or, find_last}
 use Rattle.fields.specs.Numbers.{find_last_is}
 use Rattle.fields.specs.Values.{stamp_codec, ballot_codec, view_number_codec}
 use Rattle.fab_wire.specs.Values.{version_codec, pair_of_choice, choice_of, choice_codec, pair_of_lineage, lineage_of, lineage_codec}
-use Rattle.fab_wire.specs.declared.numbers.TheConstants.{FOUND, ORDERED, ORDERED_READ, STORED, BEHIND, LATER, FULL, MOVED, OLD, RETIRED, PROMISE, ACCEPTED, OUTBID, NOT_SYNCED}
+use Rattle.fab_wire.specs.Format.{FOUND, ORDERED, ORDERED_READ, STORED, BEHIND, LATER, FULL, MOVED, OLD, RETIRED, PROMISE, ACCEPTED, OUTBID, NOT_SYNCED}
 
 -- the kinds, in the order of their numbers
 pub data ReplyKind : Type 0 where

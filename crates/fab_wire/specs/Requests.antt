@@ -10,7 +10,7 @@ use Rattle.fields.specs.Reading.{Reads, as_at, find_or, find_last}
 use Rattle.fields.specs.Numbers.{find_last_is}
 use Rattle.fields.specs.Values.{HasMembers, BlockFits, stamp_codec, ballot_codec, members_codec, block_codec}
 use Rattle.fab_wire.specs.Values.{WantFits, want_codec, look_codec, data_block_codec}
-use Rattle.fab_wire.specs.declared.numbers.TheConstants.{READ, ORDER, ORDER_READ, WRITE, MODIFY, COLLECT, OLD_READ, PREPARE, ACCEPT}
+use Rattle.fab_wire.specs.Format.{READ, ORDER, ORDER_READ, WRITE, MODIFY, COLLECT, OLD_READ, PREPARE, ACCEPT}
 
 -- the kinds, in the order of their numbers
 pub data RequestKind : Type 0 where

@@ -19,7 +19,7 @@ use Rattle.fab_wire.specs.Values.{call_codec}
 use Rattle.fab_wire.specs.Requests.{RequestKind, Read, Accept, request_number, request_kinds, request_of, request_kind, request_row, request_made, request_at, request_same, request_parts, RequestFits, each_request, request_from}
 use Rattle.fab_wire.specs.Replies.{ReplyKind, Found, NotSynced, reply_number, reply_kinds, reply_of, reply_kind, reply_row, reply_made, reply_at, reply_same, reply_parts, ReplyFits, each_reply, reply_from}
 use Rattle.fab_wire.specs.Clients.{AnswerFits, client_codec, answer_codec}
-use Rattle.fab_wire.specs.declared.numbers.TheConstants.{FABW, VERSION, READ, ACCEPT, LEARN, SYNCED, FOUND, NOT_SYNCED, CLIENT, CLIENT_REPLY}
+use Rattle.fab_wire.specs.Format.{FABW, VERSION, READ, ACCEPT, LEARN, SYNCED, FOUND, NOT_SYNCED, CLIENT, CLIENT_REPLY}
 
 -- ---- the kinds of messages
 

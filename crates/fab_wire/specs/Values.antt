@@ -25,7 +25,7 @@ use Rattle.fields.specs.Reading.{find, limited_at}
 use Rattle.fields.specs.Laws.{IsPlain}
 use Rattle.fields.specs.Numbers.{Stands, listed, limited8, chosen, chosen_some}
 use Rattle.fields.specs.Values.{BlockFits, group_codec, stripe_codec, view_number_codec, stamp_codec, ballot_codec, members_codec, block_codec}
-use Rattle.fab_wire.specs.declared.numbers.TheConstants.{ALL_SEATS, READ_BLOCK, WRITE_BLOCK, READ_STRIPE, WRITE_STRIPE}
+use Rattle.fab_wire.specs.Format.{ALL_SEATS, READ_BLOCK, WRITE_BLOCK, READ_STRIPE, WRITE_STRIPE}
 
 -- boot, seq, phase, group, view, stripe
 abbrev pub made_call : ℕ × (ℕ × (ℕ × (GroupId × (ViewNo × StripeNo)))) → Call
