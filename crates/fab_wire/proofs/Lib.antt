@@ -1,3 +1,2 @@
-pub mod Writings
 pub mod WholeMessages
 pub mod Sizes

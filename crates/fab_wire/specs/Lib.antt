@@ -1,4 +1,3 @@
-pub mod Format
 pub mod Values
 pub mod Requests
 pub mod Replies

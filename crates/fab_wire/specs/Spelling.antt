@@ -1,25 +1,29 @@
 -- The bytes of messages: FABW, the version, the number of the kind, and its fields.
-use Rattle.std.proofs.Common.{◌≡◌, ℕ, Bool, true, false, cond, leb, ◌&&◌, ◌<◌, ◌≤◌, ◌^◌, List, [], ◌∷◌, ◌++◌, length, Option, Some, Result, Ok, Err, refl, sym, ap, ◌∙◌, arith, inl, inr}
-use Rattle.std.proofs.lemmas.Bool.{leb-true, and_parts}
+use Rattle.std.proofs.Common.{◌≡◌, ℕ, ◌&&◌, ◌<◌, ◌≤◌, List, [], ◌∷◌, ◌++◌, length, Option, Some, Result, Ok, Err, refl, ap, arith}
 use Rattle.std.specs.Prelude.{nat_le, ◌==◌, if◌then◌else◌}
-use Rattle.fab_wire.specs.declared.faults.WireFault.{WireFault}
-use Rattle.fab_wire.specs.declared.faults.WireFault.TheVariants.{Malformed, NoMemory}
+use Rattle.fab_base.specs.declared.identities.GroupId.{GroupId}
+use Rattle.fab_base.specs.declared.identities.ViewNo.{ViewNo}
+use Rattle.fab_base.specs.declared.member_lists.View.{View}
+use Rattle.fab_wire.specs.declared.datagrams.WireFault.{WireFault}
+use Rattle.fab_wire.specs.declared.datagrams.WireFault.TheVariants.{Malformed, NoMemory}
+use Rattle.messages.specs.declared.calls.Call.{Call}
+use Rattle.messages.specs.declared.clients.ClientAnswer.{ClientAnswer}
+use Rattle.messages.specs.declared.clients.ClientAsk.{ClientAsk}
 use Rattle.messages.specs.declared.packets.Message.{Message}
 use Rattle.messages.specs.declared.packets.Message.TheVariants as messages
 use Rattle.messages.specs.declared.requests.Request.{Request}
 use Rattle.messages.specs.declared.replies.Reply.{Reply}
-use Rattle.fields.specs.Codecs.{Codec, u64_codec, pair, seen, limited_to}
-use Rattle.fields.specs.Kinds.{Row, of, Kinds, IsKind, fields_at, kinds_at, kinds_law, kinds_within}
-use Rattle.fields.specs.Laws.{IsPlain, IsMade, same_reading, made_then}
-use Rattle.fields.specs.Numbers.{Stands, chosen, found_fits, found_or, exactly8, exactly32}
-use Rattle.fields.specs.Parts.{Part, Limited, Fits, AllFit, spelled, exactly}
-use Rattle.fields.specs.Reading.{Reads, ◌>>=◌, then_at, as_at, number_at, find, exactly_at}
+use Rattle.fields.specs.Codecs.{Codec, u64_codec, pair, seen, free, limited_to}
+use Rattle.fields.specs.Kinds.{kind_of, parts_of, LimitsOf, limits_within, read_of, kind_field, kinds_at, kinds_law}
+use Rattle.fields.specs.Laws.{IsField, IsPlain, IsMade, AllFit-back, made_field, pair_field}
+use Rattle.fields.specs.Numbers.{size1, size4, Stands, exact_stands, exactly_field}
+use Rattle.fields.specs.Parts.{Part, Limited, AllFit, spelled, exactly}
+use Rattle.fields.specs.Reading.{Reads, ◌>>=◌, then_at, as_at, find, exactly_at}
 use Rattle.fields.specs.Values.{HasMembers, ContentFits, group_codec, view_number_codec, view_codec}
 use Rattle.fab_wire.specs.Values.{call_codec}
-use Rattle.fab_wire.specs.Requests.{RequestKind, Read, Accept, request_number, request_kinds, request_of, request_kind, request_row, request_made, request_at, request_same, request_parts, RequestFits, each_request, request_from}
-use Rattle.fab_wire.specs.Replies.{ReplyKind, Found, NotSynced, reply_number, reply_kinds, reply_of, reply_kind, reply_row, reply_made, reply_at, reply_same, reply_parts, ReplyFits, each_reply, reply_from}
+use Rattle.fab_wire.specs.Requests.{RequestKind, Read, request_number, request_of, request_row, request_view, request_union}
+use Rattle.fab_wire.specs.Replies.{ReplyKind, Found, reply_number, reply_of, reply_row, reply_view, reply_union}
 use Rattle.fab_wire.specs.Clients.{AnswerFits, client_codec, answer_codec}
-use Rattle.fab_wire.specs.Format.{FABW, VERSION, READ, ACCEPT, LEARN, SYNCED, FOUND, NOT_SYNCED, CLIENT, CLIENT_REPLY}
 
 -- ---- the kinds of messages
 
@@ -34,213 +38,132 @@ pub data Kind : Type 0 where
 abbrev pub kind_number : Kind → ℕ
 kind_number (OfRequest kind) = request_number kind
 kind_number (OfReply kind) = reply_number kind
-kind_number Learn = LEARN
-kind_number Synced = SYNCED
-kind_number Client = CLIENT
-kind_number ClientReply = CLIENT_REPLY
-
-abbrev pub others : List Kind
-others = Learn ∷ Synced ∷ Client ∷ ClientReply ∷ []
+kind_number Learn = 10
+kind_number Synced = 11
+kind_number Client = 64
+kind_number ClientReply = 65
 
 -- the kind of a number
 abbrev pub kind_value : ℕ → Option Kind
 kind_value n =
-    if nat_le READ n && nat_le n ACCEPT then Some (OfRequest (request_of n)) else
-    if nat_le FOUND n && nat_le n NOT_SYNCED then Some (OfReply (reply_of n)) else find kind_number others n
+    if nat_le 1 n && nat_le n 9 then Some (OfRequest (request_of n)) else
+    if nat_le 32 n && nat_le n 45 then Some (OfReply (reply_of n)) else find kind_number (Learn ∷ Synced ∷ Client ∷ ClientReply ∷ []) n
 
-abbrev pub kind_of : Message → Kind
-kind_of (messages.Request call request) = OfRequest (request_kind request)
-kind_of (messages.Reply call reply) = OfReply (reply_kind reply)
-kind_of (messages.Learn group view) = Learn
-kind_of (messages.Synced group view) = Synced
-kind_of (messages.Client ask) = Client
-kind_of (messages.ClientReply id answer) = ClientReply
-
--- the fields of each kind
-abbrev pub kind_row : Kind → Row
-kind_row (OfRequest kind) = of (pair call_codec (request_row kind).codec)
-kind_row (OfReply kind) = of (pair call_codec (reply_row kind).codec)
-kind_row Learn = of (pair group_codec view_codec)
-kind_row Synced = of (pair group_codec view_number_codec)
-kind_row Client = of client_codec
-kind_row ClientReply = of (pair u64_codec answer_codec)
-
-abbrev pub message_made : (kind : Kind) → (kind_row kind).Value → Message
-message_made (OfRequest kind) (call, fields) = messages.Request call (request_made kind fields)
-message_made (OfReply kind) (call, fields) = messages.Reply call (reply_made kind fields)
-message_made Learn (group, view) = messages.Learn group view
-message_made Synced (group, view) = messages.Synced group view
-message_made Client ask = messages.Client ask
-message_made ClientReply (id, answer) = messages.ClientReply id answer
+abbrev pub message_kind : Message → Kind
+message_kind (messages.Request call request) = OfRequest (kind_of (request_view request))
+message_kind (messages.Reply call reply) = OfReply (kind_of (reply_view reply))
+message_kind (messages.Learn group view) = Learn
+message_kind (messages.Synced group view) = Synced
+message_kind (messages.Client ask) = Client
+message_kind (messages.ClientReply id answer) = ClientReply
 
 -- what is spelled after the kind
 abbrev pub body_parts : Message → List Part
-body_parts (messages.Request call request) = call_codec.parts call ++ request_parts request
-body_parts (messages.Reply call reply) = call_codec.parts call ++ reply_parts reply
+body_parts (messages.Request call request) = call_codec.parts call ++ parts_of (request_view request)
+body_parts (messages.Reply call reply) = call_codec.parts call ++ parts_of (reply_view reply)
 body_parts (messages.Learn group view) = group_codec.parts group ++ view_codec.parts view
 body_parts (messages.Synced group view) = group_codec.parts group ++ view_number_codec.parts view
 body_parts (messages.Client ask) = client_codec.parts ask
 body_parts (messages.ClientReply id answer) = u64_codec.parts id ++ answer_codec.parts answer
 
--- the message has a spelling: each number of its types has room in its field, and the other limits hold
+-- the message has a spelling: what its types leave open is as the fields ask
 abbrev pub HasSpelling : Message → Type 0
-HasSpelling (messages.Request call request) = RequestFits request
-HasSpelling (messages.Reply call reply) = ReplyFits reply
+HasSpelling (messages.Request call request) = LimitsOf (request_view request)
+HasSpelling (messages.Reply call reply) = LimitsOf (reply_view reply)
 HasSpelling (messages.Learn group view) = HasMembers view.members × HasMembers view.prior
 HasSpelling (messages.Synced group view) = Unit {0}
 HasSpelling (messages.Client ask) = ContentFits ask.bytes
 HasSpelling (messages.ClientReply id answer) = AnswerFits answer
 
-abbrev pub kind_part : Kind → Part
-kind_part kind = exactly (kind_number kind)
+-- how the fields of each kind are read
+abbrev pub body_at : Kind → Reads Message
+body_at (OfRequest kind) = as_at (λ p. messages.Request p.0 p.1) (then_at call_codec.read (read_of (request_row kind)))
+body_at (OfReply kind) = as_at (λ p. messages.Reply p.0 p.1) (then_at call_codec.read (read_of (reply_row kind)))
+body_at Learn = as_at (λ p. messages.Learn p.0 p.1) (then_at group_codec.read view_codec.read)
+body_at Synced = as_at (λ p. messages.Synced p.0 p.1) (then_at group_codec.read view_number_codec.read)
+body_at Client = as_at (λ ask. messages.Client ask) client_codec.read
+body_at ClientReply = as_at (λ p. messages.ClientReply p.0 p.1) (then_at u64_codec.read answer_codec.read)
 
 -- the number of a kind is its own
-known : (kind : Kind) → kind_value (kind_number kind) ≡ Some kind
-known (OfRequest Read) = refl
-known (OfRequest kind) = refl
-known (OfReply Found) = refl
-known (OfReply kind) = refl
-known kind = refl
+known : (kind : Kind) → kind_number kind < 256 → kind_value (kind_number kind) ≡ Some kind
+known (OfRequest Read) lt = refl
+known (OfRequest kind) lt = refl
+known (OfReply Found) lt = refl
+known (OfReply kind) lt = refl
+known kind lt = refl
 
--- a kind made of one of a group has the number of that one
-made_only : {A : Type 0} (number : A → ℕ) (made : A → Kind) (a : A) (n : ℕ) (kind : Kind) → n < 256 ^ 1 → number a ≡ n
-    → ((b : A) → kind_number (made b) ≡ number b) → made a ≡ kind → (kind_number kind ≡ n) × Fits (kind_part kind)
-made_only number made a n kind lt is numbers same =
-    let k : kind_number kind ≡ n = ap kind_number (sym same) ∙ numbers a ∙ is in
-    (k, (omega arith, (omega arith, omega arith)))
+pub kind_stands : Stands 1 (λ (kind : Kind). exactly (kind_number kind)) kind_value
+kind_stands = exact_stands kind_number kind_value known refl Synced (omega arith)
 
--- a number that stands for a kind is that kind's
-kind_only : (n : ℕ) (kind : Kind) → n < 256 ^ 1 → kind_value n ≡ Some kind → (kind_number kind ≡ n) × Fits (kind_part kind)
-kind_only n kind lt e =
-    elim (chosen (leb READ n && leb n ACCEPT) (Some (OfRequest (request_of n))) (cond (leb FOUND n && leb n NOT_SYNCED) (Some (OfReply (reply_of n)))
-    (find kind_number others n)) (Some kind) e) [
-      | inl w ↦
-          let both = and_parts (leb READ n) (leb n ACCEPT) w.0 in
-          made_only request_number (λ (k : RequestKind). OfRequest k) (request_of n) n kind lt
-          (found_or Accept request_number READ request_kinds (refl, (refl, (refl, (refl, (refl, (refl, (refl, (refl, tt)))))))) refl n (leb-true _ _ both.0) (leb-true _ _ both.1))
-          (λ b. refl) cc
-      | inr w ↦ elim (chosen (leb FOUND n && leb n NOT_SYNCED) (Some (OfReply (reply_of n))) (find kind_number others n) (Some kind) w.1) [
-        | inl v ↦
-            let both = and_parts (leb FOUND n) (leb n NOT_SYNCED) v.0 in
-            made_only reply_number (λ (k : ReplyKind). OfReply k) (reply_of n) n kind lt
-            (found_or NotSynced reply_number FOUND reply_kinds (refl, (refl, (refl, (refl, (refl, (refl, (refl, (refl, (refl, (refl, (refl, (refl, (refl, tt))))))))))))) refl n
-            (leb-true _ _ both.0) (leb-true _ _ both.1))
-            (λ b. refl) cc
-        | inr v ↦ found_fits kind_number others n kind lt v.1
-      ]
-    ]
+-- a message of each kind is made of its fields
+a_request : (kind : RequestKind) (m : Message) → message_kind m ≡ OfRequest kind
+    → IsMade (λ (p : Call × Request). kind_of (request_view p.1) ≡ kind) (λ p. messages.Request p.0 p.1) m
+a_request kind (messages.Request call request) e = record { from = (call, request); is = cc; same = refl }
+a_request kind m e = absurd cc
 
--- what is made of a kind's fields is of that kind, spells them and keeps their limits
-each_message : (kind : Kind) (v : (kind_row kind).Value)
-    → IsKind kind_part kind_of body_parts HasSpelling kind (kind_row kind).codec (message_made kind v) v
-each_message (OfRequest kind) v =
-    let e = each_request kind v.1 in
-    record { is = ap (λ (k : RequestKind). OfRequest k) e.is; spells = ap (λ (fs : List Part). call_codec.parts v.0 ++ fs) e.spells; keeps = λ t l. e.keeps t l.1 }
-each_message (OfReply kind) v =
-    let e = each_reply kind v.1 in
-    record { is = ap (λ (k : ReplyKind). OfReply k) e.is; spells = ap (λ (fs : List Part). call_codec.parts v.0 ++ fs) e.spells; keeps = λ t l. e.keeps t l.1 }
-each_message Learn v = record { is = refl; spells = refl; keeps = λ t l. l.1 }
-each_message Synced v = record { is = refl; spells = refl; keeps = λ t l. tt }
-each_message Client v = record { is = refl; spells = refl; keeps = λ t l. l }
-each_message ClientReply v = record { is = refl; spells = refl; keeps = λ t l. l.1 }
+a_reply : (kind : ReplyKind) (m : Message) → message_kind m ≡ OfReply kind
+    → IsMade (λ (p : Call × Reply). kind_of (reply_view p.1) ≡ kind) (λ p. messages.Reply p.0 p.1) m
+a_reply kind (messages.Reply call reply) e = record { from = (call, reply); is = cc; same = refl }
+a_reply kind m e = absurd cc
 
--- each message is made of fields of its kind
-message_from : (message : Message) → IsMade (λ (v : (kind_row (kind_of message)).Value). Unit {0}) (message_made (kind_of message)) message
-message_from (messages.Request call request) =
-    let f = request_from request in
-    record { from = (call, f.from); is = tt; same = ap (λ (r : Request). messages.Request call r) f.same }
-message_from (messages.Reply call reply) =
-    let f = reply_from reply in
-    record { from = (call, f.from); is = tt; same = ap (λ (r : Reply). messages.Reply call r) f.same }
-message_from (messages.Learn group view) = record { from = (group, view); is = tt; same = refl }
-message_from (messages.Synced group view) = record { from = (group, view); is = tt; same = refl }
-message_from (messages.Client ask) = record { from = ask; is = tt; same = refl }
-message_from (messages.ClientReply id answer) = record { from = (id, answer); is = tt; same = refl }
+a_learn : (m : Message) → message_kind m ≡ Learn → IsMade (λ (p : GroupId × View). Unit {0}) (λ p. messages.Learn p.0 p.1) m
+a_learn (messages.Learn group view) e = record { from = (group, view); is = tt; same = refl }
+a_learn m e = absurd cc
 
-pub kind_stands : Stands 1 kind_part kind_value
-kind_stands = record {
-  number = kind_number;
-  written = λ kind. refl;
-  there = λ kind fits. (fits.0, known kind);
-  only = kind_only;
-  example = Synced;
-  example_fits = (omega arith, (omega arith, omega arith));
-}
+a_synced : (m : Message) → message_kind m ≡ Synced → IsMade (λ (p : GroupId × ViewNo). Unit {0}) (λ p. messages.Synced p.0 p.1) m
+a_synced (messages.Synced group view) e = record { from = (group, view); is = tt; same = refl }
+a_synced m e = absurd cc
 
-pub message_kinds : Kinds kind_part kind_value kind_row message_made kind_of body_parts HasSpelling
-message_kinds = record { stands = kind_stands; each = each_message; from = message_from }
+a_client : (m : Message) → message_kind m ≡ Client → IsMade (λ (ask : ClientAsk). Unit {0}) (λ ask. messages.Client ask) m
+a_client (messages.Client ask) e = record { from = ask; is = tt; same = refl }
+a_client m e = absurd cc
+
+an_answer : (m : Message) → message_kind m ≡ ClientReply → IsMade (λ (p : ℕ × ClientAnswer). Unit {0}) (λ p. messages.ClientReply p.0 p.1) m
+an_answer (messages.ClientReply id answer) e = record { from = (id, answer); is = tt; same = refl }
+an_answer m e = absurd cc
+
+-- the messages of a kind are read as they are spelled
+body_field : (kind : Kind) → IsField (λ (m : Message). message_kind m ≡ kind) body_parts (body_at kind)
+body_field (OfRequest kind) = made_field (λ m. message_kind m ≡ OfRequest kind) body_parts (λ p. messages.Request p.0 p.1)
+    (λ p e. ap (λ (k : RequestKind). OfRequest k) e) (λ p e. refl) (a_request kind) (pair_field call_codec.law (kind_field request_union kind))
+body_field (OfReply kind) = made_field (λ m. message_kind m ≡ OfReply kind) body_parts (λ p. messages.Reply p.0 p.1)
+    (λ p e. ap (λ (k : ReplyKind). OfReply k) e) (λ p e. refl) (a_reply kind) (pair_field call_codec.law (kind_field reply_union kind))
+body_field Learn = made_field (λ m. message_kind m ≡ Learn) body_parts (λ p. messages.Learn p.0 p.1) (λ p u. refl) (λ p u. refl) a_learn
+    (pair group_codec view_codec).law
+body_field Synced = made_field (λ m. message_kind m ≡ Synced) body_parts (λ p. messages.Synced p.0 p.1) (λ p u. refl) (λ p u. refl) a_synced
+    (pair group_codec view_number_codec).law
+body_field Client = made_field (λ m. message_kind m ≡ Client) body_parts (λ ask. messages.Client ask) (λ ask u. refl) (λ ask u. refl) a_client client_codec.law
+body_field ClientReply = made_field (λ m. message_kind m ≡ ClientReply) body_parts (λ p. messages.ClientReply p.0 p.1) (λ p u. refl) (λ p u. refl) an_answer
+    (pair u64_codec answer_codec).law
+
+pub body_law : IsPlain (λ (m : Message). exactly (kind_number (message_kind m)) ∷ body_parts m) (kinds_at kind_value body_at)
+body_law = kinds_law kind_stands body_field
+
+pub body_within : (m : Message) → AllFit (body_parts m) → HasSpelling m
+body_within (messages.Request call request) fits = limits_within (request_view request) (AllFit-back (call_codec.parts call) (parts_of (request_view request)) fits)
+body_within (messages.Reply call reply) fits = limits_within (reply_view reply) (AllFit-back (call_codec.parts call) (parts_of (reply_view reply)) fits)
+body_within (messages.Learn group view) fits = ((pair group_codec view_codec).within (group, view) fits).1
+body_within (messages.Synced group view) fits = tt
+body_within (messages.Client ask) fits = client_codec.within ask fits
+body_within (messages.ClientReply id answer) fits = ((pair u64_codec answer_codec).within (id, answer) fits).1
 
 -- ---- messages
 
-pub fabw_law : IsPlain (λ (u : Unit {0}). Limited 4 FABW FABW FABW ∷ []) (exactly_at 4 FABW)
-fabw_law = exactly32 FABW (omega arith)
+-- FABW is 46414257 in hexadecimal digits
+pub fabw_law : IsPlain (λ (u : Unit {0}). Limited 4 1178681943 1178681943 1178681943 ∷ []) (exactly_at 4 1178681943)
+fabw_law = exactly_field size4 1178681943 (omega arith)
 
-pub format_law : IsPlain (λ (u : Unit {0}). Limited 1 VERSION VERSION VERSION ∷ []) (exactly_at 1 VERSION)
-format_law = exactly8 VERSION (omega arith)
-
-abbrev pub fabw_codec : Codec (Unit {0})
-fabw_codec = record { Limits = λ u. Unit {0}; parts = λ u. Limited 4 FABW FABW FABW ∷ []; read = exactly_at 4 FABW; law = fabw_law; within = λ u fits. tt }
-
-abbrev pub format_codec : Codec (Unit {0})
-format_codec = record { Limits = λ u. Unit {0}; parts = λ u. Limited 1 VERSION VERSION VERSION ∷ []; read = exactly_at 1 VERSION; law = format_law; within = λ u fits. tt }
-
--- how a message is read, by the number of its kind; so many bytes are left from the number on
-abbrev pub body_of : ℕ → ℕ → Reads Message
-body_of here n bytes =
-    if nat_le READ n && nat_le n ACCEPT then as_at (λ p. messages.Request p.0 p.1) (then_at call_codec.read (request_at n)) bytes else
-    if nat_le FOUND n && nat_le n NOT_SYNCED then as_at (λ p. messages.Reply p.0 p.1) (then_at call_codec.read (reply_at n)) bytes else
-    fields_at kind_row message_made here (find kind_number others n) bytes
-
-unfoldable pub body_at : Reads Message
-body_at bytes = number_at 1 bytes >>= λ x. body_of (length bytes) x.0 x.1
-
--- a function of one of three choices
-pick : {A B : Type 0} (f : A → B) (a b : Bool) (x y z : A) (r s : B) → f x ≡ r → f y ≡ s → f (cond a x (cond b y z)) ≡ cond a r (cond b s (f z))
-pick f true b x y z r s e1 e2 = e1
-pick f false true x y z r s e1 e2 = e2
-pick f false false x y z r s e1 e2 = refl
-
--- so a kind's fields are read
-body_same : (here n : ℕ) (bytes : List ℕ) → fields_at kind_row message_made here (kind_value n) bytes ≡ body_of here n bytes
-body_same here n bytes =
-    pick (λ (kind : Option Kind). fields_at kind_row message_made here kind bytes) (leb READ n && leb n ACCEPT) (leb FOUND n && leb n NOT_SYNCED)
-    (Some (OfRequest (request_of n))) (Some (OfReply (reply_of n))) (find kind_number others n)
-    (as_at (λ p. messages.Request p.0 p.1) (then_at call_codec.read (request_at n)) bytes)
-    (as_at (λ p. messages.Reply p.0 p.1) (then_at call_codec.read (reply_at n)) bytes)
-    (made_then (λ call request. messages.Request call request) (request_made (request_of n)) call_codec.read (request_row (request_of n)).codec.read
-    (request_at n) (request_same n) bytes)
-    (made_then (λ call reply. messages.Reply call reply) (reply_made (reply_of n)) call_codec.read (reply_row (reply_of n)).codec.read
-    (reply_at n) (reply_same n) bytes)
-
-body_reads_by : (here : ℕ) (r : Result (ℕ × List ℕ) ℕ)
-    → (r >>= λ x. fields_at kind_row message_made here (kind_value x.0) x.1) ≡ (r >>= λ x. body_of here x.0 x.1)
-body_reads_by here (Ok x) = body_same here x.0 x.1
-body_reads_by here (Err left) = refl
-
-body_reads : (bytes : List ℕ) → kinds_at kind_value kind_row message_made bytes ≡ body_at bytes
-unfolding body_at
-body_reads bytes = body_reads_by (length bytes) (number_at 1 bytes)
-
-pub body_law : IsPlain (λ (message : Message). kind_part (kind_of message) ∷ body_parts message) body_at
-body_law = same_reading (kinds_at kind_value kind_row message_made) body_at body_reads (kinds_law message_kinds)
-
-abbrev pub body_codec : Codec Message
-body_codec = record {
-  Limits = HasSpelling;
-  parts = λ message. kind_part (kind_of message) ∷ body_parts message;
-  read = body_at;
-  law = body_law;
-  within = kinds_within message_kinds;
-}
+pub version_law : IsPlain (λ (u : Unit {0}). exactly 1 ∷ []) (exactly_at 1 1)
+version_law = exactly_field size1 1 (omega arith)
 
 -- FABW, the version, the kind and its fields
 unfoldable pub message_fields : Codec Message
-message_fields = seen (λ p. p.1.1) (λ message. (tt, (tt, message))) (λ message. refl) (λ p. refl) (pair fabw_codec (pair format_codec body_codec))
+message_fields = seen (λ p. p.1.1) (λ message. (tt, (tt, message))) (λ message. refl) (λ p. refl) (pair (free fabw_law) (pair (free version_law) (free body_law)))
 
 -- a message that fits has a spelling
 pub message_within : (message : Message) → AllFit (message_fields.parts message) → HasSpelling message
 unfolding message_fields
-message_within message fits = (message_fields.within message fits).1.1
+message_within message fits = body_within message fits.1.1.1
 
 abbrev pub message_codec : Codec Message
 message_codec = limited_to HasSpelling message_fields message_within

@@ -1,7 +1,7 @@
 -- How the values of messages are spelled and read: calls, which seats and which entry are meant, versions, choices and lineages.
-use Rattle.std.proofs.Common.{◌≡◌, ℕ, cond, ltb, eqb, ◌<◌, ◌≤◌, ◌^◌, Bool, true, false, List, [], ◌∷◌, Option, Some, None, refl, sym, subst, arith, inl, inr}
+use Rattle.std.proofs.Common.{◌≡◌, ℕ, ◌<◌, ◌≤◌, ◌^◌, Bool, true, false, List, [], ◌∷◌, Option, Some, None, refl, arith}
 use Rattle.std.specs.Prelude.{nat_lt, ◌==◌, if◌then◌else◌}
-use Rattle.std.proofs.lemmas.Bool.{eqb-true, ltb-true, lt-ltb}
+use Rattle.std.proofs.lemmas.Bool.{lt-ltb}
 use Rattle.fab_base.specs.declared.identities.BrickId.{BrickId}
 use Rattle.fab_base.specs.declared.identities.GroupId.{GroupId}
 use Rattle.fab_base.specs.declared.identities.StripeNo.{StripeNo}
@@ -18,14 +18,13 @@ use Rattle.messages.specs.declared.requests.Look.{Look}
 use Rattle.messages.specs.declared.requests.Look.TheVariants.{Below, At}
 use Rattle.messages.specs.declared.replies.Choice.{Choice}
 use Rattle.messages.specs.declared.replies.Lineage.{Lineage}
-use Rattle.fields.specs.Codecs.{Codec, u32_codec, u64_codec, pair, seen, limited_to, byte_of}
-use Rattle.fields.specs.Kinds.{flag_codec, option}
+use Rattle.fields.specs.Codecs.{Codec, u32_codec, u64_codec, pair, seen, free, limited_to, byte_of}
+use Rattle.fields.specs.Kinds.{flag_codec}
 use Rattle.fields.specs.Parts.{Part, Limited, number_bytes, bytes_of, Fits, AllFit, exactly}
 use Rattle.fields.specs.Reading.{find, limited_at}
 use Rattle.fields.specs.Laws.{IsPlain}
-use Rattle.fields.specs.Numbers.{Stands, listed, limited8, chosen, chosen_some}
-use Rattle.fields.specs.Values.{BlockFits, group_codec, stripe_codec, view_number_codec, stamp_codec, ballot_codec, members_codec, block_codec}
-use Rattle.fab_wire.specs.Format.{ALL_SEATS, READ_BLOCK, WRITE_BLOCK, READ_STRIPE, WRITE_STRIPE}
+use Rattle.fields.specs.Numbers.{size1, Stands, byte_stands, exact_stands, limited_field}
+use Rattle.fields.specs.Values.{BlockFits, group_codec, stripe_codec, view_number_codec, stamp_codec, block_codec}
 
 -- boot, seq, phase, group, view, stripe
 abbrev pub made_call : ℕ × (ℕ × (ℕ × (GroupId × (ViewNo × StripeNo)))) → Call
@@ -37,7 +36,7 @@ call_fields = seen made_call (λ c. (c.boot, (c.seq, (c.phase, (c.group, (c.view
     (pair u32_codec (pair u64_codec (pair u32_codec (pair group_codec (pair view_number_codec stripe_codec)))))
 
 abbrev pub call_codec : Codec Call
-call_codec = limited_to (λ c. Unit {0}) call_fields (λ c fits. tt)
+call_codec = free call_fields.law
 
 -- stamp, bytes
 abbrev pub made_version : Stamp × List ℕ → Version
@@ -63,9 +62,6 @@ abbrev pub choice_of : Option (Ballot × List BrickId) → Option Choice
 choice_of None = None
 choice_of (Some (ballot, members)) = Some (record { ballot = ballot; members = members })
 
-abbrev pub choice_codec : Codec (Option (Ballot × List BrickId))
-choice_codec = option (pair ballot_codec members_codec)
-
 -- ---- the members of a view and those of the view before, if they are known
 
 abbrev pub pair_of_lineage : Option Lineage → Option (List BrickId × List BrickId)
@@ -76,9 +72,6 @@ abbrev pub lineage_of : Option (List BrickId × List BrickId) → Option Lineage
 lineage_of None = None
 lineage_of (Some (members, prior)) = Some (record { members = members; prior = prior })
 
-abbrev pub lineage_codec : Codec (Option (List BrickId × List BrickId))
-lineage_codec = option (pair members_codec members_codec)
-
 -- ---- which seats: one from 0 to 31, or 255 for all
 
 abbrev pub WantFits : Want → Type 0
@@ -87,14 +80,14 @@ WantFits All = Unit {0}
 
 abbrev pub want_part : Want → Part
 want_part (Seat seat) = Limited 1 0 31 seat
-want_part All = exactly ALL_SEATS
+want_part All = exactly 255
 
 abbrev pub want_value : ℕ → Option Want
-want_value n = if nat_lt n 32 then Some (Seat n) else if n == ALL_SEATS then Some All else None
+want_value n = if nat_lt n 32 then Some (Seat n) else if n == 255 then Some All else None
 
 abbrev want_number : Want → ℕ
 want_number (Seat seat) = seat
-want_number All = ALL_SEATS
+want_number All = 255
 
 -- seats are spelled by a number
 want_written : (w : Want) → bytes_of (want_part w) ≡ number_bytes 1 (want_number w)
@@ -106,21 +99,8 @@ want_there : (w : Want) → Fits (want_part w) → (want_number w < 256 ^ 1) × 
 want_there (Seat seat) fits = (fits.0, rw (lt-ltb seat 32 (omega (arith, fits.1.1))) refl)
 want_there All fits = (fits.0, refl)
 
--- a number that stands for seats is theirs, and they fit
-want_only : (n : ℕ) (w : Want) → n < 256 ^ 1 → want_value n ≡ Some w → (want_number w ≡ n) × Fits (want_part w)
-want_only n w lt e =
-    elim (chosen (ltb n 32) (Some (Seat n)) (cond (eqb n ALL_SEATS) (Some All) None) (Some w) e) [
-      | inl c ↦
-          let low : n < 32 = ltb-true _ _ c.0 in
-          let same : Seat n ≡ w = cc in
-          subst (λ (v : Want). (want_number v ≡ n) × Fits (want_part v)) same (refl, (lt, (omega arith, omega arith)))
-      | inr c ↦
-          let last = chosen_some (eqb n ALL_SEATS) All w c.1 in
-          subst (λ (v : Want). (want_number v ≡ n) × Fits (want_part v)) last.1 (sym (eqb-true _ _ last.0), (omega arith, (omega arith, omega arith)))
-    ]
-
 pub want_stands : Stands 1 want_part want_value
-want_stands = record { number = want_number; written = want_written; there = want_there; only = want_only; example = All; example_fits = (omega arith, (omega arith, omega arith)) }
+want_stands = byte_stands want_number want_part want_value want_written want_there refl All (omega arith, (omega arith, omega arith))
 
 pub want_within : (w : Want) → Fits (want_part w) → WantFits w
 want_within (Seat seat) fits = fits.1.1
@@ -149,26 +129,26 @@ look_forth (false, stamp) = refl
 look_forth (true, stamp) = refl
 
 abbrev pub look_codec : Codec Look
-look_codec = limited_to (λ look. Unit {0}) (seen look_of pair_of_look look_back look_forth (pair flag_codec stamp_codec)) (λ look fits. tt)
+look_codec = free (seen look_of pair_of_look look_back look_forth (pair flag_codec stamp_codec)).law
 
 -- ---- which operation
 
 abbrev pub op_number : ClientOp → ℕ
-op_number ReadBlock = READ_BLOCK
-op_number WriteBlock = WRITE_BLOCK
-op_number ReadStripe = READ_STRIPE
-op_number WriteStripe = WRITE_STRIPE
+op_number ReadBlock = 0
+op_number WriteBlock = 1
+op_number ReadStripe = 2
+op_number WriteStripe = 3
 
-abbrev pub ops : List ClientOp
-ops = ReadBlock ∷ WriteBlock ∷ ReadStripe ∷ WriteStripe ∷ []
+abbrev pub op_value : ℕ → Option ClientOp
+op_value = find op_number (ReadBlock ∷ WriteBlock ∷ ReadStripe ∷ WriteStripe ∷ [])
 
 -- the number of an operation is its own
-op_known : (op : ClientOp) → find op_number ops (op_number op) ≡ Some op
-op_known ReadBlock = refl
-op_known op = refl
+op_known : (op : ClientOp) → op_number op < 256 → op_value (op_number op) ≡ Some op
+op_known ReadBlock lt = refl
+op_known op lt = refl
 
-pub op_stands : Stands 1 (λ (op : ClientOp). exactly (op_number op)) (find op_number ops)
-op_stands = listed op_number ops op_known ReadBlock (omega arith)
+pub op_stands : Stands 1 (λ (op : ClientOp). exactly (op_number op)) op_value
+op_stands = exact_stands op_number op_value op_known refl ReadBlock (omega arith)
 
 abbrev pub op_codec : Codec ClientOp
 op_codec = byte_of (λ op. Unit {0}) (λ op fits. tt) op_stands
@@ -176,13 +156,7 @@ op_codec = byte_of (λ op. Unit {0}) (λ op fits. tt) op_stands
 -- ---- a data block is one of 16
 
 pub data_block_law : IsPlain (λ (n : ℕ). Limited 1 0 15 n ∷ []) (limited_at 1 0 15)
-data_block_law = limited8 0 15 (omega arith) (omega arith)
+data_block_law = limited_field size1 0 15 (omega arith) (omega arith)
 
 abbrev pub data_block_codec : Codec ℕ
-data_block_codec = record {
-  Limits = λ n. n ≤ 15;
-  parts = λ n. Limited 1 0 15 n ∷ [];
-  read = limited_at 1 0 15;
-  law = data_block_law;
-  within = λ n fits. fits.0.1.1;
-}
+data_block_codec = limited_to (λ n. n ≤ 15) (free data_block_law) (λ n fits. fits.0.1.1)

@@ -1,25 +1,44 @@
 //! Messages as the bytes of a datagram, and back.
 
-ghost use Rattle.std.specs.Prelude.{◌≡◌, ◌≤◌, ◌<◌, ◌+◌, ◌↔◌, List, ℕ, length, IfOk, IfErr, IfSome, IsNone, OnOk, ◌++◌};
+ghost use Rattle.std.specs.Prelude.{◌≡◌, ◌<◌, ◌+◌, ◌↔◌, List, ℕ, length, IfOk, IfErr, IfSome, IsNone};
 ghost use Rattle.messages.specs.declared.packets.Message.{Message};
-ghost use Rattle.fields.specs.Parts.{spelled, AllFit};
+ghost use Rattle.fields.specs.Parts.{Adds};
 ghost use Rattle.fields.specs.Reading.{GivesOrNoMemory, GivesAll};
 ghost use Rattle.fields.specs.Values.{ballot_codec, stamp_codec};
 ghost use Rattle.fab_wire.specs.Values.{call_codec};
 ghost use Rattle.fab_wire.specs.Spelling.{HasSpelling, fields_of, message_codec, datagram_of, Spells, MalformedIs, IsAt};
 
 use crate::clients::{put_answer, put_client, take_answer, take_client};
-use crate::faults::WireFault;
-use crate::numbers::{
-    ACCEPT, CLIENT, CLIENT_REPLY, FABW, FOUND, LEARN, NOT_SYNCED, READ, SYNCED, VERSION,
+use crate::phases::{
+    number_of_reply, number_of_request, put_reply, put_request, take_reply, take_request,
 };
-use crate::replies::{number_of_reply, put_reply, take_reply};
-use crate::requests::{number_of_request, put_request, take_request};
 use crate::values::{put_call, take_call};
 use fab_base::{Ballot, Bytes, NoMem, Stamp};
 use fields::{Field, ReadFault, Reader};
 use messages::{Call, Message};
 use std::alloc::Global;
+use thiserror::Error;
+
+/// The four bytes FABW that a message begins with.
+const FABW: u32 = 0x4641_4257;
+
+/// The version of the format.
+const VERSION: u8 = 1;
+
+/// Why a datagram was not decoded.
+#[derive(Clone, Copy, Debug, PartialEq, Eq, Error)]
+pub enum WireFault {
+    /// The bytes spell no message.
+    #[error("malformed at {at}")]
+    Malformed {
+        /// The place of the first byte of the first field that is cut short or has a value that is not allowed, or of the
+        /// first byte left over.
+        at: usize,
+    },
+    /// Memory ran out.
+    #[error("no memory")]
+    NoMemory,
+}
 
 /// The one spelling of a message. Asks that it has one: a list of members has at least one, a block at most 4,096 bytes, a
 /// client's bytes are at most 32,768, a seat is below 32, a data block below 16, and `Refusal::Down` is not sent.
@@ -61,14 +80,8 @@ pub fn read_call(bytes: &[u8], at: usize) -> Option<Call>
     ensures found { IfSome result (λ call. IsAt bytes.now at (call_codec.parts call)) }
     ensures none { IsNone result ↔ (length bytes.now < at + 28) }
 {
-    if at > bytes.len() {
-        return None;
-    }
-    let (_, rest) = bytes.split_at(at);
-    match take_call(&mut Reader { rest }) {
-        Ok(call) => Some(call),
-        Err(_) => None,
-    }
+    let rest = bytes.get(at..)?;
+    take_call(&mut Reader { rest }).ok()
 }
 
 /// The stamp at this place. None exactly where it does not end within the bytes.
@@ -76,14 +89,8 @@ pub fn read_stamp(bytes: &[u8], at: usize) -> Option<Stamp>
     ensures found { IfSome result (λ stamp. IsAt bytes.now at (stamp_codec.parts stamp)) }
     ensures none { IsNone result ↔ (length bytes.now < at + 18) }
 {
-    if at > bytes.len() {
-        return None;
-    }
-    let (_, rest) = bytes.split_at(at);
-    match Stamp::take(&mut Reader { rest }) {
-        Ok(stamp) => Some(stamp),
-        Err(_) => None,
-    }
+    let rest = bytes.get(at..)?;
+    Stamp::take(&mut Reader { rest }).ok()
 }
 
 /// The ballot at this place. None exactly where it does not end within the bytes.
@@ -91,22 +98,15 @@ pub fn read_ballot(bytes: &[u8], at: usize) -> Option<Ballot>
     ensures found { IfSome result (λ ballot. IsAt bytes.now at (ballot_codec.parts ballot)) }
     ensures none { IsNone result ↔ (length bytes.now < at + 10) }
 {
-    if at > bytes.len() {
-        return None;
-    }
-    let (_, rest) = bytes.split_at(at);
-    match Ballot::take(&mut Reader { rest }) {
-        Ok(ballot) => Some(ballot),
-        Err(_) => None,
-    }
+    let rest = bytes.get(at..)?;
+    Ballot::take(&mut Reader { rest }).ok()
 }
 
 /// Adds the message's bytes.
-#[tactic(auto, using(crate::proofs::Writings::joined), unfolding(crate::specs::Spelling::message_fields))]
+#[tactic(auto, using(fields::proofs::Writings::joined), unfolding(crate::specs::Spelling::message_fields))]
 fn put_message(out: &mut Vec<u8>, message: &Message) -> Result<(), NoMem>
     requires { HasSpelling message.now }
-    ensures bytes { OnOk result (out.new.items ≡ out.old.items ++ spelled (fields_of message.now)) }
-    ensures fits { OnOk result (AllFit (fields_of message.now)) }
+    ensures { Adds result out.old.items out.new.items (fields_of message.now) }
 {
     (FABW, VERSION).put(out)?;
     match message {
@@ -121,16 +121,16 @@ fn put_message(out: &mut Vec<u8>, message: &Message) -> Result<(), NoMem>
             put_reply(out, reply)
         }
         Message::Learn { group, view } => {
-            (LEARN, *group).put(out)?;
+            (10u8, *group).put(out)?;
             view.put(out)
         }
-        Message::Synced { group, view } => (SYNCED, (*group, *view)).put(out),
+        Message::Synced { group, view } => (11u8, (*group, *view)).put(out),
         Message::Client(ask) => {
-            CLIENT.put(out)?;
+            64u8.put(out)?;
             put_client(out, ask)
         }
         Message::ClientReply { id, answer } => {
-            (CLIENT_REPLY, *id).put(out)?;
+            (65u8, *id).put(out)?;
             put_answer(out, answer)
         }
     }
@@ -151,35 +151,33 @@ fn take_datagram(alloc: Global, bytes: &[u8]) -> Result<Message, ReadFault>
 }
 
 /// Reads a message.
-#[tactic(auto, unfolding(crate::specs::Spelling::message_fields, crate::specs::Spelling::body_at))]
+#[tactic(auto, unfolding(crate::specs::Spelling::message_fields))]
 fn take_message(alloc: Global, from: &mut Reader<'_>) -> Result<Message, ReadFault>
     ensures { GivesOrNoMemory result from.new.rest.now (message_codec.read from.old.rest.now) }
 {
     let left = from.rest.len();
-    let fabw: u32 = from.take()?;
-    if fabw != FABW {
+    if from.take::<u32>()? != FABW {
         return Err(ReadFault::Malformed(left));
     }
     let left = from.rest.len();
-    let version: u8 = from.take()?;
-    if version != VERSION {
+    if from.take::<u8>()? != VERSION {
         return Err(ReadFault::Malformed(left));
     }
     let left = from.rest.len();
     let number = from.take()?;
     Ok(match number {
-        READ..=ACCEPT => { Message::Request(take_call(from)?, take_request(alloc, from, number)?) }
-        FOUND..=NOT_SYNCED => Message::Reply(take_call(from)?, take_reply(alloc, from, number)?),
-        LEARN => Message::Learn {
+        1..=9 => { Message::Request(take_call(from)?, take_request(alloc, from, number)?) }
+        32..=45 => Message::Reply(take_call(from)?, take_reply(alloc, from, number)?),
+        10 => Message::Learn {
             group: from.take()?,
             view: from.take()?,
         },
-        SYNCED => Message::Synced {
+        11 => Message::Synced {
             group: from.take()?,
             view: from.take()?,
         },
-        CLIENT => Message::Client(take_client(alloc, from)?),
-        CLIENT_REPLY => Message::ClientReply {
+        64 => Message::Client(take_client(alloc, from)?),
+        65 => Message::ClientReply {
             id: from.take()?,
             answer: take_answer(alloc, from)?,
         },

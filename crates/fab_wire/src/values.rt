@@ -1,12 +1,10 @@
 //! Calls, which seats and which entry are meant, versions, choices and lineages as fields.
 
-ghost use Rattle.std.specs.Prelude.{◌≡◌, ◌++◌, OnOk};
 ghost use Rattle.fields.specs.Kinds.{option};
-ghost use Rattle.fields.specs.Parts.{spelled, AllFit};
+ghost use Rattle.fields.specs.Parts.{Adds};
 ghost use Rattle.fields.specs.Reading.{Gives, GivesOrNoMemory};
 ghost use Rattle.fab_wire.specs.Values.{call_codec, want_codec, look_codec, op_codec, data_block_codec, version_codec};
 
-use crate::numbers::{ALL_SEATS, READ_BLOCK, READ_STRIPE, WRITE_BLOCK, WRITE_STRIPE};
 use fab_base::NoMem;
 use fields::{Field, Malformed, ReadFault, Reader, put_block, take_block};
 use messages::{Call, ClientOp, Look, Version, Want};
@@ -15,11 +13,16 @@ use std::alloc::Global;
 /// Adds a call.
 #[tactic(auto, unfolding(crate::specs::Values::call_fields))]
 pub fn put_call(out: &mut Vec<u8>, call: Call) -> Result<(), NoMem>
-    ensures bytes { OnOk result (out.new.items ≡ out.old.items ++ spelled (call_codec.parts call)) }
-    ensures fits { OnOk result (AllFit (call_codec.parts call)) }
+    ensures { Adds result out.old.items out.new.items (call_codec.parts call) }
 {
-    let place = (call.group, (call.view, call.stripe));
-    (call.boot, (call.seq, (call.phase, place))).put(out)
+    (
+        call.boot,
+        (
+            call.seq,
+            (call.phase, (call.group, (call.view, call.stripe))),
+        ),
+    )
+        .put(out)
 }
 
 /// Reads a call.
@@ -38,15 +41,14 @@ pub fn take_call(from: &mut Reader<'_>) -> Result<Call, Malformed>
 }
 
 /// Adds which seats are to send bytes: one from 0 to 31, or all.
-#[tactic(auto, using(crate::proofs::Writings::joined))]
+#[tactic(auto, using(fields::proofs::Writings::joined))]
 pub fn put_want(out: &mut Vec<u8>, want: Want) -> Result<(), NoMem>
     requires { want_codec.Limits want }
-    ensures bytes { OnOk result (out.new.items ≡ out.old.items ++ spelled (want_codec.parts want)) }
-    ensures fits { OnOk result (AllFit (want_codec.parts want)) }
+    ensures { Adds result out.old.items out.new.items (want_codec.parts want) }
 {
     match want {
         Want::Seat(seat) => seat.put(out),
-        Want::All => ALL_SEATS.put(out),
+        Want::All => 255u8.put(out),
     }
 }
 
@@ -56,17 +58,16 @@ pub fn take_want(from: &mut Reader<'_>) -> Result<Want, Malformed>
 {
     let left = from.rest.len();
     match from.take()? {
-        ALL_SEATS => Ok(Want::All),
+        255 => Ok(Want::All),
         seat if seat < 32 => Ok(Want::Seat(seat)),
         _ => Err(Malformed { left }),
     }
 }
 
 /// Adds which entry of a log is looked for: a byte 0 for one below, or 1 for one at, and a stamp.
-#[tactic(auto, using(crate::proofs::Writings::joined))]
+#[tactic(auto, using(fields::proofs::Writings::joined))]
 pub fn put_look(out: &mut Vec<u8>, look: Look) -> Result<(), NoMem>
-    ensures bytes { OnOk result (out.new.items ≡ out.old.items ++ spelled (look_codec.parts look)) }
-    ensures fits { OnOk result (AllFit (look_codec.parts look)) }
+    ensures { Adds result out.old.items out.new.items (look_codec.parts look) }
 {
     match look {
         Look::Below(stamp) => (false, stamp).put(out),
@@ -85,16 +86,15 @@ pub fn take_look(from: &mut Reader<'_>) -> Result<Look, Malformed>
 }
 
 /// Adds what an invocation does.
-#[tactic(auto, using(crate::proofs::Writings::joined))]
+#[tactic(auto, using(fields::proofs::Writings::joined))]
 pub fn put_op(out: &mut Vec<u8>, op: ClientOp) -> Result<(), NoMem>
-    ensures bytes { OnOk result (out.new.items ≡ out.old.items ++ spelled (op_codec.parts op)) }
-    ensures fits { OnOk result (AllFit (op_codec.parts op)) }
+    ensures { Adds result out.old.items out.new.items (op_codec.parts op) }
 {
     match op {
-        ClientOp::ReadBlock => READ_BLOCK.put(out),
-        ClientOp::WriteBlock => WRITE_BLOCK.put(out),
-        ClientOp::ReadStripe => READ_STRIPE.put(out),
-        ClientOp::WriteStripe => WRITE_STRIPE.put(out),
+        ClientOp::ReadBlock => 0u8.put(out),
+        ClientOp::WriteBlock => 1u8.put(out),
+        ClientOp::ReadStripe => 2u8.put(out),
+        ClientOp::WriteStripe => 3u8.put(out),
     }
 }
 
@@ -104,10 +104,10 @@ pub fn take_op(from: &mut Reader<'_>) -> Result<ClientOp, Malformed>
 {
     let left = from.rest.len();
     match from.take()? {
-        READ_BLOCK => Ok(ClientOp::ReadBlock),
-        WRITE_BLOCK => Ok(ClientOp::WriteBlock),
-        READ_STRIPE => Ok(ClientOp::ReadStripe),
-        WRITE_STRIPE => Ok(ClientOp::WriteStripe),
+        0u8 => Ok(ClientOp::ReadBlock),
+        1 => Ok(ClientOp::WriteBlock),
+        2 => Ok(ClientOp::ReadStripe),
+        3 => Ok(ClientOp::WriteStripe),
         _ => Err(Malformed { left }),
     }
 }
@@ -124,11 +124,10 @@ pub fn take_data_block(from: &mut Reader<'_>) -> Result<u8, Malformed>
 }
 
 /// Adds a version, if there is one: its stamp and its bytes.
-#[tactic(auto, using(crate::proofs::Writings::joined), unfolding(crate::specs::Values::version_fields))]
+#[tactic(auto, using(fields::proofs::Writings::joined), unfolding(crate::specs::Values::version_fields))]
 pub fn put_version(out: &mut Vec<u8>, version: &Option<Version>) -> Result<(), NoMem>
     requires { (option version_codec).Limits version.now }
-    ensures bytes { OnOk result (out.new.items ≡ out.old.items ++ spelled ((option version_codec).parts version.now)) }
-    ensures fits { OnOk result (AllFit ((option version_codec).parts version.now)) }
+    ensures { Adds result out.old.items out.new.items ((option version_codec).parts version.now) }
 {
     match version {
         None => false.put(out),
@@ -144,13 +143,11 @@ pub fn put_version(out: &mut Vec<u8>, version: &Option<Version>) -> Result<(), N
 pub fn take_version(alloc: Global, from: &mut Reader<'_>) -> Result<Option<Version>, ReadFault>
     ensures { GivesOrNoMemory result from.new.rest.now ((option version_codec).read from.old.rest.now) }
 {
-    let left = from.rest.len();
-    match from.take()? {
-        0u8 => Ok(None),
-        1 => Ok(Some(Version {
+    Ok(match from.take()? {
+        false => None,
+        true => Some(Version {
             stamp: from.take()?,
             block: take_block(alloc, from)?,
-        })),
-        _ => Err(ReadFault::Malformed(left)),
-    }
+        }),
+    })
 }

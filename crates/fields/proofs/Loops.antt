@@ -1,5 +1,5 @@
 -- Reading bricks one after the other, as a loop does.
-use Rattle.std.proofs.Common.{◌≡◌, ℕ, suc, ◌-◌, ◌+◌, ◌≤◌, ◌<◌, List, [], ◌∷◌, ◌++◌, Result, Ok, Err, refl, sym, ap, ◌∙◌, append_assoc, arith}
+use Rattle.std.proofs.Common.{◌≡◌, ℕ, suc, ◌-◌, ◌+◌, ◌≤◌, ◌<◌, List, [], ◌∷◌, ◌++◌, Result, Ok, Err, refl, ap, append_assoc, arith}
 use Rattle.std.proofs.lemmas.List.{append-nil}
 use Rattle.fab_base.specs.declared.identities.BrickId.{BrickId}
 use Rattle.fields.specs.Reading.{◌>>=◌, times_at}
@@ -21,33 +21,24 @@ regroup front brick (Ok x) = ap (λ (bricks : List BrickId). Ok (bricks, x.1)) (
 regroup front brick (Err left) = refl
 
 -- one brick more
-pub goes_on : (front : List BrickId) (count i : ℕ) (bytes : List ℕ) (brick : BrickId) (after : List ℕ) (total : Result (List BrickId × List ℕ) ℕ)
-    → i < count
-    → brick_codec.read bytes ≡ Ok (brick, after) → with_front front (times_at brick_codec.read (count - i) bytes) ≡ total
-    → with_front (front ++ brick ∷ []) (times_at brick_codec.read (count - (i + 1)) after) ≡ total
+pub goes_on : (front : List BrickId) (count i : ℕ) (bytes : List ℕ) (brick : BrickId) (after : List ℕ) → i < count
+    → brick_codec.read bytes ≡ Ok (brick, after) → with_front front (times_at brick_codec.read (count - i) bytes)
+    ≡ with_front (front ++ brick ∷ []) (times_at brick_codec.read (count - (i + 1)) after)
 unfolding times_at
-goes_on front count i bytes brick after total lt h so_far =
+goes_on front count i bytes brick after lt h =
     let k : count - i ≡ suc (count - (i + 1)) = omega arith in
-    let one : with_front front (times_at brick_codec.read (count - i) bytes) ≡ with_front (front ++ brick ∷ []) (times_at brick_codec.read (count - (i + 1)) after)
-    = rw (k, h) (regroup front brick (times_at brick_codec.read (count - (i + 1)) after)) in
-    sym one ∙ so_far
+    rw (k, h) (regroup front brick (times_at brick_codec.read (count - (i + 1)) after))
 
 -- no brick where one is due
-pub ends : (left : ℕ) (front : List BrickId) (count i : ℕ) (bytes : List ℕ) (total : Result (List BrickId × List ℕ) ℕ) → i < count
-    → brick_codec.read bytes ≡ Err left
-    → with_front front (times_at brick_codec.read (count - i) bytes) ≡ total → total ≡ Err left
+pub ends : (left : ℕ) (front : List BrickId) (count i : ℕ) (bytes : List ℕ) → i < count → brick_codec.read bytes ≡ Err left
+    → with_front front (times_at brick_codec.read (count - i) bytes) ≡ Err left
 unfolding times_at
-ends left front count i bytes total lt h so_far =
-    let k : count - i ≡ suc (count - (i + 1)) = omega arith in
-    let one : with_front front (times_at brick_codec.read (count - i) bytes) ≡ Err left = rw (k, h) refl in
-    sym so_far ∙ one
+ends left front count i bytes lt h = let k : count - i ≡ suc (count - (i + 1)) = omega arith in rw (k, h) refl
 
 -- all bricks
-pub is_done : (front : List BrickId) (count i : ℕ) (bytes : List ℕ) (total : Result (List BrickId × List ℕ) ℕ) → count ≤ i
-    → with_front front (times_at brick_codec.read (count - i) bytes) ≡ total → total ≡ Ok (front, bytes)
+pub is_done : (front : List BrickId) (count i : ℕ) (bytes : List ℕ) → count ≤ i
+    → with_front front (times_at brick_codec.read (count - i) bytes) ≡ Ok (front, bytes)
 unfolding times_at
-is_done front count i bytes total le so_far =
+is_done front count i bytes le =
     let k : count - i ≡ 0 = omega arith in
-    let one : with_front front (times_at brick_codec.read (count - i) bytes) ≡ Ok (front, bytes) = rw k
-    (ap (λ (bricks : List BrickId). Ok (bricks, bytes)) (append-nil front)) in
-    sym so_far ∙ one
+    rw k (ap (λ (bricks : List BrickId). Ok (bricks, bytes)) (append-nil front))

@@ -21,13 +21,7 @@ pub one_written : (old count now new : List ℕ) (bricks : List BrickId) (i : �
     → now ≡ old ++ (count ++ spelled (map brick_part (take i bricks))) → new ≡ now ++ spelled (brick_part (get_or bricks i d) ∷ [])
     → new ≡ old ++ (count ++ spelled (map brick_part (take (i + 1) bricks)))
 one_written old count now new bricks i d lt before one =
-    let front = map brick_part (take i bricks) in
-    let brick = spelled (brick_part (get_or bricks i d) ∷ []) in
-    let more : spelled front ++ brick ≡ spelled (map brick_part (take (i + 1) bricks)) =
-    sym (spelled-append front (brick_part (get_or bricks i d) ∷ []))
-    ∙ ap (λ (fs : List Part). spelled fs) (sym (bricks_more bricks i d lt)) in
-    one ∙ ap (λ (t : List ℕ). t ++ brick) before ∙ append_assoc old (count ++ spelled front) brick
-    ∙ ap (λ (t : List ℕ). old ++ t) (append_assoc count (spelled front) brick ∙ ap (λ (t : List ℕ). count ++ t) more)
+    rw (one, before, bricks_more bricks i d lt, spelled-append (map brick_part (take i bricks)) (brick_part (get_or bricks i d) ∷ [])) (simp append_assoc)
 
 -- one brick more fits
 pub one_fits : (bricks : List BrickId) (i : ℕ) (d : BrickId) → i < length bricks → AllFit (map brick_part (take i bricks))

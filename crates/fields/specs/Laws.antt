@@ -18,14 +18,14 @@ IsBytes-take n bytes h i =
       | inr le ↦ rw (get_or_past (take n bytes) i 0 (omega (arith, length-take n bytes))) (omega arith)
     ]
 
--- ---- lists of fields
+-- ---- lists of parts
 
 pub spelled-append : (a b : List Part) → spelled (a ++ b) ≡ spelled a ++ spelled b
 spelled-append [] b = refl
 spelled-append (f ∷ a) b = ap (λ (t : List ℕ). bytes_of f ++ t) (spelled-append a b) ∙ sym (append_assoc (bytes_of f) (spelled a) (spelled b))
 
--- fields, and bytes after them
-pub spelled_then : (a b : List Part) (rest : List ℕ) → spelled (a ++ b) ++ rest ≡ spelled a ++ (spelled b ++ rest)
+-- parts, and bytes after them
+spelled_then : (a b : List Part) (rest : List ℕ) → spelled (a ++ b) ++ rest ≡ spelled a ++ (spelled b ++ rest)
 spelled_then a b rest = ap (λ (t : List ℕ). t ++ rest) (spelled-append a b) ∙ append_assoc (spelled a) (spelled b) rest
 
 pub AllFit-append : (a b : List Part) → AllFit a → AllFit b → AllFit (a ++ b)
@@ -40,75 +40,44 @@ pub AllFit-back : (a b : List Part) → AllFit (a ++ b) → AllFit b
 AllFit-back [] b h = h
 AllFit-back (f ∷ a) b h = AllFit-back a b h.1
 
--- two cuts of one list: the second lies within the first part, or within the second
-record CutsFirst (a b c d : List Part) : Type 0 where
-  pub between : List Part
-  pub a_is : a ≡ c ++ between
-  pub d_is : d ≡ between ++ b
+-- the bytes begin with the first of these parts, and so many bytes are left after them
+abbrev pub Front : List Part → List ℕ → ℕ → Type 0
+Front [] bytes left = length bytes ≡ left
+Front (part ∷ parts) bytes left = (length bytes ≡ left) ⊎ ((rest : List ℕ) × (bytes ≡ bytes_of part ++ rest) × Front parts rest left)
 
-record CutsSecond (a b c d : List Part) : Type 0 where
-  pub between : List Part
-  pub c_is : c ≡ a ++ between
-  pub b_is : b ≡ between ++ d
+-- with none of them
+pub front_none : (a : List Part) (bytes : List ℕ) (left : ℕ) → length bytes ≡ left → Front a bytes left
+front_none [] bytes left e = e
+front_none (f ∷ a) bytes left e = inl e
 
-two_cuts : (a b c d : List Part) → a ++ b ≡ c ++ d → CutsFirst a b c d ⊎ CutsSecond a b c d
-two_cuts [] b c d h = inr (record { between = c; c_is = refl; b_is = h })
-two_cuts (x ∷ a) b [] d h = inl (record { between = x ∷ a; a_is = refl; d_is = sym h })
-two_cuts (x ∷ a) b (y ∷ c) d h =
-    let head : x ≡ y = cc in
-    let tail : a ++ b ≡ c ++ d = cc in
-    elim (two_cuts a b c d tail) [
-      | inl w ↦ inl (record { between = w.between; a_is = ap (λ (t : List Part). x ∷ t) w.a_is ∙ ap (λ (f : Part). f ∷ (c ++ w.between)) head; d_is = w.d_is })
-      | inr w ↦ inr (record { between = w.between; c_is = ap (λ (t : List Part). y ∷ t) w.c_is ∙ ap (λ (f : Part). f ∷ (a ++ w.between)) (sym head); b_is = w.b_is })
+-- with the first of the first list
+front_before : (a b : List Part) (bytes : List ℕ) (left : ℕ) → Front a bytes left → Front (a ++ b) bytes left
+front_before [] b bytes left e = front_none b bytes left e
+front_before (f ∷ a) b bytes left (inl e) = inl e
+front_before (f ∷ a) b bytes left (inr w) = inr (w.0, w.1, front_before a b w.0 left w.2)
+
+-- with all of the first list
+pub front_after : (a b : List Part) (rest : List ℕ) (left : ℕ) → Front b rest left → Front (a ++ b) (spelled a ++ rest) left
+front_after [] b rest left front = front
+front_after (f ∷ a) b rest left front = inr (spelled a ++ rest, append_assoc (bytes_of f) (spelled a) rest, front_after a b rest left front)
+
+-- one or the other
+front_cases : (a b : List Part) (bytes : List ℕ) (left : ℕ) → Front (a ++ b) bytes left
+    → Front a bytes left ⊎ ((rest : List ℕ) × (bytes ≡ spelled a ++ rest) × Front b rest left)
+front_cases [] b bytes left front = inr (bytes, refl, front)
+front_cases (f ∷ a) b bytes left (inl e) = inl (inl e)
+front_cases (f ∷ a) b bytes left (inr w) =
+    elim (front_cases a b w.0 left w.2) [
+      | inl front ↦ inl (inr (w.0, w.1, front))
+      | inr v ↦ inr (v.0, w.1 ∙ ap (λ (t : List ℕ). bytes_of f ++ t) v.1 ∙ sym (append_assoc (bytes_of f) (spelled a) v.0), v.2)
     ]
 
--- the first fields of a single one
-pub single_cut : (f : Part) (front back : List Part) → f ∷ [] ≡ front ++ back → (front ≡ []) ⊎ (front ≡ f ∷ [])
-single_cut f [] back h = inl refl
-single_cut f (g ∷ []) back h = inr (let e : f ≡ g = cc in ap (λ (x : Part). x ∷ []) (sym e))
-single_cut f (g ∷ h ∷ front) back e = absurd cc
+-- ---- readers
 
-pub no_cut : (front back : List Part) → [] ≡ front ++ back → front ≡ []
-no_cut [] back h = refl
-no_cut (f ∷ front) back h = absurd cc
-
--- ---- steps that may fail
-
--- the value of a step that did not fail
-pub bind_ok : {A B : Type 0} (r : Result A ℕ) (f : A → Result B ℕ) (y : B) → (r >>= f) ≡ Ok y → (x : A) × (r ≡ Ok x) × (f x ≡ Ok y)
-bind_ok (Ok x) f y e = (x, refl, e)
-bind_ok (Err left) f y e = absurd cc
-
--- the step that failed
-pub bind_err : {A B : Type 0} (r : Result A ℕ) (f : A → Result B ℕ) (left : ℕ) → (r >>= f) ≡ Err left → (r ≡ Err left)
-    ⊎ ((x : A) × (r ≡ Ok x) × (f x ≡ Err left))
-bind_err (Ok x) f left e = inr (x, refl, e)
-bind_err (Err other) f left e = inl (let same : other ≡ left = cc in ap (λ (n : ℕ). Err n) same)
-
-abbrev done : {A : Type 0} → A → Result A ℕ
-done x = Ok x
-
-pub ok_is : {A : Type 0} (x y : A) → done x ≡ done y → x ≡ y
-ok_is x y e = cc
-
-pub ok_not_err : {A : Type 0} (x : A) (n : ℕ) → done x ≡ Err n → ⊥
-ok_not_err x n e = absurd cc
-
--- how many bytes are left after a field, or from the one on that is not read
+-- how many bytes are left after a field, or from the part on that is not read
 abbrev pub left_of : {X : Type 0} → Result (X × List ℕ) ℕ → ℕ
 left_of (Ok x) = length x.1
 left_of (Err left) = left
-
-then_left : {X Y : Type 0} (r : Result (X × List ℕ) ℕ) (f : X × List ℕ → Result (Y × List ℕ) ℕ)
-    → ((x : X × List ℕ) → r ≡ Ok x → left_of (f x) ≤ length x.1) → left_of (r >>= f) ≤ left_of r
-then_left (Ok x) f h = h x refl
-then_left (Err left) f h = omega arith
-
-made_left : {X Y : Type 0} (made : X → Y) (r : Result (X × List ℕ) ℕ) → left_of (r >>= λ x. Ok (made x.0, x.1)) ≡ left_of r
-made_left made (Ok x) = refl
-made_left made (Err left) = refl
-
--- ---- readers
 
 -- what a reader took from the front
 pub record Takes (bytes : List ℕ) (fields : List Part) (rest : List ℕ) : Type 0 where
@@ -116,203 +85,123 @@ pub record Takes (bytes : List ℕ) (fields : List Part) (rest : List ℕ) : Typ
   pub fits : AllFit fields
   pub rest_fits : IsBytes rest
 
-pub Takes-then : (a : List ℕ) (x : List Part) (b : List ℕ) (y : List Part) (c : List ℕ) → Takes a x b → Takes b y c → Takes a (x ++ y) c
-Takes-then a x b y c p q = record {
-  parts = p.parts ∙ ap (λ (t : List ℕ). spelled x ++ t) q.parts ∙ sym (spelled_then x y c);
-  fits = AllFit-append x y p.fits q.fits;
-  rest_fits = q.rest_fits;
-}
-
--- the bytes begin with the first fields of a value, and so many bytes are left
+-- the bytes begin with the first parts of a value, and so many bytes are left
 pub record Reaches {X : Type 0} (Is : X → Type 0) (parts : X → List Part) (bytes : List ℕ) (left : ℕ) : Type 0 where
   pub value : X
   pub is : Is value
   pub fits : AllFit (parts value)
-  pub front : List Part
-  pub back : List Part
-  pub tail : List ℕ
-  pub fields : parts value ≡ front ++ back
-  pub bytes_are : bytes ≡ spelled front ++ tail
-  pub left_is : length tail ≡ left
+  pub front : Front (parts value) bytes left
 
--- A way to read the fields of a value.
+-- what is read stands there, and where nothing is read the bytes before are parts of a value
+abbrev pub IsRead : {X : Type 0} (Is : X → Type 0) (parts : X → List Part) (bytes : List ℕ) → Result (X × List ℕ) ℕ → Type 0
+IsRead Is parts bytes (Ok x) = Is x.0 × Takes bytes (parts x.0) x.1
+IsRead Is parts bytes (Err left) = Reaches Is parts bytes left
+
+-- A way to read the parts of a value.
 pub record IsField {X : Type 0} (Is : X → Type 0) (parts : X → List Part) (at : Reads X) : Type 0 where
   pub example : X
   pub example_is : Is example
   pub example_fits : AllFit (parts example)
-  pub takes : (bytes : List ℕ) (x : X) (rest : List ℕ) → IsBytes bytes → at bytes ≡ Ok (x, rest) → Is x × Takes bytes (parts x) rest
+  pub reads : (bytes : List ℕ) → IsBytes bytes → IsRead Is parts bytes (at bytes)
   pub again : (x : X) (rest : List ℕ) → Is x → AllFit (parts x) → at (spelled (parts x) ++ rest) ≡ Ok (x, rest)
-  pub stops : (bytes : List ℕ) (left : ℕ) → IsBytes bytes → at bytes ≡ Err left → Reaches Is parts bytes left
-  pub furthest : (bytes : List ℕ) (x : X) (front back : List Part) (tail : List ℕ) → IsBytes bytes → Is x → AllFit (parts x)
-      → parts x ≡ front ++ back → bytes ≡ spelled front ++ tail → left_of (at bytes) ≤ length tail
+  pub furthest : (bytes : List ℕ) (x : X) (left : ℕ) → IsBytes bytes → Is x → AllFit (parts x) → Front (parts x) bytes left → left_of (at bytes) ≤ left
 
 -- the same of every value
 abbrev pub IsPlain : {X : Type 0} → (X → List Part) → Reads X → Type 0
 IsPlain parts at = IsField (λ x. Unit {0}) parts at
 
--- the same of the values that another fact names
-pub same_field : {X : Type 0} {I : X → Type 0} (J : X → Type 0) {parts : X → List Part} {at : Reads X} → ((x : X) → I x → J x)
-    → ((x : X) → J x → AllFit (parts x) → I x)
-    → IsField I parts at → IsField J parts at
-same_field {X} {I} J {parts} {at} forth back field = record {
-  example = field.example;
-  example_is = forth field.example field.example_is;
-  example_fits = field.example_fits;
-  takes = λ bytes x rest isb e. let took = field.takes bytes x rest isb e in (forth x took.0, took.1);
-  again = λ x rest is fits. field.again x rest (back x is fits) fits;
-  stops = λ bytes left isb e.
-      let s = field.stops bytes left isb e in
-      record { value = s.value; is = forth s.value s.is; fits = s.fits; front = s.front; back = s.back; tail = s.tail; fields = s.fields; bytes_are = s.bytes_are; left_is = s.left_is };
-  furthest = λ bytes x front rest tail isb is fits fields are. field.furthest bytes x front rest tail isb (back x is fits) fits fields are;
-}
+pub takes : {X : Type 0} {Is : X → Type 0} {parts : X → List Part} {at : Reads X} → IsField Is parts at → (bytes : List ℕ) (x : X) (rest : List ℕ)
+    → IsBytes bytes → at bytes ≡ Ok (x, rest) → Is x × Takes bytes (parts x) rest
+takes {X} {Is} {parts} field bytes x rest isb e = subst (λ (r : Result (X × List ℕ) ℕ). IsRead Is parts bytes r) e (field.reads bytes isb)
 
 pub no_more : {X : Type 0} {Is : X → Type 0} {parts : X → List Part} {at : Reads X} → IsField Is parts at → (bytes : List ℕ) → IsBytes bytes
     → left_of (at bytes) ≤ length bytes
-no_more {X} {Is} {parts} {at} field bytes isb = field.furthest bytes field.example []
-    (parts field.example) bytes isb field.example_is field.example_fits refl refl
-
--- two readers that always give the same
-pub same_reading : {X : Type 0} {Is : X → Type 0} {parts : X → List Part} (a b : Reads X) → ((bytes : List ℕ) → a bytes ≡ b bytes) → IsField Is parts a
-    → IsField Is parts b
-same_reading {X} {Is} {parts} a b same field = record {
-  example = field.example;
-  example_is = field.example_is;
-  example_fits = field.example_fits;
-  takes = λ bytes x rest isb e. field.takes bytes x rest isb (same bytes ∙ e);
-  again = λ x rest is fits. sym (same (spelled (parts x) ++ rest)) ∙ field.again x rest is fits;
-  stops = λ bytes left isb e. field.stops bytes left isb (same bytes ∙ e);
-  furthest = λ bytes x front back tail isb is fits fields are.
-      subst (λ (r : Result (X × List ℕ) ℕ). left_of r ≤ length tail) (same bytes) (field.furthest bytes x front back tail isb is fits fields are);
-}
-
-abbrev seen_by : {X Y : Type 0} → (X → Y) → X × List ℕ → Result (Y × List ℕ) ℕ
-seen_by made x = Ok (made x.0, x.1)
-
-abbrev with_first : {X Y : Type 0} → X → Y × List ℕ → Result ((X × Y) × List ℕ) ℕ
-with_first x y = Ok ((x, y.0), y.1)
-
-made_after : {X Y Z W : Type 0} (f : X → Z → W) (made : Y → Z) (x : X) (r : Result (Y × List ℕ) ℕ)
-    → ((r >>= with_first x) >>= seen_by (λ (p : X × Y). f p.0 (made p.1)))
-    ≡ (((r >>= seen_by made) >>= with_first x) >>= seen_by (λ (p : X × Z). f p.0 p.1))
-made_after f made x (Ok y) = refl
-made_after f made x (Err left) = refl
-
-made_before : {X Y Z W : Type 0} (f : X → Z → W) (made : Y → Z) (r : Result (X × List ℕ) ℕ) (second : Reads Y) (third : Reads Z)
-    → ((bytes : List ℕ) → as_at made second bytes ≡ third bytes)
-    → ((r >>= λ x. second x.1 >>= with_first x.0) >>= seen_by (λ (p : X × Y). f p.0 (made p.1)))
-    ≡ ((r >>= λ x. third x.1 >>= with_first x.0) >>= seen_by (λ (p : X × Z). f p.0 p.1))
-made_before {X} {Y} {Z} f made (Ok x) second third same = made_after f made x.0 (second x.1)
-    ∙ ap (λ (t : Result (Z × List ℕ) ℕ). (t >>= with_first x.0) >>= seen_by (λ (p : X × Z). f p.0 p.1)) (same x.1)
-made_before f made (Err left) second third same = refl
-
--- a second field may be seen as something else first
-pub made_then : {X Y Z W : Type 0} (f : X → Z → W) (made : Y → Z) (first : Reads X) (second : Reads Y) (third : Reads Z)
-    → ((bytes : List ℕ) → as_at made second bytes ≡ third bytes) → (bytes : List ℕ)
-    → as_at (λ (p : X × Y). f p.0 (made p.1)) (then_at first second) bytes ≡ as_at (λ (p : X × Z). f p.0 p.1) (then_at first third) bytes
-made_then f made first second third same bytes = made_before f made (first bytes) second third same
+no_more {X} {Is} {parts} field bytes isb =
+    field.furthest bytes field.example (length bytes) isb field.example_is field.example_fits (front_none (parts field.example) bytes (length bytes) refl)
 
 -- ---- a field that depends on the one before
 
-bind_takes : {X Z : Type 0} {Ix : X → Type 0} {px : X → List Part} {ax : Reads X} {Iz : Z → Type 0} (key : Z → X) {pz : Z → List Part} {az : X
-    → Reads Z} → IsField Ix px ax
-    → ((x : X) → Ix x → AllFit (px x) → IsField (λ (z : Z). (key z ≡ x) × Iz z) pz (az x)) → (bytes : List ℕ) (z : Z) (rest : List ℕ) → IsBytes bytes
-    → (ax bytes >>= λ r. az r.0 r.1) ≡ Ok (z, rest) → (Ix (key z) × Iz z) × Takes bytes (px (key z) ++ pz z) rest
-bind_takes {X} {Z} {Ix} {px} {ax} {Iz} key {pz} {az} first second bytes z rest isb e =
-    let a = bind_ok (ax bytes) (λ r. az r.0 r.1) (z, rest) e in
-    let one = first.takes bytes a.0.0 a.0.1 isb a.1 in
-    let two = (second a.0.0 one.0 one.1.fits).takes a.0.1 z rest one.1.rest_fits a.2 in
-    let k : a.0.0 ≡ key z = sym two.0.0 in
-    ((subst Ix k one.0, two.0.1), Takes-then bytes (px (key z)) a.0.1 (pz z) rest (subst (λ (x : X). Takes bytes (px x) a.0.1) k one.1) two.1)
+-- a first field, and then one by the value of the first; J is what holds of a second value that goes with a first one
+pub record Follows {X Z : Type 0} (px : X → List Part) (ax : Reads X) (key : Z → X) (J : X → Z → Type 0) (Is : Z → Type 0) (pz : Z → List Part)
+    (az : X → Reads Z) : Type 0 where
+  pub first : IsPlain px ax
+  pub second : (x : X) → AllFit (px x) → IsField (J x) pz (az x)
+  pub is : (x : X) (z : Z) → J x z → (key z ≡ x) × Is z
+  pub goes : (z : Z) → Is z → J (key z) z
 
-bind_stops : {X Z : Type 0} {Ix : X → Type 0} {px : X → List Part} {ax : Reads X} {Iz : Z → Type 0} (key : Z → X) {pz : Z → List Part} {az : X
-    → Reads Z} → IsField Ix px ax
-    → ((x : X) → Ix x → AllFit (px x) → IsField (λ (z : Z). (key z ≡ x) × Iz z) pz (az x)) → (bytes : List ℕ) (left : ℕ) → IsBytes bytes
-    → (ax bytes >>= λ r. az r.0 r.1) ≡ Err left → Reaches (λ (z : Z). Ix (key z) × Iz z) (λ (z : Z). px (key z) ++ pz z) bytes left
-bind_stops {X} {Z} {Ix} {px} {ax} {Iz} key {pz} {az} first second bytes left isb e =
-    elim (bind_err (ax bytes) (λ r. az r.0 r.1) left e) [
-      | inl e1 ↦
-          let s = first.stops bytes left isb e1 in
-          let field = second s.value s.is s.fits in
-          let z = field.example in
-          let k : s.value ≡ key z = sym field.example_is.0 in
-          record {
-            value = z;
-            is = (subst Ix k s.is, field.example_is.1);
-            fits = AllFit-append (px (key z)) (pz z) (subst (λ (x : X). AllFit (px x)) k s.fits) field.example_fits;
-            front = s.front;
-            back = s.back ++ pz z;
-            tail = s.tail;
-            fields = ap (λ (x : X). px x ++ pz z) (sym k) ∙ ap (λ (fs : List Part). fs ++ pz z) s.fields ∙ append_assoc s.front s.back (pz z);
-            bytes_are = s.bytes_are;
-            left_is = s.left_is;
-          }
-      | inr w ↦
-          let one = first.takes bytes w.0.0 w.0.1 isb w.1 in
-          let s = (second w.0.0 one.0 one.1.fits).stops w.0.1 left one.1.rest_fits w.2 in
-          let z = s.value in
-          let k : w.0.0 ≡ key z = sym s.is.0 in
-          let took : Takes bytes (px (key z)) w.0.1 = subst (λ (x : X). Takes bytes (px x) w.0.1) k one.1 in
-          record {
-            value = z;
-            is = (subst Ix k one.0, s.is.1);
-            fits = AllFit-append (px (key z)) (pz z) took.fits s.fits;
-            front = px (key z) ++ s.front;
-            back = s.back;
-            tail = s.tail;
-            fields = ap (λ (fs : List Part). px (key z) ++ fs) s.fields ∙ sym (append_assoc (px (key z)) s.front s.back);
-            bytes_are = took.parts ∙ ap (λ (t : List ℕ). spelled (px (key z)) ++ t) s.bytes_are ∙ sym (spelled_then (px (key z)) s.front s.tail);
-            left_is = s.left_is;
-          }
-    ]
+second_read : {X Z : Type 0} {px : X → List Part} {ax : Reads X} {key : Z → X} {J : X → Z → Type 0} {Is : Z → Type 0} {pz : Z → List Part}
+    {az : X → Reads Z} → Follows px ax key J Is pz az → (bytes : List ℕ) (x : X) (rest : List ℕ) → Takes bytes (px x) rest
+    → (r : Result (Z × List ℕ) ℕ) → IsRead (J x) pz rest r → IsRead Is (λ (z : Z). px (key z) ++ pz z) bytes r
+second_read {X} {px = px} {key = key} {pz = pz} follows bytes x rest took (Ok z) (j, then) =
+    let is = follows.is x z.0 j in
+    let took : Takes bytes (px (key z.0)) rest = subst (λ (y : X). Takes bytes (px y) rest) (sym is.0) took in (
+      is.1,
+      record {
+        parts = took.parts ∙ ap (λ (t : List ℕ). spelled (px (key z.0)) ++ t) then.parts ∙ sym (spelled_then (px (key z.0)) (pz z.0) z.1);
+        fits = AllFit-append (px (key z.0)) (pz z.0) took.fits then.fits;
+        rest_fits = then.rest_fits;
+      },
+    )
+second_read {X} {px = px} {key = key} {pz = pz} follows bytes x rest took (Err left) s =
+    let is = follows.is x s.value s.is in
+    let took : Takes bytes (px (key s.value)) rest = subst (λ (y : X). Takes bytes (px y) rest) (sym is.0) took in
+    record {
+      value = s.value;
+      is = is.1;
+      fits = AllFit-append (px (key s.value)) (pz s.value) took.fits s.fits;
+      front = subst (λ (b : List ℕ). Front (px (key s.value) ++ pz s.value) b left) (sym took.parts)
+          (front_after (px (key s.value)) (pz s.value) rest left s.front);
+    }
 
-bind_furthest : {X Z : Type 0} {Ix : X → Type 0} {px : X → List Part} {ax : Reads X} {Iz : Z → Type 0} (key : Z → X) {pz : Z → List Part} {az : X
-    → Reads Z} → IsField Ix px ax
-    → ((x : X) → Ix x → AllFit (px x) → IsField (λ (z : Z). (key z ≡ x) × Iz z) pz (az x)) → (bytes : List ℕ) (z : Z) (front back : List Part)
-    (tail : List ℕ) → IsBytes bytes
-    → Ix (key z) × Iz z → AllFit (px (key z) ++ pz z) → px (key z) ++ pz z ≡ front ++ back → bytes ≡ spelled front ++ tail
-    → left_of (ax bytes >>= λ r. az r.0 r.1) ≤ length tail
-bind_furthest {X} {Z} {Ix} {px} {ax} {Iz} key {pz} {az} first second bytes z front back tail isb is fits fields are =
-    elim (two_cuts (px (key z)) (pz z) front back fields) [
-      | inl w ↦
-          let one : left_of (ax bytes) ≤ length tail = first.furthest bytes (key z) front w.between tail isb is.0
-          (AllFit-front (px (key z)) (pz z) fits) w.a_is are in
-          let two : left_of (ax bytes >>= λ r. az r.0 r.1) ≤ left_of (ax bytes) = then_left (ax bytes) (λ r. az r.0 r.1)
-          (λ r e. let took = first.takes bytes r.0 r.1 isb e in no_more (second r.0 took.0 took.1.fits) r.1 took.1.rest_fits) in
-          omega (arith, one, two)
-      | inr w ↦
-          let middle : List ℕ = spelled w.between ++ tail in
-          let parts : bytes ≡ spelled (px (key z)) ++ middle = are ∙ ap (λ (fs : List Part). spelled fs ++ tail) w.c_is
-          ∙ spelled_then (px (key z)) w.between tail in
-          let read : ax bytes ≡ Ok (key z, middle) = ap ax parts ∙ first.again (key z) middle is.0 (AllFit-front (px (key z)) (pz z) fits) in
-          let took = first.takes bytes (key z) middle isb read in
-          let rest = (second (key z) is.0 took.1.fits).furthest middle z w.between back tail took.1.rest_fits (refl, is.1)
-          (AllFit-back (px (key z)) (pz z) fits) w.b_is refl in
-          subst (λ (r : Result (X × List ℕ) ℕ). left_of (r >>= λ x. az x.0 x.1) ≤ length tail) (sym read) rest
-    ]
+both_read : {X Z : Type 0} {px : X → List Part} {ax : Reads X} {key : Z → X} {J : X → Z → Type 0} {Is : Z → Type 0} {pz : Z → List Part}
+    {az : X → Reads Z} → Follows px ax key J Is pz az → (bytes : List ℕ) (r : Result (X × List ℕ) ℕ) → IsRead (λ x. Unit {0}) px bytes r
+    → IsRead Is (λ (z : Z). px (key z) ++ pz z) bytes (r >>= λ x. az x.0 x.1)
+both_read {az = az} follows bytes (Ok x) (u, took) =
+    second_read follows bytes x.0 x.1 took (az x.0 x.1) ((follows.second x.0 took.fits).reads x.1 took.rest_fits)
+both_read {X} {px = px} {key = key} {pz = pz} follows bytes (Err left) s =
+    let field = follows.second s.value s.fits in
+    let z = field.example in
+    let is = follows.is s.value z field.example_is in
+    record {
+      value = z;
+      is = is.1;
+      fits = AllFit-append (px (key z)) (pz z) (subst (λ (y : X). AllFit (px y)) (sym is.0) s.fits) field.example_fits;
+      front = front_before (px (key z)) (pz z) bytes left (subst (λ (y : X). Front (px y) bytes left) (sym is.0) s.front);
+    }
 
-pub bind_field : {X Z : Type 0} {Ix : X → Type 0} {px : X → List Part} {ax : Reads X} {Iz : Z → Type 0} (key : Z → X) {pz : Z → List Part} {az : X
-    → Reads Z} → IsField Ix px ax
-    → ((x : X) → Ix x → AllFit (px x) → IsField (λ (z : Z). (key z ≡ x) × Iz z) pz (az x))
-    → IsField (λ (z : Z). Ix (key z) × Iz z) (λ (z : Z). px (key z) ++ pz z) (λ (bytes : List ℕ). ax bytes >>= λ r. az r.0 r.1)
-bind_field {X} {Z} {Ix} {px} {ax} {Iz} key {pz} {az} first second =
-    let field = second first.example first.example_is first.example_fits in
-    let k : first.example ≡ key field.example = sym field.example_is.0 in
+both_left : {X Z : Type 0} {px : X → List Part} {ax : Reads X} {key : Z → X} {J : X → Z → Type 0} {Is : Z → Type 0} {pz : Z → List Part}
+    {az : X → Reads Z} → Follows px ax key J Is pz az → (bytes : List ℕ) (r : Result (X × List ℕ) ℕ) → IsRead (λ x. Unit {0}) px bytes r
+    → left_of (r >>= λ x. az x.0 x.1) ≤ left_of r
+both_left follows bytes (Ok x) (u, took) = no_more (follows.second x.0 took.fits) x.1 took.rest_fits
+both_left follows bytes (Err left) s = omega arith
+
+pub bind_field : {X Z : Type 0} {px : X → List Part} {ax : Reads X} {key : Z → X} {J : X → Z → Type 0} {Is : Z → Type 0} {pz : Z → List Part}
+    {az : X → Reads Z} → Follows px ax key J Is pz az → IsField Is (λ (z : Z). px (key z) ++ pz z) (λ bytes. ax bytes >>= λ x. az x.0 x.1)
+bind_field {X} {Z} {px} {ax} {key} {J} {Is} {pz} {az} follows =
+    let first = follows.first in
+    let field = follows.second first.example first.example_fits in
+    let is = follows.is first.example field.example field.example_is in
     record {
       example = field.example;
-      example_is = (subst Ix k first.example_is, field.example_is.1);
+      example_is = is.1;
       example_fits = AllFit-append (px (key field.example)) (pz field.example)
-          (subst (λ (x : X). AllFit (px x)) k first.example_fits) field.example_fits;
-      takes = bind_takes key first second;
+          (subst (λ (x : X). AllFit (px x)) (sym is.0) first.example_fits) field.example_fits;
+      reads = λ bytes isb. both_read follows bytes (ax bytes) (first.reads bytes isb);
       again = λ z rest is fits.
-          let fits_x = AllFit-front (px (key z)) (pz z) fits in
-          let read : ax (spelled (px (key z)) ++ (spelled (pz z) ++ rest)) ≡ Ok (key z, spelled (pz z) ++ rest) = first.again (key z)
-          (spelled (pz z) ++ rest) is.0 fits_x in
-          let next : az (key z) (spelled (pz z) ++ rest) ≡ Ok (z, rest) = (second (key z) is.0 fits_x).again z rest (refl, is.1)
-          (AllFit-back (px (key z)) (pz z) fits) in
-          ap (λ (bytes : List ℕ). ax bytes >>= λ r. az r.0 r.1) (spelled_then (px (key z)) (pz z) rest)
-          ∙ ap (λ (r : Result (X × List ℕ) ℕ). r >>= λ x. az x.0 x.1) read ∙ next;
-      stops = bind_stops key first second;
-      furthest = bind_furthest key first second;
+          let front = AllFit-front (px (key z)) (pz z) fits in
+          ap (λ (bytes : List ℕ). ax bytes >>= λ x. az x.0 x.1) (spelled_then (px (key z)) (pz z) rest)
+          ∙ ap (λ (r : Result (X × List ℕ) ℕ). r >>= λ x. az x.0 x.1) (first.again (key z) (spelled (pz z) ++ rest) tt front)
+          ∙ (follows.second (key z) front).again z rest (follows.goes z is) (AllFit-back (px (key z)) (pz z) fits);
+      furthest = λ bytes z left isb is fits there.
+          let front = AllFit-front (px (key z)) (pz z) fits in
+          elim (front_cases (px (key z)) (pz z) bytes left there) [
+            | inl there ↦ omega (arith, first.furthest bytes (key z) left isb tt front there, both_left follows bytes (ax bytes) (first.reads bytes isb))
+            | inr w ↦
+                let read : ax bytes ≡ Ok (key z, w.0) = ap ax w.1 ∙ first.again (key z) w.0 tt front in
+                subst (λ (r : Result (X × List ℕ) ℕ). left_of (r >>= λ x. az x.0 x.1) ≤ left) (sym read)
+                ((follows.second (key z) front).furthest w.0 z left (takes first bytes (key z) w.0 isb read).1.rest_fits (follows.goes z is)
+                (AllFit-back (px (key z)) (pz z) fits) w.2)
+          ];
     }
 
 -- ---- fields seen as something else
@@ -323,77 +212,57 @@ pub record IsMade {X Y : Type 0} (Is : X → Type 0) (made : X → Y) (y : Y) : 
   pub is : Is from
   pub same : made from ≡ y
 
--- what a field seen as something else is read as
-pub made_is : {X Y : Type 0} (made : X → Y) (at : Reads X) (bytes : List ℕ) (y : Y) (rest : List ℕ) → as_at made at bytes ≡ Ok (y, rest)
-    → (x : X) × (made x ≡ y) × (at bytes ≡ Ok (x, rest))
-made_is {X} {Y} made at bytes y rest e =
-    let a = bind_ok (at bytes) (λ x. Ok (made x.0, x.1)) (y, rest) e in
-    let whole : Y × List ℕ = (made a.0.0, a.0.1) in
-    let same = ok_is whole (y, rest) a.2 in
-    (a.0.0, ap (λ (p : Y × List ℕ). p.0) same, subst (λ (r : List ℕ). at bytes ≡ Ok (a.0.0, r)) (ap (λ (p : Y × List ℕ). p.1) same) a.1)
+made_left : {X Y : Type 0} (made : X → Y) (r : Result (X × List ℕ) ℕ) → left_of r ≡ left_of (r >>= λ x. Ok (made x.0, x.1))
+made_left made (Ok x) = refl
+made_left made (Err left) = refl
 
-made_err : {X Y : Type 0} (made : X → Y) (at : Reads X) (bytes : List ℕ) (left : ℕ) → as_at made at bytes ≡ Err left → at bytes ≡ Err left
-made_err made at bytes left e =
-    elim (bind_err (at bytes) (λ x. Ok (made x.0, x.1)) left e) [
-      | inl e1 ↦ e1
-      | inr w ↦ absurd (ok_not_err (made w.0.0, w.0.1) left w.2)
-    ]
+made_read : {X Y : Type 0} {Ix : X → Type 0} {px : X → List Part} (Iy : Y → Type 0) (py : Y → List Part) (made : X → Y)
+    → ((x : X) → Ix x → Iy (made x)) → ((x : X) → Ix x → px x ≡ py (made x)) → (bytes : List ℕ) (r : Result (X × List ℕ) ℕ) → IsRead Ix px bytes r
+    → IsRead Iy py bytes (r >>= λ x. Ok (made x.0, x.1))
+made_read Iy py made is parts bytes (Ok x) (i, took) = (is x.0 i, subst (λ (fs : List Part). Takes bytes fs x.1) (parts x.0 i) took)
+made_read Iy py made is parts bytes (Err left) s = record {
+  value = made s.value;
+  is = is s.value s.is;
+  fits = subst (λ (fs : List Part). AllFit fs) (parts s.value s.is) s.fits;
+  front = subst (λ (fs : List Part). Front fs bytes left) (parts s.value s.is) s.front;
+}
 
 pub made_field : {X Y : Type 0} {Ix : X → Type 0} {px : X → List Part} {ax : Reads X} (Iy : Y → Type 0) (py : Y → List Part) (made : X → Y)
     → ((x : X) → Ix x → Iy (made x)) → ((x : X) → Ix x → py (made x) ≡ px x) → ((y : Y) → Iy y → IsMade Ix made y)
     → IsField Ix px ax → IsField Iy py (as_at made ax)
-made_field {X} {Y} {Ix} {px} {ax} Iy py made is_made parts_made find field = record {
-  example = made field.example;
-  example_is = is_made field.example field.example_is;
-  example_fits = subst (λ (fs : List Part). AllFit fs) (sym (parts_made field.example field.example_is)) field.example_fits;
-  takes = λ bytes y rest isb e.
-      let read = made_is made ax bytes y rest e in
-      let took = field.takes bytes read.0 rest isb read.2 in
-      let made_took : Takes bytes (py (made read.0)) rest = subst (λ (fs : List Part). Takes bytes fs rest)
-      (sym (parts_made read.0 took.0)) took.1 in
-      (subst Iy read.1 (is_made read.0 took.0), subst (λ (z : Y). Takes bytes (py z) rest) read.1 made_took);
-  again = λ y rest is fits.
-      let found = find y is in
-      let parts : py y ≡ px found.from = ap py (sym found.same) ∙ parts_made found.from found.is in
-      let read : ax (spelled (px found.from) ++ rest) ≡ Ok (found.from, rest) = field.again found.from rest found.is
-      (subst (λ (fs : List Part). AllFit fs) parts fits) in
-      ap (λ (fs : List Part). as_at made ax (spelled fs ++ rest)) parts
-      ∙ ap (λ (r : Result (X × List ℕ) ℕ). r >>= λ x. Ok (made x.0, x.1)) read
-      ∙ ap (λ (z : Y). Ok (z, rest)) found.same;
-  stops = λ bytes left isb e.
-      let s = field.stops bytes left isb (made_err made ax bytes left e) in
-      record {
-        value = made s.value;
-        is = is_made s.value s.is;
-        fits = subst (λ (fs : List Part). AllFit fs) (sym (parts_made s.value s.is)) s.fits;
-        front = s.front;
-        back = s.back;
-        tail = s.tail;
-        fields = parts_made s.value s.is ∙ s.fields;
-        bytes_are = s.bytes_are;
-        left_is = s.left_is;
-      };
-  furthest = λ bytes y front back tail isb is fits fields are.
-      let found = find y is in
-      let parts : py y ≡ px found.from = ap py (sym found.same) ∙ parts_made found.from found.is in
-      let within = field.furthest bytes found.from front back tail isb found.is (subst (λ (fs : List Part). AllFit fs) parts fits)
-      (sym parts ∙ fields) are in
-      subst (λ (n : ℕ). n ≤ length tail) (sym (made_left made (ax bytes))) within;
-}
+made_field {X} {Y} {Ix} {px} {ax} Iy py made is_made parts_made find field =
+    let parts : (y : Y) (i : Iy y) → py y ≡ px (find y i).from = λ y i. ap py (sym (find y i).same) ∙ parts_made (find y i).from (find y i).is in
+    record {
+      example = made field.example;
+      example_is = is_made field.example field.example_is;
+      example_fits = subst (λ (fs : List Part). AllFit fs) (sym (parts_made field.example field.example_is)) field.example_fits;
+      reads = λ bytes isb. made_read Iy py made is_made (λ x i. sym (parts_made x i)) bytes (ax bytes) (field.reads bytes isb);
+      again = λ y rest is fits.
+          let found = find y is in
+          ap (λ (fs : List Part). as_at made ax (spelled fs ++ rest)) (parts y is)
+          ∙ ap (λ (r : Result (X × List ℕ) ℕ). r >>= λ x. Ok (made x.0, x.1))
+          (field.again found.from rest found.is (subst (λ (fs : List Part). AllFit fs) (parts y is) fits))
+          ∙ ap (λ (z : Y). Ok (z, rest)) found.same;
+      furthest = λ bytes y left isb is fits front.
+          let found = find y is in
+          subst (λ (n : ℕ). n ≤ left) (made_left made (ax bytes))
+          (field.furthest bytes found.from left isb found.is (subst (λ (fs : List Part). AllFit fs) (parts y is) fits)
+          (subst (λ (fs : List Part). Front fs bytes left) (parts y is) front));
+    }
 
 -- one field after another
-pub pair_field : {X Y : Type 0} {Ix : X → Type 0} {Iy : Y → Type 0} {px : X → List Part} {py : Y → List Part} {ax : Reads X} {ay : Reads Y}
-    → IsField Ix px ax → IsField Iy py ay → IsField (λ (p : X × Y). Ix p.0 × Iy p.1) (λ (p : X × Y). px p.0 ++ py p.1) (then_at ax ay)
-pair_field {X} {Y} {Ix} {Iy} {px} {py} {ax} {ay} first second =
-    bind_field {Z = X × Y} {Iz = λ (p : X × Y). Iy p.1} (λ (p : X × Y). p.0) {pz = λ (p : X × Y). py p.1} {az = λ (x : X). as_at
-    (λ (y : Y). (x, y)) ay} first
-    (λ x ix fits. made_field (λ (p : X × Y). (p.0 ≡ x) × Iy p.1) (λ (p : X × Y). py p.1) (λ (y : Y). (x, y))
-    (λ y iy. (refl, iy)) (λ y iy. refl)
-    (λ p is. record { from = p.1; is = is.1; same = ap (λ (z : X). let pair : X × Y = (z, p.1) in pair) (sym is.0) }) second)
-
-pub plain_pair : {X Y : Type 0} {px : X → List Part} {py : Y → List Part} {ax : Reads X} {ay : Reads Y}
-    → IsPlain px ax → IsPlain py ay → IsPlain (λ (p : X × Y). px p.0 ++ py p.1) (then_at ax ay)
-plain_pair {X} {Y} first second = same_field (λ (p : X × Y). Unit {0}) (λ p is. tt) (λ p is fits. (tt, tt)) (pair_field first second)
+pub pair_field : {X Y : Type 0} {Is : Y → Type 0} {px : X → List Part} {py : Y → List Part} {ax : Reads X} {ay : Reads Y}
+    → IsPlain px ax → IsField Is py ay → IsField (λ (p : X × Y). Is p.1) (λ (p : X × Y). px p.0 ++ py p.1) (then_at ax ay)
+pair_field {X} {Y} {Is} {px} {py} {ax} {ay} first second =
+    let with : X → Y → X × Y = λ x y. (x, y) in
+    bind_field {key = λ (p : X × Y). p.0} {J = λ (x : X) (p : X × Y). (p.0 ≡ x) × Is p.1} {pz = λ (p : X × Y). py p.1} {az = λ (x : X). as_at (with x) ay}
+    (record {
+      first = first;
+      second = λ x fits. made_field (λ (p : X × Y). (p.0 ≡ x) × Is p.1) (λ (p : X × Y). py p.1) (with x) (λ y i. (refl, i)) (λ y i. refl)
+          (λ p i. record { from = p.1; is = i.1; same = ap (λ (z : X). with z p.1) (sym i.0) }) second;
+      is = λ x p j. j;
+      goes = λ p i. (refl, i);
+    })
 
 -- a field that is another one seen as something else, and back
 pub plain_made : {X Y : Type 0} {px : X → List Part} {ax : Reads X} (py : Y → List Part) (made : X → Y) (parts : Y → X)
@@ -407,67 +276,46 @@ nothing_field = record {
   example = tt;
   example_is = tt;
   example_fits = tt;
-  takes = λ bytes u rest isb e.
-      let same : bytes ≡ rest = ap (λ (p : (Unit {0}) × List ℕ). p.1) (ok_is (tt, bytes) (u, rest) e) in
-      (tt, record { parts = same; fits = tt; rest_fits = subst IsBytes same isb });
+  reads = λ bytes isb. (tt, record { parts = refl; fits = tt; rest_fits = isb });
   again = λ u rest is fits. refl;
-  stops = λ bytes left isb e. absurd (ok_not_err (tt, bytes) left e);
-  furthest = λ bytes u front back tail isb is fits fields are.
-      let whole : bytes ≡ tail = are ∙ ap (λ (fs : List Part). spelled fs ++ tail) (no_cut front back fields) in
-      omega (arith, ap (λ (b : List ℕ). length b) whole);
+  furthest = λ bytes u left isb is fits front. omega (arith, front);
 }
 
--- ---- single fields
+-- ---- single parts
 
-pub result_cases : {A : Type 0} (r : Result A ℕ) → ((x : A) × (r ≡ Ok x)) ⊎ ((left : ℕ) × (r ≡ Err left))
-result_cases (Ok x) = inl (x, refl)
-result_cases (Err left) = inr (left, refl)
+-- what is read stands there, or all of the bytes are left
+abbrev pub IsReadWhole : {X : Type 0} (Is : X → Type 0) (part : X → Part) (bytes : List ℕ) → Result (X × List ℕ) ℕ → Type 0
+IsReadWhole Is part bytes (Ok x) = Is x.0 × Takes bytes (part x.0 ∷ []) x.1
+IsReadWhole Is part bytes (Err left) = left ≡ length bytes
 
-single_left : {X : Type 0} (Is : X → Type 0) (part : X → Part) (at : Reads X) (bytes : List ℕ)
-    → ((bytes : List ℕ) (x : X) (rest : List ℕ) → IsBytes bytes → at bytes ≡ Ok (x, rest) → Is x × Takes bytes (part x ∷ []) rest)
-    → ((bytes : List ℕ) (left : ℕ) → at bytes ≡ Err left → left ≡ length bytes) → IsBytes bytes → left_of (at bytes) ≤ length bytes
-single_left {X} Is part at bytes takes fails isb =
-    elim (result_cases (at bytes)) [
-      | inl w ↦
-          let took = (takes bytes w.0.0 w.0.1 isb w.1).1 in
-          subst (λ (r : Result (X × List ℕ) ℕ). left_of r ≤ length bytes) (sym w.1)
-          (omega (arith, ap (λ (b : List ℕ). length b) took.parts, length-append (spelled (part w.0.0 ∷ [])) w.0.1))
-      | inr w ↦ subst (λ (r : Result (X × List ℕ) ℕ). left_of r ≤ length bytes) (sym w.1) (omega (arith, fails bytes w.0 w.1))
-    ]
+single_read : {X : Type 0} (Is : X → Type 0) (part : X → Part) (example : X) → Is example → Fits (part example) → (bytes : List ℕ)
+    (r : Result (X × List ℕ) ℕ) → IsReadWhole Is part bytes r → IsRead Is (λ (x : X). part x ∷ []) bytes r
+single_read Is part example is fits bytes (Ok x) read = read
+single_read Is part example is fits bytes (Err left) e = record { value = example; is = is; fits = (fits, tt); front = inl (sym e) }
+
+single_left : {X : Type 0} (Is : X → Type 0) (part : X → Part) (bytes : List ℕ) (r : Result (X × List ℕ) ℕ) → IsReadWhole Is part bytes r
+    → left_of r ≤ length bytes
+single_left Is part bytes (Ok x) (i, took) =
+    omega (arith, ap (λ (b : List ℕ). length b) took.parts, length-append (spelled (part x.0 ∷ [])) x.1)
+single_left Is part bytes (Err left) e = omega (arith, e)
+
+single_furthest : {X : Type 0} (Is : X → Type 0) (part : X → Part) (at : Reads X) (bytes : List ℕ) (x : X) (left : ℕ)
+    → IsReadWhole Is part bytes (at bytes) → ((rest : List ℕ) → at (bytes_of (part x) ++ rest) ≡ Ok (x, rest)) → Front (part x ∷ []) bytes left
+    → left_of (at bytes) ≤ left
+single_furthest Is part at bytes x left read again (inl e) = omega (arith, e, single_left Is part bytes (at bytes) read)
+single_furthest {X} Is part at bytes x left read again (inr w) =
+    subst (λ (r : Result (X × List ℕ) ℕ). left_of r ≤ left) (sym (ap at w.1 ∙ again w.0)) (omega (arith, w.2))
 
 pub single_field : {X : Type 0} (Is : X → Type 0) (part : X → Part) (at : Reads X) (example : X) → Is example → Fits (part example)
-    → ((bytes : List ℕ) (x : X) (rest : List ℕ) → IsBytes bytes → at bytes ≡ Ok (x, rest) → Is x × Takes bytes (part x ∷ []) rest)
-    → ((x : X) (rest : List ℕ) → Is x → Fits (part x) → at (bytes_of (part x) ++ rest) ≡ Ok (x, rest))
-    → ((bytes : List ℕ) (left : ℕ) → at bytes ≡ Err left → left ≡ length bytes)
-    → IsField Is (λ (x : X). part x ∷ []) at
-single_field {X} Is part at example example_is example_fits takes again fails = record {
+    → ((bytes : List ℕ) → IsBytes bytes → IsReadWhole Is part bytes (at bytes))
+    → ((x : X) (rest : List ℕ) → Is x → Fits (part x) → at (bytes_of (part x) ++ rest) ≡ Ok (x, rest)) → IsField Is (λ (x : X). part x ∷ []) at
+single_field {X} Is part at example example_is example_fits read again = record {
   example = example;
   example_is = example_is;
   example_fits = (example_fits, tt);
-  takes = takes;
+  reads = λ bytes isb. single_read Is part example example_is example_fits bytes (at bytes) (read bytes isb);
   again = λ x rest is fits. ap (λ (t : List ℕ). at (t ++ rest)) (append-nil (bytes_of (part x))) ∙ again x rest is fits.0;
-  stops = λ bytes left isb e. record {
-    value = example;
-    is = example_is;
-    fits = (example_fits, tt);
-    front = [];
-    back = part example ∷ [];
-    tail = bytes;
-    fields = refl;
-    bytes_are = refl;
-    left_is = sym (fails bytes left e);
-  };
-  furthest = λ bytes x front back tail isb is fits fields are.
-      elim (single_cut (part x) front back fields) [
-        | inl e ↦
-            let whole : bytes ≡ tail = are ∙ ap (λ (fs : List Part). spelled fs ++ tail) e in
-            subst (λ (b : List ℕ). left_of (at bytes) ≤ length b) whole (single_left Is part at bytes takes fails isb)
-        | inr e ↦
-            let parts : bytes ≡ bytes_of (part x) ++ tail = are ∙ ap (λ (fs : List Part). spelled fs ++ tail) e ∙ ap (λ (t : List ℕ). t ++ tail)
-            (append-nil (bytes_of (part x))) in
-            let read : at bytes ≡ Ok (x, tail) = ap at parts ∙ again x tail is fits.0 in
-            subst (λ (r : Result (X × List ℕ) ℕ). left_of r ≤ length tail) (sym read) (omega arith)
-      ];
+  furthest = λ bytes x left isb is fits front. single_furthest Is part at bytes x left (read bytes isb) (λ rest. again x rest is fits.0) front;
 }
 
 -- ---- so many fields, one after the other
@@ -476,10 +324,10 @@ no_values : {X : Type 0} (xs : List X) → length xs ≡ 0 → IsMade (λ (u : U
 no_values [] e = record { from = tt; is = tt; same = refl }
 no_values (x ∷ xs) e = absurd (omega arith)
 
-some_values : {X : Type 0} (n : ℕ) (xs : List X) → length xs ≡ suc n → IsMade (λ (p : X × List X). (Unit {0}) × (length p.1 ≡ n))
-    (λ (p : X × List X). p.0 ∷ p.1) xs
+some_values : {X : Type 0} (n : ℕ) (xs : List X) → length xs ≡ suc n
+    → IsMade (λ (p : X × List X). length p.1 ≡ n) (λ (p : X × List X). p.0 ∷ p.1) xs
 some_values n [] e = absurd (omega arith)
-some_values n (x ∷ xs) e = record { from = (x, xs); is = (tt, omega arith); same = refl }
+some_values n (x ∷ xs) e = record { from = (x, xs); is = omega arith; same = refl }
 
 pub times_field : {X : Type 0} {part : X → Part} {at : Reads X} → IsPlain (λ (x : X). part x ∷ []) at → (n : ℕ)
     → IsField (λ (xs : List X). length xs ≡ n) (λ (xs : List X). map part xs) (times_at at n)
@@ -489,4 +337,4 @@ times_field {X} {part} {at} field zero =
     (λ u is. refl) (λ u is. refl) no_values nothing_field
 times_field {X} {part} {at} field (suc n) =
     made_field (λ (xs : List X). length xs ≡ suc n) (λ (xs : List X). map part xs) (λ (p : X × List X). p.0 ∷ p.1)
-    (λ p is. ap suc is.1) (λ p is. refl) (some_values n) (pair_field field (times_field field n))
+    (λ p is. ap suc is) (λ p is. refl) (some_values n) (pair_field field (times_field field n))

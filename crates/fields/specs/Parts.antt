@@ -1,5 +1,5 @@
 -- The parts of what is spelled, and their bytes.
-use Rattle.std.specs.Prelude.{ℕ, ◌≤◌, ◌<◌, ◌^◌, List, [], ◌∷◌, ◌++◌}
+use Rattle.std.specs.Prelude.{◌≡◌, ℕ, ◌≤◌, ◌<◌, ◌^◌, List, [], ◌∷◌, ◌++◌, Result, OnOk}
 use Rattle.byteorder.specs.Endian.{big_bytes}
 
 -- a part: any number of so many bytes, one that has limits, or bytes whose count was told before
@@ -35,3 +35,7 @@ AllFit (part ∷ parts) = Fits part × AllFit parts
 -- a byte that has this value alone
 abbrev pub exactly : ℕ → Part
 exactly n = Limited 1 n n n
+
+-- the bytes of these parts were added, and each has room, unless memory ran out
+abbrev pub Adds : {E : Type 0} → Result (Unit {0}) E → List ℕ → List ℕ → List Part → Type 0
+Adds result old new parts = OnOk result ((new ≡ old ++ spelled parts) × AllFit parts)

@@ -2,9 +2,9 @@
 -- short or has a value not allowed.
 use Rattle.std.specs.Prelude.{◌≡◌, ℕ, zero, suc, ◌&&◌, List, [], ◌∷◌, length, take, drop, Option, Some, None, Result, Ok, Err, nat_lt, nat_le, ◌==◌, if◌then◌else◌}
 use Rattle.byteorder.specs.Endian.{big_number}
-use Rattle.fields.specs.declared.faults.Malformed.{Malformed}
-use Rattle.fields.specs.declared.faults.ReadFault.{ReadFault}
-use Rattle.fields.specs.declared.faults.ReadFault.TheVariants as faults
+use Rattle.fields.specs.declared.readers.Malformed.{Malformed}
+use Rattle.fields.specs.declared.readers.ReadFault.{ReadFault}
+use Rattle.fields.specs.declared.readers.ReadFault.TheVariants as faults
 
 -- how a field is read
 abbrev pub Reads : Type 0 → Type 0
@@ -84,10 +84,6 @@ find number (k ∷ ks) n = if n == number k then Some k else find number ks n
 abbrev pub find_or : {K : Type 0} → K → (K → ℕ) → List K → ℕ → K
 find_or last number [] n = last
 find_or last number (k ∷ ks) n = if n == number k then k else find_or last number ks n
-
-abbrev pub find_last : {K : Type 0} → K → (K → ℕ) → List K → ℕ → Option K
-find_last last number [] n = Some last
-find_last last number (k ∷ ks) n = if n == number k then Some k else find_last last number ks n
 
 -- so many bytes
 unfoldable pub raw_at : ℕ → Reads (List ℕ)

@@ -10,8 +10,8 @@ use Rattle.fab_base.specs.declared.stamps.Ballot.{Ballot}
 use Rattle.fields.specs.Parts.{Part, Number, Limited, Raw, AllFit}
 use Rattle.fields.specs.Reading.{Reads, ◌>>=◌, limited_at, raw_at, times_at}
 use Rattle.fields.specs.Laws.{IsPlain, times_field}
-use Rattle.fields.specs.Numbers.{limited8, limited16, limited32, raw_field}
-use Rattle.fields.specs.Codecs.{Codec, u16_codec, u32_codec, u64_codec, pair, seen, limited_to, counted_law}
+use Rattle.fields.specs.Numbers.{IsSize, size1, size2, size4, limited_field, raw_field}
+use Rattle.fields.specs.Codecs.{Codec, u16_codec, u32_codec, u64_codec, pair, seen, free, limited_to, counted_law}
 
 abbrev pub brick_codec : Codec BrickId
 brick_codec = seen (λ (n : ℕ). let brick : BrickId = record { 0 = n } in brick) (λ brick. brick.0) (λ brick. refl) (λ n. refl) u16_codec
@@ -34,7 +34,7 @@ stamp_fields = seen made_stamp (λ s. (s.view, (s.time, (s.brick, s.boot)))) (λ
     (pair view_number_codec (pair u64_codec (pair brick_codec u32_codec)))
 
 abbrev pub stamp_codec : Codec Stamp
-stamp_codec = limited_to (λ s. Unit {0}) stamp_fields (λ s fits. tt)
+stamp_codec = free stamp_fields.law
 
 -- round, brick, boot
 abbrev pub made_ballot : ℕ × (BrickId × ℕ) → Ballot
@@ -44,7 +44,7 @@ unfoldable pub ballot_fields : Codec Ballot
 ballot_fields = seen made_ballot (λ b. (b.round, (b.brick, b.boot))) (λ b. refl) (λ p. refl) (pair u32_codec (pair brick_codec u32_codec))
 
 abbrev pub ballot_codec : Codec Ballot
-ballot_codec = limited_to (λ b. Unit {0}) ballot_fields (λ b fits. tt)
+ballot_codec = free ballot_fields.law
 
 -- a count from 1 to 32, and each brick
 abbrev pub brick_part : BrickId → Part
@@ -56,18 +56,15 @@ members_parts members = Limited 1 1 32 (length members) ∷ map brick_part membe
 abbrev pub members_at : Reads (List BrickId)
 members_at bytes = limited_at 1 1 32 bytes >>= λ n. times_at brick_codec.read n.0 n.1
 
-brick_law : IsPlain (λ (b : BrickId). brick_part b ∷ []) brick_codec.read
-brick_law = brick_codec.law
-
 pub members_law : IsPlain members_parts members_at
-members_law = counted_law (limited8 1 32 (omega arith) (omega arith)) (times_field brick_law)
+members_law = counted_law (limited_field size1 1 32 (omega arith) (omega arith)) (times_field {part = brick_part} brick_codec.law)
 
 -- a list of members is not empty
 abbrev pub HasMembers : List BrickId → Type 0
 HasMembers members = 1 ≤ length members
 
 unfoldable pub members_fields : Codec (List BrickId)
-members_fields = record { Limits = HasMembers; parts = members_parts; read = members_at; law = members_law; within = λ members fits. fits.0.1.0 }
+members_fields = free members_law
 
 pub members_within : (members : List BrickId) → AllFit (members_fields.parts members) → HasMembers members
 unfolding members_fields
@@ -97,18 +94,15 @@ bytes_parts size most bytes = Limited size 0 most (length bytes) ∷ Raw bytes �
 abbrev pub bytes_at : ℕ → ℕ → Reads (List ℕ)
 bytes_at size most bytes = limited_at size 0 most bytes >>= λ n. raw_at n.0 n.1
 
-pub block_law : IsPlain (bytes_parts 2 4096) (bytes_at 2 4096)
-block_law = counted_law (limited16 0 4096 (omega arith) (omega arith)) raw_field
-
-pub content_law : IsPlain (bytes_parts 4 32768) (bytes_at 4 32768)
-content_law = counted_law (limited32 0 32768 (omega arith) (omega arith)) raw_field
+pub bytes_law : {size : ℕ} → IsSize size → (most : ℕ) → IsPlain (bytes_parts size most) (bytes_at size most)
+bytes_law is most = counted_law (limited_field is 0 most (omega arith) is.some) raw_field
 
 -- a member's block: a length of two bytes, at most 4,096
 abbrev pub BlockFits : List ℕ → Type 0
 BlockFits bytes = length bytes ≤ 4096
 
 unfoldable pub block_fields : Codec (List ℕ)
-block_fields = record { Limits = BlockFits; parts = bytes_parts 2 4096; read = bytes_at 2 4096; law = block_law; within = λ bytes fits. fits.0.1.1 }
+block_fields = free (bytes_law size2 4096)
 
 pub block_within : (bytes : List ℕ) → AllFit (block_fields.parts bytes) → BlockFits bytes
 unfolding block_fields
@@ -122,7 +116,7 @@ abbrev pub ContentFits : List ℕ → Type 0
 ContentFits bytes = length bytes ≤ 32768
 
 unfoldable pub content_fields : Codec (List ℕ)
-content_fields = record { Limits = ContentFits; parts = bytes_parts 4 32768; read = bytes_at 4 32768; law = content_law; within = λ bytes fits. fits.0.1.1 }
+content_fields = free (bytes_law size4 32768)
 
 pub content_within : (bytes : List ℕ) → AllFit (content_fields.parts bytes) → ContentFits bytes
 unfolding content_fields

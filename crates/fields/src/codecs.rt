@@ -6,8 +6,7 @@ ghost use Rattle.fields.specs.Reading.{Gives};
 ghost use Rattle.fields.specs.Codecs.{Codec, pair};
 ghost use Rattle.fields.specs.Kinds.{option};
 
-use crate::faults::Malformed;
-use crate::readers::Reader;
+use crate::readers::{Malformed, Reader};
 use fab_base::NoMem;
 
 /// A value with one spelling, whose room is fixed.
@@ -56,11 +55,9 @@ impl<A: Field> Field for Option<A> {
     }
 
     fn take(from: &mut Reader<'_>) -> Result<Option<A>, Malformed> {
-        let left = from.rest.len();
         match from.take()? {
-            0u8 => Ok(None),
-            1 => Ok(Some(from.take()?)),
-            _ => Err(Malformed { left }),
+            false => Ok(None),
+            true => Ok(Some(from.take()?)),
         }
     }
 }

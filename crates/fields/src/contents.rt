@@ -1,13 +1,11 @@
 //! Bytes with their length before them. They take memory, so they are read by functions of their own.
 
-ghost use Rattle.std.specs.Prelude.{◌≡◌, ◌≤◌, ◌++◌, OnOk, length};
-ghost use Rattle.fields.specs.Parts.{spelled, AllFit};
+ghost use Rattle.fields.specs.Parts.{Adds};
 ghost use Rattle.fields.specs.Reading.{GivesOrNoMemory};
 ghost use Rattle.fields.specs.Values.{block_codec, content_codec};
 
 use crate::codecs::Field;
-use crate::faults::ReadFault;
-use crate::readers::Reader;
+use crate::readers::{ReadFault, Reader};
 use fab_base::{Bytes, NoMem};
 use std::alloc::Global;
 
@@ -15,24 +13,20 @@ use std::alloc::Global;
 #[tactic(auto, using(crate::proofs::Writings::joined), unfolding(crate::specs::Values::block_fields))]
 pub fn put_block(out: &mut Vec<u8>, block: &Bytes) -> Result<(), NoMem>
     requires { block_codec.Limits block.now }
-    ensures bytes { OnOk result (out.new.items ≡ out.old.items ++ spelled (block_codec.parts block.now)) }
-    ensures fits { OnOk result (AllFit (block_codec.parts block.now)) }
+    ensures { Adds result out.old.items out.new.items (block_codec.parts block.now) }
 {
     (block.len() as u16).put(out)?;
-    out.extend_from_slice(block.as_slice())?;
-    Ok(())
+    Ok(out.extend_from_slice(block.as_slice())?)
 }
 
 /// Adds a client's bytes: their length in four bytes, at most 32,768, and the bytes.
 #[tactic(auto, using(crate::proofs::Writings::joined), unfolding(crate::specs::Values::content_fields))]
 pub fn put_content(out: &mut Vec<u8>, content: &Bytes) -> Result<(), NoMem>
     requires { content_codec.Limits content.now }
-    ensures bytes { OnOk result (out.new.items ≡ out.old.items ++ spelled (content_codec.parts content.now)) }
-    ensures fits { OnOk result (AllFit (content_codec.parts content.now)) }
+    ensures { Adds result out.old.items out.new.items (content_codec.parts content.now) }
 {
     (content.len() as u32).put(out)?;
-    out.extend_from_slice(content.as_slice())?;
-    Ok(())
+    Ok(out.extend_from_slice(content.as_slice())?)
 }
 
 /// The block that the bytes begin with. `Malformed` exactly where they begin with none.

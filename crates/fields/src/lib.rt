@@ -4,12 +4,10 @@
 
 pub mod codecs;
 pub mod contents;
-pub mod faults;
 mod numbers;
 pub mod readers;
 mod values;
 
 pub use codecs::Field;
 pub use contents::{put_block, put_content, take_block, take_content};
-pub use faults::{Malformed, ReadFault};
-pub use readers::Reader;
+pub use readers::{Malformed, ReadFault, Reader};

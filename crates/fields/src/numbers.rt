@@ -1,24 +1,21 @@
 //! Numbers from the high byte on, and flags.
+#![tactic(auto, unfolding(crate::specs::Parts::number_bytes, crate::specs::Reading::number_at, crate::specs::Reading::raw_at))]
 
 ghost use Rattle.fields.specs.Codecs.{u8_codec, u16_codec, u32_codec, u64_codec};
 ghost use Rattle.fields.specs.Kinds.{flag_codec};
 
 use crate::codecs::Field;
-use crate::faults::Malformed;
-use crate::readers::Reader;
+use crate::readers::{Malformed, Reader};
 use byteorder::{BigEndian, ByteOrder};
 use fab_base::NoMem;
 
 impl Field for u8 {
     ghost codec = { u8_codec };
 
-    #[tactic(auto, unfolding(crate::specs::Parts::number_bytes))]
     fn put(&self, out: &mut Vec<u8>) -> Result<(), NoMem> {
-        out.push(*self)?;
-        Ok(())
+        Ok(out.push(*self)?)
     }
 
-    #[tactic(auto, unfolding(crate::specs::Reading::number_at, crate::specs::Reading::raw_at))]
     fn take(from: &mut Reader<'_>) -> Result<u8, Malformed> {
         Ok(from.raw(1)?[0])
     }
@@ -27,15 +24,10 @@ impl Field for u8 {
 impl Field for u16 {
     ghost codec = { u16_codec };
 
-    #[tactic(auto, unfolding(crate::specs::Parts::number_bytes))]
     fn put(&self, out: &mut Vec<u8>) -> Result<(), NoMem> {
-        let mut bytes = [0; 2];
-        BigEndian::write_u16(&mut bytes, *self);
-        out.extend_from_slice(&bytes)?;
-        Ok(())
+        Ok(out.extend_from_slice(&self.to_be_bytes())?)
     }
 
-    #[tactic(auto, unfolding(crate::specs::Reading::number_at, crate::specs::Reading::raw_at))]
     fn take(from: &mut Reader<'_>) -> Result<u16, Malformed> {
         Ok(BigEndian::read_u16(from.raw(2)?))
     }
@@ -44,15 +36,10 @@ impl Field for u16 {
 impl Field for u32 {
     ghost codec = { u32_codec };
 
-    #[tactic(auto, unfolding(crate::specs::Parts::number_bytes))]
     fn put(&self, out: &mut Vec<u8>) -> Result<(), NoMem> {
-        let mut bytes = [0; 4];
-        BigEndian::write_u32(&mut bytes, *self);
-        out.extend_from_slice(&bytes)?;
-        Ok(())
+        Ok(out.extend_from_slice(&self.to_be_bytes())?)
     }
 
-    #[tactic(auto, unfolding(crate::specs::Reading::number_at, crate::specs::Reading::raw_at))]
     fn take(from: &mut Reader<'_>) -> Result<u32, Malformed> {
         Ok(BigEndian::read_u32(from.raw(4)?))
     }
@@ -61,15 +48,10 @@ impl Field for u32 {
 impl Field for u64 {
     ghost codec = { u64_codec };
 
-    #[tactic(auto, unfolding(crate::specs::Parts::number_bytes))]
     fn put(&self, out: &mut Vec<u8>) -> Result<(), NoMem> {
-        let mut bytes = [0; 8];
-        BigEndian::write_u64(&mut bytes, *self);
-        out.extend_from_slice(&bytes)?;
-        Ok(())
+        Ok(out.extend_from_slice(&self.to_be_bytes())?)
     }
 
-    #[tactic(auto, unfolding(crate::specs::Reading::number_at, crate::specs::Reading::raw_at))]
     fn take(from: &mut Reader<'_>) -> Result<u64, Malformed> {
         Ok(BigEndian::read_u64(from.raw(8)?))
     }

@@ -1,10 +1,43 @@
-//! Bytes that fields are read from, one after the other.
+//! Bytes that fields are read from, one after the other, and why a field was not read.
 
 ghost use Rattle.std.specs.Prelude.{◌≡◌, length};
 ghost use Rattle.fields.specs.Reading.{Gives, Shows, raw_at};
+ghost use Rattle.fields.specs.declared.readers.ReadFault.TheVariants as reads;
 
 use crate::codecs::Field;
-use crate::faults::Malformed;
+use fab_base::NoMem;
+
+/// A part is cut short or has a value that is not allowed.
+#[derive(Clone, Copy, Debug, PartialEq, Eq)]
+pub struct Malformed {
+    /// How many bytes are left from the first such part on.
+    pub left: usize,
+}
+
+/// Why a value that takes memory was not read.
+#[derive(Clone, Copy, Debug, PartialEq, Eq)]
+pub enum ReadFault {
+    /// A part is cut short or has a value that is not allowed. So many bytes are left from it on.
+    Malformed(usize),
+    /// Memory ran out.
+    NoMemory,
+}
+
+impl From<Malformed> for ReadFault {
+    ghost from_gives = { λ fault e. e ≡ reads.Malformed fault.left };
+
+    fn from(fault: Malformed) -> ReadFault {
+        ReadFault::Malformed(fault.left)
+    }
+}
+
+impl From<NoMem> for ReadFault {
+    ghost from_gives = { λ _ e. e ≡ reads.NoMemory };
+
+    fn from(_error: NoMem) -> ReadFault {
+        ReadFault::NoMemory
+    }
+}
 
 /// Bytes that are read from their front on.
 #[derive(Drop)]

@@ -6,8 +6,7 @@ ghost use Rattle.fields.specs.Values.{brick_codec, group_codec, stripe_codec, vi
 ghost use Rattle.fields.specs.Values.{members_codec, view_codec};
 
 use crate::codecs::Field;
-use crate::faults::Malformed;
-use crate::readers::Reader;
+use crate::readers::{Malformed, Reader};
 use fab_base::{Ballot, BrickId, GroupId, Members, NoMem, Stamp, StripeNo, View, ViewNo};
 
 impl Field for BrickId {
@@ -58,15 +57,14 @@ impl Field for ViewNo {
     }
 }
 
+#[tactic(auto, unfolding(crate::specs::Values::stamp_fields))]
 impl Field for Stamp {
     ghost codec = { stamp_codec };
 
-    #[tactic(auto, unfolding(crate::specs::Values::stamp_fields))]
     fn put(&self, out: &mut Vec<u8>) -> Result<(), NoMem> {
         (self.view, (self.time, (self.brick, self.boot))).put(out)
     }
 
-    #[tactic(auto, unfolding(crate::specs::Values::stamp_fields))]
     fn take(from: &mut Reader<'_>) -> Result<Stamp, Malformed> {
         Ok(Stamp {
             view: from.take()?,
@@ -77,15 +75,14 @@ impl Field for Stamp {
     }
 }
 
+#[tactic(auto, unfolding(crate::specs::Values::ballot_fields))]
 impl Field for Ballot {
     ghost codec = { ballot_codec };
 
-    #[tactic(auto, unfolding(crate::specs::Values::ballot_fields))]
     fn put(&self, out: &mut Vec<u8>) -> Result<(), NoMem> {
         (self.round, (self.brick, self.boot)).put(out)
     }
 
-    #[tactic(auto, unfolding(crate::specs::Values::ballot_fields))]
     fn take(from: &mut Reader<'_>) -> Result<Ballot, Malformed> {
         Ok(Ballot {
             round: from.take()?,
@@ -96,10 +93,10 @@ impl Field for Ballot {
 }
 
 /// A count from 1 to 32, and each brick.
+#[tactic(auto, using(crate::proofs::Writings::joined), unfolding(crate::specs::Values::members_fields))]
 impl Field for Members {
     ghost codec = { members_codec };
 
-    #[tactic(auto, using(crate::proofs::Writings::joined), unfolding(crate::specs::Values::members_fields))]
     fn put(&self, out: &mut Vec<u8>) -> Result<(), NoMem> {
         let bricks = self.as_slice();
         (bricks.len() as u8).put(out)?;
@@ -109,7 +106,6 @@ impl Field for Members {
         Ok(())
     }
 
-    #[tactic(auto, unfolding(crate::specs::Values::members_fields))]
     fn take(from: &mut Reader<'_>) -> Result<Members, Malformed> {
         let left = from.rest.len();
         let count = from.take()?;
@@ -134,17 +130,16 @@ fn take_bricks(count: u8, from: &mut Reader<'_>) -> Result<Members, Malformed>
 }
 
 /// The number, the members, and the members of the view before.
+#[tactic(auto, using(crate::proofs::Writings::joined), unfolding(crate::specs::Values::view_fields))]
 impl Field for View {
     ghost codec = { view_codec };
 
-    #[tactic(auto, using(crate::proofs::Writings::joined), unfolding(crate::specs::Values::view_fields))]
     fn put(&self, out: &mut Vec<u8>) -> Result<(), NoMem> {
         self.number.put(out)?;
         self.members.put(out)?;
         self.prior.put(out)
     }
 
-    #[tactic(auto, unfolding(crate::specs::Values::view_fields))]
     fn take(from: &mut Reader<'_>) -> Result<View, Malformed> {
         Ok(View {
             number: from.take()?,

@@ -11,7 +11,6 @@ pub struct Call {
     pub seq: u64,
     /// The number of the phase within the call, from 1.
     pub phase: u32,
-    /// The group.
     pub group: GroupId,
     /// The view whose members are asked.
     pub view: ViewNo,

@@ -16,29 +16,14 @@ pub enum Message {
     Request(Call, Request),
     /// A member's reply, with the call of the request.
     Reply(Call, Reply),
-    /// A view was decided.
-    Learn {
-        /// The group.
-        group: GroupId,
-        /// The view.
-        view: View,
-    },
-    /// Each stripe has a version in this view.
-    Synced {
-        /// The group.
-        group: GroupId,
-        /// The view.
-        view: ViewNo,
-    },
+    /// This view of the group was decided.
+    Learn { group: GroupId, view: View },
+    /// Each stripe of the group has a version in this view.
+    Synced { group: GroupId, view: ViewNo },
     /// A client's invocation.
     Client(ClientAsk),
-    /// The answer to a client's invocation.
-    ClientReply {
-        /// The client's number for the invocation.
-        id: u64,
-        /// The answer.
-        answer: ClientAnswer,
-    },
+    /// The answer to the invocation that the client gave this number.
+    ClientReply { id: u64, answer: ClientAnswer },
 }
 
 impl Message {
@@ -46,20 +31,17 @@ impl Message {
     pub fn copy(&self, alloc: Global) -> Result<Message, NoMem>
         ensures { IfOk result (λ made. made ≡ self.now) }
     {
-        Ok(match self {
-            Message::Request(call, request) => Message::Request(*call, request.copy(alloc)?),
-            Message::Reply(call, reply) => Message::Reply(*call, reply.copy(alloc)?),
-            Message::Learn { group, view } => Message::Learn {
-                group: *group,
+        Ok(match *self {
+            Message::Request(call, ref request) => Message::Request(call, request.copy(alloc)?),
+            Message::Reply(call, ref reply) => Message::Reply(call, reply.copy(alloc)?),
+            Message::Learn { group, ref view } => Message::Learn {
+                group,
                 view: view.copy(),
             },
-            Message::Synced { group, view } => Message::Synced {
-                group: *group,
-                view: *view,
-            },
-            Message::Client(ask) => Message::Client(ask.copy(alloc)?),
-            Message::ClientReply { id, answer } => Message::ClientReply {
-                id: *id,
+            Message::Synced { group, view } => Message::Synced { group, view },
+            Message::Client(ref ask) => Message::Client(ask.copy(alloc)?),
+            Message::ClientReply { id, ref answer } => Message::ClientReply {
+                id,
                 answer: answer.copy(alloc)?,
             },
         })
@@ -69,11 +51,8 @@ impl Message {
 /// A message from one brick to another, or to itself.
 #[derive(Debug, Drop)]
 pub struct Packet {
-    /// The sender.
     pub from: BrickId,
-    /// The receiver.
     pub to: BrickId,
-    /// What is said.
     pub message: Message,
 }
 
@@ -82,11 +61,9 @@ impl Packet {
     pub fn copy(&self, alloc: Global) -> Result<Packet, NoMem>
         ensures { IfOk result (λ made. made ≡ self.now) }
     {
-        let message = self.message.copy(alloc)?;
         Ok(Packet {
-            from: self.from,
-            to: self.to,
-            message,
+            message: self.message.copy(alloc)?,
+            ..*self
         })
     }
 }

@@ -9,9 +9,7 @@ use std::alloc::Global;
 /// The members of a view, and those of the view before.
 #[derive(Debug, Drop)]
 pub struct Lineage {
-    /// The view's members.
     pub members: Members,
-    /// The members of the view before.
     pub prior: Members,
 }
 
@@ -27,12 +25,10 @@ impl Lineage {
     }
 }
 
-/// A list of members that was accepted as a view's successor.
+/// A list of members that was accepted as a view's successor, under this ballot.
 #[derive(Debug, Drop)]
 pub struct Choice {
-    /// The ballot that it was accepted under.
     pub ballot: Ballot,
-    /// The members.
     pub members: Members,
 }
 
@@ -53,59 +49,48 @@ impl Choice {
 pub enum Reply {
     /// To a Read: the order stamp, and the newest version if there is one.
     Found {
-        /// The order stamp.
         order: Stamp,
-        /// The newest version.
         newest: Option<Version>,
     },
     /// To an Order: promised.
     Ordered,
     /// To an OrderRead: promised, and the version that was found.
     OrderedRead {
-        /// The version.
         found: Option<Version>,
     },
     /// To a Write or Modify: the version is held.
     Stored,
-    /// To a Modify: the newest version here is another than the base.
+    /// To a Modify: the newest version here, of this stamp, is another than the base.
     Behind {
-        /// The newest version's stamp.
         newest: Option<Stamp>,
     },
-    /// A later stamp was promised or stored here.
+    /// This later stamp was promised or stored here.
     Later {
-        /// The later stamp.
         stamp: Stamp,
     },
-    /// The store has no room for another record.
+    /// The store, which holds so many live records, has no room for another one.
     Full {
-        /// How many live records it holds.
         live: u32,
     },
-    /// A later view was learnt or accepted here.
+    /// This later view was accepted here, or learnt with its members.
     Moved {
-        /// The later view.
         view: ViewNo,
-        /// Its members, where it was learnt.
         lineage: Option<Lineage>,
     },
     /// To an OldRead: the version that was found.
     Old {
-        /// The version.
         found: Option<Version>,
     },
     /// To an OldRead: the old view's versions were dropped.
     Retired,
     /// To a Prepare: promised, and what was accepted before.
     Promise {
-        /// What was accepted.
         accepted: Option<Choice>,
     },
     /// To an Accept: accepted.
     Accepted,
-    /// To a Prepare or Accept: a greater ballot was promised.
+    /// To a Prepare or Accept: this greater ballot was promised.
     Outbid {
-        /// The greater ballot.
         ballot: Ballot,
     },
     /// To a Prepare or Accept: the view's stripes are not all there yet.
@@ -120,17 +105,11 @@ impl Reply {
         Ok(match self {
             Reply::Found { order, newest } => Reply::Found {
                 order: *order,
-                newest: newest
-                    .as_ref()
-                    .map(|version| version.copy(alloc))
-                    .transpose()?,
+                newest: newest.as_ref().map(|held| held.copy(alloc)).transpose()?,
             },
             Reply::Ordered => Reply::Ordered,
             Reply::OrderedRead { found } => Reply::OrderedRead {
-                found: found
-                    .as_ref()
-                    .map(|version| version.copy(alloc))
-                    .transpose()?,
+                found: found.as_ref().map(|held| held.copy(alloc)).transpose()?,
             },
             Reply::Stored => Reply::Stored,
             Reply::Behind { newest } => Reply::Behind { newest: *newest },
@@ -141,10 +120,7 @@ impl Reply {
                 lineage: lineage.as_ref().map(Lineage::copy),
             },
             Reply::Old { found } => Reply::Old {
-                found: found
-                    .as_ref()
-                    .map(|version| version.copy(alloc))
-                    .transpose()?,
+                found: found.as_ref().map(|held| held.copy(alloc)).transpose()?,
             },
             Reply::Retired => Reply::Retired,
             Reply::Promise { accepted } => Reply::Promise {

@@ -17,13 +17,8 @@ pub enum Turn {
     Order,
     /// With the look for the greatest version below this stamp.
     Down(Stamp),
-    /// With the store of a version that was read back.
-    Store {
-        /// The version that was read back.
-        base: Stamp,
-        /// The stripe's m data blocks that are to be stored.
-        content: Bytes,
-    },
+    /// With the store of the version `base` that was read back: `content` is the stripe's m data blocks.
+    Store { base: Stamp, content: Bytes },
 }
 
 impl Turn {
@@ -31,14 +26,14 @@ impl Turn {
     pub fn copy(&self, alloc: Global) -> Result<Turn, NoMem>
         ensures { IfOk result (λ made. made ≡ self.now) }
     {
-        match self {
-            Turn::Order => Ok(Turn::Order),
-            Turn::Down(stamp) => Ok(Turn::Down(*stamp)),
-            Turn::Store { base, content } => Ok(Turn::Store {
+        Ok(match self {
+            Turn::Order => Turn::Order,
+            Turn::Down(stamp) => Turn::Down(*stamp),
+            Turn::Store { base, content } => Turn::Store {
                 base: *base,
                 content: content.copy(alloc)?,
-            }),
-        }
+            },
+        })
     }
 }
 
@@ -60,12 +55,12 @@ impl Next {
     pub fn copy(&self, alloc: Global) -> Result<Next, NoMem>
         ensures { IfOk result (λ made. SaysSame made self.now) }
     {
-        match self {
-            Next::Send(messages) => Ok(Next::Send(copy_messages(alloc, messages.as_slice())?)),
-            Next::Wait => Ok(Next::Wait),
-            Next::End(answer) => Ok(Next::End(answer.copy(alloc)?)),
-            Next::Recover(turn) => Ok(Next::Recover(turn.copy(alloc)?)),
-        }
+        Ok(match self {
+            Next::Send(messages) => Next::Send(copy_messages(alloc, messages.as_slice())?),
+            Next::Wait => Next::Wait,
+            Next::End(answer) => Next::End(answer.copy(alloc)?),
+            Next::Recover(turn) => Next::Recover(turn.copy(alloc)?),
+        })
     }
 }
 

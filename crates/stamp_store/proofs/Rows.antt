@@ -3,7 +3,7 @@ use Rattle.std.proofs.Common.{◌≡◌, ℕ, Bool, cond, eqb, List, ◌++◌, O
 use Rattle.std.proofs.lemmas.Bool.{eqb-true}
 use Rattle.fields.specs.Parts.{Part, spelled, AllFit}
 use Rattle.fields.specs.Reading.{Reads}
-use Rattle.fields.specs.Laws.{IsBytes, Takes, IsField}
+use Rattle.fields.specs.Laws.{IsBytes, Takes, IsField, takes}
 use Rattle.fields.specs.Numbers.{chosen}
 use Rattle.stamp_store.specs.Reading.{row_at, row, no_row}
 
@@ -45,7 +45,7 @@ row_read : {X : Type 0} {number : X → ℕ} {parts : X → List Part} {rows : �
     (bytes : List ℕ) (x : X) (rest : List ℕ) (found : Option (Reads X)) → rows n ≡ found → IsBytes bytes → row_at found here bytes ≡ Ok (x, rest)
     → (number x ≡ n) × Takes bytes (parts x) rest
 row_read known n here bytes x rest None is isb e = absurd cc
-row_read known n here bytes x rest (Some at) is isb e = (known.at_row n at is).takes bytes x rest isb e
+row_read known n here bytes x rest (Some at) is isb e = takes (known.at_row n at is) bytes x rest isb e
 
 -- what the row of a number reads
 pub rows_read : {X : Type 0} {number : X → ℕ} {parts : X → List Part} {rows : ℕ → Option (Reads X)} → Rows number parts rows → (n here : ℕ)

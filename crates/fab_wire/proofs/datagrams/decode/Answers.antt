@@ -1,6 +1,7 @@
 -- What is read is spelled so, and where nothing is read no message goes further.
 use Rattle.std.proofs.Common.{◌-◌, length, arith}
-use Rattle.fab_wire.proofs.WholeMessages.{spells_limits, read_spells, one_message, left_within, malformed_at}
+use Rattle.fab_wire.specs.Spelling.{message_codec}
+use Rattle.fab_wire.proofs.WholeMessages.{read_spells, one_message, left_within, malformed_at}
 use Rattle.fab_wire.proofs.datagrams.decode.Goals as goal
 
 pub overflow_sub-result : goal.overflow_sub-result
@@ -15,7 +16,7 @@ pub returns-in-Ok-clause-one : goal.returns-in-Ok-clause-one
 returns-in-Ok-clause-one c = one_message c.args.bytes.now
 
 pub returns-in-Ok-clause-limits : goal.returns-in-Ok-clause-limits
-returns-in-Ok-clause-limits c = spells_limits c.args.bytes.now
+returns-in-Ok-clause-limits c m spells = message_codec.within m spells.fits
 
 pub returns-in-Err-Malformed-clause-malformed : goal.returns-in-Err-Malformed-clause-malformed
 returns-in-Err-Malformed-clause-malformed c =
@@ -29,10 +30,10 @@ pub returns-in-Err-Malformed-clause-one : goal.returns-in-Err-Malformed-clause-o
 returns-in-Err-Malformed-clause-one c = one_message c.args.bytes.now
 
 pub returns-in-Err-Malformed-clause-limits : goal.returns-in-Err-Malformed-clause-limits
-returns-in-Err-Malformed-clause-limits c = spells_limits c.args.bytes.now
+returns-in-Err-Malformed-clause-limits c m spells = message_codec.within m spells.fits
 
 pub returns-in-Err-NoMemory-clause-one : goal.returns-in-Err-NoMemory-clause-one
 returns-in-Err-NoMemory-clause-one c = one_message c.args.bytes.now
 
 pub returns-in-Err-NoMemory-clause-limits : goal.returns-in-Err-NoMemory-clause-limits
-returns-in-Err-NoMemory-clause-limits c = spells_limits c.args.bytes.now
+returns-in-Err-NoMemory-clause-limits c m spells = message_codec.within m spells.fits

@@ -1,23 +1,13 @@
 -- What is read stands there, and what ends within the bytes is read.
-use Rattle.std.proofs.Common.{refl, sym, ap, ◌∙◌, arith}
+use Rattle.std.proofs.Common.{arith}
 use Rattle.fields.specs.Values.{stamp_codec}
-use Rattle.fab_wire.proofs.Sizes.{stamp_sized, found_at, not_short, ends_past}
+use Rattle.fab_wire.proofs.Sizes.{stamp_sized, at_place}
 use Rattle.fab_wire.proofs.datagrams.read_stamp.Goals as goal
 
-pub returns-in-Ok-clause-found : goal.returns-in-Ok-clause-found
-returns-in-Ok-clause-found c =
-    found_at stamp_codec.law c.args.bytes.now c.args.at c.in-Ok.stamp _ (λ i. omega (arith, c.type_inv.bytes i)) (omega arith)
-    (ap stamp_codec.read (sym c.split_at.ensures.back) ∙ c.in-Ok.ensures)
+pub returns-clause-found : goal.returns-clause-found
+returns-clause-found c = rw c.ok.ensures.value (at_place stamp_codec.law stamp_sized c.args.bytes.now c.args.at c.in_ok-rest.rest.now
+    (λ i. omega (arith, c.type_inv.bytes i)) c.in_ok-rest.ensures.lookup.0.0 c.in_ok-rest.ensures.lookup.0.2 c.take.result c.take.new.from.rest.now c.take.ensures).0
 
-pub returns-in-Ok-clause-none : goal.returns-in-Ok-clause-none
-returns-in-Ok-clause-none c = (
-  λ e. absurd cc,
-  λ short. absurd (not_short stamp_sized c.args.bytes.now c.args.at c.in-Ok.stamp _ (omega arith) (ap stamp_codec.read (sym c.split_at.ensures.back) ∙ c.in-Ok.ensures) short),
-)
-
-pub returns-in-Err-clause-none : goal.returns-in-Err-clause-none
-returns-in-Err-clause-none c = (
-  λ e. ends_past stamp_sized c.args.bytes.now c.args.at c.in-Err.field-0.left (omega arith)
-      (ap stamp_codec.read (sym c.split_at.ensures.back) ∙ c.in-Err.ensures),
-  λ short. refl,
-)
+pub returns-clause-none : goal.returns-clause-none
+returns-clause-none c = rw c.ok.ensures.value (at_place stamp_codec.law stamp_sized c.args.bytes.now c.args.at c.in_ok-rest.rest.now
+    (λ i. omega (arith, c.type_inv.bytes i)) c.in_ok-rest.ensures.lookup.0.0 c.in_ok-rest.ensures.lookup.0.2 c.take.result c.take.new.from.rest.now c.take.ensures).1
