@@ -14,6 +14,7 @@ use Rattle.fab_disk.specs.Disk.{Kept}
 use Rattle.fab_disk.proofs.Moments.{started}
 use Rattle.frame_store.specs.declared.shapes.Shape.{Shape}
 use Rattle.frame_store.specs.Images.{OpensAs, StandsIn, KeepsSlots}
+use Rattle.frame_store.specs.Listed.{size_of}
 use Rattle.frame_store.specs.Stores.{Held}
 use Rattle.version_log.specs.Versions.{Version}
 use Rattle.brick_state.specs.declared.records.Record.{Record}
@@ -31,7 +32,7 @@ use Rattle.brick_store.specs.Bricks.{Brick, IsAnswer}
 use Rattle.brick_store.specs.Images.{limits_of, StandsFor}
 use Rattle.brick_store.specs.Standing.{AllSlots, IsCached, IsStored, GroupHasMembers, Standing}
 use Rattle.brick_store.specs.Steps.{changed, Step}
-use Rattle.brick_store.specs.Calls.{MakesRoomCalls, HasFrameRoom}
+use Rattle.brick_store.specs.Calls.{MakesCalls}
 use Rattle.brick_store.specs.Changes.{Changes}
 use Rattle.brick_store.proofs.Changed.{changed_to, not_full}
 use Rattle.brick_store.proofs.Changing.{brick_of, stands_for, stored_still, changes_tried, standing_after}
@@ -117,7 +118,7 @@ brick_same {D} blocks now frames st same =
     (cached_same frames.shape.block blocks now) st same))
   where
     with_state : StateOf Version → Brick D
-    with_state s = record { disk = frames.disk; shape = frames.shape; state = s; halted = frames.halted }
+    with_state s = record { disk = frames.disk; shape = frames.shape; state = s; listed = size_of frames.frames; halted = frames.halted }
 
 module _ {D : Type 0} (tells : Type 0) (seen : D → List ℕ) (may_leave : D → List ℕ → Type 0) (moment : D → ℕ) (left_since : D → ℕ → List ℕ → Type 0)
     (faults : D → ℕ) (sound : D → Type 0) where
@@ -177,7 +178,7 @@ module _ {D : Type 0} (tells : Type 0) (seen : D → List ℕ) (may_leave : D �
       (changed (indexes.limits_of index) item (state_of index)) old new result
       → OnOk result (st_now ≡ changed (indexes.limits_of index) item (state_of index)) → OnErr result (st_now ≡ state_of index)
       → Kept (faults old.disk) (faults new.disk) (sound old.disk) (sound new.disk) (result ≡ Err Disk)
-      → (tells → OnOk result (MakesRoomCalls (HasFrameRoom old.shape old.frames) 5 (moment old.disk) (moment new.disk)))
+      → (tells → OnOk result (MakesCalls 5 (moment old.disk) (moment new.disk)))
       → Changes tells seen may_leave moment left_since faults sound (brick_of blocks old (state_of index)) (brick_of blocks new st_now)
       (resolved (cached old.shape.block blocks) next) true 5 result
   changes_put slot bytes blocks zero_block old new index item st_now next result standing runs free is slots small held unnamed step made not_made cause counted =

@@ -1,16 +1,21 @@
 -- What a step of the list says of the store.
 use Rattle.std.proofs.Common.{◌≡◌, ◌≢◌, ◌⊎◌, inl, inr, ⊎_elim, ℕ, Bool, true, false, cond, eqb, Option, Some, None, List, [], ◌∷◌, Result, Ok, Err, refl, sym, ap, subst, ◌∙◌, arith}
-use Rattle.std.specs.Option.{unwrap_or}
+use Rattle.std.specs.Option.{unwrap_or, option_map}
+use Rattle.std.proofs.lemmas.Option.{same_Some}
 use Rattle.std.specs.List.{AllByRecursion}
 use Rattle.std.specs.Ordering.{nat_cmp}
 use Rattle.std.specs.Prelude.{replicate}
 use Rattle.std.specs.BTreeMap.{BTreeMap, get}
 use Rattle.std.specs.Result.{OnOk, OnErr}
 use Rattle.fab_disk.specs.Disk.{IsUntouched, Kept}
+use Rattle.fab_disk.specs.declared.disk.Plan.{Plan}
+use Rattle.fab_disk.specs.Plan.{IsRun}
 use Rattle.fab_disk.proofs.Moments.{widened, started}
+use Rattle.fab_base.specs.declared.member_lists.View.{View}
 use Rattle.frame_store.specs.declared.frames.Frame.{Frame}
 use Rattle.frame_store.specs.declared.shapes.Shape.{Shape}
 use Rattle.frame_store.specs.Layouts.{IsShape}
+use Rattle.frame_store.specs.Listed.{size_of}
 use Rattle.frame_store.specs.Images.{OpensAs, block_in, StandsIn, IsOther, KeepsSlots}
 use Rattle.frame_store.specs.Stores.{Held, IsSame}
 use Rattle.version_log.specs.Versions.{Version}
@@ -29,11 +34,11 @@ use Rattle.brick_store.specs.Bricks.{Brick, Keeps, IsAnswer, halted_after}
 use Rattle.brick_store.specs.Images.{records_of, limits_of, block_at, StandsFor, StandsForEither, LeavesState}
 use Rattle.brick_store.specs.Standing.{Leads, AllSlots, IsCached, IsStored, GroupHasMembers, IsIndexed, IsOnDisk, Standing}
 use Rattle.brick_store.specs.Steps.{changed, LeadsTo, IsMoment, IsSettled, IsMade, Step, IsRefused}
-use Rattle.brick_store.specs.Calls.{MakesRoomCalls, HasFrameRoom}
+use Rattle.brick_store.specs.Calls.{MakesCalls, calls_with, calls_of}
+use Rattle.brick_store.specs.Sizes.{view_size, known_size}
 use Rattle.brick_store.specs.Changes.{Changes}
 use Rattle.brick_state.proofs.Keeping.{applied_keeps}
 use Rattle.brick_store.proofs.Stepping.{refused}
-use Rattle.brick_store.proofs.Counting.{change_counted}
 use Rattle.brick_store.proofs.Changed.{changed_to, not_full}
 use Rattle.brick_store.proofs.Resolving.{resolved_same, slots_imply, live-resolved}
 
@@ -88,8 +93,24 @@ brick_of blocks frames st = record {
   shape = frames.shape;
   state = resolved
       (cached frames.shape.block blocks) st;
+  listed = size_of frames.frames;
   halted = frames.halted;
 }
+
+-- a run in the words of what a clause sees of the store
+pub run_seen : {D tells : Type 0} {moment : D → ℕ} {plan : D → Plan} {unlisted : D → Type 0} (blocks : BTreeMap ℕ (List ℕ)) (frames : Held D)
+    (st : StateOf Entry) (b : Brick D) (size : StateOf Version → ℕ) (n calls : ℕ) (new : D) (whole cut : Type 0)
+    → brick_of blocks frames st ≡ b → n ≡ size (resolved (cached frames.shape.block blocks) st)
+    → IsRun tells moment plan unlisted (calls_with frames.shape (size_of frames.frames) n calls) frames.disk new whole cut
+    → IsRun tells moment plan unlisted (calls_of b (size b.state) calls) b.disk new whole cut
+run_seen {D} {tells} {moment} {plan} {unlisted} blocks frames st b size n calls new whole cut view is run =
+    subst (λ (x : Brick D). IsRun tells moment plan unlisted (calls_of x (size x.state) calls) x.disk new whole cut) view
+    (subst (λ (k : ℕ). IsRun tells moment plan unlisted (calls_with frames.shape (size_of frames.frames) k calls) frames.disk new whole cut) is run)
+
+-- the bytes of the view that a group learnt
+pub known_is : (known : Option (View × Bool)) (view : View) → option_map (λ k. k.0) known ≡ Some view → view_size view ≡ known_size known
+known_is None view is = absurd cc
+known_is (Some known) view is = ap view_size (sym (same_Some _ _ is))
 
 -- the answer of a call that was tried
 answers_of : (r : Result (Unit {0}) StoreFault) (x : StoreFault) → OnErr r ((r ≡ Err Disk) ⊎ (r ≡ Err NoMemory)) → r ≡ Err x → (x ≡ Disk)
@@ -198,7 +219,7 @@ module _ {D : Type 0} (tells : Type 0) (seen : D → List ℕ) (may_leave : D �
       → Step tells seen may_leave moment left_since put st next old new result
       → OnOk result (st_now ≡ next) → OnErr result (st_now ≡ st)
       → Kept (faults old.disk) (faults new.disk) (sound old.disk) (sound new.disk) (result ≡ Err Disk)
-      → (tells → OnOk result (MakesRoomCalls (HasFrameRoom old.shape old.frames) calls (moment old.disk) (moment new.disk)))
+      → (tells → OnOk result (MakesCalls calls (moment old.disk) (moment new.disk)))
       → Changes tells seen may_leave moment left_since faults sound (brick_of blocks old st) (brick_of blocks new st_now)
       (resolved (cached old.shape.block blocks) next) adds calls result
   changes_tried put blocks st next old new st_now adds calls result runs free before after step made not_made cause counted = record {
@@ -212,7 +233,7 @@ module _ {D : Type 0} (tells : Type 0) (seen : D → List ℕ) (may_leave : D �
         (tried_answer old.shape.records (live st) adds new.halted result free step.only step.halts));
     no_call = untouched result step.only step.no_memory;
     cause = cause;
-    counted = λ told. change_counted result (HasFrameRoom old.shape old.frames) calls (moment old.disk) (moment new.disk) (counted told);
+    counted = counted;
   }
     where
       now_is : (s : StateOf Entry) → st_now ≡ s → resolved (cached new.shape.block blocks) st_now ≡ resolved (cached old.shape.block blocks) s
@@ -378,7 +399,7 @@ module _ {D : Type 0} (tells : Type 0) (seen : D → List ℕ) (may_leave : D �
       → Step tells seen may_leave moment left_since None (state_of index) (changed (indexes.limits_of index) item (state_of index)) old new result
       → OnOk result (st_now ≡ changed (indexes.limits_of index) item (state_of index)) → OnErr result (st_now ≡ state_of index)
       → Kept (faults old.disk) (faults new.disk) (sound old.disk) (sound new.disk) (result ≡ Err Disk)
-      → (tells → OnOk result (MakesRoomCalls (HasFrameRoom old.shape old.frames) 4 (moment old.disk) (moment new.disk)))
+      → (tells → OnOk result (MakesCalls 4 (moment old.disk) (moment new.disk)))
       → Changes tells seen may_leave moment left_since faults sound (brick_of blocks old (state_of index)) (brick_of blocks new st_now)
       (resolved (cached old.shape.block blocks) next) adds 4 result
   changes_plain blocks zero_block old new index item st_now next adds result standing runs free is slots step made not_made cause counted =

@@ -1,12 +1,23 @@
 -- How many calls of the disk are made.
-use Rattle.std.proofs.Common.{◌≡◌, ◌⊎◌, inl, inr, ⊎_elim, ℕ, ◌+◌, ◌≤◌, Result, Ok, Err, arith}
-use Rattle.std.specs.Result.{OnOk}
+use Rattle.std.proofs.Common.{◌≡◌, inl, inr, ℕ, ◌+◌, ◌≤◌, Bool, true, false, if◌then◌else◌, Result, Ok, Err, refl, arith, ◌&&◌, List, sym, ap, ◌∙◌}
+use Rattle.std.specs.Result.{OnOk, IsOk}
+use Rattle.std.proofs.lemmas.Bool.{cases_lt}
+use Rattle.std.proofs.lemmas.Bool.Decides.{nat_tests}
 use Rattle.stamp_store.specs.declared.kept_records.Kept.TheVariants.{Boot, Ballots, Order}
 use Rattle.stamp_store.specs.declared.kept_records.Kept.TheVariants as kinds
 use Rattle.brick_state.specs.declared.records.Record.{Record}
 use Rattle.brick_state.specs.declared.records.Record.TheVariants as forms
 use Rattle.brick_store.specs.declared.faults.StoreFault.{StoreFault}
-use Rattle.brick_store.specs.Calls.{MakesCalls, MakesRoomCalls}
+use Rattle.fab_disk.specs.declared.disk.Plan.{Plan}
+use Rattle.fab_disk.specs.Plan.{IsRun}
+use Rattle.frame_store.specs.declared.shapes.Shape.{Shape}
+use Rattle.frame_store.specs.declared.faults.FrameFault.{FrameFault}
+use Rattle.frame_store.specs.declared.faults.FrameFault.TheVariants as frames
+use Rattle.frame_store.specs.declared.frames.Frame.{Frame}
+use Rattle.frame_store.specs.Layouts.{half_size}
+use Rattle.frame_store.specs.Listed.{size_of}
+use Rattle.frame_store.specs.Stores.{Held}
+use Rattle.brick_store.specs.Calls.{MakesCalls, calls_with, has_room_for, is_appendable, opening_calls}
 use Rattle.brick_store.specs.Sizes.{most}
 
 -- no frame of a record is longer
@@ -17,21 +28,58 @@ most_few (forms.Kept (Ballots group view promised accepted)) = omega arith
 most_few (forms.Kept (Order group view stripe stamp)) = omega arith
 most_few (forms.Logged logged) = omega arith
 
--- room was made, and then a frame was appended
-pub append_counted : (fits room : Type 0) (calls a b c : ℕ) → (room → fits) → MakesRoomCalls fits 0 a b → c ≡ b + calls
-    → MakesRoomCalls room calls a c
-append_counted fits room calls a b c has first second = record {
-  made = ⊎_elim (λ none. inl (omega (arith, none, second))) (λ seven. inr (omega (arith, seven, second))) first.made;
-  at_once = λ here. omega (arith, first.at_once (has here), second);
-}
+-- a list that has no room is rewritten first
+pub no_room : (shape : Shape) (listed body calls : ℕ) → (listed + 6 + body + 1 ≤ half_size shape → ⊥) → 7 + calls ≡ calls_with shape listed body calls
+no_room shape listed body calls full = elim (cases_lt (half_size shape) (listed + 6 + body + 1)) [
+  | inl more ↦ grind (arith, nat_tests)
+  | inr fits ↦ absurd (full fits)
+]
 
--- a change was made
-pub change_counted : (r : Result (Unit {0}) StoreFault) (room : Type 0) (calls a b : ℕ) → OnOk r (MakesRoomCalls room calls a b)
-    → OnOk r (MakesCalls calls a b)
-change_counted (Ok u) room calls a b h = h.made
-change_counted (Err e) room calls a b h = tt
+-- room was made by no call or by seven, and then the frame was appended
+pub room_then : (shape : Shape) (listed body calls : ℕ) → calls_with shape listed body calls ≡ calls_with shape listed body 0 + calls
+room_then shape listed body calls = by (has_room_for shape listed body)
+  where
+    by : (b : Bool) → (if b then calls else (7 + calls)) ≡ (if b then 0 else (7 + 0)) + calls
+    by true = omega arith
+    by false = omega arith
 
--- the disk was synced and the list perhaps rewritten, and then the opening was counted
-pub start_counted : (r : Result (Unit {0}) StoreFault) (a b c : ℕ) → (b ≡ a + 1) ⊎ (b ≡ a + 8) → OnOk r (c ≡ b + 4) → OnOk r (MakesCalls 5 a c)
-start_counted (Err e) a b c first second = tt
-start_counted (Ok u) a b c first second = ⊎_elim (λ one. inl (omega (arith, one, second))) (λ eight. inr (omega (arith, eight, second))) first
+-- seven calls more, or none
+pub run_counted : {D tells : Type 0} {moment : D → ℕ} {plan : D → Plan} {unlisted : D → Type 0} (room : Bool) (calls : ℕ) {old new : D}
+    (r : Result (Unit {0}) StoreFault) {cut : Type 0}
+    → IsRun tells moment plan unlisted (if room then calls else (7 + calls)) old new (IsOk r) cut → tells
+    → OnOk r (MakesCalls calls (moment old) (moment new))
+run_counted room calls (Err e) run told = tt
+run_counted {D} {tells} {moment} room calls {old} {new} (Ok u) run told = by room (run.counted told refl)
+  where
+    by : (b : Bool) → moment new ≡ moment old + (if b then calls else (7 + calls)) → MakesCalls calls (moment old) (moment new)
+    by true is = inl is
+    by false is = inr is
+
+-- the list was made ready for the count, and then the opening was counted
+pub start_sum : (b : Bool) → opening_calls b ≡ (if b then 1 else 8) + 4
+start_sum true = refl
+start_sum false = refl
+
+-- what is left where the list of frames was refused
+abbrev refusal : FrameFault → Result (Unit {0}) FrameFault
+refusal f = Err f
+
+pub disk_failed : (f : FrameFault) (halted : Bool) → halted ≡ false → (refusal f ≡ refusal frames.Halted → halted ≡ true)
+    → (refusal f ≡ refusal frames.NotAStore → ⊥) → (refusal f ≡ refusal frames.NoMemory → ⊥) → f ≡ frames.Disk
+disk_failed frames.Disk halted runs only_halted a_store memory = refl
+disk_failed frames.Halted halted runs only_halted a_store memory = absurd (differ (sym (only_halted refl) ∙ runs))
+  where
+    differ : true ≡ false → ⊥
+    differ e = cc
+disk_failed frames.NotAStore halted runs only_halted a_store memory = absurd (a_store refl)
+disk_failed frames.NoMemory halted runs only_halted a_store memory = absurd (memory refl)
+
+-- an opening of a list that was read
+pub opening_is : {D : Type 0} (held : Held D) (whole now : Bool) (shape : Shape) (listed : List Frame) (closed : Bool) → whole ≡ now
+    → held.shape ≡ shape → held.frames ≡ listed → held.closed ≡ closed
+    → opening_calls (is_appendable whole held 4) ≡ opening_calls ((now && closed) && has_room_for shape (size_of listed) 4)
+opening_is held whole now shape listed closed w s f e =
+    ap (λ (b : Bool). opening_calls ((b && held.closed) && has_room_for held.shape (size_of held.frames) 4)) w
+    ∙ ap (λ (b : Bool). opening_calls ((now && b) && has_room_for held.shape (size_of held.frames) 4)) e
+    ∙ ap (λ (x : Shape). opening_calls ((now && closed) && has_room_for x (size_of held.frames) 4)) s
+    ∙ ap (λ (fs : List Frame). opening_calls ((now && closed) && has_room_for shape (size_of fs) 4)) f

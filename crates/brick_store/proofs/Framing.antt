@@ -13,7 +13,7 @@ use Rattle.stamp_store.specs.declared.kept_records.Kept.TheVariants as kinds
 use Rattle.stamp_store.specs.declared.log_records.LogChange.{LogChange}
 use Rattle.stamp_store.specs.declared.log_records.LogChange.TheVariants.{Same, Collect, Slot}
 use Rattle.stamp_store.specs.declared.log_records.Logged.{Logged}
-use Rattle.stamp_store.specs.Spelling.{number_bytes, stamp_bytes, ballot_bytes, brick_bytes, members_bytes, accepted_bytes, flag_bytes, body_of, MembersFit, AcceptedFits, Fits, Spells}
+use Rattle.stamp_store.specs.Spelling.{number_bytes, stamp_bytes, ballot_bytes, brick_bytes, members_bytes, accepted_bytes, flag_bytes, body_of, AcceptedFits, Fits, Spells}
 use Rattle.stamp_store.specs.Reading.{read_of, kept_at}
 use Rattle.stamp_store.specs.LogSpelling.{logged_kind, change_bytes, logged_body, SpellsLogged}
 use Rattle.stamp_store.proofs.Records.{spells_read}
@@ -21,7 +21,7 @@ use Rattle.stamp_store.proofs.LogRecords.{spells_logged}
 use Rattle.frame_store.specs.Listed.{frame_of}
 use Rattle.brick_state.specs.declared.records.Record.TheVariants as forms
 use Rattle.brick_store.specs.Images.{or_logged, record_of}
-use Rattle.brick_store.specs.Sizes.{most}
+use Rattle.brick_store.specs.Sizes.{accepted_size, change_size, body_size, most}
 
 -- ---- reading
 
@@ -58,12 +58,6 @@ length64 n = refl
 two : (a b : List ℕ) (m n : ℕ) → length a ≡ m → length b ≡ n → length (a ++ b) ≡ m + n
 two a b m n p q = omega (arith, length-append a b, p, q)
 
-two_less : (a b : List ℕ) (m n : ℕ) → length a ≤ m → length b ≤ n → length (a ++ b) ≤ m + n
-two_less a b m n p q = omega (arith, length-append a b, p, q)
-
-at_most : (a : List ℕ) (n : ℕ) → length a ≡ n → length a ≤ n
-at_most a n p = omega (arith, p)
-
 stamp_length : (s : Stamp) → length (stamp_bytes s) ≡ 18
 unfolding stamp_bytes
 stamp_length s =
@@ -85,75 +79,67 @@ bricks_length (brick ∷ members) = omega (
   bricks_length members,
 )
 
-members_length : (members : List BrickId) → MembersFit members → length (members_bytes members) ≤ 65
+members_length : (members : List BrickId) → length (members_bytes members) ≡ 1 + 2 * length members
 unfolding members_bytes
-members_length members fit = omega (arith, bricks_length members, fit.few)
+members_length members = omega (arith, bricks_length members)
 
-accepted_length : (accepted : Option (Ballot × List BrickId)) → AcceptedFits accepted → length (accepted_bytes accepted) ≤ 76
+accepted_length : (accepted : Option (Ballot × List BrickId)) → length (accepted_bytes accepted) ≡ accepted_size accepted
 unfolding accepted_bytes
-accepted_length None fit = omega arith
-accepted_length (Some a) fit = omega (
+accepted_length None = refl
+accepted_length (Some a) = omega (
   arith,
-  two_less (ballot_bytes a.0) (members_bytes a.1) 10 65 (at_most (ballot_bytes a.0) 10 (ballot_length a.0))
-      (members_length a.1 fit.1),
+  two (ballot_bytes a.0) (members_bytes a.1) 10 _ (ballot_length a.0) (members_length a.1),
 )
 
-flag_length : (b : Bool) → length (flag_bytes b) ≤ 1
-flag_length true = omega arith
-flag_length false = omega arith
+flag_length : (b : Bool) → length (flag_bytes b) ≡ 1
+flag_length true = refl
+flag_length false = refl
 
-n32 : (n : ℕ) → length (number_bytes w32 n) ≤ 4
-n32 n = at_most (number_bytes w32 n) 4 (length32 n)
-
-pub kept_length : (kept : Kept) → Fits kept → 6 + length (body_of kept) ≤ most (forms.Kept kept)
+pub kept_length : (kept : Kept) → length (body_of kept) ≡ body_size (forms.Kept kept)
 unfolding body_of
-kept_length (Boot count) fit = omega (arith, length32 count)
-kept_length (kinds.View group view synced) fit =
-    let tail = two_less (members_bytes view.prior) (flag_bytes synced) 65 1 (members_length view.prior fit.1.1.1.0) (flag_length synced) in
-    let lists = two_less (members_bytes view.members) (members_bytes view.prior ++ flag_bytes synced) 65 66
-    (members_length view.members fit.1.1.0) tail in
-    let numbered = two_less (number_bytes w32 view.number.0) (members_bytes view.members ++ (members_bytes view.prior ++ flag_bytes synced)) 4 131
-    (n32 view.number.0) lists in
-    omega (
-      arith,
-      two_less (number_bytes w32 group.0)
-          (number_bytes w32 view.number.0 ++ (members_bytes view.members ++ (members_bytes view.prior ++ flag_bytes synced))) 4 135
-          (n32 group.0) numbered,
-    )
-kept_length (Ballots group view promised accepted) fit =
-    let tail = two_less (ballot_bytes promised) (accepted_bytes accepted) 10 76 (at_most (ballot_bytes promised) 10 (ballot_length promised))
-    (accepted_length accepted fit.1.1.1) in
-    let numbered = two_less (number_bytes w32 view.0) (ballot_bytes promised ++ accepted_bytes accepted) 4 86 (n32 view.0) tail in
-    omega (
-      arith,
-      two_less (number_bytes w32 group.0) (number_bytes w32 view.0 ++ (ballot_bytes promised ++ accepted_bytes accepted)) 4 90
-          (n32 group.0) numbered,
-    )
-kept_length (Order group view stripe stamp) fit =
-    let tail = two_less (number_bytes w32 stripe.0) (stamp_bytes stamp) 4 18 (n32 stripe.0) (at_most (stamp_bytes stamp) 18 (stamp_length stamp)) in
-    let numbered = two_less (number_bytes w32 view.0) (number_bytes w32 stripe.0 ++ stamp_bytes stamp) 4 22 (n32 view.0) tail in
-    omega (
-      arith,
-      two_less (number_bytes w32 group.0) (number_bytes w32 view.0 ++ (number_bytes w32 stripe.0 ++ stamp_bytes stamp)) 4 26
-          (n32 group.0) numbered,
-    )
+kept_length (Boot count) = length32 count
+kept_length (kinds.View group view synced) =
+    let tail = two (members_bytes view.prior) (flag_bytes synced) _ 1 (members_length view.prior) (flag_length synced) in
+    let lists = two (members_bytes view.members) _ _ _ (members_length view.members) tail in
+    let numbered = two (number_bytes w32 view.number.0) _ 4 _ (length32 view.number.0) lists in
+    omega (arith, two (number_bytes w32 group.0) _ 4 _ (length32 group.0) numbered)
+kept_length (Ballots group view promised accepted) =
+    let tail = two (ballot_bytes promised) (accepted_bytes accepted) 10 _ (ballot_length promised) (accepted_length accepted) in
+    let numbered = two (number_bytes w32 view.0) _ 4 _ (length32 view.0) tail in
+    omega (arith, two (number_bytes w32 group.0) _ 4 _ (length32 group.0) numbered)
+kept_length (Order group view stripe stamp) =
+    let tail = two (number_bytes w32 stripe.0) (stamp_bytes stamp) 4 18 (length32 stripe.0) (stamp_length stamp) in
+    let numbered = two (number_bytes w32 view.0) _ 4 22 (length32 view.0) tail in
+    two (number_bytes w32 group.0) _ 4 26 (length32 group.0) numbered
 
-change_length : (change : LogChange) → length (change_bytes change) ≤ 5
-change_length Same = omega arith
-change_length Collect = omega arith
-change_length (Slot bottom slot) = two_less (flag_bytes bottom) (number_bytes w32 slot) 1 4 (flag_length bottom) (n32 slot)
+change_length : (change : LogChange) → length (change_bytes change) ≡ change_size change
+change_length Same = refl
+change_length Collect = refl
+change_length (Slot bottom slot) = two (flag_bytes bottom) (number_bytes w32 slot) 1 4 (flag_length bottom) (length32 slot)
 
-pub logged_length : (r : Logged) → 6 + length (logged_body r) ≤ 41
+pub logged_length : (r : Logged) → length (logged_body r) ≡ body_size (forms.Logged r)
 unfolding logged_body
 logged_length r =
-    let tail = two_less (stamp_bytes r.stamp) (change_bytes r.change) 18 5 (at_most (stamp_bytes r.stamp) 18 (stamp_length r.stamp))
-    (change_length r.change) in
-    let placed = two_less (number_bytes w32 r.stripe.0) (stamp_bytes r.stamp ++ change_bytes r.change) 4 23 (n32 r.stripe.0) tail in
-    let numbered = two_less (number_bytes w32 r.view.0) (number_bytes w32 r.stripe.0 ++ (stamp_bytes r.stamp ++ change_bytes r.change)) 4 27
-    (n32 r.view.0) placed in
-    omega (
-      arith,
-      two_less (number_bytes w32 r.group.0)
-          (number_bytes w32 r.view.0 ++ (number_bytes w32 r.stripe.0 ++ (stamp_bytes r.stamp ++ change_bytes r.change))) 4 31
-          (n32 r.group.0) numbered,
-    )
+    let tail = two (stamp_bytes r.stamp) (change_bytes r.change) 18 _ (stamp_length r.stamp) (change_length r.change) in
+    let placed = two (number_bytes w32 r.stripe.0) _ 4 _ (length32 r.stripe.0) tail in
+    let numbered = two (number_bytes w32 r.view.0) _ 4 _ (length32 r.view.0) placed in
+    omega (arith, two (number_bytes w32 r.group.0) _ 4 _ (length32 r.group.0) numbered)
+
+-- no frame is longer than it may be
+accepted_few : (accepted : Option (Ballot × List BrickId)) → AcceptedFits accepted → accepted_size accepted ≤ 76
+accepted_few None fit = omega arith
+accepted_few (Some a) fit = omega (arith, fit.1.few)
+
+change_few : (change : LogChange) → change_size change ≤ 5
+change_few Same = omega arith
+change_few Collect = omega arith
+change_few (Slot bottom slot) = omega arith
+
+pub kept_most : (kept : Kept) → Fits kept → 6 + body_size (forms.Kept kept) ≤ most (forms.Kept kept)
+kept_most (Boot count) fit = omega arith
+kept_most (kinds.View group view synced) fit = omega (arith, fit.1.1.0.few, fit.1.1.1.0.few)
+kept_most (Ballots group view promised accepted) fit = omega (arith, accepted_few accepted fit.1.1.1)
+kept_most (Order group view stripe stamp) fit = omega arith
+
+pub logged_most : (r : Logged) → 6 + body_size (forms.Logged r) ≤ most (forms.Logged r)
+logged_most r = omega (arith, change_few r.change)

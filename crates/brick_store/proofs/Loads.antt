@@ -26,7 +26,7 @@ use Rattle.brick_state.proofs.UsedSlots.{kept_slots, each_slot}
 use Rattle.brick_store.specs.Blocks.{cached}
 use Rattle.brick_store.specs.Images.{records_of, limits_for, limits_of}
 use Rattle.brick_store.specs.Standing.{AllSlots, GroupHasMembers, IsCached, IsStored, Leads}
-use Rattle.brick_store.specs.Openings.{IsHeld, AreRead, IsInside, IsLoaded}
+use Rattle.brick_store.specs.Openings.{IsHeld, AreRead, IsInside, IsLoaded, is_whole}
 
 -- ---- a file that has a frame has all slots
 
@@ -144,16 +144,17 @@ module _ {D : Type 0} (tells : Type 0) (seen : D → List ℕ) (held : Held D) (
       (folded_keeps (limits_of held.shape) (records_of held.frames) empty (empty_kept (limits_of held.shape)))
 
   pub loaded_from : (whole : Bool) (blocks : BTreeMap ℕ (List ℕ)) (slots : List ℕ) → limits ≡ limits_for records
-      → (whole ≡ true → Leads (limits_for records) held.frames empty st) → AllByRecursion GroupHasMembers st.groups
+      → (whole ≡ true → Leads (limits_for records) held.frames empty st) → whole ≡ is_whole (limits_for records) held.frames empty → AllByRecursion GroupHasMembers st.groups
       → slots ≡ slots_of st → AllByRecursion (IsHeld blocks) slots → AreRead tells held.shape held.size (seen held.disk) blocks
       → (tells → Shows seen held) → st.boot < 2 ^ 32 - 1
       → IsLoaded tells held.shape held.frames (seen held.disk) limits st whole blocks
-  loaded_from whole blocks slots limits_are leads members slots_are all read shows boots =
+  loaded_from whole blocks slots limits_are leads whole_is members slots_are all read shows boots =
       let here : AllByRecursion (IsHeld blocks) (slots_of st) = subst (λ (xs : List ℕ). AllByRecursion (IsHeld blocks) xs) slots_are all in
       record {
         limits_are = limits_are ∙ limits_same records held.shape is;
         found = found_in_shape;
         leads = λ w. subst (λ (l : Limits). Leads l held.frames empty st) (limits_same records held.shape is) (leads w);
+        whole_is = whole_is ∙ ap (λ (l : Limits). is_whole l held.frames empty) (limits_same records held.shape is);
         kept = kept_in_shape;
         members = members;
         held = all_cached tells held.shape held.size (seen held.disk) blocks read st here;

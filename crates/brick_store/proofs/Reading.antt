@@ -1,7 +1,7 @@
 -- Frames read as records, one after the other.
-use Rattle.std.proofs.Common.{◌≡◌, ℕ, suc, add-one, drop-cons, ◌+◌, ◌<◌, ◌≤◌, Option, Some, None, List, [], ◌∷◌, ◌++◌, length, take, drop, get_or, refl, sym, ap, subst, ◌∙◌}
+use Rattle.std.proofs.Common.{◌≡◌, ℕ, suc, add-one, drop-cons, ◌+◌, ◌<◌, ◌≤◌, true, false, Option, Some, None, List, [], ◌∷◌, ◌++◌, length, take, drop, get_or, refl, sym, ap, subst, ◌∙◌}
 use Rattle.std.proofs.Math.Seq.{take-suc}
-use Rattle.std.proofs.lemmas.List.{take-append-drop, take_all}
+use Rattle.std.proofs.lemmas.List.{take-append-drop, take_all, append-nil}
 use Rattle.std.specs.Option.{IfSome}
 use Rattle.stamp_store.specs.declared.kept_records.Kept.{Kept}
 use Rattle.stamp_store.specs.declared.kept_records.Kept.TheVariants.{Boot, Ballots, Order}
@@ -23,7 +23,7 @@ use Rattle.brick_state.specs.States.{StateOf, empty}
 use Rattle.brick_state.specs.Folds.{Limits, applied, folded}
 use Rattle.brick_store.specs.Images.{or_logged, record_of, records_of}
 use Rattle.brick_store.specs.Standing.{Leads}
-use Rattle.brick_store.specs.Openings.{IsTaken, EndsBefore}
+use Rattle.brick_store.specs.Openings.{IsTaken, EndsBefore, taken_by, goes_on, is_whole}
 use Rattle.brick_store.proofs.Stepping.{leads_more}
 use Rattle.brick_store.proofs.Changing.{leads_folded}
 
@@ -91,6 +91,29 @@ pub ends_refused : (limits : Limits) (frame : Frame) (r : Record) (rest : List F
 unfolding folded records_of
 ends_refused limits frame r rest st is never = rw (is, never) refl
 
+-- they are taken, and it is left to the others
+pub whole_then : (limits : Limits) (xs rest : List Frame) (a b : StateOf Entry) → Leads limits xs a b
+    → is_whole limits (xs ++ rest) a ≡ is_whole limits rest b
+unfolding Leads is_whole
+whole_then limits [] rest a b leads = ap (is_whole limits rest) leads
+whole_then limits (x ∷ xs) rest a b leads = rw (leads.1, leads.3) (whole_then limits xs rest leads.2 b leads.4)
+
+pub never_unread : (limits : Limits) (frame : Frame) (st : StateOf Entry) → record_of frame ≡ None → taken_by limits frame st ≡ None
+never_unread limits frame st none = rw none refl
+
+pub never_refused : (limits : Limits) (frame : Frame) (r : Record) (st : StateOf Entry) → record_of frame ≡ Some r → applied limits r st ≡ None
+    → taken_by limits frame st ≡ None
+never_refused limits frame r st is never = rw (is, never) refl
+
+stops_whole : (limits : Limits) (frame : Frame) (rest : List Frame) (st : StateOf Entry) → taken_by limits frame st ≡ None
+    → is_whole limits (frame ∷ rest) st ≡ false
+unfolding is_whole
+stops_whole limits frame rest st never = ap (λ (o : Option (StateOf Entry)). goes_on o (is_whole limits rest)) never
+
+all_whole : (limits : Limits) (st : StateOf Entry) → is_whole limits [] st ≡ true
+unfolding is_whole
+all_whole limits st = refl
+
 -- a frame that was taken is one more
 pub taken_more : (limits : Limits) (frames : List Frame) (i : ℕ) (frame : Frame) (a b next : StateOf Entry) → i < length frames
     → frame ≡ get_or frames i frame → Leads limits (take i frames) a b → IsTaken limits frame b next
@@ -112,6 +135,16 @@ ended_at limits frames i frame a b next within is leads ends =
     ends.same ∙ sym (ends.ends rest) ∙ sym (leads_then limits (take i frames) (frame ∷ rest) a b leads)
     ∙ ap (λ (xs : List Frame). folded limits (records_of xs) a) split
 
+-- then not all of them count
+pub ended_whole : (limits : Limits) (frames : List Frame) (i : ℕ) (frame : Frame) (a b next : StateOf Entry) → i < length frames
+    → frame ≡ get_or frames i frame → Leads limits (take i frames) a b → EndsBefore limits frame b next → false ≡ is_whole limits frames a
+ended_whole limits frames i frame a b next within is leads ends =
+    let rest = drop (suc i) frames in
+    let left : drop i frames ≡ frame ∷ rest = drop-cons frames i frame within ∙ ap (λ (x : Frame). x ∷ rest) (sym is) in
+    let split : take i frames ++ frame ∷ rest ≡ frames = ap (λ (xs : List Frame). take i frames ++ xs) (sym left) ∙ take-append-drop i frames in
+    sym (stops_whole limits frame rest b ends.never) ∙ sym (whole_then limits (take i frames) (frame ∷ rest) a b leads)
+    ∙ ap (λ (xs : List Frame). is_whole limits xs a) split
+
 pub leads_nothing : (limits : Limits) (st : StateOf Entry) → st ≡ empty → Leads limits [] empty st
 unfolding Leads
 leads_nothing limits st is = sym is
@@ -120,6 +153,12 @@ leads_nothing limits st is = sym is
 pub all_taken : (limits : Limits) (frames : List Frame) (i : ℕ) (a b : StateOf Entry) → length frames ≤ i → Leads limits (take i frames) a b
     → Leads limits frames a b
 all_taken limits frames i a b past leads = subst (λ (xs : List Frame). Leads limits xs a b) (take_all i frames past) leads
+
+pub all_whole_at : (limits : Limits) (frames : List Frame) (i : ℕ) (a b : StateOf Entry) → length frames ≤ i → Leads limits (take i frames) a b
+    → true ≡ is_whole limits frames a
+all_whole_at limits frames i a b past leads =
+    sym (all_whole limits b) ∙ sym (whole_then limits frames [] a b (all_taken limits frames i a b past leads))
+    ∙ ap (λ (xs : List Frame). is_whole limits xs a) (append-nil frames)
 
 pub leads_all : (limits : Limits) (frames : List Frame) (i : ℕ) (a b : StateOf Entry) → length frames ≤ i → Leads limits (take i frames) a b
     → b ≡ folded limits (records_of frames) a

@@ -11,11 +11,13 @@ use Rattle.brick_store.specs.declared.faults.StoreFault.{StoreFault}
 use Rattle.brick_store.specs.Blocks.{log_at}
 use Rattle.brick_store.specs.declared.faults.StoreFault.TheVariants.{Disk, Full, Halted, NotAStore, Worn, NoMemory}
 
--- a store over a disk: what it was made for, what it keeps, and whether a call of it answered Disk
+-- a store over a disk: what it was made for, what it keeps, how many bytes its list of frames takes, and whether a call of it
+-- answered Disk
 pub record Brick (D : Type 0) : Type 0 where
   pub disk : D
   pub shape : Shape
   pub state : StateOf Version
+  pub listed : ℕ
   pub halted : Bool
 
 -- what a store keeps: stripes in the order of their places, and logs whose stamps rise

@@ -1,23 +1,37 @@
 -- How many calls of the disk's `write_at` and `sync` a call of a brick's store makes.
-use Rattle.std.specs.Prelude.{◌≡◌, ◌⊎◌, ℕ, ◌+◌, Option, Some, None, List}
-use Rattle.frame_store.specs.declared.frames.Frame.{Frame}
+use Rattle.std.specs.Prelude.{◌≡◌, ◌⊎◌, ℕ, ◌+◌, Bool, ◌&&◌, nat_le, if◌then◌else◌, Option, Some, None, List}
 use Rattle.frame_store.specs.declared.shapes.Shape.{Shape}
-use Rattle.frame_store.specs.Listed.{Fits}
+use Rattle.frame_store.specs.Layouts.{half_size}
+use Rattle.frame_store.specs.Listed.{size_of}
+use Rattle.frame_store.specs.Stores.{Held}
+use Rattle.brick_store.specs.Bricks.{Brick}
 
 -- so many, or seven more where the list of frames was rewritten first
 abbrev pub MakesCalls : ℕ → ℕ → ℕ → Type 0
 MakesCalls calls before after = (after ≡ before + calls) ⊎ (after ≡ before + (7 + calls))
 
+-- The half has room behind so many bytes of frames: for a frame with a body of this length, and the next gate.
+abbrev pub has_room_for : Shape → ℕ → ℕ → Bool
+has_room_for shape listed body = nat_le (listed + 6 + body + 1) (half_size shape)
+
+-- so many calls append a frame with a body of this length, and seven more where the list is rewritten first, for want of room
+abbrev pub calls_with : Shape → ℕ → ℕ → ℕ → ℕ
+calls_with shape listed body calls = if has_room_for shape listed body then calls else (7 + calls)
+
+-- those of a store
+abbrev pub calls_of : {D : Type 0} → Brick D → ℕ → ℕ → ℕ
+calls_of store body calls = calls_with store.shape store.listed body calls
+
+-- A list that was read can be appended to: each frame of it counts, a closed gate stands behind it, and it has room for a frame
+-- with a body of this length.
+abbrev pub is_appendable : {D : Type 0} → Bool → Held D → ℕ → Bool
+is_appendable whole frames body = (whole && frames.closed) && has_room_for frames.shape (size_of frames.frames) body
+
+-- an opening syncs the disk and appends its count, and rewrites before a list that can't be appended to
+abbrev pub opening_calls : Bool → ℕ
+opening_calls appendable = if appendable then 5 else 12
+
 -- a block of its own is one call more
 abbrev pub version_calls : Option (List ℕ) → ℕ
 version_calls None = 4
 version_calls (Some bytes) = 5
-
--- the frame of any record fits in the half
-abbrev pub HasFrameRoom : Shape → List Frame → Type 0
-HasFrameRoom shape frames = Fits shape frames 145
-
--- seven more only where there was no room
-pub record MakesRoomCalls (room : Type 0) (calls before after : ℕ) : Type 0 where
-  pub made : MakesCalls calls before after
-  pub at_once : room → after ≡ before + calls

@@ -7,6 +7,7 @@ use Rattle.version_log.specs.Versions.{Version}
 use Rattle.frame_store.specs.declared.frames.Frame.{Frame}
 use Rattle.frame_store.specs.declared.shapes.Shape.{Shape}
 use Rattle.frame_store.specs.Images.{OpensAs, block_in}
+use Rattle.frame_store.specs.Listed.{size_of}
 use Rattle.brick_state.specs.declared.records.Record.{Record}
 use Rattle.brick_state.specs.declared.records.Record.TheVariants as forms
 use Rattle.brick_state.specs.States.{StateOf, empty}
@@ -57,6 +58,12 @@ pub record StandsFor (shape : Shape) (st : StateOf Version) (image : List ℕ) :
   pub frames : List Frame
   pub opens : OpensAs shape frames true image
   pub state : state_in shape frames image ≡ st
+
+-- the image opens as a list of frames of so many bytes
+pub record IsListed (shape : Shape) (listed : ℕ) (image : List ℕ) : Type 0 where
+  pub frames : List Frame
+  pub opens : OpensAs shape frames true image
+  pub bytes : size_of frames ≡ listed
 
 -- the image opens as the state before a change, or as the one after it
 abbrev pub StandsForEither : Shape → StateOf Version → StateOf Version → List ℕ → Type 0

@@ -1,8 +1,10 @@
 -- What an opening reads.
-use Rattle.std.specs.Prelude.{◌≡◌, ◌⊎◌, ℕ, ◌-◌, ◌<◌, ◌^◌, ◌==◌, Bool, true, Some, None, IsSome, List, ◌∷◌, length}
+use Rattle.std.specs.Prelude.{◌≡◌, ◌⊎◌, ℕ, ◌-◌, ◌<◌, ◌^◌, ◌==◌, Bool, ◌&&◌, true, false, Option, Some, None, IsSome, option_and_then, List, [], ◌∷◌, length}
 use Rattle.std.specs.Ordering.{nat_cmp}
 use Rattle.std.specs.BTreeMap.{BTreeMap, get}
 use Rattle.frame_store.specs.declared.shapes.Shape.{Shape}
+use Rattle.frame_store.specs.Listed.{size_of}
+use Rattle.brick_store.specs.Calls.{has_room_for}
 use Rattle.frame_store.specs.Images.{HasSlot, OpensAs, KeepsSlots, block_in}
 use Rattle.frame_store.specs.declared.frames.Frame.{Frame}
 use Rattle.brick_state.specs.declared.records.Record.{Record}
@@ -20,9 +22,23 @@ pub record IsTaken (limits : Limits) (frame : Frame) (old new : StateOf Entry) :
   pub is : record_of frame ≡ Some read
   pub leads : applied limits read old ≡ Some new
 
+-- what a frame makes of a state: nothing where it is no record, or one that can't be
+abbrev pub taken_by : Limits → Frame → StateOf Entry → Option (StateOf Entry)
+taken_by limits frame st = option_and_then (λ read. applied limits read st) (record_of frame)
+
+abbrev pub goes_on : Option (StateOf Entry) → (StateOf Entry → Bool) → Bool
+goes_on None more = false
+goes_on (Some st) more = more st
+
+-- each of these frames is a record that can be
+unfoldable pub is_whole : Limits → List Frame → StateOf Entry → Bool
+is_whole limits [] st = true
+is_whole limits (frame ∷ frames) st = goes_on (taken_by limits frame st) (is_whole limits frames)
+
 -- the frame, and what comes after it, changes nothing
 pub record EndsBefore (limits : Limits) (frame : Frame) (old new : StateOf Entry) : Type 0 where
   pub same : new ≡ old
+  pub never : taken_by limits frame old ≡ None
   pub ends : (rest : List Frame) → folded limits (records_of (frame ∷ rest)) old ≡ old
 
 -- the block in the slot is held in memory; that of the zero block need not be
@@ -60,6 +76,7 @@ pub record IsLoaded (tells : Type 0) (shape : Shape) (frames : List Frame) (cont
   pub limits_are : limits ≡ limits_of shape
   pub found : folded (limits_of shape) (records_of frames) empty ≡ st
   pub leads : whole ≡ true → Leads (limits_of shape) frames empty st
+  pub whole_is : whole ≡ is_whole (limits_of shape) frames empty
   pub kept : IsKeptState (limits_of shape) st
   pub members : AllByRecursion GroupHasMembers st.groups
   pub held : AllSlots (IsCached shape.block blocks) st
@@ -73,3 +90,8 @@ IsKeptInEither shape before after content image = IsKeptIn shape before content 
 -- what frames make of a brick that keeps nothing
 abbrev pub found_in : Shape → List Frame → StateOf Entry
 found_in shape frames = folded (limits_of shape) (records_of frames) empty
+
+-- The list that these frames make can be appended to: each of them counts, a closed gate stands behind the last one, and the half
+-- has room for the count of an opening.
+abbrev pub opens_appendable : Shape → List Frame → Bool → Bool
+opens_appendable shape frames closed = (is_whole (limits_of shape) frames empty && closed) && has_room_for shape (size_of frames) 4

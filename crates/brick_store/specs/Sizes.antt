@@ -1,9 +1,48 @@
--- How many bytes the frames of records are at most.
-use Rattle.std.specs.Prelude.{ℕ, ◌+◌, List, [], ◌∷◌}
+-- How many bytes the bodies and the frames of records are.
+use Rattle.std.specs.Prelude.{ℕ, ◌+◌, ◌*◌, Bool, Option, Some, None, List, [], ◌∷◌, length}
+use Rattle.fab_base.specs.declared.identities.BrickId.{BrickId}
+use Rattle.fab_base.specs.declared.member_lists.View.{View}
+use Rattle.fab_base.specs.declared.stamps.Ballot.{Ballot}
 use Rattle.stamp_store.specs.declared.kept_records.Kept.TheVariants.{Boot, Ballots, Order}
 use Rattle.stamp_store.specs.declared.kept_records.Kept.TheVariants as kinds
+use Rattle.stamp_store.specs.declared.log_records.LogChange.{LogChange}
+use Rattle.stamp_store.specs.declared.log_records.LogChange.TheVariants.{Same, Collect, Slot}
 use Rattle.brick_state.specs.declared.records.Record.{Record}
 use Rattle.brick_state.specs.declared.records.Record.TheVariants as forms
+
+-- the bytes of what was accepted, if anything was, and of what a log record says of a block
+abbrev pub accepted_size : Option (Ballot × List BrickId) → ℕ
+accepted_size None = 1
+accepted_size (Some accepted) = 12 + 2 * length accepted.1
+
+abbrev pub change_size : LogChange → ℕ
+change_size Same = 0
+change_size Collect = 0
+change_size (Slot bottom slot) = 5
+
+-- the bytes of the body of a view's record, of that of ballots, and of that of a version
+abbrev pub view_size : View → ℕ
+view_size view = 11 + 2 * length view.members + 2 * length view.prior
+
+abbrev pub ballots_size : Option (Ballot × List BrickId) → ℕ
+ballots_size accepted = 18 + accepted_size accepted
+
+abbrev pub version_size : Option (List ℕ) → ℕ
+version_size None = 30
+version_size (Some block) = 35
+
+-- that of the view that a group learnt
+abbrev pub known_size : Option (View × Bool) → ℕ
+known_size None = 0
+known_size (Some known) = view_size known.0
+
+-- the bytes of a record's body
+abbrev pub body_size : Record → ℕ
+body_size (forms.Kept (Boot count)) = 4
+body_size (forms.Kept (kinds.View group view synced)) = view_size view
+body_size (forms.Kept (Ballots group view promised accepted)) = ballots_size accepted
+body_size (forms.Kept (Order group view stripe stamp)) = 30
+body_size (forms.Logged logged) = 30 + change_size logged.change
 
 -- the bytes of a record's frame, with 32 members where a list of them stands
 abbrev pub most : Record → ℕ

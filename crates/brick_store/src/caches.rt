@@ -3,6 +3,7 @@
 ghost use Rattle.std.specs.Prelude.{◌≡◌, ◌≢◌, ◌==◌, ℕ, true, false, Err, IfOk, OnOk, IsOk, length};
 ghost use Rattle.std.specs.List.{AllByRecursion};
 ghost use Rattle.fab_disk.specs.Disk.{IsUntouched, Kept};
+ghost use Rattle.fab_disk.specs.Plan.{KeepsPlan};
 ghost use Rattle.frame_store.specs.Images.{HasSlot, block_in};
 ghost use Rattle.frame_store.specs.Stores.{IsRead, IsSame};
 ghost use Rattle.brick_store.specs.Standing.{IsCached, IsStored};
@@ -35,6 +36,7 @@ fn read_block<D: Disk>(
     ensures not_halted { result ≢ Err StoreFault.Halted }
     ensures not_full { (n : ℕ) → result ≢ Err (StoreFault.Full n) }
     ensures not_worn { result ≢ Err StoreFault.Worn }
+    ensures plan { KeepsPlan D.plan D.unlisted frames.old.disk frames.new.disk (result ≡ Err StoreFault.Disk) }
     ensures cause { Kept (D.faults frames.old.disk) (D.faults frames.new.disk) (D.sound frames.old.disk) (D.sound frames.new.disk)
         (result ≡ Err StoreFault.Disk) }
 {
@@ -67,6 +69,7 @@ fn hold_block<D: Disk>(
     ensures not_halted { result ≢ Err StoreFault.Halted }
     ensures not_full { (n : ℕ) → result ≢ Err (StoreFault.Full n) }
     ensures not_worn { result ≢ Err StoreFault.Worn }
+    ensures plan { KeepsPlan D.plan D.unlisted frames.old.disk frames.new.disk (result ≡ Err StoreFault.Disk) }
     ensures cause { Kept (D.faults frames.old.disk) (D.faults frames.new.disk) (D.sound frames.old.disk) (D.sound frames.new.disk)
         (result ≡ Err StoreFault.Disk) }
 {
@@ -96,6 +99,7 @@ pub(crate) fn read_blocks<D: Disk>(
     ensures not_halted { result ≢ Err StoreFault.Halted }
     ensures not_full { (n : ℕ) → result ≢ Err (StoreFault.Full n) }
     ensures not_worn { result ≢ Err StoreFault.Worn }
+    ensures plan { KeepsPlan D.plan D.unlisted frames.old.disk frames.new.disk (result ≡ Err StoreFault.Disk) }
     ensures cause { Kept (D.faults frames.old.disk) (D.faults frames.new.disk) (D.sound frames.old.disk) (D.sound frames.new.disk)
         (result ≡ Err StoreFault.Disk) }
 {

@@ -1,15 +1,17 @@
 //! One change: its record is appended to the list of frames, and then it is made in the index.
 
-ghost use Rattle.std.specs.Prelude.{◌≡◌, ◌≢◌, ◌⊎◌, ◌+◌, ◌≤◌, ◌<◌, Some, None, IsSome, Err, true, false, OnOk, OnErr, Bool, length};
+ghost use Rattle.std.specs.Prelude.{◌≡◌, ◌≢◌, ◌⊎◌, ◌+◌, ◌≤◌, ◌<◌, Some, None, IsSome, Err, true, false, OnOk, OnErr, IsOk, Bool, length};
 ghost use Rattle.std.specs.List.{AllByRecursion};
 ghost use Rattle.fab_disk.specs.Disk.{Kept};
+ghost use Rattle.fab_disk.specs.Plan.{IsRun};
 ghost use Rattle.frame_store.specs.Layouts.{IsShape};
-ghost use Rattle.frame_store.specs.Listed.{Fits};
+ghost use Rattle.frame_store.specs.Listed.{Fits, size_of};
 ghost use Rattle.brick_state.specs.States.{live};
 ghost use Rattle.brick_state.specs.Indexes.{state_of, limits_of};
 ghost use Rattle.brick_state.specs.Folds.{applied, is_full};
 ghost use Rattle.brick_state.specs.KeptStates.{IsKeptState};
-ghost use Rattle.brick_store.specs.Calls.{MakesRoomCalls, HasFrameRoom};
+ghost use Rattle.brick_store.specs.Calls.{calls_with};
+ghost use Rattle.brick_store.specs.Sizes.{body_size};
 ghost use Rattle.brick_store.specs.Standing.{GroupHasMembers, IsIndexed};
 ghost use Rattle.brick_store.specs.Steps.{RecordHasMembers, Step, MayStep, changed, HasAppendRoom, IsRefused};
 
@@ -35,7 +37,8 @@ fn rewrite<D: Disk>(
     ensures step { Step D.tells D.seen D.may_leave D.moment D.left_since None (state_of index.now) (state_of index.now) frames.old frames.new result }
     ensures fits { OnOk result (Fits frames.new.shape frames.new.frames body) }
     ensures room { OnOk result (HasAppendRoom D.has_room frames.new body) }
-    ensures counted { D.tells → OnOk result (D.moment frames.new.disk ≡ D.moment frames.old.disk + 7) }
+    ensures run { IsRun D.tells D.moment D.plan D.unlisted 7 frames.old.disk frames.new.disk
+        (IsOk result) (result ≡ Err StoreFault.Disk) }
     ensures cause { Kept (D.faults frames.old.disk) (D.faults frames.new.disk) (D.sound frames.old.disk) (D.sound frames.new.disk)
         (result ≡ Err StoreFault.Disk) }
 {
@@ -59,8 +62,8 @@ fn make_room<D: Disk>(
     ensures step { Step D.tells D.seen D.may_leave D.moment D.left_since None (state_of index.now) (state_of index.now) frames.old frames.new result }
     ensures fits { OnOk result (Fits frames.new.shape frames.new.frames body) }
     ensures room { OnOk result ((frames.new ≡ frames.old) ⊎ HasAppendRoom D.has_room frames.new body) }
-    ensures counted { D.tells → OnOk result (MakesRoomCalls (Fits frames.old.shape frames.old.frames body) 0 (D.moment frames.old.disk)
-        (D.moment frames.new.disk)) }
+    ensures run { IsRun D.tells D.moment D.plan D.unlisted (calls_with frames.old.shape (size_of frames.old.frames) body 0) frames.old.disk frames.new.disk
+        (IsOk result) (result ≡ Err StoreFault.Disk) }
     ensures cause { Kept (D.faults frames.old.disk) (D.faults frames.new.disk) (D.sound frames.old.disk) (D.sound frames.new.disk)
         (result ≡ Err StoreFault.Disk) }
 {
@@ -84,8 +87,8 @@ fn append_record<D: Disk>(
     requires can { IsSome (applied (limits_of index.now) item.now (state_of index.now)) }
     ensures step { Step D.tells D.seen D.may_leave D.moment D.left_since None (state_of index.now)
         (changed (limits_of index.now) item.now (state_of index.now)) frames.old frames.new result }
-    ensures counted { D.tells → OnOk result (MakesRoomCalls (HasFrameRoom frames.old.shape frames.old.frames) 4 (D.moment frames.old.disk)
-        (D.moment frames.new.disk)) }
+    ensures run { IsRun D.tells D.moment D.plan D.unlisted (calls_with frames.old.shape (size_of frames.old.frames) (body_size item.now) 4) frames.old.disk frames.new.disk
+        (IsOk result) (result ≡ Err StoreFault.Disk) }
     ensures cause { Kept (D.faults frames.old.disk) (D.faults frames.new.disk) (D.sound frames.old.disk) (D.sound frames.new.disk)
         (result ≡ Err StoreFault.Disk) }
 {
@@ -133,8 +136,8 @@ fn append_version<D: Disk>(
     requires block { length block.now ≡ frames.old.shape.block }
     ensures step { Step D.tells D.seen D.may_leave D.moment D.left_since (Some (slot, block.now)) (state_of index.now)
         (changed (limits_of index.now) item.now (state_of index.now)) frames.old frames.new result }
-    ensures counted { D.tells → OnOk result (MakesRoomCalls (HasFrameRoom frames.old.shape frames.old.frames) 5 (D.moment frames.old.disk)
-        (D.moment frames.new.disk)) }
+    ensures run { IsRun D.tells D.moment D.plan D.unlisted (calls_with frames.old.shape (size_of frames.old.frames) (body_size item.now) 5) frames.old.disk frames.new.disk
+        (IsOk result) (result ≡ Err StoreFault.Disk) }
     ensures cause { Kept (D.faults frames.old.disk) (D.faults frames.new.disk) (D.sound frames.old.disk) (D.sound frames.new.disk)
         (result ≡ Err StoreFault.Disk) }
 {
@@ -165,8 +168,8 @@ pub fn commit<D: Disk>(
     ensures made { OnOk result (state_of index.new ≡ changed (limits_of index.old) item.now (state_of index.old)) }
     ensures not_made { OnErr result (state_of index.new ≡ state_of index.old) }
     ensures limits { limits_of index.new ≡ limits_of index.old }
-    ensures counted { D.tells → OnOk result (MakesRoomCalls (HasFrameRoom frames.old.shape frames.old.frames) 4 (D.moment frames.old.disk)
-        (D.moment frames.new.disk)) }
+    ensures run { IsRun D.tells D.moment D.plan D.unlisted (calls_with frames.old.shape (size_of frames.old.frames) (body_size item.now) 4) frames.old.disk frames.new.disk
+        (IsOk result) (result ≡ Err StoreFault.Disk) }
     ensures cause { Kept (D.faults frames.old.disk) (D.faults frames.new.disk) (D.sound frames.old.disk) (D.sound frames.new.disk)
         (result ≡ Err StoreFault.Disk) }
 {
@@ -201,8 +204,8 @@ pub fn commit_with<D: Disk>(
     ensures made { OnOk result (state_of index.new ≡ changed (limits_of index.old) item.now (state_of index.old)) }
     ensures not_made { OnErr result (state_of index.new ≡ state_of index.old) }
     ensures limits { limits_of index.new ≡ limits_of index.old }
-    ensures counted { D.tells → OnOk result (MakesRoomCalls (HasFrameRoom frames.old.shape frames.old.frames) 5 (D.moment frames.old.disk)
-        (D.moment frames.new.disk)) }
+    ensures run { IsRun D.tells D.moment D.plan D.unlisted (calls_with frames.old.shape (size_of frames.old.frames) (body_size item.now) 5) frames.old.disk frames.new.disk
+        (IsOk result) (result ≡ Err StoreFault.Disk) }
     ensures cause { Kept (D.faults frames.old.disk) (D.faults frames.new.disk) (D.sound frames.old.disk) (D.sound frames.new.disk)
         (result ≡ Err StoreFault.Disk) }
 {

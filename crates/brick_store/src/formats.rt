@@ -1,7 +1,8 @@
 //! Making a store.
 
-ghost use Rattle.std.specs.Prelude.{◌≡◌, ◌⊎◌, ◌+◌, ◌≤◌, Err, OnOk, OnErr};
+ghost use Rattle.std.specs.Prelude.{◌≡◌, ◌⊎◌, ◌+◌, ◌≤◌, Err, IsOk, OnOk, OnErr};
 ghost use Rattle.fab_disk.specs.Disk.{IsUntouched, Kept};
+ghost use Rattle.fab_disk.specs.Plan.{IsRun};
 ghost use Rattle.frame_store.specs.Layouts.{shape_of};
 ghost use Rattle.brick_state.specs.States.{empty};
 ghost use Rattle.brick_store.specs.Images.{StandsFor, LeavesState};
@@ -27,7 +28,7 @@ pub fn format<D: Disk>(
     requires records_range { (1 ≤ records) × (records ≤ 1048576) }
     ensures empty { D.tells → OnOk result (StandsFor (shape_of me.0 block records) empty (D.seen disk.new)) }
     ensures durable { D.tells → OnOk result (LeavesState (shape_of me.0 block records) empty (D.may_leave disk.new)) }
-    ensures counted { D.tells → OnOk result (D.moment disk.new ≡ D.moment disk.old + 5) }
+    ensures run { IsRun D.tells D.moment D.plan D.unlisted 5 disk.old disk.new (IsOk result) (result ≡ Err StoreFault.Disk) }
     ensures only { OnErr result ((result ≡ Err StoreFault.Disk) ⊎ (result ≡ Err StoreFault.NoMemory)) }
     ensures no_memory { result ≡ Err StoreFault.NoMemory → IsUntouched D.seen D.may_leave D.moment D.left_since disk.old disk.new }
     ensures cause { Kept (D.faults disk.old) (D.faults disk.new) (D.sound disk.old) (D.sound disk.new) (result ≡ Err StoreFault.Disk) }

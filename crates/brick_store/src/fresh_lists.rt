@@ -1,9 +1,10 @@
 //! A store that was read is made ready for the count of its opening: a list of frames that ended early, or that has no room for
 //! one more, is written anew before anything is appended to it.
 
-ghost use Rattle.std.specs.Prelude.{◌≡◌, ◌⊎◌, ◌+◌, ◌≤◌, true, false, None, Err, OnOk, OnErr};
+ghost use Rattle.std.specs.Prelude.{◌≡◌, ◌⊎◌, ◌+◌, ◌≤◌, if◌then◌else◌, true, false, None, Err, IsTrue, IsOk, OnOk, OnErr};
 ghost use Rattle.std.specs.List.{AllByRecursion};
 ghost use Rattle.fab_disk.specs.Disk.{IsUntouched, LeavesOnly, Kept};
+ghost use Rattle.fab_disk.specs.Plan.{IsRun};
 ghost use Rattle.frame_store.specs.Layouts.{IsShape};
 ghost use Rattle.frame_store.specs.Images.{KeepsSlots};
 ghost use Rattle.frame_store.specs.Listed.{Fits};
@@ -15,6 +16,7 @@ ghost use Rattle.brick_state.specs.Indexes as indexes;
 ghost use Rattle.brick_state.specs.KeptStates.{IsKeptState};
 ghost use Rattle.brick_store.specs.Images.{records_of, limits_of};
 ghost use Rattle.brick_store.specs.Standing.{GroupHasMembers, Leads};
+ghost use Rattle.brick_store.specs.Calls.{is_appendable};
 ghost use Rattle.brick_store.specs.Steps.{MayStep, HasAppendRoom};
 ghost use Rattle.brick_store.specs.Openings.{IsKeptIn, IsAllowedOr};
 
@@ -50,7 +52,7 @@ fn renew<D: Disk>(
     ensures no_memory { result ≡ Err StoreFault.NoMemory → IsUntouched D.seen D.may_leave D.moment D.left_since frames.old.disk frames.new.disk }
     ensures fits { OnOk result (Fits frames.new.shape frames.new.frames body) }
     ensures room { OnOk result (HasAppendRoom D.has_room frames.new body) }
-    ensures counted { D.tells → OnOk result (D.moment frames.new.disk ≡ D.moment frames.old.disk + 8) }
+    ensures run { IsRun D.tells D.moment D.plan D.unlisted 8 frames.old.disk frames.new.disk (IsOk result) (result ≡ Err StoreFault.Disk) }
     ensures cause { Kept (D.faults frames.old.disk) (D.faults frames.new.disk) (D.sound frames.old.disk) (D.sound frames.new.disk)
         (result ≡ Err StoreFault.Disk) }
 {
@@ -61,10 +63,20 @@ fn renew<D: Disk>(
     Ok(())
 }
 
+// Whether a list that was read can be appended to.
+fn is_appendable<D: Disk>(frames: &FrameStore<D>, whole: bool, body: usize) -> bool
+    ensures is { result ≡ is_appendable whole frames.now body }
+    ensures whole { IsTrue result → whole ≡ true }
+    ensures closed { IsTrue result → frames.now.closed ≡ true }
+    ensures fits { IsTrue result → Fits frames.now.shape frames.now.frames body }
+{
+    whole && frames.is_closed() && frames.fits(body)
+}
+
 /// Makes a store that was read ready for one append of a frame with a body of this length: syncs the disk, and where the list of
 /// frames ended early, or has no room for the frame, puts the frames of what the index keeps in its place. All memory for this
 /// and for the append is taken before the disk is touched.
-pub fn settle<D: Disk>(
+pub fn make_appendable<D: Disk>(
     alloc: Global,
     frames: &mut FrameStore<D>,
     index: &Index,
@@ -89,12 +101,12 @@ pub fn settle<D: Disk>(
     ensures no_memory { result ≡ Err StoreFault.NoMemory → IsUntouched D.seen D.may_leave D.moment D.left_since frames.old.disk frames.new.disk }
     ensures fits { OnOk result (Fits frames.new.shape frames.new.frames body) }
     ensures room { OnOk result (HasAppendRoom D.has_room frames.new body) }
-    ensures counted { D.tells → OnOk result ((D.moment frames.new.disk ≡ D.moment frames.old.disk + 1)
-        ⊎ (D.moment frames.new.disk ≡ D.moment frames.old.disk + 8)) }
+    ensures run { IsRun D.tells D.moment D.plan D.unlisted (if is_appendable whole frames.old body then 1 else 8) frames.old.disk frames.new.disk
+        (IsOk result) (result ≡ Err StoreFault.Disk) }
     ensures cause { Kept (D.faults frames.old.disk) (D.faults frames.new.disk) (D.sound frames.old.disk) (D.sound frames.new.disk)
         (result ≡ Err StoreFault.Disk) }
 {
-    if whole && frames.is_closed() && frames.fits(body) {
+    if is_appendable(frames, whole, body) {
         frames.reserve(&[], body)?;
         frames.sync()?;
         return Ok(());

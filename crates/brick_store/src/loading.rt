@@ -2,6 +2,7 @@
 
 ghost use Rattle.std.specs.Prelude.{◌≡◌, ◌≢◌, ◌-◌, ◌^◌, ℕ, true, false, Err, IfOk, IsOk};
 ghost use Rattle.fab_disk.specs.Disk.{IsUntouched, Kept};
+ghost use Rattle.fab_disk.specs.Plan.{KeepsPlan};
 ghost use Rattle.frame_store.specs.Stores.{IsRead, IsSame};
 ghost use Rattle.frame_store.specs.Layouts.{IsShape};
 ghost use Rattle.brick_state.specs.States.{empty};
@@ -48,6 +49,7 @@ pub(crate) fn load<D: Disk>(
     ensures not_halted { result ≢ Err StoreFault.Halted }
     ensures not_full { (n : ℕ) → result ≢ Err (StoreFault.Full n) }
     ensures no_slot { D.tells → result ≢ Err StoreFault.NotAStore }
+    ensures plan { KeepsPlan D.plan D.unlisted frames.old.disk frames.new.disk (result ≡ Err StoreFault.Disk) }
     ensures cause { Kept (D.faults frames.old.disk) (D.faults frames.new.disk) (D.sound frames.old.disk) (D.sound frames.new.disk)
         (result ≡ Err StoreFault.Disk) }
 {

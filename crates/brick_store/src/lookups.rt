@@ -2,12 +2,11 @@
 
 ghost use Rattle.std.specs.Prelude.{◌≡◌, ◌<◌, ◌≤◌, ◌↔◌, ℕ, List, None, IsTrue, false, option_map};
 ghost use Rattle.fab_disk.specs.Disk.{KeepsRoom};
-ghost use Rattle.fab_disk.specs.Plan.{IsPlanned};
 ghost use Rattle.brick_state.specs.States.{live, group_at};
 ghost use Rattle.brick_state.specs.Times.{top_time};
 ghost use Rattle.brick_store.specs.Blocks.{accepted_of, version_stamp, first_kept, learnt_of, IsServed};
 ghost use Rattle.brick_store.specs.Bricks.{Keeps, IsOrdered};
-ghost use Rattle.brick_store.specs.Images.{LeavesState, StandsFor};
+ghost use Rattle.brick_store.specs.Images.{LeavesState, StandsFor, IsListed};
 
 use crate::index_steps::accepted_of;
 use crate::stores::BrickStore;
@@ -93,6 +92,8 @@ impl<D: Disk> BrickStore<D> {
         ensures value { result ≡ self.now.halted }
         ensures durable { D.tells → self.now.halted ≡ false → LeavesState self.now.shape self.now.state (D.may_leave self.now.disk) }
         ensures ordered { IsOrdered self.now.shape.block self.now.state }
+        // Whether there is room for a frame is told by what the disk holds.
+        ensures listed { D.tells → self.now.halted ≡ false → IsListed self.now.shape self.now.listed (D.seen self.now.disk) }
     {
         let _ = &self.index;
         self.frames.is_halted()
@@ -119,13 +120,16 @@ impl<D: Armed> BrickStore<D> {
     /// Passes a plan on to the disk: see [`Armed::arm`].
     pub fn arm(&mut self, plan: Plan)
         ensures same { Keeps self.old.state self.old self.new }
+        ensures room_left { self.new.listed ≡ self.old.listed }
         ensures halted { self.new.halted ≡ self.old.halted }
         ensures content { D.seen self.new.disk ≡ D.seen self.old.disk }
         ensures crash { (image : List ℕ) → D.may_leave self.new.disk image → D.may_leave self.old.disk image }
-        ensures planned { (n : ℕ) → IsPlanned plan n → D.fails_in self.new.disk n }
+        ensures planned { D.plan self.new.disk ≡ plan }
+        ensures listed { D.unlisted self.old.disk → D.unlisted self.new.disk }
         ensures faults { D.faults self.new.disk ≡ D.faults self.old.disk }
         ensures room { KeepsRoom (D.has_room self.old.disk) (D.has_room self.new.disk) }
         ensures sound { plan ≡ Plan.Never → D.sound self.old.disk → D.sound self.new.disk }
+        ensures again { plan ≡ Plan.Never → D.unlisted self.old.disk → D.sound self.new.disk }
     {
         self.frames.arm(plan);
     }

@@ -1,14 +1,16 @@
 //! Opening a store.
 
-ghost use Rattle.std.specs.Prelude.{◌≡◌, ◌≢◌, ℕ, ◌+◌, ◌-◌, ◌≤◌, ◌<◌, ◌^◌, false, IfOk, IfErr};
+ghost use Rattle.std.specs.Prelude.{◌≡◌, ◌≢◌, ℕ, ◌+◌, ◌-◌, ◌≤◌, ◌<◌, ◌^◌, List, Bool, false, IfOk, IfErr};
 ghost use Rattle.fab_disk.specs.Disk.{IsUntouched, LeavesOnly, Kept};
+ghost use Rattle.fab_disk.specs.Plan.{IsRun};
 ghost use Rattle.frame_store.specs.Layouts.{shape_of};
-ghost use Rattle.frame_store.specs.Images.{IsNoStore};
+ghost use Rattle.frame_store.specs.Images.{OpensAs, IsNoStore};
 ghost use Rattle.version_log.specs.Versions.{Version};
 ghost use Rattle.brick_state.specs.States.{StateOf, booted};
-ghost use Rattle.brick_store.specs.Calls.{MakesCalls};
+ghost use Rattle.brick_store.specs.Calls.{opening_calls};
+ghost use Rattle.frame_store.specs.declared.frames.Frame.{Frame};
 ghost use Rattle.brick_store.specs.Images.{IsFound, StandsFor, StandsForEither, LeavesState};
-ghost use Rattle.brick_store.specs.Openings.{IsAllowedOr};
+ghost use Rattle.brick_store.specs.Openings.{IsAllowedOr, opens_appendable};
 
 use crate::faults::StoreFault;
 use crate::stores::BrickStore;
@@ -53,8 +55,13 @@ pub fn open_store<D: Disk>(
         → LeavesOnly D.moment D.left_since disk store.disk (StandsForEither (shape_of me.0 block records) st (booted (st.boot + 1) st))) }
     ensures any_moment_err { IfErr result (λ e. D.tells → (st : StateOf Version) → LeavesState (shape_of me.0 block records) st (D.may_leave disk)
         → LeavesOnly D.moment D.left_since disk e.1 (StandsForEither (shape_of me.0 block records) st (booted (st.boot + 1) st))) }
-    // So many calls of `write_at` and `sync`, or seven more where the list of frames was rewritten first.
-    ensures counted { IfOk result (λ store. D.tells → MakesCalls 5 (D.moment disk) (D.moment store.disk)) }
+    // Five calls of `write_at` and `sync`, or twelve, as the list of frames is that the disk holds.
+    ensures run { IfOk result (λ store. D.tells → (frames : List Frame) (closed : Bool)
+        → OpensAs (shape_of me.0 block records) frames closed (D.seen disk) → IsRun D.tells D.moment D.plan D.unlisted
+        (opening_calls (opens_appendable (shape_of me.0 block records) frames closed)) disk store.disk (Unit {0}) ⊥) }
+    ensures run_err { IfErr result (λ e. D.tells → (frames : List Frame) (closed : Bool)
+        → OpensAs (shape_of me.0 block records) frames closed (D.seen disk) → IsRun D.tells D.moment D.plan D.unlisted
+        (opening_calls (opens_appendable (shape_of me.0 block records) frames closed)) disk e.1 ⊥ (e.0 ≡ StoreFault.Disk)) }
     ensures not_a_store { IfErr result (λ e. e.0 ≡ StoreFault.NotAStore → D.tells → IsNoStore (shape_of me.0 block records) (D.seen disk)) }
     // There was a store, and it was opened as often as it can be.
     ensures worn { IfErr result (λ e. e.0 ≡ StoreFault.Worn → D.tells → (st : StateOf Version) × IsFound (shape_of me.0 block records) st

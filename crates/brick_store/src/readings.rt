@@ -9,7 +9,7 @@ ghost use Rattle.brick_state.specs.Indexes.{state_of, limits_of};
 ghost use Rattle.brick_store.specs.Images.{or_logged, record_of, records_of, limits_for};
 ghost use Rattle.brick_store.specs.Standing.{GroupHasMembers, Leads};
 ghost use Rattle.brick_store.specs.Steps.{RecordHasMembers};
-ghost use Rattle.brick_store.specs.Openings.{IsTaken, EndsBefore};
+ghost use Rattle.brick_store.specs.Openings.{IsTaken, EndsBefore, is_whole};
 
 use brick_state::{Index, Record};
 use fab_base::NoMem;
@@ -63,6 +63,7 @@ pub(crate) struct Folded {
 pub(crate) fn fold(alloc: Global, frames: &[Frame], records: u32) -> Result<Folded, NoMem>
     ensures limits { IfOk result (λ made. limits_of made.index ≡ limits_for records) }
     ensures state { IfOk result (λ made. state_of made.index ≡ folded (limits_for records) (records_of frames.now) empty) }
+    ensures whole_is { IfOk result (λ made. made.whole ≡ is_whole (limits_for records) frames.now empty) }
     ensures whole { IfOk result (λ made. made.whole ≡ true → Leads (limits_for records) frames.now empty (state_of made.index)) }
     ensures members { IfOk result (λ made. AllByRecursion GroupHasMembers (state_of made.index).groups) }
 {

@@ -10,7 +10,7 @@ ghost use Rattle.brick_state.specs.Rewrites.{live_records};
 ghost use Rattle.brick_store.specs.Images.{record_of};
 ghost use Rattle.brick_store.specs.Standing.{GroupHasMembers};
 ghost use Rattle.brick_store.specs.Steps.{RecordHasMembers};
-ghost use Rattle.brick_store.specs.Sizes.{most, most_of};
+ghost use Rattle.brick_store.specs.Sizes.{body_size, most, most_of};
 
 use brick_state::{Index, Record};
 use fab_base::NoMem;
@@ -21,6 +21,7 @@ use std::alloc::Global;
 pub fn frame_of(alloc: Global, item: &Record) -> Result<Frame, NoMem>
     requires { RecordHasMembers item.now }
     ensures read { IfOk result (λ frame. record_of frame ≡ Some item.now) }
+    ensures length { IfOk result (λ frame. length frame.body ≡ body_size item.now) }
     ensures size { IfOk result (λ frame. 6 + length frame.body ≤ most item.now) }
 {
     match item {

@@ -1,9 +1,10 @@
 //! Making a store go on once it was read.
 
-ghost use Rattle.std.specs.Prelude.{◌≡◌, ◌≢◌, ◌⊎◌, ◌+◌, ◌-◌, ◌<◌, ◌^◌, true, false, Some, None, IsSome, Err, OnOk, OnErr, length};
+ghost use Rattle.std.specs.Prelude.{◌≡◌, ◌≢◌, ◌⊎◌, ◌+◌, ◌-◌, ◌<◌, ◌^◌, true, false, Some, None, IsSome, Err, IsOk, OnOk, OnErr, length};
 ghost use Rattle.std.specs.List.{AllByRecursion};
 ghost use Rattle.fab_disk.specs.Disk.{IsUntouched, LeavesOnly};
 ghost use Rattle.fab_disk.specs.Disk as disks;
+ghost use Rattle.fab_disk.specs.Plan.{IsRun};
 ghost use Rattle.frame_store.specs.Layouts.{IsShape};
 ghost use Rattle.frame_store.specs.Images.{KeepsSlots};
 ghost use Rattle.frame_store.specs.Listed.{Fits};
@@ -15,12 +16,12 @@ ghost use Rattle.brick_state.specs.Indexes as indexes;
 ghost use Rattle.brick_state.specs.KeptStates.{IsKeptState};
 ghost use Rattle.brick_store.specs.Images.{record_of, records_of, limits_of};
 ghost use Rattle.brick_store.specs.Standing.{GroupHasMembers, Leads};
-ghost use Rattle.brick_store.specs.Calls.{MakesCalls};
+ghost use Rattle.brick_store.specs.Calls.{is_appendable, opening_calls};
 ghost use Rattle.brick_store.specs.Steps.{IsSettled, Step, MayStep, changed, HasAppendRoom};
 ghost use Rattle.brick_store.specs.Openings.{IsAllowedOr, IsKeptInEither};
 
 use crate::faults::StoreFault;
-use crate::fresh_lists::settle;
+use crate::fresh_lists::make_appendable;
 use crate::index_steps::apply;
 use crate::rewrites::frame_of;
 use brick_state::{Index, Record};
@@ -48,7 +49,7 @@ fn append_count<D: Disk>(
     ensures made { OnOk result (state_of index.new ≡ changed (indexes.limits_of index.old) item.now (state_of index.old)) }
     ensures limits { indexes.limits_of index.new ≡ indexes.limits_of index.old }
     ensures no_memory { result ≢ Err StoreFault.NoMemory }
-    ensures counted { D.tells → OnOk result (D.moment frames.new.disk ≡ D.moment frames.old.disk + 4) }
+    ensures run { IsRun D.tells D.moment D.plan D.unlisted 4 frames.old.disk frames.new.disk (IsOk result) (result ≡ Err StoreFault.Disk) }
     ensures cause { disks.Kept (D.faults frames.old.disk) (D.faults frames.new.disk) (D.sound frames.old.disk) (D.sound frames.new.disk)
         (result ≡ Err StoreFault.Disk) }
 {
@@ -87,12 +88,13 @@ pub fn start<D: Disk>(
         (booted ((state_of index.old).boot + 1) (state_of index.old)) (D.seen frames.old.disk))) }
     ensures only { OnErr result ((result ≡ Err StoreFault.Disk) ⊎ (result ≡ Err StoreFault.NoMemory)) }
     ensures no_memory { result ≡ Err StoreFault.NoMemory → IsUntouched D.seen D.may_leave D.moment D.left_since frames.old.disk frames.new.disk }
-    ensures counted { D.tells → OnOk result (MakesCalls 5 (D.moment frames.old.disk) (D.moment frames.new.disk)) }
+    ensures run { IsRun D.tells D.moment D.plan D.unlisted (opening_calls (is_appendable whole frames.old 4)) frames.old.disk frames.new.disk
+        (IsOk result) (result ≡ Err StoreFault.Disk) }
     ensures cause { disks.Kept (D.faults frames.old.disk) (D.faults frames.new.disk) (D.sound frames.old.disk) (D.sound frames.new.disk)
         (result ≡ Err StoreFault.Disk) }
 {
     let item = Record::Kept(Kept::Boot(index.boot() + 1));
     let frame = frame_of(alloc, &item)?;
-    settle(alloc, frames, index, whole, frame.body.len())?;
+    make_appendable(alloc, frames, index, whole, frame.body.len())?;
     append_count(frames, index, &item, &frame)
 }

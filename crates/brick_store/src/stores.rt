@@ -1,11 +1,13 @@
 //! The store.
 
-ghost use Rattle.std.specs.Prelude.{◌≡◌, ◌<◌, ◌≤◌, Some, None, IsSome, true, false, length};
+ghost use Rattle.std.specs.Prelude.{◌≡◌, ◌<◌, ◌≤◌, Some, None, IsSome, Err, IsOk, true, false, length};
 ghost use Rattle.std.specs.Option.{ForSome};
 ghost use Rattle.brick_state.specs.States.{stripe_at, ordered, collected, viewed, balloted, group_at};
 ghost use Rattle.brick_state.specs.Folds.{place};
 ghost use Rattle.brick_store.specs.Blocks.{log_at, version_stamp, HasStamp, IsServed, adds_stamp, IsNext, with_version, accepted_of, learnt_of, all_synced};
-ghost use Rattle.brick_store.specs.Calls.{version_calls};
+ghost use Rattle.brick_store.specs.Calls.{version_calls, calls_of};
+ghost use Rattle.brick_store.specs.Sizes.{ballots_size, view_size, known_size, version_size};
+ghost use Rattle.fab_disk.specs.Plan.{IsRun};
 ghost use Rattle.brick_store.specs.Changes.{Changes};
 
 use crate::additions::{forget_refused, held_under, hold_new};
@@ -40,6 +42,7 @@ impl<D: Disk> Model for BrickStore<D> {
     ghost use Rattle.brick_store.specs.Bricks.{Brick};
     ghost use Rattle.brick_store.specs.Blocks.{resolved, cached};
     ghost use Rattle.brick_state.specs.Indexes.{state_of};
+    ghost use Rattle.frame_store.specs.Listed.{size_of};
 
     ghost Value = { Brick D };
 
@@ -48,6 +51,7 @@ impl<D: Disk> Model for BrickStore<D> {
       shape = s.frames.shape;
       state = resolved (cached s.frames.shape.block s.blocks)
           (state_of s.index);
+      listed = size_of s.frames.frames;
       halted = s.frames.halted;
     } };
 
@@ -70,9 +74,11 @@ impl<D: Disk> BrickStore<D> {
     ) -> Result<(), StoreFault>
         requires group { group.0 < 64 }
         requires view { IsServed (group_at self.old.state group.0) view.0 }
-        ensures { Changes D.tells D.seen D.may_leave D.moment D.left_since D.faults D.sound self.old self.new
+        ensures change { Changes D.tells D.seen D.may_leave D.moment D.left_since D.faults D.sound self.old self.new
             (ordered (place group view stripe) stamp self.old.state)
             (adds_stamp stamp (stripe_at self.old.state (place group view stripe)).order) 4 result }
+        ensures run { IsRun D.tells D.moment D.plan D.unlisted (calls_of self.old 30 4) self.old.disk self.new.disk (IsOk result)
+            (result ≡ Err StoreFault.Disk) }
     {
         let place = (group.0, view.0, stripe.0);
         let adds = adds_stamp(stamp, self.index.order(place));
@@ -98,8 +104,10 @@ impl<D: Disk> BrickStore<D> {
     ) -> Result<(), StoreFault>
         requires group { group.0 < 64 }
         requires view { view.0 ≡ learnt_of (group_at self.old.state group.0) }
-        ensures { Changes D.tells D.seen D.may_leave D.moment D.left_since D.faults D.sound self.old self.new
+        ensures change { Changes D.tells D.seen D.may_leave D.moment D.left_since D.faults D.sound self.old self.new
             (balloted group.0 promised (accepted_of (group_at self.old.state group.0)) self.old.state) false 4 result }
+        ensures run { IsRun D.tells D.moment D.plan D.unlisted (calls_of self.old (ballots_size (accepted_of (group_at self.old.state group.0))) 4) self.old.disk self.new.disk (IsOk result)
+            (result ≡ Err StoreFault.Disk) }
     {
         let accepted = accepted_of(self.index.group(group.0));
         let item = Record::Kept(Kept::Ballots {
@@ -126,8 +134,10 @@ impl<D: Disk> BrickStore<D> {
         requires group { group.0 < 64 }
         requires view { view.0 ≡ learnt_of (group_at self.old.state group.0) }
         requires members { 1 ≤ length members }
-        ensures { Changes D.tells D.seen D.may_leave D.moment D.left_since D.faults D.sound self.old self.new
+        ensures change { Changes D.tells D.seen D.may_leave D.moment D.left_since D.faults D.sound self.old self.new
             (balloted group.0 ballot (Some (ballot, members)) self.old.state) false 4 result }
+        ensures run { IsRun D.tells D.moment D.plan D.unlisted (calls_of self.old (ballots_size (Some (ballot, members))) 4) self.old.disk self.new.disk (IsOk result)
+            (result ≡ Err StoreFault.Disk) }
     {
         let item = Record::Kept(Kept::Ballots {
             group,
@@ -148,8 +158,10 @@ impl<D: Disk> BrickStore<D> {
         requires group { group.0 < 64 }
         requires above { learnt_of (group_at self.old.state group.0) < view.number.0 }
         requires members { (1 ≤ length view.members) × (1 ≤ length view.prior) }
-        ensures { Changes D.tells D.seen D.may_leave D.moment D.left_since D.faults D.sound self.old self.new
+        ensures change { Changes D.tells D.seen D.may_leave D.moment D.left_since D.faults D.sound self.old self.new
             (viewed group.0 view false self.old.state) false 4 result }
+        ensures run { IsRun D.tells D.moment D.plan D.unlisted (calls_of self.old (view_size view) 4) self.old.disk self.new.disk (IsOk result)
+            (result ≡ Err StoreFault.Disk) }
     {
         let item = Record::Kept(Kept::View {
             group,
@@ -168,8 +180,10 @@ impl<D: Disk> BrickStore<D> {
         requires group { group.0 < 64 }
         requires view { view.0 ≡ learnt_of (group_at self.old.state group.0) }
         requires learnt { IsSome (group_at self.old.state group.0).known }
-        ensures { Changes D.tells D.seen D.may_leave D.moment D.left_since D.faults D.sound self.old self.new
+        ensures change { Changes D.tells D.seen D.may_leave D.moment D.left_since D.faults D.sound self.old self.new
             (all_synced group.0 self.old.state) false 4 result }
+        ensures run { IsRun D.tells D.moment D.plan D.unlisted (calls_of self.old (known_size (group_at self.old.state group.0).known) 4) self.old.disk self.new.disk (IsOk result)
+            (result ≡ Err StoreFault.Disk) }
     {
         let _ = view;
         let item = Record::Kept(Kept::View {
@@ -195,8 +209,10 @@ impl<D: Disk> BrickStore<D> {
         requires group { group.0 < 64 }
         requires view { IsServed (group_at self.old.state group.0) view.0 }
         requires held { HasStamp stamp (log_at self.old.shape.block self.old.state (place group view stripe)) }
-        ensures { Changes D.tells D.seen D.may_leave D.moment D.left_since D.faults D.sound self.old self.new
+        ensures change { Changes D.tells D.seen D.may_leave D.moment D.left_since D.faults D.sound self.old self.new
             (collected version_stamp (place group view stripe) stamp self.old.state) false 4 result }
+        ensures run { IsRun D.tells D.moment D.plan D.unlisted (calls_of self.old 30 4) self.old.disk self.new.disk (IsOk result)
+            (result ≡ Err StoreFault.Disk) }
     {
         let item = Record::Logged(Logged {
             group,
@@ -225,8 +241,10 @@ impl<D: Disk> BrickStore<D> {
         requires view { IsServed (group_at self.old.state group.0) view.0 }
         requires above { IsNext stamp (log_at self.old.shape.block self.old.state (place group view stripe)) block }
         requires block { ForSome block (λ bytes. length bytes ≡ self.old.shape.block) }
-        ensures { Changes D.tells D.seen D.may_leave D.moment D.left_since D.faults D.sound self.old self.new
+        ensures change { Changes D.tells D.seen D.may_leave D.moment D.left_since D.faults D.sound self.old self.new
             (with_version self.old.shape.block (place group view stripe) stamp block self.old.state) true (version_calls block) result }
+        ensures run { IsRun D.tells D.moment D.plan D.unlisted (calls_of self.old (version_size block) (version_calls block)) self.old.disk self.new.disk (IsOk result)
+            (result ≡ Err StoreFault.Disk) }
     {
         match block {
             Some(bytes) => self.add_block(group, view, stripe, stamp, bytes),
@@ -244,8 +262,10 @@ impl<D: Disk> BrickStore<D> {
     ) -> Result<(), StoreFault>
         requires group { group.0 < 64 }
         requires above { IsNext stamp (log_at self.old.shape.block self.old.state (place group view stripe)) None }
-        ensures { Changes D.tells D.seen D.may_leave D.moment D.left_since D.faults D.sound self.old self.new
+        ensures change { Changes D.tells D.seen D.may_leave D.moment D.left_since D.faults D.sound self.old self.new
             (with_version self.old.shape.block (place group view stripe) stamp None self.old.state) true 4 result }
+        ensures run { IsRun D.tells D.moment D.plan D.unlisted (calls_of self.old 30 4) self.old.disk self.new.disk (IsOk result)
+            (result ≡ Err StoreFault.Disk) }
     {
         let item = Record::Logged(Logged {
             group,
@@ -270,8 +290,10 @@ impl<D: Disk> BrickStore<D> {
         requires group { group.0 < 64 }
         requires above { IsNext stamp (log_at self.old.shape.block self.old.state (place group view stripe)) (Some block) }
         requires block { length block ≡ self.old.shape.block }
-        ensures { Changes D.tells D.seen D.may_leave D.moment D.left_since D.faults D.sound self.old self.new
+        ensures change { Changes D.tells D.seen D.may_leave D.moment D.left_since D.faults D.sound self.old self.new
             (with_version self.old.shape.block (place group view stripe) stamp (Some block) self.old.state) true 5 result }
+        ensures run { IsRun D.tells D.moment D.plan D.unlisted (calls_of self.old 35 5) self.old.disk self.new.disk (IsOk result)
+            (result ≡ Err StoreFault.Disk) }
     {
         ready(&self.frames, &self.index, true)?;
         let slot = hold_new(&self.index, &mut self.blocks, block)?;

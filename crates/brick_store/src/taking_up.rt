@@ -2,13 +2,15 @@
 
 ghost use Rattle.std.specs.Prelude.{◌≡◌, ◌≢◌, ◌+◌, ◌-◌, ◌<◌, ◌^◌, ℕ, true, false, Err, IfOk, IfErr, IsOk};
 ghost use Rattle.fab_disk.specs.Disk.{IsUntouched, LeavesOnly, Kept};
+ghost use Rattle.fab_disk.specs.Plan.{IsRun};
 ghost use Rattle.frame_store.specs.Layouts.{IsShape};
 ghost use Rattle.frame_store.specs.Stores.{IsRead};
-ghost use Rattle.brick_state.specs.States.{booted};
+ghost use Rattle.brick_state.specs.States.{booted, empty};
 ghost use Rattle.brick_state.specs.Indexes.{state_of};
-ghost use Rattle.brick_store.specs.Calls.{MakesCalls};
+ghost use Rattle.brick_store.specs.Calls.{is_appendable, opening_calls};
+ghost use Rattle.brick_store.specs.Images.{limits_of};
 ghost use Rattle.brick_store.specs.Standing.{AllSlots, IsStored, Standing};
-ghost use Rattle.brick_store.specs.Openings.{found_in, IsAllowedOr, IsKeptInEither};
+ghost use Rattle.brick_store.specs.Openings.{is_whole, found_in, IsAllowedOr, IsKeptInEither};
 
 use crate::faults::StoreFault;
 use crate::loading::load;
@@ -58,7 +60,9 @@ pub(crate) fn take_up<D: Disk>(
     ensures not_halted { result ≢ Err StoreFault.Halted }
     ensures not_full { (n : ℕ) → result ≢ Err (StoreFault.Full n) }
     ensures a_store { D.tells → result ≢ Err StoreFault.NotAStore }
-    ensures counted { D.tells → IsOk result → MakesCalls 5 (D.moment frames.old.disk) (D.moment frames.new.disk) }
+    ensures run { IsRun D.tells D.moment D.plan D.unlisted
+        (opening_calls (is_appendable (is_whole (limits_of frames.old.shape) frames.old.frames empty) frames.old 4))
+        frames.old.disk frames.new.disk (IsOk result) (result ≡ Err StoreFault.Disk) }
     ensures cause { Kept (D.faults frames.old.disk) (D.faults frames.new.disk) (D.sound frames.old.disk) (D.sound frames.new.disk)
         (result ≡ Err StoreFault.Disk) }
 {

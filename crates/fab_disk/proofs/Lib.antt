@@ -9,3 +9,4 @@ pub mod Filled
 pub mod Scattered
 pub mod Held
 pub mod Rooms
+pub mod Plans

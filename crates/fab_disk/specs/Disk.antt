@@ -73,11 +73,3 @@ KeepsRoom old new = (calls bytes end : ℕ) → old calls bytes end → new call
 pub record TakesRoom (n end : ℕ) (old new : ℕ → ℕ → ℕ → Type 0) (refused : Type 0) : Type 0 where
   pub left : (calls bytes limit : ℕ) → end ≤ limit → old (calls + 1) (bytes + n) limit → new calls bytes limit
   pub enough : (calls bytes limit : ℕ) → end ≤ limit → old (calls + 1) (bytes + n) limit → refused → ⊥
-
--- what was to fail still is
-abbrev pub KeepsPlan : (ℕ → Type 0) → (ℕ → Type 0) → Type 0
-KeepsPlan old new = (n : ℕ) → old n → new n
-
--- A call that succeeded was not to fail, and what was to fail comes one call sooner.
-abbrev pub CountsDown : (ℕ → Type 0) → (ℕ → Type 0) → Type 0
-CountsDown old new = (n : ℕ) → old (n + 1) → (0 < n) × new n

@@ -1,8 +1,9 @@
 -- Which pages have memory, so that the writes since the last sync can be undone, or drawn, with no more.
-use Rattle.std.specs.Prelude.{ℕ, ◌+◌, ◌<◌, List, [], ◌∷◌}
+use Rattle.std.specs.Prelude.{ℕ, ◌+◌, ◌<◌, List, [], ◌∷◌, length}
 use Rattle.std.proofs.Math.Bool.{Bool-set}
 use Rattle.std.specs.Coded.{×_prop, Unit-prop}
 use Rattle.fab_disk.specs.declared.pages.Page.{Page}
+use Rattle.fab_disk.specs.declared.pages.Pages.{Pages}
 use Rattle.fab_disk.specs.Past.{Past, wrote, synced}
 use Rattle.fab_disk.specs.Stored.{HoldsRange, HoldsEnd}
 
@@ -32,3 +33,16 @@ HoldsWritten-prop front pages (wrote w ∷ older) = ×_prop (HoldsRange-prop fro
 
 pub HoldsSeam-prop : (front : ℕ) (pages : List Page) (past : List Past) (size : ℕ) → IsProp (HoldsSeam front pages past size)
 HoldsSeam-prop front pages past size = hlevel Bool-set
+
+-- so have the pages of a content
+abbrev pub KeepsPages : Pages → List Past → Type 0
+KeepsPages content past = HoldsWritten (length content.front.items) content.pages.items past
+
+abbrev pub KeepsEdge : Pages → List Past → Type 0
+KeepsEdge content past = HoldsSeam (length content.front.items) content.pages.items past content.len
+
+pub KeepsPages-prop : (content : Pages) (past : List Past) → IsProp (KeepsPages content past)
+KeepsPages-prop content past = HoldsWritten-prop (length content.front.items) content.pages.items past
+
+pub KeepsEdge-prop : (content : Pages) (past : List Past) → IsProp (KeepsEdge content past)
+KeepsEdge-prop content past = HoldsSeam-prop (length content.front.items) content.pages.items past content.len

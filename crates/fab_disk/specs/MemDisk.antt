@@ -4,7 +4,7 @@ use Rattle.fab_disk.specs.Past.{Past, IsImage, HadImage}
 use Rattle.fab_disk.specs.Medium.{past, HasRoom}
 use Rattle.fab_disk.specs.Stored.{shown}
 use Rattle.fab_disk.specs.FailingCalls.{NoneLeft, FailsNext}
-use Rattle.fab_disk.specs.Plan.{IsPlanned, next_fate}
+use Rattle.fab_disk.specs.Plan.{next_fate}
 use Rattle.fab_disk.specs.declared.disk.Fate.TheVariants.{Goes, Fails}
 use Rattle.fab_disk.specs.declared.disk.Plan.{Plan}
 use Rattle.fab_disk.specs.declared.disk.Plan.TheVariants.{Never}
@@ -31,9 +31,13 @@ was_left_since disk t image = HadImage (past_of_disk disk) (content_of disk) t i
 abbrev pub moment_of : MemDisk → ℕ
 moment_of disk = length (past_of_disk disk)
 
--- the call of this number is to fail
-abbrev pub is_planned : MemDisk → ℕ → Type 0
-is_planned disk n = IsPlanned disk.plan n
+-- what is to befall the coming calls that change the disk
+abbrev pub plan_of : MemDisk → Plan
+plan_of disk = disk.plan
+
+-- each call that was listed to fail was made
+abbrev pub is_unlisted : MemDisk → Type 0
+is_unlisted disk = NoneLeft disk.failing
 
 -- there is room for so many calls, with so many bytes in all and ends at most there
 abbrev pub room_of : MemDisk → ℕ → ℕ → ℕ → Type 0

@@ -1,5 +1,5 @@
 -- The past of a disk in memory, its newest call first, and what a crash may leave after it.
-use Rattle.std.specs.Prelude.{◌≡◌, ◌≤◌, ◌⊎◌, ◌+◌, ◌-◌, ℕ, min, max, List, [], ◌∷◌, ◌++◌, length, take, drop}
+use Rattle.std.specs.Prelude.{◌≡◌, ◌≤◌, ◌⊎◌, ◌+◌, ◌-◌, ℕ, min, max, List, [], ◌∷◌, ◌++◌, length, take, drop, reverse}
 use Rattle.std.specs.Coded.{×_prop, Unit-prop, le_prop}
 use Rattle.fab_disk.specs.Disk.{Torn}
 use Rattle.fab_disk.specs.declared.medium.Step.{Step}
@@ -74,3 +74,7 @@ past_of (Synced ∷ steps) saved = synced ∷ past_of steps saved
 past_of (Wrote w ∷ steps) saved =
     wrote (record { at = w.at; len = w.len; before = drop (length saved - w.kept) saved; length_before = w.length_before })
     ∷ past_of steps (take (length saved - w.kept) saved)
+
+-- the past that steps tell in the order in which they were made
+abbrev pub past_in : List Step → List ℕ → List Past
+past_in steps saved = past_of (reverse steps) saved

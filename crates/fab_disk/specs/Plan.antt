@@ -1,15 +1,48 @@
 -- What a plan has befall the coming calls.
-use Rattle.std.specs.Prelude.{◌≡◌, ◌-◌, ℕ, ◌==◌, if◌then◌else◌}
+use Rattle.std.specs.Prelude.{◌≡◌, ◌+◌, ◌-◌, ◌≤◌, ℕ, ◌==◌, if◌then◌else◌}
 use Rattle.fab_disk.specs.declared.disk.Plan.{Plan}
 use Rattle.fab_disk.specs.declared.disk.Plan.TheVariants.{Never, Stop, Fail}
 use Rattle.fab_disk.specs.declared.disk.Fate.{Fate}
 use Rattle.fab_disk.specs.declared.disk.Fate.TheVariants.{Goes, Stops, Fails}
 
--- the call of this number, from 1, is to stop or to fail
-abbrev pub IsPlanned : Plan → ℕ → Type 0
-IsPlanned Never n = ⊥
-IsPlanned (Stop number) n = n ≡ number
-IsPlanned (Fail number) n = n ≡ number
+-- the number of the call that is to stop or to fail, from 1 for the next one; 0 where none is
+abbrev pub call_of : Plan → ℕ
+call_of Never = 0
+call_of (Stop number) = number
+call_of (Fail number) = number
+
+-- the plan after so many calls of which it names none
+abbrev pub sooner : ℕ → Plan → Plan
+sooner calls Never = Never
+sooner calls (Stop number) = Stop (number - calls)
+sooner calls (Fail number) = Fail (number - calls)
+
+-- the plan names one of the next calls, so many
+pub record IsWithin (calls : ℕ) (plan : Plan) : Type 0 where
+  pub some : 1 ≤ call_of plan
+  pub reached : call_of plan ≤ calls
+
+-- A run of so many calls of `write_at` and `sync`, which was made whole, was cut short by a call that failed, or was not begun.
+pub record IsRun {D : Type 0} (tells : Type 0) (moment : D → ℕ) (plan : D → Plan) (unlisted : D → Type 0) (calls : ℕ) (old new : D)
+    (whole cut : Type 0) : Type 0 where
+  -- made whole, it made all its calls, and the plan named none of them
+  pub counted : tells → whole → moment new ≡ moment old + calls
+  pub spared : whole → IsWithin calls (plan old) → ⊥
+  pub later : whole → plan new ≡ sooner calls (plan old)
+  -- where no call is listed, it is cut short only by the plan, at the call that this names: all before it were made
+  pub named : unlisted old → cut → IsWithin calls (plan old)
+  pub reached : tells → unlisted old → cut → moment old + call_of (plan old) ≤ moment new + 1
+  pub no_more : tells → unlisted old → cut → moment new ≤ moment old + call_of (plan old)
+  pub used_up : unlisted old → cut → plan new ≡ Never
+  -- not begun, it leaves the plan as it is
+  pub waits : (whole → ⊥) → (cut → ⊥) → plan new ≡ plan old
+  pub stays : unlisted old → unlisted new
+
+-- A call that makes none of `write_at` and `sync`: it leaves the plan as it is, and fails only where calls are listed.
+pub record KeepsPlan {D : Type 0} (plan : D → Plan) (unlisted : D → Type 0) (old new : D) (failed : Type 0) : Type 0 where
+  pub same : plan new ≡ plan old
+  pub stays : unlisted old → unlisted new
+  pub never : unlisted old → failed → ⊥
 
 -- what befalls the next call
 abbrev pub next_fate : Plan → Fate

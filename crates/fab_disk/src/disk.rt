@@ -1,8 +1,9 @@
 // What a store asks of a disk.
 ghost use Rattle.std.specs.Prelude.{◌≡◌, ◌+◌, ◌≤◌, ◌^◌, List, ℕ, length, slice_range, IfOk, IsOk, OnOk, IsOkUnless};
+ghost use Rattle.fab_disk.specs.declared.disk.Plan.{Plan};
 ghost use Rattle.fab_disk.specs.declared.disk.IoFault.TheVariants.{NoMemory};
-ghost use Rattle.fab_disk.specs.Disk.{written, Torn, Follows, Only, Elapses, IsUntouched, Kept, KeepsRoom, TakesRoom, KeepsPlan, CountsDown};
-ghost use Rattle.fab_disk.specs.Plan.{IsPlanned, next_fate, plan_after};
+ghost use Rattle.fab_disk.specs.Disk.{written, Torn, Follows, Only, Elapses, IsUntouched, Kept, KeepsRoom, TakesRoom};
+ghost use Rattle.fab_disk.specs.Plan.{IsRun, KeepsPlan, next_fate, plan_after};
 
 use std::alloc::{AllocError, AllocFailed};
 use thiserror::Error;
@@ -60,8 +61,11 @@ pub trait Disk {
     /// Nothing is known that will make a call fail.
     ghost sound: { Self → Type 0 };
 
-    /// The call of `write_at` or `sync` of this number, from 1 for the next one, is going to fail.
-    ghost fails_in: { Self → ℕ → Type 0 };
+    /// What is to befall one of the coming calls of `write_at` and `sync`.
+    ghost plan: { Self → Plan };
+
+    /// No call is listed to fail, so that a call fails by the plan alone.
+    ghost unlisted: { Self → Type 0 };
 
     /// The coming calls of `write_at` and `sync`, so many, with so many bytes in all and ends at most there, never want memory.
     ghost has_room: { Self → ℕ → ℕ → ℕ → Type 0 };
@@ -71,7 +75,7 @@ pub trait Disk {
         ensures length { tells → IfOk result (λ n. n ≡ length (seen self.old)) }
         ensures untouched { IsUntouched seen may_leave moment left_since self.old self.new }
         ensures room { KeepsRoom (has_room self.old) (has_room self.new) }
-        ensures plan { KeepsPlan (fails_in self.old) (fails_in self.new) }
+        ensures plan { KeepsPlan plan unlisted self.old self.new (result ≡ Err IoFault.Failed) }
         ensures cause { Kept (faults self.old) (faults self.new) (sound self.old) (sound self.new) (result ≡ Err IoFault.Failed) };
 
     /// Reads the bytes from `at` on, as many as `into` holds. Fewer are a fault.
@@ -81,7 +85,7 @@ pub trait Disk {
         ensures bytes { tells → OnOk result (into.new ≡ slice_range (seen self.old) at (at + length into.old)) }
         ensures untouched { IsUntouched seen may_leave moment left_since self.old self.new }
         ensures room { KeepsRoom (has_room self.old) (has_room self.new) }
-        ensures plan { KeepsPlan (fails_in self.old) (fails_in self.new) }
+        ensures plan { KeepsPlan plan unlisted self.old self.new (result ≡ Err IoFault.Failed) }
         ensures cause { Kept (faults self.old) (faults self.new) (sound self.old) (sound self.new) (result ≡ Err IoFault.Failed) };
 
     /// Makes room in memory for the coming calls of `write_at` and `sync`: at most `calls` of them, with `bytes` bytes in
@@ -93,32 +97,32 @@ pub trait Disk {
         ensures only_memory { IsOkUnless result IoFault.NoMemory }
         ensures untouched { IsUntouched seen may_leave moment left_since self.old self.new }
         ensures room { KeepsRoom (has_room self.old) (has_room self.new) }
-        ensures plan { KeepsPlan (fails_in self.old) (fails_in self.new) }
+        ensures plan { KeepsPlan plan unlisted self.old self.new (result ≡ Err IoFault.Failed) }
         ensures cause { Kept (faults self.old) (faults self.new) (sound self.old) (sound self.new) (result ≡ Err IoFault.Failed) };
 
     /// Writes over what is there, and past the end, where a gap is filled with zeros. Until a sync, a crash may leave any
-    /// bytes in the range and past the old end.
+    /// bytes in the range and past the old end; also after a call that stops. A call that fails by the plan does nothing.
     fn write_at(&mut self, at: u64, from: &[u8]) -> Result<(), IoFault>
         requires { at + length from.now ≤ 2 ^ 48 }
         ensures written { tells → OnOk result (seen self.new ≡ written at from.now (seen self.old)) }
         ensures crash { Follows (Torn at (length from.now)) (may_leave self.old) (may_leave self.new) }
         ensures time { Elapses (moment self.old) (moment self.new) (left_since self.old) (left_since self.new) (may_leave self.new) }
-        ensures counted { tells → OnOk result (moment self.new ≡ moment self.old + 1) }
         ensures no_memory { result ≡ Err IoFault.NoMemory → IsUntouched seen may_leave moment left_since self.old self.new }
         ensures room { TakesRoom (length from.now) (at + length from.now) (has_room self.old) (has_room self.new) (result ≡ Err IoFault.NoMemory) }
-        ensures plan { OnOk result (CountsDown (fails_in self.old) (fails_in self.new)) }
+        ensures plan { IsRun tells moment plan unlisted 1 self.old self.new (IsOk result) (result ≡ Err IoFault.Failed) }
+        ensures fails { plan self.old ≡ Plan.Fail 1 → IsUntouched seen may_leave moment left_since self.old self.new }
         ensures cause { Kept (faults self.old) (faults self.new) (sound self.old) (sound self.new) (result ≡ Err IoFault.Failed) };
 
-    /// After it, a crash leaves what a read gives.
+    /// After it, a crash leaves what a read gives. A call that stops, or fails by the plan, makes nothing certain.
     fn sync(&mut self) -> Result<(), IoFault>
         ensures durable { tells → OnOk result (Only (seen self.old) (may_leave self.new)) }
         ensures content { seen self.new ≡ seen self.old }
         ensures crash { (image : List ℕ) → may_leave self.new image → may_leave self.old image }
         ensures time { Elapses (moment self.old) (moment self.new) (left_since self.old) (left_since self.new) (may_leave self.new) }
-        ensures counted { tells → OnOk result (moment self.new ≡ moment self.old + 1) }
         ensures no_memory { result ≡ Err IoFault.NoMemory → IsUntouched seen may_leave moment left_since self.old self.new }
         ensures room { TakesRoom 0 0 (has_room self.old) (has_room self.new) (result ≡ Err IoFault.NoMemory) }
-        ensures plan { OnOk result (CountsDown (fails_in self.old) (fails_in self.new)) }
+        ensures plan { IsRun tells moment plan unlisted 1 self.old self.new (IsOk result) (result ≡ Err IoFault.Failed) }
+        ensures fails { plan self.old ≡ Plan.Fail 1 → IsUntouched seen may_leave moment left_since self.old self.new }
         ensures cause { Kept (faults self.old) (faults self.new) (sound self.old) (sound self.new) (result ≡ Err IoFault.Failed) };
 
     /// Room for more is room for less.
@@ -133,6 +137,15 @@ pub trait Disk {
 
     /// Since this moment there is no other.
     ghost only_now: { (disk : Self) (image : List ℕ) → left_since disk (moment disk) image → may_leave disk image };
+
+    /// With no plan and no listed call a disk is sound.
+    ghost sound_unplanned: { (disk : Self) → plan disk ≡ Plan.Never → unlisted disk → sound disk };
+
+    /// A sound disk has no plan.
+    ghost never_planned: { (disk : Self) → sound disk → plan disk ≡ Plan.Never };
+
+    /// A sound disk has no listed call.
+    ghost never_listed: { (disk : Self) → sound disk → unlisted disk };
 }
 
 /// What is to befall one of the coming calls of `write_at` and `sync`, counted from 1.
@@ -172,12 +185,15 @@ pub(crate) enum Fate {
 
 /// A disk that can be told to fail.
 pub trait Armed: Disk {
-    /// Takes a plan in the place of the one before. What is held stays, and what a crash might have left is told from now on.
+    /// Takes a plan in the place of the one before, used up or not. What is held and listed stays, and what a crash might have left is
+    /// told from now on. By `Never` a disk with no listed call is sound again.
     fn arm(&mut self, plan: Plan)
         ensures content { Self.seen self.new ≡ Self.seen self.old }
         ensures crash { (image : List ℕ) → Self.may_leave self.new image → Self.may_leave self.old image }
-        ensures planned { (n : ℕ) → IsPlanned plan n → Self.fails_in self.new n }
+        ensures planned { Self.plan self.new ≡ plan }
+        ensures listed { Self.unlisted self.old → Self.unlisted self.new }
         ensures faults { Self.faults self.new ≡ Self.faults self.old }
         ensures room { KeepsRoom (Self.has_room self.old) (Self.has_room self.new) }
-        ensures sound { plan ≡ Plan.Never → Self.sound self.old → Self.sound self.new };
+        ensures sound { plan ≡ Plan.Never → Self.sound self.old → Self.sound self.new }
+        ensures again { plan ≡ Plan.Never → Self.unlisted self.old → Self.sound self.new };
 }

@@ -47,6 +47,7 @@ fn write_whole(file: &mut File, at: u64, from: &[u8]) -> io::Result<()> {
 
 impl Disk for FileDisk {
     ghost use Rattle.std.specs.Prelude.{[]};
+    ghost use Rattle.fab_disk.specs.declared.disk.Plan.TheVariants.{Never};
 
     ghost tells = { ⊥ };
 
@@ -62,7 +63,9 @@ impl Disk for FileDisk {
 
     ghost sound = { λ _. ⊥ };
 
-    ghost fails_in = { λ _ _. ⊥ };
+    ghost plan = { λ _. Never };
+
+    ghost unlisted = { λ _. ⊥ };
 
     ghost has_room = { λ _ _ _ _. Unit {0} };
 
@@ -73,6 +76,12 @@ impl Disk for FileDisk {
     ghost counts_now = { λ _ _ _ _ _. tt };
 
     ghost only_now = { λ _ _ _. tt };
+
+    ghost sound_unplanned = { λ _ _ listed. listed };
+
+    ghost never_planned = { λ _ sound. absurd sound };
+
+    ghost never_listed = { λ _ sound. sound };
 
     fn len(&mut self) -> Result<u64, IoFault> {
         let end = self.file.seek(SeekFrom::End(0));

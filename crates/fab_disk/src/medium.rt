@@ -1,7 +1,7 @@
 // Bytes in memory that remember each change, so that it can be undone.
 ghost use Rattle.std.specs.Prelude.{◌≡◌, ◌+◌, ◌≤◌, ◌^◌, ◌++◌, [], length, slice_range, reverse, vec_len, vec_capacity, false, ◌&&◌, nat_le, nat_lt, IsTrue, OnOk, OnErr};
-ghost use Rattle.fab_disk.specs.Past.{past_of, Fits, Fits-prop};
-ghost use Rattle.fab_disk.specs.Held.{HoldsWritten, HoldsWritten-prop, HoldsSeam, HoldsSeam-prop};
+ghost use Rattle.fab_disk.specs.Past.{past_in, Fits, Fits-prop};
+ghost use Rattle.fab_disk.specs.Held.{KeepsPages, KeepsPages-prop, KeepsEdge, KeepsEdge-prop};
 ghost use Rattle.fab_disk.specs.Stored.{shown};
 
 use crate::pages::Pages;
@@ -38,10 +38,9 @@ pub struct Medium {
     pub steps: Vec<Step>,
     // What stood in the written ranges before, one after the other.
     pub saved: Vec<u8>,
-    ghost fits: { Fits (past_of (reverse steps.items) saved.items) content.len } by { Fits-prop (past_of (reverse steps.items) saved.items)
-        content.len },
-    ghost written: { HoldsWritten (length content.front.items) content.pages.items (past_of (reverse steps.items) saved.items) } by { HoldsWritten-prop (length content.front.items) content.pages.items (past_of (reverse steps.items) saved.items) },
-    ghost seam: { HoldsSeam (length content.front.items) content.pages.items (past_of (reverse steps.items) saved.items) content.len } by { HoldsSeam-prop (length content.front.items) content.pages.items (past_of (reverse steps.items) saved.items) content.len },
+    ghost fits: { Fits (past_in steps.items saved.items) content.len } by { Fits-prop (past_in steps.items saved.items) content.len },
+    ghost written: { KeepsPages content (past_in steps.items saved.items) } by { KeepsPages-prop content (past_in steps.items saved.items) },
+    ghost seam: { KeepsEdge content (past_in steps.items saved.items) } by { KeepsEdge-prop content (past_in steps.items saved.items) },
 }
 
 impl Medium {

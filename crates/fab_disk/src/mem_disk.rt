@@ -1,6 +1,7 @@
 // A disk in memory, which can be made to fail or to stop.
-ghost use Rattle.std.specs.Prelude.{◌≡◌, ◌≢◌, ◌+◌, ◌≤◌, ◌^◌, [], List, ℕ, length, slice_range, IsTrue, IfOk, OnOk, IsOkUnless};
-ghost use Rattle.fab_disk.specs.Disk.{written, Torn, Follows, Only, Elapses, IsUntouched, Kept, KeepsRoom, TakesRoom, KeepsPlan, CountsDown};
+ghost use Rattle.std.specs.Prelude.{◌≡◌, ◌≢◌, ◌+◌, ◌≤◌, ◌^◌, [], List, ℕ, length, slice_range, IsTrue, IfOk, IsOk, OnOk, IsOkUnless};
+ghost use Rattle.fab_disk.specs.Disk.{written, Torn, Follows, Only, Elapses, IsUntouched, Kept, KeepsRoom, TakesRoom};
+ghost use Rattle.fab_disk.specs.Plan.{IsRun};
 
 use crate::disk::Fate;
 use crate::failing_calls::FailingCalls;
@@ -21,12 +22,12 @@ pub struct MemDisk {
 
 impl MemDisk {
     ghost use Rattle.std.specs.Prelude.{◌≡◌, ◌≢◌, ◌<◌, ◌-◌, ◌^◌, [], List, ℕ};
-    ghost use Rattle.fab_disk.specs.Disk.{Kept, KeepsRoom, CountsDown};
+    ghost use Rattle.fab_disk.specs.Disk.{Kept, KeepsRoom};
     ghost use Rattle.fab_disk.specs.Past.{IsImage, IsSettled};
     ghost use Rattle.fab_disk.specs.Medium.{HasRoom};
     ghost use Rattle.fab_disk.specs.Settled.{settled_at};
-    ghost use Rattle.fab_disk.specs.Plan.{IsPlanned, plan_after};
-    ghost use Rattle.fab_disk.specs.FailingCalls.{FailsNext};
+    ghost use Rattle.fab_disk.specs.Plan.{next_fate, plan_after};
+    ghost use Rattle.fab_disk.specs.FailingCalls.{NoneLeft, FailsNext};
     ghost use Rattle.fab_disk.specs.MemDisk.{content_of, past_of_disk, FailsWhole, GoesOn, IsSound, Lists};
 
     /// A sound disk that holds these bytes. A crash leaves them.
@@ -102,6 +103,8 @@ impl MemDisk {
         ensures cause { Kept self.old.faults self.new.faults (IsSound self.old) (IsSound self.new) (result ≡ Err IoFault.Failed) }
         ensures only { IsOkUnless result IoFault.Failed }
         ensures listed { self.old.failing.made < 2 ^ 64 - 1 → FailsNext self.old.failing → result ≡ Err IoFault.Failed }
+        ensures unlisted { NoneLeft self.old.failing → NoneLeft self.new.failing }
+        ensures never { NoneLeft self.old.failing → result ≢ Err IoFault.Failed }
     {
         if self.failing.next_fails() {
             self.faults = self.faults.saturating_add(1);
@@ -114,7 +117,9 @@ impl MemDisk {
     fn next_fate(&mut self) -> Fate
         ensures medium { self.new.medium ≡ self.old.medium }
         ensures cause { Kept self.old.faults self.new.faults (IsSound self.old) (IsSound self.new) (result ≢ Fate.Goes) }
-        ensures plan { result ≡ Fate.Goes → CountsDown (IsPlanned self.old.plan) (IsPlanned self.new.plan) }
+        ensures goes { result ≡ Fate.Goes → next_fate self.old.plan ≡ Fate.Goes }
+        ensures planned { NoneLeft self.old.failing → result ≡ next_fate self.old.plan }
+        ensures unlisted { NoneLeft self.old.failing → NoneLeft self.new.failing }
         ensures whole { FailsWhole self.old.plan self.old.failing → result ≡ Fate.Fails }
         ensures early { GoesOn self.old.plan self.old.failing → result ≡ Fate.Goes }
         ensures left { self.new.plan ≡ plan_after self.old.plan }
@@ -133,7 +138,7 @@ impl MemDisk {
 impl Disk for MemDisk {
     ghost use Rattle.fab_disk.specs.PastLaws.{content_is_image, image_had, had_now};
     ghost use Rattle.fab_disk.specs.MediumLaws.{room_for_less, fits_shown};
-    ghost use Rattle.fab_disk.specs.MemDisk.{content_of, past_of_disk, may_be_left, was_left_since, moment_of, is_planned, room_of, FailsWhole, GoesOn, HoldsAsBefore, IsSound};
+    ghost use Rattle.fab_disk.specs.MemDisk.{content_of, past_of_disk, may_be_left, was_left_since, moment_of, plan_of, is_unlisted, room_of, FailsWhole, GoesOn, HoldsAsBefore, IsSound};
     ghost use Rattle.fab_disk.specs.Plan.{plan_after};
 
     ghost tells = { Unit {0} };
@@ -150,7 +155,9 @@ impl Disk for MemDisk {
 
     ghost sound = { IsSound };
 
-    ghost fails_in = { is_planned };
+    ghost plan = { plan_of };
+
+    ghost unlisted = { is_unlisted };
 
     ghost has_room = { room_of };
 
@@ -161,6 +168,12 @@ impl Disk for MemDisk {
     ghost counts_now = { λ disk t image le now. image_had (past_of_disk disk) (content_of disk) t image now };
 
     ghost only_now = { λ disk image had. had_now (past_of_disk disk) (content_of disk) image had };
+
+    ghost sound_unplanned = { λ disk planned listed. record { unplanned = planned; unlisted = listed } };
+
+    ghost never_planned = { λ disk sound. sound.unplanned };
+
+    ghost never_listed = { λ disk sound. sound.unlisted };
 
     fn len(&mut self) -> Result<u64, IoFault> {
         self.look()?;
@@ -184,10 +197,10 @@ impl Disk for MemDisk {
         ensures written { OnOk result (content_of self.new ≡ written at from.now (content_of self.old)) }
         ensures crash { Follows (Torn at (length from.now)) (may_be_left self.old) (may_be_left self.new) }
         ensures time { Elapses (moment_of self.old) (moment_of self.new) (was_left_since self.old) (was_left_since self.new) (may_be_left self.new) }
-        ensures counted { OnOk result (moment_of self.new ≡ moment_of self.old + 1) }
         ensures no_memory { result ≡ Err IoFault.NoMemory → IsUntouched content_of may_be_left moment_of was_left_since self.old self.new }
         ensures room { TakesRoom (length from.now) (at + length from.now) (room_of self.old) (room_of self.new) (result ≡ Err IoFault.NoMemory) }
-        ensures plan { OnOk result (CountsDown (is_planned self.old) (is_planned self.new)) }
+        ensures plan { IsRun (Unit {0}) moment_of plan_of is_unlisted 1 self.old self.new (IsOk result) (result ≡ Err IoFault.Failed) }
+        ensures fails { plan_of self.old ≡ Plan.Fail 1 → IsUntouched content_of may_be_left moment_of was_left_since self.old self.new }
         ensures cause { Kept self.old.faults self.new.faults (IsSound self.old) (IsSound self.new) (result ≡ Err IoFault.Failed) }
         ensures whole { FailsWhole self.old.plan self.old.failing → HoldsAsBefore self.old self.new }
         // A call before the plan's number is made as if there were no plan.
@@ -214,10 +227,10 @@ impl Disk for MemDisk {
         ensures content { content_of self.new ≡ content_of self.old }
         ensures crash { (image : List ℕ) → may_be_left self.new image → may_be_left self.old image }
         ensures time { Elapses (moment_of self.old) (moment_of self.new) (was_left_since self.old) (was_left_since self.new) (may_be_left self.new) }
-        ensures counted { OnOk result (moment_of self.new ≡ moment_of self.old + 1) }
         ensures no_memory { result ≡ Err IoFault.NoMemory → IsUntouched content_of may_be_left moment_of was_left_since self.old self.new }
         ensures room { TakesRoom 0 0 (room_of self.old) (room_of self.new) (result ≡ Err IoFault.NoMemory) }
-        ensures plan { OnOk result (CountsDown (is_planned self.old) (is_planned self.new)) }
+        ensures plan { IsRun (Unit {0}) moment_of plan_of is_unlisted 1 self.old self.new (IsOk result) (result ≡ Err IoFault.Failed) }
+        ensures fails { plan_of self.old ≡ Plan.Fail 1 → IsUntouched content_of may_be_left moment_of was_left_since self.old self.new }
         ensures cause { Kept self.old.faults self.new.faults (IsSound self.old) (IsSound self.new) (result ≡ Err IoFault.Failed) }
         ensures whole { FailsWhole self.old.plan self.old.failing → HoldsAsBefore self.old self.new }
         // A call before the plan's number is made as if there were no plan.
@@ -236,21 +249,18 @@ impl Disk for MemDisk {
 }
 
 impl Armed for MemDisk {
-    ghost use Rattle.fab_disk.specs.Plan.{IsPlanned};
-    ghost use Rattle.fab_disk.specs.FailingCalls.{NoneLeft};
-    ghost use Rattle.fab_disk.specs.MemDisk.{content_of, may_be_left, is_planned, room_of, IsSound};
+    ghost use Rattle.fab_disk.specs.MemDisk.{content_of, may_be_left, plan_of, is_unlisted, room_of, IsSound};
 
     fn arm(&mut self, plan: Plan)
         ensures content { content_of self.new ≡ content_of self.old }
         ensures crash { (image : List ℕ) → may_be_left self.new image → may_be_left self.old image }
-        ensures planned { (n : ℕ) → IsPlanned plan n → is_planned self.new n }
+        ensures planned { plan_of self.new ≡ plan }
+        ensures listed { is_unlisted self.old → is_unlisted self.new }
         ensures faults { self.new.faults ≡ self.old.faults }
         ensures room { KeepsRoom (room_of self.old) (room_of self.new) }
         ensures sound { plan ≡ Plan.Never → IsSound self.old → IsSound self.new }
-        ensures taken { self.new.plan ≡ plan }
-        ensures listed { self.new.failing ≡ self.old.failing }
-        // A disk is sound again once its plan is replaced by none, where no listed call is left.
-        ensures quiet { plan ≡ Plan.Never → NoneLeft self.old.failing → IsSound self.new }
+        ensures again { plan ≡ Plan.Never → is_unlisted self.old → IsSound self.new }
+        ensures failing { self.new.failing ≡ self.old.failing }
     {
         self.plan = plan;
         self.medium.forget();

@@ -1,7 +1,6 @@
 pub mod Standing
 pub mod Parts
 pub mod Listing
-pub mod Plans
 pub mod Runs
 pub mod Headers
 pub mod Indexes

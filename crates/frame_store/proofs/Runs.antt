@@ -1,8 +1,16 @@
 -- What a crash leaves in a run of writes that begins on a disk with nothing unsynced.
-use Rattle.std.proofs.Common.{ℕ, List, refl, sym, subst, arith}
+use Rattle.std.proofs.Common.{◌≡◌, ℕ, List, Result, Ok, Err, refl, sym, ap, subst, arith}
+use Rattle.std.specs.Result.{IsOk, IsOkUnless}
+use Rattle.frame_store.specs.declared.faults.FrameFault.{FrameFault}
+use Rattle.frame_store.specs.declared.faults.FrameFault.TheVariants.{Disk}
 use Rattle.fab_disk.specs.Disk.{Torn, Follows, Only, Elapses, LeavesOnly}
 use Rattle.fab_disk.proofs.Moments.{started, goes_on}
 use Rattle.frame_store.specs.Steps.{IsStaged}
+
+-- a call that answers Ok or Disk is made whole or cut short
+pub made_or_cut : (r : Result (Unit {0}) FrameFault) → IsOkUnless r Disk → (IsOk r → ⊥) → (r ≡ Err Disk → ⊥) → ⊥
+made_or_cut (Ok u) only not_whole not_cut = not_whole refl
+made_or_cut (Err f) only not_whole not_cut = not_cut (ap Err only)
 
 -- nothing is torn
 pub torn_same : (at n : ℕ) (content : List ℕ) → Torn at n content content

@@ -1,5 +1,5 @@
 -- What a clause sees of a store.
-use Rattle.std.specs.Prelude.{◌≡◌, ◌≢◌, ℕ, ◌-◌, ◌≤◌, ◌<◌, Bool, true, false, List, length, Result, Ok, Err}
+use Rattle.std.specs.Prelude.{◌≡◌, ◌≢◌, ℕ, ◌≤◌, Bool, true, false, List, length, Result, Ok, Err}
 use Rattle.fab_disk.specs.Disk.{Only}
 use Rattle.frame_store.specs.declared.faults.FrameFault.{FrameFault}
 use Rattle.frame_store.specs.declared.faults.FrameFault.TheVariants.{Disk, Halted, NotAStore}
@@ -73,7 +73,3 @@ pub record HasRoom {D : Type 0} (has_room : D → ℕ → ℕ → ℕ → Type 0
   pub line : written ≤ store.room.line
   pub listed : frames ≤ store.room.listed
   pub spare : body ≤ store.room.spare
-
--- so many calls of the disk were made, none of which was to fail, and what was to fail comes so many calls sooner
-abbrev pub RunsPlan : ℕ → (ℕ → Type 0) → (ℕ → Type 0) → Type 0
-RunsPlan calls old new = (n : ℕ) → 1 ≤ n → old n → (calls < n) × new (n - calls)

@@ -1,7 +1,8 @@
 //! What a change makes ready before it changes the disk.
 
 ghost use Rattle.std.specs.Prelude.{◌≡◌, ◌+◌, ◌^◌, ◌<◌, ◌≤◌, max, length, vec_len, vec_capacity, OnOk, IsOk, IsOkUnless};
-ghost use Rattle.fab_disk.specs.Disk.{IsUntouched, Kept, KeepsRoom, KeepsPlan};
+ghost use Rattle.fab_disk.specs.Disk.{IsUntouched, Kept, KeepsRoom};
+ghost use Rattle.fab_disk.specs.Plan.{KeepsPlan};
 ghost use Rattle.frame_store.specs.Listed.{line_of, closed_list, size_of};
 
 use crate::buffers::{put_line, put_list, size_of};
@@ -31,7 +32,7 @@ pub(crate) fn stage<D: Disk>(
     ensures only { IsOkUnless result FrameFault.NoMemory }
     ensures untouched { IsUntouched D.seen D.may_leave D.moment D.left_since disk.old disk.new }
     ensures room { KeepsRoom (D.has_room disk.old) (D.has_room disk.new) }
-    ensures plan { KeepsPlan (D.fails_in disk.old) (D.fails_in disk.new) }
+    ensures plan { KeepsPlan D.plan D.unlisted disk.old disk.new (result ≡ Err FrameFault.Disk) }
     ensures cause { Kept (D.faults disk.old) (D.faults disk.new) (D.sound disk.old) (D.sound disk.new) (result ≡ Err FrameFault.Disk) }
     ensures enough { D.has_room disk.old calls (block + (length frame.now.body + 7)) end → length frame.now.body + 6 ≤ vec_capacity line.old
         → vec_len frames.old + 1 ≤ vec_capacity frames.old → IsOk result }
@@ -62,7 +63,7 @@ pub(crate) fn stage_list<D: Disk>(
     ensures only { IsOkUnless result FrameFault.NoMemory }
     ensures untouched { IsUntouched D.seen D.may_leave D.moment D.left_since disk.old disk.new }
     ensures room { KeepsRoom (D.has_room disk.old) (D.has_room disk.new) }
-    ensures plan { KeepsPlan (D.fails_in disk.old) (D.fails_in disk.new) }
+    ensures plan { KeepsPlan D.plan D.unlisted disk.old disk.new (result ≡ Err FrameFault.Disk) }
     ensures cause { Kept (D.faults disk.old) (D.faults disk.new) (D.sound disk.old) (D.sound disk.new) (result ≡ Err FrameFault.Disk) }
     ensures enough { D.has_room disk.old 7 (size_of frames.now + 34) end → size_of frames.now + 1 ≤ vec_capacity line.old
         → length frames.now ≤ vec_capacity listed.old → IsOk result }
@@ -106,7 +107,7 @@ pub(crate) fn make_room<D: Disk>(
     ensures listed { listed.new.items ≡ listed.old.items }
     ensures only { IsOkUnless result FrameFault.NoMemory }
     ensures untouched { IsUntouched D.seen D.may_leave D.moment D.left_since disk.old disk.new }
-    ensures plan { KeepsPlan (D.fails_in disk.old) (D.fails_in disk.new) }
+    ensures plan { KeepsPlan D.plan D.unlisted disk.old disk.new (result ≡ Err FrameFault.Disk) }
     ensures cause { Kept (D.faults disk.old) (D.faults disk.new) (D.sound disk.old) (D.sound disk.new) (result ≡ Err FrameFault.Disk) }
 {
     reserve(

@@ -1,8 +1,8 @@
 //! Runs of calls of a disk, for which room in memory was made before.
 
 ghost use Rattle.std.specs.Prelude.{◌≡◌, ◌+◌, ◌≤◌, ◌^◌, ◌∷◌, [], List, ℕ, length, OnOk, IsOk, IsOkUnless};
-ghost use Rattle.fab_disk.specs.Disk.{written, Torn, Follows, Only, Elapses, IsUntouched, LeavesOnly, Kept, KeepsRoom, KeepsPlan};
-ghost use Rattle.frame_store.specs.Stores.{RunsPlan};
+ghost use Rattle.fab_disk.specs.Disk.{written, Torn, Follows, Only, Elapses, IsUntouched, LeavesOnly, Kept, KeepsRoom};
+ghost use Rattle.fab_disk.specs.Plan.{IsRun, KeepsPlan};
 ghost use Rattle.frame_store.specs.Steps.{IsStaged, IsGated, IsBothGated, IsRewritten, both_written};
 
 use crate::faults::FrameFault;
@@ -21,7 +21,7 @@ pub(crate) fn reserve<D: Disk>(
     ensures only { IsOkUnless result FrameFault.NoMemory }
     ensures untouched { IsUntouched D.seen D.may_leave D.moment D.left_since disk.old disk.new }
     ensures room { KeepsRoom (D.has_room disk.old) (D.has_room disk.new) }
-    ensures plan { KeepsPlan (D.fails_in disk.old) (D.fails_in disk.new) }
+    ensures plan { KeepsPlan D.plan D.unlisted disk.old disk.new ⊥ }
     ensures cause { Kept (D.faults disk.old) (D.faults disk.new) (D.sound disk.old) (D.sound disk.new) ⊥ }
 {
     match disk.reserve(calls, bytes, end) {
@@ -37,10 +37,9 @@ fn write<D: Disk>(disk: &mut D, at: u64, bytes: &[u8]) -> Result<(), FrameFault>
     ensures written { D.tells → OnOk result (D.seen disk.new ≡ written at bytes.now (D.seen disk.old)) }
     ensures crash { Follows (Torn at (length bytes.now)) (D.may_leave disk.old) (D.may_leave disk.new) }
     ensures time { Elapses (D.moment disk.old) (D.moment disk.new) (D.left_since disk.old) (D.left_since disk.new) (D.may_leave disk.new) }
-    ensures counted { D.tells → OnOk result (D.moment disk.new ≡ D.moment disk.old + 1) }
     ensures left { OnOk result ((calls room end : ℕ) → at + length bytes.now ≤ end → D.has_room disk.old (calls + 1) (room + length bytes.now) end
         → D.has_room disk.new calls room end) }
-    ensures plan { OnOk result (RunsPlan 1 (D.fails_in disk.old) (D.fails_in disk.new)) }
+    ensures run { IsRun D.tells D.moment D.plan D.unlisted 1 disk.old disk.new (IsOk result) (result ≡ Err FrameFault.Disk) }
     ensures only { IsOkUnless result FrameFault.Disk }
     ensures cause { Kept (D.faults disk.old) (D.faults disk.new) (D.sound disk.old) (D.sound disk.new) (result ≡ Err FrameFault.Disk) }
 {
@@ -57,9 +56,8 @@ fn sync<D: Disk>(disk: &mut D) -> Result<(), FrameFault>
     ensures content { D.seen disk.new ≡ D.seen disk.old }
     ensures crash { (image : List ℕ) → D.may_leave disk.new image → D.may_leave disk.old image }
     ensures time { Elapses (D.moment disk.old) (D.moment disk.new) (D.left_since disk.old) (D.left_since disk.new) (D.may_leave disk.new) }
-    ensures counted { D.tells → OnOk result (D.moment disk.new ≡ D.moment disk.old + 1) }
     ensures left { OnOk result ((calls room end : ℕ) → D.has_room disk.old (calls + 1) room end → D.has_room disk.new calls room end) }
-    ensures plan { OnOk result (RunsPlan 1 (D.fails_in disk.old) (D.fails_in disk.new)) }
+    ensures run { IsRun D.tells D.moment D.plan D.unlisted 1 disk.old disk.new (IsOk result) (result ≡ Err FrameFault.Disk) }
     ensures only { IsOkUnless result FrameFault.Disk }
     ensures cause { Kept (D.faults disk.old) (D.faults disk.new) (D.sound disk.old) (D.sound disk.new) (result ≡ Err FrameFault.Disk) }
 {
@@ -77,10 +75,9 @@ pub(crate) fn write_synced<D: Disk>(disk: &mut D, at: u64, bytes: &[u8]) -> Resu
     ensures durable { D.tells → OnOk result (Only (D.seen disk.new) (D.may_leave disk.new)) }
     ensures moments { Only (D.seen disk.old) (D.may_leave disk.old) → LeavesOnly D.moment D.left_since disk.old disk.new
         (Torn at (length bytes.now) (D.seen disk.old)) }
-    ensures counted { D.tells → OnOk result (D.moment disk.new ≡ D.moment disk.old + 2) }
     ensures left { OnOk result ((calls room end : ℕ) → at + length bytes.now ≤ end → D.has_room disk.old (calls + 2) (room + length bytes.now) end
         → D.has_room disk.new calls room end) }
-    ensures plan { OnOk result (RunsPlan 2 (D.fails_in disk.old) (D.fails_in disk.new)) }
+    ensures run { IsRun D.tells D.moment D.plan D.unlisted 2 disk.old disk.new (IsOk result) (result ≡ Err FrameFault.Disk) }
     ensures only { IsOkUnless result FrameFault.Disk }
     ensures cause { Kept (D.faults disk.old) (D.faults disk.new) (D.sound disk.old) (D.sound disk.new) (result ≡ Err FrameFault.Disk) }
 {
@@ -102,10 +99,9 @@ pub(crate) fn write_gated<D: Disk>(
     ensures durable { D.tells → OnOk result (Only (D.seen disk.new) (D.may_leave disk.new)) }
     ensures moments { D.tells → Only (D.seen disk.old) (D.may_leave disk.old) → LeavesOnly D.moment D.left_since disk.old disk.new
         (IsGated at bytes.now gate (D.seen disk.old)) }
-    ensures counted { D.tells → OnOk result (D.moment disk.new ≡ D.moment disk.old + 4) }
     ensures left { OnOk result ((calls room end : ℕ) → at + length bytes.now ≤ end → D.has_room disk.old (calls + 4)
         (room + (length bytes.now + 1)) end → D.has_room disk.new calls room end) }
-    ensures plan { OnOk result (RunsPlan 4 (D.fails_in disk.old) (D.fails_in disk.new)) }
+    ensures run { IsRun D.tells D.moment D.plan D.unlisted 4 disk.old disk.new (IsOk result) (result ≡ Err FrameFault.Disk) }
     ensures only { IsOkUnless result FrameFault.Disk }
     ensures cause { Kept (D.faults disk.old) (D.faults disk.new) (D.sound disk.old) (D.sound disk.new) (result ≡ Err FrameFault.Disk) }
 {
@@ -128,10 +124,9 @@ fn write_both_synced<D: Disk>(
     ensures durable { D.tells → OnOk result (Only (D.seen disk.new) (D.may_leave disk.new)) }
     ensures moments { Only (D.seen disk.old) (D.may_leave disk.old) → LeavesOnly D.moment D.left_since disk.old disk.new
         (IsStaged from (length first.now) at (length second.now) (D.seen disk.old)) }
-    ensures counted { D.tells → OnOk result (D.moment disk.new ≡ D.moment disk.old + 3) }
     ensures left { OnOk result ((calls room end : ℕ) → at + length second.now ≤ end → D.has_room disk.old (calls + 3)
         (room + (length first.now + length second.now)) end → D.has_room disk.new calls room end) }
-    ensures plan { OnOk result (RunsPlan 3 (D.fails_in disk.old) (D.fails_in disk.new)) }
+    ensures run { IsRun D.tells D.moment D.plan D.unlisted 3 disk.old disk.new (IsOk result) (result ≡ Err FrameFault.Disk) }
     ensures only { IsOkUnless result FrameFault.Disk }
     ensures cause { Kept (D.faults disk.old) (D.faults disk.new) (D.sound disk.old) (D.sound disk.new) (result ≡ Err FrameFault.Disk) }
 {
@@ -158,10 +153,9 @@ pub(crate) fn write_both_gated<D: Disk>(
     ensures durable { D.tells → OnOk result (Only (D.seen disk.new) (D.may_leave disk.new)) }
     ensures moments { D.tells → Only (D.seen disk.old) (D.may_leave disk.old) → LeavesOnly D.moment D.left_since disk.old disk.new
         (IsBothGated from first.now at second.now gate (D.seen disk.old)) }
-    ensures counted { D.tells → OnOk result (D.moment disk.new ≡ D.moment disk.old + 5) }
     ensures left { OnOk result ((calls room end : ℕ) → at + length second.now ≤ end → D.has_room disk.old (calls + 5)
         (room + (length first.now + length second.now + 1)) end → D.has_room disk.new calls room end) }
-    ensures plan { OnOk result (RunsPlan 5 (D.fails_in disk.old) (D.fails_in disk.new)) }
+    ensures run { IsRun D.tells D.moment D.plan D.unlisted 5 disk.old disk.new (IsOk result) (result ≡ Err FrameFault.Disk) }
     ensures only { IsOkUnless result FrameFault.Disk }
     ensures cause { Kept (D.faults disk.old) (D.faults disk.new) (D.sound disk.old) (D.sound disk.new) (result ≡ Err FrameFault.Disk) }
 {
@@ -187,10 +181,9 @@ pub(crate) fn rewrite_gated<D: Disk>(
     ensures durable { D.tells → OnOk result (Only (D.seen disk.new) (D.may_leave disk.new)) }
     ensures moments { D.tells → Only (D.seen disk.old) (D.may_leave disk.old) → LeavesOnly D.moment D.left_since disk.old disk.new
         (IsRewritten gate shut.now rest.now at list.now (D.seen disk.old)) }
-    ensures counted { D.tells → OnOk result (D.moment disk.new ≡ D.moment disk.old + 7) }
     ensures left { OnOk result ((calls room end : ℕ) → at + length list.now ≤ end → D.has_room disk.old (calls + 7)
         (room + (length shut.now + (length rest.now + length list.now + 1))) end → D.has_room disk.new calls room end) }
-    ensures plan { OnOk result (RunsPlan 7 (D.fails_in disk.old) (D.fails_in disk.new)) }
+    ensures run { IsRun D.tells D.moment D.plan D.unlisted 7 disk.old disk.new (IsOk result) (result ≡ Err FrameFault.Disk) }
     ensures only { IsOkUnless result FrameFault.Disk }
     ensures cause { Kept (D.faults disk.old) (D.faults disk.new) (D.sound disk.old) (D.sound disk.new) (result ≡ Err FrameFault.Disk) }
 {

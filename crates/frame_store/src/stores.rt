@@ -1,12 +1,12 @@
 //! The store.
 
-ghost use Rattle.std.specs.Prelude.{max, ◌≡◌, ◌≢◌, ◌⊎◌, ◌↔◌, ◌+◌, ◌≤◌, ◌<◌, ◌^◌, ◌++◌, ◌∷◌, [], ℕ, List, true, false, length, IsTrue, IfOk, IfErr, OnOk, OnErr, Some, None};
-ghost use Rattle.fab_disk.specs.Disk.{Only, Elapses, IsUntouched, LeavesOnly, Kept, KeepsRoom, KeepsPlan};
-ghost use Rattle.fab_disk.specs.Plan.{IsPlanned};
+ghost use Rattle.std.specs.Prelude.{max, ◌≡◌, ◌≢◌, ◌⊎◌, ◌↔◌, ◌+◌, ◌≤◌, ◌<◌, ◌^◌, ◌++◌, ◌∷◌, [], ℕ, List, true, false, length, IsTrue, IsOk, IfOk, IfErr, OnOk, OnErr, Some, None};
+ghost use Rattle.fab_disk.specs.Disk.{Only, Elapses, IsUntouched, LeavesOnly, Kept, KeepsRoom};
+ghost use Rattle.fab_disk.specs.Plan.{IsRun, KeepsPlan};
 ghost use Rattle.frame_store.specs.Layouts.{shape_of, half_size};
 ghost use Rattle.frame_store.specs.Listed.{Fits, size_of, frame_of};
 ghost use Rattle.frame_store.specs.Images.{OpensAs, IsNoStore, HasSlot, block_in, IsAfter, IsBeforeOrAfter};
-ghost use Rattle.frame_store.specs.Stores.{Shows, IsRead, IsDurable, IsSame, HasNow, IsAnswer, HasRoom, RunsPlan};
+ghost use Rattle.frame_store.specs.Stores.{Shows, IsRead, IsDurable, IsSame, HasNow, IsAnswer, HasRoom};
 
 use crate::buffers::{closing, copied, header_rest, shut_headers, size_of};
 use crate::faults::FrameFault;
@@ -74,10 +74,9 @@ pub fn format<D: Disk>(
     ensures empty { D.tells → OnOk result (OpensAs (shape_of me block records) [] true (D.seen disk.new)) }
     ensures slots { D.tells → OnOk result ((slot : ℕ) → slot < records → HasSlot (shape_of me block records) (length (D.seen disk.new)) slot) }
     ensures durable { D.tells → OnOk result (Only (D.seen disk.new) (D.may_leave disk.new)) }
-    ensures counted { D.tells → OnOk result (D.moment disk.new ≡ D.moment disk.old + 5) }
     ensures only { OnErr result ((result ≡ Err FrameFault.Disk) ⊎ (result ≡ Err FrameFault.NoMemory)) }
     ensures no_memory { result ≡ Err FrameFault.NoMemory → IsUntouched D.seen D.may_leave D.moment D.left_since disk.old disk.new }
-    ensures plan { OnOk result (RunsPlan 5 (D.fails_in disk.old) (D.fails_in disk.new)) }
+    ensures run { IsRun D.tells D.moment D.plan D.unlisted 5 disk.old disk.new (IsOk result) (result ≡ Err FrameFault.Disk) }
     ensures cause { Kept (D.faults disk.old) (D.faults disk.new) (D.sound disk.old) (D.sound disk.new) (result ≡ Err FrameFault.Disk) }
 {
     let shape = Shape {
@@ -114,8 +113,8 @@ pub fn open_store<D: Disk>(
     ensures untouched_err { IfErr result (λ e. IsUntouched D.seen D.may_leave D.moment D.left_since disk e.1) }
     ensures not_a_store { IfErr result (λ e. e.0 ≡ FrameFault.NotAStore → D.tells → IsNoStore (shape_of me block records) (D.seen disk)) }
     ensures not_halted { IfErr result (λ e. e.0 ≢ FrameFault.Halted) }
-    ensures plan { IfOk result (λ store. KeepsPlan (D.fails_in disk) (D.fails_in store.disk)) }
-    ensures plan_err { IfErr result (λ e. KeepsPlan (D.fails_in disk) (D.fails_in e.1)) }
+    ensures plan { IfOk result (λ store. KeepsPlan D.plan D.unlisted disk store.disk ⊥) }
+    ensures plan_err { IfErr result (λ e. KeepsPlan D.plan D.unlisted disk e.1 (e.0 ≡ FrameFault.Disk)) }
     ensures cause { IfOk result (λ store. Kept (D.faults disk) (D.faults store.disk) (D.sound disk) (D.sound store.disk) ⊥) }
     ensures cause_err { IfErr result (λ e. Kept (D.faults disk) (D.faults e.1) (D.sound disk) (D.sound e.1) (e.0 ≡ FrameFault.Disk)) }
 {
@@ -203,7 +202,7 @@ impl<D: Disk> FrameStore<D> {
         ensures bytes { D.tells → OnOk result (into.new ≡ block_in self.old.shape slot (D.seen self.old.disk)) }
         ensures same { IsSame self.old self.new }
         ensures untouched { IsUntouched D.seen D.may_leave D.moment D.left_since self.old.disk self.new.disk }
-        ensures plan { KeepsPlan (D.fails_in self.old.disk) (D.fails_in self.new.disk) }
+        ensures plan { KeepsPlan D.plan D.unlisted self.old.disk self.new.disk (result ≡ Err FrameFault.Disk) }
         ensures answer { IsAnswer self.old.halted self.new.halted result }
         ensures no_call { result ≡ Err FrameFault.Halted → self.new ≡ self.old }
         ensures cause { Kept (D.faults self.old.disk) (D.faults self.new.disk) (D.sound self.old.disk) (D.sound self.new.disk)
@@ -238,8 +237,7 @@ impl<D: Disk> FrameStore<D> {
             → LeavesOnly D.moment D.left_since self.old.disk self.new.disk
             (IsBeforeOrAfter self.old.shape self.old.frames (self.old.frames ++ frame_of kind body.now ∷ []) None (D.seen self.old.disk)) }
         ensures ok { OnOk result (HasNow (self.old.frames ++ frame_of kind body.now ∷ []) self.old self.new) }
-        ensures counted { D.tells → OnOk result (D.moment self.new.disk ≡ D.moment self.old.disk + 4) }
-        ensures plan { OnOk result (RunsPlan 4 (D.fails_in self.old.disk) (D.fails_in self.new.disk)) }
+        ensures run { IsRun D.tells D.moment D.plan D.unlisted 4 self.old.disk self.new.disk (IsOk result) (result ≡ Err FrameFault.Disk) }
         ensures answer { IsAnswer self.old.halted self.new.halted result }
         ensures refused { OnErr result (IsSame self.old self.new) }
         ensures no_memory { result ≡ Err FrameFault.NoMemory → IsUntouched D.seen D.may_leave D.moment D.left_since self.old.disk self.new.disk }
@@ -271,8 +269,7 @@ impl<D: Disk> FrameStore<D> {
             → LeavesOnly D.moment D.left_since self.old.disk self.new.disk
             (IsBeforeOrAfter self.old.shape self.old.frames (self.old.frames ++ frame ∷ []) None (D.seen self.old.disk)) }
         ensures ok { OnOk result (HasNow (self.old.frames ++ frame ∷ []) self.old self.new) }
-        ensures counted { D.tells → OnOk result (D.moment self.new.disk ≡ D.moment self.old.disk + 4) }
-        ensures plan { OnOk result (RunsPlan 4 (D.fails_in self.old.disk) (D.fails_in self.new.disk)) }
+        ensures run { IsRun D.tells D.moment D.plan D.unlisted 4 self.old.disk self.new.disk (IsOk result) (result ≡ Err FrameFault.Disk) }
         ensures answer { IsAnswer self.old.halted self.new.halted result }
         ensures refused { OnErr result (IsSame self.old self.new) }
         ensures no_memory { result ≡ Err FrameFault.NoMemory → IsUntouched D.seen D.may_leave D.moment D.left_since self.old.disk self.new.disk }
@@ -328,8 +325,7 @@ impl<D: Disk> FrameStore<D> {
             → LeavesOnly D.moment D.left_since self.old.disk self.new.disk
             (IsBeforeOrAfter self.old.shape self.old.frames (self.old.frames ++ frame ∷ []) (Some (slot, block.now)) (D.seen self.old.disk)) }
         ensures ok { OnOk result (HasNow (self.old.frames ++ frame ∷ []) self.old self.new) }
-        ensures counted { D.tells → OnOk result (D.moment self.new.disk ≡ D.moment self.old.disk + 5) }
-        ensures plan { OnOk result (RunsPlan 5 (D.fails_in self.old.disk) (D.fails_in self.new.disk)) }
+        ensures run { IsRun D.tells D.moment D.plan D.unlisted 5 self.old.disk self.new.disk (IsOk result) (result ≡ Err FrameFault.Disk) }
         ensures answer { IsAnswer self.old.halted self.new.halted result }
         ensures refused { OnErr result (IsSame self.old self.new) }
         ensures no_memory { result ≡ Err FrameFault.NoMemory → IsUntouched D.seen D.may_leave D.moment D.left_since self.old.disk self.new.disk }
@@ -388,8 +384,7 @@ impl<D: Disk> FrameStore<D> {
             → LeavesOnly D.moment D.left_since self.old.disk self.new.disk (IsBeforeOrAfter self.old.shape self.old.frames (frames.items) None
             (D.seen self.old.disk)) }
         ensures ok { OnOk result (HasNow (frames.items) self.old self.new) }
-        ensures counted { D.tells → OnOk result (D.moment self.new.disk ≡ D.moment self.old.disk + 7) }
-        ensures plan { OnOk result (RunsPlan 7 (D.fails_in self.old.disk) (D.fails_in self.new.disk)) }
+        ensures run { IsRun D.tells D.moment D.plan D.unlisted 7 self.old.disk self.new.disk (IsOk result) (result ≡ Err FrameFault.Disk) }
         ensures answer { IsAnswer self.old.halted self.new.halted result }
         ensures refused { OnErr result (IsSame self.old self.new) }
         ensures no_memory { result ≡ Err FrameFault.NoMemory → IsUntouched D.seen D.may_leave D.moment D.left_since self.old.disk self.new.disk }
@@ -449,7 +444,7 @@ impl<D: Disk> FrameStore<D> {
         requires fits { Fits self.old.shape frames.now body }
         ensures same { IsSame self.old self.new }
         ensures untouched { IsUntouched D.seen D.may_leave D.moment D.left_since self.old.disk self.new.disk }
-        ensures plan { KeepsPlan (D.fails_in self.old.disk) (D.fails_in self.new.disk) }
+        ensures plan { KeepsPlan D.plan D.unlisted self.old.disk self.new.disk (result ≡ Err FrameFault.Disk) }
         ensures answer { IsAnswer self.old.halted self.new.halted result }
         ensures no_call { result ≡ Err FrameFault.Halted → self.new ≡ self.old }
         ensures cause { Kept (D.faults self.old.disk) (D.faults self.new.disk) (D.sound self.old.disk) (D.sound self.new.disk)
@@ -489,8 +484,7 @@ impl<D: Disk> FrameStore<D> {
         ensures crash { (image : List ℕ) → D.may_leave self.new.disk image → D.may_leave self.old.disk image }
         ensures time { Elapses (D.moment self.old.disk) (D.moment self.new.disk) (D.left_since self.old.disk) (D.left_since self.new.disk)
             (D.may_leave self.new.disk) }
-        ensures counted { D.tells → OnOk result (D.moment self.new.disk ≡ D.moment self.old.disk + 1) }
-        ensures plan { OnOk result (RunsPlan 1 (D.fails_in self.old.disk) (D.fails_in self.new.disk)) }
+        ensures run { IsRun D.tells D.moment D.plan D.unlisted 1 self.old.disk self.new.disk (IsOk result) (result ≡ Err FrameFault.Disk) }
         ensures answer { IsAnswer self.old.halted self.new.halted result }
         ensures no_memory { result ≡ Err FrameFault.NoMemory → IsUntouched D.seen D.may_leave D.moment D.left_since self.old.disk self.new.disk }
         ensures no_call { result ≡ Err FrameFault.Halted → self.new ≡ self.old }
@@ -546,10 +540,12 @@ impl<D: Armed> FrameStore<D> {
         ensures halted { self.new.halted ≡ self.old.halted }
         ensures content { D.seen self.new.disk ≡ D.seen self.old.disk }
         ensures crash { (image : List ℕ) → D.may_leave self.new.disk image → D.may_leave self.old.disk image }
-        ensures planned { (n : ℕ) → IsPlanned plan n → D.fails_in self.new.disk n }
+        ensures planned { D.plan self.new.disk ≡ plan }
+        ensures listed { D.unlisted self.old.disk → D.unlisted self.new.disk }
         ensures faults { D.faults self.new.disk ≡ D.faults self.old.disk }
         ensures room { KeepsRoom (D.has_room self.old.disk) (D.has_room self.new.disk) }
         ensures sound { plan ≡ Plan.Never → D.sound self.old.disk → D.sound self.new.disk }
+        ensures again { plan ≡ Plan.Never → D.unlisted self.old.disk → D.sound self.new.disk }
     {
         self.disk.arm(plan);
     }

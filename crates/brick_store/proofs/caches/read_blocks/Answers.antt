@@ -1,6 +1,7 @@
 -- The blocks in the slots so far are held.
 use Rattle.std.proofs.Common.{get_or, refl}
 use Rattle.fab_disk.proofs.Moments.{kept_both}
+use Rattle.fab_disk.proofs.Plans.{keeps_both}
 use Rattle.frame_store.proofs.Openings.{untouched_both}
 use Rattle.brick_store.proofs.HeldBlocks.{held_more, read_moved, same_both}
 use Rattle.brick_store.proofs.caches.read_blocks.Goals as goal
@@ -21,6 +22,8 @@ loop-slot-preserved g c =
       same = same_both first now next so_far.same here.same;
       untouched = untouched_both d.seen d.may_leave d.moment d.left_since g.met.D.Disk.counts_now first.disk now.disk next.disk so_far.untouched here.untouched;
       runs = here.still_runs refl;
+      plan = keeps_both d.plan d.unlisted first.disk now.disk next.disk ⊥ ⊥ so_far.plan
+          (record { same = here.plan.same; stays = here.plan.stays; never = λ free never. never });
       cause = kept_both (d.faults first.disk) (d.faults now.disk) (d.faults next.disk) (d.sound first.disk) (d.sound now.disk)
           (d.sound next.disk) ⊥ ⊥ so_far.cause
           (record { later = here.cause.later; rose = λ never. absurd never; stays = here.cause.stays; never = λ sound never. never });

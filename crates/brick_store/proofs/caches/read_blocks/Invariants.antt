@@ -1,6 +1,7 @@
 use Rattle.std.proofs.Common.{◌≡◌, false, take}
 use Rattle.std.specs.List.{AllByRecursion}
 use Rattle.fab_disk.specs.Disk.{IsUntouched, Kept}
+use Rattle.fab_disk.specs.Plan.{KeepsPlan}
 use Rattle.frame_store.specs.Stores.{IsSame}
 use Rattle.brick_store.specs.Openings.{IsHeld, AreRead}
 use Rattle.brick_store.proofs.caches.read_blocks.Given as goal
@@ -12,5 +13,6 @@ invariant-loop-slot g l = record {
   same : IsSame l.fn.frames l.frames;
   untouched : IsUntouched g.D.Disk.seen g.D.Disk.may_leave g.D.Disk.moment g.D.Disk.left_since l.fn.frames.disk l.frames.disk;
   runs : l.frames.halted ≡ false;
+  plan : KeepsPlan g.D.Disk.plan g.D.Disk.unlisted l.fn.frames.disk l.frames.disk ⊥;
   cause : Kept (g.D.Disk.faults l.fn.frames.disk) (g.D.Disk.faults l.frames.disk) (g.D.Disk.sound l.fn.frames.disk) (g.D.Disk.sound l.frames.disk) ⊥;
 }

@@ -1,5 +1,5 @@
 -- The append, after room was made for it.
-use Rattle.std.proofs.Common.{◌≡◌, ◌++◌, ◌∷◌, [], ℕ, Some, None, List, length, Ok, Err, sym, ap, subst, ◌∙◌, arith}
+use Rattle.std.proofs.Common.{◌≡◌, ◌++◌, ◌∷◌, [], ℕ, Some, None, List, length, Ok, Err, refl, sym, ap, subst, ◌∙◌, arith}
 use Rattle.std.proofs.lemmas.Result.{err_from_is_err_and}
 use Rattle.frame_store.specs.declared.faults.FrameFault.{FrameFault}
 use Rattle.frame_store.specs.declared.shapes.Shape.{Shape}
@@ -10,9 +10,10 @@ use Rattle.brick_store.specs.Images as images
 use Rattle.brick_store.specs.declared.faults.StoreFault.TheVariants.{NoMemory}
 use Rattle.brick_store.specs.Bricks.{fault_of}
 use Rattle.brick_store.specs.Steps.{changed, HasAppendRoom}
-use Rattle.frame_store.specs.Listed.{Fits}
-use Rattle.brick_store.specs.Calls.{HasFrameRoom}
-use Rattle.brick_store.proofs.Counting.{append_counted, most_few}
+use Rattle.fab_disk.proofs.Plans.{run_both, run_whole}
+use Rattle.frame_store.specs.Listed.{size_of}
+use Rattle.brick_store.specs.Calls.{calls_with}
+use Rattle.brick_store.proofs.Counting.{room_then}
 use Rattle.brick_store.proofs.Stepping.{call_made, call_refused, call_moments, steps_both, may_go_on, nothing_changed, leads_changed, memory_refused, refused, room_less}
 use Rattle.brick_store.proofs.commits.append_record.Goals as goal
 
@@ -71,11 +72,13 @@ returns-clause-step g c =
     (mid.frames ++ frame_of frame.kind bytes ∷ []) mid new may leads call.ok call.after call.durable call.any_moment call.read call.answer.halts in
     steps_both d.tells d.seen d.may_leave d.moment d.left_since None st next old mid new (Ok tt) first second (λ bad. absurd cc)
 
-pub returns-clause-counted : goal.returns-clause-counted
-returns-clause-counted g c = λ told.
-    let moment = g.D.Disk.moment in
+pub returns-clause-run : goal.returns-clause-run
+returns-clause-run g c =
+    let d = g.D.Disk in
     let old = c.args.frames.now in
-    append_counted (Fits old.shape old.frames c.len.result) (HasFrameRoom old.shape old.frames) 4 (moment old.disk)
-    (moment c.make_room.new.frames.disk) (moment c.append.new.self.disk)
-    (λ room. omega (arith, room, c.len.ensures, c.in_ok-frame.ensures.size, most_few c.args.item.now)) (c.in_ok-make_room.ensures.counted told)
-    (c.in_ok-append.ensures.counted told)
+    let mid = c.make_room.new.frames in
+    let body = c.len.ensures ∙ c.in_ok-frame.ensures.length in
+    let sum = ap (λ (n : ℕ). calls_with old.shape (size_of old.frames) n 4) (sym body) ∙ room_then old.shape (size_of old.frames) c.len.result 4 in
+    run_whole d.tells d.moment d.plan d.unlisted _ old.disk c.append.new.self.disk _ _ _ _ refl refl (λ bad. absurd cc)
+    (run_both d.tells d.moment d.plan d.unlisted _ 4 _ old.disk mid.disk c.append.new.self.disk _ _ _ _ sum refl (λ a b. a refl)
+    c.in_ok-make_room.ensures.run c.in_ok-append.ensures.run)

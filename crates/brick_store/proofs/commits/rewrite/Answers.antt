@@ -95,6 +95,3 @@ returns-clause-room g c =
     let listed = ap length call.ok.frames in
     room_less d.has_room g.met.D.Disk.room_for_less new _ _ _ _ _ _ _ _ _ _ (omega arith) (omega (arith, shape)) (omega arith) (omega (arith, listed))
     (omega arith) after
-
-pub returns-clause-counted : goal.returns-clause-counted
-returns-clause-counted g c = λ told. omega (arith, c.in_ok-reserve.ensures.untouched.clock, c.in_ok-rewrite.ensures.counted told)

@@ -1,5 +1,5 @@
 -- The frames of the live records bring the state back, and all memory is taken first.
-use Rattle.std.proofs.Common.{◌≡◌, ◌+◌, false, List, length, sym, ap, subst, ◌∙◌, arith}
+use Rattle.std.proofs.Common.{◌≡◌, ◌+◌, false, List, length, Err, refl, sym, ap, subst, ◌∙◌, arith}
 use Rattle.std.proofs.lemmas.Result.{err_from_is_err_and}
 use Rattle.frame_store.specs.declared.faults.FrameFault.{FrameFault}
 use Rattle.frame_store.specs.declared.frames.Frame.{Frame}
@@ -13,6 +13,10 @@ use Rattle.brick_store.specs.Images.{limits_of}
 use Rattle.brick_store.specs.Standing.{Leads}
 use Rattle.brick_store.specs.declared.faults.StoreFault.TheVariants.{NoMemory}
 use Rattle.brick_store.proofs.FreshLists.{live_lead, renewed}
+use Rattle.fab_disk.proofs.Plans.{run_as, run_after, run_both}
+use Rattle.frame_store.specs.declared.faults.FrameFault.TheVariants as frames
+use Rattle.brick_store.specs.declared.faults.StoreFault.{StoreFault}
+use Rattle.brick_store.proofs.Counting.{disk_failed}
 use Rattle.brick_store.proofs.Stepping.{memory_refused, refused, room_less}
 use Rattle.brick_store.proofs.fresh_lists.renew.Goals as goal
 
@@ -42,6 +46,30 @@ returns-in_err-rewrite-clause-no_memory g c =
     (omega (arith, ap size_of are)) (omega (arith, ap size_of are)) (omega (arith, ap length are)) (omega arith)
     (synced.left 12 _ _ _ _ made.room)) (ap (refused {E = FrameFault}) (memory_refused f is))) in
     rw (p.1, p.2) never
+
+pub returns-in_err-rewrite-clause-run : goal.returns-in_err-rewrite-clause-run
+returns-in_err-rewrite-clause-run g c =
+    let d = g.D.Disk in
+    let old = c.args.frames.now in
+    let made = c.in_ok-reserve.ensures in
+    let synced = c.in_ok-sync.ensures in
+    let held = c.sync.new.self in
+    let new = c.rewrite.new.self.disk in
+    let f = c.in_err-rewrite.field-0.0 in
+    let call = c.in_err-rewrite.ensures in
+    let are : c.deref.result.now ≡ c.in_ok-live.live.items = c.deref.ensures.value in
+    let p = err_from_is_err_and c.from_residual-in_err-rewrite.result c.from_residual-in_err-rewrite.ensures.1 in
+    let never = call.room (room_less d.has_room g.met.D.Disk.room_for_less held _ _ _ _ _ _ _ _ _ _ (omega arith)
+    (omega (arith, ap size_of are)) (omega (arith, ap size_of are)) (omega (arith, ap length are)) (omega arith)
+    (synced.left 12 _ _ _ _ made.room)) in
+    let runs : held.halted ≡ false = synced.answer.halts ∙ made.answer.halts ∙ c.requires.runs in
+    let is : f ≡ frames.Disk = disk_failed f held.halted runs call.answer.only_then call.answer.a_store never in
+    rw (p.1, p.2)
+    (run_as d.tells d.moment d.plan d.unlisted 8 old.disk new _ _ _ _ (λ whole. absurd cc) (λ cut. ap Err is)
+    (λ not_whole not_cut. absurd (not_cut (ap (refused {E = StoreFault}) (ap fault_of is))))
+    (run_after d.tells d.moment d.plan d.unlisted 8 old.disk c.reserve.new.self.disk new _ _ _ made.plan made.untouched.clock
+    (run_both d.tells d.moment d.plan d.unlisted 1 7 8 c.reserve.new.self.disk held.disk new _ _ _ _ refl refl
+    (λ not_whole not_cut. not_cut (ap Err is)) synced.run call.run)))
 
 pub returns-clause-moments : goal.returns-clause-moments
 returns-clause-moments g c = λ told closed.

@@ -8,6 +8,7 @@ use Rattle.brick_state.specs.Indexes as indexes
 use Rattle.brick_store.specs.declared.faults.StoreFault.TheVariants.{NotAStore}
 use Rattle.brick_store.specs.Images.{records_of, limits_for}
 use Rattle.brick_store.specs.Standing.{Leads}
+use Rattle.brick_store.specs.Openings.{is_whole}
 use Rattle.brick_store.proofs.Loads.{loaded_from, inside_from}
 use Rattle.brick_store.proofs.loading.load.Goals as goal
 
@@ -20,7 +21,7 @@ returns-in-Ok-clause-loaded g c =
     (here.state ∙ ap (λ (fs : List Frame). folded (limits_for c.args.records)
     (records_of fs) empty) c.frames.ensures) c.in_ok-folded.folded.whole c.in-Ok.blocks c.deref.result.now
     here.limits (λ w. subst (λ (fs : List Frame). Leads (limits_for c.args.records) fs empty (state_of index)) c.frames.ensures
-    (here.whole w)) here.members
+    (here.whole w)) (here.whole_is ∙ ap (λ (fs : List Frame). is_whole (limits_for c.args.records) fs empty) c.frames.ensures) here.members
     (c.deref.ensures.value ∙ c.in_ok-slots.ensures) c.in-Ok.ensures.held c.in-Ok.ensures.read (λ told. c.requires.read told c.requires.runs)
     (omega arith)
 

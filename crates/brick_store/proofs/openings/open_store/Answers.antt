@@ -1,14 +1,22 @@
 -- What was opened is what the disk held, counted.
-use Rattle.std.proofs.Common.{◌≡◌, ◌+◌, ◌<◌, Err, refl, sym, ap, subst}
+use Rattle.std.proofs.Common.{◌≡◌, ◌+◌, ◌<◌, ◌∙◌, true, List, Err, refl, sym, ap, subst}
 use Rattle.fab_disk.specs.Disk.{LeavesOnly}
 use Rattle.frame_store.specs.declared.shapes.Shape.{Shape}
+use Rattle.fab_disk.specs.Plan.{IsRun}
+use Rattle.fab_disk.proofs.Plans.{run_as, run_after, run_calls, run_whole}
+use Rattle.frame_store.specs.declared.frames.Frame.{Frame}
 use Rattle.frame_store.specs.Layouts.{shape_of}
+use Rattle.frame_store.specs.Images.{OpensAs}
+use Rattle.frame_store.proofs.Openings.{opens_once}
+use Rattle.brick_store.specs.declared.faults.StoreFault.TheVariants.{Disk}
+use Rattle.brick_store.specs.Calls.{opening_calls}
+use Rattle.brick_store.proofs.Counting.{opening_is}
 use Rattle.version_log.specs.Versions.{Version}
 use Rattle.brick_state.specs.Indexes.{state_of}
-use Rattle.brick_state.specs.States.{StateOf, booted}
+use Rattle.brick_state.specs.States.{StateOf, booted, empty}
 use Rattle.brick_store.specs.Blocks.{resolved, cached}
-use Rattle.brick_store.specs.Images.{IsFound, StandsFor, StandsForEither, LeavesState}
-use Rattle.brick_store.specs.Openings.{IsAllowedOr}
+use Rattle.brick_store.specs.Images.{limits_of, IsFound, StandsFor, StandsForEither, LeavesState}
+use Rattle.brick_store.specs.Openings.{IsAllowedOr, is_whole, opens_appendable}
 use Rattle.brick_store.proofs.Opened.{state_counted, found_there, worn_there, opening_moments, synced_moments, standing_leaves}
 use Rattle.brick_store.proofs.openings.open_store.Goals as goal
 
@@ -105,3 +113,41 @@ returns-in-Err-take_up-clause-worn g c = λ is told.
     let here = c.in-Ok.ensures in
     subst (λ (s : Shape). (st : StateOf Version) × IsFound s st (d.seen c.args.disk) × (st.boot ≡ 4294967295)) here.shape
     (worn_there d.seen held (here.read told here.runs) (d.seen c.args.disk) here.untouched.content (c.in-Err-take_up.ensures.worn (ap Err is)))
+
+pub returns-in-Ok-take_up-clause-run : goal.returns-in-Ok-take_up-clause-run
+returns-in-Ok-take_up-clause-run g c = λ told frames closed opens.
+    let d = g.D.Disk in
+    let held = c.in-Ok.frames in
+    let here = c.in-Ok.ensures in
+    let shape = shape_of c.args.me.0 c.args.block c.args.records in
+    let shows = subst (λ (s : Shape). OpensAs s held.frames held.closed (d.seen held.disk)) here.shape (here.read told here.runs).opens in
+    let once = opens_once shape (d.seen c.args.disk) held.frames frames held.closed closed
+    (subst (OpensAs shape held.frames held.closed) here.untouched.content shows) opens in
+    let calls = opening_is held (is_whole (limits_of held.shape) held.frames empty) (is_whole (limits_of shape) frames empty) shape frames closed
+    (ap (λ (s : Shape). is_whole (limits_of s) held.frames empty) here.shape
+    ∙ ap (λ (fs : List Frame). is_whole (limits_of shape) fs empty) once.0) here.shape once.0 once.1 in
+    run_whole d.tells d.moment d.plan d.unlisted _ c.args.disk c.take_up.new.frames.disk (true ≡ true) _ (Unit {0}) ⊥ refl tt (λ never. never)
+    (run_after d.tells d.moment d.plan d.unlisted _ c.args.disk held.disk c.take_up.new.frames.disk _ _ _ here.plan here.untouched.clock
+    (run_calls d.tells d.moment d.plan d.unlisted _ _ held.disk c.take_up.new.frames.disk _ _ calls c.in-Ok-take_up.ensures.run))
+
+pub returns-in-Err-take_up-clause-run_err : goal.returns-in-Err-take_up-clause-run_err
+returns-in-Err-take_up-clause-run_err g c = λ told frames closed opens.
+    let d = g.D.Disk in
+    let held = c.in-Ok.frames in
+    let here = c.in-Ok.ensures in
+    let new = c.take_up.new.frames.disk in
+    let shape = shape_of c.args.me.0 c.args.block c.args.records in
+    let back : new ≡ c.into_disk.result = sym c.into_disk.ensures in
+    let shows = subst (λ (s : Shape). OpensAs s held.frames held.closed (d.seen held.disk)) here.shape (here.read told here.runs).opens in
+    let once = opens_once shape (d.seen c.args.disk) held.frames frames held.closed closed
+    (subst (OpensAs shape held.frames held.closed) here.untouched.content shows) opens in
+    let calls = opening_is held (is_whole (limits_of held.shape) held.frames empty) (is_whole (limits_of shape) frames empty) shape frames closed
+    (ap (λ (s : Shape). is_whole (limits_of s) held.frames empty) here.shape
+    ∙ ap (λ (fs : List Frame). is_whole (limits_of shape) fs empty) once.0) here.shape once.0 once.1 in
+    let made = c.in-Err-take_up.ensures.run in
+    subst (λ (last : g.row.D.Denot). IsRun d.tells d.moment d.plan d.unlisted (opening_calls (opens_appendable shape frames closed)) c.args.disk last
+    ⊥ (c.in-Err-take_up.fault ≡ Disk)) back
+    (run_as d.tells d.moment d.plan d.unlisted _ c.args.disk new _ _ _ _ (λ never. absurd never) (λ is. ap Err is)
+    (λ a b. made.waits (λ whole. absurd cc) (λ is. b (let same : c.in-Err-take_up.fault ≡ Disk = cc in same)) ∙ here.plan.same)
+    (run_after d.tells d.moment d.plan d.unlisted _ c.args.disk held.disk new _ _ _ here.plan here.untouched.clock
+    (run_calls d.tells d.moment d.plan d.unlisted _ _ held.disk new _ _ calls made)))

@@ -7,7 +7,7 @@ use Rattle.brick_state.specs.Indexes.{state_of}
 use Rattle.brick_store.specs.Images.{limits_for}
 use Rattle.brick_store.specs.Openings.{IsTaken, EndsBefore}
 use Rattle.brick_store.proofs.Members.{AllHaveMembers, empty_members}
-use Rattle.brick_store.proofs.Reading.{leads_nothing, taken_more, ended_at, leads_all, all_taken}
+use Rattle.brick_store.proofs.Reading.{leads_nothing, taken_more, ended_at, ended_whole, leads_all, all_taken, all_whole_at}
 use Rattle.brick_store.proofs.readings.fold.Goals as goal
 
 pub loop-frame-init : goal.loop-frame-init
@@ -20,6 +20,15 @@ loop-frame-init c = record {
 pub returns-then-not-branch-clause-state : goal.returns-then-not-branch-clause-state
 returns-then-not-branch-clause-state c =
     ended_at (limits_for c.args.records) c.args.frames.now c.loop-frame.frame-index c.frame-item.result empty (state_of c.loop-frame.index)
+    (state_of c.take_frame.new.index) c.loop-frame-test.true c.frame-item.is
+    c.loop-frame.invariant.leads
+    (subst (λ (limits : Limits). EndsBefore limits c.frame-item.result (state_of c.loop-frame.index)
+    (state_of c.take_frame.new.index)) c.loop-frame.invariant.limits
+    (c.take_frame.ensures.ended (c.in_ok-take_frame.was ∙ ap Ok c.if-not-branch.true)))
+
+pub returns-then-not-branch-clause-whole_is : goal.returns-then-not-branch-clause-whole_is
+returns-then-not-branch-clause-whole_is c =
+    ended_whole (limits_for c.args.records) c.args.frames.now c.loop-frame.frame-index c.frame-item.result empty (state_of c.loop-frame.index)
     (state_of c.take_frame.new.index) c.loop-frame-test.true c.frame-item.is
     c.loop-frame.invariant.leads
     (subst (λ (limits : Limits). EndsBefore limits c.frame-item.result (state_of c.loop-frame.index)
@@ -44,4 +53,8 @@ returns-clause-state c = leads_all (limits_for c.args.records) c.args.frames.now
 
 pub returns-clause-whole : goal.returns-clause-whole
 returns-clause-whole c = λ whole. all_taken (limits_for c.args.records) c.args.frames.now c.loop-frame.frame-index empty
+    (state_of c.loop-frame.index) c.loop-frame-test.false c.loop-frame.invariant.leads
+
+pub returns-clause-whole_is : goal.returns-clause-whole_is
+returns-clause-whole_is c = all_whole_at (limits_for c.args.records) c.args.frames.now c.loop-frame.frame-index empty
     (state_of c.loop-frame.index) c.loop-frame-test.false c.loop-frame.invariant.leads

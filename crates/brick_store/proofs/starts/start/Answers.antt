@@ -9,7 +9,6 @@ use Rattle.brick_state.specs.States.{StateOf, booted}
 use Rattle.brick_state.specs.Indexes.{state_of}
 use Rattle.brick_state.specs.Indexes as indexes
 use Rattle.brick_store.specs.Steps.{IsMoment, changed}
-use Rattle.brick_store.proofs.Counting.{start_counted}
 use Rattle.brick_store.proofs.Starting.{counted, counted_moments}
 use Rattle.brick_store.proofs.starts.start.Goals as goal
 
@@ -25,19 +24,13 @@ returns-clause-moments g c = λ told closed.
     let d = g.D.Disk in
     let st = state_of c.args.index.now in
     let old = c.args.frames.now in
-    let mid = c.settle.new.frames in
+    let mid = c.make_appendable.new.frames in
     let new = c.append_count.new.frames in
     let is : changed (indexes.limits_of c.args.index.now) (forms.Kept (Boot (c.boot.result + 1))) st ≡ booted (c.args.index.now.boot + 1) st =
     counted (indexes.limits_of c.args.index.now) (c.boot.result + 1) st ∙ ap (λ (n : ℕ). booted (n + 1) st) c.boot.ensures in
     let step = subst (λ (s : Shape). LeavesOnly d.moment d.left_since mid.disk new.disk
     (IsMoment s None st (changed (indexes.limits_of c.args.index.now) (forms.Kept (Boot (c.boot.result + 1))) st) (d.seen mid.disk)))
-    c.settle.ensures.shape (c.append_count.ensures.step.moments told) in
+    c.make_appendable.ensures.shape (c.append_count.ensures.step.moments told) in
     counted_moments d.moment d.left_since (d.may_leave old.disk) old.shape st (booted (c.args.index.now.boot + 1) st)
-    (d.seen old.disk) old.disk mid.disk new.disk (d.seen mid.disk) (c.in_ok-settle.ensures.slots told) (c.settle.ensures.moments told closed)
+    (d.seen old.disk) old.disk mid.disk new.disk (d.seen mid.disk) (c.in_ok-make_appendable.ensures.slots told) (c.make_appendable.ensures.moments told closed)
     (subst (λ (s : StateOf Entry). LeavesOnly d.moment d.left_since mid.disk new.disk (IsMoment old.shape None st s (d.seen mid.disk))) is step)
-
-pub returns-clause-counted : goal.returns-clause-counted
-returns-clause-counted g c = λ told.
-    let moment = g.D.Disk.moment in
-    start_counted c.append_count.result (moment c.args.frames.now.disk) (moment c.settle.new.frames.disk) (moment c.append_count.new.frames.disk)
-    (c.in_ok-settle.ensures.counted told) (c.append_count.ensures.counted told)

@@ -1,6 +1,8 @@
-use Rattle.std.proofs.Common.{◌≡◌, ◌+◌, length, Err, arith}
+use Rattle.std.proofs.Common.{◌≡◌, ◌+◌, length, Err, arith, refl}
 use Rattle.fab_disk.proofs.Moments.{kept_both}
 use Rattle.frame_store.specs.declared.faults.FrameFault.TheVariants.{Disk}
+use Rattle.fab_disk.proofs.Plans.{run_both}
+use Rattle.frame_store.proofs.Runs.{made_or_cut}
 use Rattle.frame_store.proofs.steps.rewrite_gated.Goals as goal
 
 pub write_synced-requires-clause-room : goal.write_synced-requires-clause-room
@@ -24,3 +26,9 @@ returns-clause-cause g c =
     (g.D.Disk.sound c.write_synced.new.disk) (g.D.Disk.sound c.write_both_gated.new.disk) (c.write_synced.result ≡ Err Disk)
     (c.write_both_gated.result ≡ Err Disk)
     c.write_synced.ensures.cause c.write_both_gated.ensures.cause
+
+pub returns-clause-run : goal.returns-clause-run
+returns-clause-run g c =
+    let d = g.D.Disk in
+    run_both d.tells d.moment d.plan d.unlisted 2 5 7 c.args.disk.now c.write_synced.new.disk c.write_both_gated.new.disk _ _ _ _ refl refl
+    (made_or_cut c.write_both_gated.result c.write_both_gated.ensures.only) c.in_ok-write_synced.ensures.run c.write_both_gated.ensures.run

@@ -1,6 +1,7 @@
-use Rattle.std.proofs.Common.{◌+◌, length, arith}
+use Rattle.std.proofs.Common.{◌+◌, length, arith, refl}
 use Rattle.frame_store.specs.Steps.{IsStaged}
-use Rattle.frame_store.proofs.Runs.{write_first, write_twice, staged_now, then_sync}
+use Rattle.fab_disk.proofs.Plans.{run_both}
+use Rattle.frame_store.proofs.Runs.{made_or_cut, write_first, write_twice, staged_now, then_sync}
 use Rattle.frame_store.proofs.steps.write_both_synced.Goals as goal
 
 pub sync-requires : goal.sync-requires
@@ -39,3 +40,11 @@ returns-clause-moments g c = λ only.
     (write_twice g.D.Disk.may_leave g.D.Disk.moment g.D.Disk.left_since g.met.D.Disk.only_now c.args.disk.now c.write.new.disk c.write-2.new.disk content c.args.from n c.args.at k only c.write.ensures.crash c.write.ensures.time c.write-2.ensures.crash c.write-2.ensures.time)
     (staged_now g.D.Disk.may_leave g.D.Disk.moment g.D.Disk.left_since g.met.D.Disk.only_now c.args.disk.now c.write.new.disk c.write-2.new.disk content c.args.from n c.args.at k only c.write.ensures.crash c.write-2.ensures.crash)
     c.sync.ensures.crash c.sync.ensures.time
+
+pub returns-clause-run : goal.returns-clause-run
+returns-clause-run g c =
+    let d = g.D.Disk in
+    let both = run_both d.tells d.moment d.plan d.unlisted 1 1 2 c.args.disk.now c.write.new.disk c.write-2.new.disk _ _ _ _ refl refl
+    (λ not_whole not_cut. not_whole refl) c.in_ok-write.ensures.run c.in_ok-write-2.ensures.run in
+    run_both d.tells d.moment d.plan d.unlisted 2 1 3 c.args.disk.now c.write-2.new.disk c.sync.new.disk _ _ _ _ refl refl
+    (made_or_cut c.sync.result c.sync.ensures.only) both c.sync.ensures.run

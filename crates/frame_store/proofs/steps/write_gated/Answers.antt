@@ -1,6 +1,8 @@
-use Rattle.std.proofs.Common.{◌≡◌, ◌+◌, length, Err, arith}
+use Rattle.std.proofs.Common.{◌≡◌, ◌+◌, length, Err, arith, refl}
 use Rattle.fab_disk.proofs.Moments.{kept_both}
 use Rattle.frame_store.specs.declared.faults.FrameFault.TheVariants.{Disk}
+use Rattle.fab_disk.proofs.Plans.{run_both}
+use Rattle.frame_store.proofs.Runs.{made_or_cut}
 use Rattle.frame_store.proofs.steps.write_gated.Goals as goal
 
 pub write_synced-requires-2-clause-room : goal.write_synced-requires-2-clause-room
@@ -19,3 +21,9 @@ returns-clause-cause g c =
     (g.D.Disk.sound c.write_synced.new.disk) (g.D.Disk.sound c.write_synced-2.new.disk) (c.write_synced.result ≡ Err Disk)
     (c.write_synced-2.result ≡ Err Disk)
     c.write_synced.ensures.cause c.write_synced-2.ensures.cause
+
+pub returns-clause-run : goal.returns-clause-run
+returns-clause-run g c =
+    let d = g.D.Disk in
+    run_both d.tells d.moment d.plan d.unlisted 2 2 4 c.args.disk.now c.write_synced.new.disk c.write_synced-2.new.disk _ _ _ _ refl refl
+    (made_or_cut c.write_synced-2.result c.write_synced-2.ensures.only) c.in_ok-write_synced.ensures.run c.write_synced-2.ensures.run

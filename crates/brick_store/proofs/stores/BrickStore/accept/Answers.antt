@@ -6,6 +6,7 @@ use Rattle.brick_state.specs.declared.records.Record.TheVariants as forms
 use Rattle.brick_state.specs.States.{balloted}
 use Rattle.brick_state.specs.Indexes.{state_of, limits_of}
 use Rattle.brick_store.specs.Blocks.{cached}
+use Rattle.brick_store.proofs.Counting.{run_counted}
 use Rattle.brick_store.proofs.Changed.{can_from, ballots_applied, members_balloted}
 use Rattle.brick_store.proofs.Changing.{told_refused, told_of, changes_plain, standing_plain}
 use Rattle.brick_store.proofs.Resolving.{balloted-resolved}
@@ -30,8 +31,8 @@ invariant_of-self g c =
     (λ P zero all. all) (members_balloted c.args.group.0 c.args.ballot
     (Some (c.args.ballot, c.args.members)) st c.requires.members c.self.invariant.indexed.members) c.commit.ensures.limits c.commit.ensures.step c.commit.ensures.made c.commit.ensures.not_made
 
-pub returns : goal.returns
-returns g c =
+pub returns-clause-change : goal.returns-clause-change
+returns-clause-change g c =
     let d = g.D.Disk in
     let x = c.self.inside in
     let st = state_of x.index in
@@ -42,14 +43,14 @@ returns g c =
       c.args.members,
     )) st) false c.commit.result c.self.invariant c.in_ok-ready.ensures.runs c.in_ok-ready.ensures.free
     (ballots_applied (limits_of x.index) c.args.group c.args.view c.args.ballot (Some (c.args.ballot, c.args.members)) st c.requires.group)
-    (λ P zero all. all) c.commit.ensures.step c.commit.ensures.made c.commit.ensures.not_made c.commit.ensures.cause c.commit.ensures.counted in
+    (λ P zero all. all) c.commit.ensures.step c.commit.ensures.made c.commit.ensures.not_made c.commit.ensures.cause (run_counted _ _ _ c.commit.ensures.run) in
     told_of d.tells d.seen d.may_leave d.moment d.left_since d.faults d.sound x.blocks x.frames c.commit.new.frames st (state_of c.commit.new.index)
     (balloted c.args.group.0 c.args.ballot (Some (c.args.ballot, c.args.members)) st) c.args.self.now
     (λ s. balloted c.args.group.0 c.args.ballot (Some (c.args.ballot, c.args.members)) s) (λ s. false) false 4 c.commit.result c.self.view_is
     (balloted-resolved (cached x.frames.shape.block x.blocks) c.args.group.0 c.args.ballot (Some (c.args.ballot, c.args.members)) st) refl tried
 
-pub returns-in_err-ready : goal.returns-in_err-ready
-returns-in_err-ready g c =
+pub returns-in_err-ready-clause-change : goal.returns-in_err-ready-clause-change
+returns-in_err-ready-clause-change g c =
     let d = g.D.Disk in
     let x = c.self.inside in
     let f = c.in_err-ready.field-0.0 in

@@ -11,14 +11,15 @@ use Rattle.brick_store.specs.declared.faults.StoreFault.{StoreFault}
 use Rattle.brick_store.specs.Blocks.{with_version}
 use Rattle.brick_store.specs.Bricks.{Brick}
 use Rattle.brick_store.specs.Changes.{Changes}
+use Rattle.brick_store.proofs.Counting.{run_counted}
 use Rattle.brick_store.proofs.Changed.{can_from}
 use Rattle.brick_store.proofs.Changing.{brick_of, told_refused, told_of}
 use Rattle.brick_store.proofs.Versions.{above_of, slot_applied, slots_added, with_version_seen, next_seen}
 use Rattle.brick_store.proofs.Adding.{brick_same, standing_same, same_settled, changes_put, standing_put, told_stopped, no_slot_fault, cached_is}
 use Rattle.brick_store.proofs.stores.BrickStore.add_block.Goals as goal
 
-pub returns-in_err-ready : goal.returns-in_err-ready
-returns-in_err-ready g c =
+pub returns-in_err-ready-clause-change : goal.returns-in_err-ready-clause-change
+returns-in_err-ready-clause-change g c =
     let d = g.D.Disk in
     let x = c.self.inside in
     let f = c.in_err-ready.field-0.0 in
@@ -43,8 +44,8 @@ commit_with-answer-requires-clause-can g c =
     can_from _ _ _ _ (slot_applied (limits_of x.index) c.args.group c.args.view c.args.stripe c.args.stamp c.in_ok-slot.slot st c.requires.group
     (c.in_ok-ready.ensures.free refl) c.in_ok-slot.ensures.slot above)
 
-pub returns-in_err-slot : goal.returns-in_err-slot
-returns-in_err-slot g c =
+pub returns-in_err-slot-clause-change : goal.returns-in_err-slot-clause-change
+returns-in_err-slot-clause-change g c =
     let d = g.D.Disk in
     let x = c.self.inside in
     let now = c.hold_new.new.blocks in
@@ -88,8 +89,8 @@ invariant_of-self-2 g c =
     ∙ sym (ap (λ (b : Brick g.row.D.Denot). b.shape.block) c.self.view_is)) c.in_ok-slot.ensures.unnamed
     c.self.invariant.indexed.members c.commit_with-answer.ensures.limits c.commit_with-answer.ensures.step c.commit_with-answer.ensures.made c.commit_with-answer.ensures.not_made)
 
-pub returns : goal.returns
-returns g c =
+pub returns-clause-change : goal.returns-clause-change
+returns-clause-change g c =
     let d = g.D.Disk in
     let x = c.self.inside in
     let st = state_of x.index in
@@ -115,7 +116,7 @@ returns g c =
     (c.in_ok-ready.ensures.free refl) c.in_ok-slot.ensures.slot above)
     (λ P here all. slots_added P p t slot st here all) small
     c.held_under.ensures c.in_ok-slot.ensures.unnamed
-    c.commit_with-answer.ensures.step c.commit_with-answer.ensures.made c.commit_with-answer.ensures.not_made c.commit_with-answer.ensures.cause c.commit_with-answer.ensures.counted in
+    c.commit_with-answer.ensures.step c.commit_with-answer.ensures.made c.commit_with-answer.ensures.not_made c.commit_with-answer.ensures.cause (run_counted _ _ _ c.commit_with-answer.ensures.run) in
     let last = c.forget_refused.new.blocks in
     let B = Brick g.row.D.Denot in
     let settled = same_settled now last slot st (state_of c.commit_with-answer.new.index) c.commit_with-answer.result c.forget_refused.ensures.added c.forget_refused.ensures.others c.commit_with-answer.ensures.not_made c.in_ok-slot.ensures.unnamed in

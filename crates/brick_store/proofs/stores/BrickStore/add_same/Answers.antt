@@ -7,6 +7,7 @@ use Rattle.brick_state.specs.States.{stripe_at, added}
 use Rattle.brick_state.specs.Folds.{place, entry}
 use Rattle.brick_state.specs.Indexes.{state_of, limits_of}
 use Rattle.brick_store.specs.Blocks.{with_version}
+use Rattle.brick_store.proofs.Counting.{run_counted}
 use Rattle.brick_store.proofs.Changed.{can_from}
 use Rattle.brick_store.proofs.Changing.{told_refused, told_of, changes_plain, standing_plain}
 use Rattle.brick_store.proofs.Versions.{some_newest, above_of, same_block, same_applied, slots_same, with_version_seen, next_seen}
@@ -41,8 +42,8 @@ invariant_of-self g c =
     (c.in_ok-ready.ensures.free refl) u.1 above)
     (λ P zero all. slots_same P p c.args.stamp u.0 st u.1 zero all) c.self.invariant.indexed.members c.commit.ensures.limits c.commit.ensures.step c.commit.ensures.made c.commit.ensures.not_made
 
-pub returns : goal.returns
-returns g c =
+pub returns-clause-change : goal.returns-clause-change
+returns-clause-change g c =
     let d = g.D.Disk in
     let x = c.self.inside in
     let st = state_of x.index in
@@ -56,15 +57,15 @@ returns g c =
     (forms.Logged (record { group = c.args.group; view = c.args.view; stripe = c.args.stripe; stamp = t; change = Same }))
     (state_of c.commit.new.index) (added p (entry t u.0.block) st) true c.commit.result c.self.invariant c.in_ok-ready.ensures.runs c.in_ok-ready.ensures.free
     (same_applied (limits_of x.index) c.args.group c.args.view c.args.stripe t u.0 st c.requires.group (c.in_ok-ready.ensures.free refl) u.1 above)
-    (λ P zero all. slots_same P p t u.0 st u.1 zero all) c.commit.ensures.step c.commit.ensures.made c.commit.ensures.not_made c.commit.ensures.cause c.commit.ensures.counted in
+    (λ P zero all. slots_same P p t u.0 st u.1 zero all) c.commit.ensures.step c.commit.ensures.made c.commit.ensures.not_made c.commit.ensures.cause (run_counted _ _ _ c.commit.ensures.run) in
     told_of d.tells d.seen d.may_leave d.moment d.left_since d.faults d.sound x.blocks x.frames c.commit.new.frames st (state_of c.commit.new.index)
     (added p (entry t u.0.block) st) c.args.self.now
     (with_version c.args.self.now.shape.block p t None) (λ s. true) true 4 c.commit.result c.self.view_is
     (with_version_seen x.blocks x.frames st p t None u.0.block c.args.self.now c.self.view_is
     (same_block size x.blocks (stripe_at st p) u.0 u.1)) refl tried
 
-pub returns-in_err-ready : goal.returns-in_err-ready
-returns-in_err-ready g c =
+pub returns-in_err-ready-clause-change : goal.returns-in_err-ready-clause-change
+returns-in_err-ready-clause-change g c =
     let d = g.D.Disk in
     let x = c.self.inside in
     let f = c.in_err-ready.field-0.0 in

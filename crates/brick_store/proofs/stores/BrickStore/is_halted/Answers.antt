@@ -1,9 +1,10 @@
 -- What the frames and the index say is what a clause sees.
-use Rattle.std.proofs.Common.{◌≡◌, false, subst}
+use Rattle.std.proofs.Common.{◌≡◌, Bool, false, refl, subst}
+use Rattle.frame_store.specs.Images.{OpensAs}
 use Rattle.brick_state.specs.Indexes.{state_of}
 use Rattle.brick_store.specs.Blocks.{cached}
 use Rattle.brick_store.specs.Bricks.{Brick, IsOrdered}
-use Rattle.brick_store.specs.Images.{LeavesState, limits_of}
+use Rattle.brick_store.specs.Images.{LeavesState, IsListed, limits_of}
 use Rattle.brick_store.proofs.KeptLogs.{kept_ordered, standing_leaves}
 use Rattle.brick_store.proofs.stores.BrickStore.is_halted.Goals as goal
 
@@ -20,3 +21,16 @@ returns-clause-ordered g c =
     subst (λ (b : Brick g.row.D.Denot). IsOrdered b.shape.block b.state) c.self.view_is
     (kept_ordered x.frames.shape.block (cached x.frames.shape.block x.blocks) (limits_of x.frames.shape)
     (state_of x.index) c.self.invariant.indexed.kept)
+
+pub returns-clause-listed : goal.returns-clause-listed
+returns-clause-listed g c =
+    let d = g.D.Disk in
+    let x = c.self.inside in
+    subst (λ (b : Brick g.row.D.Denot). d.tells → b.halted ≡ false → IsListed b.shape b.listed (d.seen b.disk)) c.self.view_is
+    (λ told runs.
+    let on_disk = c.self.invariant.on_disk told runs in
+    record {
+      frames = x.frames.frames;
+      opens = subst (λ (b : Bool). OpensAs x.frames.shape x.frames.frames b (d.seen x.frames.disk)) on_disk.closed on_disk.shows.opens;
+      bytes = refl;
+    })

@@ -12,6 +12,7 @@ use Rattle.brick_state.specs.Indexes.{state_of, limits_of}
 use Rattle.brick_store.specs.Blocks.{cached}
 use Rattle.brick_store.specs.Bricks.{Brick}
 use Rattle.brick_store.specs.Images as images
+use Rattle.brick_store.proofs.Counting.{run_counted}
 use Rattle.brick_store.proofs.Changed.{can_from, view_applied, members_viewed, slots_viewed, above_learnt}
 use Rattle.brick_store.proofs.Changing.{told_refused, told_of, changes_plain, standing_plain}
 use Rattle.brick_store.proofs.Resolving.{viewed-resolved, groups-resolved}
@@ -47,8 +48,8 @@ invariant_of-self g c =
     (λ P zero all. slots_viewed P c.args.group.0 c.args.view false st all)
     (members_viewed c.args.group.0 c.args.view false st c.requires.members.0 c.requires.members.1 c.self.invariant.indexed.members) c.commit.ensures.limits c.commit.ensures.step c.commit.ensures.made c.commit.ensures.not_made
 
-pub returns : goal.returns
-returns g c =
+pub returns-clause-change : goal.returns-clause-change
+returns-clause-change g c =
     let d = g.D.Disk in
     let x = c.self.inside in
     let st = state_of x.index in
@@ -62,14 +63,14 @@ returns g c =
     (forms.Kept (kinds.View c.args.group c.args.view false)) (state_of c.commit.new.index)
     (viewed c.args.group.0 c.args.view false st) false c.commit.result c.self.invariant c.in_ok-ready.ensures.runs c.in_ok-ready.ensures.free
     (view_applied (limits_of x.index) c.args.group c.args.view false st c.requires.group above)
-    (λ P zero all. slots_viewed P c.args.group.0 c.args.view false st all) c.commit.ensures.step c.commit.ensures.made c.commit.ensures.not_made c.commit.ensures.cause c.commit.ensures.counted in
+    (λ P zero all. slots_viewed P c.args.group.0 c.args.view false st all) c.commit.ensures.step c.commit.ensures.made c.commit.ensures.not_made c.commit.ensures.cause (run_counted _ _ _ c.commit.ensures.run) in
     told_of d.tells d.seen d.may_leave d.moment d.left_since d.faults d.sound x.blocks x.frames c.commit.new.frames st (state_of c.commit.new.index)
     (viewed c.args.group.0 c.args.view false st) c.args.self.now
     (λ s. viewed c.args.group.0 c.args.view false s) (λ s. false) false 4 c.commit.result c.self.view_is
     (viewed-resolved (cached x.frames.shape.block x.blocks) c.args.group.0 c.args.view false st) refl tried
 
-pub returns-in_err-ready : goal.returns-in_err-ready
-returns-in_err-ready g c =
+pub returns-in_err-ready-clause-change : goal.returns-in_err-ready-clause-change
+returns-in_err-ready-clause-change g c =
     let d = g.D.Disk in
     let x = c.self.inside in
     let f = c.in_err-ready.field-0.0 in

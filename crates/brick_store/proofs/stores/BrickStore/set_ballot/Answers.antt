@@ -11,8 +11,10 @@ use Rattle.brick_state.specs.declared.records.Record.TheVariants as forms
 use Rattle.brick_state.specs.States.{balloted, group_at, no_group}
 use Rattle.brick_state.specs.Indexes.{state_of, limits_of}
 use Rattle.brick_store.specs.Blocks.{resolved, cached, accepted_of}
+use Rattle.brick_store.specs.Sizes.{ballots_size}
+use Rattle.brick_store.proofs.Counting.{run_counted}
 use Rattle.brick_store.proofs.Changed.{can_from, ballots_applied, members_balloted, accepted_members}
-use Rattle.brick_store.proofs.Changing.{told_refused, told_of, changes_plain, standing_plain}
+use Rattle.brick_store.proofs.Changing.{run_seen, told_refused, told_of, changes_plain, standing_plain}
 use Rattle.brick_store.proofs.Resolving.{balloted-resolved, groups-resolved}
 use Rattle.brick_store.proofs.stores.BrickStore.set_ballot.Goals as goal
 
@@ -46,8 +48,8 @@ invariant_of-self g c =
     (λ P zero all. all) (members_balloted c.args.group.0 c.args.promised c.accepted_of-accepted.result st
     (subst AcceptedHasMembers (sym acc) (accepted_members c.args.group.0 st c.self.invariant.indexed.members)) c.self.invariant.indexed.members) c.commit.ensures.limits c.commit.ensures.step c.commit.ensures.made c.commit.ensures.not_made
 
-pub returns : goal.returns
-returns g c =
+pub returns-clause-change : goal.returns-clause-change
+returns-clause-change g c =
     let d = g.D.Disk in
     let x = c.self.inside in
     let st = state_of x.index in
@@ -57,7 +59,7 @@ returns g c =
     (forms.Kept (Ballots c.args.group c.args.view c.args.promised c.accepted_of-accepted.result)) (state_of c.commit.new.index)
     (balloted c.args.group.0 c.args.promised c.accepted_of-accepted.result st) false c.commit.result c.self.invariant c.in_ok-ready.ensures.runs c.in_ok-ready.ensures.free
     (ballots_applied (limits_of x.index) c.args.group c.args.view c.args.promised c.accepted_of-accepted.result st c.requires.group)
-    (λ P zero all. all) c.commit.ensures.step c.commit.ensures.made c.commit.ensures.not_made c.commit.ensures.cause c.commit.ensures.counted in
+    (λ P zero all. all) c.commit.ensures.step c.commit.ensures.made c.commit.ensures.not_made c.commit.ensures.cause (run_counted _ _ _ c.commit.ensures.run) in
     told_of d.tells d.seen d.may_leave d.moment d.left_since d.faults d.sound x.blocks x.frames c.commit.new.frames st (state_of c.commit.new.index)
     (balloted c.args.group.0 c.args.promised c.accepted_of-accepted.result st) c.args.self.now
     (λ s. balloted c.args.group.0 c.args.promised (accepted_of (group_at s c.args.group.0)) s) (λ s. false) false 4 c.commit.result c.self.view_is
@@ -66,8 +68,8 @@ returns g c =
     (acc ∙ ap (λ (gs : List Group). accepted_of (slice_index_or gs c.args.group.0 no_group))
     (sym (groups-resolved (cached x.frames.shape.block x.blocks) st)))) refl tried
 
-pub returns-in_err-ready : goal.returns-in_err-ready
-returns-in_err-ready g c =
+pub returns-in_err-ready-clause-change : goal.returns-in_err-ready-clause-change
+returns-in_err-ready-clause-change g c =
     let d = g.D.Disk in
     let x = c.self.inside in
     let f = c.in_err-ready.field-0.0 in
@@ -75,3 +77,14 @@ returns-in_err-ready g c =
     rw (q.1, q.2) (told_refused d.tells d.seen d.may_leave d.moment d.left_since d.faults d.sound g.met.D.Disk.only_now x.blocks x.zero x.frames x.index c.args.self.now
     (λ s. balloted c.args.group.0 c.args.promised (accepted_of (group_at s c.args.group.0)) s)
     (λ s. false) false 4 f c.self.view_is refl c.self.invariant c.in_err-ready.ensures.refused)
+
+pub returns-clause-run : goal.returns-clause-run
+returns-clause-run g c =
+    let x = c.self.inside in
+    let st = state_of x.index in
+    let acc : c.accepted_of-accepted.result ≡ accepted_of (group_at (resolved (cached x.frames.shape.block x.blocks) st) c.args.group.0) =
+    c.accepted_of-accepted.ensures ∙ ap accepted_of c.group.ensures
+    ∙ ap (λ (gs : List Group). accepted_of (slice_index_or gs c.args.group.0 no_group))
+    (sym (groups-resolved (cached x.frames.shape.block x.blocks) st)) in
+    run_seen x.blocks x.frames st c.args.self.now (λ s. ballots_size (accepted_of (group_at s c.args.group.0)))
+    (ballots_size c.accepted_of-accepted.result) 4 c.commit.new.frames.disk _ _ c.self.view_is (ap ballots_size acc) c.commit.ensures.run

@@ -2,6 +2,7 @@
 use Rattle.std.proofs.Common.{◌≡◌, Bool, true, Err, sym, ap, subst, ◌∙◌}
 use Rattle.std.proofs.lemmas.Result.{err_from_is_err_and}
 use Rattle.stamp_store.specs.declared.kept_records.Kept.TheVariants.{Order}
+use Rattle.frame_store.specs.Listed.{size_of}
 use Rattle.version_log.specs.Versions.{Version}
 use Rattle.brick_state.specs.declared.records.Record.TheVariants as forms
 use Rattle.brick_state.specs.States.{StateOf, StripeOf, ordered, stripe_at}
@@ -10,6 +11,7 @@ use Rattle.brick_state.specs.Indexes.{state_of, limits_of}
 use Rattle.brick_store.specs.Blocks.{resolved, cached, adds_stamp}
 use Rattle.brick_store.specs.Bricks.{Brick}
 use Rattle.brick_store.specs.Changes.{Changes}
+use Rattle.brick_store.proofs.Counting.{run_counted}
 use Rattle.brick_store.proofs.Changed.{order_applied, can_from, slots_ordered}
 use Rattle.brick_store.proofs.Changing.{changes_refused, changes_plain, standing_plain}
 use Rattle.brick_store.proofs.Resolving.{ordered-resolved, stripe_at-resolved}
@@ -36,8 +38,8 @@ invariant_of-self g c =
     (order_applied (limits_of x.index) c.args.group c.args.view c.args.stripe c.args.stamp st c.requires.group free)
     (λ P zero all. slots_ordered P p c.args.stamp st all) c.self.invariant.indexed.members c.commit.ensures.limits c.commit.ensures.step c.commit.ensures.made c.commit.ensures.not_made
 
-pub returns : goal.returns
-returns g c =
+pub returns-clause-change : goal.returns-clause-change
+returns-clause-change g c =
     let d = g.D.Disk in
     let x = c.self.inside in
     let st = state_of x.index in
@@ -52,7 +54,7 @@ returns g c =
     (forms.Kept (Order c.args.group c.args.view c.args.stripe t)) now
     (ordered p t st) adds c.commit.result c.self.invariant c.in_ok-ready.ensures.runs c.in_ok-ready.ensures.free
     (order_applied (limits_of x.index) c.args.group c.args.view c.args.stripe t st c.requires.group free)
-    (λ P zero all. slots_ordered P p t st all) c.commit.ensures.step c.commit.ensures.made c.commit.ensures.not_made c.commit.ensures.cause c.commit.ensures.counted in
+    (λ P zero all. slots_ordered P p t st all) c.commit.ensures.step c.commit.ensures.made c.commit.ensures.not_made c.commit.ensures.cause (run_counted _ _ _ c.commit.ensures.run) in
     let after : resolved block (ordered p t st) ≡ ordered p t (resolved block st) = ordered-resolved block p t st in
     let add : adds ≡ adds_stamp t (stripe_at (resolved block st) p).order = c.adds_stamp-adds.ensures
     ∙ ap (adds_stamp t) (c.order.ensures ∙ sym (ap (λ (s : StripeOf Version). s.order) (stripe_at-resolved block st p))) in
@@ -62,9 +64,10 @@ returns g c =
       shape = c.commit.new.frames.shape;
       state = resolved
           (cached c.commit.new.frames.shape.block x.blocks) now;
+      listed = size_of c.commit.new.frames.frames;
       halted = c.commit.new.frames.halted;
     } in
-    let old : B = record { disk = x.frames.disk; shape = x.frames.shape; state = resolved block st; halted = x.frames.halted } in
+    let old : B = record { disk = x.frames.disk; shape = x.frames.shape; state = resolved block st; listed = size_of x.frames.frames; halted = x.frames.halted } in
     subst (λ (b : B). Changes d.tells d.seen d.may_leave d.moment d.left_since d.faults d.sound b new (ordered p t b.state)
     (adds_stamp t (stripe_at b.state p).order) 4 c.commit.result) c.self.view_is
     (subst (λ (a : StateOf Version). Changes d.tells d.seen d.may_leave d.moment d.left_since d.faults d.sound old new a
@@ -72,8 +75,8 @@ returns g c =
     (subst (λ (b : Bool). Changes d.tells d.seen d.may_leave d.moment d.left_since d.faults d.sound old new
     (resolved block (ordered p t st)) b 4 c.commit.result) add tried))
 
-pub returns-in_err-ready : goal.returns-in_err-ready
-returns-in_err-ready g c =
+pub returns-in_err-ready-clause-change : goal.returns-in_err-ready-clause-change
+returns-in_err-ready-clause-change g c =
     let d = g.D.Disk in
     let x = c.self.inside in
     let st = state_of x.index in
@@ -86,7 +89,7 @@ returns-in_err-ready g c =
     ∙ ap (adds_stamp t) (c.order.ensures ∙ sym (ap (λ (s : StripeOf Version). s.order) (stripe_at-resolved block st p))) in
     let not_tried = changes_refused d.tells d.seen d.may_leave d.moment d.left_since d.faults d.sound g.met.D.Disk.only_now x.blocks x.zero x.frames x.index (ordered p t (resolved block st)) adds 4 f c.self.invariant c.in_err-ready.ensures.refused in
     let B = Brick g.row.D.Denot in
-    let old : B = record { disk = x.frames.disk; shape = x.frames.shape; state = resolved block st; halted = x.frames.halted } in
+    let old : B = record { disk = x.frames.disk; shape = x.frames.shape; state = resolved block st; listed = size_of x.frames.frames; halted = x.frames.halted } in
     let q = err_from_is_err_and c.from_residual.result c.from_residual.ensures.1 in
     rw (q.1, q.2) (subst (λ (b : B). Changes d.tells d.seen d.may_leave d.moment d.left_since d.faults d.sound b b (ordered p t b.state)
     (adds_stamp t (stripe_at b.state p).order) 4 (Err f)) c.self.view_is

@@ -10,9 +10,11 @@ use Rattle.brick_state.specs.States.{viewed, group_at, no_group}
 use Rattle.brick_state.specs.Indexes.{state_of, limits_of}
 use Rattle.brick_store.specs.Blocks.{resolved, cached}
 use Rattle.brick_store.specs.Bricks.{Brick}
+use Rattle.brick_store.specs.Sizes.{view_size, known_size}
 use Rattle.brick_store.specs.Images as images
+use Rattle.brick_store.proofs.Counting.{run_counted}
 use Rattle.brick_store.proofs.Changed.{can_from, view_applied, members_viewed, slots_viewed}
-use Rattle.brick_store.proofs.Changing.{told_refused, told_of, changes_plain, standing_plain}
+use Rattle.brick_store.proofs.Changing.{run_seen, known_is, told_refused, told_of, changes_plain, standing_plain}
 use Rattle.brick_store.proofs.Resolving.{viewed-resolved, groups-resolved}
 use Rattle.std.specs.Option.{IsSome}
 use Rattle.fab_base.specs.declared.member_lists.View.{View}
@@ -58,8 +60,8 @@ invariant_of-self g c =
     (λ P zero all. slots_viewed P c.args.group.0 c.learnt_view.result true st all)
     (members_viewed c.args.group.0 c.learnt_view.result true st sound.1.0 sound.1.1 c.self.invariant.indexed.members) c.commit.ensures.limits c.commit.ensures.step c.commit.ensures.made c.commit.ensures.not_made
 
-pub returns : goal.returns
-returns g c =
+pub returns-clause-change : goal.returns-clause-change
+returns-clause-change g c =
     let d = g.D.Disk in
     let x = c.self.inside in
     let st = state_of x.index in
@@ -69,7 +71,7 @@ returns g c =
     (forms.Kept (kinds.View c.args.group c.learnt_view.result true)) (state_of c.commit.new.index)
     (viewed c.args.group.0 c.learnt_view.result true st) false c.commit.result c.self.invariant c.in_ok-ready.ensures.runs c.in_ok-ready.ensures.free
     (view_applied (limits_of x.index) c.args.group c.learnt_view.result true st c.requires.group sound.0)
-    (λ P zero all. slots_viewed P c.args.group.0 c.learnt_view.result true st all) c.commit.ensures.step c.commit.ensures.made c.commit.ensures.not_made c.commit.ensures.cause c.commit.ensures.counted in
+    (λ P zero all. slots_viewed P c.args.group.0 c.learnt_view.result true st all) c.commit.ensures.step c.commit.ensures.made c.commit.ensures.not_made c.commit.ensures.cause (run_counted _ _ _ c.commit.ensures.run) in
     told_of d.tells d.seen d.may_leave d.moment d.left_since d.faults d.sound x.blocks x.frames c.commit.new.frames st (state_of c.commit.new.index)
     (viewed c.args.group.0 c.learnt_view.result true st) c.args.self.now
     (λ s. all_synced c.args.group.0 s) (λ s. false) false 4 c.commit.result c.self.view_is
@@ -78,11 +80,21 @@ returns g c =
     (sym (ap (λ (gs : List Group). learnt_view (slice_index_or gs c.args.group.0 no_group))
     (groups-resolved (cached x.frames.shape.block x.blocks) st) ∙ is))) refl tried
 
-pub returns-in_err-ready : goal.returns-in_err-ready
-returns-in_err-ready g c =
+pub returns-in_err-ready-clause-change : goal.returns-in_err-ready-clause-change
+returns-in_err-ready-clause-change g c =
     let d = g.D.Disk in
     let x = c.self.inside in
     let f = c.in_err-ready.field-0.0 in
     let q = err_from_is_err_and c.from_residual.result c.from_residual.ensures.1 in
     rw (q.1, q.2) (told_refused d.tells d.seen d.may_leave d.moment d.left_since d.faults d.sound g.met.D.Disk.only_now x.blocks x.zero x.frames x.index c.args.self.now
     (λ s. all_synced c.args.group.0 s) (λ s. false) false 4 f c.self.view_is refl c.self.invariant c.in_err-ready.ensures.refused)
+
+pub returns-clause-run : goal.returns-clause-run
+returns-clause-run g c =
+    let x = c.self.inside in
+    let st = state_of x.index in
+    let is : learnt_view (group_at (resolved (cached x.frames.shape.block x.blocks) st) c.args.group.0) ≡ Some c.learnt_view.result =
+    ap (λ (gs : List Group). learnt_view (slice_index_or gs c.args.group.0 no_group)) (groups-resolved (cached x.frames.shape.block x.blocks) st)
+    ∙ ap learnt_view (sym c.group.ensures) ∙ c.learnt_view.ensures in
+    run_seen x.blocks x.frames st c.args.self.now (λ s. known_size (group_at s c.args.group.0).known) (view_size c.learnt_view.result) 4
+    c.commit.new.frames.disk _ _ c.self.view_is (known_is _ c.learnt_view.result is) c.commit.ensures.run

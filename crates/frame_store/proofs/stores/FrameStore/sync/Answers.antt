@@ -1,13 +1,7 @@
 use Rattle.std.proofs.Common.{◌+◌, sym, subst, arith}
 use Rattle.frame_store.specs.Layouts.{store_end}
-use Rattle.frame_store.specs.Stores.{Held, HasRoom, RunsPlan}
-use Rattle.frame_store.proofs.Plans.{ran_one}
+use Rattle.frame_store.specs.Stores.{Held, HasRoom}
 use Rattle.frame_store.proofs.stores.FrameStore.sync.Goals as goal
-
-pub returns-in-Ok-clause-plan : goal.returns-in-Ok-clause-plan
-returns-in-Ok-clause-plan g c =
-    subst (λ (s : Held g.row.D.Denot). RunsPlan 1 (g.D.Disk.fails_in s.disk) (g.D.Disk.fails_in c.sync.new.self)) c.self.view_is
-    (ran_one (g.D.Disk.fails_in c.self.inside.disk) (g.D.Disk.fails_in c.sync.new.self) c.in-Ok.ensures.plan)
 
 pub returns-in-Err-NoMemory-clause-room : goal.returns-in-Err-NoMemory-clause-room
 returns-in-Err-NoMemory-clause-room g c = λ calls bytes written listed body had refused.

@@ -2,10 +2,10 @@
 use Rattle.std.proofs.Common.{◌≡◌, ◌∙◌, length, ap, arith}
 use Rattle.frame_store.specs.declared.shapes.Shape.{Shape}
 use Rattle.brick_store.proofs.Stepping.{room_less}
-use Rattle.brick_store.proofs.fresh_lists.settle.Goals as goal
+use Rattle.brick_store.proofs.fresh_lists.make_appendable.Goals as goal
 
-pub returns-then-fits-clause-room : goal.returns-then-fits-clause-room
-returns-then-fits-clause-room g c =
+pub returns-then-is_appendable-clause-room : goal.returns-then-is_appendable-clause-room
+returns-then-is_appendable-clause-room g c =
     let d = g.D.Disk in
     let old = c.args.frames.now in
     let mid = c.reserve.new.self in
