@@ -4,7 +4,7 @@ use Rattle.std.specs.Prelude.{nat_eq, ◌^◌}
 use Rattle.std.proofs.lemmas.Bool.{cond_both, eqb-true, and_parts}
 use Rattle.messages.specs.declared.calls.Call.{Call}
 use Rattle.messages.specs.declared.replies.Reply.{Reply}
-use Rattle.fab_base.specs.Layouts.{Group, seat_in}
+use Rattle.fab_base.specs.Layouts.{seat_in}
 use Rattle.protocol.specs.Coordinators.{Coordinator, Counted, call_same, answers_phase, has_seat, new_seat, counts_at}
 
 -- calls that test the same are equal
@@ -35,10 +35,10 @@ call_same_true a b is =
     (eqb-true a.view.0 b.view.0 t.0) (eqb-true a.stripe.0 b.stripe.0 t.1)
 
 -- a reply that counts at a seat
-pub record CountsAt (block : ℕ) (group : Group) (c : Coordinator) (from : ℕ) (call : Call) (reply : Reply) (seat : ℕ) : Type 0 where
+pub record CountsAt (block : ℕ) (c : Coordinator) (from : ℕ) (call : Call) (reply : Reply) (seat : ℕ) : Type 0 where
   pub call_is : call ≡ c.call
   pub answers : answers_phase block c.stamp c.phase reply ≡ true
-  pub seat_is : seat_in group.members from ≡ Some seat
+  pub seat_is : seat_in c.group.members from ≡ Some seat
   pub first : has_seat seat c.counted ≡ false
 
 new_seat_is : (counted : List Counted) (o : Option ℕ) (seat : ℕ) → new_seat counted o ≡ Some seat → (o ≡ Some seat) × (has_seat seat counted ≡ false)
@@ -51,17 +51,17 @@ new_seat_is counted (Some s) seat is =
     is
 
 -- what is known of a reply that counts
-pub counts_facts : (block : ℕ) (group : Group) (c : Coordinator) (from : ℕ) (call : Call) (reply : Reply) (seat : ℕ)
-    → counts_at block group c from call reply ≡ Some seat → CountsAt block group c from call reply seat
+pub counts_facts : (block : ℕ) (c : Coordinator) (from : ℕ) (call : Call) (reply : Reply) (seat : ℕ)
+    → counts_at block c from call reply ≡ Some seat → CountsAt block c from call reply seat
 unfolding counts_at
-counts_facts block group c from call reply seat is =
+counts_facts block c from call reply seat is =
     cond_both (call_same call c.call && (answers_phase block c.stamp c.phase reply && nat_lt c.call.phase (2 ^ 32 - 1)))
-    (new_seat c.counted (seat_in group.members from)) None
-    (λ (z : Option ℕ). z ≡ Some seat → CountsAt block group c from call reply seat)
+    (new_seat c.counted (seat_in c.group.members from)) None
+    (λ (z : Option ℕ). z ≡ Some seat → CountsAt block c from call reply seat)
     (λ test e.
     let p = and_parts (call_same call c.call) (answers_phase block c.stamp c.phase reply && nat_lt c.call.phase (2 ^ 32 - 1)) test in
     let q = and_parts (answers_phase block c.stamp c.phase reply) (nat_lt c.call.phase (2 ^ 32 - 1)) p.1 in
-    let n = new_seat_is c.counted (seat_in group.members from) seat e in
+    let n = new_seat_is c.counted (seat_in c.group.members from) seat e in
     record { call_is = call_same_true call c.call p.0; answers = q.0; seat_is = n.0; first = n.1 })
     (λ test e. cc)
     is

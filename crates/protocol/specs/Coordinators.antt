@@ -4,8 +4,6 @@ use Rattle.std.specs.Option.{option_map}
 use Rattle.fab_base.specs.declared.identities.BrickId.{BrickId}
 use Rattle.fab_base.specs.declared.stamps.Stamp.{Stamp}
 use Rattle.fab_base.specs.declared.asks.Ask.{Ask}
-use Rattle.fab_base.specs.declared.asks.Op.{Op}
-use Rattle.fab_base.specs.declared.asks.Op.TheVariants.{ReadBlock, WriteBlock, ReadStripe, WriteStripe}
 use Rattle.fab_base.specs.declared.answers.Answer.{Answer}
 use Rattle.fab_base.specs.declared.answers.Answer.TheVariants.{Data, Done, Aborted}
 use Rattle.fab_base.specs.declared.answers.Cause.TheVariants as Cause
@@ -25,12 +23,14 @@ pub use Rattle.protocol.specs.declared.phases.Refuser.{Refuser}
 pub use Rattle.protocol.specs.declared.phases.FullMember.{FullMember}
 use Rattle.fab_base.specs.Layouts.{Group, seat_in}
 use Rattle.quorum.specs.Quorums.{quorum_of}
+use Rattle.reg_model.specs.Registers.{read_of}
 use Rattle.protocol.specs.Settings.{Code, Piece}
 
--- An open operation at its coordinator: what is asked, its stamp, how many rounds of ordering it has begun,
--- the version that it read back and its content, where it is a recovery that found one, the call of its
--- present phase, and the replies that count in it.
+-- An open operation at its coordinator: the group, with the members of the operation's view; what is asked; its stamp; how many rounds of
+-- ordering it has begun; the version that it read back, where it is a recovery that found one; the content that it stores, once it knows that;
+-- the call of its present phase; and the replies that count in it.
 pub record Coordinator : Type 0 where
+  pub group : Group
   pub ask : Ask
   pub stamp : Stamp
   pub round : ℕ
@@ -81,10 +81,10 @@ new_seat counted (Some seat) = if has_seat seat counted then None else Some seat
 
 -- The seat at which a brick's reply counts: it is to this very phase, answers it, and is its seat's first.
 -- In the last phase that a call can number nothing counts.
-unfoldable pub counts_at : ℕ → Group → Coordinator → ℕ → Call → Reply → Option ℕ
-counts_at block group c from call reply =
+unfoldable pub counts_at : ℕ → Coordinator → ℕ → Call → Reply → Option ℕ
+counts_at block c from call reply =
     if call_same call c.call && (answers_phase block c.stamp c.phase reply && nat_lt c.call.phase (2 ^ 32 - 1))
-    then new_seat c.counted (seat_in group.members from)
+    then new_seat c.counted (seat_in c.group.members from)
     else None
 
 -- the version that a reply tells
@@ -194,26 +194,16 @@ abbrev pub lowest_full : List Counted → Option FullMember
 lowest_full [] = None
 lowest_full (c ∷ counted) = lower_full (full_member_of c) (lowest_full counted)
 
--- what an operation stores: what it was given to write, or what it read back
-abbrev pub stored_by : Op → List ℕ → List ℕ
-stored_by (WriteStripe bytes) content = bytes
-stored_by (ReadBlock j) content = content
-stored_by (WriteBlock j bytes) content = content
-stored_by ReadStripe content = content
-
-abbrev pub stored_content : Coordinator → List ℕ
-stored_content c = stored_by c.ask.op c.content
-
 -- what the phase asks of the member at a seat
-unfoldable pub request_of : Code → ℕ → Coordinator → ℕ → Request
-request_of code m c seat = request_in c.phase
+unfoldable pub request_of : Code → Coordinator → ℕ → Request
+request_of code c seat = request_in c.phase
   where
     request_in : Phase → Request
     request_in Looks = Read All
     request_in Orders = Order c.stamp
     request_in Recovers = OrderRead c.stamp (Below c.stamp) All
     request_in (Descends bound) = OrderRead c.stamp (Below bound) All
-    request_in Stores = Write c.stamp (code.encode m (stored_content c) seat)
+    request_in Stores = Write c.stamp (code.encode c.group.m c.content seat)
 
 -- What a coordinator does with a reply: it leaves it out, waits for more, begins its next phase, makes its
 -- version by beginning to store it, or ends. An end tells the version that a fast read saw, and the one that
@@ -278,49 +268,46 @@ once_ordered fresh c None next = next
 once_ordered fresh c (Some r) next = ordered_again fresh c r
 
 -- a read is answered where its version is told by all, and else recovers
-abbrev pub answered_fast : Code → ℕ → Coordinator → Option Stamp → Next
-answered_fast code m c None = Sends (in_phase c Recovers)
-answered_fast code m c (Some v) = Ends (Data (code.decode m (pieces_of c.counted))) (Some v) None
+abbrev pub answered_fast : Code → Coordinator → Option Stamp → Next
+answered_fast code c None = Sends (in_phase c Recovers)
+answered_fast code c (Some v) = Ends (Data (code.decode c.group.m (pieces_of c.counted))) (Some v) None
 
 -- A recovery reads back the greatest version found, where there are enough blocks of it, and else looks below
 -- it. Where nothing was found, it forgets the replies, and waits for more.
-abbrev pub read_back : Code → ℕ → Coordinator → Option Stamp → Next
-read_back code m c None = Waits (forgetting c)
-read_back code m c (Some v) =
-    if nat_lt (length (pieces_at v c.counted)) m then Sends (in_phase c (Descends v))
-    else Makes (restoring c v (code.decode m (pieces_at v c.counted)))
+abbrev pub read_back : Code → Coordinator → Option Stamp → Next
+read_back code c None = Waits (forgetting c)
+read_back code c (Some v) =
+    if nat_lt (length (pieces_at v c.counted)) c.group.m then Sends (in_phase c (Descends v))
+    else Makes (restoring c v (code.decode c.group.m (pieces_at v c.counted)))
 
--- what an operation that stored its version is answered
-abbrev pub answer_of : Op → List ℕ → Answer
-answer_of (WriteStripe bytes) content = Done
-answer_of (ReadBlock j) content = Data content
-answer_of (WriteBlock j bytes) content = Done
-answer_of ReadStripe content = Data content
+-- what an operation is answered where a read of it gives these bytes, if it reads
+abbrev pub answer_with : Option (List ℕ) → Answer
+answer_with None = Done
+answer_with (Some bytes) = Data bytes
 
 -- what a quorum of replies decides, where a new round would have this fresh stamp
-unfoldable pub decided : Code → ℕ → Option Stamp → Coordinator → Next
-decided code m fresh c = unless_told_full (lowest_full c.counted) (decided_in c.phase)
+unfoldable pub decided : ℕ → Code → Option Stamp → Coordinator → Next
+decided block code fresh c = unless_told_full (lowest_full c.counted) (decided_in c.phase)
   where
     decided_in : Phase → Next
-    decided_in Looks = answered_fast code m c (fast_version c.counted)
+    decided_in Looks = answered_fast code c (fast_version c.counted)
     decided_in Orders = once_ordered fresh c (greatest_refuser c.counted) (Makes (in_phase c Stores))
-    decided_in Recovers = once_ordered fresh c (greatest_refuser c.counted) (read_back code m c (greatest_found c.counted))
-    decided_in (Descends bound) = unless_refused (greatest_refuser c.counted) (read_back code m c (greatest_found c.counted))
-    decided_in Stores = unless_refused (greatest_refuser c.counted) (Ends (answer_of c.ask.op c.content) None (Some c.stamp))
+    decided_in Recovers = once_ordered fresh c (greatest_refuser c.counted) (read_back code c (greatest_found c.counted))
+    decided_in (Descends bound) = unless_refused (greatest_refuser c.counted) (read_back code c (greatest_found c.counted))
+    decided_in Stores = unless_refused (greatest_refuser c.counted) (Ends (answer_with (read_of block c.ask.op c.content)) None (Some c.stamp))
 
 -- the coordinator with one more reply
 abbrev pub with_reply : Coordinator → ℕ → BrickId → Reply → Coordinator
 with_reply c seat brick reply = record c { counted = c.counted ++ (record { seat = seat; brick = brick; reply = reply } ∷ []) }
 
 -- with a quorum of replies the phase is decided
-abbrev pub once_full : Code → Group → Option Stamp → Coordinator → Next
-once_full code group fresh c = if nat_lt (length c.counted) (quorum_of group) then Waits c else decided code group.m fresh c
+abbrev pub once_full : ℕ → Code → Option Stamp → Coordinator → Next
+once_full block code fresh c = if nat_lt (length c.counted) (quorum_of c.group) then Waits c else decided block code fresh c
 
-abbrev pub counted_at : Code → Group → Option Stamp → Coordinator → BrickId → Reply → Option ℕ → Next
-counted_at code group fresh c from reply None = Ignores
-counted_at code group fresh c from reply (Some seat) = once_full code group fresh (with_reply c seat from reply)
+abbrev pub counted_at : ℕ → Code → Option Stamp → Coordinator → BrickId → Reply → Option ℕ → Next
+counted_at block code fresh c from reply None = Ignores
+counted_at block code fresh c from reply (Some seat) = once_full block code fresh (with_reply c seat from reply)
 
 -- what a coordinator does with a reply, where a new round would have this fresh stamp
-unfoldable pub on_reply : ℕ → Code → Group → Option Stamp → Coordinator → BrickId → Call → Reply → Next
-on_reply block code group fresh c from call reply =
-    counted_at code group fresh c from reply (counts_at block group c from.0 call reply)
+unfoldable pub on_reply : ℕ → Code → Option Stamp → Coordinator → BrickId → Call → Reply → Next
+on_reply block code fresh c from call reply = counted_at block code fresh c from reply (counts_at block c from.0 call reply)

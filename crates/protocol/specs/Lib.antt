@@ -1,4 +1,5 @@
 pub mod Settings
+pub mod Views
 pub mod Replicas
 pub mod Coordinators
 pub mod Nodes

@@ -1,6 +1,7 @@
 -- One brick: the members' parts of stripes that it keeps, and the operations that it coordinates.
 use Rattle.std.specs.Prelude.{ℕ, zero, suc, ◌+◌, ◌-◌, ◌*◌, ◌^◌, Bool, true, false, not, nat_eq, nat_lt, ◌&&◌, ◌||◌, if◌then◌else◌, List, [], ◌∷◌, ◌++◌, length, Option, Some, None, max}
 use Rattle.fab_base.specs.declared.identities.BrickId.{BrickId}
+use Rattle.fab_base.specs.declared.identities.ViewNo.{ViewNo}
 use Rattle.fab_base.specs.declared.stamps.Stamp.{Stamp}
 use Rattle.fab_base.specs.declared.asks.Ask.{Ask}
 use Rattle.fab_base.specs.declared.asks.Op.{Op}
@@ -12,10 +13,12 @@ use Rattle.messages.specs.declared.packets.Packet.{Packet}
 use Rattle.messages.specs.declared.requests.Request.{Request}
 use Rattle.messages.specs.declared.replies.Reply.{Reply}
 pub use Rattle.protocol.specs.declared.tellings.Told.{Told}
-pub use Rattle.protocol.specs.declared.tellings.Told.TheVariants.{Nothing, Made, Answers}
+pub use Rattle.protocol.specs.declared.tellings.Told.TheVariants.{Made, Seen}
+pub use Rattle.protocol.specs.declared.tellings.Answered.{Answered}
 use Rattle.fab_base.specs.Layouts.{Layout, Group, group_of, seat_in}
 use Rattle.protocol.specs.Settings.{Setting, are_bytes}
-use Rattle.protocol.specs.Replicas.{Replica, Reaction, first_replica, handle}
+use Rattle.protocol.specs.Views.{Learnt, first_learnt, group_kept, floor_of}
+use Rattle.protocol.specs.Replicas.{Replica, Reaction, fresh_replica, handle, stamp_max, top_of}
 use Rattle.protocol.specs.Coordinators.{Phase, Looks, Orders, Coordinator, Counted, Next, Ignores, Waits, Sends, Makes, Ends, has_seat, request_of, on_reply}
 
 -- a function with one value changed
@@ -23,30 +26,63 @@ abbrev pub put : {A : Type 0} → (ℕ → A) → ℕ → A → ℕ → A
 put f k v i = if nat_eq i k then v else f i
 
 -- a brick: how often its store was opened, its last call number, the greatest time that it knows, how many
--- operations it has open, how many live records its store keeps, its part of each stripe (by group and
--- stripe), and its open operations (by call number)
+-- operations it has open, how many live records its store keeps, the view that it has learnt of each group, whether it has accepted a list of
+-- members to follow that, its part of each stripe (by group, view and stripe), and its open operations (by call number)
 pub record Node : Type 0 where
   pub boot : ℕ
   pub seq : ℕ
   pub known : ℕ
   pub busy : ℕ
   pub live : ℕ
-  pub replicas : ℕ → ℕ → Replica
+  pub learnt : ℕ → Learnt
+  pub accepted : ℕ → Bool
+  pub replicas : ℕ → ℕ → ℕ → Replica
   pub calls : ℕ → Option Coordinator
 
 -- a brick whose fresh store was just opened
-abbrev pub first_node : ℕ → Node
-first_node block =
-    record { boot = 1; seq = 0; known = 0; busy = 0; live = 0; replicas = λ g s. first_replica block; calls = λ k. None }
+abbrev pub first_node : Layout → Node
+first_node layout =
+    record {
+      boot = 1;
+      seq = 0;
+      known = 0;
+      busy = 0;
+      live = 0;
+      learnt = first_learnt layout;
+      accepted = λ g. false;
+      replicas = λ g e s. fresh_replica layout.block e;
+      calls = λ k. None;
+    }
 
--- what a step leaves, the packets that it sends, in order, and what it tells of an operation
+-- the number of the view that a brick has learnt of a group
+abbrev pub view_at : Node → ℕ → ℕ
+view_at node g = (node.learnt g).view.number.0
+
+-- a group, with the members of the view that a brick has learnt of it
+abbrev pub group_at : Layout → Node → ℕ → Option Group
+group_at layout node g = group_kept layout (node.learnt g).view.members g
+
+-- what a brick has learnt of a group's views and accepted puts it above all stamps of the views before
+abbrev pub view_floor : Node → ℕ → Stamp
+view_floor node g = floor_of (if node.accepted g then view_at node g + 1 else view_at node g)
+
+-- the stamp below which a brick takes nothing for a stripe, over all views
+unfoldable pub top_at : Node → ℕ → ℕ → Stamp
+top_at node g s = stamp_max (view_floor node g) (top_of (node.replicas g (view_at node g) s))
+
+-- What a step leaves, the packets that it sends, what it tells of operations' versions, and the answers that it gives, each in order.
 pub record NodeStep : Type 0 where
   pub node : Node
   pub packets : List Packet
-  pub told : Told
+  pub told : List Told
+  pub answers : List Answered
+
+-- a step that sends these packets, and tells and answers nothing
+abbrev pub sending : Node → List Packet → NodeStep
+sending node packets = record { node = node; packets = packets; told = []; answers = [] }
 
 abbrev pub no_step : Node → NodeStep
-no_step node = record { node = node; packets = []; told = Nothing }
+no_step node = sending node []
 
 -- one request to each member, in the order of seats, the first of them at this seat
 abbrev pub to_members : BrickId → Call → (ℕ → Request) → ℕ → List BrickId → List Packet
@@ -55,13 +91,13 @@ to_members me call request seat (member ∷ members) =
     record { from = me; to = member; message = Message.Request call (request seat) } ∷ to_members me call request (seat + 1) members
 
 -- what the coordinator's phase sends
-abbrev pub phase_packets : Setting → Group → BrickId → Coordinator → List Packet
-phase_packets setting group me c = to_members me c.call (request_of setting.code group.m c) 0 group.members
+abbrev pub phase_packets : Setting → BrickId → Coordinator → List Packet
+phase_packets setting me c = to_members me c.call (request_of setting.code c) 0 c.group.members
 
 -- the version that was stored may be collected by all members
-abbrev pub collect_packets : Group → BrickId → Call → Option Stamp → List Packet
-collect_packets group me call None = []
-collect_packets group me call (Some t) = to_members me call (λ seat. Request.Collect t) 0 group.members
+abbrev pub collect_packets : BrickId → Coordinator → Option Stamp → List Packet
+collect_packets me c None = []
+collect_packets me c (Some t) = to_members me c.call (λ seat. Request.Collect t) 0 c.group.members
 
 -- a whole stripe is read or written
 abbrev pub is_stripe_op : Op → Bool
@@ -121,60 +157,76 @@ first_phase (WriteStripe bytes) = Orders
 abbrev pub next_time : ℕ → ℕ → ℕ
 next_time now known = max now (known + 1)
 
--- a brick's new stamp, at this time of its clock
-abbrev pub new_stamp : BrickId → ℕ → ℕ → ℕ → Stamp
-new_stamp me now boot known = record { view = record { 0 = 1 }; time = next_time now known; brick = me; boot = boot }
+-- a brick's new stamp of a view, at this time of its clock
+abbrev pub new_stamp : BrickId → ViewNo → ℕ → ℕ → ℕ → Stamp
+new_stamp me view now boot known = record { view = view; time = next_time now known; brick = me; boot = boot }
 
 -- the stamp of a new round, while a time is left
-abbrev pub fresh_stamp : BrickId → ℕ → ℕ → ℕ → Option Stamp
-fresh_stamp me now boot known = if has_later_time known then Some (new_stamp me now boot known) else None
+abbrev pub fresh_stamp : BrickId → ViewNo → ℕ → ℕ → ℕ → Option Stamp
+fresh_stamp me view now boot known = if has_later_time known then Some (new_stamp me view now boot known) else None
 
--- the coordinator of a new operation
-abbrev pub new_coordinator : BrickId → ℕ → Node → Ask → Coordinator
-new_coordinator me now node ask =
+-- the content that an operation knows from its beginning: what a stripe write is given
+abbrev pub given_content : Op → List ℕ
+given_content (ReadBlock j) = []
+given_content (WriteBlock j bytes) = []
+given_content ReadStripe = []
+given_content (WriteStripe bytes) = bytes
+
+-- the coordinator of a new operation, in a view of the group with these members
+abbrev pub coordinator_in : Group → ViewNo → BrickId → ℕ → Node → Ask → Coordinator
+coordinator_in group view me now node ask =
     record {
+      group = group;
       ask = ask;
-      stamp = new_stamp me now node.boot node.known;
+      stamp = new_stamp me view now node.boot node.known;
       round = 1;
       base = None;
-      content = [];
-      call = record { boot = node.boot; seq = node.seq + 1; phase = 1; group = ask.group; view = record { 0 = 1 }; stripe = ask.stripe };
+      content = given_content ask.op;
+      call = record { boot = node.boot; seq = node.seq + 1; phase = 1; group = ask.group; view = view; stripe = ask.stripe };
       phase = first_phase ask.op;
       counted = [];
     }
+
+-- the same, in the view that its brick has learnt
+abbrev pub new_coordinator : Group → BrickId → ℕ → Node → Ask → Coordinator
+new_coordinator group me now node ask = coordinator_in group (node.learnt ask.group.0).view.number me now node ask
 
 -- the brick with a new open operation
 abbrev pub opened : Node → Coordinator → Node
 opened node c =
     record node { seq = c.call.seq; known = c.stamp.time; busy = node.busy + 1; calls = put node.calls c.call.seq (Some c) }
 
-abbrev pub began_in : Setting → Group → BrickId → Node → Coordinator → NodeStep
-began_in setting group me node c = record { node = opened node c; packets = phase_packets setting group me c; told = Nothing }
+abbrev pub began_in : Setting → BrickId → Node → Coordinator → NodeStep
+began_in setting me node c = sending (opened node c) (phase_packets setting me c)
 
--- A brick begins an operation that is not refused: what is told of it is the number of its call, the brick's
--- last.
+-- A brick begins an operation that is not refused, in the view that it has learnt: the operation's call is the brick's last.
 abbrev pub began : Setting → BrickId → ℕ → Node → Ask → Option Group → NodeStep
 began setting me now node ask None = no_step node
-began setting me now node ask (Some group) = began_in setting group me node (new_coordinator me now node ask)
+began setting me now node ask (Some group) = began_in setting me node (new_coordinator group me now node ask)
 
 unfoldable pub invoked : Setting → BrickId → ℕ → Node → Ask → NodeStep
-invoked setting me now node ask = began setting me now node ask (group_of setting.layout ask.group.0)
+invoked setting me now node ask = began setting me now node ask (group_at setting.layout node ask.group.0)
 
--- the brick's part of a stripe
+-- the brick's part of a call's stripe, in the call's view
 abbrev pub replica_at : Node → Call → Replica
-replica_at node call = node.replicas call.group.0 call.stripe.0
+replica_at node call = node.replicas call.group.0 call.view.0 call.stripe.0
 
--- the brick with its part of a stripe changed, and a live record more where that adds one
+-- parts of stripes, by group, view and stripe, with that of a call changed
+abbrev pub with_part : (ℕ → ℕ → ℕ → Replica) → Call → Replica → ℕ → ℕ → ℕ → Replica
+with_part replicas call replica =
+    put replicas call.group.0 (put (replicas call.group.0) call.view.0 (put (replicas call.group.0 call.view.0) call.stripe.0 replica))
+
+-- the brick with its part of a stripe changed, and its live records counted
 abbrev pub with_replica : Node → Call → Reaction → Node
 with_replica node call reaction =
     record node {
-      live = if reaction.adds then node.live + 1 else node.live;
-      replicas = put node.replicas call.group.0 (put (node.replicas call.group.0) call.stripe.0 reaction.replica);
+      live = node.live + reaction.adds - reaction.drops;
+      replicas = with_part node.replicas call reaction.replica;
     }
 
--- how many live records the brick keeps, where those are as many as it may
-abbrev pub full_at : ℕ → Node → Option ℕ
-full_at records node = if nat_eq node.live records then Some node.live else None
+-- so many live records, where those are as many as a brick may keep
+abbrev pub full_at : ℕ → ℕ → Option ℕ
+full_at records live = if nat_eq live records then Some live else None
 
 -- the reply goes back with the request's call
 abbrev pub reply_packets : BrickId → BrickId → Call → Option Reply → List Packet
@@ -183,35 +235,39 @@ reply_packets me to call (Some reply) = record { from = me; to = to; message = M
 
 abbrev pub reacted : BrickId → BrickId → Node → Call → Reaction → NodeStep
 reacted me from node call reaction =
-    record { node = with_replica node call reaction; packets = reply_packets me from call reaction.reply; told = Nothing }
+    sending (with_replica node call reaction) (reply_packets me from call reaction.reply)
 
 -- a member handles a request; another brick ignores it
 abbrev pub requested_at : ℕ → BrickId → BrickId → Node → Call → Request → Option ℕ → NodeStep
 requested_at records me from node call request None = no_step node
 requested_at records me from node call request (Some seat) =
-    reacted me from node call (handle (full_at records node) seat (replica_at node call) request)
+    reacted me from node call (handle (full_at records node.live) seat (replica_at node call) request)
 
--- a call is of a stripe that the group has, in its view
-abbrev pub is_served : Group → Call → Bool
-is_served group call = nat_lt call.stripe.0 group.stripes && nat_eq call.view.0 1
+-- a call is of a stripe that the group has, and of the view that the brick has learnt, while it has accepted none to follow that
+abbrev pub is_served : Group → Node → Call → Bool
+is_served group node call =
+    nat_lt call.stripe.0 group.stripes && (nat_eq call.view.0 (view_at node call.group.0) && not (node.accepted call.group.0))
 
 -- what a request stores has the length of a block
 abbrev pub fits_block : ℕ → Request → Bool
 fits_block block (Request.Write t bytes) = nat_eq (length bytes) block
 fits_block block request = true
 
--- a request of a stripe that there is not, or that would store what is no block, is void
+-- the seat of the brick among the members, where a request is not void: it is of a stripe that there is, and would store what is a block, if anything
+abbrev pub seat_served : Layout → BrickId → Node → Call → Request → Option Group → Option ℕ
+seat_served layout me node call request None = None
+seat_served layout me node call request (Some group) =
+    if is_served group node call && fits_block layout.block request then seat_in group.members me.0 else None
+
+-- a void request is ignored, as one to a brick that is no member
 abbrev pub requested_in : Layout → BrickId → BrickId → Node → Call → Request → Option Group → NodeStep
-requested_in layout me from node call request None = no_step node
-requested_in layout me from node call request (Some group) =
-    if is_served group call && fits_block layout.block request
-    then requested_at layout.records me from node call request (seat_in group.members me.0)
-    else no_step node
+requested_in layout me from node call request group =
+    requested_at layout.records me from node call request (seat_served layout me node call request group)
 
 -- a brick handles a request
 unfoldable pub requested : Setting → BrickId → BrickId → Node → Call → Request → NodeStep
 requested setting me from node call request =
-    requested_in setting.layout me from node call request (group_of setting.layout call.group.0)
+    requested_in setting.layout me from node call request (group_at setting.layout node call.group.0)
 
 -- the time that a reply makes known
 abbrev pub known_after : ℕ → Reply → ℕ
@@ -226,33 +282,39 @@ with_call node known busy seq call = record node { known = known; busy = busy; c
 abbrev pub with_known : Node → ℕ → Node
 with_known node known = record node { known = known }
 
+-- what is told of the version that a read answered at once, if it did
+abbrev pub seen_told : ℕ → Option Stamp → List Told
+seen_told seq None = []
+seen_told seq (Some v) = Seen seq v ∷ []
+
 -- what a brick does with what its coordinator decided
-abbrev pub carried_out : Setting → Group → BrickId → Node → ℕ → Coordinator → Next → NodeStep
-carried_out setting group me node known c Ignores = no_step (with_known node known)
-carried_out setting group me node known c (Waits d) =
-    record { node = with_call node known node.busy c.call.seq (Some d); packets = []; told = Nothing }
-carried_out setting group me node known c (Sends d) =
-    record { node = with_call node (max known d.stamp.time) node.busy c.call.seq (Some d); packets = phase_packets setting group me d; told = Nothing }
-carried_out setting group me node known c (Makes d) =
-    record { node = with_call node known node.busy c.call.seq (Some d); packets = phase_packets setting group me d; told = Made c.call.seq d.stamp d.base }
-carried_out setting group me node known c (Ends answer seen stored) =
+abbrev pub carried_out : Setting → BrickId → Node → ℕ → Coordinator → Next → NodeStep
+carried_out setting me node known c Ignores = no_step (with_known node known)
+carried_out setting me node known c (Waits d) = no_step (with_call node known node.busy c.call.seq (Some d))
+carried_out setting me node known c (Sends d) =
+    sending (with_call node (max known d.stamp.time) node.busy c.call.seq (Some d)) (phase_packets setting me d)
+carried_out setting me node known c (Makes d) =
+    record {
+      node = with_call node known node.busy c.call.seq (Some d);
+      packets = phase_packets setting me d;
+      told = Made c.call.seq d.stamp d.base ∷ [];
+      answers = [];
+    }
+carried_out setting me node known c (Ends answer seen stored) =
     record {
       node = with_call node known (node.busy - 1) c.call.seq None;
-      packets = collect_packets group me c.call stored;
-      told = Answers c.call.seq answer seen;
+      packets = collect_packets me c stored;
+      told = seen_told c.call.seq seen;
+      answers = record { seq = c.call.seq; answer = answer } ∷ [];
     }
 
-abbrev pub replied_to : Setting → BrickId → ℕ → BrickId → Node → Call → Reply → Coordinator → Option Group → NodeStep
-replied_to setting me now from node call reply c None = no_step node
-replied_to setting me now from node call reply c (Some group) =
-    let known : ℕ = known_after node.known reply in
-    carried_out setting group me node known c
-    (on_reply setting.layout.block setting.code group (fresh_stamp me now node.boot known) c from call reply)
-
+-- a reply to this open operation, if there is one; a new round would have a stamp of its view
 abbrev pub replied_at : Setting → BrickId → ℕ → BrickId → Node → Call → Reply → Option Coordinator → NodeStep
 replied_at setting me now from node call reply None = no_step (with_known node (known_after node.known reply))
 replied_at setting me now from node call reply (Some c) =
-    replied_to setting me now from node call reply c (group_of setting.layout c.ask.group.0)
+    let known : ℕ = known_after node.known reply in
+    carried_out setting me node known c
+    (on_reply setting.layout.block setting.code (fresh_stamp me c.call.view now node.boot known) c from call reply)
 
 -- a brick handles a reply, at this time of its clock
 unfoldable pub replied : Setting → BrickId → ℕ → BrickId → Node → Call → Reply → NodeStep
@@ -285,13 +347,9 @@ resent_to me call request counted seat (member ∷ members) =
     else record { from = me; to = member; message = Message.Request call (request seat) } ∷ resent_to me call request counted (seat + 1) members
 
 -- the present phase of an open operation again
-abbrev pub resent_in : Setting → BrickId → Coordinator → Option Group → List Packet
-resent_in setting me c None = []
-resent_in setting me c (Some group) = resent_to me c.call (request_of setting.code group.m c) c.counted 0 group.members
-
 abbrev pub resent : Setting → BrickId → Option Coordinator → List Packet
 resent setting me None = []
-resent setting me (Some c) = resent_in setting me c (group_of setting.layout c.ask.group.0)
+resent setting me (Some c) = resent_to me c.call (request_of setting.code c) c.counted 0 c.group.members
 
 -- the same of the calls 1 to k, in order
 abbrev pub resent_up_to : Setting → BrickId → (ℕ → Option Coordinator) → ℕ → List Packet

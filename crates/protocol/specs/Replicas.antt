@@ -1,5 +1,5 @@
 -- A member's part of a stripe, and what it does with each request (Frølund 2004, the storage replica).
-use Rattle.std.specs.Prelude.{ℕ, Bool, true, false, not, nat_eq, ◌||◌, ◌&&◌, if◌then◌else◌, List, [], ◌∷◌, ◌++◌, Option, Some, None, replicate, filter}
+use Rattle.std.specs.Prelude.{ℕ, Bool, true, false, not, nat_eq, nat_lt, ◌||◌, ◌&&◌, if◌then◌else◌, List, [], ◌∷◌, ◌++◌, Option, Some, None, replicate, filter}
 use Rattle.fab_base.specs.declared.stamps.Stamp.{Stamp}
 use Rattle.fab_base.specs.Stamps.{stamp_below, stamp_same, first_stamp}
 use Rattle.messages.specs.declared.requests.Version.{Version}
@@ -17,9 +17,13 @@ pub record Replica : Type 0 where
   pub order : Stamp
   pub log : List Version
 
--- what a stripe begins with: a zero block of the first stamp
+-- what a stripe begins with in view 1: a zero block of the first stamp
 abbrev pub first_replica : ℕ → Replica
 first_replica block = record { order = first_stamp; log = record { stamp = first_stamp; block = replicate block 0 } ∷ [] }
+
+-- what a stripe begins with in a view: nothing, but in view 1
+abbrev pub fresh_replica : ℕ → ℕ → Replica
+fresh_replica block e = if nat_eq e 1 then first_replica block else record { order = first_stamp; log = [] }
 
 -- the last version of a log
 abbrev pub newest_of : List Version → Option Version
@@ -55,21 +59,22 @@ told_version wanted None = None
 told_version true (Some version) = Some version
 told_version false (Some version) = Some (record { stamp = version.stamp; block = [] })
 
--- the member's part after a request, its reply, and whether it keeps one live record more: an order stamp
--- above the first one, or a version
+-- the member's part after a request, its reply, and how many live records (order stamps above the first one, and versions) that adds and
+-- drops
 pub record Reaction : Type 0 where
   pub replica : Replica
   pub reply : Option Reply
-  pub adds : Bool
+  pub adds : ℕ
+  pub drops : ℕ
 
 -- a part that stays as it is, and the reply
 abbrev pub stays : Replica → Reply → Reaction
-stays replica reply = record { replica = replica; reply = Some reply; adds = false }
+stays replica reply = record { replica = replica; reply = Some reply; adds = 0; drops = 0 }
 
--- a change that would be a live record more is refused where there are as many as there may be
+-- a change that would add to the live records is refused where there are as many as there may be
 abbrev pub unless_full : Option ℕ → Replica → Reaction → Reaction
 unless_full None replica reaction = reaction
-unless_full (Some live) replica reaction = if reaction.adds then stays replica (Full live) else reaction
+unless_full (Some live) replica reaction = if nat_lt reaction.drops reaction.adds then stays replica (Full live) else reaction
 
 -- the member promises the stamp, and replies so
 abbrev pub promised : Replica → Stamp → Reply → Reaction
@@ -77,7 +82,8 @@ promised replica t reply =
     record {
       replica = record { order = t; log = replica.log };
       reply = Some reply;
-      adds = stamp_same replica.order first_stamp && not (stamp_same t first_stamp);
+      adds = if stamp_same replica.order first_stamp && not (stamp_same t first_stamp) then 1 else 0;
+      drops = 0;
     }
 
 -- the member stores the version
@@ -86,7 +92,8 @@ stored replica t block =
     record {
       replica = record { order = replica.order; log = replica.log ++ (record { stamp = t; block = block } ∷ []) };
       reply = Some Stored;
-      adds = true;
+      adds = 1;
+      drops = 0;
     }
 
 -- promise to take nothing below t, unless something later was promised or stored; where so many records are
@@ -119,7 +126,7 @@ order_read full replica t look wanted =
 
 -- a request that is ignored
 abbrev pub ignored : Replica → Reaction
-ignored replica = record { replica = replica; reply = None; adds = false }
+ignored replica = record { replica = replica; reply = None; adds = 0; drops = 0 }
 
 -- What the member at a seat does with a request. Versions are not collected yet, and no coordinator sends the
 -- requests that are ignored here.

@@ -37,12 +37,11 @@ pub record Setting : Type 0 where
   pub layout : Layout
   pub code : Code
 
--- Each group is within the limits of a quorum, its members are distinct bricks, its code gives back what it
--- encodes, and the zero content has zero blocks.
+-- Each group is within the limits of a quorum, and its members are distinct bricks; and for every number of blocks and seats within
+-- the limits the code gives back what it encodes, and the zero content has zero blocks.
 pub record IsSound (setting : Setting) : Type 0 where
   pub limits : (g : ℕ) (group : Group) → group_of setting.layout g ≡ Some group → IsWithinLimits group.m (length group.members)
   pub distinct : (g : ℕ) (group : Group) → group_of setting.layout g ≡ Some group → IsDistinct nat_eq (map (λ member. member.0) group.members)
-  pub decodes : (g : ℕ) (group : Group) → group_of setting.layout g ≡ Some group
-      → AnyBlocksDecode setting.code setting.layout.block group.m (length group.members)
-  pub zero_blocks : (g : ℕ) (group : Group) (seat : ℕ) → group_of setting.layout g ≡ Some group
-      → setting.code.encode group.m (zero_registers group.m setting.layout.block) seat ≡ replicate setting.layout.block 0
+  pub decodes : (m n : ℕ) → IsWithinLimits m n → AnyBlocksDecode setting.code setting.layout.block m n
+  pub zero_blocks : (m n seat : ℕ) → IsWithinLimits m n
+      → setting.code.encode m (zero_registers m setting.layout.block) seat ≡ replicate setting.layout.block 0

@@ -17,9 +17,10 @@ use Rattle.reg_model.specs.declared.marks.Mark.TheVariants.{Begin, End, Crash}
 use Rattle.reg_model.specs.Registers.{zero_registers, after_op}
 use Rattle.fab_base.specs.Layouts.{Layout, Group, group_of}
 use Rattle.protocol.specs.Settings.{Setting}
-use Rattle.protocol.specs.Replicas.{first_replica, top_of, is_held}
+use Rattle.protocol.specs.Views.{view_of}
+use Rattle.protocol.specs.Replicas.{fresh_replica, is_held}
 use Rattle.protocol.specs.Coordinators.{Counted, Coordinator, counts_at}
-use Rattle.protocol.specs.Nodes.{Node, NodeStep, Told, Nothing, Made, Answers, put, first_node, is_stripe_op, refusal_of, invoked, received, absorbed, ticked, stopped, restarted, may_open}
+use Rattle.protocol.specs.Nodes.{Node, NodeStep, Told, Made, Seen, Answered, top_at, put, first_node, is_stripe_op, refusal_of, invoked, received, absorbed, ticked, stopped, restarted, may_open}
 
 -- Which of two a store is found to hold, when its brick starts: what it held before the handling that the brick's stop cut short, or what that
 -- handling would have kept.
@@ -86,8 +87,8 @@ zero_content block (Some group) = zero_registers group.m block
 abbrev pub first_world : Layout → World
 first_world layout =
     record {
-      nodes = λ i. first_node layout.block;
-      after = λ i. first_node layout.block;
+      nodes = λ i. first_node layout;
+      after = λ i. first_node layout;
       up = λ i. true;
       clocks = λ i. 0;
       packets = [];
@@ -97,7 +98,7 @@ first_world layout =
       numbers = λ i b k. 0;
       past = λ i b. 0;
       contents = λ g s t. zero_content layout.block (group_of layout g);
-      held = λ i g s t. is_held t (first_replica layout.block).log;
+      held = λ i g s t. is_held t (fresh_replica layout.block (view_of t)).log;
       replies = λ n p. [];
     }
 
@@ -136,7 +137,7 @@ world_began w brick ask step =
         made = false;
         base = None;
         answered = false;
-        floor = λ i. top_of ((w.nodes i).replicas ask.group.0 ask.stripe.0);
+        floor = λ i. top_at (w.nodes i) ask.group.0 ask.stripe.0;
       }));
       numbers = with_number w.numbers brick.0 step.node (w.begun + 1);
     }
@@ -152,15 +153,15 @@ abbrev pub with_made : Stamp → Option Stamp → Option Operation → Option Op
 with_made t base None = None
 with_made t base (Some o) = Some (record o { version = Some t; made = true; base = base })
 
--- the version that an operation made, else the one that it saw
-abbrev pub version_after : Option Stamp → Option Stamp → Option Stamp
-version_after made None = made
-version_after made (Some v) = Some v
+-- the operation has read this version at once
+abbrev pub with_seen : Stamp → Option Operation → Option Operation
+with_seen v None = None
+with_seen v (Some o) = Some (record o { version = Some v })
 
 -- the operation is answered
-abbrev pub with_answer : Answer → Option Stamp → Option Operation → Option Operation
-with_answer answer seen None = None
-with_answer answer seen (Some o) = Some (record o { version = version_after o.version seen; answered = is_answer answer })
+abbrev pub with_answer : Answer → Option Operation → Option Operation
+with_answer answer None = None
+with_answer answer (Some o) = Some (record o { answered = is_answer answer })
 
 -- what an operation makes of the content of its base, or of nothing where it has no base
 abbrev pub content_on : ℕ → (Stamp → List ℕ) → Op → Option Stamp → List ℕ
@@ -180,36 +181,50 @@ with_content block contents t base (Some o) = content_by block contents t base o
 
 -- what bricks have held, with what brick i keeps now
 abbrev pub with_held : (ℕ → ℕ → ℕ → Stamp → Bool) → ℕ → Node → ℕ → ℕ → ℕ → Stamp → Bool
-with_held held i node = put held i (λ g s t. held i g s t || is_held t (node.replicas g s).log)
+with_held held i node = put held i (λ g s t. held i g s t || is_held t (node.replicas g (view_of t) s).log)
 
 -- the number of the operation of a brick's call since it was started last
 abbrev pub number_of : World → ℕ → ℕ → ℕ
 number_of w i seq = w.numbers i (w.nodes i).boot seq
 
--- the world after a brick's step on a message
-abbrev pub world_stepped : Setting → World → BrickId → NodeStep → Told → World
-world_stepped setting w brick step Nothing =
+-- the world once a brick told this of an operation's version
+abbrev pub world_told : Setting → World → BrickId → Told → World
+world_told setting w brick (Made seq t base) =
     record w {
-      nodes = put w.nodes brick.0 step.node;
-      held = with_held w.held brick.0 step.node;
-      packets = w.packets ++ step.packets;
-    }
-world_stepped setting w brick step (Made seq t base) =
-    record w {
-      nodes = put w.nodes brick.0 step.node;
-      held = with_held w.held brick.0 step.node;
-      packets = w.packets ++ step.packets;
       operations = put w.operations (number_of w brick.0 seq) (with_made t base (w.operations (number_of w brick.0 seq)));
       contents = with_content setting.layout.block w.contents t base (w.operations (number_of w brick.0 seq));
     }
-world_stepped setting w brick step (Answers seq answer seen) =
+world_told setting w brick (Seen seq v) =
+    record w { operations = put w.operations (number_of w brick.0 seq) (with_seen v (w.operations (number_of w brick.0 seq))) }
+
+-- the same of several, in order
+abbrev pub world_tells : Setting → World → BrickId → List Told → World
+world_tells setting w brick [] = w
+world_tells setting w brick (told ∷ more) = world_tells setting (world_told setting w brick told) brick more
+
+-- the world once a brick answered an operation
+abbrev pub world_answered : World → BrickId → Answered → World
+world_answered w brick answered =
     record w {
+      marks = w.marks ++ (End (length w.marks) (number_of w brick.0 answered.seq) answered.answer ∷ []);
+      operations = put w.operations (number_of w brick.0 answered.seq)
+          (with_answer answered.answer (w.operations (number_of w brick.0 answered.seq)));
+    }
+
+-- the same of several, in order
+abbrev pub world_answers : World → BrickId → List Answered → World
+world_answers w brick [] = w
+world_answers w brick (answered ∷ more) = world_answers (world_answered w brick answered) brick more
+
+-- the world after a brick's step on a message
+abbrev pub world_stepped : Setting → World → BrickId → NodeStep → World
+world_stepped setting w brick step =
+    (let told : World = world_answers (world_tells setting w brick step.told) brick step.answers in
+    record told {
       nodes = put w.nodes brick.0 step.node;
       held = with_held w.held brick.0 step.node;
       packets = w.packets ++ step.packets;
-      marks = w.marks ++ (End (length w.marks) (number_of w brick.0 seq) answer ∷ []);
-      operations = put w.operations (number_of w brick.0 seq) (with_answer answer seen (w.operations (number_of w brick.0 seq)));
-    }
+    })
 
 -- the replies that have counted, with one more
 abbrev pub with_counted : (ℕ → ℕ → List Counted) → ℕ → ℕ → Counted → ℕ → ℕ → List Counted
@@ -222,14 +237,10 @@ counted_after replies n from call reply (Some seat) =
     with_counted replies n call.phase (record { seat = seat; brick = from; reply = reply })
 
 -- the same, with a reply to the open operation at this coordinator, if there is one
-abbrev pub replies_in : Setting → World → BrickId → BrickId → Call → Reply → Coordinator → Option Group → ℕ → ℕ → List Counted
-replies_in setting w me from call reply c None = w.replies
-replies_in setting w me from call reply c (Some group) =
-    counted_after w.replies (number_of w me.0 call.seq) from call reply (counts_at setting.layout.block group c from.0 call reply)
-
 abbrev pub replies_at : Setting → World → BrickId → BrickId → Call → Reply → Option Coordinator → ℕ → ℕ → List Counted
 replies_at setting w me from call reply None = w.replies
-replies_at setting w me from call reply (Some c) = replies_in setting w me from call reply c (group_of setting.layout c.ask.group.0)
+replies_at setting w me from call reply (Some c) =
+    counted_after w.replies (number_of w me.0 call.seq) from call reply (counts_at setting.layout.block c from.0 call reply)
 
 -- the replies that have counted once this packet is delivered
 abbrev pub replies_with : Setting → World → Packet → ℕ → ℕ → List Counted
@@ -245,7 +256,7 @@ delivered setting w None = w
 delivered setting w (Some packet) =
     if is_up setting.layout w packet.to
     then (let step = received setting packet.to (w.clocks packet.to.0) (w.nodes packet.to.0) packet in
-    world_stepped setting (record w { replies = replies_with setting w packet }) packet.to step step.told)
+    world_stepped setting (record w { replies = replies_with setting w packet }) packet.to step)
     else w
 
 -- a brick's clock ticks

@@ -2,11 +2,9 @@
 
 use fab_base::{Answer, Stamp};
 
-/// What a step tells of the operation of a call of its brick.
-#[derive(Debug, Drop)]
+/// What a step tells of the version of an operation of its brick.
+#[derive(Clone, Copy, Debug, PartialEq, Eq)]
 pub enum Told {
-    /// Nothing.
-    Nothing,
     /// The operation makes a version: its first write is sent by this step.
     Made {
         /// The number of the call.
@@ -16,13 +14,20 @@ pub enum Told {
         /// The version that it was made on; a stripe write makes one on none.
         base: Option<Stamp>,
     },
-    /// The operation is answered.
-    Answers {
+    /// The operation reads a version, which all members told, and is answered it at once.
+    Seen {
         /// The number of the call.
         seq: u64,
-        /// The answer.
-        answer: Answer,
-        /// The version that a read answered at once.
-        seen: Option<Stamp>,
+        /// The version's stamp.
+        stamp: Stamp,
     },
+}
+
+/// The answer of an operation of a brick.
+#[derive(Debug, Drop)]
+pub struct Answered {
+    /// The number of the call.
+    pub seq: u64,
+    /// The answer.
+    pub answer: Answer,
 }

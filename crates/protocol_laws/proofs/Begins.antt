@@ -1,8 +1,7 @@
 -- A brick begins an operation, with a stamp that no part of any stripe has.
-use Rattle.std.proofs.Common.{◌≡◌, ℕ, ◌+◌, ◌≤◌, ◌⊎◌, inl, inr, true, false, List, [], ◌∷◌, ◌++◌, length, Option, Some, None, refl, sym, ap, ◌∙◌, subst, ⊎_elim, arith}
+use Rattle.std.proofs.Common.{◌≡◌, ℕ, ◌+◌, ◌≤◌, ◌⊎◌, inl, inr, true, false, not, List, [], ◌∷◌, length, Option, Some, None, refl, sym, ap, ◌∙◌, subst, ⊎_elim, arith}
 use Rattle.std.specs.Prelude.{slice_get}
 use Rattle.std.proofs.lemmas.Bool.{false≢true}
-use Rattle.std.proofs.lemmas.Option.{same_Some}
 use Rattle.std.proofs.lemmas.List.{length-append}
 use Rattle.fab_base.specs.declared.identities.BrickId.{BrickId}
 use Rattle.fab_base.specs.declared.stamps.Stamp.{Stamp}
@@ -16,31 +15,34 @@ use Rattle.reg_model.specs.declared.marks.Mark.{Mark}
 use Rattle.reg_model.specs.declared.marks.Mark.TheVariants.{Begin, End}
 use Rattle.reg_model.specs.Marks.{life_of, position_of}
 use Rattle.reg_model.specs.Walk.{last_of}
-use Rattle.fab_base.specs.Layouts.{Group, group_of}
+use Rattle.fab_base.specs.Stamps.{stamp_below}
+use Rattle.fab_base.specs.Layouts.{Group, group_of, brick_at}
+use Rattle.quorum.proofs.Counts.{count_monotone}
 use Rattle.protocol.specs.Settings.{Setting, Code}
 use Rattle.protocol.specs.Replicas.{top_of}
 use Rattle.protocol.specs.declared.phases.Phase.{Phase}
 use Rattle.protocol.specs.declared.phases.Phase.TheVariants.{Looks, Orders, Descends, Stores}
 use Rattle.protocol.specs.Coordinators.{Coordinator, request_of}
-use Rattle.protocol.specs.Nodes.{Node, put, is_stripe_op, first_phase, new_coordinator, opened, began_in, phase_packets}
+use Rattle.protocol.specs.Nodes.{Node, put, is_stripe_op, first_phase, new_coordinator, opened, began_in, phase_packets, top_at}
 use Rattle.protocol.specs.Worlds.{World, Operation, world_began}
-use Rattle.protocol_laws.specs.Laws.{part_of, IsGuarded}
+use Rattle.protocol_laws.proofs.Parts.{part_of, PartsGuard}
+use Rattle.protocol_laws.proofs.FirstViews.{floor_at, floor_first, view_first}
 use Rattle.protocol_laws.proofs.Books.{Books, IsOperation}
 use Rattle.protocol_laws.proofs.Said.{Begun, Stamping, Said, IsSaid, IsBegun, IsStamped, IsKnown, IsStampOf, IsCalled, FitsPhase, FloorsAtLeast, RequestSays, PacketSays, OperationSays, CallSays, IsInOrder}
 use Rattle.protocol_laws.proofs.Tables.{put_each, put_same, get_grown, get_one, sent_to_member}
 use Rattle.protocol_laws.proofs.Lives.{last_grows}
 use Rattle.protocol_laws.proofs.Growth.{Grows, continues_same}
 use Rattle.protocol_laws.proofs.Steps.{KeepsStamps, parts_kept, sent_by, ages_by, calls_by, phase_asked, said_after}
-use Rattle.protocol_laws.proofs.Stampings.{ComesFrom, ages_within, stays_known, later_unknown, with_stamp, stamp_now, stamps_other, stamp_last, stamps_grow, stamps_say}
+use Rattle.protocol_laws.proofs.Stampings.{known_first, ComesFrom, ages_within, stays_known, later_unknown, with_stamp, stamp_now, stamps_other, stamp_last, stamps_grow, stamps_say}
 
 -- what a phase asks
-request_looks : (code : Code) (m : ℕ) (c : Coordinator) (seat : ℕ) → c.phase ≡ Looks → request_of code m c seat ≡ Request.Read Want.All
+request_looks : (code : Code) (c : Coordinator) (seat : ℕ) → c.phase ≡ Looks → request_of code c seat ≡ Request.Read Want.All
 unfolding request_of
-request_looks code m c seat is = rw is
+request_looks code c seat is = rw is
 
-request_orders : (code : Code) (m : ℕ) (c : Coordinator) (seat : ℕ) → c.phase ≡ Orders → request_of code m c seat ≡ Request.Order c.stamp
+request_orders : (code : Code) (c : Coordinator) (seat : ℕ) → c.phase ≡ Orders → request_of code c seat ≡ Request.Order c.stamp
 unfolding request_of
-request_orders code m c seat is = rw is
+request_orders code c seat is = rw is
 
 -- an operation on a whole stripe is a read or a write
 op_cases : (op : Op) → is_stripe_op op ≡ true → (op ≡ ReadStripe) ⊎ ((bytes : List ℕ) × (op ≡ WriteStripe bytes))
@@ -57,7 +59,7 @@ module _ (setting : Setting) (w : World) (stamps : Stamping) (me : BrickId) (ask
 
   -- its new coordinator, at what its clock reads
   abbrev c : Coordinator
-  c = new_coordinator me (w.clocks me.0) (w.nodes me.0) ask
+  c = new_coordinator group me (w.clocks me.0) (w.nodes me.0) ask
 
   -- the brick after
   abbrev node : Node
@@ -72,7 +74,7 @@ module _ (setting : Setting) (w : World) (stamps : Stamping) (me : BrickId) (ask
   later = with_stamp stamps me.0 c.call.boot c.call.seq c.call.phase first
 
   abbrev next : World
-  next = world_began w me ask (began_in setting group me (w.nodes me.0) c)
+  next = world_began w me ask (began_in setting me (w.nodes me.0) c)
 
   -- the new operation
   abbrev new : Operation
@@ -87,12 +89,12 @@ module _ (setting : Setting) (w : World) (stamps : Stamping) (me : BrickId) (ask
         made = false;
         base = None;
         answered = false;
-        floor = λ i. top_of ((w.nodes i).replicas ask.group.0 ask.stripe.0);
+        floor = λ i. top_at (w.nodes i) ask.group.0 ask.stripe.0;
       }
 
   -- the new stamp is the brick's, and nobody knows it
   own : IsStampOf node me.0 c.call.boot c.stamp
-  own = record { view = refl; boot = refl; booted = omega arith; brick = refl; positive = omega arith; bounded = λ now. omega arith }
+  own = record { view = view_first setting.layout (w.nodes me.0) ask.group.0 (books.first me.0); boot = refl; booted = omega arith; brick = refl; positive = omega arith; bounded = λ now. omega arith }
 
   unknown : IsKnown stamps c.stamp → ⊥
   unknown = later_unknown w stamps said.stamps_say node me.0 c.stamp own (omega arith)
@@ -145,7 +147,7 @@ module _ (setting : Setting) (w : World) (stamps : Stamping) (me : BrickId) (ask
   grows : Grows w next stamps later
   grows = record {
     parts = parts_kept w next me.0 node refl refl said.logged refl;
-    sent = sent_by w next (phase_packets setting group me c) refl;
+    sent = sent_by w next (phase_packets setting me c) refl;
     operations = λ n o is. (o, goes_on n o is, continues_same o);
     contents = λ g s t made. refl;
     grow = stamps_grow stamps me.0 c.call.boot c.call.seq c.call.phase first none from;
@@ -162,19 +164,31 @@ module _ (setting : Setting) (w : World) (stamps : Stamping) (me : BrickId) (ask
     seq = refl;
     group = refl;
     stripe = refl;
+    view = view_first setting.layout (w.nodes me.0) ask.group.0 (books.first me.0);
   }
+
+  -- how far a part had come when the operation began
+  floor_is : (i : ℕ) → floor_at new i ≡ top_of (part_of w ask.group.0 ask.stripe.0 i)
+  floor_is i =
+      floor_first setting.layout (w.nodes i) ask.group.0 ask.stripe.0 (books.first i)
+      (known_first w stamps (top_of (part_of w ask.group.0 ask.stripe.0 i)) said.stamps_say (said.tops ask.group.0 ask.stripe.0 i))
 
   operation_says : OperationSays setting next later (w.begun + 1) new
   operation_says = record {
     begin = grows.marks;
-    floors = λ i. grows.parts.tops ask.group.0 ask.stripe.0 i;
-    floors_known = λ i. stays_known stamps later grows.grow (top_of (part_of w ask.group.0 ask.stripe.0 i)) (said.tops ask.group.0 ask.stripe.0 i);
+    floors = λ i.
+        subst (λ (z : Stamp). stamp_below (top_of (part_of next ask.group.0 ask.stripe.0 i)) z ≡ false) (sym (floor_is i))
+        (grows.parts.tops ask.group.0 1 ask.stripe.0 i);
+    floors_known = λ i.
+        subst (λ (z : Stamp). IsKnown later z) (sym (floor_is i))
+        (stays_known stamps later grows.grow (top_of (part_of w ask.group.0 ask.stripe.0 i)) (said.tops ask.group.0 ask.stripe.0 i));
     fresh = λ i p stamped. ⊎_elim
         (λ (own_was : (q : ℕ) × IsStamped stamps me.0 c.call.boot c.call.seq q (top_of (part_of w ask.group.0 ask.stripe.0 i))).
         let begun = said.stamps_say.begun me.0 c.call.boot c.call.seq own_was.0 (top_of (part_of w ask.group.0 ask.stripe.0 i)) own_was.1 in
         omega (arith, begun.1 refl))
         (λ (never : IsKnown stamps (top_of (part_of w ask.group.0 ask.stripe.0 i)) → ⊥). never (said.tops ask.group.0 ask.stripe.0 i))
-        (grows.grow.newer me.0 c.call.boot c.call.seq p (top_of (part_of w ask.group.0 ask.stripe.0 i)) stamped);
+        (grows.grow.newer me.0 c.call.boot c.call.seq p (top_of (part_of w ask.group.0 ask.stripe.0 i))
+        (subst (λ (z : Stamp). IsStamped later me.0 c.call.boot c.call.seq p z) (floor_is i) stamped));
     made = λ made. absurd (false≢true made);
     maker = λ v made version. absurd (false≢true made);
     content = λ v made version group group_is. absurd (false≢true made);
@@ -187,14 +201,14 @@ module _ (setting : Setting) (w : World) (stamps : Stamping) (me : BrickId) (ask
   begun_now = stamp_now stamps me.0 c.call.boot c.call.seq c.call.phase first
 
   -- the first request
-  request_says : (j seat : ℕ) → RequestSays setting next later me.0 j c.call (request_of setting.code group.m c seat)
+  request_says : (j seat : ℕ) → RequestSays setting next later me.0 j c.call (request_of setting.code c seat)
   request_says j seat = ⊎_elim
       (λ (reads : ask.op ≡ ReadStripe).
-      subst (λ (r : Request). RequestSays setting next later me.0 j c.call r) (sym (request_looks setting.code group.m c seat (ap first_phase reads)))
+      subst (λ (r : Request). RequestSays setting next later me.0 j c.call r) (sym (request_looks setting.code c seat (ap first_phase reads)))
       (refl, (new, called)))
       (λ (writes : (bytes : List ℕ) × (ask.op ≡ WriteStripe bytes)).
       subst (λ (r : Request). RequestSays setting next later me.0 j c.call r)
-      (sym (request_orders setting.code group.m c seat (ap first_phase writes.1))) (
+      (sym (request_orders setting.code c seat (ap first_phase writes.1))) (
         subst (λ (phase : Phase). IsBegun later me.0 c.call.boot c.call.seq c.call.phase phase c.stamp) (ap first_phase writes.1) begun_now,
         (new, called),
       ))
@@ -236,11 +250,10 @@ module _ (setting : Setting) (w : World) (stamps : Stamping) (me : BrickId) (ask
         last = λ p less.
             subst (λ (b : ℕ). later me.0 b c.call.seq p ≡ None) (sym boot_now)
             (stamp_last stamps me.0 c.call.boot c.call.seq c.call.phase first none from p less);
-        asked = λ other other_is seat member at.
-            let its : group ≡ other = same_Some group other (sym group_is ∙ other_is) in
-            phase_asked setting next other me c w.packets (ap (λ (z : Group). w.packets ++ phase_packets setting z me c) its) seat member at;
+        asked = phase_asked setting next me c w.packets refl;
         fits = fits;
         unbased = λ orders. refl;
+        given = λ orders. refl;
         above = λ bound descends. absurd (not_descends ask.op bound descends);
         below = λ bound descends. absurd (not_descends ask.op bound descends);
         covered = λ bound descends. absurd (not_descends ask.op bound descends);
@@ -255,8 +268,13 @@ module _ (setting : Setting) (w : World) (stamps : Stamping) (me : BrickId) (ask
       → earlier.ask.stripe.0 ≡ ask.stripe.0 → earlier.version ≡ Some u → FloorsAtLeast new group u
   floors_at_least a earlier u is groups stripes version =
       let guarded = ((said.operations a earlier is).version u version).guarded group (ap (group_of setting.layout) groups ∙ group_is) in
-      subst (λ (s : ℕ). IsGuarded w ask.group.0 s group u) stripes
-      (subst (λ (g : ℕ). IsGuarded w g earlier.ask.stripe.0 group u) groups guarded)
+      let here : PartsGuard w ask.group.0 ask.stripe.0 group u = subst (λ (s : ℕ). PartsGuard w ask.group.0 s group u) stripes
+      (subst (λ (g : ℕ). PartsGuard w g earlier.ask.stripe.0 group u) groups guarded) in
+      let more = count_monotone (length group.members)
+      (λ seat. not (stamp_below (top_of (part_of w ask.group.0 ask.stripe.0 (brick_at group seat))) u))
+      (λ seat. not (stamp_below (floor_at new (brick_at group seat)) u))
+      (λ k below at. ap (λ (z : Stamp). not (stamp_below z u)) (floor_is (brick_at group k)) ∙ at) in
+      omega (arith, here, more)
 
   in_order : IsInOrder setting next
   in_order a b earlier late u earlier_is late_is groups stripes version =
@@ -293,17 +311,17 @@ module _ (setting : Setting) (w : World) (stamps : Stamping) (me : BrickId) (ask
           (ages_by w next me.0 node refl (ages_within (w.nodes me.0) node refl (omega arith) (omega arith)))
           (subst (λ (x : Node). IsStampOf x me.0 c.call.boot c.stamp) (sym (put_same w.nodes me.0 node)) own) (omega arith)
           (λ now. let here : (put w.nodes me.0 node me.0).seq ≡ c.call.seq = ap (λ (x : Node). x.seq) (put_same w.nodes me.0 node) in omega arith);
-      tops = λ g s i. inl (put_each (λ j x. top_of (x.replicas g s) ≡ top_of ((w.nodes j).replicas g s)) w.nodes me.0 node refl (λ j other. refl) i);
+      tops = λ g s i. inl (put_each (λ j x. top_of (x.replicas g 1 s) ≡ top_of ((w.nodes j).replicas g 1 s)) w.nodes me.0 node refl (λ j other. refl) i);
       logs = λ g s i k version is. inl
-          (put_each (λ j x. slice_get (x.replicas g s).log k ≡ Some version
-          → slice_get ((w.nodes j).replicas g s).log k ≡ Some version) w.nodes me.0 node
+          (put_each (λ j x. slice_get (x.replicas g 1 s).log k ≡ Some version
+          → slice_get ((w.nodes j).replicas g 1 s).log k ≡ Some version) w.nodes me.0 node
           (λ has. has) (λ j other has. has) i is);
       packets = λ k packet is. ⊎_elim
           (λ (there : slice_get w.packets k ≡ Some packet). inl there)
-          (λ (sent : (j : ℕ) × (slice_get (phase_packets setting group me c) j ≡ Some packet)).
-          let to = sent_to_member me c.call (request_of setting.code group.m c) 0 group.members sent.0 packet sent.1 in
+          (λ (sent : (j : ℕ) × (slice_get (phase_packets setting me c) j ≡ Some packet)).
+          let to = sent_to_member me c.call (request_of setting.code c) 0 group.members sent.0 packet sent.1 in
           inr (subst (λ (z : Packet). PacketSays setting next later z) (sym to.2) (request_says to.0.0 (0 + sent.0))))
-          (get_grown w.packets (phase_packets setting group me c) k packet is);
+          (get_grown w.packets (phase_packets setting me c) k packet is);
       operations = λ a e.
           put_each (λ i x. x ≡ Some e → IsOperation w i e ⊎ OperationSays setting next later i e) w.operations (w.begun + 1) (Some new)
           (λ is. let same : new ≡ e = cc in inr (subst (λ (z : Operation). OperationSays setting next later (w.begun + 1) z) same operation_says))

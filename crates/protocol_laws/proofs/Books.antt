@@ -1,6 +1,7 @@
 -- What a world's books say: operations, calls, numbers and marks agree, at every moment of every run.
-use Rattle.std.proofs.Common.{◌≡◌, ℕ, ◌+◌, ◌<◌, ◌≤◌, true, false, List, Some, None}
+use Rattle.std.proofs.Common.{◌≡◌, ℕ, ◌+◌, ◌<◌, ◌≤◌, true, false, List, Option, Some, None}
 use Rattle.std.specs.Prelude.{slice_get}
+use Rattle.fab_base.specs.declared.stamps.Stamp.{Stamp}
 use Rattle.reg_model.specs.declared.marks.Mark.{Mark}
 use Rattle.reg_model.specs.Marks.{Life, life_of, IsOpen, IsWellFormed, position_of}
 use Rattle.reg_model.specs.Strict.{IsAnswered}
@@ -12,6 +13,7 @@ use Rattle.protocol.specs.declared.phases.Phase.TheVariants.{Looks, Orders, Reco
 use Rattle.protocol.specs.Coordinators.{Coordinator, most_rounds}
 use Rattle.protocol.specs.Nodes.{is_stripe_op, has_length}
 use Rattle.protocol.specs.Worlds.{World, Operation, number_of}
+use Rattle.protocol_laws.proofs.FirstViews.{IsInFirst}
 
 -- the replies that have counted, by operation and phase
 abbrev pub Replies : Type 0
@@ -24,6 +26,11 @@ IsOperation w n o = w.operations n ≡ Some o
 -- the open operation of brick i's call k is at coordinator c
 abbrev pub IsCall : World → ℕ → ℕ → Coordinator → Type 0
 IsCall w i k c = (w.nodes i).calls k ≡ Some c
+
+-- the version of an operation that ends: the one that it saw at once, or the one that it has
+abbrev pub version_after : Option Stamp → Option Stamp → Option Stamp
+version_after made None = made
+version_after made (Some v) = Some v
 
 -- the operation has made nothing, and read nothing
 abbrev pub IsUnmade : Operation → Type 0
@@ -76,6 +83,7 @@ pub record CallBooks (setting : Setting) (w : World) (i k : ℕ) (c : Coordinato
   pub boot : operation.boot ≡ (w.nodes i).boot
   pub seq : operation.seq ≡ k
   pub ask : c.ask ≡ operation.ask
+  pub group_is : group_of setting.layout c.ask.group.0 ≡ Some c.group
   pub stamp_brick : c.stamp.brick ≡ operation.brick
   pub stamp_view : c.stamp.view.0 ≡ 1
   pub stamp_boot : c.stamp.boot ≡ (w.nodes i).boot
@@ -96,6 +104,7 @@ pub record Books (setting : Setting) (w : World) : Type 0 where
   pub well_formed : IsWellFormed w.marks
   pub places : (k : ℕ) (mark : Mark) → slice_get w.marks k ≡ Some mark → position_of mark ≡ k
   pub boots : (i : ℕ) → 1 ≤ (w.nodes i).boot
+  pub first : (i : ℕ) → IsInFirst setting.layout (w.nodes i)
   pub all_begun : (n : ℕ) → 1 ≤ n → n ≤ w.begun → (o : Operation) × IsOperation w n o
   pub operations : (n : ℕ) (o : Operation) → IsOperation w n o → OperationBooks setting w n o
   pub calls : (i k : ℕ) (c : Coordinator) → IsCall w i k c → CallBooks setting w i k c

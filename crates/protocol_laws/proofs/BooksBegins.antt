@@ -10,10 +10,10 @@ use Rattle.reg_model.specs.declared.marks.Mark.TheVariants.{Begin}
 use Rattle.reg_model.specs.Marks.{Life, Unended, life_of, IsOpen}
 use Rattle.fab_base.specs.Layouts.{Group, group_of}
 use Rattle.protocol.specs.Settings.{Setting}
-use Rattle.protocol.specs.Replicas.{top_of}
 use Rattle.protocol.specs.Coordinators.{Coordinator}
-use Rattle.protocol.specs.Nodes.{Node, put, is_stripe_op, has_length, first_phase, new_coordinator, opened, began_in}
+use Rattle.protocol.specs.Nodes.{Node, put, is_stripe_op, has_length, first_phase, new_coordinator, opened, began_in, top_at}
 use Rattle.protocol.specs.Worlds.{World, Operation, number_of, world_began}
+use Rattle.protocol_laws.proofs.FirstViews.{IsInFirst, view_first}
 use Rattle.protocol_laws.proofs.Books.{Books, OperationBooks, CallBooks, IsOperation, IsCall, IsUnmade, MadeInPhase, InRound}
 use Rattle.protocol_laws.proofs.BooksKept.{operation_kept, call_kept, cases_call}
 use Rattle.protocol_laws.proofs.Lives.{Stays, Stays-push, Stays-before, life_of-begin}
@@ -53,7 +53,7 @@ module _ (setting : Setting) (w : World) (brick : BrickId) (now : ℕ) (ask : As
   k = node.seq + 1
 
   abbrev c : Coordinator
-  c = new_coordinator brick now node ask
+  c = new_coordinator group brick now node ask
 
   abbrev n : ℕ
   n = w.begun + 1
@@ -69,12 +69,12 @@ module _ (setting : Setting) (w : World) (brick : BrickId) (now : ℕ) (ask : As
     made = false;
     base = None;
     answered = false;
-    floor = λ j. top_of ((w.nodes j).replicas ask.group.0 ask.stripe.0);
+    floor = λ j. top_at (w.nodes j) ask.group.0 ask.stripe.0;
   }
 
   -- the world after the begin
   abbrev later : World
-  later = world_began w brick ask (began_in setting group brick node c)
+  later = world_began w brick ask (began_in setting brick node c)
 
   -- the new number is new
   unbegun : life_of w.marks n ≡ None
@@ -169,14 +169,15 @@ module _ (setting : Setting) (w : World) (brick : BrickId) (now : ℕ) (ask : As
     boot = sym (same_boots i);
     seq = refl;
     ask = refl;
+    group_is = group_is;
     stamp_brick = refl;
-    stamp_view = refl;
+    stamp_view = view_first setting.layout node ask.group.0 (books.first i);
     stamp_boot = sym (same_boots i);
     stamp_known = (let e : (later.nodes i).known ≡ c.stamp.time = own_known in (omega arith, omega arith));
     call_boot = sym (same_boots i);
     call_seq = refl;
     call_group = refl;
-    call_view = refl;
+    call_view = view_first setting.layout node ask.group.0 (books.first i);
     call_stripe = refl;
     rounds = (omega arith, omega arith);
     in_round = fresh_round c ask.op refl refl;
@@ -196,6 +197,8 @@ module _ (setting : Setting) (w : World) (brick : BrickId) (now : ℕ) (ask : As
         well_formed = well_formed_begin w.marks (length w.marks) n brick ask books.well_formed places
             (numbers_below w.marks w.begun (λ m life is. (books.lives m life is).1));
         places = places;
+        first = λ j. put_each (λ (x : ℕ) (y : Node). IsInFirst setting.layout y) w.nodes i (opened node c)
+            (record { learnt = (books.first i).learnt; accepted = (books.first i).accepted; others = (books.first i).others }) (λ x other. books.first x) j;
         boots = λ j. (let e : (later.nodes j).boot ≡ (w.nodes j).boot = same_boots j in omega (arith, books.boots j));
         all_begun = λ m low high. ⊎_elim
             (λ (mine : m ≡ n). (o, subst (λ (x : ℕ). IsOperation later x o) (sym mine) operation_is))

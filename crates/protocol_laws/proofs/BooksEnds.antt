@@ -1,6 +1,6 @@
 -- The books of a world where an open operation ended, or where a brick stopped.
 use Rattle.fab_base.specs.declared.stamps.Stamp.{Stamp}
-use Rattle.std.proofs.Common.{◌≡◌, ◌≢◌, ℕ, ◌<◌, ◌≤◌, ⊎_elim, true, false, Option, Some, None, refl, sym, ap, ◌∙◌, subst, arith, List, [], ◌∷◌, ◌++◌, length, Bool}
+use Rattle.std.proofs.Common.{inl, ◌≡◌, ◌≢◌, ℕ, ◌<◌, ◌≤◌, ⊎_elim, true, false, Option, Some, None, refl, sym, ap, ◌∙◌, subst, arith, List, [], ◌∷◌, ◌++◌, length, Bool}
 use Rattle.std.proofs.lemmas.Option.{same_Some}
 use Rattle.std.proofs.lemmas.Bool.{cases_eq}
 use Rattle.fab_base.specs.declared.identities.BrickId.{BrickId}
@@ -18,7 +18,7 @@ use Rattle.protocol.specs.Coordinators.{Coordinator}
 use Rattle.protocol.specs.Nodes.{Node, is_stripe_op, has_length, no_calls, stopped}
 use Rattle.protocol.specs.Worlds.{World, Operation, is_answer, number_of, world_stopped}
 use Rattle.protocol_laws.proofs.Books.{Books, OperationBooks, CallBooks, IsOperation, IsCall}
-use Rattle.protocol_laws.proofs.BooksKept.{KeepsNumbers, operation_stays, operation_kept, call_kept, number_at, calls_apart, cases_call}
+use Rattle.protocol_laws.proofs.BooksKept.{KeepsNumbers, first_kept, operation_stays, operation_kept, call_kept, number_at, calls_apart, cases_call, keeps_all}
 use Rattle.protocol_laws.proofs.Lives.{Stays, Stays-push, Stays-before, Stays-crash, lived_before_crash, cases_open, unended_not_answered, with_ending, life_of-end, life_of-crash}
 use Rattle.protocol_laws.proofs.MarkLists.{Places-push, well_formed_end, well_formed_crash}
 use Rattle.protocol_laws.proofs.Puts.{put_other}
@@ -148,6 +148,7 @@ module _ (setting : Setting) (w : World) (i k : ℕ) (c : Coordinator) (before o
       record {
         well_formed = well_formed_end w.marks (length w.marks) (number_of w i k) answer books.well_formed places was_open;
         places = places;
+        first = λ j. first_kept setting.layout (w.nodes j) (nodes j) (ended.keeps j) (books.first j);
         boots = λ j. (let e : (nodes j).boot ≡ (w.nodes j).boot = (ended.keeps j).boot in omega (arith, books.boots j));
         all_begun = λ n low high. ⊎_elim
             (λ (mine : n ≡ number_of w i k). (o, subst (λ (m : ℕ). IsOperation later m o) (sym mine) ended.operation_is))
@@ -210,6 +211,8 @@ module _ (setting : Setting) (w : World) (brick : BrickId) (during : Option ℕ)
     known = (w.nodes i).known;
     busy = 0;
     live = (w.nodes i).live;
+    learnt = (w.nodes i).learnt;
+    accepted = (w.nodes i).accepted;
     replicas = (w.nodes i).replicas;
     calls = no_calls;
   }
@@ -222,8 +225,8 @@ module _ (setting : Setting) (w : World) (brick : BrickId) (during : Option ℕ)
   pub stopped_keeps : (j : ℕ) → KeepsNumbers (w.nodes j) (shut.nodes j)
   unfolding stopped
   stopped_keeps j = put_each (λ (x : ℕ) (y : Node). KeepsNumbers (w.nodes x) y) w.nodes i node
-      (record { boot = refl; seq = refl; known = omega arith })
-      (λ x other. record { boot = refl; seq = refl; known = omega arith }) j
+      (record { boot = refl; seq = refl; learnt = refl; accepted = refl; parts = λ g e s. inl refl; known = omega arith })
+      (λ x other. keeps_all (w.nodes x)) j
 
   -- this brick has no call left, and others keep theirs
   pub stopped_calls : (k : ℕ) → (shut.nodes i).calls k ≡ None
@@ -314,6 +317,7 @@ module _ (setting : Setting) (w : World) (brick : BrickId) (during : Option ℕ)
       record {
         well_formed = well_formed_crash w.marks (length w.marks) brick books.well_formed places;
         places = places;
+        first = λ j. first_kept setting.layout (w.nodes j) (shut.nodes j) (stopped_keeps j) (books.first j);
         boots = λ j. (let e : (shut.nodes j).boot ≡ (w.nodes j).boot = (stopped_keeps j).boot in omega (arith, books.boots j));
         all_begun = books.all_begun;
         operations = λ n o is. ⊎_elim

@@ -1,9 +1,10 @@
 -- Every event keeps the books.
-use Rattle.std.proofs.Common.{◌≡◌, ℕ, ◌+◌, ◌-◌, ◌<◌, ◌≤◌, ◌⊎◌, inl, inr, ◌^◌, Bool, true, false, not, ◌&&◌, cond, is_some, Option, Some, None, refl, sym, ap, ◌∙◌, subst, arith, List, [], ◌∷◌, ◌++◌, ⊎_elim}
+use Rattle.std.proofs.Common.{◌≡◌, ◌≢◌, ℕ, ◌+◌, ◌-◌, ◌<◌, ◌≤◌, ◌⊎◌, inl, inr, ◌^◌, Bool, true, false, not, ◌&&◌, cond, is_some, Option, Some, None, refl, sym, ap, ◌∙◌, subst, arith, List, [], ◌∷◌, ◌++◌, ⊎_elim}
 use Rattle.std.specs.Prelude.{nat_lt, max}
 use Rattle.std.proofs.lemmas.Option.{same_Some}
 use Rattle.std.proofs.lemmas.Bool.{cond_both, and_parts, not-true, not-false, ltb-true, both_ways}
 use Rattle.fab_base.specs.declared.identities.BrickId.{BrickId}
+use Rattle.fab_base.specs.declared.identities.ViewNo.{ViewNo}
 use Rattle.fab_base.specs.declared.asks.Ask.{Ask}
 use Rattle.fab_base.specs.declared.stamps.Stamp.{Stamp}
 use Rattle.fab_base.specs.declared.answers.Answer.{Answer}
@@ -13,23 +14,24 @@ use Rattle.messages.specs.declared.packets.Message.{Message}
 use Rattle.messages.specs.declared.packets.Packet.{Packet}
 use Rattle.messages.specs.declared.requests.Request.{Request}
 use Rattle.messages.specs.declared.replies.Reply.{Reply}
-use Rattle.fab_base.specs.Layouts.{Group, group_of, seat_in}
+use Rattle.fab_base.specs.Layouts.{Group, group_of}
 use Rattle.protocol.specs.Settings.{Setting}
 use Rattle.protocol.specs.Replicas.{handle}
 use Rattle.protocol.specs.declared.phases.Phase.{Phase}
 use Rattle.protocol.specs.declared.phases.Phase.TheVariants.{Looks, Orders, Recovers, Descends, Stores}
 use Rattle.protocol.specs.declared.phases.Counted.{Counted}
 use Rattle.protocol.specs.Coordinators.{Coordinator, Next, Ignores, Waits, Sends, Makes, Ends, most_rounds, with_reply, once_full, counted_at, counts_at, on_reply}
-use Rattle.protocol.specs.declared.tellings.Told.TheVariants.{Nothing}
-use Rattle.protocol.specs.Nodes.{Node, NodeStep, put, no_step, is_stripe_op, has_block, has_length, refusal_in, refusal_of, began, invoked, with_replica, replica_at, full_at, reply_packets, requested_at, requested_in, requested, is_served, fits_block, absorbed, ticked, may_open, has_later_time, next_time, new_stamp, fresh_stamp, known_after, with_call, with_known, carried_out, phase_packets, collect_packets, replied_to, replied_at, replied, received}
-use Rattle.protocol.specs.Worlds.{World, world_found, Operation, Found, Before, After, Found, Before, After, Event, Invokes, Delivers, Sets, Ticks, Stops, Starts, is_answer, version_after, first_world, is_brick, is_up, may_begin, number_of, may_start, world_found, world_began, world_stepped, with_made, with_answer, with_content, replies_with, delivered, packet_of, happens, run, with_held}
+use Rattle.protocol.specs.Nodes.{Node, NodeStep, put, no_step, is_stripe_op, has_block, has_length, refusal_in, refusal_of, began, invoked, with_replica, replica_at, full_at, reply_packets, requested, absorbed, ticked, may_open, has_later_time, next_time, new_stamp, fresh_stamp, known_after, with_call, with_known, carried_out, phase_packets, collect_packets, sending, replied_at, replied, received}
+use Rattle.protocol.specs.Worlds.{World, world_found, Operation, Found, Before, After, Found, Before, After, Event, Invokes, Delivers, Sets, Ticks, Stops, Starts, is_answer, first_world, is_brick, is_up, may_begin, number_of, may_start, world_found, world_began, world_stepped, with_made, with_seen, with_answer, with_content, replies_with, delivered, packet_of, happens, run, with_held}
 use Rattle.protocol_laws.specs.Laws.{WasSent}
+use Rattle.protocol_laws.proofs.Served.{request_each, keeps_replica}
+use Rattle.protocol_laws.proofs.FirstViews.{group_first}
 use Rattle.protocol_laws.proofs.Left.{IsLeft, Leaves, always_leaves, leaves_happens, found_down}
-use Rattle.protocol_laws.proofs.Books.{Replies, Books, CallBooks, IsCall, IsUnmade, MadeInPhase, InRound}
-use Rattle.protocol_laws.proofs.BooksKept.{KeepsNumbers}
+use Rattle.protocol_laws.proofs.Books.{Replies, version_after, Books, CallBooks, IsCall, IsUnmade, MadeInPhase, InRound}
+use Rattle.protocol_laws.proofs.BooksKept.{KeepsNumbers, keeps_all, keeps_known, keeps_with_call}
 use Rattle.protocol_laws.proofs.BooksQuiet.{books_quiet, books_started}
 use Rattle.protocol_laws.proofs.BooksTurns.{IsBookedStamp, books_turned}
-use Rattle.protocol_laws.proofs.BooksEnds.{books_ended, books_stopped}
+use Rattle.protocol_laws.proofs.BooksEnds.{ended_world, books_ended, books_stopped}
 use Rattle.protocol_laws.proofs.BooksBegins.{books_began}
 use Rattle.protocol_laws.proofs.Outcomes.{SameOperation, IsRound, ReordersFits, RecoversFits, SendsFits, sends_unmade, EndFits, NextFits, once_full_fits}
 use Rattle.protocol_laws.proofs.Puts.{put_other}
@@ -39,16 +41,16 @@ use Rattle.protocol_laws.proofs.Tables.{put_each, put_same}
 pub keeps_put : (w : World) (i : ℕ) (node : Node) → KeepsNumbers (w.nodes i) node → (j : ℕ) → KeepsNumbers (w.nodes j) (put w.nodes i node j)
 keeps_put w i node keeps j =
     put_each (λ (x : ℕ) (y : Node). KeepsNumbers (w.nodes x) y) w.nodes i node keeps
-    (λ x other. record { boot = refl; seq = refl; known = omega arith }) j
+    (λ x other. keeps_all (w.nodes x)) j
 
 -- the world after a brick's step, with these counted replies
 abbrev pub stepped : Setting → World → Replies → BrickId → NodeStep → World
-stepped setting w replies brick step = world_stepped setting (record w { replies = replies }) brick step step.told
+stepped setting w replies brick step = world_stepped setting (record w { replies = replies }) brick step
 
 -- a step that tells nothing and keeps a brick's calls and numbers keeps the books
 books_nothing : (setting : Setting) (w : World) (replies : Replies) (brick : BrickId) (node : Node) (packets : List Packet) → Books setting w
     → KeepsNumbers (w.nodes brick.0) node → ((l : ℕ) → node.calls l ≡ (w.nodes brick.0).calls l)
-    → Books setting (stepped setting w replies brick (record { node = node; packets = packets; told = Nothing }))
+    → Books setting (stepped setting w replies brick (sending node packets))
 books_nothing setting w replies brick node packets books keeps calls =
     books_quiet setting w (put w.nodes brick.0 node) (with_held w.held brick.0 node) w.clocks (w.packets ++ packets) replies books (keeps_put w brick.0 node keeps)
     (λ j l. put_each (λ (x : ℕ) (y : Node). y.calls l ≡ (w.nodes x).calls l) w.nodes brick.0 node (calls l) (λ x other. refl) j)
@@ -57,37 +59,24 @@ books_nothing setting w replies brick node packets books keeps calls =
 books_no_step : (setting : Setting) (w : World) (replies : Replies) (brick : BrickId) → Books setting w
     → Books setting (stepped setting w replies brick (no_step (w.nodes brick.0)))
 books_no_step setting w replies brick books =
-    books_nothing setting w replies brick (w.nodes brick.0) [] books (record { boot = refl; seq = refl; known = omega arith }) (λ l. refl)
+    books_nothing setting w replies brick (w.nodes brick.0) [] books (keeps_all (w.nodes brick.0)) (λ l. refl)
 
 -- a brick that learns of a time
 books_known : (setting : Setting) (w : World) (replies : Replies) (brick : BrickId) (known : ℕ) → Books setting w → (w.nodes brick.0).known ≤ known
     → Books setting (stepped setting w replies brick (no_step (with_known (w.nodes brick.0) known)))
 books_known setting w replies brick known books grows =
-    books_nothing setting w replies brick (with_known (w.nodes brick.0) known) [] books (record { boot = refl; seq = refl; known = grows })
-    (λ l. refl)
+    books_nothing setting w replies brick (with_known (w.nodes brick.0) known) [] books (keeps_known (w.nodes brick.0) known grows) (λ l. refl)
 
 -- a request
-books_requested_at : (setting : Setting) (w : World) (replies : Replies) (me from : BrickId) (call : Call) (request : Request) (seat : Option ℕ)
-    → Books setting w → Books setting (stepped setting w replies me (requested_at setting.layout.records me from (w.nodes me.0) call request seat))
-books_requested_at setting w replies me from call request None books = books_no_step setting w replies me books
-books_requested_at setting w replies me from call request (Some seat) books =
-    let reaction = handle (full_at setting.layout.records (w.nodes me.0)) seat (replica_at (w.nodes me.0) call) request in
-    books_nothing setting w replies me (with_replica (w.nodes me.0) call reaction) (reply_packets me from call reaction.reply) books
-    (record { boot = refl; seq = refl; known = omega arith }) (λ l. refl)
-
-books_requested_in : (setting : Setting) (w : World) (replies : Replies) (me from : BrickId) (call : Call) (request : Request) (group : Option Group)
-    → Books setting w → Books setting (stepped setting w replies me (requested_in setting.layout me from (w.nodes me.0) call request group))
-books_requested_in setting w replies me from call request None books = books_no_step setting w replies me books
-books_requested_in setting w replies me from call request (Some group) books =
-    cond_both (is_served group call && fits_block setting.layout.block request) _ _ (λ (step : NodeStep). Books setting (stepped setting w replies me step))
-    (λ is. books_requested_at setting w replies me from call request (seat_in group.members me.0) books)
-    (λ isnt. books_no_step setting w replies me books)
-
 books_requested : (setting : Setting) (w : World) (replies : Replies) (me from : BrickId) (call : Call) (request : Request) → Books setting w
     → Books setting (stepped setting w replies me (requested setting me from (w.nodes me.0) call request))
-unfolding requested
 books_requested setting w replies me from call request books =
-    books_requested_in setting w replies me from call request (group_of setting.layout call.group.0) books
+    request_each (λ (step : NodeStep). Books setting (stepped setting w replies me step)) setting me from (w.nodes me.0) call request
+    (books_no_step setting w replies me books)
+    (λ seat view.
+    let reaction = handle (full_at setting.layout.records (w.nodes me.0).live) seat (replica_at (w.nodes me.0) call) request in
+    books_nothing setting w replies me (with_replica (w.nodes me.0) call reaction) (reply_packets me from call reaction.reply) books
+    (keeps_replica (w.nodes me.0) call reaction view) (λ l. refl))
 
 -- what an operation made is of its stamp and on its base, whatever else its coordinator holds
 made_same : (c d : Coordinator) (o : Operation) (p q : Phase) → d.stamp ≡ c.stamp → d.base ≡ c.base → q ≡ p → MadeInPhase c o p → MadeInPhase d o q
@@ -163,12 +152,12 @@ ends_version c o Stores answer None made fits is = (c.stamp, made.0)
 ends_version c o Stores answer (Some v) made fits is = (v, refl)
 
 -- a fresh stamp is above all that its brick knows
-pub fresh_is : (me : BrickId) (now boot known : ℕ) (t : Stamp) → fresh_stamp me now boot known ≡ Some t
-    → (t ≡ new_stamp me now boot known) × (known ≤ next_time now known) × (1 ≤ next_time now known)
-fresh_is me now boot known t is =
-    cond_both (has_later_time known) (Some (new_stamp me now boot known)) None
-    (λ (z : Option Stamp). z ≡ Some t → (t ≡ new_stamp me now boot known) × (known ≤ next_time now known) × (1 ≤ next_time now known))
-    (λ some e. (sym (same_Some (new_stamp me now boot known) t e), omega arith, omega arith))
+pub fresh_is : (me : BrickId) (view : ViewNo) (now boot known : ℕ) (t : Stamp) → fresh_stamp me view now boot known ≡ Some t
+    → (t ≡ new_stamp me view now boot known) × (known ≤ next_time now known) × (1 ≤ next_time now known)
+fresh_is me view now boot known t is =
+    cond_both (has_later_time known) (Some (new_stamp me view now boot known)) None
+    (λ (z : Option Stamp). z ≡ Some t → (t ≡ new_stamp me view now boot known) × (known ≤ next_time now known) × (1 ≤ next_time now known))
+    (λ some e. (sym (same_Some (new_stamp me view now boot known) t e), omega arith, omega arith))
     (λ none e. absurd (let never : None ≡ Some t = e in cc))
     is
 
@@ -177,7 +166,7 @@ pub brick_of : (a b : BrickId) → a.0 ≡ b.0 → a ≡ b
 brick_of a b same = ap (λ (x : ℕ). let b : BrickId = record { 0 = x } in b) same
 
 -- brick me took a reply, which counts in coordinator c, and knows this time; a new round would have this stamp
-module _ (setting : Setting) (group : Group) (w : World) (replies : Replies) (me : BrickId) (now known : ℕ) (c : Coordinator) (counted : List Counted)
+module _ (setting : Setting) (w : World) (replies : Replies) (me : BrickId) (now known : ℕ) (c : Coordinator) (counted : List Counted)
     (books : Books setting w) (is_call : IsCall w me.0 c.call.seq c) (grows : (w.nodes me.0).known ≤ known) where
   abbrev i : ℕ
   i = me.0
@@ -191,6 +180,7 @@ module _ (setting : Setting) (group : Group) (w : World) (replies : Replies) (me
   -- the coordinator with the replies that then count
   abbrev then' : Coordinator
   then' = record {
+    group = c.group;
     ask = c.ask;
     stamp = c.stamp;
     round = c.round;
@@ -202,12 +192,12 @@ module _ (setting : Setting) (group : Group) (w : World) (replies : Replies) (me
   }
 
   abbrev fresh : Option Stamp
-  fresh = fresh_stamp me now node.boot known
+  fresh = fresh_stamp me c.call.view now node.boot known
 
   -- the replies that count are no part of the operation
   same_of : (d : Coordinator) → SameOperation then' d → SameOperation c d
   same_of d same =
-      record { ask = same.ask; boot = same.boot; seq = same.seq; group = same.group; view = same.view; stripe = same.stripe }
+      record { ask = same.ask; members = same.members; boot = same.boot; seq = same.seq; group = same.group; view = same.view; stripe = same.stripe }
 
   mine : CallBooks setting w i k c
   mine = books.calls i k c is_call
@@ -225,7 +215,7 @@ module _ (setting : Setting) (group : Group) (w : World) (replies : Replies) (me
 
   keeps_call : (time busy : ℕ) (d : Option Coordinator) → node.known ≤ time
       → (j : ℕ) → KeepsNumbers (w.nodes j) (put w.nodes i (with_call node time busy k d) j)
-  keeps_call time busy d later = keeps_put w i (with_call node time busy k d) (record { boot = refl; seq = refl; known = later })
+  keeps_call time busy d later = keeps_put w i (with_call node time busy k d) (keeps_with_call node time busy k d later)
 
   -- the time that brick i then knows
   own_known : (time busy : ℕ) (d : Option Coordinator) → time ≡ (put w.nodes i (with_call node time busy k d) i).known
@@ -247,11 +237,11 @@ module _ (setting : Setting) (group : Group) (w : World) (replies : Replies) (me
   stamp_fresh : (time : ℕ) (d : Option Coordinator) (t : Stamp) → fresh ≡ Some t → t.time ≤ time
       → IsBookedStamp (put w.nodes i (with_call node time node.busy k d) i).known mine.operation t
   stamp_fresh time d t is later =
-      let facts = fresh_is me now node.boot known t is in
+      let facts = fresh_is me c.call.view now node.boot known t is in
       let at : t.time ≡ next_time now known = ap (λ (x : Stamp). x.time) facts.0 in
       subst (λ (x : ℕ). IsBookedStamp x mine.operation t) (own_known time node.busy d) (record {
         brick = ap (λ (x : Stamp). x.brick) facts.0 ∙ brick_of me mine.operation.brick (sym mine.brick);
-        view = ap (λ (x : Stamp). x.view.0) facts.0;
+        view = ap (λ (x : Stamp). x.view.0) facts.0 ∙ mine.call_view;
         boot = ap (λ (x : Stamp). x.boot) facts.0 ∙ sym mine.boot;
         time = (omega (arith, facts.2, at), omega arith);
       })
@@ -267,9 +257,53 @@ module _ (setting : Setting) (group : Group) (w : World) (replies : Replies) (me
       let next : d.round ≡ c.round + 1 = again.round in let left : c.round < most_rounds = again.left in (omega arith, omega arith)
   rounds_sends d (inr goes) = subst (λ (x : ℕ). (1 ≤ x) × (x ≤ most_rounds)) (sym goes.round) mine.rounds
 
+  -- the operation's number
+  abbrev n : ℕ
+  n = number_of w i k
+
+  -- the operation once it is answered
+  abbrev ended : Answer → Option Stamp → Operation
+  ended answer seen = record {
+    brick = mine.operation.brick;
+    boot = mine.operation.boot;
+    seq = mine.operation.seq;
+    begin = mine.operation.begin;
+    ask = mine.operation.ask;
+    version = version_after mine.operation.version seen;
+    made = mine.operation.made;
+    base = mine.operation.base;
+    answered = is_answer answer;
+    floor = mine.operation.floor;
+  }
+
+  -- an operation ends
+  books_ends : (answer : Answer) (seen stored : Option Stamp) → EndFits c.phase answer seen → (operations : ℕ → Option Operation)
+      → operations n ≡ Some (ended answer seen) → ((m : ℕ) → m ≢ n → operations m ≡ w.operations m)
+      → Books setting (ended_world w (put w.nodes i (with_call node known (node.busy - 1) k None))
+      (with_held w.held i (with_call node known (node.busy - 1) k None)) (w.packets ++ collect_packets me c stored) operations replies n answer)
+  books_ends answer seen stored fits operations is_ended others =
+      books_ended setting w i k c mine.operation (ended answer seen) answer (put w.nodes i (with_call node known (node.busy - 1) k None))
+      (with_held w.held i (with_call node known (node.busy - 1) k None)) (w.packets ++ collect_packets me c stored) operations replies books
+      (record {
+        was = is_call;
+        operation_was = mine.operation_is;
+        brick = refl;
+        boot = refl;
+        seq = refl;
+        begin = refl;
+        ask = refl;
+        answered = refl;
+        answered_version = λ is. ends_version c mine.operation c.phase answer seen mine.made fits is;
+        keeps = keeps_call known (node.busy - 1) None grows;
+        call_is = call_put known (node.busy - 1) None;
+        other_calls = other_put known (node.busy - 1) None;
+        operation_is = is_ended;
+        other_operations = others;
+      })
+
   -- what a brick does with what its coordinator decided
   books_carried_out : (next : Next) → NextFits fresh then' next
-      → Books setting (stepped setting w replies me (carried_out setting group me node known c next))
+      → Books setting (stepped setting w replies me (carried_out setting me node known c next))
   books_carried_out Ignores fits = absurd fits
   books_carried_out (Waits d) fits =
       books_turned setting w i k c d mine.operation mine.operation (put w.nodes i (with_call node known node.busy k (Some d))) (with_held w.held i (with_call node known node.busy k (Some d))) (w.packets ++ [])
@@ -292,7 +326,7 @@ module _ (setting : Setting) (group : Group) (w : World) (replies : Replies) (me
   books_carried_out (Sends d) fits =
       let time : ℕ = max known d.stamp.time in
       books_turned setting w i k c d mine.operation mine.operation (put w.nodes i (with_call node time node.busy k (Some d))) (with_held w.held i (with_call node time node.busy k (Some d)))
-      (w.packets ++ phase_packets setting group me d) w.operations w.contents replies books
+      (w.packets ++ phase_packets setting me d) w.operations w.contents replies books
       (record {
         was = is_call;
         operation_was = mine.operation_is;
@@ -322,9 +356,8 @@ module _ (setting : Setting) (group : Group) (w : World) (replies : Replies) (me
         answered = mine.operation.answered;
         floor = mine.operation.floor;
       } in
-      let n : ℕ = number_of w i k in
       books_turned setting w i k c d mine.operation o (put w.nodes i (with_call node known node.busy k (Some d))) (with_held w.held i (with_call node known node.busy k (Some d)))
-      (w.packets ++ phase_packets setting group me d) (put w.operations n (with_made d.stamp d.base (w.operations n)))
+      (w.packets ++ phase_packets setting me d) (put w.operations n (with_made d.stamp d.base (w.operations n)))
       (with_content setting.layout.block w.contents d.stamp d.base (w.operations n)) replies books
       (record {
         was = is_call;
@@ -342,39 +375,17 @@ module _ (setting : Setting) (group : Group) (w : World) (replies : Replies) (me
             ∙ ap (λ (x : Option Operation). with_made d.stamp d.base x) mine.operation_is;
         other_operations = λ m other. put_other w.operations n (with_made d.stamp d.base (w.operations n)) m other;
       })
-  books_carried_out (Ends answer seen stored) fits =
-      let o : Operation = record {
-        brick = mine.operation.brick;
-        boot = mine.operation.boot;
-        seq = mine.operation.seq;
-        begin = mine.operation.begin;
-        ask = mine.operation.ask;
-        version = version_after mine.operation.version seen;
-        made = mine.operation.made;
-        base = mine.operation.base;
-        answered = is_answer answer;
-        floor = mine.operation.floor;
-      } in
-      let n : ℕ = number_of w i k in
-      books_ended setting w i k c mine.operation o answer (put w.nodes i (with_call node known (node.busy - 1) k None)) (with_held w.held i (with_call node known (node.busy - 1) k None))
-      (w.packets ++ collect_packets group me c.call stored) (put w.operations n (with_answer answer seen (w.operations n))) replies books
-      (record {
-        was = is_call;
-        operation_was = mine.operation_is;
-        brick = refl;
-        boot = refl;
-        seq = refl;
-        begin = refl;
-        ask = refl;
-        answered = refl;
-        answered_version = λ is. ends_version c mine.operation c.phase answer seen mine.made fits.0 is;
-        keeps = keeps_call known (node.busy - 1) None grows;
-        call_is = call_put known (node.busy - 1) None;
-        other_calls = other_put known (node.busy - 1) None;
-        operation_is = put_same w.operations n (with_answer answer seen (w.operations n))
-            ∙ ap (λ (x : Option Operation). with_answer answer seen x) mine.operation_is;
-        other_operations = λ m other. put_other w.operations n (with_answer answer seen (w.operations n)) m other;
-      })
+  books_carried_out (Ends answer None stored) fits =
+      books_ends answer None stored fits.0 (put w.operations n (with_answer answer (w.operations n)))
+      (put_same w.operations n (with_answer answer (w.operations n)) ∙ ap (λ (x : Option Operation). with_answer answer x) mine.operation_is)
+      (λ m other. put_other w.operations n (with_answer answer (w.operations n)) m other)
+  books_carried_out (Ends answer (Some v) stored) fits =
+      let seen : ℕ → Option Operation = put w.operations n (with_seen v (w.operations n)) in
+      books_ends answer (Some v) stored fits.0 (put seen n (with_answer answer (seen n)))
+      (put_same seen n (with_answer answer (seen n))
+      ∙ ap (λ (x : Option Operation). with_answer answer x)
+      (put_same w.operations n (with_seen v (w.operations n)) ∙ ap (λ (x : Option Operation). with_seen v x) mine.operation_is))
+      (λ m other. put_other seen n (with_answer answer (seen n)) m other ∙ put_other w.operations n (with_seen v (w.operations n)) m other)
 
 -- what a reply makes known is no less
 pub known_grows : (known : ℕ) (reply : Reply) → known ≤ known_after known reply
@@ -383,35 +394,29 @@ known_grows known reply = omega arith
 
 -- a reply
 books_counted_at : (setting : Setting) (w : World) (replies : Replies) (me : BrickId) (now : ℕ) (from : BrickId) (reply : Reply) (c : Coordinator)
-    (group : Group) (seat : Option ℕ) → Books setting w → IsCall w me.0 c.call.seq c
+    (seat : Option ℕ) → Books setting w → IsCall w me.0 c.call.seq c
     → (let known = known_after (w.nodes me.0).known reply in
-    Books setting (stepped setting w replies me (carried_out setting group me (w.nodes me.0) known c
-    (counted_at setting.code group (fresh_stamp me now (w.nodes me.0).boot known) c from reply seat))))
-books_counted_at setting w replies me now from reply c group None books is_call =
+    Books setting (stepped setting w replies me (carried_out setting me (w.nodes me.0) known c
+    (counted_at setting.layout.block setting.code (fresh_stamp me c.call.view now (w.nodes me.0).boot known) c from reply seat))))
+books_counted_at setting w replies me now from reply c None books is_call =
     books_known setting w replies me (known_after (w.nodes me.0).known reply) books (known_grows (w.nodes me.0).known reply)
-books_counted_at setting w replies me now from reply c group (Some seat) books is_call =
+books_counted_at setting w replies me now from reply c (Some seat) books is_call =
     let known = known_after (w.nodes me.0).known reply in
-    let fresh = fresh_stamp me now (w.nodes me.0).boot known in
-    books_carried_out setting group w replies me now known c (with_reply c seat from reply).counted books is_call
+    let fresh = fresh_stamp me c.call.view now (w.nodes me.0).boot known in
+    books_carried_out setting w replies me now known c (with_reply c seat from reply).counted books is_call
     (known_grows (w.nodes me.0).known reply)
-    (once_full setting.code group fresh (with_reply c seat from reply)) (once_full_fits setting.code group fresh (with_reply c seat from reply))
-
-books_replied_to : (setting : Setting) (w : World) (replies : Replies) (me : BrickId) (now : ℕ) (from : BrickId) (call : Call) (reply : Reply)
-    (c : Coordinator) (group : Option Group) → Books setting w → IsCall w me.0 c.call.seq c
-    → Books setting (stepped setting w replies me (replied_to setting me now from (w.nodes me.0) call reply c group))
-unfolding on_reply
-books_replied_to setting w replies me now from call reply c None books is_call = books_no_step setting w replies me books
-books_replied_to setting w replies me now from call reply c (Some group) books is_call =
-    books_counted_at setting w replies me now from reply c group (counts_at setting.layout.block group c from.0 call reply) books is_call
+    (once_full setting.layout.block setting.code fresh (with_reply c seat from reply))
+    (once_full_fits setting.layout.block setting.code fresh (with_reply c seat from reply))
 
 books_replied_at : (setting : Setting) (w : World) (replies : Replies) (me : BrickId) (now : ℕ) (from : BrickId) (call : Call) (reply : Reply)
     (found : Option Coordinator) → Books setting w → (w.nodes me.0).calls call.seq ≡ found
     → Books setting (stepped setting w replies me (replied_at setting me now from (w.nodes me.0) call reply found))
+unfolding on_reply
 books_replied_at setting w replies me now from call reply None books is =
     books_known setting w replies me (known_after (w.nodes me.0).known reply) books (known_grows (w.nodes me.0).known reply)
 books_replied_at setting w replies me now from call reply (Some c) books is =
     let seq : c.call.seq ≡ call.seq = (books.calls me.0 call.seq c is).call_seq in
-    books_replied_to setting w replies me now from call reply c (group_of setting.layout c.ask.group.0) books
+    books_counted_at setting w replies me now from reply c (counts_at setting.layout.block c from.0 call reply) books
     (subst (λ (l : ℕ). IsCall w me.0 l c) (sym seq) is)
 
 books_replied : (setting : Setting) (w : World) (replies : Replies) (me : BrickId) (now : ℕ) (from : BrickId) (call : Call) (reply : Reply)
@@ -487,7 +492,7 @@ unfolding invoked
 books_invoked setting w brick now ask books may =
     let fits : BeginFits setting ask = begin_fits setting w brick ask may in
     subst (λ (found : Option Group). Books setting (world_began w brick ask (began setting brick now (w.nodes brick.0) ask found)))
-    (sym fits.group_is)
+    (sym (group_first setting.layout (w.nodes brick.0) ask.group.0 (books.first brick.0) ∙ fits.group_is))
     (books_began setting w brick now ask fits.group books fits.is_stripe_op fits.group_is fits.stripe
     (begin_up setting w brick ask may) fits.length_fits)
 
@@ -496,22 +501,13 @@ abbrev pub KeepsCalls : Node → Node → Type 0
 KeepsCalls node later = KeepsNumbers node later × ((l : ℕ) → later.calls l ≡ node.calls l)
 
 keeps_itself : (node : Node) → KeepsCalls node node
-keeps_itself node = (record { boot = refl; seq = refl; known = omega arith }, λ l. refl)
+keeps_itself node = (keeps_all node, λ l. refl)
 
 requested_keeps : (setting : Setting) (me from : BrickId) (node : Node) (call : Call) (request : Request)
     → KeepsCalls node (requested setting me from node call request).node
-unfolding requested
-requested_keeps setting me from node call request = in_group (group_of setting.layout call.group.0)
-  where
-    at_seat : (z : Option ℕ) → KeepsCalls node (requested_at setting.layout.records me from node call request z).node
-    at_seat None = keeps_itself node
-    at_seat (Some seat) = (record { boot = refl; seq = refl; known = omega arith }, λ l. refl)
-
-    in_group : (z : Option Group) → KeepsCalls node (requested_in setting.layout me from node call request z).node
-    in_group None = keeps_itself node
-    in_group (Some group) =
-        cond_both (is_served group call && fits_block setting.layout.block request) _ _ (λ (step : NodeStep). KeepsCalls node step.node)
-        (λ is. at_seat (seat_in group.members me.0)) (λ isnt. keeps_itself node)
+requested_keeps setting me from node call request =
+    request_each (λ (step : NodeStep). KeepsCalls node step.node) setting me from node call request (keeps_itself node)
+    (λ seat view. (keeps_replica node call (handle (full_at setting.layout.records node.live) seat (replica_at node call) request) view, λ l. refl))
 
 -- so does a message whose handling was the last thing that it did
 pub absorbed_keeps : (setting : Setting) (me : BrickId) (node : Node) (from to : BrickId) (message : Message)
@@ -565,12 +561,12 @@ books_kept setting w (Delivers number) leaves books = books_delivered setting w 
 books_kept setting w (Sets brick time) leaves books =
     cond_both (is_brick setting.layout brick) _ _ (λ (x : World). Books setting x)
     (λ member. books_quiet setting w w.nodes w.held (put w.clocks brick.0 time) w.packets w.replies books
-    (λ i. record { boot = refl; seq = refl; known = omega arith }) (λ i k. refl))
+    (λ i. keeps_all (w.nodes i)) (λ i k. refl))
     (λ stranger. books)
 books_kept setting w (Ticks brick) leaves books =
     cond_both (is_up setting.layout w brick) _ _ (λ (x : World). Books setting x)
     (λ up. books_quiet setting w w.nodes w.held w.clocks (w.packets ++ ticked setting brick (w.nodes brick.0)) w.replies books
-    (λ i. record { boot = refl; seq = refl; known = omega arith }) (λ i k. refl))
+    (λ i. keeps_all (w.nodes i)) (λ i k. refl))
     (λ down. books)
 books_kept setting w (Stops brick during) leaves books =
     cond_both (is_up setting.layout w brick) _ _ (λ (x : World). Books setting x) (λ up. books_stopped setting w brick during books) (λ down. books)
@@ -592,6 +588,7 @@ books_first setting = record {
   };
   places = λ k mark is. absurd (let never : None ≡ Some mark = is in cc);
   boots = λ i. omega arith;
+  first = λ i. record { learnt = refl; accepted = refl; others = λ g e s other. refl };
   all_begun = λ n low high. absurd (omega arith);
   operations = λ n o is. absurd (let never : None ≡ Some o = is in cc);
   calls = λ i k c is. absurd (let never : None ≡ Some c = is in cc);
@@ -599,7 +596,8 @@ books_first setting = record {
   lives = λ n life is. absurd (let never : None ≡ Some life = is in cc);
 }
 
-books_run : (setting : Setting) (events : List Event) (w : World) → Leaves setting w → Books setting w → Books setting (run setting events w)
+-- through any schedule
+pub books_run : (setting : Setting) (events : List Event) (w : World) → Leaves setting w → Books setting w → Books setting (run setting events w)
 books_run setting [] w leaves books = books
 books_run setting (event ∷ events) w leaves books =
     books_run setting events (happens setting w event) (leaves_happens setting w event leaves) (books_kept setting w event leaves books)

@@ -1,12 +1,14 @@
 -- What a step leaves as it was stays in the books.
-use Rattle.std.proofs.Common.{◌≡◌, ◌≢◌, ℕ, ◌≤◌, ◌⊎◌, inl, inr, ⊎_elim, Option, Some, sym, ap, ◌∙◌, subst, arith}
+use Rattle.std.proofs.Common.{◌≡◌, ◌≢◌, ℕ, ◌≤◌, ◌⊎◌, inl, inr, ⊎_elim, Option, Some, refl, sym, ap, ◌∙◌, subst, arith}
 use Rattle.std.proofs.lemmas.Option.{same_Some}
 use Rattle.std.proofs.lemmas.Bool.{cases_eq}
 use Rattle.reg_model.specs.Marks.{Life, life_of, IsOpen}
+use Rattle.fab_base.specs.Layouts.{Layout}
 use Rattle.protocol.specs.Settings.{Setting}
 use Rattle.protocol.specs.Coordinators.{Coordinator}
-use Rattle.protocol.specs.Nodes.{Node}
+use Rattle.protocol.specs.Nodes.{Node, view_at, with_known, with_call}
 use Rattle.protocol.specs.Worlds.{World, Operation, number_of}
+use Rattle.protocol_laws.proofs.FirstViews.{IsInFirst, view_first}
 use Rattle.protocol_laws.proofs.Books.{OperationBooks, CallBooks, IsOperation, IsCall}
 use Rattle.protocol_laws.proofs.Lives.{Stays, LifeStays, EndingStays-answered, EndingStays-answered_before, EndingStays-open, EndingStays-open_before}
 
@@ -77,6 +79,7 @@ call_kept setting w later i k c books up boot number operation known stays begun
       boot = books.boot ∙ sym boot;
       seq = books.seq;
       ask = books.ask;
+      group_is = books.group_is;
       stamp_brick = books.stamp_brick;
       stamp_view = books.stamp_view;
       stamp_boot = books.stamp_boot ∙ sym boot;
@@ -124,8 +127,34 @@ cases_call i k j l = ⊎_elim
     (λ (other : j ≢ i). inr (λ e f. other e))
     (cases_eq j i)
 
--- a brick whose boot and call numbers stay, and that knows no less
+-- a brick whose boot, call numbers and views stay, of whose parts only those of the views that it has learnt change, and that knows no less
 pub record KeepsNumbers (node later : Node) : Type 0 where
   pub boot : later.boot ≡ node.boot
   pub seq : later.seq ≡ node.seq
+  pub learnt : later.learnt ≡ node.learnt
+  pub accepted : later.accepted ≡ node.accepted
+  pub parts : (g e s : ℕ) → (later.replicas g e s ≡ node.replicas g e s) ⊎ (e ≡ view_at node g)
   pub known : node.known ≤ later.known
+
+-- so does one that stays as it is, that learns a time, or one of whose calls goes on
+pub keeps_all : (node : Node) → KeepsNumbers node node
+keeps_all node = record { boot = refl; seq = refl; learnt = refl; accepted = refl; parts = λ g e s. inl refl; known = omega arith }
+
+pub keeps_known : (node : Node) (known : ℕ) → node.known ≤ known → KeepsNumbers node (with_known node known)
+keeps_known node known grows = record { boot = refl; seq = refl; learnt = refl; accepted = refl; parts = λ g e s. inl refl; known = grows }
+
+pub keeps_with_call : (node : Node) (known busy seq : ℕ) (call : Option Coordinator) → node.known ≤ known
+    → KeepsNumbers node (with_call node known busy seq call)
+keeps_with_call node known busy seq call grows =
+    record { boot = refl; seq = refl; learnt = refl; accepted = refl; parts = λ g e s. inl refl; known = grows }
+
+-- such a brick goes on in view 1
+pub first_kept : (layout : Layout) (node later : Node) → KeepsNumbers node later → IsInFirst layout node → IsInFirst layout later
+first_kept layout node later keeps first = record {
+  learnt = keeps.learnt ∙ first.learnt;
+  accepted = keeps.accepted ∙ first.accepted;
+  others = λ g e s other. ⊎_elim
+      (λ (same : later.replicas g e s ≡ node.replicas g e s). same ∙ first.others g e s other)
+      (λ (is : e ≡ view_at node g). absurd (other (is ∙ view_first layout node g first)))
+      (keeps.parts g e s);
+}

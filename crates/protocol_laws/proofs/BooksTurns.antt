@@ -5,13 +5,14 @@ use Rattle.std.proofs.lemmas.Bool.{cases_eq, both_ways}
 use Rattle.fab_base.specs.declared.stamps.Stamp.{Stamp}
 use Rattle.messages.specs.declared.packets.Packet.{Packet}
 use Rattle.reg_model.specs.Marks.{life_of}
+use Rattle.fab_base.specs.Layouts.{Group}
 use Rattle.protocol.specs.Settings.{Setting}
 use Rattle.protocol.specs.declared.phases.Counted.{Counted}
 use Rattle.protocol.specs.Coordinators.{Coordinator, most_rounds}
 use Rattle.protocol.specs.Nodes.{Node}
 use Rattle.protocol.specs.Worlds.{World, Operation, number_of}
 use Rattle.protocol_laws.proofs.Books.{Books, OperationBooks, CallBooks, IsOperation, IsCall, MadeInPhase, InRound}
-use Rattle.protocol_laws.proofs.BooksKept.{KeepsNumbers, operation_kept, call_kept, number_at, calls_apart, cases_call}
+use Rattle.protocol_laws.proofs.BooksKept.{KeepsNumbers, first_kept, operation_kept, call_kept, number_at, calls_apart, cases_call}
 use Rattle.protocol_laws.proofs.Outcomes.{SameOperation}
 use Rattle.protocol_laws.proofs.Lives.{Stays-refl}
 
@@ -108,6 +109,8 @@ module _ (setting : Setting) (w : World) (i k : ℕ) (c d : Coordinator) (before
         boot = turned.same_ask.boot ∙ boot;
         seq = turned.same_ask.seq ∙ seq;
         ask = turned.same.ask ∙ call.ask ∙ ap (λ (x : Operation). x.ask) same_before ∙ sym turned.same_ask.ask;
+        group_is = ap (λ a. Rattle.fab_base.specs.Layouts.group_of setting.layout a.group.0) turned.same.ask ∙ call.group_is
+            ∙ ap (λ (z : Group). Some z) (sym turned.same.members);
         stamp_brick = turned.stamp.brick ∙ sym turned.same_ask.brick;
         stamp_view = turned.stamp.view;
         stamp_boot = turned.stamp.boot ∙ boot;
@@ -173,6 +176,7 @@ module _ (setting : Setting) (w : World) (i k : ℕ) (c d : Coordinator) (before
   books_turned = record {
     well_formed = books.well_formed;
     places = books.places;
+    first = λ j. first_kept setting.layout (w.nodes j) (nodes j) (turned.keeps j) (books.first j);
     boots = λ j. (let e : (nodes j).boot ≡ (w.nodes j).boot = (turned.keeps j).boot in omega (arith, books.boots j));
     all_begun = λ n low high. ⊎_elim
         (λ (mine : n ≡ number_of w i k). (o, subst (λ (m : ℕ). IsOperation later m o) (sym mine) turned.operation_is))

@@ -25,7 +25,9 @@ use Rattle.protocol.specs.declared.phases.Phase.TheVariants.{Orders, Recovers, D
 use Rattle.protocol.specs.Coordinators.{Coordinator, may_be_found, answers_phase, told_in, refuser_of, greatest_refuser, full_member_of, lowest_full, fast_version, found_bytes, pieces_of}
 use Rattle.protocol.specs.Worlds.{World, Operation, zero_content}
 use Rattle.fab_base.specs.Layouts.{brick_at}
-use Rattle.protocol_laws.specs.Laws.{part_of, AtQuorum, IsGuarded}
+use Rattle.protocol_laws.specs.Laws.{AtQuorum}
+use Rattle.protocol_laws.proofs.Parts.{part_of, PartsGuard}
+use Rattle.protocol_laws.proofs.FirstViews.{floor_at}
 use Rattle.protocol_laws.proofs.Books.{Books, CallBooks, IsOperation, IsCall}
 use Rattle.protocol_laws.proofs.Logs.{IsWithin}
 use Rattle.protocol_laws.proofs.Said.{Stamping, Said, IsBegun, IsRecovery, IsContent, IsMadeOrFirst, FloorsAtMost, IsCalled, WriteSays, OrderedSays, OrderedReadSays, FoundSays, ReplySays, CountedSays, EachCounted, AreOnce}
@@ -42,7 +44,7 @@ zero_bytes (suc n) = zero_bytes n
 -- the version that was found, by the operation of a read
 pub record FoundAt (setting : Setting) (w : World) (j : ℕ) (o : Operation) (order : Stamp) (version : Version) : Type 0 where
   pub top : stamp_below (top_of (part_of w o.ask.group.0 o.ask.stripe.0 j)) (stamp_max order version.stamp) ≡ false
-  pub floor : stamp_below (stamp_max order version.stamp) (o.floor j) ≡ false
+  pub floor : stamp_below (stamp_max order version.stamp) (floor_at o j) ≡ false
   pub held : w.held j o.ask.group.0 o.ask.stripe.0 version.stamp ≡ true
   pub made : IsMadeOrFirst w o.ask.group.0 o.ask.stripe.0 version.stamp
   pub block : (group : Group) (seat : ℕ) → group_of setting.layout o.ask.group.0 ≡ Some group → seat_in group.members j ≡ Some seat
@@ -58,7 +60,7 @@ found_at setting w j i call o order version is says =
     = ap (λ (g : ℕ). part_of w g o.ask.stripe.0 j) group ∙ ap (λ (s : ℕ). part_of w call.group.0 s j) stripe in
     record {
       top = subst (λ (r : Replica). stamp_below (top_of r) (stamp_max order version.stamp) ≡ false) (sym part) says.top;
-      floor = subst (λ (p : Operation). stamp_below (stamp_max order version.stamp) (p.floor j) ≡ false) same says.floor;
+      floor = subst (λ (p : Operation). stamp_below (stamp_max order version.stamp) (floor_at p j) ≡ false) same says.floor;
       held = subst (λ (g : ℕ). w.held j g o.ask.stripe.0 version.stamp ≡ true) (sym group)
           (subst (λ (s : ℕ). w.held j call.group.0 s version.stamp ≡ true) (sym stripe) says.held);
       made = subst (λ (g : ℕ). IsMadeOrFirst w g o.ask.stripe.0 version.stamp) (sym group)
@@ -155,11 +157,17 @@ recovery_same stamps i boot k p phase t u bound b begun (inr looks) (inr lower) 
 pub quorum_enough : (m n : ℕ) → m ≤ n → m ≤ n - (n - m) / 2
 quorum_enough m n le = omega arith
 
-module _ (setting : Setting) (sound : IsSound setting) (w : World) (stamps : Stamping) (me : BrickId) (c : Coordinator) (group : Group)
+module _ (setting : Setting) (sound : IsSound setting) (w : World) (stamps : Stamping) (me : BrickId) (c : Coordinator)
     (books : Books setting w) (said : Said setting w stamps) (is : IsCall w me.0 c.call.seq c)
-    (group_is : group_of setting.layout c.ask.group.0 ≡ Some group)
     (counted : List Counted) (each : EachCounted (CountedSays setting w me.0 c) counted) (once : AreOnce counted)
-    (many : quorum_of group ≤ length counted) where
+    (many : quorum_of c.group ≤ length counted) where
+  -- its group, and its members
+  abbrev group : Group
+  group = c.group
+
+  group_is : group_of setting.layout c.ask.group.0 ≡ Some group
+  group_is = (books.calls me.0 c.call.seq c is).group_is
+
   abbrev its : CallBooks setting w me.0 c.call.seq c
   its = books.calls me.0 c.call.seq c is
 
@@ -222,21 +230,21 @@ module _ (setting : Setting) (sound : IsSound setting) (w : World) (stamps : Sta
   pub record PromisesAt (x : Counted) : Type 0 where
     pub within : x.seat < length group.members
     pub top : stamp_below (top_of (part_at x.seat)) c.stamp ≡ false
-    pub floor : stamp_below c.stamp (its_operation.floor (brick_at group x.seat)) ≡ false
+    pub floor : stamp_below c.stamp (floor_at its_operation (brick_at group x.seat)) ≡ false
 
   promises_at : (x : Counted) → CountedSays setting w me.0 c x → (p : Operation) (t : Stamp) → IsCalled w me.0 c.call p → t ≡ c.stamp
-      → stamp_below (top_of (part_of w c.call.group.0 c.call.stripe.0 x.brick.0)) t ≡ false → stamp_below t (p.floor x.brick.0) ≡ false → PromisesAt x
+      → stamp_below (top_of (part_of w c.call.group.0 c.call.stripe.0 x.brick.0)) t ≡ false → stamp_below t (floor_at p x.brick.0) ≡ false → PromisesAt x
   promises_at x says p t called at promised floor = record {
     within = (seat_fits x says).0;
     top = subst (λ (u : Stamp). stamp_below (top_of (part_at x.seat)) u ≡ false) at
         (at_seat (λ g s j. stamp_below (top_of (part_of w g s j)) t ≡ false) x says promised);
-    floor = subst (λ (u : Stamp). stamp_below u (its_operation.floor (brick_at group x.seat)) ≡ false) at
-        (subst (λ (q : Operation). stamp_below t (q.floor (brick_at group x.seat)) ≡ false) (called_same p called)
-        (subst (λ (j : ℕ). stamp_below t (p.floor j) ≡ false) (sym (seat_fits x says).1) floor));
+    floor = subst (λ (u : Stamp). stamp_below u (floor_at its_operation (brick_at group x.seat)) ≡ false) at
+        (subst (λ (q : Operation). stamp_below t (floor_at q (brick_at group x.seat)) ≡ false) (called_same p called)
+        (subst (λ (j : ℕ). stamp_below t (floor_at p j) ≡ false) (sym (seat_fits x says).1) floor));
   }
 
   -- a quorum of promises guards the stamp
-  pub promises_guard : EachCounted PromisesAt counted → IsGuarded w its_operation.ask.group.0 its_operation.ask.stripe.0 group c.stamp
+  pub promises_guard : EachCounted PromisesAt counted → PartsGuard w its_operation.ask.group.0 its_operation.ask.stripe.0 group c.stamp
   promises_guard all =
       at_quorum group counted (λ seat. not (stamp_below (top_of (part_at seat)) c.stamp))
       (each_then PromisesAt (λ x. (x.seat < length group.members) × (not (stamp_below (top_of (part_at x.seat)) c.stamp) ≡ true)) counted
@@ -246,9 +254,9 @@ module _ (setting : Setting) (sound : IsSound setting) (w : World) (stamps : Sta
   -- and the stamp is at or above the floors of a quorum
   pub promises_floors : EachCounted PromisesAt counted → FloorsAtMost its_operation group c.stamp
   promises_floors all =
-      at_quorum group counted (λ seat. not (stamp_below c.stamp (its_operation.floor (brick_at group seat))))
+      at_quorum group counted (λ seat. not (stamp_below c.stamp (floor_at its_operation (brick_at group seat))))
       (each_then PromisesAt (λ x. (x.seat < length group.members)
-      × (not (stamp_below c.stamp (its_operation.floor (brick_at group x.seat))) ≡ true)) counted
+      × (not (stamp_below c.stamp (floor_at its_operation (brick_at group x.seat))) ≡ true)) counted
       (λ x h. (h.within, not_from_false _ h.floor)) all)
       once many
 
@@ -353,7 +361,7 @@ module _ (setting : Setting) (sound : IsSound setting) (w : World) (stamps : Sta
   record TellsAt (v : Stamp) (x : Counted) : Type 0 where
     within : x.seat < length group.members
     top : stamp_below (top_of (part_of w its_operation.ask.group.0 its_operation.ask.stripe.0 (brick_at group x.seat))) v ≡ false
-    floor : stamp_below v (its_operation.floor (brick_at group x.seat)) ≡ false
+    floor : stamp_below v (floor_at its_operation (brick_at group x.seat)) ≡ false
     held : held_at x.seat v ≡ true
     made : IsMadeOrFirst w its_operation.ask.group.0 its_operation.ask.stripe.0 v
     block : found_bytes x.reply ≡ setting.code.encode group.m (w.contents its_operation.ask.group.0 its_operation.ask.stripe.0 v) x.seat
@@ -375,8 +383,8 @@ module _ (setting : Setting) (sound : IsSound setting) (w : World) (stamps : Sta
         within = (seat_fits x says).0;
         top = subst (λ (j : ℕ). stamp_below (top_of (part_of w its_operation.ask.group.0 its_operation.ask.stripe.0 j)) v ≡ false) (sym brick)
             (stamp_not_below_trans v most (top_of (part_of w its_operation.ask.group.0 its_operation.ask.stripe.0 x.brick.0)) above at.top);
-        floor = subst (λ (j : ℕ). stamp_below v (its_operation.floor j) ≡ false) (sym brick)
-            (stamp_not_below_trans (its_operation.floor x.brick.0) most v at.floor below);
+        floor = subst (λ (j : ℕ). stamp_below v (floor_at its_operation j) ≡ false) (sym brick)
+            (stamp_not_below_trans (floor_at its_operation x.brick.0) most v at.floor below);
         held = subst (λ (t : Stamp). held_at x.seat t ≡ true) tells.stamp
             (subst (λ (j : ℕ). w.held j its_operation.ask.group.0 its_operation.ask.stripe.0 tells.version.stamp ≡ true)
             (sym brick) at.held);
@@ -392,7 +400,7 @@ module _ (setting : Setting) (sound : IsSound setting) (w : World) (stamps : Sta
       (each_both (CountedSays setting w me.0 c) (λ x. TellsVersion v x.reply) counted each (fast_each counted v fast))
 
   -- a version that may be answered at once is guarded
-  pub fast_guards : (v : Stamp) → fast_version counted ≡ Some v → IsGuarded w its_operation.ask.group.0 its_operation.ask.stripe.0 group v
+  pub fast_guards : (v : Stamp) → fast_version counted ≡ Some v → PartsGuard w its_operation.ask.group.0 its_operation.ask.stripe.0 group v
   fast_guards v fast =
       at_quorum group counted (λ seat. not (stamp_below
       (top_of (part_of w its_operation.ask.group.0 its_operation.ask.stripe.0 (brick_at group seat))) v))
@@ -413,9 +421,9 @@ module _ (setting : Setting) (sound : IsSound setting) (w : World) (stamps : Sta
   -- and is at or above the floors of a quorum
   pub fast_floors : (v : Stamp) → fast_version counted ≡ Some v → FloorsAtMost its_operation group v
   fast_floors v fast =
-      at_quorum group counted (λ seat. not (stamp_below v (its_operation.floor (brick_at group seat))))
+      at_quorum group counted (λ seat. not (stamp_below v (floor_at its_operation (brick_at group seat))))
       (each_then (TellsAt v)
-      (λ x. (x.seat < length group.members) × (not (stamp_below v (its_operation.floor (brick_at group x.seat))) ≡ true))
+      (λ x. (x.seat < length group.members) × (not (stamp_below v (floor_at its_operation (brick_at group x.seat))) ≡ true))
       counted (λ x h. (h.within, not_from_false _ h.floor)) (all_tell_at v fast))
       once many
 
@@ -452,7 +460,7 @@ module _ (setting : Setting) (sound : IsSound setting) (w : World) (stamps : Sta
       let limits : IsWithinLimits group.m (length group.members) = sound.limits its_operation.ask.group.0 group its_group in
       let enough : group.m ≤ quorum_of group = quorum_enough group.m (length group.members) limits.enough_seats in
       let pieces : length (pieces_of counted) ≡ length counted = pieces_length counted in
-      sound.decodes its_operation.ask.group.0 group its_group
+      sound.decodes group.m (length group.members) limits
       (w.contents its_operation.ask.group.0 its_operation.ask.stripe.0 v) (pieces_of counted)
       (content_formed v (fast_made v fast)).0 (content_formed v (fast_made v fast)).1
       (are_pieces setting.code group.m (length group.members) (w.contents its_operation.ask.group.0 its_operation.ask.stripe.0 v) counted

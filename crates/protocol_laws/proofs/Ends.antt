@@ -12,15 +12,13 @@ use Rattle.messages.specs.declared.packets.Packet.{Packet}
 use Rattle.messages.specs.declared.requests.Request.TheVariants as Request
 use Rattle.reg_model.specs.declared.marks.Mark.{Mark}
 use Rattle.reg_model.specs.declared.marks.Mark.TheVariants.{End}
-use Rattle.fab_base.specs.Layouts.{Group}
 use Rattle.protocol.specs.Settings.{Setting}
 use Rattle.protocol.specs.Coordinators.{Coordinator}
-use Rattle.protocol.specs.declared.tellings.Told.TheVariants.{Answers}
-use Rattle.protocol.specs.Nodes.{Node, put, with_call, collect_packets}
-use Rattle.protocol.specs.Worlds.{World, Operation, number_of, world_stepped, with_answer, version_after, is_answer, with_held}
-use Rattle.protocol_laws.proofs.Books.{Books, CallBooks, IsCall}
+use Rattle.protocol.specs.Nodes.{Node, NodeStep, put, with_call, seen_told, collect_packets}
+use Rattle.protocol.specs.Worlds.{World, Operation, number_of, world_stepped, with_seen, with_answer, is_answer, with_held}
+use Rattle.protocol_laws.proofs.Books.{version_after, Books, CallBooks, IsCall}
 use Rattle.protocol_laws.proofs.Said.{Stamping, Said, Stands, WritesWhole, ReadsBack, PacketSays, HasVersion, OperationSays, CallSays, EndShows}
-use Rattle.protocol_laws.proofs.Tables.{put_each, put_same, get_grown, get_one, sent_to_member}
+use Rattle.protocol_laws.proofs.Tables.{put_each, put_same, put_twice, get_grown, get_one, sent_to_member}
 use Rattle.protocol_laws.proofs.Lives.{last_grows}
 use Rattle.protocol_laws.proofs.Stampings.{ages_within, stamps_same}
 use Rattle.protocol_laws.proofs.Steps.{KeepsStamps, stamps_stay_by}
@@ -36,7 +34,7 @@ WillShow w o seen (Data bytes) =
 WillShow w o seen Done = (bytes : List ℕ) × (o.ask.op ≡ WriteStripe bytes)
 WillShow w o seen (Aborted cause) = Unit {0}
 
-module _ (setting : Setting) (w : World) (stamps : Stamping) (me : BrickId) (c : Coordinator) (group : Group) (known : ℕ)
+module _ (setting : Setting) (w : World) (stamps : Stamping) (me : BrickId) (c : Coordinator) (known : ℕ)
     (books : Books setting w) (said : Said setting w stamps) (is : IsCall w me.0 c.call.seq c)
     (more_known : (w.nodes me.0).known ≤ known) (answer : Answer) (seen stored : Option Stamp) where
   abbrev its : CallBooks setting w me.0 c.call.seq c
@@ -48,21 +46,24 @@ module _ (setting : Setting) (w : World) (stamps : Stamping) (me : BrickId) (c :
   abbrev n : ℕ
   n = number_of w me.0 c.call.seq
 
-  -- the operation that ended
-  abbrev ended : Operation
-  ended =
+  -- the operation that ended, where it saw this version
+  abbrev ended_by : Option Stamp → Operation
+  ended_by saw =
       record {
         brick = o.brick;
         boot = o.boot;
         seq = o.seq;
         begin = o.begin;
         ask = o.ask;
-        version = version_after o.version seen;
+        version = version_after o.version saw;
         made = o.made;
         base = o.base;
         answered = is_answer answer;
         floor = o.floor;
       }
+
+  abbrev ended : Operation
+  ended = ended_by seen
 
   abbrev node : Node
   node = with_call (w.nodes me.0) known ((w.nodes me.0).busy - 1) c.call.seq None
@@ -71,28 +72,46 @@ module _ (setting : Setting) (w : World) (stamps : Stamping) (me : BrickId) (c :
   marks = w.marks ++ (End (length w.marks) n answer ∷ [])
 
   abbrev next : World
-  next = operated w me node (collect_packets group me c.call stored) marks n ended w.contents
+  next = operated w me node (collect_packets me c stored) marks n ended w.contents
 
-  next_is : world_stepped setting w me (record { node = node; packets = collect_packets group me c.call stored; told = Answers c.call.seq answer seen })
-      (Answers c.call.seq answer seen) ≡ next
-  next_is =
-      ap (λ (x : Option Operation).
+  -- the step
+  abbrev step_by : Option Stamp → NodeStep
+  step_by saw =
+      record {
+        node = node;
+        packets = collect_packets me c stored;
+        told = seen_told c.call.seq saw;
+        answers = record { seq = c.call.seq; answer = answer } ∷ [];
+      }
+
+  -- the world with these operations
+  abbrev next_with : (ℕ → Option Operation) → World
+  next_with operations =
       record {
         nodes = put w.nodes me.0 node;
         after = w.after;
         up = w.up;
         clocks = w.clocks;
-        packets = w.packets ++ collect_packets group me c.call stored;
+        packets = w.packets ++ collect_packets me c stored;
         marks = marks;
         begun = w.begun;
-        operations = put w.operations n (with_answer answer seen x);
+        operations = operations;
         numbers = w.numbers;
         past = w.past;
         contents = w.contents;
         held = with_held w.held me.0 node;
         replies = w.replies;
-      })
-      its.operation_is
+      }
+
+  next_is : (saw : Option Stamp)
+      → world_stepped setting w me (step_by saw) ≡ operated w me node (collect_packets me c stored) marks n (ended_by saw) w.contents
+  next_is None = ap (λ (x : Option Operation). next_with (put w.operations n (with_answer answer x))) its.operation_is
+  next_is (Some v) =
+      let saw : ℕ → Option Operation = put w.operations n (with_seen v (w.operations n)) in
+      ap next_with
+      (put_twice w.operations n (with_seen v (w.operations n)) (with_answer answer (saw n))
+      ∙ ap (λ (x : Option Operation). put w.operations n (with_answer answer x))
+      (put_same w.operations n (with_seen v (w.operations n)) ∙ ap (λ (x : Option Operation). with_seen v x) its.operation_is))
 
   module _ (keeps_version : (v : Stamp) → o.version ≡ Some v → version_after o.version seen ≡ Some v)
       (has_version : (v : Stamp) → version_after o.version seen ≡ Some v → HasVersion setting w o v)
@@ -132,7 +151,7 @@ module _ (setting : Setting) (w : World) (stamps : Stamping) (me : BrickId) (c :
 
     grows : Grows w next stamps stamps
     grows =
-        operated_grows setting w stamps stamps me node (collect_packets group me c.call stored) marks n o ended w.contents keeps said.logged (stamps_same stamps)
+        operated_grows setting w stamps stamps me node (collect_packets me c stored) marks n o ended w.contents keeps said.logged (stamps_same stamps)
 
     ended_has : (v : Stamp) → version_after o.version seen ≡ Some v → HasVersion setting next ended v
     ended_has v has =
@@ -183,11 +202,11 @@ module _ (setting : Setting) (w : World) (stamps : Stamping) (me : BrickId) (c :
         (w.nodes me.0).calls c.call.seq None
         (λ at. cc) (λ j other at. inl (at, λ p. refl)) k
 
-    packets : (o : Option Stamp) (k : ℕ) (packet : Packet) → slice_get (collect_packets group me c.call o) k ≡ Some packet
+    packets : (o : Option Stamp) (k : ℕ) (packet : Packet) → slice_get (collect_packets me c o) k ≡ Some packet
         → PacketSays setting next stamps packet
     packets None k packet at = cc
     packets (Some t) k packet at =
-        let sent = sent_to_member me c.call (λ seat. Request.Collect t) 0 group.members k packet at in
+        let sent = sent_to_member me c.call (λ seat. Request.Collect t) 0 c.group.members k packet at in
         subst (λ (z : Packet). PacketSays setting next stamps z) (sym sent.2) tt
 
     end_shows : (a : Answer) → a ≡ answer → EndShows next n a
@@ -216,12 +235,10 @@ module _ (setting : Setting) (w : World) (stamps : Stamping) (me : BrickId) (c :
         (get_grown w.marks (End (length w.marks) n answer ∷ []) k (End q a other) at)
 
     -- the invariant holds when an operation ended
-    pub said_ended : Said setting
-        (world_stepped setting w me (record { node = node; packets = collect_packets group me c.call stored; told = Answers c.call.seq answer seen })
-        (Answers c.call.seq answer seen)) stamps
+    pub said_ended : Said setting (world_stepped setting w me (step_by seen)) stamps
     said_ended =
-        subst (λ (z : World). Said setting z stamps) (sym next_is)
-        (said_operated setting w stamps stamps me node (collect_packets group me c.call stored) marks n o ended w.contents books said
+        subst (λ (z : World). Said setting z stamps) (sym (next_is seen))
+        (said_operated setting w stamps stamps me node (collect_packets me c stored) marks n o ended w.contents books said
         (stamps_same stamps) keeps
         (record {
           stamps_say = stamps_stay_by setting w next stamps me.0 node said refl (ages_within (w.nodes me.0) node refl more_known (omega arith));

@@ -1,30 +1,34 @@
 -- The laws hold in every world that a run reaches.
-use Rattle.std.proofs.Common.{refl}
-use Rattle.protocol.specs.Settings.{Setting}
-use Rattle.protocol.specs.Worlds.{World, first_world, run}
-use Rattle.protocol_laws.specs.Laws.{RefusalsWereTrue, Laws, EveryRunKeepsTheLaws, NoEventLowers}
+use Rattle.std.proofs.Common.{List, [], refl, sym}
+use Rattle.std.proofs.lemmas.List.{append-nil}
+use Rattle.protocol.specs.Settings.{Setting, IsSound}
+use Rattle.protocol.specs.Views.{Views, layout_views}
+use Rattle.protocol.specs.Worlds.{World, Event, first_world, run}
+use Rattle.protocol_laws.specs.Laws.{Follows, RefusalsWereTrue, Laws, EveryRunKeepsTheLaws}
 use Rattle.protocol_laws.proofs.Books.{Books}
 use Rattle.protocol_laws.proofs.BooksEvents.{books}
 use Rattle.protocol_laws.proofs.Chains.{neighbours_follow, lowest_follows}
-use Rattle.protocol_laws.proofs.Falls.{no_event_lowers}
 use Rattle.protocol_laws.proofs.Moments.{refusals_true}
 use Rattle.protocol_laws.proofs.Numbers.{IsNumbered, numbered_run}
-use Rattle.protocol_laws.proofs.QuorumFacts.{QuorumFacts, quorum_facts}
+use Rattle.protocol_laws.proofs.QuorumFacts.{QuorumFacts, facts}
+use Rattle.protocol_laws.proofs.Said.{Stamping, Said}
+use Rattle.protocol_laws.proofs.SaidAlways.{always_said}
+use Rattle.protocol_laws.proofs.ViewLaws.{follows_layout, always_first, one_content, writes_guarded, bases_newest}
 use Rattle.protocol_laws.proofs.Tallies.{Tallied}
 use Rattle.protocol_laws.proofs.TalliesEvents.{tallied}
 use Rattle.protocol_laws.proofs.StripeLives.{well_formed_stripe, numbers_from_one}
 use Rattle.protocol_laws.proofs.Walks.{happenings_strict}
 
 -- the laws, from the books, from what quorums show, and from the history of replies
-laws : (setting : Setting) (w : World) → Books setting w → QuorumFacts setting w → Tallied w → IsNumbered w
-    → RefusalsWereTrue setting w → Laws setting w
-laws setting w booked facts history numbered truths = record {
-  one_content = facts.one_content;
+laws : (setting : Setting) (views : Views) (w : World) (stamps : Stamping) → Books setting w → Said setting w stamps → Follows setting.layout views w
+    → QuorumFacts setting w → Tallied w → IsNumbered w → RefusalsWereTrue setting w → Laws setting views w
+laws setting views w stamps booked said follows facts history numbered truths = record {
+  one_content = one_content setting views w stamps booked said follows;
   first_is_zero = facts.first;
   contents_are_made = facts.contents;
-  guarded = facts.guarded;
+  guarded = writes_guarded setting views w stamps booked said follows;
   stored = facts.stored;
-  bases = facts.bases;
+  bases = bases_newest setting views w stamps booked said follows;
   neighbours = λ g s. neighbours_follow setting w g s booked facts;
   lowest = λ g s. lowest_follows setting w g s booked facts;
   real_time = facts.real_time;
@@ -41,13 +45,16 @@ laws setting w booked facts history numbered truths = record {
 
 -- the laws of every run
 pub every_run : EveryRunKeepsTheLaws
-every_run setting events sound =
-    laws setting (run setting events (first_world setting.layout)) (books setting events)
-    (quorum_facts setting events sound (λ more. books setting more))
+every_run setting views events sound follows =
+    let w : World = run setting events (first_world setting.layout) in
+    let said = always_said setting events sound in
+    laws setting views w said.0 (books setting events) said.1 (follows events [] (sym (append-nil events)))
+    (facts setting sound w said.0 (books setting events) said.1)
     (tallied setting events sound (λ more. books setting more))
     (numbered_run setting events (first_world setting.layout) (record { count = refl; each = λ k n is. let never : ⊥ = cc in absurd never }))
-    (refusals_true setting events)
+    (refusals_true setting events (λ moment. always_first setting moment sound))
 
--- no event of any run lowers what a brick has promised or stored
-pub no_event : NoEventLowers
-no_event = no_event_lowers
+-- for the layout's members
+pub every_layout_run : (setting : Setting) (events : List Event) → IsSound setting
+    → Laws setting (layout_views setting.layout) (run setting events (first_world setting.layout))
+every_layout_run setting events sound = every_run setting (layout_views setting.layout) events sound (follows_layout setting events sound)

@@ -1,77 +1,55 @@
 -- No event lowers what a brick has promised or stored, or drops a version that it holds.
-use Rattle.std.proofs.Common.{◌≡◌, ℕ, List, [], ◌∷◌, Option, Some, None, refl, ⊎_elim, sym, subst, false, ap, Bool, not, ◌&&◌, length, arith}
-use Rattle.std.proofs.lemmas.Bool.{cond_both, and_parts, not-true}
+use Rattle.std.proofs.Common.{◌≡◌, ℕ, List, [], ◌∷◌, Option, Some, None, refl, ⊎_elim, sym, subst, false, ap}
+use Rattle.std.proofs.lemmas.Bool.{cond_both}
 use Rattle.fab_base.specs.declared.identities.BrickId.{BrickId}
 use Rattle.fab_base.specs.declared.asks.Ask.{Ask}
-use Rattle.fab_base.specs.declared.stamps.Stamp.{Stamp}
 use Rattle.messages.specs.declared.calls.Call.{Call}
 use Rattle.messages.specs.declared.packets.Message.{Message}
 use Rattle.messages.specs.declared.packets.Packet.{Packet}
 use Rattle.messages.specs.declared.requests.Request.{Request}
 use Rattle.messages.specs.declared.replies.Reply.{Reply}
-use Rattle.fab_base.specs.Layouts.{Group, group_of, brick_at}
+use Rattle.fab_base.specs.Layouts.{Group}
 use Rattle.protocol.specs.Settings.{Setting}
-use Rattle.protocol.specs.Replicas.{handle, top_of}
+use Rattle.protocol.specs.Replicas.{handle}
 use Rattle.protocol.specs.Coordinators.{Coordinator, Next, Ignores, Waits, Sends, Makes, Ends, on_reply}
-use Rattle.protocol.specs.declared.tellings.Told.{Told}
-use Rattle.protocol.specs.declared.tellings.Told.TheVariants.{Nothing, Made, Answers}
-use Rattle.protocol.specs.Nodes.{Node, NodeStep, fresh_stamp, put, began, invoked, replica_at, full_at, requested, absorbed, stopped, restarted, known_after, carried_out, replied_to, replied_at, replied, received}
-use Rattle.protocol.specs.Worlds.{World, Found, Before, After, Event, Invokes, Delivers, Sets, Ticks, Stops, Starts, replies_with, is_brick, is_up, may_start, world_ticked, world_stopped, world_found, world_started, may_begin, world_began, world_stepped, delivered, packet_of, happens, first_world, run, with_held}
-use Rattle.protocol_laws.specs.Laws.{WasSent, NoEventLowers, IsGuarded, IsBlocked, IsLost, NeverSurfaces, part_of}
+use Rattle.protocol.specs.Nodes.{Node, NodeStep, fresh_stamp, put, began, invoked, replica_at, full_at, requested, absorbed, stopped, restarted, known_after, carried_out, group_at, replied_at, replied, received}
+use Rattle.protocol.specs.Worlds.{World, Found, Before, After, Event, Invokes, Delivers, Sets, Ticks, Stops, Starts, replies_with, is_brick, is_up, may_start, world_ticked, world_stopped, world_found, world_started, may_begin, world_began, world_stepped, delivered, packet_of, happens, first_world, run}
+use Rattle.protocol_laws.specs.Laws.{WasSent}
 use Rattle.protocol_laws.proofs.Reactions.{handle_after}
-use Rattle.protocol_laws.proofs.Requests.{request_each, parts_keep}
+use Rattle.protocol_laws.proofs.Requests.{parts_keep}
+use Rattle.protocol_laws.proofs.Served.{request_each}
 use Rattle.protocol_laws.proofs.BooksEvents.{start_fits}
 use Rattle.protocol_laws.proofs.Left.{IsLeft, Leaves, always_leaves, leaves_happens}
-use Rattle.protocol_laws.proofs.Blocking.{HeldIsLogged, PartsStay, parts_then, passes_by, passes, blocked_by, blocked_stays, blocked_never_stands, count_split}
+use Rattle.protocol_laws.proofs.Blocking.{HeldIsLogged, PartsStay, parts_then}
 use Rattle.protocol_laws.proofs.Steps.{KeepsParts, keeps_same, parts_by, parts_kept, parts_same}
-use Rattle.protocol_laws.proofs.Growth.{guarded_stays}
-use Rattle.quorum.specs.Quorums.{IsWithinLimits}
-use Rattle.quorum.proofs.Counts.{count_monotone}
-use Rattle.protocol_laws.proofs.Logs.{below_above}
-
--- the bricks after a step
-stepped_nodes : (setting : Setting) (w : World) (me : BrickId) (step : NodeStep) (told : Told) → (world_stepped setting w me step told).nodes ≡ put w.nodes me.0 step.node
-stepped_nodes setting w me step Nothing = refl
-stepped_nodes setting w me step (Made seq t base) = refl
-stepped_nodes setting w me step (Answers seq answer seen) = refl
-
-stepped_held : (setting : Setting) (w : World) (me : BrickId) (step : NodeStep) (told : Told)
-    → (world_stepped setting w me step told).held ≡ with_held w.held me.0 step.node
-stepped_held setting w me step Nothing = refl
-stepped_held setting w me step (Made seq t base) = refl
-stepped_held setting w me step (Answers seq answer seen) = refl
 
 -- a coordinator's decision changes no part of a stripe
-decision_keeps : (setting : Setting) (group : Group) (me : BrickId) (node : Node) (known : ℕ) (c : Coordinator) (decision : Next)
-    → KeepsParts node (carried_out setting group me node known c decision).node
-decision_keeps setting group me node known c Ignores = keeps_same node (carried_out setting group me node known c Ignores).node refl
-decision_keeps setting group me node known c (Waits d) = keeps_same node (carried_out setting group me node known c (Waits d)).node refl
-decision_keeps setting group me node known c (Sends d) = keeps_same node (carried_out setting group me node known c (Sends d)).node refl
-decision_keeps setting group me node known c (Makes d) = keeps_same node (carried_out setting group me node known c (Makes d)).node refl
-decision_keeps setting group me node known c (Ends answer seen stored) =
-    keeps_same node (carried_out setting group me node known c (Ends answer seen stored)).node refl
+decision_keeps : (setting : Setting) (me : BrickId) (node : Node) (known : ℕ) (c : Coordinator) (decision : Next)
+    → KeepsParts node (carried_out setting me node known c decision).node
+decision_keeps setting me node known c Ignores = keeps_same node (carried_out setting me node known c Ignores).node refl
+decision_keeps setting me node known c (Waits d) = keeps_same node (carried_out setting me node known c (Waits d)).node refl
+decision_keeps setting me node known c (Sends d) = keeps_same node (carried_out setting me node known c (Sends d)).node refl
+decision_keeps setting me node known c (Makes d) = keeps_same node (carried_out setting me node known c (Makes d)).node refl
+decision_keeps setting me node known c (Ends answer seen stored) =
+    keeps_same node (carried_out setting me node known c (Ends answer seen stored)).node refl
 
 reply_keeps : (setting : Setting) (me : BrickId) (now : ℕ) (from : BrickId) (node : Node) (call : Call) (reply : Reply)
     → KeepsParts node (replied setting me now from node call reply).node
 unfolding replied
 reply_keeps setting me now from node call reply = at_call (node.calls call.seq)
   where
-    in_group : (c : Coordinator) (z : Option Group) → KeepsParts node (replied_to setting me now from node call reply c z).node
-    in_group c None = keeps_same node node refl
-    in_group c (Some group) =
-        decision_keeps setting group me node (known_after node.known reply) c
-        (on_reply setting.layout.block setting.code group (fresh_stamp me now node.boot (known_after node.known reply)) c from call reply)
-
     at_call : (z : Option Coordinator) → KeepsParts node (replied_at setting me now from node call reply z).node
     at_call None = keeps_same node (replied_at setting me now from node call reply None).node refl
-    at_call (Some c) = in_group c (group_of setting.layout c.ask.group.0)
+    at_call (Some c) =
+        decision_keeps setting me node (known_after node.known reply) c
+        (on_reply setting.layout.block setting.code (fresh_stamp me c.call.view now node.boot (known_after node.known reply)) c from call reply)
 
 request_keeps : (setting : Setting) (me from : BrickId) (node : Node) (call : Call) (request : Request)
     → KeepsParts node (requested setting me from node call request).node
 request_keeps setting me from node call request =
     request_each (λ step. KeepsParts node step.node) setting me from node call request (keeps_same node node refl)
-    (λ seat.
-    let full : Option ℕ = full_at setting.layout.records node in
+    (λ seat view.
+    let full : Option ℕ = full_at setting.layout.records node.live in
     parts_keep node call request (handle full seat (replica_at node call) request) (handle_after full seat (replica_at node call) request))
 
 pub message_keeps : (setting : Setting) (me from to : BrickId) (now : ℕ) (node : Node) (message : Message)
@@ -102,9 +80,8 @@ delivery_stays setting w None logged = parts_same w w refl refl logged
 delivery_stays setting w (Some packet) logged =
     let step : NodeStep = received setting packet.to (w.clocks packet.to.0) (w.nodes packet.to.0) packet in
     let counted : World = record w { replies = replies_with setting w packet } in
-    cond_both (is_up setting.layout w packet.to) (world_stepped setting counted packet.to step step.told) w (λ (next : World). PartsStay w next)
-    (λ is. parts_by w (world_stepped setting counted packet.to step step.told) packet.to.0 step.node (stepped_nodes setting counted packet.to step step.told)
-    (stepped_held setting counted packet.to step step.told) logged
+    cond_both (is_up setting.layout w packet.to) (world_stepped setting counted packet.to step) w (λ (next : World). PartsStay w next)
+    (λ is. parts_by w (world_stepped setting counted packet.to step) packet.to.0 step.node refl refl logged
     (message_keeps setting packet.to packet.from packet.to (w.clocks packet.to.0) (w.nodes packet.to.0) packet.message))
     (λ isnt. parts_same w w refl refl logged)
 
@@ -127,7 +104,7 @@ found_stays setting w brick After down leaves logged =
 invoked_replicas : (setting : Setting) (me : BrickId) (now : ℕ) (node : Node) (ask : Ask)
     → (invoked setting me now node ask).node.replicas ≡ node.replicas
 unfolding invoked
-invoked_replicas setting me now node ask = in_group (group_of setting.layout ask.group.0)
+invoked_replicas setting me now node ask = in_group (group_at setting.layout node ask.group.0)
   where
     in_group : (z : Option Group) → (began setting me now node ask z).node.replicas ≡ node.replicas
     in_group None = refl
@@ -179,38 +156,3 @@ parts_stay_on setting (event ∷ more) w leaves logged =
 pub always_logged : (setting : Setting) (events : List Event) → HeldIsLogged (run setting events (first_world setting.layout))
 always_logged setting events =
     (parts_stay_on setting events (first_world setting.layout) (always_leaves setting []) (λ i g s t. refl)).logged
-
--- no event of any run lowers a top, or adds a version below it
-pub no_event_lowers : NoEventLowers
-no_event_lowers setting events event sound =
-    let stay : PartsStay _ _
-    = parts_stay setting (run setting events (first_world setting.layout)) event (always_leaves setting events) (always_logged setting events) in
-    (stay.tops, stay.adds)
-
--- what is guarded stays guarded through any event
-pub stays_guarded_through : (setting : Setting) (w : World) (event : Event) (g s : ℕ) (group : Group) (t : Stamp) → Leaves setting w → HeldIsLogged w
-    → IsGuarded w g s group t
-    → IsGuarded (happens setting w event) g s group t
-stays_guarded_through setting w event g s group t leaves logged guarded = guarded_stays w (happens setting w event)
-    (parts_stay setting w event leaves logged).tops g s group t guarded
-
--- a lost version is blocked: a quorum is above it, and fewer than m of it have held it
-lost_blocked : (w : World) (g s : ℕ) (group : Group) (v : Stamp) → IsWithinLimits group.m (length group.members) → IsLost w g s group v → IsBlocked w g s group v
-lost_blocked w g s group v limits lost =
-    let held : ℕ → Bool = λ seat. w.held (brick_at group seat) g s v in
-    let split = count_split (length group.members) lost.seats held in
-    let more = count_monotone (length group.members) (λ k. lost.seats k && not (held k)) (passes_by w g s group v)
-    (λ k below is.
-    let parts = and_parts (lost.seats k) (not (held k)) is in
-    passes w g s group v k (below_above v lost.stamp (top_of (part_of w g s (brick_at group k))) lost.above (lost.passed k parts.0))
-    (not-true (held k) parts.1)) in
-    blocked_by w g s group v limits (omega (arith, split, more, lost.quorum, lost.few))
-
--- no quorum ever holds a lost version
-pub never_surfaces : NeverSurfaces
-never_surfaces setting events more g s group v sound group_is lost later =
-    let w : World = run setting events (first_world setting.layout) in
-    let blocked : IsBlocked w g s group v = lost_blocked w g s group v (sound.limits g group group_is) lost in
-    blocked_never_stands (run setting more w) g s group v
-    (blocked_stays w (run setting more w) (parts_stay_on setting more w (always_leaves setting events) (always_logged setting events))
-    g s group v blocked) later

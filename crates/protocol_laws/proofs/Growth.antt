@@ -19,6 +19,7 @@ use Rattle.messages.specs.declared.replies.Reply.{Reply}
 use Rattle.quorum.proofs.Counts.{count_monotone}
 use Rattle.fab_base.specs.Layouts.{Group}
 use Rattle.protocol.specs.Settings.{Setting}
+use Rattle.protocol.specs.Views.{view_of}
 use Rattle.protocol.specs.Replicas.{top_of, stamp_max}
 use Rattle.protocol.specs.declared.phases.Phase.{Phase}
 use Rattle.protocol.specs.declared.phases.Phase.TheVariants.{Orders, Recovers, Descends, Stores}
@@ -26,7 +27,9 @@ use Rattle.protocol.specs.declared.phases.Counted.{Counted}
 use Rattle.protocol.specs.Coordinators.{Coordinator, request_of}
 use Rattle.protocol.specs.Worlds.{World, Operation}
 use Rattle.fab_base.specs.Layouts.{brick_at}
-use Rattle.protocol_laws.specs.Laws.{WasSent, AskedAt, NeverFalls, part_of, IsGuarded}
+use Rattle.protocol_laws.specs.Laws.{WasSent, AskedAt, part_in}
+use Rattle.protocol_laws.proofs.Parts.{PartsNeverFall, part_of, PartsGuard}
+use Rattle.protocol_laws.proofs.FirstViews.{floor_at, part_floor, view_below}
 use Rattle.protocol_laws.proofs.Books.{Books, OperationBooks, IsOperation}
 use Rattle.protocol_laws.proofs.Blocking.{PartsStay, blocked_stays, stands_stays}
 use Rattle.protocol_laws.proofs.Said.{Stamping, IsBegun, IsStamped, IsRecovery, Stands, AreBlocked, IsContent, IsMadeOrFirst, IsKnown, IsCalled, IsBlockOf, VersionSays, WriteSays, RequestSays, OrderedSays, OrderedReadSays, FoundSays, ReplySays, MessageSays, PacketSays, HasVersion, WritesWhole, ReadsBack, OperationSays, CountedSays, CallSays, DataShown, EndShows}
@@ -70,13 +73,13 @@ pub record Grows (w next : World) (stamps later : Stamping) : Type 0 where
   pub marks : length w.marks ≤ length next.marks
 
 -- where no top falls, what is at or above t stays so
-pub above_stays : (w next : World) → NeverFalls w next → (g s i : ℕ) (t : Stamp) → stamp_below (top_of (part_of w g s i)) t ≡ false
+pub above_stays : (w next : World) → PartsNeverFall w next → (g s i : ℕ) (t : Stamp) → stamp_below (top_of (part_of w g s i)) t ≡ false
     → stamp_below (top_of (part_of next g s i)) t ≡ false
-above_stays w next tops g s i t above = stamp_not_below_trans t (top_of (part_of w g s i)) (top_of (part_of next g s i)) above (tops g s i)
+above_stays w next tops g s i t above = stamp_not_below_trans t (top_of (part_of w g s i)) (top_of (part_of next g s i)) above (tops g 1 s i)
 
 -- and what is guarded stays guarded
-pub guarded_stays : (w next : World) → NeverFalls w next → (g s : ℕ) (group : Group) (t : Stamp) → IsGuarded w g s group t
-    → IsGuarded next g s group t
+pub guarded_stays : (w next : World) → PartsNeverFall w next → (g s : ℕ) (group : Group) (t : Stamp) → PartsGuard w g s group t
+    → PartsGuard next g s group t
 guarded_stays w next tops g s group t guarded =
     let more = count_monotone (length group.members)
     (λ seat. not (stamp_below (top_of (part_of w g s (brick_at group seat))) t))
@@ -127,6 +130,7 @@ module _ (setting : Setting) (w next : World) (stamps later : Stamping) (books :
           seq = on.seq ∙ called.seq;
           group = ap (λ a. a.group.0) on.ask ∙ called.group;
           stripe = ap (λ a. a.stripe.0) on.ask ∙ called.stripe;
+          view = called.view;
         },
         on,
       )
@@ -148,7 +152,7 @@ module _ (setting : Setting) (w next : World) (stamps later : Stamping) (books :
   stays_above g s i t above = above_stays w next grows.parts.tops g s i t above
 
   -- what is guarded stays guarded
-  pub stays_guarded : (g s : ℕ) (group : Group) (t : Stamp) → IsGuarded w g s group t → IsGuarded next g s group t
+  pub stays_guarded : (g s : ℕ) (group : Group) (t : Stamp) → PartsGuard w g s group t → PartsGuard next g s group t
   stays_guarded g s group t guarded = guarded_stays w next grows.parts.tops g s group t guarded
 
   -- what is blocked stays blocked
@@ -213,7 +217,7 @@ module _ (setting : Setting) (w next : World) (stamps later : Stamping) (books :
         stamp = says.stamp;
         stamp_is = stays_phase i call.boot call.seq call.phase Orders says.stamp says.stamp_is;
         promised = stays_above call.group.0 call.stripe.0 j says.stamp says.promised;
-        floor = subst (λ (f : ℕ → Stamp). stamp_below says.stamp (f j) ≡ false) (sym goes.2.floor) says.floor;
+        floor = subst (λ (f : ℕ → Stamp). stamp_below says.stamp (part_floor (f j)) ≡ false) (sym goes.2.floor) says.floor;
       }
 
   pub stays_found : (j i : ℕ) (call : Call) (order : Stamp) (version : Version) → FoundSays setting w j i call order version
@@ -224,7 +228,7 @@ module _ (setting : Setting) (w next : World) (stamps later : Stamping) (books :
         operation = goes.0;
         called = goes.1;
         top = stays_above call.group.0 call.stripe.0 j (stamp_max order version.stamp) says.top;
-        floor = subst (λ (f : ℕ → Stamp). stamp_below (stamp_max order version.stamp) (f j) ≡ false) (sym goes.2.floor) says.floor;
+        floor = subst (λ (f : ℕ → Stamp). stamp_below (stamp_max order version.stamp) (part_floor (f j)) ≡ false) (sym goes.2.floor) says.floor;
         held = grows.parts.held call.group.0 call.stripe.0 j version.stamp says.held;
         says = stays_version call.group.0 call.stripe.0 j version says.says;
       }
@@ -245,14 +249,18 @@ module _ (setting : Setting) (w next : World) (stamps later : Stamping) (books :
         stamp = says.stamp;
         bound = says.bound;
         recovers = stays_recovery i call.boot call.seq call.phase says.bound says.stamp says.recovers;
+        view = says.view;
         promised = stays_above call.group.0 call.stripe.0 j says.stamp says.promised;
-        floor = subst (λ (f : ℕ → Stamp). stamp_below says.stamp (f j) ≡ false) (sym goes.2.floor) says.floor;
+        floor = subst (λ (f : ℕ → Stamp). stamp_below says.stamp (part_floor (f j)) ≡ false) (sym goes.2.floor) says.floor;
         newest = λ d held less. ⊎_elim
             (λ (was : w.held j call.group.0 call.stripe.0 d ≡ true). says.newest d was less)
-            (λ (new : stamp_below d (top_of (part_of w call.group.0 call.stripe.0 j)) ≡ false).
+            (λ (new : stamp_below d (top_of (part_in w call.group.0 (view_of d) call.stripe.0 j)) ≡ false).
+            let lower : stamp_below d says.stamp ≡ true = bound_within i call.boot call.seq call.phase says.bound says.stamp d says.recovers less in
             let above : stamp_below d says.stamp ≡ false = stamp_not_below_trans says.stamp
-            (top_of (part_of w call.group.0 call.stripe.0 j)) d says.promised new in
-            absurd (false≢true (sym above ∙ bound_within i call.boot call.seq call.phase says.bound says.stamp d says.recovers less)))
+            (top_of (part_of w call.group.0 call.stripe.0 j)) d says.promised
+            (subst (λ (e : ℕ). stamp_below d (top_of (part_in w call.group.0 e call.stripe.0 j)) ≡ false)
+            (view_below d says.stamp (omega (arith, says.view)) lower) new) in
+            absurd (false≢true (sym above ∙ lower)))
             (grows.parts.newer call.group.0 call.stripe.0 j d held);
         says = λ version is. stays_version call.group.0 call.stripe.0 j version (says.says version is);
       }
@@ -334,12 +342,12 @@ module _ (setting : Setting) (w next : World) (stamps later : Stamping) (books :
   pub stays_operation : (n : ℕ) (o : Operation) → IsOperation w n o → OperationSays setting w stamps n o → OperationSays setting next later n o
   stays_operation n o is says = record {
     begin = omega (arith, says.begin, grows.marks);
-    floors = λ i. stays_above o.ask.group.0 o.ask.stripe.0 i (o.floor i) (says.floors i);
-    floors_known = λ i. stays_known stamps later grows.grow (o.floor i) (says.floors_known i);
+    floors = λ i. stays_above o.ask.group.0 o.ask.stripe.0 i (floor_at o i) (says.floors i);
+    floors_known = λ i. stays_known stamps later grows.grow (floor_at o i) (says.floors_known i);
     fresh = λ i p stamped. ⊎_elim
-        (λ (own : (q : ℕ) × IsStamped stamps o.brick.0 o.boot o.seq q (o.floor i)). says.fresh i own.0 own.1)
-        (λ (unknown : IsKnown stamps (o.floor i) → ⊥). unknown (says.floors_known i))
-        (grows.grow.newer o.brick.0 o.boot o.seq p (o.floor i) stamped);
+        (λ (own : (q : ℕ) × IsStamped stamps o.brick.0 o.boot o.seq q (floor_at o i)). says.fresh i own.0 own.1)
+        (λ (unknown : IsKnown stamps (floor_at o i) → ⊥). unknown (says.floors_known i))
+        (grows.grow.newer o.brick.0 o.boot o.seq p (floor_at o i) stamped);
     made = λ made.
         let had = says.made made in (had.0, had.1, had.2, stays_stamp o.brick.0 o.boot o.seq had.1 had.0 had.3);
     maker = λ v made version. stays_maker n o v is made version (says.maker v made version);
@@ -366,11 +374,12 @@ module _ (setting : Setting) (w next : World) (stamps later : Stamping) (books :
     begun = subst (λ (b : ℕ). IsBegun later i b k c.call.phase c.phase c.stamp) (sym boot)
         (stays_phase i (w.nodes i).boot k c.call.phase c.phase c.stamp says.begun);
     last = λ p less. subst (λ (b : ℕ). later i b k p ≡ None) (sym boot) (same p ∙ says.last p less);
-    asked = λ group is seat member at.
-        grows.sent (record { from = record { 0 = i }; to = member; message = Message.Request c.call (request_of setting.code group.m c seat) })
-        (says.asked group is seat member at);
+    asked = λ seat member at.
+        grows.sent (record { from = record { 0 = i }; to = member; message = Message.Request c.call (request_of setting.code c seat) })
+        (says.asked seat member at);
     fits = says.fits;
     unbased = says.unbased;
+    given = says.given;
     above = says.above;
     below = says.below;
     covered = λ bound is.

@@ -1,6 +1,6 @@
 -- What the store of a stopped brick may hold when it starts: what it kept when it stopped, or what the handling of a message that was sent to it
 -- makes of that.
-use Rattle.std.proofs.Common.{◌≡◌, ◌≢◌, ℕ, zero, suc, ◌⊎◌, inl, inr, ⊎_elim, Bool, true, false, not, ◌&&◌, if◌then◌else◌, List, [], ◌∷◌, ◌++◌, Option, Some, None, is_some, refl, sym, ap, ◌∙◌, subst}
+use Rattle.std.proofs.Common.{◌≡◌, ◌≢◌, ℕ, zero, suc, ◌⊎◌, inl, inr, ⊎_elim, Bool, true, false, not, ◌&&◌, List, [], ◌∷◌, ◌++◌, Option, Some, None, is_some, refl, sym, ap, ◌∙◌, subst}
 use Rattle.std.specs.Prelude.{slice_get, nat_eq}
 use Rattle.std.proofs.lemmas.Bool.{cond_both, and_parts, cases_eq, eqb-true, both_ways}
 use Rattle.fab_base.specs.declared.identities.BrickId.{BrickId}
@@ -8,13 +8,14 @@ use Rattle.messages.specs.declared.calls.Call.{Call}
 use Rattle.messages.specs.declared.packets.Message.{Message}
 use Rattle.messages.specs.declared.packets.Packet.{Packet}
 use Rattle.messages.specs.declared.requests.Request.{Request}
-use Rattle.fab_base.specs.Layouts.{Group, group_of, seat_in}
+use Rattle.fab_base.specs.Layouts.{Group}
 use Rattle.protocol.specs.Settings.{Setting}
 use Rattle.protocol.specs.declared.phases.Counted.{Counted}
 use Rattle.protocol.specs.declared.tellings.Told.{Told}
-use Rattle.protocol.specs.declared.tellings.Told.TheVariants.{Nothing, Made, Answers}
-use Rattle.protocol.specs.Nodes.{Node, NodeStep, put, no_step, is_stripe_op, refusal_of, requested_at, is_served, fits_block, requested_in, requested, absorbed, stopped, restarted, invoked, received}
-use Rattle.protocol.specs.Worlds.{World, Found, Before, After, Event, Invokes, Delivers, Sets, Ticks, Stops, Starts, first_world, is_brick, is_up, may_begin, may_start, world_began, world_stepped, world_ticked, left_after, packet_during, world_stopped, world_found, world_started, replies_with, delivered, packet_of, happens, run}
+use Rattle.protocol.specs.declared.tellings.Told.TheVariants.{Made, Seen}
+use Rattle.protocol.specs.declared.tellings.Answered.{Answered}
+use Rattle.protocol.specs.Nodes.{Node, NodeStep, group_at, put, is_stripe_op, refusal_of, requested_at, seat_served, requested_in, requested, absorbed, stopped, restarted, invoked, received}
+use Rattle.protocol.specs.Worlds.{World, Found, Before, After, Event, Invokes, Delivers, Sets, Ticks, Stops, Starts, first_world, is_brick, is_up, may_begin, may_start, world_began, world_told, world_tells, world_answered, world_answers, world_stepped, world_ticked, left_after, packet_during, world_stopped, world_found, world_started, replies_with, delivered, packet_of, happens, run}
 use Rattle.protocol_laws.specs.Laws.{WasSent}
 use Rattle.protocol_laws.proofs.Puts.{put_other}
 use Rattle.protocol_laws.proofs.Tables.{put_same, get_kept}
@@ -23,23 +24,17 @@ use Rattle.protocol_laws.proofs.Tables.{put_same, get_kept}
 requested_stopped : (setting : Setting) (me from : BrickId) (node : Node) (call : Call) (request : Request)
     → (requested setting me from (stopped node) call request).node ≡ stopped (requested setting me from node call request).node
 unfolding requested stopped
-requested_stopped setting me from node call request = in_group (group_of setting.layout call.group.0)
+requested_stopped setting me from node call request = in_group (group_at setting.layout node call.group.0)
   where
     at_seat : (z : Option ℕ) → (requested_at setting.layout.records me from (stopped node) call request z).node
         ≡ stopped (requested_at setting.layout.records me from node call request z).node
     at_seat None = refl
     at_seat (Some seat) = refl
 
-    by : (group : Group) (t : Bool)
-        → (if t then requested_at setting.layout.records me from (stopped node) call request (seat_in group.members me.0) else no_step (stopped node)).node
-        ≡ stopped (if t then requested_at setting.layout.records me from node call request (seat_in group.members me.0) else no_step node).node
-    by group true = at_seat (seat_in group.members me.0)
-    by group false = refl
-
     in_group : (z : Option Group) → (requested_in setting.layout me from (stopped node) call request z).node
         ≡ stopped (requested_in setting.layout me from node call request z).node
     in_group None = refl
-    in_group (Some group) = by group (is_served group call && fits_block setting.layout.block request)
+    in_group (Some group) = at_seat (seat_served setting.layout me node call request (Some group))
 
 absorbed_stopped : (setting : Setting) (me from to : BrickId) (node : Node) (message : Message)
     → absorbed setting me (stopped node) (record { from = from; to = to; message = message })
@@ -93,16 +88,45 @@ steps_on : (w : World) (b : ℕ) (node : Node) → w.up b ≡ true → (i : ℕ)
     → (w.up i ≡ false) × (put w.nodes b node i ≡ w.nodes i) × (w.after i ≡ w.after i)
 steps_on w b node up i down = (down, put_other w.nodes b node i (apart w i b down up), refl)
 
-leaves_stepped : (setting : Setting) (w : World) (replies : ℕ → ℕ → List Counted) (me : BrickId) (step : NodeStep) (told : Told) → w.up me.0 ≡ true
-    → Leaves setting w → Leaves setting (world_stepped setting (record w { replies = replies }) me step told)
-leaves_stepped setting w replies me step Nothing up leaves =
-    leaves_on setting w (world_stepped setting (record w { replies = replies }) me step Nothing) (steps_on w me.0 step.node up)
-    (λ packet sent. (sent.0, get_kept w.packets step.packets sent.0 packet sent.1)) leaves
-leaves_stepped setting w replies me step (Made seq t base) up leaves =
-    leaves_on setting w (world_stepped setting (record w { replies = replies }) me step (Made seq t base)) (steps_on w me.0 step.node up)
-    (λ packet sent. (sent.0, get_kept w.packets step.packets sent.0 packet sent.1)) leaves
-leaves_stepped setting w replies me step (Answers seq answer seen) up leaves =
-    leaves_on setting w (world_stepped setting (record w { replies = replies }) me step (Answers seq answer seen)) (steps_on w me.0 step.node up)
+-- what the tellings and answers of a step leave as it is
+pub told_same : {A : Type 0} (setting : Setting) (read : World → A) (brick : BrickId)
+    → ((w : World) (told : Told) → read (world_told setting w brick told) ≡ read w) → (told : List Told) (w : World)
+    → read (world_tells setting w brick told) ≡ read w
+told_same setting read brick one [] w = refl
+told_same setting read brick one (told ∷ more) w = told_same setting read brick one more (world_told setting w brick told) ∙ one w told
+
+pub answered_same : {A : Type 0} (read : World → A) (brick : BrickId) → ((w : World) (answered : Answered) → read (world_answered w brick answered) ≡ read w)
+    → (answers : List Answered) (w : World) → read (world_answers w brick answers) ≡ read w
+answered_same read brick one [] w = refl
+answered_same read brick one (answered ∷ more) w = answered_same read brick one more (world_answered w brick answered) ∙ one w answered
+
+-- which bricks are up, and what the stores of those that are down would have kept, are as before a step
+up_told : (setting : Setting) (brick : BrickId) (w : World) (told : Told) → (world_told setting w brick told).up ≡ w.up
+up_told setting brick w (Made seq t base) = refl
+up_told setting brick w (Seen seq v) = refl
+
+up_stepped : (setting : Setting) (w : World) (me : BrickId) (step : NodeStep) → (world_stepped setting w me step).up ≡ w.up
+up_stepped setting w me step =
+    answered_same (λ x. x.up) me (λ x answered. refl) step.answers (world_tells setting w me step.told)
+    ∙ told_same setting (λ x. x.up) me (up_told setting me) step.told w
+
+after_told : (setting : Setting) (brick : BrickId) (w : World) (told : Told) → (world_told setting w brick told).after ≡ w.after
+after_told setting brick w (Made seq t base) = refl
+after_told setting brick w (Seen seq v) = refl
+
+after_stepped : (setting : Setting) (w : World) (me : BrickId) (step : NodeStep) → (world_stepped setting w me step).after ≡ w.after
+after_stepped setting w me step =
+    answered_same (λ x. x.after) me (λ x answered. refl) step.answers (world_tells setting w me step.told)
+    ∙ told_same setting (λ x. x.after) me (after_told setting me) step.told w
+
+leaves_stepped : (setting : Setting) (w : World) (replies : ℕ → ℕ → List Counted) (me : BrickId) (step : NodeStep) → w.up me.0 ≡ true
+    → Leaves setting w → Leaves setting (world_stepped setting (record w { replies = replies }) me step)
+leaves_stepped setting w replies me step up leaves =
+    let counted : World = record w { replies = replies } in
+    leaves_on setting w (world_stepped setting counted me step)
+    (λ i down.
+    let was : w.up i ≡ false = ap (λ (f : ℕ → Bool). f i) (sym (up_stepped setting counted me step)) ∙ down in
+    (was, put_other w.nodes me.0 step.node i (apart w i me.0 was up), ap (λ (f : ℕ → Node). f i) (after_stepped setting counted me step)))
     (λ packet sent. (sent.0, get_kept w.packets step.packets sent.0 packet sent.1)) leaves
 
 leaves_delivered : (setting : Setting) (w : World) (packet : Option Packet) → Leaves setting w → Leaves setting (delivered setting w packet)
@@ -110,8 +134,8 @@ leaves_delivered setting w None leaves = leaves
 leaves_delivered setting w (Some packet) leaves =
     let step : NodeStep = received setting packet.to (w.clocks packet.to.0) (w.nodes packet.to.0) packet in
     let counted : World = record w { replies = replies_with setting w packet } in
-    cond_both (is_up setting.layout w packet.to) (world_stepped setting counted packet.to step step.told) w (λ (next : World). Leaves setting next)
-    (λ up. leaves_stepped setting w (replies_with setting w packet) packet.to step step.told
+    cond_both (is_up setting.layout w packet.to) (world_stepped setting counted packet.to step) w (λ (next : World). Leaves setting next)
+    (λ up. leaves_stepped setting w (replies_with setting w packet) packet.to step
     (and_parts (is_brick setting.layout packet.to) (w.up packet.to.0) up).1 leaves)
     (λ down. leaves)
 

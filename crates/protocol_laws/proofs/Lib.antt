@@ -15,6 +15,7 @@ pub mod Ends
 pub mod Entries
 pub mod EveryRun
 pub mod Falls
+pub mod FirstViews
 pub mod Growth
 pub mod Left
 pub mod Lives
@@ -25,6 +26,7 @@ pub mod Numbers
 pub mod Operated
 pub mod Outcomes
 pub mod OwnStamps
+pub mod Parts
 pub mod Puts
 pub mod QuorumFacts
 pub mod Reactions
@@ -35,6 +37,7 @@ pub mod RisingMarks
 pub mod Said
 pub mod SaidAlways
 pub mod Sends
+pub mod Served
 pub mod Sorting
 pub mod Stampings
 pub mod Steps
@@ -45,5 +48,6 @@ pub mod Tallies
 pub mod TalliesCounts
 pub mod TalliesEvents
 pub mod TalliesKept
+pub mod ViewLaws
 pub mod Walks
 pub mod Words

@@ -39,6 +39,15 @@ held_cases d x log held = ⊎_elim
 held_here : (x : Version) (log : List Version) → is_held x.stamp (x ∷ log) ≡ true
 held_here x log = or_left (stamp_same x.stamp x.stamp) (is_held x.stamp log) (stamp_same_refl x.stamp)
 
+-- a version that is held stands in the log
+pub held_stands : (t : Stamp) (log : List Version) → is_held t log ≡ true
+    → (k : ℕ) × (version : Version) × (slice_get log k ≡ Some version) × (version.stamp ≡ t)
+held_stands t [] held = absurd (false≢true held)
+held_stands t (x ∷ log) held = ⊎_elim
+    (λ (here : x.stamp ≡ t). (0, x, refl, here))
+    (λ (there : is_held t log ≡ true). let rest = held_stands t log there in (suc rest.0, rest.1, rest.2, rest.3))
+    (held_cases t x log held)
+
 -- the last version stands in the log
 pub newest_stands : (log : List Version) (version : Version) → newest_of log ≡ Some version → (k : ℕ) × (slice_get log k ≡ Some version)
 newest_stands [] version is = cc

@@ -1,5 +1,5 @@
 -- What a member told was true of it when it told it.
-use Rattle.std.proofs.Common.{◌≡◌, ℕ, zero, suc, ◌+◌, ◌≤◌, ◌⊎◌, inl, inr, ⊎_elim, List, [], ◌∷◌, ◌++◌, length, Option, Some, None, refl, sym, ap, ◌∙◌, subst, arith}
+use Rattle.std.proofs.Common.{nat_lt, ◌≡◌, ℕ, true, zero, suc, ◌+◌, ◌≤◌, ◌⊎◌, inl, inr, ⊎_elim, List, [], ◌∷◌, ◌++◌, length, Option, Some, None, refl, sym, ap, ◌∙◌, subst, arith}
 use Rattle.std.specs.Prelude.{slice_get, nat_eq}
 use Rattle.std.proofs.lemmas.Bool.{cond_both}
 use Rattle.std.proofs.lemmas.List.{append-nil}
@@ -13,17 +13,16 @@ use Rattle.messages.specs.declared.packets.Message.{Message}
 use Rattle.messages.specs.declared.packets.Packet.{Packet}
 use Rattle.messages.specs.declared.requests.Request.{Request}
 use Rattle.messages.specs.declared.replies.Reply.{Reply}
-use Rattle.fab_base.specs.Layouts.{Group, group_of}
+use Rattle.fab_base.specs.Layouts.{Group}
 use Rattle.protocol.specs.Settings.{Setting}
 use Rattle.protocol.specs.Replicas.{Replica, Reaction, top_of, is_held, is_wanted, told_version, stays, unless_full, promised, stored, looked_up, handle}
 use Rattle.protocol.specs.declared.phases.Counted.{Counted}
 use Rattle.protocol.specs.Coordinators.{Coordinator, Next, Ignores, Waits, Sends, Makes, Ends, has_seat, request_of, on_reply}
-use Rattle.protocol.specs.declared.tellings.Told.{Told}
-use Rattle.protocol.specs.declared.tellings.Told.TheVariants.{Nothing, Made, Answers}
-use Rattle.protocol.specs.Nodes.{Node, NodeStep, replica_at, full_at, reply_packets, to_members, collect_packets, resent_to, resent_in, resent, resent_up_to, ticked, began, invoked, requested, known_after, fresh_stamp, carried_out, replied_to, replied_at, replied, received}
+use Rattle.protocol.specs.Nodes.{view_at, Node, NodeStep, replica_at, full_at, reply_packets, to_members, collect_packets, resent_to, resent, resent_up_to, ticked, began, invoked, requested, known_after, fresh_stamp, carried_out, group_at, replied_at, replied, received}
 use Rattle.protocol.specs.Worlds.{World, Found, Before, After, Event, Invokes, Delivers, Sets, Ticks, Stops, Starts, first_world, is_brick, is_up, may_begin, may_start, world_began, world_stepped, world_ticked, world_stopped, world_found, world_started, replies_with, delivered, packet_of, happens, run}
-use Rattle.protocol_laws.specs.Laws.{part_of, RefusalIsTrue, Sending, RefusalsWereTrue}
-use Rattle.protocol_laws.proofs.Requests.{request_each}
+use Rattle.protocol_laws.specs.Laws.{RefusalIsTrue, Sending, RefusalsWereTrue}
+use Rattle.protocol_laws.proofs.FirstViews.{AreInFirst, view_first, top_told}
+use Rattle.protocol_laws.proofs.Served.{request_each}
 use Rattle.protocol_laws.proofs.Tables.{get_grown, sent_to_member}
 
 -- what a packet refuses is true of its sender in a world
@@ -51,9 +50,9 @@ members_true : (w : World) (me : BrickId) (call : Call) (request : ℕ → Reque
 members_true w me call request seat members k packet at =
     let sent = sent_to_member me call request seat members k packet at in subst (λ (z : Packet). IsTrue w z) (sym sent.2) tt
 
-collects_true : (w : World) (group : Group) (me : BrickId) (call : Call) (stored : Option Stamp) → AreTrue w (collect_packets group me call stored)
-collects_true w group me call None = none_true w
-collects_true w group me call (Some t) = members_true w me call (λ seat. Request.Collect t) 0 group.members
+collects_true : (w : World) (me : BrickId) (c : Coordinator) (stored : Option Stamp) → AreTrue w (collect_packets me c stored)
+collects_true w me c None = none_true w
+collects_true w me c (Some t) = members_true w me c.call (λ seat. Request.Collect t) 0 c.group.members
 
 one_true : (w : World) (one : Packet) (rest : List Packet) → IsTrue w one → AreTrue w rest → AreTrue w (one ∷ rest)
 one_true w one rest first others zero packet at = subst (λ (z : Packet). IsTrue w z) (same_Some one packet at) first
@@ -75,18 +74,14 @@ ticked_true setting w me calls zero = none_true w
 ticked_true setting w me calls (suc k) =
     true_both w (resent_up_to setting me calls k) (resent setting me (calls (suc k))) (ticked_true setting w me calls k) (of_call (calls (suc k)))
   where
-    in_group : (c : Coordinator) (z : Option Group) → AreTrue w (resent_in setting me c z)
-    in_group c None = none_true w
-    in_group c (Some group) = resent_true w me c.call (request_of setting.code group.m c) c.counted 0 group.members
-
     of_call : (z : Option Coordinator) → AreTrue w (resent setting me z)
     of_call None = none_true w
-    of_call (Some c) = in_group c (group_of setting.layout c.ask.group.0)
+    of_call (Some c) = resent_true w me c.call (request_of setting.code c) c.counted 0 c.group.members
 
--- a reply refuses only what is so: a later stamp is the part's own, and live records are as many as there may be
+-- a reply refuses only what is so: a later stamp is the part's own, and above another one; and live records are as many as there may be
 abbrev SaysTrue : Option ℕ → Replica → Option Reply → Type 0
 SaysTrue full replica None = Unit {0}
-SaysTrue full replica (Some (Reply.Later x)) = top_of replica ≡ x
+SaysTrue full replica (Some (Reply.Later x)) = (top_of replica ≡ x) × ((t : Stamp) × (stamp_below t x ≡ true))
 SaysTrue full replica (Some (Reply.Full live)) = full ≡ Some live
 SaysTrue full replica (Some reply) = Unit {0}
 
@@ -94,23 +89,23 @@ unless_full_true : (full whole : Option ℕ) (replica : Replica) (reaction : Rea
     → SaysTrue whole replica (unless_full full replica reaction).reply
 unless_full_true None whole replica reaction is says = says
 unless_full_true (Some live) whole replica reaction is says =
-    cond_both reaction.adds (stays replica (Reply.Full live)) reaction (λ (z : Reaction). SaysTrue whole replica z.reply) (λ adds. is) (λ isnt. says)
+    cond_both (nat_lt reaction.drops reaction.adds) (stays replica (Reply.Full live)) reaction (λ (z : Reaction). SaysTrue whole replica z.reply) (λ adds. is) (λ isnt. says)
 
 handle_true : (full : Option ℕ) (seat : ℕ) (replica : Replica) (request : Request) → SaysTrue full replica (handle full seat replica request).reply
 unfolding handle
 handle_true full seat replica (Request.Read want) = tt
 handle_true full seat replica (Request.Order t) =
     cond_both (stamp_below t (top_of replica)) (stays replica (Reply.Later (top_of replica))) _ (λ (z : Reaction). SaysTrue full replica z.reply)
-    (λ below. refl) (λ at. unless_full_true full full replica (promised replica t Reply.Ordered) refl tt)
+    (λ below. (refl, (t, below))) (λ at. unless_full_true full full replica (promised replica t Reply.Ordered) refl tt)
 handle_true full seat replica (Request.Write t block) =
     cond_both (is_held t replica.log) (stays replica Reply.Stored) _ (λ (z : Reaction). SaysTrue full replica z.reply)
     (λ held. tt)
     (λ isnt. cond_both (stamp_below t (top_of replica)) (stays replica (Reply.Later (top_of replica))) _
     (λ (z : Reaction). SaysTrue full replica z.reply)
-    (λ below. refl) (λ at. unless_full_true full full replica (stored replica t block) refl tt))
+    (λ below. (refl, (t, below))) (λ at. unless_full_true full full replica (stored replica t block) refl tt))
 handle_true full seat replica (Request.OrderRead t look want) =
     cond_both (stamp_below t (top_of replica)) (stays replica (Reply.Later (top_of replica))) _ (λ (z : Reaction). SaysTrue full replica z.reply)
-    (λ below. refl)
+    (λ below. (refl, (t, below)))
     (λ at. unless_full_true full full replica
     (promised replica t (Reply.OrderedRead (told_version (is_wanted want seat) (looked_up look replica.log)))) refl tt)
 handle_true full seat replica (Request.Modify t base j delta) = tt
@@ -120,66 +115,66 @@ handle_true full seat replica (Request.Prepare ballot) = tt
 handle_true full seat replica (Request.Accept ballot members) = tt
 
 -- as many live records as there may be are as many as the brick keeps
-full_live : (records : ℕ) (node : Node) (live : ℕ) → full_at records node ≡ Some live → node.live ≡ live
+full_live : (records : ℕ) (node : Node) (live : ℕ) → full_at records node.live ≡ Some live → node.live ≡ live
 full_live records node live is =
     cond_both (nat_eq node.live records) (Some node.live) None (λ (z : Option ℕ). z ≡ Some live → node.live ≡ live)
     (λ same e. same_Some node.live live e) (λ other e. cc) is
 
-replies_true : (records : ℕ) (w : World) (me to : BrickId) (call : Call) (reply : Option Reply)
-    → SaysTrue (full_at records (w.nodes me.0)) (part_of w call.group.0 call.stripe.0 me.0) reply → AreTrue w (reply_packets me to call reply)
-replies_true records w me to call None says = none_true w
-replies_true records w me to call (Some reply) says =
+replies_true : (setting : Setting) (w : World) (me to : BrickId) (call : Call) (reply : Option Reply) → AreInFirst setting.layout w
+    → call.view.0 ≡ view_at (w.nodes me.0) call.group.0
+    → SaysTrue (full_at setting.layout.records (w.nodes me.0).live) (replica_at (w.nodes me.0) call) reply → AreTrue w (reply_packets me to call reply)
+replies_true setting w me to call None first view says = none_true w
+replies_true setting w me to call (Some reply) first view says =
     one_true w (record { from = me; to = to; message = Message.Reply call reply }) [] (said reply says) (none_true w)
   where
-    said : (r : Reply) → SaysTrue (full_at records (w.nodes me.0)) (part_of w call.group.0 call.stripe.0 me.0) (Some r)
+    said : (r : Reply) → SaysTrue (full_at setting.layout.records (w.nodes me.0).live) (replica_at (w.nodes me.0) call) (Some r)
         → IsTrue w (record { from = me; to = to; message = Message.Reply call r })
-    said (Reply.Later x) is = is
-    said (Reply.Full live) is = full_live records (w.nodes me.0) live is
+    said (Reply.Later x) is =
+        top_told setting.layout (w.nodes me.0) call.group.0 call.stripe.0 is.1.0 x (first.bricks me.0) (first.tops call.group.0 call.stripe.0 me.0)
+        (ap (λ (e : ℕ). top_of ((w.nodes me.0).replicas call.group.0 e call.stripe.0))
+        (sym (view ∙ view_first setting.layout (w.nodes me.0) call.group.0 (first.bricks me.0))) ∙ is.0) is.1.1
+    said (Reply.Full live) is = full_live setting.layout.records (w.nodes me.0) live is
     said r is = tt
 
 -- what a step on a message sends
-requested_true : (setting : Setting) (w : World) (me from : BrickId) (call : Call) (request : Request)
+requested_true : (setting : Setting) (w : World) (me from : BrickId) (call : Call) (request : Request) → AreInFirst setting.layout w
     → AreTrue w (requested setting me from (w.nodes me.0) call request).packets
-requested_true setting w me from call request =
+requested_true setting w me from call request first =
     request_each (λ step. AreTrue w step.packets) setting me from (w.nodes me.0) call request (none_true w)
-    (λ seat. replies_true setting.layout.records w me from call
-    (handle (full_at setting.layout.records (w.nodes me.0)) seat (replica_at (w.nodes me.0) call) request).reply
-    (handle_true (full_at setting.layout.records (w.nodes me.0)) seat (replica_at (w.nodes me.0) call) request))
+    (λ seat view. replies_true setting w me from call
+    (handle (full_at setting.layout.records (w.nodes me.0).live) seat (replica_at (w.nodes me.0) call) request).reply first view
+    (handle_true (full_at setting.layout.records (w.nodes me.0).live) seat (replica_at (w.nodes me.0) call) request))
 
-carried_true : (setting : Setting) (w : World) (group : Group) (me : BrickId) (node : Node) (known : ℕ) (c : Coordinator) (next : Next)
-    → AreTrue w (carried_out setting group me node known c next).packets
-carried_true setting w group me node known c Ignores = none_true w
-carried_true setting w group me node known c (Waits d) = none_true w
-carried_true setting w group me node known c (Sends d) = members_true w me d.call (request_of setting.code group.m d) 0 group.members
-carried_true setting w group me node known c (Makes d) = members_true w me d.call (request_of setting.code group.m d) 0 group.members
-carried_true setting w group me node known c (Ends answer seen held) = collects_true w group me c.call held
+carried_true : (setting : Setting) (w : World) (me : BrickId) (node : Node) (known : ℕ) (c : Coordinator) (next : Next)
+    → AreTrue w (carried_out setting me node known c next).packets
+carried_true setting w me node known c Ignores = none_true w
+carried_true setting w me node known c (Waits d) = none_true w
+carried_true setting w me node known c (Sends d) = members_true w me d.call (request_of setting.code d) 0 d.group.members
+carried_true setting w me node known c (Makes d) = members_true w me d.call (request_of setting.code d) 0 d.group.members
+carried_true setting w me node known c (Ends answer seen held) = collects_true w me c held
 
 replied_true : (setting : Setting) (w : World) (me : BrickId) (now : ℕ) (from : BrickId) (call : Call) (reply : Reply)
     → AreTrue w (replied setting me now from (w.nodes me.0) call reply).packets
 unfolding replied
 replied_true setting w me now from call reply = at_call ((w.nodes me.0).calls call.seq)
   where
-    in_group : (c : Coordinator) (z : Option Group) → AreTrue w (replied_to setting me now from (w.nodes me.0) call reply c z).packets
-    in_group c None = none_true w
-    in_group c (Some group) =
-        carried_true setting w group me (w.nodes me.0) (known_after (w.nodes me.0).known reply) c
-        (on_reply setting.layout.block setting.code group
-        (fresh_stamp me now (w.nodes me.0).boot (known_after (w.nodes me.0).known reply)) c from call reply)
-
     at_call : (z : Option Coordinator) → AreTrue w (replied_at setting me now from (w.nodes me.0) call reply z).packets
     at_call None = none_true w
-    at_call (Some c) = in_group c (group_of setting.layout c.ask.group.0)
+    at_call (Some c) =
+        carried_true setting w me (w.nodes me.0) (known_after (w.nodes me.0).known reply) c
+        (on_reply setting.layout.block setting.code
+        (fresh_stamp me c.call.view now (w.nodes me.0).boot (known_after (w.nodes me.0).known reply)) c from call reply)
 
-received_true : (setting : Setting) (w : World) (now : ℕ) (from to : BrickId) (message : Message)
+received_true : (setting : Setting) (w : World) (now : ℕ) (from to : BrickId) (message : Message) → AreInFirst setting.layout w
     → AreTrue w (received setting to now (w.nodes to.0) (record { from = from; to = to; message = message })).packets
 unfolding received
-received_true setting w now from to (Message.Request call request) = requested_true setting w to from call request
-received_true setting w now from to (Message.Reply call reply) = replied_true setting w to now from call reply
-received_true setting w now from to message = none_true w
+received_true setting w now from to (Message.Request call request) first = requested_true setting w to from call request first
+received_true setting w now from to (Message.Reply call reply) first = replied_true setting w to now from call reply
+received_true setting w now from to message first = none_true w
 
 invoked_true : (setting : Setting) (w : World) (me : BrickId) (now : ℕ) (ask : Ask) → AreTrue w (invoked setting me now (w.nodes me.0) ask).packets
 unfolding invoked
-invoked_true setting w me now ask = in_group (group_of setting.layout ask.group.0)
+invoked_true setting w me now ask = in_group (group_at setting.layout (w.nodes me.0) ask.group.0)
   where
     in_group : (z : Option Group) → AreTrue w (began setting me now (w.nodes me.0) ask z).packets
     in_group None = none_true w
@@ -195,23 +190,19 @@ adds_none : (w next : World) → next.packets ≡ w.packets → AddsTrue w next
 adds_none w next same =
     record { more = []; packets = same ∙ sym (append-nil w.packets); are_true = none_true w }
 
-stepped_adds : (setting : Setting) (w before : World) (me : BrickId) (step : NodeStep) (told : Told) → before.packets ≡ w.packets → AreTrue w step.packets
-    → AddsTrue w (world_stepped setting before me step told)
-stepped_adds setting w before me step Nothing same says =
-    record { more = step.packets; packets = ap (λ (l : List Packet). l ++ step.packets) same; are_true = says }
-stepped_adds setting w before me step (Made seq t base) same says =
-    record { more = step.packets; packets = ap (λ (l : List Packet). l ++ step.packets) same; are_true = says }
-stepped_adds setting w before me step (Answers seq answer seen) same says =
+stepped_adds : (setting : Setting) (w before : World) (me : BrickId) (step : NodeStep) → before.packets ≡ w.packets → AreTrue w step.packets
+    → AddsTrue w (world_stepped setting before me step)
+stepped_adds setting w before me step same says =
     record { more = step.packets; packets = ap (λ (l : List Packet). l ++ step.packets) same; are_true = says }
 
-delivered_adds : (setting : Setting) (w : World) (packet : Option Packet) → AddsTrue w (delivered setting w packet)
-delivered_adds setting w None = adds_none w w refl
-delivered_adds setting w (Some packet) =
+delivered_adds : (setting : Setting) (w : World) (packet : Option Packet) → AreInFirst setting.layout w → AddsTrue w (delivered setting w packet)
+delivered_adds setting w None first = adds_none w w refl
+delivered_adds setting w (Some packet) first =
     let step : NodeStep = received setting packet.to (w.clocks packet.to.0) (w.nodes packet.to.0) packet in
     let counted : World = record w { replies = replies_with setting w packet } in
-    cond_both (is_up setting.layout w packet.to) (world_stepped setting counted packet.to step step.told) w (λ (next : World). AddsTrue w next)
-    (λ up. stepped_adds setting w counted packet.to step step.told refl
-    (received_true setting w (w.clocks packet.to.0) packet.from packet.to packet.message))
+    cond_both (is_up setting.layout w packet.to) (world_stepped setting counted packet.to step) w (λ (next : World). AddsTrue w next)
+    (λ up. stepped_adds setting w counted packet.to step refl
+    (received_true setting w (w.clocks packet.to.0) packet.from packet.to packet.message first))
     (λ down. adds_none w w refl)
 
 found_adds : (w : World) (brick : BrickId) (openings : ℕ) (found : Found) → AddsTrue w (world_started (world_found w brick found) brick openings)
@@ -219,17 +210,17 @@ found_adds w brick openings Before = adds_none w _ refl
 found_adds w brick openings After = adds_none w _ refl
 
 -- through any event
-happens_adds : (setting : Setting) (w : World) (event : Event) → AddsTrue w (happens setting w event)
+happens_adds : (setting : Setting) (w : World) (event : Event) → AreInFirst setting.layout w → AddsTrue w (happens setting w event)
 unfolding happens ticked
-happens_adds setting w (Invokes brick ask) =
+happens_adds setting w (Invokes brick ask) first =
     let step : NodeStep = invoked setting brick (w.clocks brick.0) (w.nodes brick.0) ask in
     cond_both (may_begin setting w brick ask) (world_began w brick ask step) w (λ (next : World). AddsTrue w next)
     (λ may. record { more = step.packets; packets = refl; are_true = invoked_true setting w brick (w.clocks brick.0) ask })
     (λ isnt. adds_none w w refl)
-happens_adds setting w (Delivers number) = delivered_adds setting w (packet_of w.packets number)
-happens_adds setting w (Sets brick time) =
+happens_adds setting w (Delivers number) first = delivered_adds setting w (packet_of w.packets number) first
+happens_adds setting w (Sets brick time) first =
     cond_both (is_brick setting.layout brick) _ w (λ (next : World). AddsTrue w next) (λ is. adds_none w _ refl) (λ isnt. adds_none w w refl)
-happens_adds setting w (Ticks brick) =
+happens_adds setting w (Ticks brick) first =
     cond_both (is_up setting.layout w brick) (world_ticked setting w brick) w (λ (next : World). AddsTrue w next)
     (λ up. record {
       more = ticked setting brick (w.nodes brick.0);
@@ -237,10 +228,10 @@ happens_adds setting w (Ticks brick) =
       are_true = ticked_true setting w brick (w.nodes brick.0).calls (w.nodes brick.0).seq;
     })
     (λ down. adds_none w w refl)
-happens_adds setting w (Stops brick during) =
+happens_adds setting w (Stops brick during) first =
     cond_both (is_up setting.layout w brick) (world_stopped setting w brick during) w (λ (next : World). AddsTrue w next)
     (λ up. adds_none w (world_stopped setting w brick during) refl) (λ down. adds_none w w refl)
-happens_adds setting w (Starts brick openings found) =
+happens_adds setting w (Starts brick openings found) first =
     cond_both (may_start setting.layout w brick openings) (world_started (world_found w brick found) brick openings) w
     (λ (next : World). AddsTrue w next) (λ may. found_adds w brick openings found) (λ cannot. adds_none w w refl)
 
@@ -265,13 +256,14 @@ abbrev WasTrue : Setting → World → ℕ → Packet → Type 0
 WasTrue setting w k packet = (sending : Sending setting w k) × RefusalIsTrue sending.moment packet.from packet.message
 
 -- each packet of a run that goes on from a moment was there, or was sent when it was true
-true_on : (setting : Setting) (earlier events : List Event) (w : World) → w ≡ run setting earlier (first_world setting.layout)
+true_on : (setting : Setting) (earlier events : List Event) (w : World)
+    → ((moment : List Event) → AreInFirst setting.layout (run setting moment (first_world setting.layout))) → w ≡ run setting earlier (first_world setting.layout)
     → (k : ℕ) (packet : Packet) → slice_get (run setting events w).packets k ≡ Some packet
     → (slice_get w.packets k ≡ Some packet) ⊎ WasTrue setting (run setting events w) k packet
-true_on setting earlier [] w is k packet at = inl at
-true_on setting earlier (event ∷ events) w is k packet at =
+true_on setting earlier [] w first is k packet at = inl at
+true_on setting earlier (event ∷ events) w first is k packet at =
     let next : World = happens setting w event in
-    let adds : AddsTrue w next = happens_adds setting w event in
+    let adds : AddsTrue w next = happens_adds setting w event (subst (λ (x : World). AreInFirst setting.layout x) (sym is) (first earlier)) in
     ⊎_elim
     (λ (was : slice_get next.packets k ≡ Some packet). ⊎_elim
     (λ (old : slice_get w.packets k ≡ Some packet). inl old)
@@ -290,12 +282,13 @@ true_on setting earlier (event ∷ events) w is k packet at =
     ))
     (get_behind w.packets adds.more k packet (ap (λ (l : List Packet). slice_get l k) (sym adds.packets) ∙ was)))
     (λ (sent : WasTrue setting (run setting events next) k packet). inr sent)
-    (true_on setting (earlier ++ (event ∷ [])) events next
+    (true_on setting (earlier ++ (event ∷ [])) events next first
     (ap (λ (x : World). happens setting x event) is ∙ sym (run_more setting earlier event (first_world setting.layout))) k packet at)
 
 -- each refusal of a run was true when it was sent
-pub refusals_true : (setting : Setting) (events : List Event) → RefusalsWereTrue setting (run setting events (first_world setting.layout))
-refusals_true setting events k packet at = ⊎_elim
+pub refusals_true : (setting : Setting) (events : List Event)
+    → ((moment : List Event) → AreInFirst setting.layout (run setting moment (first_world setting.layout))) → RefusalsWereTrue setting (run setting events (first_world setting.layout))
+refusals_true setting events first k packet at = ⊎_elim
     (λ (none : slice_get [] k ≡ Some packet). absurd (let never : ⊥ = cc in never))
     (λ (sent : WasTrue setting (run setting events (first_world setting.layout)) k packet). sent)
-    (true_on setting [] events (first_world setting.layout) refl k packet at)
+    (true_on setting [] events (first_world setting.layout) first refl k packet at)

@@ -10,9 +10,10 @@ use Rattle.reg_model.specs.declared.marks.Mark.TheVariants.{Begin, End, Crash}
 use Rattle.reg_model.specs.Marks.{begun_numbers}
 use Rattle.protocol.specs.Settings.{Setting}
 use Rattle.protocol.specs.declared.tellings.Told.{Told}
-use Rattle.protocol.specs.declared.tellings.Told.TheVariants.{Nothing, Made, Answers}
+use Rattle.protocol.specs.declared.tellings.Told.TheVariants.{Made, Seen}
+use Rattle.protocol.specs.declared.tellings.Answered.{Answered}
 use Rattle.protocol.specs.Nodes.{NodeStep, invoked, received}
-use Rattle.protocol.specs.Worlds.{World, Found, Before, After, Event, Invokes, Delivers, Sets, Ticks, Stops, Starts, is_brick, is_up, may_begin, may_start, world_began, world_stepped, world_ticked, world_stopped, world_found, world_started, replies_with, delivered, packet_of, happens, run}
+use Rattle.protocol.specs.Worlds.{World, Found, Before, After, Event, Invokes, Delivers, Sets, Ticks, Stops, Starts, is_brick, is_up, may_begin, may_start, world_began, world_told, world_tells, world_answered, world_answers, world_stepped, world_ticked, world_stopped, world_found, world_started, replies_with, delivered, packet_of, happens, run}
 use Rattle.protocol_laws.proofs.MarkLists.{begun_numbers-append, slice_get_push}
 
 -- the numbers that have begun are 1, 2, 3 and so on, as many as there are operations
@@ -49,19 +50,28 @@ numbered_more marks mark begun one numbered =
           (slice_get_push (begun_numbers marks) (begun + 1) n k (ap (λ (l : List ℕ). slice_get l k) (sym same) ∙ is));
     }
 
--- a step of a brick marks an end, or nothing
-numbered_stepped : (setting : Setting) (w : World) (me : BrickId) (step : NodeStep) (told : Told) → IsNumbered w → IsNumbered (world_stepped setting w me step told)
-numbered_stepped setting w me step Nothing numbered = numbered
-numbered_stepped setting w me step (Made seq t base) numbered = numbered
-numbered_stepped setting w me step (Answers seq answer seen) numbered = numbered_on w.marks (End (length w.marks) _ answer) w.begun refl numbered
+-- what a step tells marks nothing, and each answer marks an end
+numbered_tells : (setting : Setting) (me : BrickId) (told : List Told) (w : World) → IsNumbered w → IsNumbered (world_tells setting w me told)
+numbered_tells setting me [] w numbered = numbered
+numbered_tells setting me (Made seq t base ∷ more) w numbered = numbered_tells setting me more (world_told setting w me (Made seq t base)) numbered
+numbered_tells setting me (Seen seq v ∷ more) w numbered = numbered_tells setting me more (world_told setting w me (Seen seq v)) numbered
+
+numbered_answers : (me : BrickId) (answers : List Answered) (w : World) → IsNumbered w → IsNumbered (world_answers w me answers)
+numbered_answers me [] w numbered = numbered
+numbered_answers me (answered ∷ more) w numbered =
+    numbered_answers me more (world_answered w me answered) (numbered_on w.marks (End (length w.marks) _ answered.answer) w.begun refl numbered)
+
+numbered_stepped : (setting : Setting) (w : World) (me : BrickId) (step : NodeStep) → IsNumbered w → IsNumbered (world_stepped setting w me step)
+numbered_stepped setting w me step numbered =
+    numbered_answers me step.answers (world_tells setting w me step.told) (numbered_tells setting me step.told w numbered)
 
 numbered_delivered : (setting : Setting) (w : World) (packet : Option Packet) → IsNumbered w → IsNumbered (delivered setting w packet)
 numbered_delivered setting w None numbered = numbered
 numbered_delivered setting w (Some packet) numbered =
     let step : NodeStep = received setting packet.to (w.clocks packet.to.0) (w.nodes packet.to.0) packet in
     let counted : World = record w { replies = replies_with setting w packet } in
-    cond_both (is_up setting.layout w packet.to) (world_stepped setting counted packet.to step step.told) w (λ (next : World). IsNumbered next)
-    (λ up. numbered_stepped setting counted packet.to step step.told numbered) (λ down. numbered)
+    cond_both (is_up setting.layout w packet.to) (world_stepped setting counted packet.to step) w (λ (next : World). IsNumbered next)
+    (λ up. numbered_stepped setting counted packet.to step numbered) (λ down. numbered)
 
 numbered_found : (w : World) (brick : BrickId) (openings : ℕ) (found : Found) → IsNumbered w
     → IsNumbered (world_started (world_found w brick found) brick openings)

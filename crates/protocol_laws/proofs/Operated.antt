@@ -136,12 +136,12 @@ said_operated setting w stamps later me node more marks n o p contents books sai
     let after : World = operated w me node more marks n p contents in
     said_after setting w after stamps later books said (operated_grows setting w stamps later me node more marks n o p contents keeps said.logged grow) (record {
       stamps_say = owes.stamps_say;
-      tops = λ g s i. inl (put_each (λ j x. top_of (x.replicas g s) ≡ top_of ((w.nodes j).replicas g s)) w.nodes me.0 node
-          (ap (λ r. top_of (r g s)) keeps.replicas) (λ j other. refl) i);
+      tops = λ g s i. inl (put_each (λ j x. top_of (x.replicas g 1 s) ≡ top_of ((w.nodes j).replicas g 1 s)) w.nodes me.0 node
+          (ap (λ r. top_of (r g 1 s)) keeps.replicas) (λ j other. refl) i);
       logs = λ g s i k version is. inl
-          (put_each (λ j x. slice_get (x.replicas g s).log k ≡ Some version
-          → slice_get ((w.nodes j).replicas g s).log k ≡ Some version) w.nodes me.0 node
-          (λ has. ap (λ r. slice_get (r g s).log k) (sym keeps.replicas) ∙ has) (λ j other has. has) i is);
+          (put_each (λ j x. slice_get (x.replicas g 1 s).log k ≡ Some version
+          → slice_get ((w.nodes j).replicas g 1 s).log k ≡ Some version) w.nodes me.0 node
+          (λ has. ap (λ r. slice_get (r g 1 s).log k) (sym keeps.replicas) ∙ has) (λ j other has. has) i is);
       packets = λ k packet is. ⊎_elim
           (λ (old : slice_get w.packets k ≡ Some packet). inl old)
           (λ (new : (j : ℕ) × (slice_get more j ≡ Some packet)). inr (owes.packets new.0 packet new.1))

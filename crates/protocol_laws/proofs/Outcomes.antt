@@ -3,8 +3,6 @@ use Rattle.std.proofs.Common.{◌≡◌, ℕ, ◌+◌, ◌<◌, ◌≤◌, ◌�
 use Rattle.std.specs.Prelude.{nat_lt}
 use Rattle.std.proofs.lemmas.Bool.{cond_both, false≢true, ltb-true, ltb-false}
 use Rattle.fab_base.specs.declared.asks.Ask.{Ask}
-use Rattle.fab_base.specs.declared.asks.Op.{Op}
-use Rattle.fab_base.specs.declared.asks.Op.TheVariants.{ReadBlock, WriteBlock, ReadStripe, WriteStripe}
 use Rattle.fab_base.specs.declared.identities.BrickId.{BrickId}
 use Rattle.fab_base.specs.declared.stamps.Stamp.{Stamp}
 use Rattle.fab_base.specs.declared.answers.Answer.{Answer}
@@ -13,18 +11,20 @@ use Rattle.fab_base.specs.declared.answers.Cause.{Cause}
 use Rattle.messages.specs.declared.calls.Call.{Call}
 use Rattle.fab_base.specs.Layouts.{Group}
 use Rattle.quorum.specs.Quorums.{quorum_of}
+use Rattle.reg_model.specs.Registers.{read_of}
 use Rattle.protocol.specs.Settings.{Code}
 use Rattle.protocol.specs.declared.phases.Phase.{Phase}
 use Rattle.protocol.specs.declared.phases.Phase.TheVariants.{Looks, Orders, Recovers, Descends, Stores}
 use Rattle.protocol.specs.declared.phases.Counted.{Counted}
 use Rattle.protocol.specs.declared.phases.Refuser.{Refuser}
 use Rattle.protocol.specs.declared.phases.FullMember.{FullMember}
-use Rattle.protocol.specs.Coordinators.{Coordinator, Next, Ignores, Waits, Sends, Makes, Ends, next_phase, in_phase, restoring, reordering, forgetting, most_rounds, aborted_by, unless_told_full, ordered_again, once_ordered, unless_refused, answered_fast, read_back, answer_of, pieces_at, greatest_refuser, lowest_full, greatest_found, fast_version, decided, once_full}
+use Rattle.protocol.specs.Coordinators.{Coordinator, Next, Ignores, Waits, Sends, Makes, Ends, next_phase, in_phase, restoring, reordering, forgetting, most_rounds, aborted_by, unless_told_full, ordered_again, once_ordered, unless_refused, answered_fast, read_back, answer_with, pieces_at, greatest_refuser, lowest_full, greatest_found, fast_version, decided, once_full}
 use Rattle.protocol.specs.Worlds.{is_answer}
 
 -- the coordinator of the same operation, under the same call
 pub record SameOperation (c d : Coordinator) : Type 0 where
   pub ask : d.ask ≡ c.ask
+  pub members : d.group ≡ c.group
   pub boot : d.call.boot ≡ c.call.boot
   pub seq : d.call.seq ≡ c.call.seq
   pub group : d.call.group ≡ c.call.group
@@ -165,18 +165,18 @@ NextFits fresh c (Makes d) = MakesFits c d
 NextFits fresh c (Ends answer seen stored) = EndFits c.phase answer seen × AnswerFits fresh c answer
 
 -- a coordinator of these parts
-abbrev at : Ask → Stamp → ℕ → Option Stamp → List ℕ → Call → Phase → List Counted → Coordinator
-at ask stamp round base content call phase counted =
-    record { ask = ask; stamp = stamp; round = round; base = base; content = content; call = call; phase = phase; counted = counted }
+abbrev at : Group → Ask → Stamp → ℕ → Option Stamp → List ℕ → Call → Phase → List Counted → Coordinator
+at group ask stamp round base content call phase counted =
+    record { group = group; ask = ask; stamp = stamp; round = round; base = base; content = content; call = call; phase = phase; counted = counted }
 
-module _ (ask : Ask) (stamp : Stamp) (round : ℕ) (base : Option Stamp) (content : List ℕ) (call : Call) (counted : List Counted) where
+module _ (group : Group) (ask : Ask) (stamp : Stamp) (round : ℕ) (base : Option Stamp) (content : List ℕ) (call : Call) (counted : List Counted) where
   -- the coordinator in a phase
   abbrev within : Phase → Coordinator
-  within phase = at ask stamp round base content call phase counted
+  within phase = at group ask stamp round base content call phase counted
 
   waits_fits : (phase : Phase) → WaitsFits (within phase) (within phase)
   waits_fits phase = record {
-    same = record { ask = refl; boot = refl; seq = refl; group = refl; view = refl; stripe = refl };
+    same = record { ask = refl; members = refl; boot = refl; seq = refl; group = refl; view = refl; stripe = refl };
     stamp = refl;
     round = refl;
     base = refl;
@@ -188,7 +188,7 @@ module _ (ask : Ask) (stamp : Stamp) (round : ℕ) (base : Option Stamp) (conten
   forgets_fits : (phase : Phase) → greatest_refuser counted ≡ None → lowest_full counted ≡ None
       → WaitsFits (within phase) (forgetting (within phase))
   forgets_fits phase none roomy = record {
-    same = record { ask = refl; boot = refl; seq = refl; group = refl; view = refl; stripe = refl };
+    same = record { ask = refl; members = refl; boot = refl; seq = refl; group = refl; view = refl; stripe = refl };
     stamp = refl;
     round = refl;
     base = refl;
@@ -199,7 +199,7 @@ module _ (ask : Ask) (stamp : Stamp) (round : ℕ) (base : Option Stamp) (conten
 
   makes_fits : (phase : Phase) → MakesFits (within phase) (in_phase (within phase) Stores)
   makes_fits phase = record {
-    same = record { ask = refl; boot = refl; seq = refl; group = refl; view = refl; stripe = refl };
+    same = record { ask = refl; members = refl; boot = refl; seq = refl; group = refl; view = refl; stripe = refl };
     phase = refl;
     stamp = refl;
     round = refl;
@@ -209,7 +209,7 @@ module _ (ask : Ask) (stamp : Stamp) (round : ℕ) (base : Option Stamp) (conten
 
   restores_fits : (phase : Phase) (v : Stamp) (bytes : List ℕ) → MakesFits (within phase) (restoring (within phase) v bytes)
   restores_fits phase v bytes = record {
-    same = record { ask = refl; boot = refl; seq = refl; group = refl; view = refl; stripe = refl };
+    same = record { ask = refl; members = refl; boot = refl; seq = refl; group = refl; view = refl; stripe = refl };
     phase = refl;
     stamp = refl;
     round = refl;
@@ -220,7 +220,7 @@ module _ (ask : Ask) (stamp : Stamp) (round : ℕ) (base : Option Stamp) (conten
   descends_fits : (fresh : Option Stamp) (phase : Phase) (v : Stamp) → (phase ≡ Stores → ⊥)
       → SendsFits fresh (within phase) (in_phase (within phase) (Descends v))
   descends_fits fresh phase v unmade = record {
-    same = record { ask = refl; boot = refl; seq = refl; group = refl; view = refl; stripe = refl };
+    same = record { ask = refl; members = refl; boot = refl; seq = refl; group = refl; view = refl; stripe = refl };
     base = refl;
     call = refl;
     counted = refl;
@@ -228,26 +228,26 @@ module _ (ask : Ask) (stamp : Stamp) (round : ℕ) (base : Option Stamp) (conten
     how = inr (record { stamp = refl; round = refl; phase = inr (v, refl) });
   }
 
-  answered_fast_fits : (code : Code) (m : ℕ) (fresh v : Option Stamp) → NextFits fresh (within Looks) (answered_fast code m (within Looks) v)
-  answered_fast_fits code m fresh None = record {
-    same = record { ask = refl; boot = refl; seq = refl; group = refl; view = refl; stripe = refl };
+  answered_fast_fits : (code : Code) (fresh v : Option Stamp) → NextFits fresh (within Looks) (answered_fast code (within Looks) v)
+  answered_fast_fits code fresh None = record {
+    same = record { ask = refl; members = refl; boot = refl; seq = refl; group = refl; view = refl; stripe = refl };
     base = refl;
     call = refl;
     counted = refl;
     unmade = λ is. cc;
     how = inr (record { stamp = refl; round = refl; phase = inl (refl, refl) });
   }
-  answered_fast_fits code m fresh (Some v) = ((λ is. (v, refl)), tt)
+  answered_fast_fits code fresh (Some v) = ((λ is. (v, refl)), tt)
 
-  read_back_fits : (code : Code) (m : ℕ) (fresh : Option Stamp) (phase : Phase) (v : Option Stamp) → (phase ≡ Stores → ⊥)
-      → greatest_refuser counted ≡ None → lowest_full counted ≡ None → NextFits fresh (within phase) (read_back code m (within phase) v)
-  read_back_fits code m fresh phase None unmade none roomy = forgets_fits phase none roomy
-  read_back_fits code m fresh phase (Some v) unmade none roomy =
-      cond_both (nat_lt (length (pieces_at v counted)) m) (Sends (in_phase (within phase) (Descends v)))
-      (Makes (restoring (within phase) v (code.decode m (pieces_at v counted))))
+  read_back_fits : (code : Code) (fresh : Option Stamp) (phase : Phase) (v : Option Stamp) → (phase ≡ Stores → ⊥)
+      → greatest_refuser counted ≡ None → lowest_full counted ≡ None → NextFits fresh (within phase) (read_back code (within phase) v)
+  read_back_fits code fresh phase None unmade none roomy = forgets_fits phase none roomy
+  read_back_fits code fresh phase (Some v) unmade none roomy =
+      cond_both (nat_lt (length (pieces_at v counted)) group.m) (Sends (in_phase (within phase) (Descends v)))
+      (Makes (restoring (within phase) v (code.decode group.m (pieces_at v counted))))
       (λ (next : Next). NextFits fresh (within phase) next)
       (λ few. descends_fits fresh phase v unmade)
-      (λ enough. restores_fits phase v (code.decode m (pieces_at v counted)))
+      (λ enough. restores_fits phase v (code.decode group.m (pieces_at v counted)))
 
   -- an abort in a phase that is no round of ordering, or in the last one
   aborts_fits : (fresh : Option Stamp) (phase : Phase) (r : Refuser) → greatest_refuser counted ≡ Some r → LastFits fresh (within phase) phase
@@ -269,7 +269,7 @@ module _ (ask : Ask) (stamp : Stamp) (round : ℕ) (base : Option Stamp) (conten
       cond_both (nat_lt round most_rounds) (Sends (reordering (within phase) t)) (aborted_by r)
       (λ (next : Next). NextFits (Some t) (within phase) next)
       (λ few. record {
-        same = record { ask = refl; boot = refl; seq = refl; group = refl; view = refl; stripe = refl };
+        same = record { ask = refl; members = refl; boot = refl; seq = refl; group = refl; view = refl; stripe = refl };
         base = refl;
         call = refl;
         counted = refl;
@@ -290,42 +290,40 @@ module _ (ask : Ask) (stamp : Stamp) (round : ℕ) (base : Option Stamp) (conten
   ordered_fits fresh None refused = makes_fits Orders
   ordered_fits fresh (Some r) refused = again_fits fresh Orders r tt (λ f none. none) (λ is. cc) refused
 
-  recovered_fits : (code : Code) (m : ℕ) (fresh : Option Stamp) (r : Option Refuser) → greatest_refuser counted ≡ r → lowest_full counted ≡ None
-      → NextFits fresh (within Recovers) (once_ordered fresh (within Recovers) r (read_back code m (within Recovers) (greatest_found counted)))
-  recovered_fits code m fresh None refused roomy = read_back_fits code m fresh Recovers (greatest_found counted) (λ is. cc) refused roomy
-  recovered_fits code m fresh (Some r) refused roomy = again_fits fresh Recovers r tt (λ f none. none) (λ is. cc) refused
+  recovered_fits : (code : Code) (fresh : Option Stamp) (r : Option Refuser) → greatest_refuser counted ≡ r → lowest_full counted ≡ None
+      → NextFits fresh (within Recovers) (once_ordered fresh (within Recovers) r (read_back code (within Recovers) (greatest_found counted)))
+  recovered_fits code fresh None refused roomy = read_back_fits code fresh Recovers (greatest_found counted) (λ is. cc) refused roomy
+  recovered_fits code fresh (Some r) refused roomy = again_fits fresh Recovers r tt (λ f none. none) (λ is. cc) refused
 
-  descended_fits : (code : Code) (m : ℕ) (fresh : Option Stamp) (bound : Stamp) (r : Option Refuser) → greatest_refuser counted ≡ r
-      → lowest_full counted ≡ None → NextFits fresh (within (Descends bound)) (unless_refused r (read_back code m (within (Descends bound)) (greatest_found counted)))
-  descended_fits code m fresh bound None refused roomy =
-      read_back_fits code m fresh (Descends bound) (greatest_found counted) (λ is. cc) refused roomy
-  descended_fits code m fresh bound (Some r) refused roomy = aborts_fits fresh (Descends bound) r refused tt
+  descended_fits : (code : Code) (fresh : Option Stamp) (bound : Stamp) (r : Option Refuser) → greatest_refuser counted ≡ r
+      → lowest_full counted ≡ None → NextFits fresh (within (Descends bound)) (unless_refused r (read_back code (within (Descends bound)) (greatest_found counted)))
+  descended_fits code fresh bound None refused roomy =
+      read_back_fits code fresh (Descends bound) (greatest_found counted) (λ is. cc) refused roomy
+  descended_fits code fresh bound (Some r) refused roomy = aborts_fits fresh (Descends bound) r refused tt
 
-  answer_fits : (fresh : Option Stamp) (op : Op) → AnswerFits fresh (within Stores) (answer_of op content)
-  answer_fits fresh (ReadBlock j) = tt
-  answer_fits fresh (WriteBlock j bytes) = tt
-  answer_fits fresh ReadStripe = tt
-  answer_fits fresh (WriteStripe bytes) = tt
+  answer_fits : (fresh : Option Stamp) (read : Option (List ℕ)) → AnswerFits fresh (within Stores) (answer_with read)
+  answer_fits fresh None = tt
+  answer_fits fresh (Some bytes) = tt
 
-  stored_fits : (fresh stored : Option Stamp) (r : Option Refuser) → greatest_refuser counted ≡ r
-      → NextFits fresh (within Stores) (unless_refused r (Ends (answer_of ask.op content) None stored))
-  stored_fits fresh stored None refused = (tt, answer_fits fresh ask.op)
-  stored_fits fresh stored (Some r) refused = aborts_fits fresh Stores r refused tt
+  stored_fits : (fresh stored : Option Stamp) (read : Option (List ℕ)) (r : Option Refuser) → greatest_refuser counted ≡ r
+      → NextFits fresh (within Stores) (unless_refused r (Ends (answer_with read) None stored))
+  stored_fits fresh stored read None refused = (tt, answer_fits fresh read)
+  stored_fits fresh stored read (Some r) refused = aborts_fits fresh Stores r refused tt
 
-  decided_fits : (code : Code) (m : ℕ) (fresh : Option Stamp) (phase : Phase) → NextFits fresh (within phase) (decided code m fresh (within phase))
+  decided_fits : (block : ℕ) (code : Code) (fresh : Option Stamp) (phase : Phase) → NextFits fresh (within phase) (decided block code fresh (within phase))
   unfolding decided
-  decided_fits code m fresh Looks = unless_told_fits fresh Looks _ (lowest_full counted) refl (λ roomy. answered_fast_fits code m fresh (fast_version counted))
-  decided_fits code m fresh Orders = unless_told_fits fresh Orders _ (lowest_full counted) refl (λ roomy. ordered_fits fresh (greatest_refuser counted) refl)
-  decided_fits code m fresh Recovers =
-      unless_told_fits fresh Recovers _ (lowest_full counted) refl (recovered_fits code m fresh (greatest_refuser counted) refl)
-  decided_fits code m fresh (Descends bound) =
-      unless_told_fits fresh (Descends bound) _ (lowest_full counted) refl (descended_fits code m fresh bound (greatest_refuser counted) refl)
-  decided_fits code m fresh Stores =
-      unless_told_fits fresh Stores _ (lowest_full counted) refl (λ roomy. stored_fits fresh (Some stamp) (greatest_refuser counted) refl)
+  decided_fits block code fresh Looks = unless_told_fits fresh Looks _ (lowest_full counted) refl (λ roomy. answered_fast_fits code fresh (fast_version counted))
+  decided_fits block code fresh Orders = unless_told_fits fresh Orders _ (lowest_full counted) refl (λ roomy. ordered_fits fresh (greatest_refuser counted) refl)
+  decided_fits block code fresh Recovers =
+      unless_told_fits fresh Recovers _ (lowest_full counted) refl (recovered_fits code fresh (greatest_refuser counted) refl)
+  decided_fits block code fresh (Descends bound) =
+      unless_told_fits fresh (Descends bound) _ (lowest_full counted) refl (descended_fits code fresh bound (greatest_refuser counted) refl)
+  decided_fits block code fresh Stores =
+      unless_told_fits fresh Stores _ (lowest_full counted) refl (λ roomy. stored_fits fresh (Some stamp) (read_of block ask.op content) (greatest_refuser counted) refl)
 
 -- what a coordinator decides, with a quorum of replies or without, fits it
-pub once_full_fits : (code : Code) (group : Group) (fresh : Option Stamp) (c : Coordinator) → NextFits fresh c (once_full code group fresh c)
-once_full_fits code group fresh c =
-    cond_both (nat_lt (length c.counted) (quorum_of group)) _ _ (λ (next : Next). NextFits fresh c next)
-    (λ few. waits_fits c.ask c.stamp c.round c.base c.content c.call c.counted c.phase)
-    (λ enough. decided_fits c.ask c.stamp c.round c.base c.content c.call c.counted code group.m fresh c.phase)
+pub once_full_fits : (block : ℕ) (code : Code) (fresh : Option Stamp) (c : Coordinator) → NextFits fresh c (once_full block code fresh c)
+once_full_fits block code fresh c =
+    cond_both (nat_lt (length c.counted) (quorum_of c.group)) _ _ (λ (next : Next). NextFits fresh c next)
+    (λ few. waits_fits c.group c.ask c.stamp c.round c.base c.content c.call c.counted c.phase)
+    (λ enough. decided_fits c.group c.ask c.stamp c.round c.base c.content c.call c.counted block code fresh c.phase)

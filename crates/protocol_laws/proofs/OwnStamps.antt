@@ -12,6 +12,7 @@ use Rattle.messages.specs.declared.requests.Look.TheVariants as Look
 use Rattle.messages.specs.declared.requests.Want.TheVariants as Want
 use Rattle.messages.specs.declared.requests.Request.{Request}
 use Rattle.protocol.specs.Settings.{Setting}
+use Rattle.protocol.specs.Views.{view_of}
 use Rattle.protocol.specs.declared.phases.Phase.{Phase}
 use Rattle.protocol.specs.declared.phases.Phase.TheVariants.{Orders, Recovers, Descends, Stores}
 use Rattle.protocol.specs.Coordinators.{Coordinator}
@@ -19,6 +20,7 @@ use Rattle.protocol.specs.Worlds.{World, Operation}
 use Rattle.protocol_laws.specs.Laws.{WasSent, WriteSent, OrderSent, AskedAt}
 use Rattle.protocol_laws.proofs.Books.{Books, OperationBooks, IsOperation, IsCall}
 use Rattle.protocol_laws.proofs.Said.{Stamping, Said, IsMadeOrFirst, IsBegun, IsStamped, RequestSays, WriteSays}
+use Rattle.protocol_laws.proofs.FirstViews.{IsOfFirst, above_floor, view_is}
 use Rattle.protocol_laws.proofs.Stampings.{not_first, begun_once}
 
 module _ (setting : Setting) (w : World) (stamps : Stamping) (books : Books setting w) (said : Said setting w stamps) where
@@ -49,6 +51,21 @@ module _ (setting : Setting) (w : World) (stamps : Stamping) (books : Books sett
   maker_stamp n o v is made version =
       let had = (said.operations n o is).made made in
       (had.1, subst (λ (t : Stamp). IsStamped stamps o.brick.0 o.boot o.seq had.1 t) (same_Some had.0 v (sym had.2 ∙ version)) had.3)
+
+  -- versions are of view 1
+  pub made_view : (g s : ℕ) (t : Stamp) → IsMadeOrFirst w g s t → view_of t ≡ 1
+  made_view g s t (inl first) = ap (λ (u : Stamp). view_of u) first
+  made_view g s t (inr made) =
+      let stamp = maker_stamp made.0 made.1 t made.2 made.5 made.6 in
+      view_is t (said.stamps_say.are made.1.brick.0 made.1.boot made.1.seq stamp.0 t stamp.1).view
+
+  -- and the first, or above the floor of the view
+  pub made_first : (g s : ℕ) (t : Stamp) → IsMadeOrFirst w g s t → IsOfFirst t
+  made_first g s t (inl first) = inl first
+  made_first g s t (inr made) =
+      let stamp = maker_stamp made.0 made.1 t made.2 made.5 made.6 in
+      let of = said.stamps_say.are made.1.brick.0 made.1.boot made.1.seq stamp.0 t stamp.1 in
+      inr (above_floor t of.view of.positive)
 
   -- a version that was made is not the first
   pub made_later : (n : ℕ) (o : Operation) (v : Stamp) → IsOperation w n o → o.made ≡ true → o.version ≡ Some v → v ≡ first_stamp → ⊥

@@ -1,42 +1,35 @@
 -- What quorums make true of the versions of a world, for the walk along them.
-use Rattle.std.proofs.Common.{◌≡◌, ℕ, ◌≤◌, ◌⊎◌, inl, inr, true, false, not, List, length, Option, Some, None, sym, ap, ◌∙◌, subst, ⊎_elim, arith, []}
+use Rattle.std.proofs.Common.{◌≡◌, ℕ, ◌≤◌, ◌⊎◌, inl, inr, true, false, not, List, length, Option, Some, sym, ap, ◌∙◌, subst, ⊎_elim, arith}
 use Rattle.std.specs.Prelude.{nat_eq}
 use Rattle.std.proofs.lemmas.Bool.{and_parts, cases_Bool, eqb-true, not-true}
 use Rattle.std.proofs.lemmas.Option.{same_Some}
-use Rattle.fab_base.specs.declared.identities.BrickId.{BrickId}
 use Rattle.fab_base.specs.declared.stamps.Stamp.{Stamp}
 use Rattle.fab_base.specs.declared.asks.Op.{Op}
 use Rattle.fab_base.specs.declared.asks.Op.TheVariants.{ReadStripe, WriteStripe}
 use Rattle.fab_base.specs.declared.answers.Answer.TheVariants.{Data}
 use Rattle.fab_base.specs.Stamps.{stamp_below, first_stamp}
 use Rattle.fab_base.proofs.StampOrder.{stamp_not_below_trans, stamp_neither_below}
-use Rattle.messages.specs.declared.calls.Call.{Call}
 use Rattle.messages.specs.declared.packets.Message.TheVariants as Message
-use Rattle.messages.specs.declared.requests.Request.TheVariants as Request
-use Rattle.messages.specs.declared.requests.Version.{Version}
 use Rattle.messages.specs.declared.replies.Reply.{Reply}
 use Rattle.quorum.specs.Quorums.{IsWithinLimits, both}
 use Rattle.quorum.proofs.Counts.{count_some, quorums_share}
 use Rattle.reg_model.specs.Marks.{Life, life_of, Answered}
 use Rattle.reg_model.specs.Registers.{zero_registers}
 use Rattle.reg_model.specs.Walk.{last_of}
-use Rattle.fab_base.specs.Layouts.{Group, group_of, seat_in}
+use Rattle.fab_base.specs.Layouts.{Group, group_of}
 use Rattle.protocol.specs.Settings.{Setting, IsSound}
-use Rattle.protocol.specs.Coordinators.{told_in}
-use Rattle.protocol.specs.Worlds.{World, Event, Operation, zero_content, first_world, run, content_on}
+use Rattle.protocol.specs.Worlds.{World, Operation, zero_content, content_on}
 use Rattle.fab_base.specs.Layouts.{brick_at}
-use Rattle.protocol_laws.specs.Laws.{IsBlocked, OneContent, ContentsAreMade, BasesAreNewest, WritesAreGuarded, StoredIsHeld, FollowsRealTime, FullIsFull, WriteSent}
+use Rattle.protocol_laws.specs.Laws.{ContentsAreMade, StoredIsHeld, FollowsRealTime, FullIsFull}
 use Rattle.protocol_laws.specs.Marked.{WordsFit}
+use Rattle.protocol_laws.proofs.FirstViews.{floor_at}
 use Rattle.protocol_laws.proofs.Books.{Books, OperationBooks, IsOperation}
 use Rattle.protocol_laws.proofs.Words.{words_fit}
-use Rattle.protocol_laws.proofs.Said.{Stamping, Said, IsSaid, IsStamped, IsMadeOrFirst, Stands, WritesWhole, ReadsBack, FloorsAtLeast, VersionSays, WriteSays, ReplySays, HasVersion, DataShown}
-use Rattle.protocol_laws.proofs.Left.{always_leaves}
+use Rattle.protocol_laws.proofs.Said.{Stamping, Said, IsStamped, IsMadeOrFirst, Stands, WritesWhole, ReadsBack, FloorsAtLeast, HasVersion, DataShown}
 use Rattle.protocol_laws.proofs.Blocking.{blocked_never_stands}
-use Rattle.fab_base.proofs.Seats.{seat_within, brick_at_seat}
 use Rattle.protocol_laws.proofs.Lives.{answered_has_end}
 use Rattle.protocol_laws.proofs.Stampings.{above_first}
 use Rattle.protocol_laws.proofs.OwnStamps.{maker_stamp, made_later, operation_unique}
-use Rattle.protocol_laws.proofs.SaidAlways.{said_first, said_run}
 
 -- an operation that made version t by reading its base back: the base is below it, was made itself or is the first, and is its content; and
 -- nothing that a quorum holds lies between the two
@@ -75,10 +68,7 @@ pub record QuorumFacts (setting : Setting) (w : World) : Type 0 where
       → o.made ≡ true
   pub first : (g s : ℕ) (group : Group) → group_of setting.layout g ≡ Some group
       → w.contents g s first_stamp ≡ zero_registers group.m setting.layout.block
-  pub one_content : OneContent setting w
-  pub bases : BasesAreNewest setting w
   pub contents : ContentsAreMade setting w
-  pub guarded : WritesAreGuarded setting w
   pub stored : StoredIsHeld w
   pub full : FullIsFull setting w
   pub words : WordsFit setting.layout w.marks
@@ -86,9 +76,9 @@ pub record QuorumFacts (setting : Setting) (w : World) : Type 0 where
 module _ (setting : Setting) (sound : IsSound setting) (w : World) (stamps : Stamping) (books : Books setting w) (said : Said setting w stamps) where
   -- of two versions between which a quorum's floors lie, the lower is not above the other, nor equal to it where the later operation made it
   shared_floor : (b : ℕ) (later : Operation) (u v : Stamp) (i : ℕ) → IsOperation w b later → later.version ≡ Some v
-      → stamp_below (later.floor i) u ≡ false → stamp_below v (later.floor i) ≡ false → (stamp_below u v ≡ true) ⊎ ((u ≡ v) × (later.made ≡ false))
+      → stamp_below (floor_at later i) u ≡ false → stamp_below v (floor_at later i) ≡ false → (stamp_below u v ≡ true) ⊎ ((u ≡ v) × (later.made ≡ false))
   shared_floor b later u v i is version above below =
-      let not_above : stamp_below v u ≡ false = stamp_not_below_trans u (later.floor i) v above below in
+      let not_above : stamp_below v u ≡ false = stamp_not_below_trans u (floor_at later i) v above below in
       ⊎_elim (λ (less : stamp_below u v ≡ true). inl less)
       (λ (not_less : stamp_below u v ≡ false).
       let same : u ≡ v = stamp_neither_below u v not_less not_above in
@@ -96,8 +86,8 @@ module _ (setting : Setting) (sound : IsSound setting) (w : World) (stamps : Sta
       (λ (made : later.made ≡ true).
       let own : (p : ℕ) × IsStamped stamps later.brick.0 later.boot later.seq p v
       = maker_stamp setting w stamps books said b later v is made version in
-      let floor : later.floor i ≡ v
-      = stamp_neither_below (later.floor i) v (subst (λ (t : Stamp). stamp_below (later.floor i) t ≡ false) same above) below in
+      let floor : floor_at later i ≡ v
+      = stamp_neither_below (floor_at later i) v (subst (λ (t : Stamp). stamp_below (floor_at later i) t ≡ false) same above) below in
       absurd ((said.operations b later is).fresh i own.0
       (subst (λ (t : Stamp). IsStamped stamps later.brick.0 later.boot later.seq own.0 t) (sym floor) own.1)))
       (λ (unmade : later.made ≡ false). inr (same, unmade))
@@ -114,16 +104,16 @@ module _ (setting : Setting) (sound : IsSound setting) (w : World) (stamps : Sta
       ⊎_elim
       (λ (floors : (z : Group) → group_of setting.layout later.ask.group.0 ≡ Some z → FloorsAtLeast later z u).
       let share = quorums_share group.m (length group.members) limits.enough_seats
-      (λ seat. not (stamp_below (later.floor (brick_at group seat)) u)) (λ seat. not (stamp_below v (later.floor (brick_at group seat))))
+      (λ seat. not (stamp_below (floor_at later (brick_at group seat)) u)) (λ seat. not (stamp_below v (floor_at later (brick_at group seat))))
       (floors group b_books.group_is) (((said.operations b later b_is).version v b_version).floors group b_books.group_is) in
       let seat = count_some (length group.members)
-      (both (λ k. not (stamp_below (later.floor (brick_at group k)) u)) (λ k. not (stamp_below v (later.floor (brick_at group k)))))
+      (both (λ k. not (stamp_below (floor_at later (brick_at group k)) u)) (λ k. not (stamp_below v (floor_at later (brick_at group k)))))
       (omega (arith, share, limits.some_block)) in
-      let tests = and_parts (not (stamp_below (later.floor (brick_at group seat.0)) u))
-      (not (stamp_below v (later.floor (brick_at group seat.0)))) seat.2 in
+      let tests = and_parts (not (stamp_below (floor_at later (brick_at group seat.0)) u))
+      (not (stamp_below v (floor_at later (brick_at group seat.0)))) seat.2 in
       shared_floor b later u v (brick_at group seat.0) b_is b_version
-      (not-true (stamp_below (later.floor (brick_at group seat.0)) u) tests.0)
-      (not-true (stamp_below v (later.floor (brick_at group seat.0))) tests.1))
+      (not-true (stamp_below (floor_at later (brick_at group seat.0)) u) tests.0)
+      (not-true (stamp_below v (floor_at later (brick_at group seat.0))) tests.1))
       (λ (before : later.begin ≤ last_of (life_of w.marks a)). absurd (omega (arith, before, ended)))
       (said.order a b earlier later u a_is b_is
       (eqb-true earlier.ask.group.0 g a_at.0 ∙ sym (eqb-true later.ask.group.0 g b_at.0))
@@ -169,22 +159,6 @@ module _ (setting : Setting) (sound : IsSound setting) (w : World) (stamps : Sta
       ∙ ap (λ (z : Operation). w.contents z.ask.group.0 z.ask.stripe.0 shown.version) same
       ∙ ap (λ (u : Stamp). w.contents o.ask.group.0 o.ask.stripe.0 u) stamp
 
-  -- an operation's base is the one that it read back
-  bases_hold : BasesAreNewest setting w
-  bases_hold n o t b group is group_is made version base = ⊎_elim
-      (λ (whole : WritesWhole w o t). absurd (let none : Some b ≡ None = sym base ∙ whole.0 in let never : ⊥ = cc in never))
-      (λ (back : ReadsBack setting w o t).
-      let same : back.base ≡ b = same_Some back.base b (sym back.base_is ∙ base) in
-      subst (λ (z : Stamp). ((bytes : List ℕ) → o.ask.op ≡ WriteStripe bytes → ⊥)
-      × (stamp_below z t ≡ true)
-      × ((d : Stamp) → stamp_below z d ≡ true → stamp_below d t ≡ true → IsBlocked w o.ask.group.0 o.ask.stripe.0 group d)) same (
-        (λ bytes writes. let never : ReadStripe ≡ WriteStripe bytes = sym back.op ∙ writes in cc),
-        back.below,
-        (λ d above less.
-            back.blocked group group_is d (above, less)),
-      ))
-      ((said.operations n o is).maker t made version)
-
   -- a stripe write makes its bytes, and a recovery the content of its base
   contents_hold : ContentsAreMade setting w
   contents_hold n o t is made version = ⊎_elim
@@ -197,21 +171,6 @@ module _ (setting : Setting) (sound : IsSound setting) (w : World) (stamps : Sta
       ap (λ (op : Op). content_on setting.layout.block (w.contents o.ask.group.0 o.ask.stripe.0) op o.base) back.op
       ∙ ap (λ (z : Option Stamp). content_on setting.layout.block (w.contents o.ask.group.0 o.ask.stripe.0) ReadStripe z) back.base_is))
       ((said.operations n o is).maker t made version)
-
-  -- the version that a reply tells has its content
-  found_says : (from to : BrickId) (call : Call) (reply : Reply) (version : Version) → ReplySays setting w stamps from to call reply
-      → told_in reply ≡ Some version → VersionSays setting w call.group.0 call.stripe.0 from.0 version
-  found_says from to call (Reply.Found order (Some found)) version says told =
-      let same : found ≡ version = same_Some found version told in
-      subst (λ (z : Version). VersionSays setting w call.group.0 call.stripe.0 from.0 z) same says.says
-  found_says from to call (Reply.OrderedRead found) version says told = says.says version told
-  found_says from to call reply version says told = cc
-
-  -- a write that was sent says what it should
-  write_says : (call : Call) (from to : BrickId) (t : Stamp) (block : List ℕ) → WriteSent w call from to t block
-      → WriteSays setting w stamps from.0 to.0 call t block
-  write_says call from to t block sent =
-      said.packets sent.0 (record { from = from; to = to; message = Message.Request call (Request.Write t block) }) sent.1
 
   -- what is said of a world makes these facts true
   pub facts : QuorumFacts setting w
@@ -228,33 +187,8 @@ module _ (setting : Setting) (sound : IsSound setting) (w : World) (stamps : Sta
     answered_data = answered_data_holds;
     answered_write = λ n o bytes is answered op. (said.operations n o is).answered answered bytes op;
     first = λ g s group group_is. said.first g s ∙ ap (λ (z : Option Group). zero_content setting.layout.block z) group_is;
-    one_content = record {
-      sent = λ call from to t block group group_is sent.
-          let says : WriteSays setting w stamps from.0 to.0 call t block = write_says call from to t block sent in
-          let seat : (k : ℕ) × (seat_in group.members to.0 ≡ Some k) = says.member group group_is in (
-            seat.0,
-            seat_within group to.0 seat.0 seat.1,
-            brick_at_seat group to.0 seat.0 seat.1,
-            says.is_block group seat.0 group_is seat.1,
-          );
-      found = λ call from to seat reply version group group_is at sent told.
-          (found_says from to call reply version
-          (said.packets sent.0 (record { from = from; to = to; message = Message.Reply call reply }) sent.1) told).block group seat group_is at;
-      kept = λ g s i seat k version group group_is seat_is at. (said.logs g s i k version at).block group seat group_is seat_is;
-    };
-    bases = bases_hold;
     contents = contents_hold;
-    guarded = λ call from to t block group group_is sent. (write_says call from to t block sent).guarded group group_is;
     stored = λ call from to sent. said.packets sent.0 (record { from = from; to = to; message = Message.Reply call Reply.Stored }) sent.1;
     full = λ call from to live sent. said.packets sent.0 (record { from = from; to = to; message = Message.Reply call (Reply.Full live) }) sent.1;
     words = words_fit setting w stamps books said;
   }
-
--- the facts hold in every world that a run reaches, where the books do
-pub quorum_facts : (setting : Setting) (events : List Event) → IsSound setting
-    → ((more : List Event) → Books setting (run setting more (first_world setting.layout)))
-    → QuorumFacts setting (run setting events (first_world setting.layout))
-quorum_facts setting events sound books =
-    let said : IsSaid setting (run setting events (first_world setting.layout))
-    = said_run setting events (first_world setting.layout) sound (always_leaves setting []) books (said_first setting sound) in
-    facts setting sound (run setting events (first_world setting.layout)) said.0 (books events) said.1

@@ -1,5 +1,5 @@
 -- What a member's part of a stripe keeps through a request: its stamps never fall, and its log only grows.
-use Rattle.std.proofs.Common.{◌≡◌, ℕ, ◌⊎◌, inl, inr, Bool, true, false, cond, List, [], ◌∷◌, ◌++◌, Option, Some, None, refl, sym, ap, ◌∙◌, subst, ⊎_elim}
+use Rattle.std.proofs.Common.{nat_lt, ◌≡◌, ℕ, ◌⊎◌, inl, inr, Bool, true, false, cond, List, [], ◌∷◌, ◌++◌, Option, Some, None, refl, sym, ap, ◌∙◌, subst, ⊎_elim}
 use Rattle.std.specs.Prelude.{slice_get}
 use Rattle.std.proofs.lemmas.Bool.{cond_both, cond-false, false≢true, or_left, or_right, or_cases}
 use Rattle.fab_base.specs.declared.stamps.Stamp.{Stamp}
@@ -133,7 +133,7 @@ change_cases P full replica t reaction later refused made =
     with_room : (f : Option ℕ) → ((live : ℕ) → f ≡ Some live → P (stays replica (Full live))) → P reaction → P (unless_full f replica reaction)
     with_room None refused made = made
     with_room (Some live) refused made =
-        cond_both reaction.adds (stays replica (Full live)) reaction P (λ more. refused live refl) (λ same. made)
+        cond_both (nat_lt reaction.drops reaction.adds) (stays replica (Full live)) reaction P (λ more. refused live refl) (λ same. made)
 
 -- the part after each kind of request
 ordered_after : (full : Option ℕ) (replica : Replica) (t : Stamp) → IsAfter replica (Order t) (ordered full replica t).replica

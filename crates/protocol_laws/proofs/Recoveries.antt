@@ -24,7 +24,9 @@ use Rattle.protocol.specs.declared.phases.Phase.TheVariants.{Recovers, Descends}
 use Rattle.protocol.specs.Coordinators.{Coordinator, told_in, told_stamp, finds, bytes_of, pieces_at, greater_stamp, greatest_found}
 use Rattle.protocol.specs.Worlds.{World, Operation}
 use Rattle.fab_base.specs.Layouts.{brick_at}
-use Rattle.protocol_laws.specs.Laws.{part_of, IsBlocked}
+use Rattle.protocol_laws.specs.Laws.{part_in}
+use Rattle.protocol_laws.proofs.Parts.{part_of, PartsBlock}
+use Rattle.protocol_laws.proofs.FirstViews.{view_below}
 use Rattle.protocol_laws.proofs.Books.{Books, CallBooks, IsCall}
 use Rattle.protocol_laws.proofs.Logs.{IsWithin, below_above}
 use Rattle.protocol_laws.proofs.Blocking.{passes_by, passes, blocked_by, blocked_never_stands}
@@ -68,15 +70,14 @@ none_greater (Some a) None is = is
 none_greater (Some a) (Some b) is =
     cond_both (stamp_below a b) (Some b) (Some a) (λ (z : Option Stamp). z ≡ None → Some a ≡ None) (λ less e. cc) (λ above e. cc) is
 
-module _ (setting : Setting) (sound : IsSound setting) (w : World) (stamps : Stamping) (me : BrickId) (c : Coordinator) (group : Group)
+module _ (setting : Setting) (sound : IsSound setting) (w : World) (stamps : Stamping) (me : BrickId) (c : Coordinator)
     (books : Books setting w) (said : Said setting w stamps) (is : IsCall w me.0 c.call.seq c)
-    (group_is : group_of setting.layout c.ask.group.0 ≡ Some group)
     (counted : List Counted) (each : EachCounted (CountedSays setting w me.0 c) counted) (once : AreOnce counted)
-    (many : quorum_of group ≤ length counted) (bound : Stamp) (looks : LooksBelow c bound)
-    (all : EachCounted (ReadsAt setting sound w stamps me c group books said is group_is counted each once many bound) counted) where
+    (many : quorum_of c.group ≤ length counted) (bound : Stamp) (looks : LooksBelow c bound)
+    (all : EachCounted (ReadsAt setting sound w stamps me c books said is counted each once many bound) counted) where
   -- what a reply reads
   abbrev Reading : Counted → Type 0
-  Reading x = ReadsAt setting sound w stamps me c group books said is group_is counted each once many bound x
+  Reading x = ReadsAt setting sound w stamps me c books said is counted each once many bound x
 
   -- the bound is above the first stamp
   first_under : stamp_below first_stamp bound ≡ true
@@ -96,7 +97,7 @@ module _ (setting : Setting) (sound : IsSound setting) (w : World) (stamps : Sta
       subst (λ (z : Option Version). IsWithin z first_stamp) none
       (reads.newest first_stamp
       (said.first_held (books.calls me.0 c.call.seq c is).operation.ask.group.0 (books.calls me.0 c.call.seq c is).operation.ask.stripe.0
-      (brick_at group x.seat))
+      (brick_at c.group x.seat))
       first_under)
 
   each_some : (l : List Counted) → EachCounted Reading l → greatest_found l ≡ None → 1 ≤ length l → ⊥
@@ -106,17 +107,23 @@ module _ (setting : Setting) (sound : IsSound setting) (w : World) (stamps : Sta
   -- so a quorum of replies finds one
   pub something_found : greatest_found counted ≡ None → ⊥
   something_found nothing =
-      let limits : IsWithinLimits group.m (length group.members) = sound.limits c.ask.group.0 group group_is in
-      let enough : group.m ≤ quorum_of group = quorum_enough group.m (length group.members) limits.enough_seats in
+      let limits : IsWithinLimits c.group.m (length c.group.members) = sound.limits c.ask.group.0 c.group (books.calls me.0 c.call.seq c is).group_is in
+      let enough : c.group.m ≤ quorum_of c.group = quorum_enough c.group.m (length c.group.members) limits.enough_seats in
       each_some counted all nothing (omega (arith, limits.some_block, enough, many))
 
-module _ (setting : Setting) (sound : IsSound setting) (w : World) (stamps : Stamping) (me : BrickId) (c : Coordinator) (group : Group)
+module _ (setting : Setting) (sound : IsSound setting) (w : World) (stamps : Stamping) (me : BrickId) (c : Coordinator)
     (books : Books setting w) (said : Said setting w stamps) (is : IsCall w me.0 c.call.seq c)
-    (group_is : group_of setting.layout c.ask.group.0 ≡ Some group)
     (counted : List Counted) (each : EachCounted (CountedSays setting w me.0 c) counted) (once : AreOnce counted)
-    (many : quorum_of group ≤ length counted) (bound : Stamp) (looks : LooksBelow c bound)
-    (all : EachCounted (ReadsAt setting sound w stamps me c group books said is group_is counted each once many bound) counted)
+    (many : quorum_of c.group ≤ length counted) (bound : Stamp) (looks : LooksBelow c bound)
+    (all : EachCounted (ReadsAt setting sound w stamps me c books said is counted each once many bound) counted)
     (v : Stamp) (greatest : greatest_found counted ≡ Some v) where
+  -- its group, and its members
+  abbrev group : Group
+  group = c.group
+
+  group_is : group_of setting.layout c.ask.group.0 ≡ Some group
+  group_is = (books.calls me.0 c.call.seq c is).group_is
+
   abbrev its : CallBooks setting w me.0 c.call.seq c
   its = books.calls me.0 c.call.seq c is
 
@@ -134,7 +141,7 @@ module _ (setting : Setting) (sound : IsSound setting) (w : World) (stamps : Sta
 
   -- what a reply reads
   abbrev Reads : Counted → Type 0
-  Reads x = ReadsAt setting sound w stamps me c group books said is group_is counted each once many bound x
+  Reads x = ReadsAt setting sound w stamps me c books said is counted each once many bound x
 
   -- the part of the stripe at a seat
   abbrev part : ℕ → Replica
@@ -193,11 +200,14 @@ module _ (setting : Setting) (sound : IsSound setting) (w : World) (stamps : Sta
       → (x.seat < length group.members) × (passes_by w o.ask.group.0 o.ask.stripe.0 group d x.seat ≡ true)
   pass_at x d reads less isnt = (
     reads.promises.within,
-    passes w o.ask.group.0 o.ask.stripe.0 group d x.seat (below_above d c.stamp (top_of (part x.seat)) less reads.promises.top) isnt,
+    passes w o.ask.group.0 o.ask.stripe.0 group d x.seat
+        (subst (λ (e : ℕ). stamp_below d (top_of (part_in w o.ask.group.0 e o.ask.stripe.0 (brick_at group x.seat))) ≡ true)
+        (sym (view_below d c.stamp (omega (arith, its.stamp_view)) less))
+        (below_above d c.stamp (top_of (part x.seat)) less reads.promises.top)) isnt,
   )
 
   -- nothing that a quorum holds lies between v and the bound
-  under_bound : (d : Stamp) → stamp_below v d ≡ true → stamp_below d bound ≡ true → IsBlocked w o.ask.group.0 o.ask.stripe.0 group d
+  under_bound : (d : Stamp) → stamp_below v d ≡ true → stamp_below d bound ≡ true → PartsBlock w o.ask.group.0 o.ask.stripe.0 group d
   under_bound d above less =
       let seats : length counted ≤ count (length group.members) (passes_by w o.ask.group.0 o.ask.stripe.0 group d)
       = at_seats (length group.members) counted (passes_by w o.ask.group.0 o.ask.stripe.0 group d)
@@ -208,16 +218,16 @@ module _ (setting : Setting) (sound : IsSound setting) (w : World) (stamps : Sta
       blocked_by w o.ask.group.0 o.ask.stripe.0 group d limits (omega (arith, seats, many, limits.some_block))
 
   -- nor from the bound up to the recovery's stamp
-  from_bound : (d : Stamp) → stamp_below d bound ≡ false → stamp_below d c.stamp ≡ true → IsBlocked w o.ask.group.0 o.ask.stripe.0 group d
+  from_bound : (d : Stamp) → stamp_below d bound ≡ false → stamp_below d c.stamp ≡ true → PartsBlock w o.ask.group.0 o.ask.stripe.0 group d
   from_bound d not_less less = ⊎_elim
       (λ (own : (c.phase ≡ Recovers) × (bound ≡ c.stamp)).
       absurd (false≢true (sym not_less ∙ subst (λ (t : Stamp). stamp_below d t ≡ true) (sym own.1) less)))
       (λ (lower : c.phase ≡ Descends bound).
-      subst (λ (a : Ask). IsBlocked w a.group.0 a.stripe.0 group d) its.ask (says.covered bound lower group group_is d (not_less, less)))
+      subst (λ (a : Ask). PartsBlock w a.group.0 a.stripe.0 group d) its.ask (says.covered bound lower group group_is d (not_less, less)))
       looks
 
   -- nothing that a quorum holds, or ever will, lies between the version and the recovery's stamp
-  pub between_blocked : (d : Stamp) → stamp_below v d ≡ true → stamp_below d c.stamp ≡ true → IsBlocked w o.ask.group.0 o.ask.stripe.0 group d
+  pub between_blocked : (d : Stamp) → stamp_below v d ≡ true → stamp_below d c.stamp ≡ true → PartsBlock w o.ask.group.0 o.ask.stripe.0 group d
   between_blocked d above less = ⊎_elim
       (λ (lower : stamp_below d bound ≡ true). under_bound d above lower)
       (λ (upper : stamp_below d bound ≡ false). from_bound d upper less)
@@ -240,7 +250,7 @@ module _ (setting : Setting) (sound : IsSound setting) (w : World) (stamps : Sta
           false≢true (sym (not-true (finds v x) isnt) ∙ finds_it)
 
   -- a version of which too few blocks were found no quorum holds, or ever will
-  pub too_few_blocked : length (pieces_at v counted) < group.m → IsBlocked w o.ask.group.0 o.ask.stripe.0 group v
+  pub too_few_blocked : length (pieces_at v counted) < group.m → PartsBlock w o.ask.group.0 o.ask.stripe.0 group v
   too_few_blocked few =
       let test : Counted → Bool = λ x. not (finds v x) in
       let others : List Counted = filter test counted in
@@ -260,7 +270,7 @@ module _ (setting : Setting) (sound : IsSound setting) (w : World) (stamps : Sta
   version_above few =
       above_first v (λ first.
       blocked_never_stands w o.ask.group.0 o.ask.stripe.0 group first_stamp
-      (subst (λ (t : Stamp). IsBlocked w o.ask.group.0 o.ask.stripe.0 group t) first (too_few_blocked few))
+      (subst (λ (t : Stamp). PartsBlock w o.ask.group.0 o.ask.stripe.0 group t) first (too_few_blocked few))
       (let full = count_full (length group.members) (λ seat. held_in seat first_stamp)
       (λ k below. said.first_held o.ask.group.0 o.ask.stripe.0 (brick_at group k)) in
       omega (arith, full)))
@@ -281,8 +291,8 @@ module _ (setting : Setting) (sound : IsSound setting) (w : World) (stamps : Sta
       → setting.code.decode group.m (pieces_at v counted) ≡ w.contents o.ask.group.0 o.ask.stripe.0 v
   read_decodes enough =
       let formed : IsContent group.m setting.layout.block (w.contents o.ask.group.0 o.ask.stripe.0 v)
-      = content_formed setting sound w stamps me c group books said is group_is counted each once many v version_made in
-      sound.decodes o.ask.group.0 group its_group (w.contents o.ask.group.0 o.ask.stripe.0 v) (pieces_at v counted) formed.0 formed.1
+      = content_formed setting sound w stamps me c books said is counted each once many v version_made in
+      sound.decodes group.m (length group.members) limits (w.contents o.ask.group.0 o.ask.stripe.0 v) (pieces_at v counted) formed.0 formed.1
       (are_pieces setting.code group.m (length group.members) (w.contents o.ask.group.0 o.ask.stripe.0 v) (filter (finds v) counted)
       (each_then (λ x. Reads x × (finds v x ≡ true))
       (IsPieceOf setting.code group.m (length group.members) (w.contents o.ask.group.0 o.ask.stripe.0 v)) (filter (finds v) counted)

@@ -16,16 +16,18 @@ use Rattle.messages.specs.declared.packets.Message.TheVariants as Message
 use Rattle.messages.specs.declared.replies.Reply.{Reply}
 use Rattle.fab_base.specs.Layouts.{Group, group_of, seat_in}
 use Rattle.quorum.specs.Quorums.{quorum_of}
+use Rattle.reg_model.specs.Registers.{read_of}
 use Rattle.protocol.specs.Settings.{Setting, Code, IsSound}
 use Rattle.protocol.specs.declared.phases.Refuser.{Refuser}
 use Rattle.protocol.specs.declared.phases.FullMember.{FullMember}
 use Rattle.protocol.specs.declared.phases.Phase.{Phase}
 use Rattle.protocol.specs.declared.phases.Phase.TheVariants.{Looks, Orders, Recovers, Descends, Stores}
-use Rattle.protocol.specs.Coordinators.{Coordinator, Next, Waits, Sends, Makes, Ends, answers_phase, has_seat, counts_at, fast_version, pieces_of, pieces_at, greatest_found, greatest_refuser, lowest_full, stored_by, in_phase, restoring, reordering, most_rounds, aborted_by, unless_told_full, unless_refused, ordered_again, once_ordered, answered_fast, read_back, answer_of, decided, with_reply, once_full, counted_at, on_reply, request_of}
+use Rattle.protocol.specs.Coordinators.{Coordinator, Next, Waits, Sends, Makes, Ends, answers_phase, has_seat, counts_at, fast_version, pieces_of, pieces_at, greatest_found, greatest_refuser, lowest_full, in_phase, restoring, reordering, most_rounds, aborted_by, unless_told_full, unless_refused, ordered_again, once_ordered, answered_fast, read_back, answer_with, decided, with_reply, once_full, counted_at, on_reply, request_of}
 use Rattle.protocol.specs.Nodes.{Node, is_stripe_op, with_known, with_call, carried_out}
 use Rattle.protocol.specs.Worlds.{World, Operation, number_of, world_stepped}
 use Rattle.fab_base.specs.Layouts.{brick_at}
-use Rattle.protocol_laws.specs.Laws.{WasSent, AtQuorum, IsGuarded, IsBlocked}
+use Rattle.protocol_laws.specs.Laws.{WasSent, AtQuorum}
+use Rattle.protocol_laws.proofs.Parts.{PartsGuard, PartsBlock}
 use Rattle.protocol_laws.proofs.Books.{Books, CallBooks, IsUnmade, MadeInPhase, IsCall}
 use Rattle.protocol_laws.proofs.Said.{Stamping, Said, IsSaid, AreBlocked, IsContent, IsMadeOrFirst, IsStampOf, EachCounted, AreOnce, FitsPhase, FloorsAtMost, HasVersion, CountedSays, CallSays}
 use Rattle.protocol_laws.proofs.Tables.{put_each, put_same}
@@ -57,40 +59,47 @@ said_known setting w stamps me known books said more =
     })
 
 -- what a quorum of replies decides, by phase
-decided_looks : (code : Code) (m : ℕ) (fresh : Option Stamp) (c : Coordinator) → c.phase ≡ Looks
-    → decided code m fresh c ≡ unless_told_full (lowest_full c.counted) (answered_fast code m c (fast_version c.counted))
+decided_looks : (block : ℕ) (code : Code) (fresh : Option Stamp) (c : Coordinator) → c.phase ≡ Looks
+    → decided block code fresh c ≡ unless_told_full (lowest_full c.counted) (answered_fast code c (fast_version c.counted))
 unfolding decided
-decided_looks code m fresh c is = rw is
+decided_looks block code fresh c is = rw is
 
-decided_orders : (code : Code) (m : ℕ) (fresh : Option Stamp) (c : Coordinator) → c.phase ≡ Orders
-    → decided code m fresh c ≡ unless_told_full (lowest_full c.counted)
+decided_orders : (block : ℕ) (code : Code) (fresh : Option Stamp) (c : Coordinator) → c.phase ≡ Orders
+    → decided block code fresh c ≡ unless_told_full (lowest_full c.counted)
     (once_ordered fresh c (greatest_refuser c.counted) (Makes (in_phase c Stores)))
 unfolding decided
-decided_orders code m fresh c is = rw is
+decided_orders block code fresh c is = rw is
 
-decided_recovers : (code : Code) (m : ℕ) (fresh : Option Stamp) (c : Coordinator) → c.phase ≡ Recovers
-    → decided code m fresh c ≡ unless_told_full (lowest_full c.counted)
-    (once_ordered fresh c (greatest_refuser c.counted) (read_back code m c (greatest_found c.counted)))
+decided_recovers : (block : ℕ) (code : Code) (fresh : Option Stamp) (c : Coordinator) → c.phase ≡ Recovers
+    → decided block code fresh c ≡ unless_told_full (lowest_full c.counted)
+    (once_ordered fresh c (greatest_refuser c.counted) (read_back code c (greatest_found c.counted)))
 unfolding decided
-decided_recovers code m fresh c is = rw is
+decided_recovers block code fresh c is = rw is
 
-decided_descends : (code : Code) (m : ℕ) (fresh : Option Stamp) (bound : Stamp) (c : Coordinator) → c.phase ≡ Descends bound
-    → decided code m fresh c ≡ unless_told_full (lowest_full c.counted)
-    (unless_refused (greatest_refuser c.counted) (read_back code m c (greatest_found c.counted)))
+decided_descends : (block : ℕ) (code : Code) (fresh : Option Stamp) (bound : Stamp) (c : Coordinator) → c.phase ≡ Descends bound
+    → decided block code fresh c ≡ unless_told_full (lowest_full c.counted)
+    (unless_refused (greatest_refuser c.counted) (read_back code c (greatest_found c.counted)))
 unfolding decided
-decided_descends code m fresh bound c is = rw is
+decided_descends block code fresh bound c is = rw is
 
-decided_stores : (code : Code) (m : ℕ) (fresh : Option Stamp) (c : Coordinator) → c.phase ≡ Stores
-    → decided code m fresh c ≡ unless_told_full (lowest_full c.counted)
-    (unless_refused (greatest_refuser c.counted) (Ends (answer_of c.ask.op c.content) None (Some c.stamp)))
+decided_stores : (block : ℕ) (code : Code) (fresh : Option Stamp) (c : Coordinator) → c.phase ≡ Stores
+    → decided block code fresh c ≡ unless_told_full (lowest_full c.counted)
+    (unless_refused (greatest_refuser c.counted) (Ends (answer_with (read_of block c.ask.op c.content)) None (Some c.stamp)))
 unfolding decided
-decided_stores code m fresh c is = rw is
+decided_stores block code fresh c is = rw is
 
-module _ (setting : Setting) (sound : IsSound setting) (w : World) (stamps : Stamping) (me : BrickId) (c : Coordinator) (group : Group) (known : ℕ)
+module _ (setting : Setting) (sound : IsSound setting) (w : World) (stamps : Stamping) (me : BrickId) (c : Coordinator) (known : ℕ)
     (books : Books setting w) (said : Said setting w stamps) (is : IsCall w me.0 c.call.seq c)
-    (group_is : group_of setting.layout c.ask.group.0 ≡ Some group) (more_known : (w.nodes me.0).known ≤ known) (fresh : Option Stamp)
+    (more_known : (w.nodes me.0).known ≤ known) (fresh : Option Stamp)
     (fresh_is : (t : Stamp) → fresh ≡ Some t
     → IsStampOf (with_known (w.nodes me.0) t.time) me.0 (w.nodes me.0).boot t × ((w.nodes me.0).known < t.time)) where
+  -- its group, and its members
+  abbrev group : Group
+  group = c.group
+
+  group_is : group_of setting.layout c.ask.group.0 ≡ Some group
+  group_is = (books.calls me.0 c.call.seq c is).group_is
+
   abbrev its : CallBooks setting w me.0 c.call.seq c
   its = books.calls me.0 c.call.seq c is
 
@@ -102,9 +111,7 @@ module _ (setting : Setting) (sound : IsSound setting) (w : World) (stamps : Sta
 
   -- the world after what the coordinator decides
   abbrev after : Next → World
-  after decision =
-      world_stepped setting w me (carried_out setting group me (w.nodes me.0) known c decision)
-      (carried_out setting group me (w.nodes me.0) known c decision).told
+  after decision = world_stepped setting w me (carried_out setting me (w.nodes me.0) known c decision)
 
   -- the coordinator waits
   said_waits : (d : Coordinator) → CallSays setting w stamps me.0 c.call.seq d → IsSaid setting (after (Waits d))
@@ -139,7 +146,7 @@ module _ (setting : Setting) (sound : IsSound setting) (w : World) (stamps : Sta
   said_aborts : (cause : Cause) → IsSaid setting (after (Ends (Aborted cause) None None))
   said_aborts cause = (
     stamps,
-    said_ended setting w stamps me c group known books said is more_known (Aborted cause) None None
+    said_ended setting w stamps me c known books said is more_known (Aborted cause) None None
         (λ v has. has)
         (λ v has. (said.operations (number_of w me.0 c.call.seq) o its.operation_is).version v has)
         (λ v has how. (said.operations (number_of w me.0 c.call.seq) o its.operation_is).stands v has (⊎_elim
@@ -185,6 +192,7 @@ module _ (setting : Setting) (sound : IsSound setting) (w : World) (stamps : Sta
       asked = says.asked;
       fits = says.fits;
       unbased = says.unbased;
+      given = says.given;
       above = says.above;
       below = says.below;
       covered = says.covered;
@@ -207,19 +215,19 @@ module _ (setting : Setting) (sound : IsSound setting) (w : World) (stamps : Sta
           let reads : o.ask.op ≡ ReadStripe
           = ap (λ a. a.op) (sym its.ask) ∙ subst (λ (p : Phase). FitsPhase p c.ask.op) looks says.fits in
           let has : HasVersion setting w o v = record {
-            made = fast_made setting sound w stamps me c group books said is group_is d.counted each once many v fast;
+            made = fast_made setting sound w stamps me c books said is d.counted each once many v fast;
             reader = λ isnt. reads;
             guarded = λ other other_is.
                 let same : group ≡ other = (let e : Some group ≡ Some other = sym its_group ∙ other_is in cc) in
-                subst (λ (z : Group). IsGuarded w o.ask.group.0 o.ask.stripe.0 z v) same
-                (fast_guards setting sound w stamps me c group books said is group_is d.counted each once many v fast);
+                subst (λ (z : Group). PartsGuard w o.ask.group.0 o.ask.stripe.0 z v) same
+                (fast_guards setting sound w stamps me c books said is d.counted each once many v fast);
             floors = λ other other_is.
                 let same : group ≡ other = (let e : Some group ≡ Some other = sym its_group ∙ other_is in cc) in
                 subst (λ (z : Group). FloorsAtMost o z v) same
-                (fast_floors setting sound w stamps me c group books said is group_is d.counted each once many v fast);
+                (fast_floors setting sound w stamps me c books said is d.counted each once many v fast);
           } in (
             stamps,
-            said_ended setting w stamps me c group known books said is more_known (Data (setting.code.decode group.m (pieces_of d.counted)))
+            said_ended setting w stamps me c known books said is more_known (Data (setting.code.decode group.m (pieces_of d.counted)))
                 (Some v) None
                 (λ u old. let e : Some u ≡ None = sym old ∙ unmade.0 in cc)
                 (λ u now. let same : v ≡ u = cc in subst (λ (t : Stamp). HasVersion setting w o t) same has)
@@ -228,9 +236,9 @@ module _ (setting : Setting) (sound : IsSound setting) (w : World) (stamps : Sta
                 let group_same : group ≡ other = same_Some group other (sym its_group ∙ other_is) in
                 subst (λ (z : Group). AtQuorum z (λ seat. w.held (brick_at z seat) o.ask.group.0 o.ask.stripe.0 u)) group_same
                 (subst (λ (t : Stamp). AtQuorum group (λ seat. w.held (brick_at group seat) o.ask.group.0 o.ask.stripe.0 t)) same
-                (fast_stands setting sound w stamps me c group books said is group_is d.counted each once many v fast)))
+                (fast_stands setting sound w stamps me c books said is d.counted each once many v fast)))
                 (λ answered bytes op. let e : ReadStripe ≡ WriteStripe bytes = sym reads ∙ op in cc)
-                (reads, (v, refl, fast_decodes setting sound w stamps me c group books said is group_is d.counted each once many v fast)),
+                (reads, (v, refl, fast_decodes setting sound w stamps me c books said is d.counted each once many v fast)),
           )
 
       -- the coordinator begins its next phase with its own stamp
@@ -244,9 +252,9 @@ module _ (setting : Setting) (sound : IsSound setting) (w : World) (stamps : Sta
       own_from = inl (c.call.phase, (c.phase, says.begun))
 
       -- a read that saw no version told by all recovers
-      looks_on : c.phase ≡ Looks → (z : Option Stamp) → fast_version d.counted ≡ z → IsSaid setting (after (answered_fast setting.code group.m d z))
+      looks_on : c.phase ≡ Looks → (z : Option Stamp) → fast_version d.counted ≡ z → IsSaid setting (after (answered_fast setting.code d z))
       looks_on looks None fast =
-          said_sent setting w stamps me c group known books said is group_is more_known c.stamp c.round Recovers own_of own_from
+          said_sent setting w stamps me c known books said is more_known c.stamp c.round Recovers own_of own_from
           (subst (λ (p : Phase). FitsPhase p c.ask.op) looks says.fits) (λ bad. cc) tt
       looks_on looks (Some v) fast = said_answers looks v fast
 
@@ -259,7 +267,7 @@ module _ (setting : Setting) (sound : IsSound setting) (w : World) (stamps : Sta
           let own = fresh_is t new in
           cond_both (nat_lt c.round most_rounds) (Sends (reordering d t)) (aborted_by r) (λ (z : Next). IsSaid setting (after z))
           (λ few.
-          said_sent setting w stamps me c group known books said is group_is more_known t (c.round + 1) c.phase
+          said_sent setting w stamps me c known books said is more_known t (c.round + 1) c.phase
           (record {
             view = own.0.view;
             boot = own.0.boot;
@@ -269,43 +277,43 @@ module _ (setting : Setting) (sound : IsSound setting) (w : World) (stamps : Sta
             bounded = λ now. omega arith;
           })
           (inr (later_unknown w stamps said.stamps_say (with_known (w.nodes me.0) t.time) me.0 t own.0 own.1))
-          says.fits says.unbased (subst (λ (p : Phase). AsksPromises setting w c.ask.group.0 c.ask.stripe.0 t p) (sym same) (asks t)))
+          says.fits (λ orders. (says.unbased orders, says.given orders)) (subst (λ (p : Phase). AsksPromises setting w c.ask.group.0 c.ask.stripe.0 t p) (sym same) (asks t)))
           (λ all. said_aborts (Cause.Later r.brick r.stamp))
 
       orders_on : c.phase ≡ Orders → lowest_full d.counted ≡ None → (z : Option Refuser) → greatest_refuser d.counted ≡ z
           → IsSaid setting (after (once_ordered fresh d z (Makes (in_phase d Stores))))
       orders_on orders roomy None none =
-          let all = all_ordered setting sound w stamps me c group books said is group_is d.counted each once many orders none roomy in
+          let all = all_ordered setting sound w stamps me c books said is d.counted each once many orders none roomy in
           let unmade : IsUnmade o = subst (λ (p : Phase). MadeInPhase c o p) orders its.made in
           let writes : (bytes : List ℕ) × (c.ask.op ≡ WriteStripe bytes) = subst (λ (p : Phase). FitsPhase p c.ask.op) orders says.fits in
-          said_made setting sound w stamps me c group known books said is group_is more_known c.base c.content (unmade.0, unmade.1)
-          (of_ask (λ a. IsGuarded w a.group.0 a.stripe.0 group c.stamp)
-          (promises_guard setting sound w stamps me c group books said is group_is d.counted each once many all))
-          (promises_floors setting sound w stamps me c group books said is group_is d.counted each once many all)
-          (inl (says.unbased orders, writes))
+          said_made setting sound w stamps me c known books said is more_known c.base c.content (unmade.0, unmade.1)
+          (of_ask (λ a. PartsGuard w a.group.0 a.stripe.0 group c.stamp)
+          (promises_guard setting sound w stamps me c books said is d.counted each once many all))
+          (promises_floors setting sound w stamps me c books said is d.counted each once many all)
+          (inl (says.unbased orders, writes, says.given orders))
       orders_on orders roomy (Some r) refused =
           again Orders orders (subst (λ (p : Phase). FitsPhase p c.ask.op) orders says.fits) tt (λ t. tt) r fresh refl
 
       -- a recovery that no reply refused reads back what it found
       module _ (bound : Stamp) (looks : LooksBelow c bound) (none : greatest_refuser d.counted ≡ None) (roomy : lowest_full d.counted ≡ None)
           (reads : c.ask.op ≡ ReadStripe) (unmade : IsUnmade o) where
-        all : EachCounted (ReadsAt setting sound w stamps me c group books said is group_is d.counted each once many bound) d.counted
-        all = all_read setting sound w stamps me c group books said is group_is d.counted each once many bound looks none roomy
+        all : EachCounted (ReadsAt setting sound w stamps me c books said is d.counted each once many bound) d.counted
+        all = all_read setting sound w stamps me c books said is d.counted each once many bound looks none roomy
 
-        promised : EachCounted (PromisesAt setting sound w stamps me c group books said is group_is d.counted each once many) d.counted
+        promised : EachCounted (PromisesAt setting sound w stamps me c books said is d.counted each once many) d.counted
         promised =
-            each_then (ReadsAt setting sound w stamps me c group books said is group_is d.counted each once many bound)
-            (PromisesAt setting sound w stamps me c group books said is group_is d.counted each once many) d.counted (λ x h. h.promises) all
+            each_then (ReadsAt setting sound w stamps me c books said is d.counted each once many bound)
+            (PromisesAt setting sound w stamps me c books said is d.counted each once many) d.counted (λ x h. h.promises) all
 
         module _ (v : Stamp) (greatest : greatest_found d.counted ≡ Some v) where
           lower : stamp_below v c.stamp ≡ true
-          lower = version_lower setting sound w stamps me c group books said is group_is d.counted each once many bound looks all v greatest
+          lower = version_lower setting sound w stamps me c books said is d.counted each once many bound looks all v greatest
 
           blocked : AreBlocked setting w o.ask.group.0 o.ask.stripe.0 (λ e. (stamp_below v e ≡ true) × (stamp_below e c.stamp ≡ true))
           blocked other other_is e h =
               let same : group ≡ other = same_Some group other (sym its_group ∙ other_is) in
-              subst (λ (z : Group). IsBlocked w o.ask.group.0 o.ask.stripe.0 z e) same
-              (between_blocked setting sound w stamps me c group books said is group_is d.counted each once many bound looks all v greatest e h.0 h.1)
+              subst (λ (z : Group). PartsBlock w o.ask.group.0 o.ask.stripe.0 z e) same
+              (between_blocked setting sound w stamps me c books said is d.counted each once many bound looks all v greatest e h.0 h.1)
 
           -- with too few blocks nothing from v up to the stamp is held by a quorum
           covered : length (pieces_at v d.counted) < group.m → AreBlocked setting w o.ask.group.0 o.ask.stripe.0 (IsCovered v c.stamp)
@@ -314,16 +322,16 @@ module _ (setting : Setting) (sound : IsSound setting) (w : World) (stamps : Sta
               (λ (not_above : stamp_below v e ≡ false).
               let same : v ≡ e = stamp_neither_below v e not_above h.0 in
               let group_same : group ≡ other = same_Some group other (sym its_group ∙ other_is) in
-              subst (λ (z : Group). IsBlocked w o.ask.group.0 o.ask.stripe.0 z e) group_same
-              (subst (λ (t : Stamp). IsBlocked w o.ask.group.0 o.ask.stripe.0 group t) same
-              (too_few_blocked setting sound w stamps me c group books said is group_is d.counted each once many bound looks all v greatest few)))
+              subst (λ (z : Group). PartsBlock w o.ask.group.0 o.ask.stripe.0 z e) group_same
+              (subst (λ (t : Stamp). PartsBlock w o.ask.group.0 o.ask.stripe.0 group t) same
+              (too_few_blocked setting sound w stamps me c books said is d.counted each once many bound looks all v greatest few)))
               (cases_Bool (stamp_below v e))
 
           descends_on : length (pieces_at v d.counted) < group.m → IsSaid setting (after (Sends (in_phase d (Descends v))))
           descends_on few =
-              said_sent setting w stamps me c group known books said is group_is more_known c.stamp c.round (Descends v) own_of own_from
+              said_sent setting w stamps me c known books said is more_known c.stamp c.round (Descends v) own_of own_from
               reads (λ bad. absurd (let never : ⊥ = cc in never)) (
-                version_above setting sound w stamps me c group books said is group_is d.counted each once many bound looks all v greatest few,
+                version_above setting sound w stamps me c books said is d.counted each once many bound looks all v greatest few,
                 lower,
                 of_ask (λ a. AreBlocked setting w a.group.0 a.stripe.0 (IsCovered v c.stamp)) (covered few),
               )
@@ -332,14 +340,14 @@ module _ (setting : Setting) (sound : IsSound setting) (w : World) (stamps : Sta
               → IsSaid setting (after (Makes (restoring d v (setting.code.decode group.m (pieces_at v d.counted)))))
           restores_on enough =
               let content : setting.code.decode group.m (pieces_at v d.counted) ≡ w.contents o.ask.group.0 o.ask.stripe.0 v
-              = read_decodes setting sound w stamps me c group books said is group_is d.counted each once many bound looks all v greatest enough in
+              = read_decodes setting sound w stamps me c books said is d.counted each once many bound looks all v greatest enough in
               let made : IsMadeOrFirst w o.ask.group.0 o.ask.stripe.0 v
-              = version_made setting sound w stamps me c group books said is group_is d.counted each once many bound looks all v greatest in
-              said_made setting sound w stamps me c group known books said is group_is more_known (Some v)
+              = version_made setting sound w stamps me c books said is d.counted each once many bound looks all v greatest in
+              said_made setting sound w stamps me c known books said is more_known (Some v)
               (setting.code.decode group.m (pieces_at v d.counted)) (unmade.0, unmade.1)
-              (of_ask (λ a. IsGuarded w a.group.0 a.stripe.0 group c.stamp)
-              (promises_guard setting sound w stamps me c group books said is group_is d.counted each once many promised))
-              (promises_floors setting sound w stamps me c group books said is group_is d.counted each once many promised)
+              (of_ask (λ a. PartsGuard w a.group.0 a.stripe.0 group c.stamp)
+              (promises_guard setting sound w stamps me c books said is d.counted each once many promised))
+              (promises_floors setting sound w stamps me c books said is d.counted each once many promised)
               (inr (record {
                 version = v;
                 base_is = refl;
@@ -348,13 +356,13 @@ module _ (setting : Setting) (sound : IsSound setting) (w : World) (stamps : Sta
                 made = of_ask (λ a. IsMadeOrFirst w a.group.0 a.stripe.0 v) made;
                 content_is = of_ask (λ a. setting.code.decode group.m (pieces_at v d.counted) ≡ w.contents a.group.0 a.stripe.0 v) content;
                 formed = subst (λ (l : List ℕ). IsContent group.m setting.layout.block l) (sym content)
-                    (content_formed setting sound w stamps me c group books said is group_is d.counted each once many v made);
+                    (content_formed setting sound w stamps me c books said is d.counted each once many v made);
                 blocked = of_ask (λ a. AreBlocked setting w a.group.0 a.stripe.0
                     (λ e. (stamp_below v e ≡ true) × (stamp_below e c.stamp ≡ true))) blocked;
               }))
 
-        reads_on : (z : Option Stamp) → greatest_found d.counted ≡ z → IsSaid setting (after (read_back setting.code group.m d z))
-        reads_on None nothing = absurd (something_found setting sound w stamps me c group books said is group_is d.counted each once many bound looks all nothing)
+        reads_on : (z : Option Stamp) → greatest_found d.counted ≡ z → IsSaid setting (after (read_back setting.code d z))
+        reads_on None nothing = absurd (something_found setting sound w stamps me c books said is d.counted each once many bound looks all nothing)
         reads_on (Some v) greatest =
             cond_both (nat_lt (length (pieces_at v d.counted)) group.m) (Sends (in_phase d (Descends v)))
             (Makes (restoring d v (setting.code.decode group.m (pieces_at v d.counted)))) (λ (z : Next). IsSaid setting (after z))
@@ -362,7 +370,7 @@ module _ (setting : Setting) (sound : IsSound setting) (w : World) (stamps : Sta
             (λ enough. restores_on v greatest (ltb-false (length (pieces_at v d.counted)) group.m enough))
 
       recovers_on : c.phase ≡ Recovers → lowest_full d.counted ≡ None → (z : Option Refuser) → greatest_refuser d.counted ≡ z
-          → IsSaid setting (after (once_ordered fresh d z (read_back setting.code group.m d (greatest_found d.counted))))
+          → IsSaid setting (after (once_ordered fresh d z (read_back setting.code d (greatest_found d.counted))))
       recovers_on recovers roomy None none =
           reads_on c.stamp (inl (recovers, refl)) none roomy (subst (λ (p : Phase). FitsPhase p c.ask.op) recovers says.fits)
           (subst (λ (p : Phase). MadeInPhase c o p) recovers its.made) (greatest_found d.counted) refl
@@ -371,7 +379,7 @@ module _ (setting : Setting) (sound : IsSound setting) (w : World) (stamps : Sta
 
       lowers_on : (bound : Stamp) → c.phase ≡ Descends bound → lowest_full d.counted ≡ None → (z : Option Refuser)
           → greatest_refuser d.counted ≡ z
-          → IsSaid setting (after (unless_refused z (read_back setting.code group.m d (greatest_found d.counted))))
+          → IsSaid setting (after (unless_refused z (read_back setting.code d (greatest_found d.counted))))
       lowers_on bound descends roomy None none =
           reads_on bound (inr descends) none roomy (subst (λ (p : Phase). FitsPhase p c.ask.op) descends says.fits)
           (subst (λ (p : Phase). MadeInPhase c o p) descends its.made) (greatest_found d.counted) refl
@@ -379,20 +387,20 @@ module _ (setting : Setting) (sound : IsSound setting) (w : World) (stamps : Sta
 
       -- what an operation that stored its version is answered is the version's content
       stored_shows : (op : Op) (v : Stamp) → o.ask.op ≡ op → is_stripe_op op ≡ true → o.version ≡ Some v
-          → stored_by op c.content ≡ w.contents o.ask.group.0 o.ask.stripe.0 v → WillShow w o None (answer_of op c.content)
+          → c.content ≡ w.contents o.ask.group.0 o.ask.stripe.0 v → WillShow w o None (answer_with (read_of setting.layout.block op c.content))
       stored_shows (ReadBlock j) v is whole has content = absurd (false≢true whole)
       stored_shows (WriteBlock j bytes) v is whole has content = absurd (false≢true whole)
       stored_shows ReadStripe v is whole has content = (is, (v, has, content))
       stored_shows (WriteStripe bytes) v is whole has content = (bytes, is)
 
       stores_on : c.phase ≡ Stores → lowest_full d.counted ≡ None → (z : Option Refuser) → greatest_refuser d.counted ≡ z
-          → IsSaid setting (after (unless_refused z (Ends (answer_of c.ask.op c.content) None (Some c.stamp))))
+          → IsSaid setting (after (unless_refused z (Ends (answer_with (read_of setting.layout.block c.ask.op c.content)) None (Some c.stamp))))
       stores_on stores roomy None none =
           let made = subst (λ (p : Phase). MadeInPhase c o p) stores its.made in
           let stands : AtQuorum group (λ seat. w.held (brick_at group seat) o.ask.group.0 o.ask.stripe.0 c.stamp)
-          = stored_stands setting sound w stamps me c group books said is group_is d.counted each once many stores none roomy in (
+          = stored_stands setting sound w stamps me c books said is d.counted each once many stores none roomy in (
             stamps,
-            said_ended setting w stamps me c group known books said is more_known (answer_of c.ask.op c.content) None (Some c.stamp)
+            said_ended setting w stamps me c known books said is more_known (answer_with (read_of setting.layout.block c.ask.op c.content)) None (Some c.stamp)
                 (λ v has. has)
                 (λ v has. (said.operations (number_of w me.0 c.call.seq) o its.operation_is).version v has)
                 (λ v has how other other_is.
@@ -415,41 +423,41 @@ module _ (setting : Setting) (sound : IsSound setting) (w : World) (stamps : Sta
       unless_told next goes (Some f) told = said_aborts (Cause.Full f.brick f.live)
 
       -- what a quorum of replies decides keeps the invariant
-      decides : IsSaid setting (after (decided setting.code group.m fresh d))
+      decides : IsSaid setting (after (decided setting.layout.block setting.code fresh d))
       decides = by_phase c.phase refl
         where
-          by_phase : (p : Phase) → c.phase ≡ p → IsSaid setting (after (decided setting.code group.m fresh d))
+          by_phase : (p : Phase) → c.phase ≡ p → IsSaid setting (after (decided setting.layout.block setting.code fresh d))
           by_phase Looks at =
-              subst (λ (z : Next). IsSaid setting (after z)) (sym (decided_looks setting.code group.m fresh d at))
+              subst (λ (z : Next). IsSaid setting (after z)) (sym (decided_looks setting.layout.block setting.code fresh d at))
               (unless_told _ (λ roomy. looks_on at (fast_version d.counted) refl) (lowest_full d.counted) refl)
           by_phase Orders at =
-              subst (λ (z : Next). IsSaid setting (after z)) (sym (decided_orders setting.code group.m fresh d at))
+              subst (λ (z : Next). IsSaid setting (after z)) (sym (decided_orders setting.layout.block setting.code fresh d at))
               (unless_told _ (λ roomy. orders_on at roomy (greatest_refuser d.counted) refl) (lowest_full d.counted) refl)
           by_phase Recovers at =
-              subst (λ (z : Next). IsSaid setting (after z)) (sym (decided_recovers setting.code group.m fresh d at))
+              subst (λ (z : Next). IsSaid setting (after z)) (sym (decided_recovers setting.layout.block setting.code fresh d at))
               (unless_told _ (λ roomy. recovers_on at roomy (greatest_refuser d.counted) refl) (lowest_full d.counted) refl)
           by_phase (Descends bound) at =
-              subst (λ (z : Next). IsSaid setting (after z)) (sym (decided_descends setting.code group.m fresh bound d at))
+              subst (λ (z : Next). IsSaid setting (after z)) (sym (decided_descends setting.layout.block setting.code fresh bound d at))
               (unless_told _ (λ roomy. lowers_on bound at roomy (greatest_refuser d.counted) refl) (lowest_full d.counted) refl)
           by_phase Stores at =
-              subst (λ (z : Next). IsSaid setting (after z)) (sym (decided_stores setting.code group.m fresh d at))
+              subst (λ (z : Next). IsSaid setting (after z)) (sym (decided_stores setting.layout.block setting.code fresh d at))
               (unless_told _ (λ roomy. stores_on at roomy (greatest_refuser d.counted) refl) (lowest_full d.counted) refl)
 
     -- a reply that counts keeps the invariant
-    counts : IsSaid setting (after (once_full setting.code group fresh d))
+    counts : IsSaid setting (after (once_full setting.layout.block setting.code fresh d))
     counts =
-        cond_both (nat_lt (length d.counted) (quorum_of group)) (Waits d) (decided setting.code group.m fresh d)
+        cond_both (nat_lt (length d.counted) (quorum_of group)) (Waits d) (decided setting.layout.block setting.code fresh d)
         (λ (z : Next). IsSaid setting (after z))
         (λ fewer. said_waits d more_says)
         (λ enough. decides (ltb-false (length d.counted) (quorum_of group) enough))
 
   -- whether or not it counts
   counted_or_not : (from : BrickId) (call : Call) (reply : Reply) → WasSent w (record { from = from; to = me; message = Message.Reply call reply })
-      → (z : Option ℕ) → counts_at setting.layout.block group c from.0 call reply ≡ z
-      → IsSaid setting (after (counted_at setting.code group fresh c from reply z))
+      → (z : Option ℕ) → counts_at setting.layout.block c from.0 call reply ≡ z
+      → IsSaid setting (after (counted_at setting.layout.block setting.code fresh c from reply z))
   counted_or_not from call reply sent None isnt = (stamps, said_known setting w stamps me known books said more_known)
   counted_or_not from call reply sent (Some seat) at =
-      let facts : CountsAt setting.layout.block group c from.0 call reply seat = counts_facts setting.layout.block group c from.0 call reply seat at in
+      let facts : CountsAt setting.layout.block c from.0 call reply seat = counts_facts setting.layout.block c from.0 call reply seat at in
       counts from reply seat
       (subst (λ (z : Call). WasSent w (record { from = from; to = me; message = Message.Reply z reply })) facts.call_is sent)
       facts.answers facts.seat_is facts.first
@@ -457,7 +465,7 @@ module _ (setting : Setting) (sound : IsSound setting) (w : World) (stamps : Sta
   -- a coordinator's step on a reply keeps the invariant
   pub said_after_reply : (from : BrickId) (call : Call) (reply : Reply)
       → WasSent w (record { from = from; to = me; message = Message.Reply call reply })
-      → IsSaid setting (after (on_reply setting.layout.block setting.code group fresh c from call reply))
+      → IsSaid setting (after (on_reply setting.layout.block setting.code fresh c from call reply))
   unfolding on_reply
   said_after_reply from call reply sent =
-      counted_or_not from call reply sent (counts_at setting.layout.block group c from.0 call reply) refl
+      counted_or_not from call reply sent (counts_at setting.layout.block c from.0 call reply) refl

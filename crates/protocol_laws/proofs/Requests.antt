@@ -1,12 +1,12 @@
 -- A member handles a request: what its part of the stripe, and its reply, then say.
-use Rattle.std.proofs.Common.{◌≡◌, ℕ, ◌⊎◌, inl, inr, true, false, ◌&&◌, List, Option, Some, None, refl, sym, ap, ◌∙◌, subst, ⊎_elim, arith}
+use Rattle.std.proofs.Common.{◌≡◌, ℕ, ◌⊎◌, inl, inr, true, false, List, Option, Some, None, refl, sym, ap, ◌∙◌, subst, ⊎_elim, arith}
 use Rattle.std.specs.Prelude.{slice_get, nat_eq}
 use Rattle.std.proofs.lemmas.Bool.{cond_both, eqb-true}
 use Rattle.std.proofs.lemmas.Option.{same_Some}
 use Rattle.fab_base.specs.declared.identities.BrickId.{BrickId}
 use Rattle.fab_base.specs.declared.stamps.Stamp.{Stamp}
 use Rattle.fab_base.specs.Stamps.{stamp_below}
-use Rattle.fab_base.proofs.StampOrder.{stamp_below_irrefl, stamp_not_below_trans}
+use Rattle.fab_base.proofs.StampOrder.{stamp_below_irrefl, stamp_below_trans, stamp_not_below_trans}
 use Rattle.messages.specs.declared.calls.Call.{Call}
 use Rattle.messages.specs.declared.packets.Message.TheVariants as Message
 use Rattle.messages.specs.declared.packets.Packet.{Packet}
@@ -17,75 +17,64 @@ use Rattle.messages.specs.declared.requests.Want.TheVariants.{All}
 use Rattle.messages.specs.declared.requests.Request.{Request}
 use Rattle.messages.specs.declared.requests.Version.{Version}
 use Rattle.messages.specs.declared.replies.Reply.{Reply}
-use Rattle.fab_base.specs.Layouts.{Group, group_of, seat_in}
 use Rattle.protocol.specs.Settings.{Setting}
-use Rattle.protocol.specs.Replicas.{Replica, Reaction, newest_of, top_of, is_held, stamp_max, below, handle}
+use Rattle.protocol.specs.Views.{view_of}
+use Rattle.protocol.specs.Replicas.{Replica, Reaction, newest_of, top_of, is_held, stamp_max, below}
 use Rattle.protocol.specs.declared.phases.Phase.TheVariants.{Orders, Recovers, Descends, Stores}
-use Rattle.protocol.specs.Nodes.{Node, NodeStep, put, no_step, with_replica, replica_at, full_at, reply_packets, reacted, requested_at, is_served, fits_block, requested_in, requested}
+use Rattle.protocol.specs.Nodes.{Node, put, with_replica, replica_at, full_at, reply_packets}
 use Rattle.protocol.specs.Worlds.{World, Operation}
-use Rattle.protocol_laws.specs.Laws.{WasSent, AskedAt, part_of}
+use Rattle.protocol_laws.specs.Laws.{WasSent, AskedAt}
+use Rattle.protocol_laws.proofs.Parts.{part_of}
+use Rattle.protocol_laws.proofs.Served.{parts_each}
+use Rattle.protocol_laws.proofs.FirstViews.{floor_at, part_floor, view_is, view_below}
 use Rattle.protocol_laws.proofs.Books.{Books}
+use Rattle.protocol_laws.proofs.OwnStamps.{made_view}
+use Rattle.protocol_laws.proofs.Blocking.{held_in, was_held}
 use Rattle.protocol_laws.proofs.Said.{Stamping, Said, IsRecovery, IsKnown, IsCalled, VersionSays, WriteSays, RequestSays, OrderedSays, OrderedReadSays, FoundSays, ReplySays, PacketSays}
-use Rattle.protocol_laws.proofs.Tables.{put_each, put_same, get_one}
+use Rattle.protocol_laws.proofs.Tables.{put_same, get_one}
 use Rattle.protocol_laws.proofs.Logs.{LogAscends, IsWithin, newest_stands, newest_held, newest_below, newest_stands_below}
 use Rattle.protocol_laws.proofs.Reactions.{IsAfter, IsAsked, ReactionSays, SaysIf, with_order, top_promised, after_top, after_held, after_newer, after_ascends, after_asked, after_log, top_is}
 use Rattle.protocol_laws.proofs.Stampings.{ages_within, stamps_same}
 use Rattle.protocol_laws.proofs.Growth.{Grows, Continues, stays_version, stays_called, stays_found}
 use Rattle.protocol_laws.proofs.Steps.{KeepsParts, quiet, quiet_grows, said_quiet, stamps_stay_by}
 
--- a brick ignores a request, or handles it at its seat
-pub request_each : (P : NodeStep → Type 0) (setting : Setting) (me from : BrickId) (node : Node) (call : Call) (request : Request)
-    → P (no_step node)
-    → ((seat : ℕ) → P (reacted me from node call (handle (full_at setting.layout.records node) seat (replica_at node call) request)))
-    → P (requested setting me from node call request)
-unfolding requested
-request_each P setting me from node call request ignored handled = in_group (group_of setting.layout call.group.0)
-  where
-    at_seat : (z : Option ℕ) → P (requested_at setting.layout.records me from node call request z)
-    at_seat None = ignored
-    at_seat (Some seat) = handled seat
-
-    in_group : (z : Option Group) → P (requested_in setting.layout me from node call request z)
-    in_group None = ignored
-    in_group (Some group) =
-        cond_both (is_served group call && fits_block setting.layout.block request)
-        (requested_at setting.layout.records me from node call request (seat_in group.members me.0)) (no_step node) P
-        (λ is. at_seat (seat_in group.members me.0)) (λ isnt. ignored)
-
--- what holds of the changed part, and of each part as it was
-pub parts_each : (Q : ℕ → ℕ → Replica → Type 0) (node : Node) (call : Call) (reaction : Reaction) → Q call.group.0 call.stripe.0 reaction.replica
-    → ((g s : ℕ) → Q g s (node.replicas g s)) → (g s : ℕ) → Q g s ((with_replica node call reaction).replicas g s)
-parts_each Q node call reaction new old g s =
-    put_each (λ h row. (r : ℕ) → Q h r (row r)) node.replicas call.group.0 (put (node.replicas call.group.0) call.stripe.0 reaction.replica)
-    (put_each (Q call.group.0) (node.replicas call.group.0) call.stripe.0 reaction.replica new (λ r other. old call.group.0 r))
-    (λ h other r. old h r) g s
-
 -- a request lowers no part, and leaves what is held
-pub parts_keep : (node : Node) (call : Call) (request : Request) (reaction : Reaction)
-    → IsAfter (node.replicas call.group.0 call.stripe.0) request reaction.replica
+pub parts_keep : (node : Node) (call : Call) (request : Request) (reaction : Reaction) → IsAfter (replica_at node call) request reaction.replica
     → KeepsParts node (with_replica node call reaction)
 parts_keep node call request reaction after = record {
-  tops = parts_each (λ g s r. stamp_below (top_of r) (top_of (node.replicas g s)) ≡ false) node call reaction
-      (after_top (node.replicas call.group.0 call.stripe.0) request reaction.replica after) (λ g s. stamp_below_irrefl (top_of (node.replicas g s)));
-  held = λ g s t. parts_each (λ h r x. is_held t (node.replicas h r).log ≡ true → is_held t x.log ≡ true) node call reaction
-      (λ held. after_held (node.replicas call.group.0 call.stripe.0) request reaction.replica t after held) (λ h r held. held) g s;
-  newer = λ g s t.
-      parts_each (λ h r x. is_held t x.log ≡ true → (is_held t (node.replicas h r).log ≡ true) ⊎ (stamp_below t (top_of (node.replicas h r)) ≡ false))
-      node call reaction (λ held. after_newer (node.replicas call.group.0 call.stripe.0) request reaction.replica t after held)
-      (λ h r held. inl held) g s;
-  ascends = parts_each (λ g s x. LogAscends (node.replicas g s).log → LogAscends x.log) node call reaction
-      (after_ascends (node.replicas call.group.0 call.stripe.0) request reaction.replica after) (λ g s ascends. ascends);
+  tops = parts_each (λ g e s r. stamp_below (top_of r) (top_of (node.replicas g e s)) ≡ false) node call reaction
+      (after_top (replica_at node call) request reaction.replica after) (λ g e s. stamp_below_irrefl (top_of (node.replicas g e s)));
+  held = λ g e s t. parts_each (λ h v r x. is_held t (node.replicas h v r).log ≡ true → is_held t x.log ≡ true) node call reaction
+      (λ held. after_held (replica_at node call) request reaction.replica t after held) (λ h v r held. held) g e s;
+  newer = λ g e s t.
+      parts_each (λ h v r x. is_held t x.log ≡ true → (is_held t (node.replicas h v r).log ≡ true) ⊎ (stamp_below t (top_of (node.replicas h v r)) ≡ false))
+      node call reaction (λ held. after_newer (replica_at node call) request reaction.replica t after held)
+      (λ h v r held. inl held) g e s;
+  ascends = parts_each (λ g e s x. LogAscends (node.replicas g e s).log → LogAscends x.log) node call reaction
+      (after_ascends (replica_at node call) request reaction.replica after) (λ g e s ascends. ascends);
 }
 
 -- the changed part
-pub part_now : (node : Node) (call : Call) (reaction : Reaction)
-    → (with_replica node call reaction).replicas call.group.0 call.stripe.0 ≡ reaction.replica
+pub part_now : (node : Node) (call : Call) (reaction : Reaction) → replica_at (with_replica node call reaction) call ≡ reaction.replica
 part_now node call reaction =
-    ap (λ row. row call.stripe.0) (put_same node.replicas call.group.0 (put (node.replicas call.group.0) call.stripe.0 reaction.replica))
-    ∙ put_same (node.replicas call.group.0) call.stripe.0 reaction.replica
+    ap (λ table. table call.view.0 call.stripe.0)
+    (put_same node.replicas call.group.0
+    (put (node.replicas call.group.0) call.view.0 (put (node.replicas call.group.0 call.view.0) call.stripe.0 reaction.replica)))
+    ∙ ap (λ row. row call.stripe.0)
+    (put_same (node.replicas call.group.0) call.view.0 (put (node.replicas call.group.0 call.view.0) call.stripe.0 reaction.replica))
+    ∙ put_same (node.replicas call.group.0 call.view.0) call.stripe.0 reaction.replica
 
-module _ (setting : Setting) (w : World) (stamps : Stamping) (me from : BrickId) (call : Call) (request : Request) (books : Books setting w)
-    (said : Said setting w stamps) (sent : WasSent w (record { from = from; to = me; message = Message.Request call request })) where
+-- the call in view 1
+abbrev pub in_first : Call → Call
+in_first call =
+    record { boot = call.boot; seq = call.seq; phase = call.phase; group = call.group; view = record { 0 = 1 }; stripe = call.stripe }
+
+module _ (setting : Setting) (w : World) (stamps : Stamping) (me from : BrickId) (given : Call) (request : Request) (books : Books setting w)
+    (said : Said setting w stamps) (sent : WasSent w (record { from = from; to = me; message = Message.Request (in_first given) request })) where
+  -- the call
+  abbrev call : Call
+  call = in_first given
+
   -- the member's part before the request
   abbrev before : Replica
   before = part_of w call.group.0 call.stripe.0 me.0
@@ -106,6 +95,20 @@ module _ (setting : Setting) (w : World) (stamps : Stamping) (me from : BrickId)
 
   sent_as : (r : Request) → request ≡ r → WasSent w (record { from = from; to = me; message = Message.Request call r })
   sent_as r is = subst (λ (z : Request). WasSent w (record { from = from; to = me; message = Message.Request call z })) is sent
+
+  -- a recovery's stamp is of view 1, and above what it looks for
+  recovery_view : (bound t : Stamp) → IsRecovery stamps from.0 call.boot call.seq call.phase bound t → t.view.0 ≡ 1
+  recovery_view bound t (inl own) = (said.stamps_say.are from.0 call.boot call.seq call.phase t (Recovers, own.1)).view
+  recovery_view bound t (inr lower) = (said.stamps_say.are from.0 call.boot call.seq call.phase t (Descends bound, lower.1)).view
+
+  recovery_below : (bound t d : Stamp) → IsRecovery stamps from.0 call.boot call.seq call.phase bound t → stamp_below d bound ≡ true
+      → stamp_below d t ≡ true
+  recovery_below bound t d (inl own) less = subst (λ (z : Stamp). stamp_below d z ≡ true) own.0 less
+  recovery_below bound t d (inr lower) less = stamp_below_trans d bound t less lower.0
+
+  -- and a write's
+  written_view : (t : Stamp) (block : List ℕ) → WriteSays setting w stamps from.0 me.0 call t block → view_of t ≡ 1
+  written_view t block says = view_is t (said.stamps_say.are from.0 call.boot call.seq call.phase t (Stores, says.begun)).view
 
   -- a stamp that is asked for is known
   recovery_known : (bound t : Stamp) → IsRecovery stamps from.0 call.boot call.seq call.phase bound t → IsKnown stamps t
@@ -129,7 +132,7 @@ module _ (setting : Setting) (w : World) (stamps : Stamping) (me from : BrickId)
 
     -- how many live records the member has, where those are as many as it may
     abbrev full : Option ℕ
-    full = full_at setting.layout.records (w.nodes me.0)
+    full = full_at setting.layout.records (w.nodes me.0).live
 
     -- the world after it, where these packets are sent
     abbrev next : World
@@ -141,14 +144,14 @@ module _ (setting : Setting) (w : World) (stamps : Stamping) (me from : BrickId)
     grows : Grows w next stamps stamps
     grows = quiet_grows w stamps stamps me (with_replica (w.nodes me.0) call reaction) more (stamps_same stamps) said.logged keeps
 
-    tops : (g s : ℕ) → (top_of ((with_replica (w.nodes me.0) call reaction).replicas g s) ≡ top_of ((w.nodes me.0).replicas g s))
-        ⊎ IsKnown stamps (top_of ((with_replica (w.nodes me.0) call reaction).replicas g s))
-    tops = parts_each (λ g s r. (top_of r ≡ top_of ((w.nodes me.0).replicas g s)) ⊎ IsKnown stamps (top_of r)) (w.nodes me.0) call reaction
+    tops : (g s : ℕ) → (top_of ((with_replica (w.nodes me.0) call reaction).replicas g 1 s) ≡ top_of ((w.nodes me.0).replicas g 1 s))
+        ⊎ IsKnown stamps (top_of ((with_replica (w.nodes me.0) call reaction).replicas g 1 s))
+    tops g s = parts_each (λ h e r x. (top_of x ≡ top_of ((w.nodes me.0).replicas h e r)) ⊎ IsKnown stamps (top_of x)) (w.nodes me.0) call reaction
         (⊎_elim (λ (same : top_of part ≡ top_of before). inl same)
         (λ (asked : IsAsked request (top_of part)).
         inr (asked_known (top_of part) asked))
         (after_asked before request part after))
-        (λ g s. inl refl)
+        (λ h e r. inl refl) g 1 s
 
     -- a version that is written says what it should
     written_version : (version : Version) → request ≡ Request.Write version.stamp version.block
@@ -169,32 +172,32 @@ module _ (setting : Setting) (w : World) (stamps : Stamping) (me from : BrickId)
           block = says.is_block;
         }
 
-    logs : (g s k : ℕ) (version : Version) → slice_get ((with_replica (w.nodes me.0) call reaction).replicas g s).log k ≡ Some version
-        → (slice_get ((w.nodes me.0).replicas g s).log k ≡ Some version) ⊎ VersionSays setting next g s me.0 version
+    logs : (g s k : ℕ) (version : Version) → slice_get ((with_replica (w.nodes me.0) call reaction).replicas g 1 s).log k ≡ Some version
+        → (slice_get ((w.nodes me.0).replicas g 1 s).log k ≡ Some version) ⊎ VersionSays setting next g s me.0 version
     logs g s k version = parts_each
-        (λ h r x. slice_get x.log k ≡ Some version
-        → (slice_get ((w.nodes me.0).replicas h r).log k ≡ Some version) ⊎ VersionSays setting next h r me.0 version)
+        (λ h e r x. slice_get x.log k ≡ Some version
+        → (slice_get ((w.nodes me.0).replicas h e r).log k ≡ Some version) ⊎ VersionSays setting next h r me.0 version)
         (w.nodes me.0) call reaction
         (λ is. ⊎_elim
         (λ (old : slice_get before.log k ≡ Some version). inl old)
         (λ (new : request ≡ Request.Write version.stamp version.block).
         inr (stays_version setting w next stamps stamps books grows call.group.0 call.stripe.0 me.0 version (written_version version new)))
         (after_log before request part k version after is))
-        (λ h r is. inl is) g s
+        (λ h e r is. inl is) g 1 s
 
     -- the member's part after the request
     now : part_of next call.group.0 call.stripe.0 me.0 ≡ part
-    now = ap (λ node. node.replicas call.group.0 call.stripe.0) (put_same w.nodes me.0 (with_replica (w.nodes me.0) call reaction))
+    now = ap (λ node. replica_at node call) (put_same w.nodes me.0 (with_replica (w.nodes me.0) call reaction))
         ∙ part_now (w.nodes me.0) call reaction
 
     -- the operation's floor at this member is not above its top
-    floor_below : (o : Operation) → IsCalled w from.0 call o → stamp_below (top_of before) (o.floor me.0) ≡ false
+    floor_below : (o : Operation) → IsCalled w from.0 call o → stamp_below (top_of before) (floor_at o me.0) ≡ false
     floor_below o called =
-        let floors : stamp_below (top_of (part_of w o.ask.group.0 o.ask.stripe.0 me.0)) (o.floor me.0) ≡ false
+        let floors : stamp_below (top_of (part_of w o.ask.group.0 o.ask.stripe.0 me.0)) (floor_at o me.0) ≡ false
         = (said.operations (w.numbers from.0 call.boot call.seq) o called.is).floors me.0 in
-        let in_group : stamp_below (top_of (part_of w call.group.0 o.ask.stripe.0 me.0)) (o.floor me.0) ≡ false
-        = subst (λ (g : ℕ). stamp_below (top_of (part_of w g o.ask.stripe.0 me.0)) (o.floor me.0) ≡ false) called.group floors in
-        subst (λ (s : ℕ). stamp_below (top_of (part_of w call.group.0 s me.0)) (o.floor me.0) ≡ false) called.stripe in_group
+        let in_group : stamp_below (top_of (part_of w call.group.0 o.ask.stripe.0 me.0)) (floor_at o me.0) ≡ false
+        = subst (λ (g : ℕ). stamp_below (top_of (part_of w g o.ask.stripe.0 me.0)) (floor_at o me.0) ≡ false) called.group floors in
+        subst (λ (s : ℕ). stamp_below (top_of (part_of w call.group.0 s me.0)) (floor_at o me.0) ≡ false) called.stripe in_group
 
     found_says : (order : Stamp) (version : Version) → ReactionSays full before request part (Reply.Found order (Some version))
         → FoundSays setting w me.0 from.0 call order version
@@ -209,17 +212,19 @@ module _ (setting : Setting) (w : World) (stamps : Stamping) (me from : BrickId)
           operation = says.1.0;
           called = says.1.1;
           top = subst (λ (t : Stamp). stamp_below (top_of before) t ≡ false) top (stamp_below_irrefl (top_of before));
-          floor = subst (λ (t : Stamp). stamp_below t (says.1.0.floor me.0) ≡ false) top (floor_below says.1.0 says.1.1);
-          held = said.logged me.0 call.group.0 call.stripe.0 version.stamp ∙ newest_held before.log version newest;
+          floor = subst (λ (t : Stamp). stamp_below t (floor_at says.1.0 me.0) ≡ false) top (floor_below says.1.0 says.1.1);
+          held = held_in w said.logged call.group.0 call.stripe.0 me.0 version.stamp (made_view setting w stamps books said
+              call.group.0 call.stripe.0 version.stamp (said.logs call.group.0 call.stripe.0 me.0 stands.0 version stands.1).made)
+              (newest_held before.log version newest);
           says = said.logs call.group.0 call.stripe.0 me.0 stands.0 version stands.1;
         }
 
     -- a promise is at or above the operation's floor at this member
     promise_above : (t : Stamp) (o : Operation) → IsCalled w from.0 call o → (p : Operation) → Continues o p → stamp_below t (top_of before) ≡ false
-        → stamp_below t (p.floor me.0) ≡ false
+        → stamp_below t (floor_at p me.0) ≡ false
     promise_above t o called p on above =
-        subst (λ (f : ℕ → Stamp). stamp_below t (f me.0) ≡ false) (sym on.floor)
-        (stamp_not_below_trans (o.floor me.0) (top_of before) t (floor_below o called) above)
+        subst (λ (f : ℕ → Stamp). stamp_below t (part_floor (f me.0)) ≡ false) (sym on.floor)
+        (stamp_not_below_trans (floor_at o me.0) (top_of before) t (floor_below o called) above)
 
     ordered_says : ReactionSays full before request part Reply.Ordered → OrderedSays next stamps me.0 from.0 call
     ordered_says told =
@@ -243,6 +248,7 @@ module _ (setting : Setting) (w : World) (stamps : Stamping) (me from : BrickId)
         let asked = read_asks told.0 told.1.0 told.1.1 (asks_as (Request.OrderRead told.0 told.1.0 told.1.1) told.1.2) in
         let goes = stays_called setting w next stamps stamps books grows from.0 call asked.4.0 asked.4.1 in
         let found_is : found ≡ newest_of (below asked.0 before.log) = told.1.5 asked.0 asked.1 asked.2 in
+        let view : told.0.view.0 ≡ 1 = recovery_view asked.0 told.0 asked.3 in
         let promise : part_of next call.group.0 call.stripe.0 me.0 ≡ with_order before told.0 = now ∙ told.1.4 in
         let top : top_of (part_of next call.group.0 call.stripe.0 me.0) ≡ told.0
         = ap (λ (r : Replica). top_of r) promise ∙ top_promised before told.0 told.1.3 in
@@ -252,13 +258,15 @@ module _ (setting : Setting) (w : World) (stamps : Stamping) (me from : BrickId)
           stamp = told.0;
           bound = asked.0;
           recovers = asked.3;
+          view = view;
           promised = subst (λ (t : Stamp). stamp_below t told.0 ≡ false) (sym top) (stamp_below_irrefl told.0);
           floor = promise_above told.0 asked.4.0 asked.4.1 goes.0 goes.2 told.1.3;
           newest = λ d held less.
               subst (λ (z : Option Version). IsWithin z d) (sym found_is)
               (newest_below asked.0 d before.log (said.ascends call.group.0 call.stripe.0 me.0)
               (subst (λ (r : Replica). is_held d r.log ≡ true) promise
-              (sym (grows.parts.logged me.0 call.group.0 call.stripe.0 d) ∙ held)) less);
+              (was_held next grows.parts.logged call.group.0 call.stripe.0 me.0 d
+              (view_below d told.0 (omega (arith, view)) (recovery_below asked.0 told.0 d asked.3 less)) held)) less);
           says = λ version is.
               let at = newest_stands_below asked.0 before.log version (sym found_is ∙ is) in
               stays_version setting w next stamps stamps books grows call.group.0 call.stripe.0 me.0 version
@@ -303,7 +311,9 @@ module _ (setting : Setting) (w : World) (stamps : Stamping) (me from : BrickId)
       told.1,
       grows.sent (record { from = from; to = me; message = Message.Request call (Request.Write told.0 told.1) })
           (subst (λ (r : Request). WasSent w (record { from = from; to = me; message = Message.Request call r })) told.2 sent),
-      grows.parts.logged me.0 call.group.0 call.stripe.0 told.0 ∙ subst (λ (r : Replica). is_held told.0 r.log ≡ true) (sym now) told.3,
+      held_in next grows.parts.logged call.group.0 call.stripe.0 me.0 told.0
+          (written_view told.0 told.1 (asks_as (Request.Write told.0 told.1) told.2))
+          (subst (λ (r : Replica). is_held told.0 r.log ≡ true) (sym now) told.3),
     )
     reply_says (Reply.Later x) told = (told.0, later_asked told.0 told.1, told.2)
     reply_says (Reply.Full live) told = full_live live told

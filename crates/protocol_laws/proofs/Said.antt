@@ -26,13 +26,15 @@ use Rattle.protocol.specs.Replicas.{top_of, stamp_max}
 use Rattle.protocol.specs.declared.phases.Phase.{Phase}
 use Rattle.protocol.specs.declared.phases.Phase.TheVariants.{Looks, Orders, Recovers, Descends, Stores}
 use Rattle.protocol.specs.declared.phases.Counted.{Counted}
-use Rattle.protocol.specs.Coordinators.{Coordinator, answers_phase, has_seat, stored_content, request_of}
-use Rattle.protocol.specs.Nodes.{Node}
+use Rattle.protocol.specs.Coordinators.{Coordinator, answers_phase, has_seat, request_of}
+use Rattle.protocol.specs.Nodes.{Node, given_content}
 use Rattle.protocol.specs.Worlds.{World, Operation, zero_content}
 use Rattle.fab_base.specs.Layouts.{brick_at}
-use Rattle.protocol_laws.specs.Laws.{WasSent, WriteSent, AskedAt, part_of, AtQuorum, IsGuarded, IsBlocked}
+use Rattle.protocol_laws.specs.Laws.{WasSent, WriteSent, AskedAt, AtQuorum}
+use Rattle.protocol_laws.proofs.Parts.{part_of, PartsGuard, PartsBlock}
 use Rattle.protocol_laws.proofs.Books.{IsOperation, IsCall}
 use Rattle.protocol_laws.proofs.Blocking.{HeldIsLogged}
+use Rattle.protocol_laws.proofs.FirstViews.{floor_at}
 use Rattle.protocol_laws.proofs.Logs.{LogAscends, IsWithin}
 
 -- a phase that was begun: its stamp, and what it does
@@ -64,7 +66,7 @@ Stands setting w g s v =
 
 -- no quorum holds a stamp of these, or ever will
 abbrev pub AreBlocked : Setting → World → ℕ → ℕ → (Stamp → Type 0) → Type 0
-AreBlocked setting w g s Q = (group : Group) → group_of setting.layout g ≡ Some group → (d : Stamp) → Q d → IsBlocked w g s group d
+AreBlocked setting w g s Q = (group : Group) → group_of setting.layout g ≡ Some group → (d : Stamp) → Q d → PartsBlock w g s group d
 
 -- a stripe's content: the bytes of m blocks
 abbrev pub IsContent : ℕ → ℕ → List ℕ → Type 0
@@ -97,13 +99,13 @@ pub record StampsSay (w : World) (stamps : Stamping) : Type 0 where
 
 -- at a quorum of seats the operation's floor is at most t
 abbrev pub FloorsAtMost : Operation → Group → Stamp → Type 0
-FloorsAtMost o group t = AtQuorum group (λ seat. not (stamp_below t (o.floor (brick_at group seat))))
+FloorsAtMost o group t = AtQuorum group (λ seat. not (stamp_below t (floor_at o (brick_at group seat))))
 
 -- at a quorum of seats the operation's floor is at least t
 abbrev pub FloorsAtLeast : Operation → Group → Stamp → Type 0
-FloorsAtLeast o group t = AtQuorum group (λ seat. not (stamp_below (o.floor (brick_at group seat)) t))
+FloorsAtLeast o group t = AtQuorum group (λ seat. not (stamp_below (floor_at o (brick_at group seat)) t))
 
--- a request or reply's call is that of an operation of brick i
+-- a request or reply's call is that of an operation of brick i, in view 1
 pub record IsCalled (w : World) (i : ℕ) (call : Call) (o : Operation) : Type 0 where
   pub is : IsOperation w (w.numbers i call.boot call.seq) o
   pub brick : o.brick.0 ≡ i
@@ -111,6 +113,7 @@ pub record IsCalled (w : World) (i : ℕ) (call : Call) (o : Operation) : Type 0
   pub seq : o.seq ≡ call.seq
   pub group : o.ask.group.0 ≡ call.group.0
   pub stripe : o.ask.stripe.0 ≡ call.stripe.0
+  pub view : call.view.0 ≡ 1
 
 -- a block is the block of version t of a stripe at the seat of brick i
 abbrev pub IsBlockOf : Setting → World → ℕ → ℕ → ℕ → Stamp → List ℕ → Type 0
@@ -131,7 +134,7 @@ pub record WriteSays (setting : Setting) (w : World) (stamps : Stamping) (from t
   pub made : operation.made ≡ true
   pub version : operation.version ≡ Some t
   pub member : (group : Group) → group_of setting.layout call.group.0 ≡ Some group → (seat : ℕ) × (seat_in group.members to ≡ Some seat)
-  pub guarded : (group : Group) → group_of setting.layout call.group.0 ≡ Some group → IsGuarded w call.group.0 call.stripe.0 group t
+  pub guarded : (group : Group) → group_of setting.layout call.group.0 ≡ Some group → PartsGuard w call.group.0 call.stripe.0 group t
   pub is_block : IsBlockOf setting w call.group.0 call.stripe.0 to t block
 
 -- what a request of brick i to brick j says
@@ -152,7 +155,7 @@ pub record OrderedSays (w : World) (stamps : Stamping) (j i : ℕ) (call : Call)
   pub stamp : Stamp
   pub stamp_is : IsBegun stamps i call.boot call.seq call.phase Orders stamp
   pub promised : stamp_below (top_of (part_of w call.group.0 call.stripe.0 j)) stamp ≡ false
-  pub floor : stamp_below stamp (operation.floor j) ≡ false
+  pub floor : stamp_below stamp (floor_at operation j) ≡ false
 
 -- what brick j found below a bound, when it promised the stamp of a recovery: each version that it holds below the bound is at most that
 pub record OrderedReadSays (setting : Setting) (w : World) (stamps : Stamping) (j i : ℕ) (call : Call) (found : Option Version) : Type 0 where
@@ -161,8 +164,9 @@ pub record OrderedReadSays (setting : Setting) (w : World) (stamps : Stamping) (
   pub stamp : Stamp
   pub bound : Stamp
   pub recovers : IsRecovery stamps i call.boot call.seq call.phase bound stamp
+  pub view : stamp.view.0 ≡ 1
   pub promised : stamp_below (top_of (part_of w call.group.0 call.stripe.0 j)) stamp ≡ false
-  pub floor : stamp_below stamp (operation.floor j) ≡ false
+  pub floor : stamp_below stamp (floor_at operation j) ≡ false
   pub newest : (d : Stamp) → w.held j call.group.0 call.stripe.0 d ≡ true → stamp_below d bound ≡ true → IsWithin found d
   pub says : (version : Version) → found ≡ Some version → VersionSays setting w call.group.0 call.stripe.0 j version
 
@@ -171,7 +175,7 @@ pub record FoundSays (setting : Setting) (w : World) (j i : ℕ) (call : Call) (
   pub operation : Operation
   pub called : IsCalled w i call operation
   pub top : stamp_below (top_of (part_of w call.group.0 call.stripe.0 j)) (stamp_max order version.stamp) ≡ false
-  pub floor : stamp_below (stamp_max order version.stamp) (operation.floor j) ≡ false
+  pub floor : stamp_below (stamp_max order version.stamp) (floor_at operation j) ≡ false
   pub held : w.held j call.group.0 call.stripe.0 version.stamp ≡ true
   pub says : VersionSays setting w call.group.0 call.stripe.0 j version
 
@@ -199,7 +203,7 @@ PacketSays setting w stamps packet = MessageSays setting w stamps packet.from pa
 pub record HasVersion (setting : Setting) (w : World) (o : Operation) (v : Stamp) : Type 0 where
   pub made : IsMadeOrFirst w o.ask.group.0 o.ask.stripe.0 v
   pub reader : o.made ≡ false → o.ask.op ≡ ReadStripe
-  pub guarded : (group : Group) → group_of setting.layout o.ask.group.0 ≡ Some group → IsGuarded w o.ask.group.0 o.ask.stripe.0 group v
+  pub guarded : (group : Group) → group_of setting.layout o.ask.group.0 ≡ Some group → PartsGuard w o.ask.group.0 o.ask.stripe.0 group v
   pub floors : (group : Group) → group_of setting.layout o.ask.group.0 ≡ Some group → FloorsAtMost o group v
 
 -- the operation made version v by reading its base back
@@ -219,9 +223,9 @@ WritesWhole w o v = (o.base ≡ None) × (o.ask.op ≡ WriteStripe (w.contents o
 -- operation n
 pub record OperationSays (setting : Setting) (w : World) (stamps : Stamping) (n : ℕ) (o : Operation) : Type 0 where
   pub begin : o.begin ≤ length w.marks
-  pub floors : (i : ℕ) → stamp_below (top_of (part_of w o.ask.group.0 o.ask.stripe.0 i)) (o.floor i) ≡ false
-  pub floors_known : (i : ℕ) → IsKnown stamps (o.floor i)
-  pub fresh : (i p : ℕ) → IsStamped stamps o.brick.0 o.boot o.seq p (o.floor i) → ⊥
+  pub floors : (i : ℕ) → stamp_below (top_of (part_of w o.ask.group.0 o.ask.stripe.0 i)) (floor_at o i) ≡ false
+  pub floors_known : (i : ℕ) → IsKnown stamps (floor_at o i)
+  pub fresh : (i p : ℕ) → IsStamped stamps o.brick.0 o.boot o.seq p (floor_at o i) → ⊥
   pub made : o.made ≡ true → (v : Stamp) × (p : ℕ) × (o.version ≡ Some v) × IsStamped stamps o.brick.0 o.boot o.seq p v
   pub maker : (v : Stamp) → o.made ≡ true → o.version ≡ Some v → WritesWhole w o v ⊎ ReadsBack setting w o v
   pub content : (v : Stamp) → o.made ≡ true → o.version ≡ Some v → (group : Group) → group_of setting.layout o.ask.group.0 ≡ Some group
@@ -256,22 +260,21 @@ AreOnce (x ∷ counted) = (has_seat x.seat counted ≡ false) × AreOnce counted
 
 -- the open operation of brick i's call k. Its present phase is the last that was begun, and each member was sent its request; where it looks
 -- below a bound, which is above the first stamp, no quorum will ever hold a version from there up to its stamp; and where it stores, it stores
--- the content of its version.
+-- the content of its version; and a stripe write orders with what it was given.
 pub record CallSays (setting : Setting) (w : World) (stamps : Stamping) (i k : ℕ) (c : Coordinator) : Type 0 where
   pub begun : IsBegun stamps i (w.nodes i).boot k c.call.phase c.phase c.stamp
   pub last : (p : ℕ) → c.call.phase < p → stamps i (w.nodes i).boot k p ≡ None
-  pub asked : (group : Group) → group_of setting.layout c.ask.group.0 ≡ Some group → (seat : ℕ) (member : BrickId)
-      → slice_get group.members seat ≡ Some member
-      → WasSent w
-      (record { from = record { 0 = i }; to = member; message = Message.Request c.call (request_of setting.code group.m c seat) })
+  pub asked : (seat : ℕ) (member : BrickId) → slice_get c.group.members seat ≡ Some member
+      → WasSent w (record { from = record { 0 = i }; to = member; message = Message.Request c.call (request_of setting.code c seat) })
   pub fits : FitsPhase c.phase c.ask.op
   pub unbased : c.phase ≡ Orders → c.base ≡ None
+  pub given : c.phase ≡ Orders → c.content ≡ given_content c.ask.op
   pub above : (bound : Stamp) → c.phase ≡ Descends bound → stamp_below first_stamp bound ≡ true
   pub below : (bound : Stamp) → c.phase ≡ Descends bound → stamp_below bound c.stamp ≡ true
   pub covered : (bound : Stamp) → c.phase ≡ Descends bound
       → AreBlocked setting w c.ask.group.0 c.ask.stripe.0 (λ d. (stamp_below d bound ≡ false) × (stamp_below d c.stamp ≡ true))
   pub stores : c.phase ≡ Stores
-      → IsMadeOrFirst w c.ask.group.0 c.ask.stripe.0 c.stamp × (stored_content c ≡ w.contents c.ask.group.0 c.ask.stripe.0 c.stamp)
+      → IsMadeOrFirst w c.ask.group.0 c.ask.stripe.0 c.stamp × (c.content ≡ w.contents c.ask.group.0 c.ask.stripe.0 c.stamp)
   pub counted : EachCounted (CountedSays setting w i c) c.counted
   pub once : AreOnce c.counted
 

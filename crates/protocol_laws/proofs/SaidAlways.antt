@@ -4,6 +4,7 @@ use Rattle.std.specs.Prelude.{slice_get}
 use Rattle.std.proofs.lemmas.List.{append-nil, length-append}
 use Rattle.std.proofs.lemmas.Bool.{cond_both, cond-false, false≢true, or_left}
 use Rattle.fab_base.specs.declared.identities.BrickId.{BrickId}
+use Rattle.fab_base.specs.declared.identities.ViewNo.{ViewNo}
 use Rattle.fab_base.specs.declared.stamps.Stamp.{Stamp}
 use Rattle.fab_base.specs.declared.asks.Ask.{Ask}
 use Rattle.fab_base.specs.Stamps.{stamp_below, stamp_same, first_stamp}
@@ -16,37 +17,45 @@ use Rattle.messages.specs.declared.requests.Version.{Version}
 use Rattle.messages.specs.declared.replies.Reply.{Reply}
 use Rattle.reg_model.specs.declared.marks.Mark.{Mark}
 use Rattle.reg_model.specs.declared.marks.Mark.TheVariants.{End, Crash}
-use Rattle.fab_base.specs.Layouts.{Group, group_of}
+use Rattle.fab_base.specs.Layouts.{Group}
 use Rattle.protocol.specs.Settings.{Setting, IsSound}
 use Rattle.protocol.specs.Replicas.{Reaction, first_replica, top_of, handle}
 use Rattle.protocol.specs.declared.phases.Counted.{Counted}
 use Rattle.protocol.specs.Coordinators.{Coordinator}
-use Rattle.protocol.specs.Nodes.{Node, NodeStep, put, with_known, full_at, reply_packets, absorbed, ticked, stopped, restarted, new_stamp, fresh_stamp, no_step, began, invoked, requested, known_after, replied_to, replied_at, replied, received}
+use Rattle.protocol.specs.Nodes.{Node, NodeStep, put, with_known, with_replica, replica_at, reacted, full_at, reply_packets, absorbed, ticked, stopped, restarted, new_stamp, fresh_stamp, no_step, began, invoked, requested, known_after, replied_at, replied, received}
 use Rattle.protocol.specs.Worlds.{World, Found, Before, After, Event, Invokes, Delivers, Sets, Ticks, Stops, Starts, replies_with, first_world, zero_content, is_brick, is_up, may_start, world_ticked, left_after, packet_during, world_stopped, world_found, world_started, may_begin, world_began, world_stepped, delivered, packet_of, happens, run, with_held}
-use Rattle.protocol_laws.specs.Laws.{WasSent, part_of}
+use Rattle.protocol_laws.specs.Laws.{WasSent}
+use Rattle.protocol_laws.proofs.BooksKept.{keeps_all}
+use Rattle.protocol_laws.proofs.FirstViews.{group_first, view_first}
 use Rattle.protocol_laws.proofs.Books.{Books, IsCall}
-use Rattle.protocol_laws.proofs.Left.{IsLeft, Leaves, leaves_happens, packet_was_sent}
+use Rattle.protocol_laws.proofs.Left.{IsLeft, Leaves, always_leaves, leaves_happens, packet_was_sent}
 use Rattle.protocol_laws.proofs.Said.{Stamping, Said, IsSaid, IsStampOf, VersionSays}
 use Rattle.protocol_laws.proofs.BooksQuiet.{books_quiet}
-use Rattle.protocol_laws.proofs.BooksEvents.{known_grows, fresh_is, BeginFits, begin_fits, start_fits, books_found}
+use Rattle.protocol_laws.proofs.BooksEvents.{known_grows, fresh_is, BeginFits, begin_fits, start_fits, books_found, books_run, books}
 use Rattle.protocol_laws.proofs.Tables.{get_one, get_kept, get_grown}
 use Rattle.protocol_laws.proofs.Lives.{last_grows}
 use Rattle.protocol_laws.proofs.Stampings.{ages_within}
 use Rattle.protocol_laws.proofs.Reactions.{top_is, handle_after, handle_says}
 use Rattle.protocol_laws.proofs.Steps.{quiet, said_beside, said_added, said_idle}
-use Rattle.protocol_laws.proofs.Requests.{request_each, said_after_request, reply_packets_say}
+use Rattle.protocol_laws.proofs.Requests.{in_first, said_after_request, reply_packets_say}
+use Rattle.protocol_laws.proofs.Served.{request_each}
 use Rattle.protocol_laws.proofs.Sends.{ticked_was_sent}
 use Rattle.protocol_laws.proofs.Replies.{said_known, said_after_reply}
 use Rattle.protocol_laws.proofs.Begins.{said_began}
 
 -- the world after a brick's step
 abbrev stepped : Setting → World → BrickId → NodeStep → World
-stepped setting w me step = world_stepped setting w me step step.told
+stepped setting w me step = world_stepped setting w me step
 
 -- a step that does nothing
 nothing_said : (setting : Setting) (w : World) (stamps : Stamping) (me : BrickId) → Books setting w → Said setting w stamps
     → Said setting (stepped setting w me (no_step (w.nodes me.0))) stamps
 nothing_said setting w stamps me books said = said_known setting w stamps me (w.nodes me.0).known books said (omega arith)
+
+-- a call in a view
+abbrev in_view : Call → ℕ → Call
+in_view call v =
+    record { boot = call.boot; seq = call.seq; phase = call.phase; group = call.group; view = record { 0 = v }; stripe = call.stripe }
 
 -- a request is delivered
 request_said : (setting : Setting) (w : World) (stamps : Stamping) (me from : BrickId) (call : Call) (request : Request) → Books setting w
@@ -55,13 +64,24 @@ request_said : (setting : Setting) (w : World) (stamps : Stamping) (me from : Br
 request_said setting w stamps me from call request books said sent =
     request_each (λ step. Said setting (stepped setting w me step) stamps) setting me from (w.nodes me.0) call request
     (nothing_said setting w stamps me books said)
-    (λ seat.
-    let full : Option ℕ = full_at setting.layout.records (w.nodes me.0) in
-    let reaction : Reaction = handle full seat (part_of w call.group.0 call.stripe.0 me.0) request in
-    let after = handle_after full seat (part_of w call.group.0 call.stripe.0 me.0) request in
-    said_after_request setting w stamps me from call request books said sent reaction (reply_packets me from call reaction.reply) after
-    (reply_packets_say setting w stamps me from call request books said sent reaction (reply_packets me from call reaction.reply) after
-    reaction.reply (handle_says full seat (part_of w call.group.0 call.stripe.0 me.0) request)))
+    (λ seat view.
+    subst (λ (v : ℕ). WasSent w (record { from = from; to = me; message = Message.Request (in_view call v) request })
+    → Said setting (stepped setting w me (reacted me from (w.nodes me.0) (in_view call v) (reaction seat (in_view call v)))) stamps)
+    (sym (view ∙ view_first setting.layout (w.nodes me.0) call.group.0 (books.first me.0)))
+    (λ first.
+    let after = handle_after full seat (replica_at (w.nodes me.0) (in_first call)) request in
+    said_after_request setting w stamps me from call request books said first (reaction seat (in_first call)) (sends seat) after
+    (reply_packets_say setting w stamps me from call request books said first (reaction seat (in_first call)) (sends seat) after
+    (reaction seat (in_first call)).reply (handle_says full seat (replica_at (w.nodes me.0) (in_first call)) request))) sent)
+  where
+    full : Option ℕ
+    full = full_at setting.layout.records (w.nodes me.0).live
+
+    reaction : ℕ → Call → Reaction
+    reaction seat c = handle full seat (replica_at (w.nodes me.0) c) request
+
+    sends : ℕ → List Packet
+    sends seat = reply_packets me from (in_first call) (reaction seat (in_first call)).reply
 
 -- a request is handled, and its reply is lost
 request_kept : (setting : Setting) (w : World) (stamps : Stamping) (me from : BrickId) (call : Call) (request : Request) → Books setting w
@@ -70,21 +90,28 @@ request_kept : (setting : Setting) (w : World) (stamps : Stamping) (me from : Br
 request_kept setting w stamps me from call request books said sent =
     request_each (λ step. Said setting (quiet w me step.node []) stamps) setting me from (w.nodes me.0) call request
     (nothing_said setting w stamps me books said)
-    (λ seat.
-    let full : Option ℕ = full_at setting.layout.records (w.nodes me.0) in
-    said_after_request setting w stamps me from call request books said sent
-    (handle full seat (part_of w call.group.0 call.stripe.0 me.0) request) []
-    (handle_after full seat (part_of w call.group.0 call.stripe.0 me.0) request) (λ k packet at. cc))
+    (λ seat view.
+    subst (λ (v : ℕ). WasSent w (record { from = from; to = me; message = Message.Request (in_view call v) request })
+    → Said setting (quiet w me (with_replica (w.nodes me.0) (in_view call v) (reaction seat (in_view call v))) []) stamps)
+    (sym (view ∙ view_first setting.layout (w.nodes me.0) call.group.0 (books.first me.0)))
+    (λ first. said_after_request setting w stamps me from call request books said first (reaction seat (in_first call)) []
+    (handle_after full seat (replica_at (w.nodes me.0) (in_first call)) request) (λ k packet at. cc)) sent)
+  where
+    full : Option ℕ
+    full = full_at setting.layout.records (w.nodes me.0).live
+
+    reaction : ℕ → Call → Reaction
+    reaction seat c = handle full seat (replica_at (w.nodes me.0) c) request
 
 -- a fresh stamp is its brick's, and above all that it knows
-fresh_says : (setting : Setting) (w : World) (me : BrickId) (now known : ℕ) (t : Stamp) → Books setting w → (w.nodes me.0).known ≤ known
-    → fresh_stamp me now (w.nodes me.0).boot known ≡ Some t
+fresh_says : (setting : Setting) (w : World) (me : BrickId) (view : ViewNo) (now known : ℕ) (t : Stamp) → view.0 ≡ 1 → Books setting w
+    → (w.nodes me.0).known ≤ known → fresh_stamp me view now (w.nodes me.0).boot known ≡ Some t
     → IsStampOf (with_known (w.nodes me.0) t.time) me.0 (w.nodes me.0).boot t × ((w.nodes me.0).known < t.time)
-fresh_says setting w me now known t books more is =
-    let new : Stamp = new_stamp me now (w.nodes me.0).boot known in
+fresh_says setting w me view now known t of books more is =
+    let new : Stamp = new_stamp me view now (w.nodes me.0).boot known in
     subst (λ (z : Stamp). IsStampOf (with_known (w.nodes me.0) z.time) me.0 (w.nodes me.0).boot z × ((w.nodes me.0).known < z.time))
-    (sym (fresh_is me now (w.nodes me.0).boot known t is).0)
-    (record { view = refl; boot = refl; booted = omega arith; brick = refl; positive = omega arith; bounded = λ now. omega arith }, omega arith)
+    (sym (fresh_is me view now (w.nodes me.0).boot known t is).0)
+    (record { view = of; boot = refl; booted = omega arith; brick = refl; positive = omega arith; bounded = λ now. omega arith }, omega arith)
 
 -- a reply is delivered
 reply_said : (setting : Setting) (w : World) (stamps : Stamping) (me from : BrickId) (now : ℕ) (call : Call) (reply : Reply) → IsSound setting
@@ -93,14 +120,13 @@ reply_said : (setting : Setting) (w : World) (stamps : Stamping) (me from : Bric
 unfolding replied
 reply_said setting w stamps me from now call reply sound books said sent = at_call ((w.nodes me.0).calls call.seq) refl
   where
-    in_group : (c : Coordinator) → IsCall w me.0 c.call.seq c → (z : Option Group) → group_of setting.layout c.ask.group.0 ≡ z
-        → IsSaid setting (stepped setting w me (replied_to setting me now from (w.nodes me.0) call reply c z))
-    in_group c is None none = (stamps, nothing_said setting w stamps me books said)
-    in_group c is (Some group) group_is =
-        said_after_reply setting sound w stamps me c group (known_after (w.nodes me.0).known reply) books said is group_is
+    in_call : (c : Coordinator) → IsCall w me.0 c.call.seq c
+        → IsSaid setting (stepped setting w me (replied_at setting me now from (w.nodes me.0) call reply (Some c)))
+    in_call c is =
+        said_after_reply setting sound w stamps me c (known_after (w.nodes me.0).known reply) books said is
         (known_grows (w.nodes me.0).known reply)
-        (fresh_stamp me now (w.nodes me.0).boot (known_after (w.nodes me.0).known reply))
-        (λ t new. fresh_says setting w me now (known_after (w.nodes me.0).known reply) t books
+        (fresh_stamp me c.call.view now (w.nodes me.0).boot (known_after (w.nodes me.0).known reply))
+        (λ t new. fresh_says setting w me c.call.view now (known_after (w.nodes me.0).known reply) t (books.calls me.0 c.call.seq c is).call_view books
         (known_grows (w.nodes me.0).known reply) new) from call reply sent
 
     at_call : (z : Option Coordinator) → (w.nodes me.0).calls call.seq ≡ z
@@ -112,7 +138,7 @@ reply_said setting w stamps me from now call reply sound books said sent = at_ca
     )
     at_call (Some c) is =
         let seq : c.call.seq ≡ call.seq = (books.calls me.0 call.seq c is).call_seq in
-        in_group c (subst (λ (k : ℕ). IsCall w me.0 k c) (sym seq) is) (group_of setting.layout c.ask.group.0) refl
+        in_call c (subst (λ (k : ℕ). IsCall w me.0 k c) (sym seq) is)
 
 -- a message is delivered
 message_said : (setting : Setting) (w : World) (stamps : Stamping) (me from : BrickId) (now : ℕ) (message : Message) → IsSound setting
@@ -137,7 +163,7 @@ absorbed_said setting w stamps me from to message books said sent = nothing_said
 -- the books do not change with the replies that count
 books_beside : (setting : Setting) (w : World) (replies : ℕ → ℕ → List Counted) → Books setting w → Books setting (record w { replies = replies })
 books_beside setting w replies books =
-    books_quiet setting w w.nodes w.held w.clocks w.packets replies books (λ i. record { boot = refl; seq = refl; known = omega arith }) (λ i k. refl)
+    books_quiet setting w w.nodes w.held w.clocks w.packets replies books (λ i. keeps_all (w.nodes i)) (λ i k. refl)
 
 delivered_said : (setting : Setting) (w : World) (stamps : Stamping) (z : Option Packet) → IsSound setting → Books setting w → Said setting w stamps
     → ((packet : Packet) → z ≡ Some packet → WasSent w packet) → IsSaid setting (delivered setting w z)
@@ -223,7 +249,8 @@ invoked_said : (setting : Setting) (w : World) (stamps : Stamping) (me : BrickId
 unfolding invoked
 invoked_said setting w stamps me ask books said may =
     let fits : BeginFits setting ask = begin_fits setting w me ask may in
-    subst (λ (z : Option Group). IsSaid setting (world_began w me ask (began setting me (w.clocks me.0) (w.nodes me.0) ask z))) (sym fits.group_is)
+    subst (λ (z : Option Group). IsSaid setting (world_began w me ask (began setting me (w.clocks me.0) (w.nodes me.0) ask z)))
+    (sym (group_first setting.layout (w.nodes me.0) ask.group.0 (books.first me.0) ∙ fits.group_is))
     (said_began setting w stamps me ask fits.group books said fits.group_is fits.is_stripe_op)
 
 -- every event keeps the invariant
@@ -280,7 +307,7 @@ said_first setting sound = (
         subst (λ (z : Version). VersionSays setting (first_world setting.layout) g s i z) same (record {
           made = inl refl;
           block = λ group seat group_is at.
-              sym (sound.zero_blocks g group seat group_is)
+              sym (sound.zero_blocks group.m (length group.members) seat (sound.limits g group group_is))
               ∙ ap (λ (z : Option Group). setting.code.encode group.m (zero_content setting.layout.block z) seat) (sym group_is);
         });
     packets = λ k packet is. cc;
@@ -300,3 +327,14 @@ said_run setting [] w sound leaves books said = said
 said_run setting (event ∷ events) w sound leaves books said =
     said_run setting events (happens setting w event) sound (leaves_happens setting w event leaves) (λ more. books (event ∷ more))
     (said_happens setting w event sound leaves (books []) said)
+
+-- the invariant holds in every world that a run reaches, from any that one has reached
+pub said_on : (setting : Setting) (events more : List Event) → IsSound setting
+    → IsSaid setting (run setting more (run setting events (first_world setting.layout)))
+said_on setting events more sound =
+    let w : World = run setting events (first_world setting.layout) in
+    said_run setting more w sound (always_leaves setting events) (λ then'. books_run setting then' w (always_leaves setting events) (books setting events))
+    (said_run setting events (first_world setting.layout) sound (always_leaves setting []) (λ then'. books setting then') (said_first setting sound))
+
+pub always_said : (setting : Setting) (events : List Event) → IsSound setting → IsSaid setting (run setting events (first_world setting.layout))
+always_said setting events sound = said_on setting [] events sound

@@ -1,9 +1,8 @@
 -- A coordinator begins its next phase, which makes no version yet: a recovery, a look below a lower bound, or another round of ordering.
 -- And an open operation may send its present phase again.
-use Rattle.std.proofs.Common.{◌≡◌, ℕ, ◌+◌, ◌≤◌, max, ◌⊎◌, inl, inr, true, false, List, [], ◌∷◌, ◌++◌, zero, suc, Option, Some, None, refl, sym, ap, ◌∙◌, subst, ⊎_elim, arith}
+use Rattle.std.proofs.Common.{◌≡◌, ℕ, ◌+◌, ◌≤◌, max, ◌⊎◌, inl, inr, true, false, List, [], ◌∷◌, zero, suc, Option, Some, None, refl, sym, ap, ◌∙◌, subst, ⊎_elim, arith}
 use Rattle.std.specs.Prelude.{slice_get}
 use Rattle.std.proofs.lemmas.Bool.{cond_both}
-use Rattle.std.proofs.lemmas.Option.{same_Some}
 use Rattle.fab_base.specs.declared.identities.BrickId.{BrickId}
 use Rattle.fab_base.specs.declared.stamps.Stamp.{Stamp}
 use Rattle.fab_base.specs.Stamps.{stamp_below, first_stamp}
@@ -11,13 +10,12 @@ use Rattle.messages.specs.declared.calls.Call.{Call}
 use Rattle.messages.specs.declared.packets.Message.TheVariants as Message
 use Rattle.messages.specs.declared.packets.Packet.{Packet}
 use Rattle.messages.specs.declared.requests.Request.{Request}
-use Rattle.fab_base.specs.Layouts.{Group, group_of}
 use Rattle.protocol.specs.Settings.{Setting}
 use Rattle.protocol.specs.declared.phases.Counted.{Counted}
 use Rattle.protocol.specs.declared.phases.Phase.{Phase}
 use Rattle.protocol.specs.declared.phases.Phase.TheVariants.{Looks, Orders, Recovers, Descends, Stores}
 use Rattle.protocol.specs.Coordinators.{Coordinator, next_phase, has_seat, request_of}
-use Rattle.protocol.specs.Nodes.{Node, with_known, with_call, phase_packets, resent_to, resent_in, resent, resent_up_to, ticked}
+use Rattle.protocol.specs.Nodes.{Node, with_known, with_call, phase_packets, given_content, resent_to, resent, resent_up_to, ticked}
 use Rattle.protocol.specs.Worlds.{World, Operation}
 use Rattle.protocol_laws.specs.Laws.{WasSent}
 use Rattle.protocol_laws.proofs.Books.{Books, CallBooks, IsOperation, IsCall}
@@ -40,12 +38,12 @@ AsksPromises setting w g s t (Descends bound) =
     (stamp_below first_stamp bound ≡ true) × (stamp_below bound t ≡ true) × AreBlocked setting w g s (IsCovered bound t)
 AsksPromises setting w g s t Stores = ⊥
 
-module _ (setting : Setting) (w : World) (stamps : Stamping) (me : BrickId) (c : Coordinator) (group : Group) (known : ℕ) (books : Books setting w)
-    (said : Said setting w stamps) (is : IsCall w me.0 c.call.seq c) (group_is : group_of setting.layout c.ask.group.0 ≡ Some group)
+module _ (setting : Setting) (w : World) (stamps : Stamping) (me : BrickId) (c : Coordinator) (known : ℕ) (books : Books setting w)
+    (said : Said setting w stamps) (is : IsCall w me.0 c.call.seq c)
     (more_known : (w.nodes me.0).known ≤ known) (t : Stamp) (round : ℕ) (phase : Phase)
     (of : IsStampOf (with_known (w.nodes me.0) (max known t.time)) me.0 (w.nodes me.0).boot t)
     (from : ComesFrom stamps me.0 (w.nodes me.0).boot c.call.seq t) (fits : FitsPhase phase c.ask.op)
-    (unbased : phase ≡ Orders → c.base ≡ None) (asks : AsksPromises setting w c.ask.group.0 c.ask.stripe.0 t phase) where
+    (unbased : phase ≡ Orders → (c.base ≡ None) × (c.content ≡ given_content c.ask.op)) (asks : AsksPromises setting w c.ask.group.0 c.ask.stripe.0 t phase) where
   abbrev its : CallBooks setting w me.0 c.call.seq c
   its = books.calls me.0 c.call.seq c is
 
@@ -62,7 +60,7 @@ module _ (setting : Setting) (w : World) (stamps : Stamping) (me : BrickId) (c :
   -- the coordinator in its next phase
   abbrev d_in : Phase → Coordinator
   d_in p =
-      record { ask = c.ask; stamp = t; round = round; base = c.base; content = c.content; call = next_phase c.call; phase = p; counted = [] }
+      record { group = c.group; ask = c.ask; stamp = t; round = round; base = c.base; content = c.content; call = next_phase c.call; phase = p; counted = [] }
 
   abbrev d : Coordinator
   d = d_in phase
@@ -71,7 +69,7 @@ module _ (setting : Setting) (w : World) (stamps : Stamping) (me : BrickId) (c :
   node = with_call (w.nodes me.0) (max known t.time) (w.nodes me.0).busy c.call.seq (Some d)
 
   abbrev more : List Packet
-  more = phase_packets setting group me d
+  more = phase_packets setting me d
 
   abbrev next : World
   next = quiet w me node more
@@ -111,11 +109,12 @@ module _ (setting : Setting) (w : World) (stamps : Stamping) (me : BrickId) (c :
     seq = its.seq;
     group = ap (λ a. a.group.0) (sym its.ask) ∙ ap (λ g. g.0) (sym its.call_group);
     stripe = ap (λ a. a.stripe.0) (sym its.ask) ∙ ap (λ s. s.0) (sym its.call_stripe);
+    view = its.call_view;
   }
 
   request_says : (p : Phase) → AsksPromises setting w c.ask.group.0 c.ask.stripe.0 t p
       → IsBegun later me.0 c.call.boot c.call.seq (c.call.phase + 1) p t → (j seat : ℕ)
-      → RequestSays setting next later me.0 j (next_phase c.call) (request_of setting.code group.m (d_in p) seat)
+      → RequestSays setting next later me.0 j (next_phase c.call) (request_of setting.code (d_in p) seat)
   unfolding request_of
   request_says Looks bad at j seat = absurd bad
   request_says Orders ok at j seat = (at, (o, called))
@@ -125,7 +124,7 @@ module _ (setting : Setting) (w : World) (stamps : Stamping) (me : BrickId) (c :
 
   packets : (k : ℕ) (packet : Packet) → slice_get more k ≡ Some packet → PacketSays setting next later packet
   packets k packet at =
-      let sent = sent_to_member me d.call (request_of setting.code group.m d) 0 group.members k packet at in
+      let sent = sent_to_member me d.call (request_of setting.code d) 0 c.group.members k packet at in
       subst (λ (z : Packet). PacketSays setting next later z) (sym sent.2) (request_says phase asks begun_call sent.0.0 (0 + k))
 
   asks_as : (p : Phase) → phase ≡ p → AsksPromises setting w c.ask.group.0 c.ask.stripe.0 t p
@@ -137,11 +136,10 @@ module _ (setting : Setting) (w : World) (stamps : Stamping) (me : BrickId) (c :
     last = λ p less.
         subst (λ (b : ℕ). later me.0 b c.call.seq p ≡ None) (sym boot_now)
         (stamp_last stamps me.0 boot c.call.seq (c.call.phase + 1) begun none from p less);
-    asked = λ other other_is seat member at.
-        let same : group ≡ other = same_Some group other (sym group_is ∙ other_is) in
-        phase_asked setting next other me d w.packets (ap (λ (z : Group). w.packets ++ phase_packets setting z me d) same) seat member at;
+    asked = phase_asked setting next me d w.packets refl;
     fits = fits;
-    unbased = unbased;
+    unbased = λ orders. (unbased orders).0;
+    given = λ orders. (unbased orders).1;
     above = λ bound descends. (asks_as (Descends bound) descends).0;
     below = λ bound descends. (asks_as (Descends bound) descends).1;
     covered = λ bound descends.
@@ -232,21 +230,16 @@ resent_to_member me call request counted seat (member ∷ members) k packet is =
 
 module _ (setting : Setting) (w : World) (stamps : Stamping) (me : BrickId) (said : Said setting w stamps) where
   -- what an open operation sends again was sent
-  resent_was_sent : (k : ℕ) (c : Coordinator) → IsCall w me.0 k c → (z : Option Group) → group_of setting.layout c.ask.group.0 ≡ z
-      → (j : ℕ) (packet : Packet) → slice_get (resent_in setting me c z) j ≡ Some packet → WasSent w packet
-  resent_was_sent k c is None none j packet at = cc
-  resent_was_sent k c is (Some group) group_is j packet at =
-      let found = resent_to_member me c.call (request_of setting.code group.m c) c.counted 0 group.members j packet at in
-      let place : 0 + found.0 ≡ found.0 = omega arith in
-      subst (λ (z : Packet). WasSent w z) (sym found.3)
-      (subst (λ (i : ℕ). WasSent w (record { from = me; to = found.1; message = Message.Request c.call (request_of setting.code group.m c i) }))
-      (sym place)
-      ((said.calls me.0 k c is).asked group group_is found.0 found.1 found.2))
-
   call_resent : (k : ℕ) (z : Option Coordinator) → (w.nodes me.0).calls k ≡ z → (j : ℕ) (packet : Packet)
       → slice_get (resent setting me z) j ≡ Some packet → WasSent w packet
   call_resent k None none j packet at = cc
-  call_resent k (Some c) is j packet at = resent_was_sent k c is (group_of setting.layout c.ask.group.0) refl j packet at
+  call_resent k (Some c) is j packet at =
+      let found = resent_to_member me c.call (request_of setting.code c) c.counted 0 c.group.members j packet at in
+      let place : 0 + found.0 ≡ found.0 = omega arith in
+      subst (λ (z : Packet). WasSent w z) (sym found.3)
+      (subst (λ (i : ℕ). WasSent w (record { from = me; to = found.1; message = Message.Request c.call (request_of setting.code c i) }))
+      (sym place)
+      ((said.calls me.0 k c is).asked found.0 found.1 found.2))
 
   calls_resent : (k j : ℕ) (packet : Packet) → slice_get (resent_up_to setting me (w.nodes me.0).calls k) j ≡ Some packet → WasSent w packet
   calls_resent zero j packet at = cc

@@ -8,6 +8,7 @@ use Rattle.fab_base.proofs.StampOrder.{stamp_below_first, stamp_neither_below}
 use Rattle.protocol.specs.Nodes.{Node, put}
 use Rattle.protocol.specs.Worlds.{World}
 use Rattle.protocol.specs.declared.phases.Phase.{Phase}
+use Rattle.protocol_laws.proofs.FirstViews.{IsOfFirst, above_floor}
 use Rattle.protocol_laws.proofs.Said.{Begun, Stamping, IsBegun, IsStamped, IsKnown, IsStampOf, StampsSay}
 use Rattle.protocol_laws.proofs.Tables.{put_each, put_same}
 
@@ -210,3 +211,16 @@ module _ (stamps : Stamping) (i b k p : ℕ) (new : Begun) where
               e d m r refl refl its.1)
               j c l q one.1 other;
         }
+
+-- what is known is the first stamp, or above the floor of view 1
+pub known_first : (w : World) (stamps : Stamping) (t : Stamp) → StampsSay w stamps → IsKnown stamps t → IsOfFirst t
+known_first w stamps t say (inl first) = inl first
+known_first w stamps t say (inr known) =
+    let of : IsStampOf (w.nodes known.0) known.0 known.1 t = say.are known.0 known.1 known.2 known.3 t known.4 in
+    inr (above_floor t of.view of.positive)
+
+-- and of view 1, or the first
+pub known_view : (w : World) (stamps : Stamping) (t : Stamp) → StampsSay w stamps → IsKnown stamps t → t.view.0 ≤ 1
+known_view w stamps t say (inl first) = let view : t.view.0 ≡ 0 = ap (λ (z : Stamp). z.view.0) first in omega arith
+known_view w stamps t say (inr known) =
+    let of : IsStampOf (w.nodes known.0) known.0 known.1 t = say.are known.0 known.1 known.2 known.3 t known.4 in omega (arith, of.view)

@@ -17,12 +17,14 @@ use Rattle.reg_model.specs.Walk.{last_of}
 use Rattle.fab_base.proofs.StampOrder.{stamp_below_irrefl}
 use Rattle.fab_base.specs.Layouts.{Group, group_of}
 use Rattle.protocol.specs.Settings.{Setting}
+use Rattle.protocol.specs.Views.{view_of}
 use Rattle.protocol.specs.Replicas.{Replica, top_of, is_held}
 use Rattle.protocol.specs.declared.phases.Counted.{Counted}
 use Rattle.protocol.specs.Coordinators.{Coordinator, request_of}
 use Rattle.protocol.specs.Nodes.{Node, put, to_members, phase_packets}
 use Rattle.protocol.specs.Worlds.{World, Operation, with_held}
-use Rattle.protocol_laws.specs.Laws.{WasSent, part_of}
+use Rattle.protocol_laws.specs.Laws.{WasSent, part_in}
+use Rattle.protocol_laws.proofs.Parts.{part_of}
 use Rattle.protocol_laws.proofs.Books.{Books, IsOperation, IsCall}
 use Rattle.protocol_laws.proofs.Logs.{LogAscends}
 use Rattle.protocol_laws.proofs.Blocking.{PartsStay, HeldIsLogged, LogsStay, parts_from}
@@ -31,7 +33,6 @@ use Rattle.protocol_laws.proofs.Tables.{put_each, get_kept, get_grown, get_added
 use Rattle.protocol_laws.proofs.Stampings.{StampsGrow, Ages, ages_within, stamps_same, stays_known, stamps_stay}
 use Rattle.protocol_laws.proofs.Growth.{Grows, continues_same, stays_version, stays_packet, stays_operation, stays_call, stays_end}
 use Rattle.protocol_laws.proofs.Puts.{put_other}
-use Rattle.std.proofs.lemmas.Bool.{cases_eq}
 
 -- call k of brick i's boot b has the stamps that it had
 abbrev pub KeepsStamps : Stamping → Stamping → ℕ → ℕ → ℕ → Type 0
@@ -61,7 +62,7 @@ pub said_after : (setting : Setting) (w next : World) (stamps later : Stamping) 
     → Grows w next stamps later → Owes setting w next stamps later → Said setting next later
 said_after setting w next stamps later books said grows owes = record {
   stamps_say = owes.stamps_say;
-  ascends = λ g s i. grows.parts.ascends g s i (said.ascends g s i);
+  ascends = λ g s i. grows.parts.ascends g 1 s i (said.ascends g s i);
   first_held = λ g s i. grows.parts.held g s i first_stamp (said.first_held g s i);
   tops = λ g s i. ⊎_elim
       (λ (same : top_of (part_of next g s i) ≡ top_of (part_of w g s i)).
@@ -98,44 +99,44 @@ said_after setting w next stamps later books said grows owes = record {
 
 -- one brick's parts of stripes do not fall, hold what they held, take nothing new below their stamps, and go on ascending
 pub record KeepsParts (node next : Node) : Type 0 where
-  pub tops : (g s : ℕ) → stamp_below (top_of (next.replicas g s)) (top_of (node.replicas g s)) ≡ false
-  pub held : (g s : ℕ) (t : Stamp) → is_held t (node.replicas g s).log ≡ true → is_held t (next.replicas g s).log ≡ true
-  pub newer : (g s : ℕ) (t : Stamp) → is_held t (next.replicas g s).log ≡ true
-      → (is_held t (node.replicas g s).log ≡ true) ⊎ (stamp_below t (top_of (node.replicas g s)) ≡ false)
-  pub ascends : (g s : ℕ) → LogAscends (node.replicas g s).log → LogAscends (next.replicas g s).log
+  pub tops : (g e s : ℕ) → stamp_below (top_of (next.replicas g e s)) (top_of (node.replicas g e s)) ≡ false
+  pub held : (g e s : ℕ) (t : Stamp) → is_held t (node.replicas g e s).log ≡ true → is_held t (next.replicas g e s).log ≡ true
+  pub newer : (g e s : ℕ) (t : Stamp) → is_held t (next.replicas g e s).log ≡ true
+      → (is_held t (node.replicas g e s).log ≡ true) ⊎ (stamp_below t (top_of (node.replicas g e s)) ≡ false)
+  pub ascends : (g e s : ℕ) → LogAscends (node.replicas g e s).log → LogAscends (next.replicas g e s).log
 
 -- a brick that keeps its parts as they are
 pub keeps_same : (node next : Node) → next.replicas ≡ node.replicas → KeepsParts node next
 keeps_same node next same = record {
-  tops = λ g s.
-      subst (λ (r : ℕ → ℕ → Replica). stamp_below (top_of (r g s)) (top_of (node.replicas g s)) ≡ false) (sym same)
-      (stamp_below_irrefl (top_of (node.replicas g s)));
-  held = λ g s t held. subst (λ (r : ℕ → ℕ → Replica). is_held t (r g s).log ≡ true) (sym same) held;
-  newer = λ g s t held. inl (subst (λ (r : ℕ → ℕ → Replica). is_held t (r g s).log ≡ true) same held);
-  ascends = λ g s ascends. subst (λ (r : ℕ → ℕ → Replica). LogAscends (r g s).log) (sym same) ascends;
+  tops = λ g e s.
+      subst (λ (r : ℕ → ℕ → ℕ → Replica). stamp_below (top_of (r g e s)) (top_of (node.replicas g e s)) ≡ false) (sym same)
+      (stamp_below_irrefl (top_of (node.replicas g e s)));
+  held = λ g e s t held. subst (λ (r : ℕ → ℕ → ℕ → Replica). is_held t (r g e s).log ≡ true) (sym same) held;
+  newer = λ g e s t held. inl (subst (λ (r : ℕ → ℕ → ℕ → Replica). is_held t (r g e s).log ≡ true) same held);
+  ascends = λ g e s ascends. subst (λ (r : ℕ → ℕ → ℕ → Replica). LogAscends (r g e s).log) (sym same) ascends;
 }
 
 -- logs stay where one brick keeps its own
 logs_by : (w next : World) (me : ℕ) (node : Node) → next.nodes ≡ put w.nodes me node → KeepsParts (w.nodes me) node → LogsStay w next
 logs_by w next me node nodes keeps = record {
-  tops = λ g s i.
-      subst (λ (f : ℕ → Node). stamp_below (top_of ((f i).replicas g s)) (top_of ((w.nodes i).replicas g s)) ≡ false) (sym nodes)
-      (put_each (λ j x. stamp_below (top_of (x.replicas g s)) (top_of ((w.nodes j).replicas g s)) ≡ false) w.nodes me node
-      (keeps.tops g s) (λ j other. stamp_below_irrefl (top_of ((w.nodes j).replicas g s))) i);
-  held = λ g s i t.
-      subst (λ (f : ℕ → Node). is_held t ((w.nodes i).replicas g s).log ≡ true → is_held t ((f i).replicas g s).log ≡ true) (sym nodes)
-      (put_each (λ j x. is_held t ((w.nodes j).replicas g s).log ≡ true → is_held t (x.replicas g s).log ≡ true) w.nodes me node
-      (keeps.held g s t) (λ j other held. held) i);
-  newer = λ g s i t.
-      subst (λ (f : ℕ → Node). is_held t ((f i).replicas g s).log ≡ true
-      → (is_held t ((w.nodes i).replicas g s).log ≡ true) ⊎ (stamp_below t (top_of ((w.nodes i).replicas g s)) ≡ false)) (sym nodes)
-      (put_each (λ j x. is_held t (x.replicas g s).log ≡ true
-      → (is_held t ((w.nodes j).replicas g s).log ≡ true) ⊎ (stamp_below t (top_of ((w.nodes j).replicas g s)) ≡ false)) w.nodes me node
-      (keeps.newer g s t) (λ j other held. inl held) i);
-  ascends = λ g s i.
-      subst (λ (f : ℕ → Node). LogAscends ((w.nodes i).replicas g s).log → LogAscends ((f i).replicas g s).log) (sym nodes)
-      (put_each (λ j x. LogAscends ((w.nodes j).replicas g s).log → LogAscends (x.replicas g s).log) w.nodes me node
-      (keeps.ascends g s) (λ j other ascends. ascends) i);
+  tops = λ g e s i.
+      subst (λ (f : ℕ → Node). stamp_below (top_of ((f i).replicas g e s)) (top_of ((w.nodes i).replicas g e s)) ≡ false) (sym nodes)
+      (put_each (λ j x. stamp_below (top_of (x.replicas g e s)) (top_of ((w.nodes j).replicas g e s)) ≡ false) w.nodes me node
+      (keeps.tops g e s) (λ j other. stamp_below_irrefl (top_of ((w.nodes j).replicas g e s))) i);
+  held = λ g e s i t.
+      subst (λ (f : ℕ → Node). is_held t ((w.nodes i).replicas g e s).log ≡ true → is_held t ((f i).replicas g e s).log ≡ true) (sym nodes)
+      (put_each (λ j x. is_held t ((w.nodes j).replicas g e s).log ≡ true → is_held t (x.replicas g e s).log ≡ true) w.nodes me node
+      (keeps.held g e s t) (λ j other held. held) i);
+  newer = λ g e s i t.
+      subst (λ (f : ℕ → Node). is_held t ((f i).replicas g e s).log ≡ true
+      → (is_held t ((w.nodes i).replicas g e s).log ≡ true) ⊎ (stamp_below t (top_of ((w.nodes i).replicas g e s)) ≡ false)) (sym nodes)
+      (put_each (λ j x. is_held t (x.replicas g e s).log ≡ true
+      → (is_held t ((w.nodes j).replicas g e s).log ≡ true) ⊎ (stamp_below t (top_of ((w.nodes j).replicas g e s)) ≡ false)) w.nodes me node
+      (keeps.newer g e s t) (λ j other held. inl held) i);
+  ascends = λ g e s i.
+      subst (λ (f : ℕ → Node). LogAscends ((w.nodes i).replicas g e s).log → LogAscends ((f i).replicas g e s).log) (sym nodes)
+      (put_each (λ j x. LogAscends ((w.nodes j).replicas g e s).log → LogAscends (x.replicas g e s).log) w.nodes me node
+      (keeps.ascends g e s) (λ j other ascends. ascends) i);
 }
 
 -- either of two, of which the first makes the second true
@@ -145,20 +146,15 @@ either false b goes = refl
 
 -- what bricks have held is in their logs, where one of them keeps its logs and adds to them
 logged_step : (w : World) (me : ℕ) (node : Node) → HeldIsLogged w → KeepsParts (w.nodes me) node → (i g s : ℕ) (t : Stamp)
-    → with_held w.held me node i g s t ≡ is_held t ((put w.nodes me node i).replicas g s).log
-logged_step w me node logged keeps i g s t = ⊎_elim
-    (λ (mine : i ≡ me).
-    ap (λ (j : ℕ). with_held w.held me node j g s t) mine
-    ∙ ap (λ (f : ℕ → ℕ → Stamp → Bool). f g s t) (put_same w.held me (λ h r u. w.held me h r u || is_held u (node.replicas h r).log))
-    ∙ ap (λ (b : Bool). b || is_held t (node.replicas g s).log) (logged me g s t)
-    ∙ either (is_held t ((w.nodes me).replicas g s).log) (is_held t (node.replicas g s).log) (keeps.held g s t)
-    ∙ ap (λ (x : Node). is_held t (x.replicas g s).log) (sym (put_same w.nodes me node))
-    ∙ ap (λ (j : ℕ). is_held t ((put w.nodes me node j).replicas g s).log) (sym mine))
-    (λ (other : i ≢ me).
-    ap (λ (f : ℕ → ℕ → Stamp → Bool). f g s t) (put_other w.held me (λ h r u. w.held me h r u || is_held u (node.replicas h r).log) i other)
-    ∙ logged i g s t
-    ∙ ap (λ (x : Node). is_held t (x.replicas g s).log) (sym (put_other w.nodes me node i other)))
-    (cases_eq i me)
+    → with_held w.held me node i g s t ≡ is_held t ((put w.nodes me node i).replicas g (view_of t) s).log
+logged_step w me node logged keeps i g s t =
+    put_each (λ j x. with_held w.held me node j g s t ≡ is_held t (x.replicas g (view_of t) s).log) w.nodes me node
+    (ap (λ (f : ℕ → ℕ → Stamp → Bool). f g s t) (put_same w.held me (λ h r u. w.held me h r u || is_held u (node.replicas h (view_of u) r).log))
+    ∙ ap (λ (b : Bool). b || is_held t (node.replicas g (view_of t) s).log) (logged me g s t)
+    ∙ either (is_held t ((w.nodes me).replicas g (view_of t) s).log) (is_held t (node.replicas g (view_of t) s).log) (keeps.held g (view_of t) s t))
+    (λ j other.
+    ap (λ (f : ℕ → ℕ → Stamp → Bool). f g s t) (put_other w.held me (λ h r u. w.held me h r u || is_held u (node.replicas h (view_of u) r).log) j other)
+    ∙ logged j g s t) i
 
 -- parts stay where one brick keeps its own, and what it keeps is noted as held
 pub parts_by : (w next : World) (me : ℕ) (node : Node) → next.nodes ≡ put w.nodes me node → next.held ≡ with_held w.held me node → HeldIsLogged w
@@ -166,7 +162,7 @@ pub parts_by : (w next : World) (me : ℕ) (node : Node) → next.nodes ≡ put 
 parts_by w next me node nodes helds logged keeps =
     parts_from w next (logs_by w next me node nodes keeps) logged (λ i g s t.
     ap (λ (f : ℕ → ℕ → ℕ → Stamp → Bool). f i g s t) helds ∙ logged_step w me node logged keeps i g s t
-    ∙ ap (λ (f : ℕ → Node). is_held t ((f i).replicas g s).log) (sym nodes))
+    ∙ ap (λ (f : ℕ → Node). is_held t ((f i).replicas g (view_of t) s).log) (sym nodes))
 
 -- and where its logs are as they were
 pub parts_kept : (w next : World) (me : ℕ) (node : Node) → next.nodes ≡ put w.nodes me node → next.held ≡ w.held → HeldIsLogged w
@@ -174,21 +170,22 @@ pub parts_kept : (w next : World) (me : ℕ) (node : Node) → next.nodes ≡ pu
 parts_kept w next me node nodes helds logged same =
     parts_from w next (logs_by w next me node nodes (keeps_same (w.nodes me) node same)) logged (λ i g s t.
     ap (λ (f : ℕ → ℕ → ℕ → Stamp → Bool). f i g s t) helds
-    ∙ put_each (λ j x. w.held j g s t ≡ is_held t (x.replicas g s).log) w.nodes me node
-    (logged me g s t ∙ ap (λ (r : ℕ → ℕ → Replica). is_held t (r g s).log) (sym same)) (λ j other. logged j g s t) i
-    ∙ ap (λ (f : ℕ → Node). is_held t ((f i).replicas g s).log) (sym nodes))
+    ∙ put_each (λ j x. w.held j g s t ≡ is_held t (x.replicas g (view_of t) s).log) w.nodes me node
+    (logged me g s t ∙ ap (λ (r : ℕ → ℕ → ℕ → Replica). is_held t (r g (view_of t) s).log) (sym same)) (λ j other. logged j g s t) i
+    ∙ ap (λ (f : ℕ → Node). is_held t ((f i).replicas g (view_of t) s).log) (sym nodes))
 
 -- a world whose bricks are the same
 pub parts_same : (w next : World) → next.nodes ≡ w.nodes → next.held ≡ w.held → HeldIsLogged w → PartsStay w next
 parts_same w next nodes helds logged =
     parts_from w next
     (subst (λ (f : ℕ → Node). LogsStay w (record next { nodes = f })) (sym nodes) (record {
-      tops = λ g s i. stamp_below_irrefl (top_of (part_of w g s i));
-      held = λ g s i t held. held;
-      newer = λ g s i t held. inl held;
-      ascends = λ g s i ascends. ascends;
+      tops = λ g e s i. stamp_below_irrefl (top_of (part_in w g e s i));
+      held = λ g e s i t held. held;
+      newer = λ g e s i t held. inl held;
+      ascends = λ g e s i ascends. ascends;
     })) logged (λ i g s t.
-    ap (λ (f : ℕ → ℕ → ℕ → Stamp → Bool). f i g s t) helds ∙ logged i g s t ∙ ap (λ (f : ℕ → Node). is_held t ((f i).replicas g s).log) (sym nodes))
+    ap (λ (f : ℕ → ℕ → ℕ → Stamp → Bool). f i g s t) helds ∙ logged i g s t
+    ∙ ap (λ (f : ℕ → Node). is_held t ((f i).replicas g (view_of t) s).log) (sym nodes))
 
 -- what was sent stays sent where packets are added
 pub sent_by : (w next : World) (more : List Packet) → next.packets ≡ w.packets ++ more → (packet : Packet) → WasSent w packet → WasSent next packet
@@ -242,9 +239,9 @@ pub record QuietOwes (setting : Setting) (w : World) (stamps later : Stamping) (
   pub boot : node.boot ≡ (w.nodes me.0).boot
   pub stamps_say : StampsSay (quiet w me node more) later
   pub stamps_other : (i b k : ℕ) → i ≢ me.0 → KeepsStamps stamps later i b k
-  pub tops : (g s : ℕ) → (top_of (node.replicas g s) ≡ top_of ((w.nodes me.0).replicas g s)) ⊎ IsKnown later (top_of (node.replicas g s))
-  pub logs : (g s k : ℕ) (version : Version) → slice_get (node.replicas g s).log k ≡ Some version
-      → (slice_get ((w.nodes me.0).replicas g s).log k ≡ Some version) ⊎ VersionSays setting (quiet w me node more) g s me.0 version
+  pub tops : (g s : ℕ) → (top_of (node.replicas g 1 s) ≡ top_of ((w.nodes me.0).replicas g 1 s)) ⊎ IsKnown later (top_of (node.replicas g 1 s))
+  pub logs : (g s k : ℕ) (version : Version) → slice_get (node.replicas g 1 s).log k ≡ Some version
+      → (slice_get ((w.nodes me.0).replicas g 1 s).log k ≡ Some version) ⊎ VersionSays setting (quiet w me node more) g s me.0 version
   pub calls : (k : ℕ) (c : Coordinator) → node.calls k ≡ Some c
       → (((w.nodes me.0).calls k ≡ Some c) × KeepsStamps stamps later me.0 (w.nodes me.0).boot k)
       ⊎ CallSays setting (quiet w me node more) later me.0 k c
@@ -257,11 +254,11 @@ said_quiet setting w stamps later me node more books said grow owes =
     said_after setting w next stamps later books said (quiet_grows w stamps later me node more grow said.logged owes.keeps) (record {
       stamps_say = owes.stamps_say;
       tops = λ g s i.
-          put_each (λ j x. (top_of (x.replicas g s) ≡ top_of ((w.nodes j).replicas g s)) ⊎ IsKnown later (top_of (x.replicas g s)))
+          put_each (λ j x. (top_of (x.replicas g 1 s) ≡ top_of ((w.nodes j).replicas g 1 s)) ⊎ IsKnown later (top_of (x.replicas g 1 s)))
           w.nodes me.0 node (owes.tops g s) (λ j other. inl refl) i;
       logs = λ g s i k version.
-          put_each (λ j x. slice_get (x.replicas g s).log k ≡ Some version
-          → (slice_get ((w.nodes j).replicas g s).log k ≡ Some version) ⊎ VersionSays setting (quiet w me node more) g s j version)
+          put_each (λ j x. slice_get (x.replicas g 1 s).log k ≡ Some version
+          → (slice_get ((w.nodes j).replicas g 1 s).log k ≡ Some version) ⊎ VersionSays setting (quiet w me node more) g s j version)
           w.nodes me.0 node (owes.logs g s k version) (λ j other is. inl is) i;
       packets = λ k packet is. ⊎_elim
           (λ (old : slice_get w.packets k ≡ Some packet). inl old)
@@ -298,15 +295,15 @@ member_sent me call request seat (other ∷ members) (suc k) member at =
     ∙ ap (λ (j : ℕ). Some (record { from = me; to = member; message = Message.Request call (request j) })) place
 
 -- a phase that was just sent is asked of each member
-pub phase_asked : (setting : Setting) (w : World) (group : Group) (me : BrickId) (c : Coordinator) (packets : List Packet)
-    → w.packets ≡ packets ++ phase_packets setting group me c → (seat : ℕ) (member : BrickId) → slice_get group.members seat ≡ Some member
-    → WasSent w (record { from = me; to = member; message = Message.Request c.call (request_of setting.code group.m c seat) })
-phase_asked setting w group me c packets is seat member at =
-    let packet : Packet = record { from = me; to = member; message = Message.Request c.call (request_of setting.code group.m c (0 + seat)) } in
-    let sent = get_added packets (phase_packets setting group me c) seat packet
-    (member_sent me c.call (request_of setting.code group.m c) 0 group.members seat member at) in
+pub phase_asked : (setting : Setting) (w : World) (me : BrickId) (c : Coordinator) (packets : List Packet)
+    → w.packets ≡ packets ++ phase_packets setting me c → (seat : ℕ) (member : BrickId) → slice_get c.group.members seat ≡ Some member
+    → WasSent w (record { from = me; to = member; message = Message.Request c.call (request_of setting.code c seat) })
+phase_asked setting w me c packets is seat member at =
+    let packet : Packet = record { from = me; to = member; message = Message.Request c.call (request_of setting.code c (0 + seat)) } in
+    let sent = get_added packets (phase_packets setting me c) seat packet
+    (member_sent me c.call (request_of setting.code c) 0 c.group.members seat member at) in
     let place : 0 + seat ≡ seat = omega arith in
-    subst (λ (j : ℕ). WasSent w (record { from = me; to = member; message = Message.Request c.call (request_of setting.code group.m c j) })) place
+    subst (λ (j : ℕ). WasSent w (record { from = me; to = member; message = Message.Request c.call (request_of setting.code c j) })) place
     (sent.0, subst (λ (l : List Packet). slice_get l sent.0 ≡ Some packet) (sym is) sent.1)
 
 -- a world that sends again what was sent, and whose clocks and counted replies are other, says what was said
@@ -366,12 +363,12 @@ said_idle setting w stamps me node after up past marks books said same none ages
     })
     (record {
       stamps_say = stamps_stay_by setting w next stamps me node said refl ages;
-      tops = λ g s i. inl (put_each (λ j x. top_of (x.replicas g s) ≡ top_of ((w.nodes j).replicas g s)) w.nodes me node
-          (ap (λ r. top_of (r g s)) same) (λ j other. refl) i);
+      tops = λ g s i. inl (put_each (λ j x. top_of (x.replicas g 1 s) ≡ top_of ((w.nodes j).replicas g 1 s)) w.nodes me node
+          (ap (λ r. top_of (r g 1 s)) same) (λ j other. refl) i);
       logs = λ g s i k version is. inl
-          (put_each (λ j x. slice_get (x.replicas g s).log k ≡ Some version
-          → slice_get ((w.nodes j).replicas g s).log k ≡ Some version) w.nodes me node
-          (λ has. ap (λ r. slice_get (r g s).log k) (sym same) ∙ has) (λ j other has. has) i is);
+          (put_each (λ j x. slice_get (x.replicas g 1 s).log k ≡ Some version
+          → slice_get ((w.nodes j).replicas g 1 s).log k ≡ Some version) w.nodes me node
+          (λ has. ap (λ r. slice_get (r g 1 s).log k) (sym same) ∙ has) (λ j other has. has) i is);
       packets = λ k packet is. inl is;
       operations = λ n o is. inl is;
       calls = λ i k c.

@@ -1,5 +1,5 @@
 -- A coordinator whose order was promised by a quorum makes its version, and sends it.
-use Rattle.std.proofs.Common.{◌≡◌, ℕ, ◌+◌, ◌*◌, ◌≤◌, ◌⊎◌, inl, inr, true, false, cond, List, [], ◌++◌, length, Option, Some, None, refl, sym, ap, ◌∙◌, subst, ⊎_elim, arith}
+use Rattle.std.proofs.Common.{◌≡◌, ℕ, ◌+◌, ◌*◌, ◌≤◌, ◌⊎◌, inl, inr, true, false, cond, List, [], ◌∷◌, ◌++◌, length, Option, Some, None, refl, sym, ap, ◌∙◌, subst, ⊎_elim, arith}
 use Rattle.std.specs.Prelude.{slice_get, nat_eq}
 use Rattle.std.proofs.lemmas.Bool.{cond_both, cond-true, true≢false, and_parts, eqb-true}
 use Rattle.std.proofs.lemmas.Option.{same_Some}
@@ -16,11 +16,11 @@ use Rattle.reg_model.specs.Walk.{last_of}
 use Rattle.fab_base.specs.Layouts.{Group, group_of, seat_in}
 use Rattle.protocol.specs.Settings.{Setting, IsSound, are_bytes}
 use Rattle.protocol.specs.declared.phases.Phase.TheVariants.{Stores}
-use Rattle.protocol.specs.Coordinators.{Coordinator, next_phase, stored_by, request_of}
+use Rattle.protocol.specs.Coordinators.{Coordinator, next_phase, request_of}
 use Rattle.protocol.specs.declared.tellings.Told.TheVariants.{Made}
-use Rattle.protocol.specs.Nodes.{Node, put, has_length, with_call, phase_packets}
+use Rattle.protocol.specs.Nodes.{Node, put, has_length, given_content, with_call, phase_packets}
 use Rattle.protocol.specs.Worlds.{World, Operation, number_of, world_stepped, with_made, with_content, with_held, content_on, content_by}
-use Rattle.protocol_laws.specs.Laws.{IsGuarded}
+use Rattle.protocol_laws.proofs.Parts.{PartsGuard}
 use Rattle.protocol_laws.proofs.Books.{Books, OperationBooks, CallBooks, IsOperation, IsCall}
 use Rattle.protocol_laws.proofs.Said.{Begun, Stamping, Said, IsSaid, StampsSay, IsStampOf, IsBegun, IsStamped, AreBlocked, IsContent, IsMadeOrFirst, FloorsAtMost, WriteSays, PacketSays, HasVersion, WritesWhole, ReadsBack, OperationSays, CallSays}
 use Rattle.fab_base.proofs.Seats.{seat_of_member}
@@ -54,15 +54,21 @@ pub record Restores (setting : Setting) (w : World) (c : Coordinator) (group : G
   pub formed : IsContent group.m setting.layout.block content
   pub blocked : AreBlocked setting w c.ask.group.0 c.ask.stripe.0 (λ d. (stamp_below version d ≡ true) × (stamp_below d c.stamp ≡ true))
 
--- a coordinator writes a stripe whole, on no base, or restores a version
+-- a coordinator writes a stripe whole, as it was given, on no base, or restores a version
 abbrev pub MakesVersion : Setting → World → Coordinator → Group → Option Stamp → List ℕ → Type 0
 MakesVersion setting w c group base content =
-    ((base ≡ None) × ((bytes : List ℕ) × (c.ask.op ≡ WriteStripe bytes))) ⊎ Restores setting w c group base content
+    ((base ≡ None) × ((bytes : List ℕ) × (c.ask.op ≡ WriteStripe bytes)) × (content ≡ given_content c.ask.op)) ⊎ Restores setting w c group base content
 
-module _ (setting : Setting) (sound : IsSound setting) (w : World) (stamps : Stamping) (me : BrickId) (c : Coordinator) (group : Group) (known : ℕ)
+module _ (setting : Setting) (sound : IsSound setting) (w : World) (stamps : Stamping) (me : BrickId) (c : Coordinator) (known : ℕ)
     (books : Books setting w) (said : Said setting w stamps) (is : IsCall w me.0 c.call.seq c)
-    (group_is : group_of setting.layout c.ask.group.0 ≡ Some group) (more_known : (w.nodes me.0).known ≤ known)
-    (base : Option Stamp) (content : List ℕ) where
+    (more_known : (w.nodes me.0).known ≤ known) (base : Option Stamp) (content : List ℕ) where
+  -- its group, and its members
+  abbrev group : Group
+  group = c.group
+
+  group_is : group_of setting.layout c.ask.group.0 ≡ Some group
+  group_is = (books.calls me.0 c.call.seq c is).group_is
+
   abbrev its : CallBooks setting w me.0 c.call.seq c
   its = books.calls me.0 c.call.seq c is
 
@@ -97,6 +103,7 @@ module _ (setting : Setting) (sound : IsSound setting) (w : World) (stamps : Sta
   abbrev d : Coordinator
   d =
       record {
+        group = c.group;
         ask = c.ask;
         stamp = c.stamp;
         round = c.round;
@@ -107,15 +114,11 @@ module _ (setting : Setting) (sound : IsSound setting) (w : World) (stamps : Sta
         counted = [];
       }
 
-  -- what it stores
-  abbrev stored : List ℕ
-  stored = stored_by c.ask.op content
-
   abbrev node : Node
   node = with_call (w.nodes me.0) known (w.nodes me.0).busy c.call.seq (Some d)
 
   abbrev more : List Packet
-  more = phase_packets setting group me d
+  more = phase_packets setting me d
 
   -- what its version is given as content
   abbrev given : List ℕ
@@ -135,7 +138,7 @@ module _ (setting : Setting) (sound : IsSound setting) (w : World) (stamps : Sta
   next = operated w me node more w.marks n made contents
 
   -- the world that the step makes
-  next_is : world_stepped setting w me (record { node = node; packets = more; told = Made c.call.seq c.stamp base }) (Made c.call.seq c.stamp base) ≡ next
+  next_is : world_stepped setting w me (record { node = node; packets = more; told = Made c.call.seq c.stamp base ∷ []; answers = [] }) ≡ next
   next_is =
       ap (λ (x : Option Operation).
       record {
@@ -273,26 +276,26 @@ module _ (setting : Setting) (sound : IsSound setting) (w : World) (stamps : Sta
     made_now : IsMadeOrFirst next o.ask.group.0 o.ask.stripe.0 c.stamp
     made_now = inr (n, made, put_same w.operations n (Some made), refl, refl, refl, refl)
 
-    module _ (guarded : IsGuarded w c.ask.group.0 c.ask.stripe.0 group c.stamp) (floors : FloorsAtMost o group c.stamp)
+    module _ (guarded : PartsGuard w c.ask.group.0 c.ask.stripe.0 group c.stamp) (floors : FloorsAtMost o group c.stamp)
         (makes : MakesVersion setting w c group base content) where
       -- it stores just that
-      given_is : MakesVersion setting w c group base content → given ≡ stored
+      given_is : MakesVersion setting w c group base content → given ≡ content
       given_is (inl whole) =
           ap (λ (op : Op). content_on setting.layout.block (w.contents c.ask.group.0 c.ask.stripe.0) op base) whole.1.1
           ∙ ap (λ (z : Option Stamp). content_on setting.layout.block (w.contents c.ask.group.0 c.ask.stripe.0) (WriteStripe whole.1.0) z) whole.0
-          ∙ sym (ap (λ (op : Op). stored_by op content) whole.1.1)
+          ∙ sym (whole.2 ∙ ap given_content whole.1.1)
       given_is (inr back) =
           ap (λ (op : Op). content_on setting.layout.block (w.contents c.ask.group.0 c.ask.stripe.0) op base) back.op
           ∙ ap (λ (z : Option Stamp). content_on setting.layout.block (w.contents c.ask.group.0 c.ask.stripe.0) ReadStripe z) back.base_is
-          ∙ sym back.content_is ∙ sym (ap (λ (op : Op). stored_by op content) back.op)
+          ∙ sym back.content_is
 
-      content_now : contents c.ask.group.0 c.ask.stripe.0 c.stamp ≡ stored
+      content_now : contents c.ask.group.0 c.ask.stripe.0 c.stamp ≡ content
       content_now = given_now ∙ given_is makes
 
-      guarded_by : (other : Group) → group_of setting.layout c.ask.group.0 ≡ Some other → IsGuarded next c.ask.group.0 c.ask.stripe.0 other c.stamp
+      guarded_by : (other : Group) → group_of setting.layout c.ask.group.0 ≡ Some other → PartsGuard next c.ask.group.0 c.ask.stripe.0 other c.stamp
       guarded_by other other_is =
           stays_guarded setting w next stamps later books grows c.ask.group.0 c.ask.stripe.0 other c.stamp
-          (subst (λ (z : Group). IsGuarded w c.ask.group.0 c.ask.stripe.0 z c.stamp) (same_group other other_is) guarded)
+          (subst (λ (z : Group). PartsGuard w c.ask.group.0 c.ask.stripe.0 z c.stamp) (same_group other other_is) guarded)
 
       -- how its version was made
       maker_of : (a : Ask) → c.ask ≡ a → MakesVersion setting w c group base content
@@ -301,7 +304,7 @@ module _ (setting : Setting) (sound : IsSound setting) (w : World) (stamps : Sta
         whole.0,
         ap (λ (z : Ask). z.op) (sym same) ∙ whole.1.1
             ∙ ap (λ (bytes : List ℕ). WriteStripe bytes)
-            (ap (λ (op : Op). stored_by op content) (sym whole.1.1) ∙ sym content_now ∙ ap (λ (z : Ask). contents z.group.0 z.stripe.0 c.stamp) same),
+            (sym (whole.2 ∙ ap given_content whole.1.1) ∙ sym content_now ∙ ap (λ (z : Ask). contents z.group.0 z.stripe.0 c.stamp) same),
       )
       maker_of a same (inr back) = inr (subst
           (λ (z : Ask). ReadsBack setting next (record made { ask = z }) c.stamp) same
@@ -311,14 +314,14 @@ module _ (setting : Setting) (sound : IsSound setting) (w : World) (stamps : Sta
             op = back.op;
             below = back.below;
             made = stays_made setting w next stamps later books grows c.ask.group.0 c.ask.stripe.0 back.version back.made;
-            content = content_now ∙ ap (λ (op : Op). stored_by op content) back.op ∙ back.content_is
+            content = content_now ∙ back.content_is
                 ∙ sym (kept c.ask.group.0 c.ask.stripe.0 back.version back.made);
             blocked = stay_blocked setting w next stamps later books grows c.ask.group.0 c.ask.stripe.0
                 (λ e. (stamp_below back.version e ≡ true) × (stamp_below e c.stamp ≡ true)) back.blocked;
           }))
 
       -- what it stores is the bytes of m blocks
-      stored_formed : MakesVersion setting w c group base content → IsContent group.m setting.layout.block stored
+      stored_formed : MakesVersion setting w c group base content → IsContent group.m setting.layout.block content
       stored_formed (inl whole) =
           let o_books : OperationBooks setting w n o = books.operations n o its.operation_is in
           let same : o_books.group ≡ group = same_Some o_books.group group (sym o_books.group_is ∙ its_group) in
@@ -327,9 +330,9 @@ module _ (setting : Setting) (sound : IsSound setting) (w : World) (stamps : Sta
           = subst (λ (z : Group). has_length z.m setting.layout.block (WriteStripe whole.1.0) ≡ true) same
           (subst (λ (op : Op). has_length o_books.group.m setting.layout.block op ≡ true) writes o_books.length_fits) in
           let parts = and_parts (are_bytes whole.1.0) (nat_eq (length whole.1.0) (group.m * setting.layout.block)) fits in
-          subst (λ (op : Op). IsContent group.m setting.layout.block (stored_by op content)) (sym whole.1.1)
+          subst (λ (l : List ℕ). IsContent group.m setting.layout.block l) (sym (whole.2 ∙ ap given_content whole.1.1))
           (eqb-true (length whole.1.0) (group.m * setting.layout.block) parts.1, parts.0)
-      stored_formed (inr back) = subst (λ (op : Op). IsContent group.m setting.layout.block (stored_by op content)) (sym back.op) back.formed
+      stored_formed (inr back) = back.formed
 
       operation_says : OperationSays setting next later n made
       operation_says =
@@ -349,7 +352,7 @@ module _ (setting : Setting) (sound : IsSound setting) (w : World) (stamps : Sta
                 subst (λ (t : Stamp). IsContent other.m setting.layout.block (contents o.ask.group.0 o.ask.stripe.0 t)) same
                 (subst (λ (a : Ask). IsContent other.m setting.layout.block (contents a.group.0 a.stripe.0 c.stamp)) its.ask
                 (subst (λ (l : List ℕ). IsContent other.m setting.layout.block l) (sym content_now)
-                (subst (λ (z : Group). IsContent z.m setting.layout.block stored)
+                (subst (λ (z : Group). IsContent z.m setting.layout.block content)
                 (same_group other (ap (λ a. group_of setting.layout a.group.0) its.ask ∙ other_is)) (stored_formed makes))));
             stands = λ v has how. ⊎_elim
                 (λ (isnt : true ≡ false). absurd (true≢false isnt))
@@ -361,7 +364,7 @@ module _ (setting : Setting) (sound : IsSound setting) (w : World) (stamps : Sta
                   made = made_now;
                   reader = λ isnt. absurd (true≢false isnt);
                   guarded = λ other other_is.
-                      subst (λ (a : Ask). IsGuarded next a.group.0 a.stripe.0 other c.stamp) its.ask
+                      subst (λ (a : Ask). PartsGuard next a.group.0 a.stripe.0 other c.stamp) its.ask
                       (guarded_by other (ap (λ a. group_of setting.layout a.group.0) its.ask ∙ other_is));
                   floors = λ other other_is.
                       subst (λ (z : Group). FloorsAtMost o z c.stamp)
@@ -372,7 +375,7 @@ module _ (setting : Setting) (sound : IsSound setting) (w : World) (stamps : Sta
 
       -- a write to a member
       write_says : (k : ℕ) (member : BrickId) → slice_get group.members k ≡ Some member
-          → WriteSays setting next later me.0 member.0 d.call c.stamp (setting.code.encode group.m stored (0 + k))
+          → WriteSays setting next later me.0 member.0 d.call c.stamp (setting.code.encode group.m content (0 + k))
       write_says k member at =
           let seat : seat_in group.members member.0 ≡ Some k = seat_of_member group.members k member
           (sound.distinct c.ask.group.0 group group_is) at in
@@ -386,6 +389,7 @@ module _ (setting : Setting) (sound : IsSound setting) (w : World) (stamps : Sta
               seq = its.seq;
               group = ap (λ a. a.group.0) (sym its.ask) ∙ call_group;
               stripe = ap (λ a. a.stripe.0) (sym its.ask) ∙ call_stripe;
+              view = its.call_view;
             };
             begun = subst (λ (b : ℕ). IsBegun later me.0 b c.call.seq (c.call.phase + 1) Stores c.stamp) (sym its.call_boot) begun_now;
             made = refl;
@@ -394,17 +398,17 @@ module _ (setting : Setting) (sound : IsSound setting) (w : World) (stamps : Sta
                 let same : group ≡ other = same_group other (ap (group_of setting.layout) call_group ∙ other_is) in
                 (k, subst (λ (z : Group). seat_in z.members member.0 ≡ Some k) same seat);
             guarded = λ other other_is.
-                subst (λ (g : ℕ). IsGuarded next g c.call.stripe.0 other c.stamp) call_group
-                (subst (λ (s : ℕ). IsGuarded next c.ask.group.0 s other c.stamp) call_stripe
+                subst (λ (g : ℕ). PartsGuard next g c.call.stripe.0 other c.stamp) call_group
+                (subst (λ (s : ℕ). PartsGuard next c.ask.group.0 s other c.stamp) call_stripe
                 (guarded_by other (ap (group_of setting.layout) call_group ∙ other_is)));
             is_block = λ other j other_is at_j.
                 let same : group ≡ other = same_group other (ap (group_of setting.layout) call_group ∙ other_is) in
                 let place : k ≡ j = same_Some k j (sym seat ∙ (ap (λ (z : Group). seat_in z.members member.0) same ∙ at_j)) in
                 let zero : 0 + k ≡ j = omega arith in
-                let told : stored ≡ contents c.call.group.0 c.call.stripe.0 c.stamp
+                let told : content ≡ contents c.call.group.0 c.call.stripe.0 c.stamp
                 = sym content_now ∙ ap (λ (g : ℕ). contents g c.ask.stripe.0 c.stamp) call_group
                 ∙ ap (λ (s : ℕ). contents c.call.group.0 s c.stamp) call_stripe in
-                ap (λ (z : Group). setting.code.encode z.m stored (0 + k)) same
+                ap (λ (z : Group). setting.code.encode z.m content (0 + k)) same
                 ∙ ap (λ (z : List ℕ). setting.code.encode other.m z (0 + k)) told
                 ∙ ap (setting.code.encode other.m (contents c.call.group.0 c.call.stripe.0 c.stamp)) zero;
           }
@@ -412,7 +416,7 @@ module _ (setting : Setting) (sound : IsSound setting) (w : World) (stamps : Sta
       packets : (k : ℕ) (packet : Packet) → slice_get more k ≡ Some packet → PacketSays setting next later packet
       unfolding request_of
       packets k packet at =
-          let sent = sent_to_member me d.call (request_of setting.code group.m d) 0 group.members k packet at in
+          let sent = sent_to_member me d.call (request_of setting.code d) 0 c.group.members k packet at in
           subst (λ (z : Packet). PacketSays setting next later z) (sym sent.2) (write_says k sent.0 sent.1)
 
       d_says : CallSays setting next later me.0 c.call.seq d
@@ -421,11 +425,10 @@ module _ (setting : Setting) (sound : IsSound setting) (w : World) (stamps : Sta
         last = λ p less.
             subst (λ (b : ℕ). later me.0 b c.call.seq p ≡ None) (sym boot_now)
             (stamp_last stamps me.0 boot c.call.seq (c.call.phase + 1) begun none from p less);
-        asked = λ other other_is seat member at.
-            phase_asked setting next other me d w.packets
-            (ap (λ (z : Group). w.packets ++ phase_packets setting z me d) (same_group other other_is)) seat member at;
+        asked = phase_asked setting next me d w.packets refl;
         fits = tt;
         unbased = λ bad. cc;
+        given = λ bad. absurd (let never : ⊥ = cc in never);
         above = λ bound bad. cc;
         below = λ bound bad. cc;
         covered = λ bound bad. absurd (let never : ⊥ = cc in never);
@@ -459,7 +462,7 @@ module _ (setting : Setting) (sound : IsSound setting) (w : World) (stamps : Sta
 
       -- the invariant holds when a version was made
       pub said_made : IsSaid setting
-          (world_stepped setting w me (record { node = node; packets = more; told = Made c.call.seq c.stamp base }) (Made c.call.seq c.stamp base))
+          (world_stepped setting w me (record { node = node; packets = more; told = Made c.call.seq c.stamp base ∷ []; answers = [] }))
       said_made =
           subst (λ (z : World). IsSaid setting z) (sym next_is) (
             later,

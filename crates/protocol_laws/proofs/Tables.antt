@@ -1,7 +1,8 @@
 -- Tables with one value changed, lists that grow at their end, and packets to members.
-use Rattle.std.proofs.Common.{◌≡◌, ◌≢◌, ℕ, zero, suc, ◌+◌, ◌⊎◌, inl, inr, cond, List, [], ◌∷◌, ◌++◌, Some, refl, sym, ap, ◌∙◌, subst, arith}
+use Rattle.std.proofs.Common.{◌≡◌, ◌≢◌, ℕ, zero, suc, ◌+◌, ◌⊎◌, inl, inr, Bool, true, false, cond, List, [], ◌∷◌, ◌++◌, Some, refl, sym, ap, ◌∙◌, subst, arith}
 use Rattle.std.specs.Prelude.{slice_get, nat_eq}
 use Rattle.std.proofs.lemmas.Bool.{cond_both, eqb-true, eqb-false, eq-eqb}
+use Rattle.std.proofs.Math.Path.{fun_ext}
 use Rattle.fab_base.specs.declared.identities.BrickId.{BrickId}
 use Rattle.messages.specs.declared.calls.Call.{Call}
 use Rattle.messages.specs.declared.packets.Message.TheVariants as Message
@@ -17,6 +18,14 @@ put_each P f k v new old i =
 -- the new value
 pub put_same : {A : Type 0} (f : ℕ → A) (k : ℕ) (v : A) → put f k v k ≡ v
 put_same f k v = ap (λ b. cond b v (f k)) (eq-eqb k k refl)
+
+-- the last of two changes of one value is what it has
+pub put_twice : {A : Type 0} (f : ℕ → A) (k : ℕ) (u v : A) → put (put f k u) k v ≡ put f k v
+put_twice f k u v = fun_ext (λ i. by (nat_eq i k) (f i))
+  where
+    by : (b : Bool) (x : _) → cond b v (cond b u x) ≡ cond b v x
+    by true x = refl
+    by false x = refl
 
 -- an element of a list that grew is an old one, or one of those added
 pub get_grown : {A : Type 0} (xs ys : List A) (k : ℕ) (x : A) → slice_get (xs ++ ys) k ≡ Some x

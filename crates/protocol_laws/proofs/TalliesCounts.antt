@@ -5,6 +5,7 @@ use Rattle.std.proofs.lemmas.Bool.{cond_both, cases_eq, eq-eqb}
 use Rattle.std.proofs.lemmas.List.{append-nil}
 use Rattle.std.proofs.lemmas.Option.{same_Some}
 use Rattle.fab_base.specs.declared.identities.BrickId.{BrickId}
+use Rattle.fab_base.specs.declared.identities.ViewNo.{ViewNo}
 use Rattle.fab_base.specs.declared.stamps.Stamp.{Stamp}
 use Rattle.fab_base.specs.Stamps.{stamp_below}
 use Rattle.fab_base.specs.declared.answers.Answer.{Answer}
@@ -16,7 +17,6 @@ use Rattle.messages.specs.declared.packets.Packet.{Packet}
 use Rattle.messages.specs.declared.replies.Reply.{Reply}
 use Rattle.reg_model.specs.declared.marks.Mark.TheVariants.{End}
 use Rattle.reg_model.specs.Marks.{Life, life_of, IsOpen}
-use Rattle.fab_base.specs.Layouts.{Group}
 use Rattle.protocol.specs.Settings.{Setting}
 use Rattle.protocol.specs.declared.phases.Phase.{Phase}
 use Rattle.protocol.specs.declared.phases.Phase.TheVariants.{Looks, Orders, Recovers, Descends, Stores}
@@ -25,10 +25,10 @@ use Rattle.protocol.specs.declared.phases.Refuser.{Refuser}
 use Rattle.protocol.specs.declared.phases.FullMember.{FullMember}
 use Rattle.protocol.specs.Coordinators.{Coordinator, Next, Ignores, Waits, Sends, Makes, Ends, refuser_of, greater_refuser, greatest_refuser, full_member_of, lower_full, lowest_full, with_reply}
 use Rattle.protocol.specs.Nodes.{Node, put, has_later_time, new_stamp, fresh_stamp, with_call, phase_packets, collect_packets, carried_out}
-use Rattle.protocol.specs.Worlds.{World, Operation, number_of, known_in, with_made, with_answer, with_counted, world_stepped}
+use Rattle.protocol.specs.Worlds.{World, Operation, number_of, known_in, with_made, with_seen, with_answer, with_counted, with_held, world_stepped}
 use Rattle.protocol_laws.specs.Laws.{WasSent, WriteSent, OrderSent, AskedAt, IsLastRound}
 use Rattle.protocol_laws.proofs.Books.{Replies, Books, OperationBooks, CallBooks, IsOperation, IsCall, InRound}
-use Rattle.protocol_laws.proofs.BooksKept.{KeepsNumbers, calls_apart}
+use Rattle.protocol_laws.proofs.BooksKept.{KeepsNumbers, calls_apart, keeps_with_call}
 use Rattle.protocol_laws.proofs.BooksEvents.{keeps_put, brick_of}
 use Rattle.protocol_laws.proofs.Outcomes.{IsRound, first_round, ReordersFits, RecoversFits, SendsFits, NoRoundFits, LastFits, AbortFits, FullFits, AnswerFits, NextFits}
 use Rattle.protocol_laws.proofs.Said.{EachCounted}
@@ -40,11 +40,11 @@ use Rattle.protocol_laws.proofs.Tallies.{IsTally, CallTallied, CountedSent, Abor
 use Rattle.protocol_laws.proofs.TalliesKept.{call_tallied_on, known_kept, counted_on, descent_on, write_on, asked_on, tallied_on}
 
 -- where there is no fresh stamp no later time is left
-none_left : (me : BrickId) (now boot known : ℕ) → fresh_stamp me now boot known ≡ None → has_later_time known ≡ false
-none_left me now boot known is =
-    cond_both (has_later_time known) (Some (new_stamp me now boot known)) None
+none_left : (me : BrickId) (view : ViewNo) (now boot known : ℕ) → fresh_stamp me view now boot known ≡ None → has_later_time known ≡ false
+none_left me view now boot known is =
+    cond_both (has_later_time known) (Some (new_stamp me view now boot known)) None
     (λ (z : Option Stamp). z ≡ None → has_later_time known ≡ false)
-    (λ some e. absurd (let never : Some (new_stamp me now boot known) ≡ None = e in cc))
+    (λ some e. absurd (let never : Some (new_stamp me view now boot known) ≡ None = e in cc))
     (λ none e. none)
     is
 
@@ -89,7 +89,7 @@ round_of c (Descends bound) is within = absurd is
 round_of c Stores is within = absurd is
 
 -- brick me took a reply to the open operation at coordinator c, which counts at this seat
-module _ (setting : Setting) (group : Group) (w : World) (me : BrickId) (now known : ℕ) (c : Coordinator) (from : BrickId) (reply : Reply) (seat : ℕ)
+module _ (setting : Setting) (w : World) (me : BrickId) (now known : ℕ) (c : Coordinator) (from : BrickId) (reply : Reply) (seat : ℕ)
     (books : Books setting w) (tallied : Tallied w) (shows : MessagesShow w) (is : IsCall w me.0 c.call.seq c)
     (sent : WasSent w (record { from = from; to = me; message = Message.Reply c.call reply })) (grows : (w.nodes me.0).known ≤ known) where
   abbrev i : ℕ
@@ -111,7 +111,7 @@ module _ (setting : Setting) (group : Group) (w : World) (me : BrickId) (now kno
   replies = with_counted w.replies (number_of w me.0 c.call.seq) c.call.phase (record { seat = seat; brick = from; reply = reply })
 
   abbrev fresh : Option Stamp
-  fresh = fresh_stamp me now (w.nodes me.0).boot known
+  fresh = fresh_stamp me c.call.view now (w.nodes me.0).boot known
 
   abbrev mine : CallBooks setting w me.0 c.call.seq c
   mine = books.calls me.0 c.call.seq c is
@@ -268,7 +268,7 @@ module _ (setting : Setting) (group : Group) (w : World) (me : BrickId) (now kno
   -- bricks keep their numbers
   keeps : (time busy : ℕ) (d : Option Coordinator) → node.known ≤ time → (j : ℕ)
       → KeepsNumbers (w.nodes j) (put w.nodes i (with_call node time busy k d) j)
-  keeps time busy d later = keeps_put w i (with_call node time busy k d) (record { boot = refl; seq = refl; known = later })
+  keeps time busy d later = keeps_put w i (with_call node time busy k d) (keeps_with_call node time busy k d later)
 
   -- the number of a call, once this one is at d
   abbrev number_next : ℕ → ℕ → Option Coordinator → ℕ → ℕ → ℕ
@@ -323,26 +323,40 @@ module _ (setting : Setting) (group : Group) (w : World) (me : BrickId) (now kno
         replies = with_counted w.replies (number_of w me.0 c.call.seq) c.call.phase
             (record { seat = seat; brick = from; reply = reply });
       }) me
-      (carried_out setting group me (w.nodes me.0) known c next) (carried_out setting group me (w.nodes me.0) known c next).told
+      (carried_out setting me (w.nodes me.0) known c next)
+
+  -- the world after an end, with these operations
+  abbrev after_end : (ℕ → Option Operation) → Answer → Option Stamp → World
+  after_end operations answer stored =
+      record {
+        nodes = put w.nodes me.0 (with_call (w.nodes me.0) known ((w.nodes me.0).busy - 1) c.call.seq None);
+        after = w.after;
+        up = w.up;
+        clocks = w.clocks;
+        packets = w.packets ++ collect_packets me c stored;
+        marks = w.marks ++ (End (length w.marks) (number_of w me.0 c.call.seq) answer ∷ []);
+        begun = w.begun;
+        operations = operations;
+        numbers = w.numbers;
+        past = w.past;
+        contents = w.contents;
+        held = with_held w.held me.0 (with_call (w.nodes me.0) known ((w.nodes me.0).busy - 1) c.call.seq None);
+        replies = with_counted w.replies (number_of w me.0 c.call.seq) c.call.phase
+            (record { seat = seat; brick = from; reply = reply });
+      }
 
   same_operations : (m : ℕ) (e : Operation) → IsOperation w m e → (p : Operation) × IsOperation w m p × (p.brick ≡ e.brick) × (p.boot ≡ e.boot)
       × (p.seq ≡ e.seq)
   same_operations m e at = (e, at, refl, refl, refl)
 
-  made_operations : (t : Stamp) (base : Option Stamp) (m : ℕ) (e : Operation) → IsOperation w m e
-      → (p : Operation) × (put w.operations n (with_made t base (w.operations n)) m ≡ Some p) × (p.brick ≡ e.brick) × (p.boot ≡ e.boot)
-      × (p.seq ≡ e.seq)
-  made_operations t base m e =
-      put_each (λ a y. IsOperation w a e → (p : Operation) × (y ≡ Some p) × (p.brick ≡ e.brick) × (p.boot ≡ e.boot) × (p.seq ≡ e.seq)) w.operations n
-      (with_made t base (w.operations n)) (λ at. (_, ap (λ (z : Option Operation). with_made t base z) at, refl, refl, refl))
-      (λ a other at. (e, at, refl, refl, refl)) m
-
-  answered_operations : (answer : Answer) (seen : Option Stamp) (m : ℕ) (e : Operation) → IsOperation w m e
-      → (p : Operation) × (put w.operations n (with_answer answer seen (w.operations n)) m ≡ Some p) × (p.brick ≡ e.brick) × (p.boot ≡ e.boot)
-      × (p.seq ≡ e.seq)
-  answered_operations answer seen m e =
-      put_each (λ a y. IsOperation w a e → (p : Operation) × (y ≡ Some p) × (p.brick ≡ e.brick) × (p.boot ≡ e.boot) × (p.seq ≡ e.seq)) w.operations n
-      (with_answer answer seen (w.operations n)) (λ at. (_, ap (λ (z : Option Operation). with_answer answer seen z) at, refl, refl, refl))
+  -- so do operations of which this one changed, and is of the same call
+  changed : (f : ℕ → Option Operation) (change : Option Operation → Option Operation)
+      → ((e : Operation) → (p : Operation) × (change (Some e) ≡ Some p) × (p.brick ≡ e.brick) × (p.boot ≡ e.boot) × (p.seq ≡ e.seq))
+      → (m : ℕ) (e : Operation) → f m ≡ Some e
+      → (p : Operation) × (put f n (change (f n)) m ≡ Some p) × (p.brick ≡ e.brick) × (p.boot ≡ e.boot) × (p.seq ≡ e.seq)
+  changed f change to m e =
+      put_each (λ a y. f a ≡ Some e → (p : Operation) × (y ≡ Some p) × (p.brick ≡ e.brick) × (p.boot ≡ e.boot) × (p.seq ≡ e.seq)) f n (change (f n))
+      (λ at. (let p = to e in (p.0, ap change at ∙ p.1, p.2, p.3, p.4)))
       (λ a other at. (e, at, refl, refl, refl)) m
 
   -- each reply that counts was sent
@@ -352,9 +366,9 @@ module _ (setting : Setting) (group : Group) (w : World) (me : BrickId) (now kno
       (shows.counted i k c is) sent
 
   -- the brick whose full store aborts the operation told so
-  full_shown : (answer : Answer) (seen stored : Option Stamp) (brick : BrickId) (live : ℕ) → FullFits (with_reply c seat from reply) brick live
-      → Furthers w (after (Ends answer seen stored)) → AbortShown (after (Ends answer seen stored)) n (Cause.Full brick live)
-  full_shown answer seen stored brick live fits on =
+  full_shown : (operations : ℕ → Option Operation) (answer : Answer) (stored : Option Stamp) (brick : BrickId) (live : ℕ) → FullFits (with_reply c seat from reply) brick live
+      → Furthers w (after_end operations answer stored) → AbortShown (after_end operations answer stored) n (Cause.Full brick live)
+  full_shown operations answer stored brick live fits on =
       let P : Counted → Type 0 = λ y. WasSent w (record { from = y.brick; to = me; message = Message.Reply c.call y.reply }) in
       let f : FullMember = record { seat = fits.seat; brick = brick; live = live } in
       let found = full_counted P (c.counted ++ (one ∷ [])) f each_sent fits.told in
@@ -369,7 +383,7 @@ module _ (setting : Setting) (group : Group) (w : World) (me : BrickId) (now kno
           seat = fits.seat;
           own = (mine.call_boot ∙ sym mine.boot ∙ sym goes.3, sym mine.seq ∙ sym goes.4);
           told = subst (λ (b : BrickId).
-              WasSent (after (Ends answer seen stored)) (record { from = brick; to = b; message = Message.Reply c.call (Reply.Full live) }))
+              WasSent (after_end operations answer stored) (record { from = brick; to = b; message = Message.Reply c.call (Reply.Full live) }))
               (me_is ∙ sym goes.2)
               (on.sent (record { from = brick; to = me; message = Message.Reply c.call (Reply.Full live) }) told);
           lowest = full_now ∙ fits.told;
@@ -378,10 +392,10 @@ module _ (setting : Setting) (group : Group) (w : World) (me : BrickId) (now kno
       )
 
   -- the evidence of an abort for a later stamp
-  later_shown : (answer : Answer) (seen stored : Option Stamp) (brick : BrickId) (x : Stamp) → AbortFits fresh (with_reply c seat from reply) brick x
-      → MessagesShow (after (Ends answer seen stored)) → Furthers w (after (Ends answer seen stored))
-      → AbortShown (after (Ends answer seen stored)) n (Cause.Later brick x)
-  later_shown answer seen stored brick x fits later on =
+  later_shown : (operations : ℕ → Option Operation) (answer : Answer) (stored : Option Stamp) (brick : BrickId) (x : Stamp) → AbortFits fresh (with_reply c seat from reply) brick x
+      → MessagesShow (after_end operations answer stored) → Furthers w (after_end operations answer stored)
+      → AbortShown (after_end operations answer stored) n (Cause.Later brick x)
+  later_shown operations answer stored brick x fits later on =
       let P : Counted → Type 0 = λ y. WasSent w (record { from = y.brick; to = me; message = Message.Reply c.call y.reply }) in
       let r : Refuser = record { seat = fits.seat; brick = brick; stamp = x } in
       let found = refuser_counted P (c.counted ++ (one ∷ [])) r each_sent fits.refused in
@@ -399,9 +413,9 @@ module _ (setting : Setting) (group : Group) (w : World) (me : BrickId) (now kno
           stamp = low.0;
           seat = fits.seat;
           own = (mine.call_boot ∙ sym boot, sym mine.seq ∙ sym goes.4);
-          asked = subst (λ (b : BrickId). AskedAt (after (Ends answer seen stored)) c.call b brick low.0) by
-              (asked_on w (after (Ends answer seen stored)) on c.call me brick low.0 low.1);
-          told = subst (λ (b : BrickId). WasSent (after (Ends answer seen stored))
+          asked = subst (λ (b : BrickId). AskedAt (after_end operations answer stored) c.call b brick low.0) by
+              (asked_on w (after_end operations answer stored) on c.call me brick low.0 low.1);
+          told = subst (λ (b : BrickId). WasSent (after_end operations answer stored)
               (record { from = brick; to = b; message = Message.Reply c.call (Reply.Later x) })) by
               (on.sent (record { from = brick; to = me; message = Message.Reply c.call (Reply.Later x) }) told);
           above = low.2;
@@ -412,41 +426,41 @@ module _ (setting : Setting) (group : Group) (w : World) (me : BrickId) (now kno
       )
     where
       -- the time that the brick knows in its present boot
-      known_now : known_in (after (Ends answer seen stored)) i node.boot ≡ known
+      known_now : known_in (after_end operations answer stored) i node.boot ≡ known
       known_now =
           ap (λ (y : Node). if nat_eq node.boot y.boot then y.known else w.past i node.boot)
           (put_same w.nodes i (with_call node known (node.busy - 1) k None))
           ∙ ap (λ (t : Bool). if t then known else w.past i node.boot) (eq-eqb node.boot node.boot refl)
 
       last_round : (e : Operation) → me ≡ e.brick → e.boot ≡ node.boot → IsRound c.phase → NoRoundFits fresh (with_reply c seat from reply)
-          → IsLastRound (after (Ends answer seen stored)) n e c.call.phase
+          → IsLastRound (after_end operations answer stored) n e c.call.phase
       last_round e by boot round (inl none) =
-          inr (subst (λ (b : BrickId). has_later_time (known_in (after (Ends answer seen stored)) b.0 e.boot) ≡ false) by
-          (subst (λ (b : ℕ). has_later_time (known_in (after (Ends answer seen stored)) i b) ≡ false) (sym boot)
-          (ap (λ (y : ℕ). has_later_time y) known_now ∙ none_left me now node.boot known none)))
+          inr (subst (λ (b : BrickId). has_later_time (known_in (after_end operations answer stored) b.0 e.boot) ≡ false) by
+          (subst (λ (b : ℕ). has_later_time (known_in (after_end operations answer stored) i b) ≡ false) (sym boot)
+          (ap (λ (y : ℕ). has_later_time y) known_now ∙ none_left me c.call.view now node.boot known none)))
       last_round e by boot round (inr most) =
           let facts = round_of c c.phase round mine.in_round in
           inl (omega (arith, facts.0, facts.1), λ p few less. refused_before round p (omega (arith, facts.0)) less)
 
       -- an order in a phase that only writes, or only looks further down
       stored_order : (e : Operation) → me ≡ e.brick → (t : Stamp) → AskedAt w c.call me brick t → c.phase ≡ Stores
-          → OrderSent (after (Ends answer seen stored)) c.call e.brick brick t → ⊥
+          → OrderSent (after_end operations answer stored) c.call e.brick brick t → ⊥
       stored_order e by t asked stores order =
           let write : (block : List ℕ) × WriteSent w c.call me brick t block = shows.stores_asked i k c brick t is stores asked in
-          later.order_or_write c.call me brick brick t t write.0 (write_on w (after (Ends answer seen stored)) on c.call me brick t write.0 write.1)
-          (subst (λ (b : BrickId). OrderSent (after (Ends answer seen stored)) c.call b brick t) (sym by) order)
+          later.order_or_write c.call me brick brick t t write.0 (write_on w (after_end operations answer stored) on c.call me brick t write.0 write.1)
+          (subst (λ (b : BrickId). OrderSent (after_end operations answer stored) c.call b brick t) (sym by) order)
 
       descended_order : (e : Operation) → me ≡ e.brick → (t bound : Stamp) → AskedAt w c.call me brick t → c.phase ≡ Descends bound
-          → OrderSent (after (Ends answer seen stored)) c.call e.brick brick t → ⊥
+          → OrderSent (after_end operations answer stored) c.call e.brick brick t → ⊥
       descended_order e by t bound asked descends order =
           let sent = shows.descends_asked i k c brick bound t is descends asked in
           later.order_or_descent c.call me brick brick t t bound sent.0
-          (descent_on w (after (Ends answer seen stored)) on c.call me brick t bound sent.1)
-          (subst (λ (b : BrickId). OrderSent (after (Ends answer seen stored)) c.call b brick t) (sym by) order)
+          (descent_on w (after_end operations answer stored) on c.call me brick t bound sent.1)
+          (subst (λ (b : BrickId). OrderSent (after_end operations answer stored) c.call b brick t) (sym by) order)
 
       last_by : (e : Operation) → me ≡ e.brick → e.boot ≡ node.boot → (t : Stamp) → AskedAt w c.call me brick t → (p : Phase) → c.phase ≡ p
-          → LastFits fresh (with_reply c seat from reply) p → OrderSent (after (Ends answer seen stored)) c.call e.brick brick t
-          → IsLastRound (after (Ends answer seen stored)) n e c.call.phase
+          → LastFits fresh (with_reply c seat from reply) p → OrderSent (after_end operations answer stored) c.call e.brick brick t
+          → IsLastRound (after_end operations answer stored) n e c.call.phase
       last_by e by boot t asked Looks at fits order = absurd fits
       last_by e by boot t asked Orders at fits order = last_round e by boot (subst (λ (x : Phase). IsRound x) (sym at) tt) fits
       last_by e by boot t asked Recovers at fits order = last_round e by boot (subst (λ (x : Phase). IsRound x) (sym at) tt) fits
@@ -454,12 +468,37 @@ module _ (setting : Setting) (group : Group) (w : World) (me : BrickId) (now kno
       last_by e by boot t asked Stores at fits order = absurd (stored_order e by t asked at order)
 
   -- the evidence of an abort, by its cause
-  abort_shown : (answer : Answer) (seen stored : Option Stamp) (cause : Cause) → AnswerFits fresh (with_reply c seat from reply) (Aborted cause)
-      → MessagesShow (after (Ends answer seen stored)) → Furthers w (after (Ends answer seen stored))
-      → AbortShown (after (Ends answer seen stored)) n cause
-  abort_shown answer seen stored (Cause.Later brick x) fits later on = later_shown answer seen stored brick x fits later on
-  abort_shown answer seen stored (Cause.Full brick live) fits later on = full_shown answer seen stored brick live fits on
-  abort_shown answer seen stored cause fits later on = absurd fits
+  abort_shown : (operations : ℕ → Option Operation) (answer : Answer) (stored : Option Stamp) (cause : Cause) → AnswerFits fresh (with_reply c seat from reply) (Aborted cause)
+      → MessagesShow (after_end operations answer stored) → Furthers w (after_end operations answer stored)
+      → AbortShown (after_end operations answer stored) n cause
+  abort_shown operations answer stored (Cause.Later brick x) fits later on = later_shown operations answer stored brick x fits later on
+  abort_shown operations answer stored (Cause.Full brick live) fits later on = full_shown operations answer stored brick live fits on
+  abort_shown operations answer stored cause fits later on = absurd fits
+
+  -- and after an end
+  tallied_ends : (operations : ℕ → Option Operation) (answer : Answer) (stored : Option Stamp)
+      → AnswerFits fresh (with_reply c seat from reply) answer
+      → ((m : ℕ) (e : Operation) → IsOperation w m e
+      → (p : Operation) × (operations m ≡ Some p) × (p.brick ≡ e.brick) × (p.boot ≡ e.boot) × (p.seq ≡ e.seq))
+      → MessagesShow (after_end operations answer stored) → Tallied (after_end operations answer stored)
+  tallied_ends operations answer stored fits goes later =
+      let on : Furthers w (after_end operations answer stored) = furthers (after_end operations answer stored) known (node.busy - 1) None
+      (collect_packets me c stored) refl grows refl refl (λ j b. refl) goes in
+      tallied_on setting w (after_end operations answer stored) books tallied later on
+      (calls_next known (node.busy - 1) None grows (λ e at. absurd (let never : None ≡ Some e = at in cc)))
+      unbegun (counted_next (after_end operations answer stored) on)
+      (λ a p m cause at. ⊎_elim
+      (λ (old : slice_get w.marks a ≡ Some (End p m (Aborted cause))). inl old)
+      (λ (new : (j : ℕ) × (slice_get (End (length w.marks) n answer ∷ []) j ≡ Some (End p m (Aborted cause)))).
+      let mark : End (length w.marks) n answer ≡ End p m (Aborted cause)
+      = get_one (End (length w.marks) n answer) (End p m (Aborted cause)) new.0 new.1 in
+      let number : n ≡ m = cc in
+      let by : answer ≡ Aborted cause = cc in
+      let abort : AnswerFits fresh (with_reply c seat from reply) (Aborted cause)
+      = subst (λ (z : Answer). AnswerFits fresh (with_reply c seat from reply) z) by fits in
+      inr (subst (λ (z : ℕ). AbortShown (after_end operations answer stored) z cause) number
+      (abort_shown operations answer stored cause abort later on)))
+      (get_grown w.marks (End (length w.marks) n answer ∷ []) a (End p m (Aborted cause)) at))
 
   -- the history of replies after what the coordinator decides
   pub tallied_counted : (next : Next) → NextFits fresh (with_reply c seat from reply) next → MessagesShow (after next) → Tallied (after next)
@@ -478,7 +517,7 @@ module _ (setting : Setting) (group : Group) (w : World) (me : BrickId) (now kno
       unbegun (counted_next (after (Waits d)) on) (λ a p m cause at. inl at)
   tallied_counted (Sends d) fits later =
       let on : Furthers w (after (Sends d)) = furthers (after (Sends d)) (max known d.stamp.time) node.busy (Some d)
-      (phase_packets setting group me d) refl
+      (phase_packets setting me d) refl
       (omega arith) refl refl (λ j b. refl) same_operations in
       let phase : d.call.phase ≡ c.call.phase + 1 = ap (λ (x : Call). x.phase) fits.call in
       tallied_on setting w (after (Sends d)) books tallied later on
@@ -490,8 +529,8 @@ module _ (setting : Setting) (group : Group) (w : World) (me : BrickId) (now kno
       unbegun (counted_next (after (Sends d)) on) (λ a p m cause at. inl at)
   tallied_counted (Makes d) fits later =
       let on : Furthers w (after (Makes d)) = furthers (after (Makes d)) known node.busy (Some d)
-      (phase_packets setting group me d) refl grows refl refl
-      (λ j b. refl) (made_operations d.stamp d.base) in
+      (phase_packets setting me d) refl grows refl refl
+      (λ j b. refl) (changed w.operations (with_made d.stamp d.base) (λ e. (_, refl, refl, refl, refl))) in
       let phase : d.call.phase ≡ c.call.phase + 1 = ap (λ (x : Call). x.phase) fits.call in
       tallied_on setting w (after (Makes d)) books tallied later on
       (calls_by known node.busy d grows (record {
@@ -500,21 +539,13 @@ module _ (setting : Setting) (group : Group) (w : World) (me : BrickId) (now kno
         refused = λ round p low high. absurd (subst (λ (x : Phase). IsRound x) fits.phase round);
       }))
       unbegun (counted_next (after (Makes d)) on) (λ a p m cause at. inl at)
-  tallied_counted (Ends answer seen stored) fits later =
-      let on : Furthers w (after (Ends answer seen stored)) = furthers (after (Ends answer seen stored)) known (node.busy - 1) None
-      (collect_packets group me c.call stored) refl grows refl refl (λ j b. refl) (answered_operations answer seen) in
-      tallied_on setting w (after (Ends answer seen stored)) books tallied later on
-      (calls_next known (node.busy - 1) None grows (λ e at. absurd (let never : None ≡ Some e = at in cc)))
-      unbegun (counted_next (after (Ends answer seen stored)) on)
-      (λ a p m cause at. ⊎_elim
-      (λ (old : slice_get w.marks a ≡ Some (End p m (Aborted cause))). inl old)
-      (λ (new : (j : ℕ) × (slice_get (End (length w.marks) n answer ∷ []) j ≡ Some (End p m (Aborted cause)))).
-      let mark : End (length w.marks) n answer ≡ End p m (Aborted cause)
-      = get_one (End (length w.marks) n answer) (End p m (Aborted cause)) new.0 new.1 in
-      let number : n ≡ m = cc in
-      let by : answer ≡ Aborted cause = cc in
-      let abort : AnswerFits fresh (with_reply c seat from reply) (Aborted cause)
-      = subst (λ (z : Answer). AnswerFits fresh (with_reply c seat from reply) z) by fits.1 in
-      inr (subst (λ (z : ℕ). AbortShown (after (Ends answer seen stored)) z cause) number
-      (abort_shown answer seen stored cause abort later on)))
-      (get_grown w.marks (End (length w.marks) n answer ∷ []) a (End p m (Aborted cause)) at))
+  tallied_counted (Ends answer None stored) fits later =
+      tallied_ends (put w.operations n (with_answer answer (w.operations n))) answer stored fits.1
+      (changed w.operations (with_answer answer) (λ e. (_, refl, refl, refl, refl))) later
+  tallied_counted (Ends answer (Some v) stored) fits later =
+      let seen : ℕ → Option Operation = put w.operations n (with_seen v (w.operations n)) in
+      tallied_ends (put seen n (with_answer answer (seen n))) answer stored fits.1
+      (λ m e at.
+      let first = changed w.operations (with_seen v) (λ x. (_, refl, refl, refl, refl)) m e at in
+      let second = changed seen (with_answer answer) (λ x. (_, refl, refl, refl, refl)) m first.0 first.1 in
+      (second.0, second.1, second.2 ∙ first.2, second.3 ∙ first.3, second.4 ∙ first.4)) later

@@ -1,5 +1,5 @@
 -- Every event keeps the history of replies.
-use Rattle.std.proofs.Common.{◌≡◌, ◌≢◌, ℕ, ◌+◌, ◌≤◌, ◌⊎◌, inl, inr, ⊎_elim, true, false, ◌&&◌, ap, Option, Some, None, List, [], ◌∷◌, ◌++◌, length, refl, sym, ◌∙◌, subst, arith, Bool}
+use Rattle.std.proofs.Common.{◌≡◌, ◌≢◌, ℕ, ◌+◌, ◌≤◌, ◌⊎◌, inl, inr, ⊎_elim, true, false, ap, Option, Some, None, List, [], ◌∷◌, ◌++◌, length, refl, sym, ◌∙◌, subst, arith, Bool}
 use Rattle.std.specs.Prelude.{slice_get}
 use Rattle.std.proofs.lemmas.Bool.{cond_both, cases_eq}
 use Rattle.std.proofs.lemmas.Option.{same_Some}
@@ -16,17 +16,18 @@ use Rattle.messages.specs.declared.requests.Request.{Request}
 use Rattle.messages.specs.declared.requests.Want.TheVariants as Want
 use Rattle.messages.specs.declared.replies.Reply.{Reply}
 use Rattle.reg_model.specs.declared.marks.Mark.TheVariants.{Begin, End, Crash}
-use Rattle.fab_base.specs.Layouts.{Group, group_of, seat_in}
+use Rattle.fab_base.specs.Layouts.{Group}
 use Rattle.protocol.specs.Settings.{Setting, IsSound}
 use Rattle.protocol.specs.Replicas.{handle}
 use Rattle.protocol.specs.Coordinators.{Coordinator, with_reply, once_full, counted_at, counts_at, on_reply}
-use Rattle.protocol.specs.declared.tellings.Told.TheVariants.{Nothing}
-use Rattle.protocol.specs.Nodes.{Node, NodeStep, is_served, fits_block, ticked, new_coordinator, put, no_step, fresh_stamp, began_in, began, invoked, with_replica, replica_at, full_at, reply_packets, requested_at, requested_in, requested, known_after, with_known, carried_out, replied_to, replied_at, replied, received}
-use Rattle.protocol.specs.Worlds.{World, Found, Before, After, Event, Invokes, Delivers, Sets, Ticks, Stops, Starts, first_world, is_brick, is_up, may_begin, may_start, number_of, world_stopped, world_found, world_started, world_began, counted_after, replies_in, replies_at, replies_with, delivered, packet_of, happens, run, with_held}
+use Rattle.protocol.specs.Nodes.{Node, NodeStep, ticked, new_coordinator, put, no_step, fresh_stamp, began_in, began, invoked, with_replica, replica_at, full_at, reply_packets, requested, known_after, with_known, carried_out, sending, replied_at, replied, received}
+use Rattle.protocol.specs.Worlds.{World, Found, Before, After, Event, Invokes, Delivers, Sets, Ticks, Stops, Starts, first_world, is_brick, is_up, may_begin, may_start, number_of, world_stopped, world_found, world_started, world_began, counted_after, replies_at, replies_with, delivered, packet_of, happens, run, with_held}
 use Rattle.protocol_laws.specs.Laws.{WasSent}
+use Rattle.protocol_laws.proofs.Served.{request_each, keeps_replica}
+use Rattle.protocol_laws.proofs.FirstViews.{group_first}
 use Rattle.protocol_laws.proofs.Books.{Books, IsCall}
 use Rattle.protocol_laws.proofs.Left.{Leaves, always_leaves, leaves_happens, found_down, packet_was_sent}
-use Rattle.protocol_laws.proofs.BooksKept.{KeepsNumbers, cases_call}
+use Rattle.protocol_laws.proofs.BooksKept.{KeepsNumbers, cases_call, keeps_all, keeps_known}
 use Rattle.protocol_laws.proofs.BooksQuiet.{quiet_world, started_calls, unstarted, started_known}
 use Rattle.protocol_laws.proofs.BooksEnds.{stopped_keeps, stopped_calls, unstopped_calls}
 use Rattle.protocol_laws.proofs.BooksBegins.{call_is, other_calls, same_boots, call_number, other_number, other_operations, knows}
@@ -61,8 +62,8 @@ tallied_quiet setting w nodes held clocks packets books tallied shows keeps call
     tallied.unbegun (λ n phase k x is. inl is) (λ k p n cause is. inl is)
 
 tallied_nothing : (setting : Setting) (w : World) (me : BrickId) (node : Node) (packets : List Packet) → Books setting w → Tallied w
-    → MessagesShow (stepped setting w w.replies me (record { node = node; packets = packets; told = Nothing })) → KeepsNumbers (w.nodes me.0) node
-    → ((l : ℕ) → node.calls l ≡ (w.nodes me.0).calls l) → Tallied (stepped setting w w.replies me (record { node = node; packets = packets; told = Nothing }))
+    → MessagesShow (stepped setting w w.replies me (sending node packets)) → KeepsNumbers (w.nodes me.0) node
+    → ((l : ℕ) → node.calls l ≡ (w.nodes me.0).calls l) → Tallied (stepped setting w w.replies me (sending node packets))
 tallied_nothing setting w me node packets books tallied shows keeps calls =
     tallied_quiet setting w (put w.nodes me.0 node) (with_held w.held me.0 node) w.clocks (w.packets ++ packets) books tallied shows (keeps_put w me.0 node keeps)
     (λ j l. put_each (λ (x : ℕ) (y : Node). y.calls l ≡ (w.nodes x).calls l) w.nodes me.0 node (calls l) (λ x other. refl) j)
@@ -71,38 +72,27 @@ tallied_nothing setting w me node packets books tallied shows keeps calls =
 tallied_no_step : (setting : Setting) (w : World) (me : BrickId) → Books setting w → Tallied w
     → MessagesShow (stepped setting w w.replies me (no_step (w.nodes me.0))) → Tallied (stepped setting w w.replies me (no_step (w.nodes me.0)))
 tallied_no_step setting w me books tallied shows =
-    tallied_nothing setting w me (w.nodes me.0) [] books tallied shows (record { boot = refl; seq = refl; known = omega arith }) (λ l. refl)
+    tallied_nothing setting w me (w.nodes me.0) [] books tallied shows (keeps_all (w.nodes me.0)) (λ l. refl)
 
 -- a brick learns of a time
 tallied_known : (setting : Setting) (w : World) (me : BrickId) (known : ℕ) → Books setting w → Tallied w → (w.nodes me.0).known ≤ known
     → MessagesShow (stepped setting w w.replies me (no_step (with_known (w.nodes me.0) known)))
     → Tallied (stepped setting w w.replies me (no_step (with_known (w.nodes me.0) known)))
 tallied_known setting w me known books tallied grows shows =
-    tallied_nothing setting w me (with_known (w.nodes me.0) known) [] books tallied shows (record { boot = refl; seq = refl; known = grows })
-    (λ l. refl)
+    tallied_nothing setting w me (with_known (w.nodes me.0) known) [] books tallied shows (keeps_known (w.nodes me.0) known grows) (λ l. refl)
 
 -- a request
 tallied_requested : (setting : Setting) (w : World) (me from : BrickId) (call : Call) (request : Request) → Books setting w → Tallied w
     → MessagesShow (stepped setting w w.replies me (requested setting me from (w.nodes me.0) call request))
     → Tallied (stepped setting w w.replies me (requested setting me from (w.nodes me.0) call request))
-unfolding requested
-tallied_requested setting w me from call request books tallied = in_group (group_of setting.layout call.group.0)
-  where
-    at_seat : (z : Option ℕ) → MessagesShow (stepped setting w w.replies me (requested_at setting.layout.records me from (w.nodes me.0) call request z))
-        → Tallied (stepped setting w w.replies me (requested_at setting.layout.records me from (w.nodes me.0) call request z))
-    at_seat None shows = tallied_no_step setting w me books tallied shows
-    at_seat (Some seat) shows =
-        let reaction = handle (full_at setting.layout.records (w.nodes me.0)) seat (replica_at (w.nodes me.0) call) request in
-        tallied_nothing setting w me (with_replica (w.nodes me.0) call reaction) (reply_packets me from call reaction.reply) books tallied shows
-        (record { boot = refl; seq = refl; known = omega arith }) (λ l. refl)
-
-    in_group : (z : Option Group) → MessagesShow (stepped setting w w.replies me (requested_in setting.layout me from (w.nodes me.0) call request z))
-        → Tallied (stepped setting w w.replies me (requested_in setting.layout me from (w.nodes me.0) call request z))
-    in_group None shows = tallied_no_step setting w me books tallied shows
-    in_group (Some group) shows =
-        cond_both (is_served group call && fits_block setting.layout.block request) _ _
-        (λ (step : NodeStep). MessagesShow (stepped setting w w.replies me step) → Tallied (stepped setting w w.replies me step))
-        (λ is. at_seat (seat_in group.members me.0)) (λ isnt. tallied_no_step setting w me books tallied) shows
+tallied_requested setting w me from call request books tallied =
+    request_each (λ (step : NodeStep). MessagesShow (stepped setting w w.replies me step) → Tallied (stepped setting w w.replies me step)) setting
+    me from (w.nodes me.0) call request
+    (tallied_no_step setting w me books tallied)
+    (λ seat view shows.
+    let reaction = handle (full_at setting.layout.records (w.nodes me.0).live) seat (replica_at (w.nodes me.0) call) request in
+    tallied_nothing setting w me (with_replica (w.nodes me.0) call reaction) (reply_packets me from call reaction.reply) books tallied shows
+    (keeps_replica (w.nodes me.0) call reaction view) (λ l. refl))
 
 -- a reply
 tallied_replied : (setting : Setting) (w : World) (me : BrickId) (now : ℕ) (from : BrickId) (call : Call) (reply : Reply) → Books setting w
@@ -115,42 +105,36 @@ tallied_replied : (setting : Setting) (w : World) (me : BrickId) (now : ℕ) (fr
 unfolding replied on_reply
 tallied_replied setting w me now from call reply books tallied shows sent = at_call ((w.nodes me.0).calls call.seq) refl
   where
-    at_seat : (c : Coordinator) (group : Group) → IsCall w me.0 call.seq c → (z : Option ℕ)
-        → counts_at setting.layout.block group c from.0 call reply ≡ z
+    at_seat : (c : Coordinator) → IsCall w me.0 call.seq c → (z : Option ℕ)
+        → counts_at setting.layout.block c from.0 call reply ≡ z
         → MessagesShow (stepped setting w (counted_after w.replies (number_of w me.0 call.seq) from call reply z) me
-        (carried_out setting group me (w.nodes me.0) (known_after (w.nodes me.0).known reply) c
-        (counted_at setting.code group (fresh_stamp me now (w.nodes me.0).boot (known_after (w.nodes me.0).known reply)) c from reply z)))
+        (carried_out setting me (w.nodes me.0) (known_after (w.nodes me.0).known reply) c
+        (counted_at setting.layout.block setting.code (fresh_stamp me c.call.view now (w.nodes me.0).boot (known_after (w.nodes me.0).known reply)) c from reply z)))
         → Tallied (stepped setting w (counted_after w.replies (number_of w me.0 call.seq) from call reply z) me
-        (carried_out setting group me (w.nodes me.0) (known_after (w.nodes me.0).known reply) c
-        (counted_at setting.code group (fresh_stamp me now (w.nodes me.0).boot (known_after (w.nodes me.0).known reply)) c from reply z)))
-    at_seat c group is None none later =
+        (carried_out setting me (w.nodes me.0) (known_after (w.nodes me.0).known reply) c
+        (counted_at setting.layout.block setting.code (fresh_stamp me c.call.view now (w.nodes me.0).boot (known_after (w.nodes me.0).known reply)) c from reply z)))
+    at_seat c is None none later =
         tallied_known setting w me (known_after (w.nodes me.0).known reply) books tallied (known_grows (w.nodes me.0).known reply) later
-    at_seat c group is (Some seat) counts later =
-        let facts : CountsAt setting.layout.block group c from.0 call reply seat = counts_facts setting.layout.block group c from.0 call reply seat counts in
+    at_seat c is (Some seat) counts later =
+        let facts : CountsAt setting.layout.block c from.0 call reply seat = counts_facts setting.layout.block c from.0 call reply seat counts in
         let time : ℕ = known_after (w.nodes me.0).known reply in
-        let fresh : Option Stamp = fresh_stamp me now (w.nodes me.0).boot time in
+        let fresh : Option Stamp = fresh_stamp me c.call.view now (w.nodes me.0).boot time in
         let after : Call → World = λ k. stepped setting w (counted_after w.replies (number_of w me.0 k.seq) from k reply (Some seat)) me
-        (carried_out setting group me (w.nodes me.0) time c (once_full setting.code group fresh (with_reply c seat from reply))) in
+        (carried_out setting me (w.nodes me.0) time c (once_full setting.layout.block setting.code fresh (with_reply c seat from reply))) in
         subst (λ (k : Call). MessagesShow (after k) → Tallied (after k)) (sym facts.call_is)
-        (tallied_counted setting group w me now time c from reply seat books tallied shows
+        (tallied_counted setting w me now time c from reply seat books tallied shows
         (subst (λ (k : Call). IsCall w me.0 k.seq c) facts.call_is is)
         (subst (λ (k : Call). WasSent w (record { from = from; to = me; message = Message.Reply k reply })) facts.call_is sent)
-        (known_grows (w.nodes me.0).known reply) (once_full setting.code group fresh (with_reply c seat from reply))
-        (once_full_fits setting.code group fresh (with_reply c seat from reply)))
+        (known_grows (w.nodes me.0).known reply) (once_full setting.layout.block setting.code fresh (with_reply c seat from reply))
+        (once_full_fits setting.layout.block setting.code fresh (with_reply c seat from reply)))
         later
-
-    in_group : (c : Coordinator) → IsCall w me.0 call.seq c → (z : Option Group)
-        → MessagesShow (stepped setting w (replies_in setting w me from call reply c z) me (replied_to setting me now from (w.nodes me.0) call reply c z))
-        → Tallied (stepped setting w (replies_in setting w me from call reply c z) me (replied_to setting me now from (w.nodes me.0) call reply c z))
-    in_group c is None later = tallied_no_step setting w me books tallied later
-    in_group c is (Some group) later = at_seat c group is (counts_at setting.layout.block group c from.0 call reply) refl later
 
     at_call : (z : Option Coordinator) → (w.nodes me.0).calls call.seq ≡ z
         → MessagesShow (stepped setting w (replies_at setting w me from call reply z) me (replied_at setting me now from (w.nodes me.0) call reply z))
         → Tallied (stepped setting w (replies_at setting w me from call reply z) me (replied_at setting me now from (w.nodes me.0) call reply z))
     at_call None none later =
         tallied_known setting w me (known_after (w.nodes me.0).known reply) books tallied (known_grows (w.nodes me.0).known reply) later
-    at_call (Some c) is later = in_group c is (group_of setting.layout c.ask.group.0) later
+    at_call (Some c) is later = at_seat c is (counts_at setting.layout.block c from.0 call reply) refl later
 
 -- a message
 tallied_received : (setting : Setting) (w : World) (now : ℕ) (from to : BrickId) (message : Message) → Books setting w → Tallied w → MessagesShow w
@@ -177,15 +161,15 @@ tallied_delivered setting w (Some packet) books tallied shows sent shown =
 -- an operation begins
 tallied_began : (setting : Setting) (w : World) (brick : BrickId) (now : ℕ) (ask : Ask) (fits : BeginFits setting ask) → w.up brick.0 ≡ true
     → Books setting w → Tallied w
-    → MessagesShow (world_began w brick ask (began_in setting fits.group brick (w.nodes brick.0) (new_coordinator brick now (w.nodes brick.0) ask)))
-    → Tallied (world_began w brick ask (began_in setting fits.group brick (w.nodes brick.0) (new_coordinator brick now (w.nodes brick.0) ask)))
+    → MessagesShow (world_began w brick ask (began_in setting brick (w.nodes brick.0) (new_coordinator fits.group brick now (w.nodes brick.0) ask)))
+    → Tallied (world_began w brick ask (began_in setting brick (w.nodes brick.0) (new_coordinator fits.group brick now (w.nodes brick.0) ask)))
 tallied_began setting w brick now ask fits up books tallied shows =
-    let next : World = world_began w brick ask (began_in setting fits.group brick (w.nodes brick.0)
-    (new_coordinator brick now (w.nodes brick.0) ask)) in
+    let next : World = world_began w brick ask (began_in setting brick (w.nodes brick.0)
+    (new_coordinator fits.group brick now (w.nodes brick.0) ask)) in
     let i : ℕ = brick.0 in
     let k : ℕ = (w.nodes brick.0).seq + 1 in
     let n : ℕ = w.begun + 1 in
-    let c : Coordinator = new_coordinator brick now (w.nodes brick.0) ask in
+    let c : Coordinator = new_coordinator fits.group brick now (w.nodes brick.0) ask in
     let new : CallTallied w.replies n c = record {
       now = ([], tallied.unbegun n 1 (omega arith), refl, refl);
       later = λ p above. tallied.unbegun n p (omega arith);
@@ -241,7 +225,8 @@ unfolding invoked
 tallied_invoked setting w brick now ask books tallied may =
     let fits : BeginFits setting ask = begin_fits setting w brick ask may in
     subst (λ (found : Option Group). MessagesShow (world_began w brick ask (began setting brick now (w.nodes brick.0) ask found))
-    → Tallied (world_began w brick ask (began setting brick now (w.nodes brick.0) ask found))) (sym fits.group_is)
+    → Tallied (world_began w brick ask (began setting brick now (w.nodes brick.0) ask found)))
+    (sym (group_first setting.layout (w.nodes brick.0) ask.group.0 (books.first brick.0) ∙ fits.group_is))
     (tallied_began setting w brick now ask fits (begin_up setting w brick ask may) books tallied)
 
 -- a brick stops
@@ -332,13 +317,13 @@ tallied_happens setting w (Delivers number) leaves books tallied shows later =
 tallied_happens setting w (Sets brick time) leaves books tallied shows later =
     cond_both (is_brick setting.layout brick) _ _ (λ (x : World). MessagesShow x → Tallied x)
     (λ member more. tallied_quiet setting w w.nodes w.held (put w.clocks brick.0 time) w.packets books tallied more
-    (λ i. record { boot = refl; seq = refl; known = omega arith }) (λ i k. refl) (λ packet sent. sent))
+    (λ i. keeps_all (w.nodes i)) (λ i k. refl) (λ packet sent. sent))
     (λ stranger same. tallied) later
 tallied_happens setting w (Ticks brick) leaves books tallied shows later =
     let more : List Packet = ticked setting brick (w.nodes brick.0) in
     cond_both (is_up setting.layout w brick) _ _ (λ (x : World). MessagesShow x → Tallied x)
     (λ up shown. tallied_quiet setting w w.nodes w.held w.clocks (w.packets ++ more) books tallied shown
-    (λ i. record { boot = refl; seq = refl; known = omega arith }) (λ i k. refl)
+    (λ i. keeps_all (w.nodes i)) (λ i k. refl)
     (λ packet sent. (sent.0, get_kept w.packets more sent.0 packet sent.1)))
     (λ down same. tallied) later
 tallied_happens setting w (Stops brick during) leaves books tallied shows later =

@@ -1,5 +1,6 @@
 -- The laws of the disk, as they hold in every world that a run reaches. Quorums are counted by seat.
-use Rattle.std.specs.Prelude.{◌≡◌, ℕ, ◌+◌, ◌<◌, ◌≤◌, Bool, true, false, not, ◌&&◌, List, [], length, ◌⊎◌, Some, is_some, slice_get}
+use Rattle.std.specs.Prelude.{◌≡◌, ℕ, ◌+◌, ◌<◌, ◌≤◌, Bool, true, false, not, nat_eq, ◌&&◌, List, [], ◌++◌, length, map, ◌⊎◌, Some, is_some, slice_get}
+use Rattle.std.specs.List.{IsDistinct}
 use Rattle.fab_base.specs.declared.identities.BrickId.{BrickId}
 use Rattle.fab_base.specs.declared.stamps.Stamp.{Stamp}
 use Rattle.fab_base.specs.declared.asks.Op.TheVariants.{WriteStripe}
@@ -20,13 +21,14 @@ use Rattle.reg_model.specs.Marks.{life_of, stripe_marks, IsWellFormed}
 use Rattle.reg_model.specs.Registers.{zero_registers}
 use Rattle.reg_model.specs.Strict.{IsStrict}
 use Rattle.reg_model.specs.Walk.{last_of}
-use Rattle.fab_base.specs.Layouts.{Group, group_of, seat_in, brick_at}
-use Rattle.quorum.specs.Quorums.{quorum_of}
+use Rattle.fab_base.specs.Layouts.{Layout, Group, group_of, seat_in, brick_at}
+use Rattle.quorum.specs.Quorums.{quorum_of, IsWithinLimits}
 use Rattle.protocol.specs.Settings.{Setting, IsSound}
-use Rattle.protocol.specs.Replicas.{Replica, top_of, is_held}
+use Rattle.protocol.specs.Views.{Views, layout_views, view_of, floor_of, group_in}
+use Rattle.protocol.specs.Replicas.{Replica, is_held}
 use Rattle.protocol.specs.declared.phases.Counted.{Counted}
 use Rattle.protocol.specs.Coordinators.{most_rounds, greatest_refuser, lowest_full, told_in}
-use Rattle.protocol.specs.Nodes.{has_later_time}
+use Rattle.protocol.specs.Nodes.{view_at, top_at, has_later_time}
 use Rattle.protocol.specs.Worlds.{World, Event, Operation, content_on, first_world, known_in, happens, run}
 use Rattle.protocol.specs.Happenings.{is_of, effect_in, happenings_of}
 use Rattle.protocol_laws.specs.Marked.{WordsFit, AreWithoutGaps}
@@ -35,43 +37,66 @@ use Rattle.protocol_laws.specs.Marked.{WordsFit, AreWithoutGaps}
 abbrev pub WasSent : World → Packet → Type 0
 WasSent w packet = (k : ℕ) × (slice_get w.packets k ≡ Some packet)
 
--- a brick's part of a stripe
-abbrev pub part_of : World → ℕ → ℕ → ℕ → Replica
-part_of w g s i = (w.nodes i).replicas g s
+-- a brick's part of a stripe in a view
+abbrev pub part_in : World → ℕ → ℕ → ℕ → ℕ → Replica
+part_in w g e s i = (w.nodes i).replicas g e s
+
+-- the stamp below which a brick takes nothing for a stripe
+abbrev pub top_in : World → ℕ → ℕ → ℕ → Stamp
+top_in w g s i = top_at (w.nodes i) g s
 
 -- a test holds at a quorum of the group's seats
 abbrev pub AtQuorum : Group → (ℕ → Bool) → Type 0
 AtQuorum group test = quorum_of group ≤ count (length group.members) test
 
--- at a quorum of the group's seats, the stripe's order stamp or newest version is at or above t
+-- a quorum of the group's members takes nothing below t for the stripe
 abbrev pub IsGuarded : World → ℕ → ℕ → Group → Stamp → Type 0
-IsGuarded w g s group t = AtQuorum group (λ seat. not (stamp_below (top_of (part_of w g s (brick_at group seat))) t))
+IsGuarded w g s group t = AtQuorum group (λ seat. not (stamp_below (top_in w g s (brick_at group seat)) t))
+
+-- A world follows an assignment of members to views: each of its lists is within the limits of its group's m, and distinct; what a brick has
+-- learnt as its view is the assignment's; and where a brick has learnt a view, a quorum of each view before that takes nothing below the next.
+pub record Follows (layout : Layout) (views : Views) (w : World) : Type 0 where
+  pub limits : (g e : ℕ) (group : Group) → group_in layout views g e ≡ Some group → IsWithinLimits group.m (length group.members)
+  pub distinct : (g e : ℕ) (group : Group) → group_in layout views g e ≡ Some group → IsDistinct nat_eq (map (λ member. member.0) group.members)
+  pub learnt : (i g : ℕ) → ((w.nodes i).learnt g).view.members ≡ views g (view_at (w.nodes i) g)
+  pub passed : (i g e s : ℕ) (group : Group) → 1 ≤ e → e < view_at (w.nodes i) g → group_in layout views g e ≡ Some group
+      → IsGuarded w g s group (floor_of (e + 1))
+
+-- a run follows an assignment where each world on its way does
+abbrev pub RunFollows : Setting → Views → List Event → Type 0
+RunFollows setting views events =
+    (earlier later : List Event) → events ≡ earlier ++ later → Follows setting.layout views (run setting earlier (first_world setting.layout))
+
+-- every run follows the layout's members
+abbrev pub EveryRunFollowsTheLayout : Type 0
+EveryRunFollowsTheLayout =
+    (setting : Setting) (events : List Event) → IsSound setting → RunFollows setting (layout_views setting.layout) events
 
 -- a write of version t of this stripe was sent, under a call, to a brick, with this block
 abbrev pub WriteSent : World → Call → BrickId → BrickId → Stamp → List ℕ → Type 0
 WriteSent w call from to t block = WasSent w (record { from = from; to = to; message = Message.Request call (Request.Write t block) })
 
 -- One stamp has one content: each block of version t that was sent, or was found, or is kept is its seat's
--- block of the content of t.
-pub record OneContent (setting : Setting) (w : World) : Type 0 where
+-- block of the content of t, the seat being one of the view of the message, or of the part.
+pub record OneContent (setting : Setting) (views : Views) (w : World) : Type 0 where
   pub sent : (call : Call) (from to : BrickId) (t : Stamp) (block : List ℕ) (group : Group)
-      → group_of setting.layout call.group.0 ≡ Some group → WriteSent w call from to t block
+      → group_in setting.layout views call.group.0 call.view.0 ≡ Some group → WriteSent w call from to t block
       → (seat : ℕ) × (seat < length group.members) × (brick_at group seat ≡ to.0)
       × (block ≡ setting.code.encode group.m (w.contents call.group.0 call.stripe.0 t) seat)
   pub found : (call : Call) (from to : BrickId) (seat : ℕ) (reply : Reply) (version : Version) (group : Group)
-      → group_of setting.layout call.group.0 ≡ Some group → seat_in group.members from.0 ≡ Some seat
+      → group_in setting.layout views call.group.0 call.view.0 ≡ Some group → seat_in group.members from.0 ≡ Some seat
       → WasSent w (record { from = from; to = to; message = Message.Reply call reply }) → told_in reply ≡ Some version
       → version.block ≡ setting.code.encode group.m (w.contents call.group.0 call.stripe.0 version.stamp) seat
-  pub kept : (g s i seat k : ℕ) (version : Version) (group : Group) → group_of setting.layout g ≡ Some group → seat_in group.members i ≡ Some seat
-      → slice_get (part_of w g s i).log k ≡ Some version → version.block ≡ setting.code.encode group.m (w.contents g s version.stamp) seat
+  pub kept : (g e s i seat k : ℕ) (version : Version) (group : Group) → group_in setting.layout views g e ≡ Some group
+      → seat_in group.members i ≡ Some seat → slice_get (part_in w g e s i).log k ≡ Some version
+      → version.block ≡ setting.code.encode group.m (w.contents g s version.stamp) seat
 
--- At so many seats that with a quorum they are more than all, the stripe's stamps are above version d, and d
+-- At so many seats that with a quorum they are more than all, the brick takes nothing at or below version d, and d
 -- was never held: no quorum has held d, or ever will.
 abbrev pub IsBlocked : World → ℕ → ℕ → Group → Stamp → Type 0
 IsBlocked w g s group d =
     length group.members < quorum_of group
-    + count (length group.members) (λ seat. stamp_below d (top_of (part_of w g s (brick_at group seat)))
-    && not (w.held (brick_at group seat) g s d))
+    + count (length group.members) (λ seat. stamp_below d (top_in w g s (brick_at group seat)) && not (w.held (brick_at group seat) g s d))
 
 -- the content of each version is what its maker makes of its base's
 abbrev pub ContentsAreMade : Setting → World → Type 0
@@ -79,15 +104,15 @@ ContentsAreMade setting w =
     (n : ℕ) (o : Operation) (t : Stamp) → w.operations n ≡ Some o → o.made ≡ true → o.version ≡ Some t
     → w.contents o.ask.group.0 o.ask.stripe.0 t ≡ content_on setting.layout.block (w.contents o.ask.group.0 o.ask.stripe.0) o.ask.op o.base
 
--- An operation that made a version on a base writes no stripe whole; the base is below the version; and no quorum has held a version between
--- the two, or ever will.
-abbrev pub BasesAreNewest : Setting → World → Type 0
-BasesAreNewest setting w =
-    (n : ℕ) (o : Operation) (t b : Stamp) (group : Group) → w.operations n ≡ Some o → group_of setting.layout o.ask.group.0 ≡ Some group
-    → o.made ≡ true → o.version ≡ Some t → o.base ≡ Some b
+-- An operation that made a version on a base writes no stripe whole; the base is below the version; and no quorum of its view has held a
+-- version between the two, or ever will.
+abbrev pub BasesAreNewest : Setting → Views → World → Type 0
+BasesAreNewest setting views w =
+    (n : ℕ) (o : Operation) (t b : Stamp) → w.operations n ≡ Some o → o.made ≡ true → o.version ≡ Some t → o.base ≡ Some b
     → ((bytes : List ℕ) → o.ask.op ≡ WriteStripe bytes → ⊥)
     × (stamp_below b t ≡ true)
-    × ((d : Stamp) → stamp_below b d ≡ true → stamp_below d t ≡ true → IsBlocked w o.ask.group.0 o.ask.stripe.0 group d)
+    × ((d : Stamp) (group : Group) → group_in setting.layout views o.ask.group.0 (view_of d) ≡ Some group
+    → stamp_below b d ≡ true → stamp_below d t ≡ true → IsBlocked w o.ask.group.0 o.ask.stripe.0 group d)
 
 -- an operation of the stripe made this version: it is a stripe write, which has no base, or its base is u
 abbrev pub WasMadeOn : World → ℕ → ℕ → Stamp → Stamp → Type 0
@@ -110,22 +135,22 @@ abbrev pub FirstIsZero : Setting → World → Type 0
 FirstIsZero setting w =
     (g s : ℕ) (group : Group) → group_of setting.layout g ≡ Some group → w.contents g s first_stamp ≡ zero_registers group.m setting.layout.block
 
--- Before a write of version t was sent, a quorum had promised t, or stored something later, and has so ever
--- since.
-abbrev pub WritesAreGuarded : Setting → World → Type 0
-WritesAreGuarded setting w =
+-- Before a write of version t was sent, a quorum of the view of t took nothing below t, and has so ever since.
+abbrev pub WritesAreGuarded : Setting → Views → World → Type 0
+WritesAreGuarded setting views w =
     (call : Call) (from to : BrickId) (t : Stamp) (block : List ℕ) (group : Group)
-    → group_of setting.layout call.group.0 ≡ Some group → WriteSent w call from to t block → IsGuarded w call.group.0 call.stripe.0 group t
+    → group_in setting.layout views call.group.0 (view_of t) ≡ Some group → WriteSent w call from to t block
+    → IsGuarded w call.group.0 call.stripe.0 group t
 
--- no step lowers what a brick has promised or stored
+-- no step lowers the stamp below which a brick takes nothing
 abbrev pub NeverFalls : World → World → Type 0
-NeverFalls old new = (g s i : ℕ) → stamp_below (top_of (part_of new g s i)) (top_of (part_of old g s i)) ≡ false
+NeverFalls old new = (g s i : ℕ) → stamp_below (top_in new g s i) (top_in old g s i) ≡ false
 
--- no brick adds a version to a log below what it has promised or stored for the stripe
+-- no brick adds a version to a log below the stamp below which it takes nothing
 abbrev pub AddsNothingBelow : World → World → Type 0
 AddsNothingBelow old new =
-    (g s i : ℕ) (t : Stamp) → is_held t (part_of new g s i).log ≡ true
-    → (is_held t (part_of old g s i).log ≡ true) ⊎ (stamp_below t (top_of (part_of old g s i)) ≡ false)
+    (g e s i : ℕ) (t : Stamp) → is_held t (part_in new g e s i).log ≡ true
+    → (is_held t (part_in old g e s i).log ≡ true) ⊎ (stamp_below t (top_in old g s i) ≡ false)
 
 -- a member says that it stored a version only where it was asked to, and has held it
 abbrev pub StoredIsHeld : World → Type 0
@@ -212,10 +237,10 @@ CountedWereSent w =
     × ((call : Call) × IsCallOf call o × (call.phase ≡ phase)
     × WasSent w (record { from = x.brick; to = o.brick; message = Message.Reply call x.reply }))
 
--- A message that was sent says what was so of its brick then, where it refuses: of a later stamp, that its stripe's part had come to just that
--- stamp; of a full store, that it kept so many live records.
+-- A message that was sent says what was so of its brick then, where it refuses: of a later stamp, that the brick took nothing below just that
+-- stamp for the stripe; of a full store, that it kept so many live records.
 abbrev pub RefusalIsTrue : World → BrickId → Message → Type 0
-RefusalIsTrue w from (Message.Reply call (Reply.Later x)) = top_of (part_of w call.group.0 call.stripe.0 from.0) ≡ x
+RefusalIsTrue w from (Message.Reply call (Reply.Later x)) = top_in w call.group.0 call.stripe.0 from.0 ≡ x
 RefusalIsTrue w from (Message.Reply call (Reply.Full live)) = (w.nodes from.0).live ≡ live
 RefusalIsTrue w from message = Unit {0}
 
@@ -248,14 +273,14 @@ FullIsFull setting w =
     (call : Call) (from to : BrickId) (live : ℕ) → WasSent w (record { from = from; to = to; message = Message.Reply call (Reply.Full live) })
     → live ≡ setting.layout.records
 
--- The laws of a world.
-pub record Laws (setting : Setting) (w : World) : Type 0 where
-  pub one_content : OneContent setting w
+-- The laws of a world, for an assignment of members to views.
+pub record Laws (setting : Setting) (views : Views) (w : World) : Type 0 where
+  pub one_content : OneContent setting views w
   pub first_is_zero : FirstIsZero setting w
   pub contents_are_made : ContentsAreMade setting w
-  pub guarded : WritesAreGuarded setting w
+  pub guarded : WritesAreGuarded setting views w
   pub stored : StoredIsHeld w
-  pub bases : BasesAreNewest setting w
+  pub bases : BasesAreNewest setting views w
   pub neighbours : (g s : ℕ) → NeighboursFollow w g s
   pub lowest : (g s : ℕ) → LowestFollows w g s
   pub real_time : (g s : ℕ) → FollowsRealTime w g s
@@ -274,28 +299,33 @@ pub record Laws (setting : Setting) (w : World) : Type 0 where
 abbrev pub IsHeldByQuorum : World → ℕ → ℕ → Group → Stamp → Type 0
 IsHeldByQuorum w g s group v = AtQuorum group (λ seat. w.held (brick_at group seat) g s v)
 
--- Version v of the stripe is lost: at a quorum of the group's seats the stripe's stamps are at or above one
--- that is above v, and fewer than m of these seats have held v.
+-- Version v of the stripe is lost: a quorum of the group's members takes nothing below a stamp that is above v, and fewer than m of these have
+-- held v.
 pub record IsLost (w : World) (g s : ℕ) (group : Group) (v : Stamp) : Type 0 where
   pub seats : ℕ → Bool
   pub stamp : Stamp
   pub quorum : AtQuorum group seats
-  pub passed : (seat : ℕ) → seats seat ≡ true → stamp_below (top_of (part_of w g s (brick_at group seat))) stamp ≡ false
+  pub passed : (seat : ℕ) → seats seat ≡ true → stamp_below (top_in w g s (brick_at group seat)) stamp ≡ false
   pub above : stamp_below v stamp ≡ true
   pub few : count (length group.members) (λ seat. seats seat && w.held (brick_at group seat) g s v) < group.m
 
--- whatever happens after a version was lost, no quorum will ever have held it
+-- Whatever happens after a version was lost to its view's members, no quorum of them will ever have held it: for every assignment of members to
+-- views that the whole run follows.
 abbrev pub NeverSurfaces : Type 0
 NeverSurfaces =
-    (setting : Setting) (events more : List Event) (g s : ℕ) (group : Group) (v : Stamp) → IsSound setting → group_of setting.layout g ≡ Some group
-    → (let w = run setting events (first_world setting.layout) in IsLost w g s group v → IsHeldByQuorum (run setting more w) g s group v → ⊥)
+    (setting : Setting) (views : Views) (events more : List Event) (g s : ℕ) (group : Group) (v : Stamp) → IsSound setting
+    → RunFollows setting views (events ++ more) → group_in setting.layout views g (view_of v) ≡ Some group
+    → (let w = run setting events (first_world setting.layout) in
+    IsLost w g s group v → IsHeldByQuorum (run setting more w) g s group v → ⊥)
 
--- the laws hold in every world that a run reaches, for every layout within the limits and every code that
--- gives back what it encodes
+-- the laws hold in every world that a run reaches, for every layout within the limits, every code that gives back what it encodes, and every
+-- assignment of members to views that the run follows
 abbrev pub EveryRunKeepsTheLaws : Type 0
-EveryRunKeepsTheLaws = (setting : Setting) (events : List Event) → IsSound setting → Laws setting (run setting events (first_world setting.layout))
+EveryRunKeepsTheLaws =
+    (setting : Setting) (views : Views) (events : List Event) → IsSound setting → RunFollows setting views events
+    → Laws setting views (run setting events (first_world setting.layout))
 
--- no event of any run lowers what a brick has promised or stored, or adds a version below that
+-- no event of any run lowers the stamp below which a brick takes nothing for a stripe, or adds a version below that
 abbrev pub NoEventLowers : Type 0
 NoEventLowers =
     (setting : Setting) (events : List Event) (event : Event) → IsSound setting

@@ -1,13 +1,24 @@
 //! The laws of the disk. Each call does nothing: its contract is the law.
 
-ghost use Rattle.protocol_laws.specs.Laws.{EveryRunKeepsTheLaws, NeverSurfaces, NoEventLowers};
+ghost use Rattle.protocol_laws.specs.Laws.{EveryRunFollowsTheLayout, EveryRunKeepsTheLaws, NeverSurfaces, NoEventLowers};
+
+/// Every run follows the layout: each brick has learnt view 1 of each group, with the layout's members, and no later view.
+///
+/// So the laws below hold of every run, for the layout's members in every view.
+pub fn every_run_follows_the_layout()
+    ensures { EveryRunFollowsTheLayout }
+{}
 
 /// Every run of the disk keeps its laws, whatever is asked of it, whatever its clocks read, whichever of its
 /// bricks stop and start again, whether a handling that a stop cut short had kept its change or not, and whichever of its
 /// messages are delivered, lost, repeated or overtaken.
 ///
-/// This holds for every layout whose groups are within the limits of a quorum, and for every code that gives
-/// back what it encodes. The laws are these.
+/// This holds for every layout whose groups are within the limits of a quorum, for every code that gives back what it encodes,
+/// and for every assignment of members to views that the run follows: its lists are distinct and within the limits, what a brick
+/// has learnt as a view is the assignment's, and where a brick has learnt a view, a quorum of each view before takes nothing below
+/// the next. A law on a version speaks of the members of the version's view: the view of its stamp, of the message that carries it,
+/// or of the part that keeps it. What a brick has come to is the stamp below which it takes nothing for a stripe, over all views.
+/// The laws are these.
 ///
 /// - Each stripe is strictly linearizable (Aguilera and Frølund, "Strict Linearizability and the Power of Aborting", 2003):
 ///   its happenings, each between the begin and the end of its operation, make its blocks plain registers, and every operation
@@ -15,12 +26,12 @@ ghost use Rattle.protocol_laws.specs.Laws.{EveryRunKeepsTheLaws, NeverSurfaces, 
 /// - Versions follow real time (Frølund et al., "A Decentralized Algorithm for Erasure-Coded Virtual Disks", DSN 2004).
 /// - One stamp has one content: every block that was sent to be written under a stamp, that was found under it, or that a member
 ///   keeps under it, is its seat's block of that content.
-/// - Before a version was sent to be written, a quorum had promised to take nothing below its stamp.
+/// - Before a version was sent to be written, a quorum of its view took nothing below its stamp, and has so ever since.
 /// - A member says that it stored a version only where it was asked to, and has held it.
 /// - A version's content is what its maker makes of its base's: a stripe write's bytes, or what a recovery read back. The content
 ///   of the first version is zero.
-/// - A version that is made on a base, as a recovery's is, is above it; and no quorum has held a version between the two, or ever
-///   will (Frølund et al., DSN 2004).
+/// - A version that is made on a base, as a recovery's is, is above it; and no quorum of its view has held a version between the
+///   two, or ever will (Frølund et al., DSN 2004).
 /// - Of two neighbours among the versions that take effect, the upper was written whole, or was made on the lower. The lowest is the
 ///   first version, or was written whole, or was made on the first one.
 /// - Each reply that counted in a phase of an operation was sent to its coordinator, as a reply to that phase.
@@ -31,8 +42,8 @@ ghost use Rattle.protocol_laws.specs.Laws.{EveryRunKeepsTheLaws, NeverSurfaces, 
 ///   later stamp, or its coordinator knows no later time.
 /// - For a full store only where, in its last phase, that member had told its coordinator so, the one of the lowest seat of those
 ///   whose replies counted.
-/// - What a refusal tells was true of its member when it was sent: the stripe's part had come to just that stamp, or the member kept
-///   so many live records. A member says that its store is full only with as many live records as a brick may keep.
+/// - What a refusal tells was true of its member when it was sent: it had come to just that stamp, or it kept so many live records.
+///   A member says that its store is full only with as many live records as a brick may keep.
 /// - Each answer has the word of its operation: a read is answered the data of its m blocks, a write that it is done; either may be
 ///   aborted.
 /// - Marks are well formed: positions and numbers rise, and only an operation that is open ends. They have no gaps: positions are
@@ -41,15 +52,15 @@ pub fn every_run_keeps_the_laws()
     ensures { EveryRunKeepsTheLaws }
 {}
 
-/// No event of any run lowers what a brick has promised or stored: the greater of a stripe's order stamp and
-/// its newest version's stamp never falls; and no event adds a version to a log below that (Frølund et al., DSN 2004).
+/// No event of any run lowers the stamp below which a brick takes nothing for a stripe: the greatest of what it has promised, what it
+/// has stored and what it has learnt of views never falls; and no event adds a version to a log below that (Frølund et al., DSN 2004).
 pub fn no_event_lowers()
     ensures { NoEventLowers }
 {}
 
-/// A version that is lost never surfaces: where a quorum has promised a stamp, or stored something as late,
-/// and fewer than m of it have held a version below that stamp, no quorum has held that version at any later time
-/// (Frølund et al., DSN 2004; Aguilera and Frølund 2003).
+/// A version that is lost never surfaces: where a quorum of its view takes nothing below a stamp that is above it, and fewer than m of
+/// that quorum have held it, no quorum of the view has held it at any later time (Frølund et al., DSN 2004; Aguilera and Frølund
+/// 2003). This holds for every assignment of members to views that the longer run follows.
 pub fn no_lost_version_surfaces()
     ensures { NeverSurfaces }
 {}

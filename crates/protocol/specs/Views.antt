@@ -1,0 +1,49 @@
+-- Views: the lists of members that keep a group, one after another, by number from 1 (Saito 2004, section 5).
+use Rattle.std.specs.Prelude.{ℕ, true, Bool, List, [], Option, Some, None, max}
+use Rattle.std.specs.Option.{option_map}
+use Rattle.fab_base.specs.declared.identities.BrickId.{BrickId}
+use Rattle.fab_base.specs.declared.member_lists.View.{View}
+use Rattle.fab_base.specs.declared.stamps.Stamp.{Stamp}
+use Rattle.fab_base.specs.Layouts.{Layout, Group, group_of}
+
+-- the members, by seat, of each view of each group: by group and view
+abbrev pub Views : Type 0
+Views = ℕ → ℕ → List BrickId
+
+-- the layout's members, in every view
+abbrev pub members_of : Option Group → List BrickId
+members_of None = []
+members_of (Some group) = group.members
+
+abbrev pub layout_views : Layout → Views
+layout_views layout g e = members_of (group_of layout g)
+
+-- the view that a stamp is of: the first stamp counts as one of view 1
+abbrev pub view_of : Stamp → ℕ
+view_of t = max t.view.0 1
+
+-- the stamp that is below all that are made in a view, and above all of the views before it
+abbrev pub floor_of : ℕ → Stamp
+floor_of e = record { view = record { 0 = e }; time = 0; brick = record { 0 = 0 }; boot = 0 }
+
+-- a view of a group that a brick has learnt, and whether all its stripes are known to be kept in it
+pub record Learnt : Type 0 where
+  pub view : View
+  pub synced : Bool
+
+-- what a brick has learnt of a group at first: view 1, with the layout's members and none before them
+abbrev pub first_learnt : Layout → ℕ → Learnt
+first_learnt layout g =
+    record { view = record { number = record { 0 = 1 }; members = members_of (group_of layout g); prior = [] }; synced = true }
+
+-- a group that these members keep
+abbrev pub kept_by : List BrickId → Group → Group
+kept_by members group = record { members = members; m = group.m; stripes = group.stripes }
+
+-- the group of a number, as these members keep it
+abbrev pub group_kept : Layout → List BrickId → ℕ → Option Group
+group_kept layout members g = option_map (kept_by members) (group_of layout g)
+
+-- the group of a number in a view
+abbrev pub group_in : Layout → Views → ℕ → ℕ → Option Group
+group_in layout views g e = group_kept layout (views g e) g

@@ -1,0 +1,62 @@
+-- What a brick does with a request: it ignores it, or changes its part of the call's stripe in the view that it has learnt.
+use Rattle.std.proofs.Common.{◌≡◌, ℕ, ◌⊎◌, inl, inr, not, ◌&&◌, nat_lt, Option, Some, None, refl, arith}
+use Rattle.std.specs.Prelude.{nat_eq}
+use Rattle.std.proofs.lemmas.Bool.{cond_both, eqb-true, and_parts}
+use Rattle.fab_base.specs.declared.identities.BrickId.{BrickId}
+use Rattle.messages.specs.declared.calls.Call.{Call}
+use Rattle.messages.specs.declared.requests.Request.{Request}
+use Rattle.fab_base.specs.Layouts.{Group, seat_in}
+use Rattle.protocol.specs.Settings.{Setting}
+use Rattle.protocol.specs.Replicas.{Replica, Reaction, handle}
+use Rattle.protocol.specs.Nodes.{Node, NodeStep, view_at, group_at, put, no_step, with_replica, replica_at, full_at, reacted, requested_at, is_served, fits_block, requested_in, requested}
+use Rattle.protocol_laws.proofs.BooksKept.{KeepsNumbers}
+use Rattle.protocol_laws.proofs.Tables.{put_each}
+
+-- a brick ignores a request, or handles it at its seat
+pub request_each : (P : NodeStep → Type 0) (setting : Setting) (me from : BrickId) (node : Node) (call : Call) (request : Request)
+    → P (no_step node)
+    → ((seat : ℕ) → call.view.0 ≡ view_at node call.group.0 → P (reacted me from node call (handle (full_at setting.layout.records node.live) seat (replica_at node call) request)))
+    → P (requested setting me from node call request)
+unfolding requested
+request_each P setting me from node call request ignored handled = in_group (group_at setting.layout node call.group.0)
+  where
+    at_seat : call.view.0 ≡ view_at node call.group.0 → (z : Option ℕ) → P (requested_at setting.layout.records me from node call request z)
+    at_seat view None = ignored
+    at_seat view (Some seat) = handled seat view
+
+    in_group : (z : Option Group) → P (requested_in setting.layout me from node call request z)
+    in_group None = ignored
+    in_group (Some group) =
+        cond_both (is_served group node call && fits_block setting.layout.block request)
+        (seat_in group.members me.0) None (λ (z : Option ℕ). P (requested_at setting.layout.records me from node call request z))
+        (λ is.
+        let served = and_parts (is_served group node call) (fits_block setting.layout.block request) is in
+        let view = and_parts (nat_lt call.stripe.0 group.stripes) (nat_eq call.view.0 (view_at node call.group.0) && not (node.accepted call.group.0)) served.0 in
+        let same = and_parts (nat_eq call.view.0 (view_at node call.group.0)) (not (node.accepted call.group.0)) view.1 in
+        at_seat (eqb-true call.view.0 (view_at node call.group.0) same.0) (seat_in group.members me.0)) (λ isnt. ignored)
+
+-- what holds of the changed part, and of each part as it was
+pub parts_each : (Q : ℕ → ℕ → ℕ → Replica → Type 0) (node : Node) (call : Call) (reaction : Reaction)
+    → Q call.group.0 call.view.0 call.stripe.0 reaction.replica
+    → ((g e s : ℕ) → Q g e s (node.replicas g e s)) → (g e s : ℕ) → Q g e s ((with_replica node call reaction).replicas g e s)
+parts_each Q node call reaction new old g e s =
+    put_each (λ h table. (v r : ℕ) → Q h v r (table v r)) node.replicas call.group.0
+    (put (node.replicas call.group.0) call.view.0 (put (node.replicas call.group.0 call.view.0) call.stripe.0 reaction.replica))
+    (put_each (λ v row. (r : ℕ) → Q call.group.0 v r (row r)) (node.replicas call.group.0) call.view.0
+    (put (node.replicas call.group.0 call.view.0) call.stripe.0 reaction.replica)
+    (put_each (Q call.group.0 call.view.0) (node.replicas call.group.0 call.view.0) call.stripe.0 reaction.replica new
+    (λ r other. old call.group.0 call.view.0 r))
+    (λ v other r. old call.group.0 v r))
+    (λ h other v r. old h v r) g e s
+
+-- a part that changes is of the view that its brick has learnt
+pub keeps_replica : (node : Node) (call : Call) (reaction : Reaction) → call.view.0 ≡ view_at node call.group.0
+    → KeepsNumbers node (with_replica node call reaction)
+keeps_replica node call reaction view = record {
+  boot = refl;
+  seq = refl;
+  learnt = refl;
+  accepted = refl;
+  parts = parts_each (λ g e s r. (r ≡ node.replicas g e s) ⊎ (e ≡ view_at node g)) node call reaction (inr view) (λ g e s. inl refl);
+  known = omega arith;
+}
