@@ -17,15 +17,15 @@ use Rattle.protocol.specs.declared.phases.Counted.{Counted}
 use Rattle.protocol.specs.Coordinators.{Next, Ignores, Waits, counts_at, decided, on_reply, counted_at}
 use Rattle.stripe_code.specs.Codes.{block_code}
 use Rattle.coord_phase.specs.Operations.{Operation, StaysAsked, with_state, without_last, telling, seat_told, counts, heard, heard_at}
-use Rattle.coord_phase.specs.Decisions.{decided_on, decision, Answers, AsksRecovery, SendsPhase, IsWait, note_told}
+use Rattle.coord_phase.specs.Decisions.{decided_on, decision, Answers, AsksRecovery, HasBlocks, SendsPhase, IsWait, note_told}
 
 -- what is decided, by whether the message counts, and whether a quorum then counts
 abbrev pub after_hearing : Option Stamp → Operation → Bool → Next
 after_hearing fresh op full =
-    cond full (decided (block_code op.block) op.group.m fresh op.state) (Waits op.state)
+    cond full (decided op.block (block_code op.block) fresh op.state) (Waits op.state)
 
 abbrev pub is_full : Operation → Bool
-is_full op = not (nat_lt (length op.state.counted) (quorum_of op.group))
+is_full op = not (nat_lt (length op.state.counted) (quorum_of op.state.group))
 
 -- what is known of a message that was heard at a seat
 record Heard (fresh : Option Stamp) (before : Operation) (after : Operation) (next : Next) (counted : Bool) : Type 0 where
@@ -48,13 +48,13 @@ all_but_last : (counted : List Counted) (x : Counted) → take (length (counted 
 all_but_last counted x = rw length-append (search (rules, take_at))
 
 heard_reply : (fresh : Option Stamp) (op : Operation) (from : BrickId) (call : Call) (reply : Reply) (seat : Option ℕ)
-    → counts_at op.block op.group op.state from.0 call reply ≡ seat
+    → counts_at op.block op.state from.0 call reply ≡ seat
     → Heard fresh op (heard_at op from (messages.Reply call reply) seat)
-    (on_reply op.block (block_code op.block) op.group fresh op.state from call reply) (is_some seat)
+    (on_reply op.block (block_code op.block) fresh op.state from call reply) (is_some seat)
 unfolding on_reply
 heard_reply fresh op from call reply None is =
     record {
-      ignored = λ none. ap (counted_at (block_code op.block) op.group fresh op.state from reply) is;
+      ignored = λ none. ap (counted_at op.block (block_code op.block) fresh op.state from reply) is;
       heard = λ some. absurd (false≢true some);
       unchanged = λ none. refl;
       uncounted = λ some. absurd (false≢true some);
@@ -67,9 +67,9 @@ heard_reply fresh op from call reply (Some seat) is =
     let after = heard_at op from (messages.Reply call reply) (Some seat) in
     record {
       ignored = λ none. absurd (false≢true (sym none));
-      heard = λ some. ap (counted_at (block_code op.block) op.group fresh op.state from reply) is
-          ∙ not_full (nat_lt (length after.state.counted) (quorum_of op.group)) (Waits after.state)
-          (decided (block_code op.block) op.group.m fresh after.state);
+      heard = λ some. ap (counted_at op.block (block_code op.block) fresh op.state from reply) is
+          ∙ not_full (nat_lt (length after.state.counted) (quorum_of op.state.group)) (Waits after.state)
+          (decided op.block (block_code op.block) fresh after.state);
       unchanged = λ none. absurd (false≢true (sym none));
       uncounted = λ some. ap (λ (counted : List Counted). with_state op (record op.state { counted = counted })) (all_but_last op.state.counted _);
       stays = record { block = refl; group = refl; ask = refl };
@@ -127,7 +127,7 @@ stays_telling : (mid after : Operation) (told : Option Note) → after ≡ telli
 stays_telling mid after told is =
     record {
       block = ap (λ (op : Operation). op.block) is;
-      group = ap (λ (op : Operation). op.group) is;
+      group = ap (λ (op : Operation). op.state.group) is;
       ask = ap (λ (op : Operation). op.state.ask) is;
     }
 
@@ -175,30 +175,37 @@ answers_waiting fresh before from message mid after answered full heard_is some 
 pub answers_decided : (fresh : Option Stamp) (before : Operation) (from : BrickId) (message : Message) (mid after : Operation) (answered : Answer)
     (full : Bool)
     → mid ≡ heard before from message → counts before from message ≡ true → full ≡ is_full mid → full ≡ true
-    → decision after answered ≡ decided (block_code mid.block) mid.group.m fresh mid.state → SendsPhase after answered
-    → after.note ≡ note_told mid.state.call (decided (block_code mid.block) mid.group.m fresh mid.state) → StaysAsked mid after
+    → decision after answered ≡ decided mid.block (block_code mid.block) fresh mid.state → SendsPhase after answered
+    → after.note ≡ note_told mid.state.call (decided mid.block (block_code mid.block) fresh mid.state) → StaysAsked mid after
     → Answers fresh before from message answered after
 answers_decided fresh before from message mid after answered full heard_is some full_is enough next sent told stays =
-    let machine : decided_on fresh before from message ≡ decided (block_code mid.block) mid.group.m fresh mid.state =
+    let machine : decided_on fresh before from message ≡ decided mid.block (block_code mid.block) fresh mid.state =
     decided_with fresh before from message full some (full_is ∙ ap is_full heard_is)
     ∙ ap (λ (b : Bool). after_hearing fresh (heard before from message) b) enough
-    ∙ ap (λ (op : Operation). decided (block_code op.block) op.group.m fresh op.state) (sym heard_is) in
+    ∙ ap (λ (op : Operation). decided op.block (block_code op.block) fresh op.state) (sym heard_is) in
     let call : mid.state.call ≡ before.state.call = ap (λ (op : Operation). op.state.call) heard_is ∙ heard_call before from message in
     record {
       decided = machine ∙ sym next ∙ sym (ap (λ (b : Bool). cond b (decision after answered) Ignores) some);
       ignored = λ none. absurd (false≢true (sym none ∙ some));
       sent = sent;
-      told = told ∙ ap (λ (c : Call). note_told c (decided (block_code mid.block) mid.group.m fresh mid.state)) call
+      told = told ∙ ap (λ (c : Call). note_told c (decided mid.block (block_code mid.block) fresh mid.state)) call
           ∙ sym (ap (note_told before.state.call) machine);
       stays = heard_then before from message mid after heard_is stays;
     }
 
 -- a recovery that is asked for once a reply counted is asked for by the operation as it was before the reply
 pub asked_as_before : (before : Operation) (from : BrickId) (message : Message) (mid after : Operation) (may : Bool) (answered : Answer)
-    → mid ≡ heard before from message → counts before from message ≡ true → AsksRecovery may answered mid.state after.state
-    → AsksRecovery may answered before.state (without_last after.state)
+    → mid ≡ heard before from message → counts before from message ≡ true → AsksRecovery may mid.block answered mid.state after.state
+    → AsksRecovery may before.block answered before.state (without_last after.state)
 asked_as_before before from message mid after may (Recover turn) heard_is some asks =
-    (asks.0, ap without_last (asks.1 ∙ ap (λ (op : Operation). op.state) heard_is) ∙ ap (λ (op : Operation). op.state) (taken_back before from message some))
+    record {
+      may_be = asks.may_be;
+      blocks = subst (λ (block : ℕ). HasBlocks block after.state.group.m turn)
+          (ap (λ (op : Operation). op.block) heard_is ∙ (heard_stays before from message).block) asks.blocks;
+      room = asks.room;
+      same = ap without_last (asks.same ∙ ap (λ (op : Operation). op.state) heard_is)
+          ∙ ap (λ (op : Operation). op.state) (taken_back before from message some);
+    }
 asked_as_before before from message mid after may (Send messages) heard_is some asks = tt
 asked_as_before before from message mid after may Wait heard_is some asks = tt
 asked_as_before before from message mid after may (End answer) heard_is some asks = tt

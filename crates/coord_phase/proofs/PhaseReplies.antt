@@ -6,7 +6,6 @@ use Rattle.std.proofs.lemmas.Bool.{and_parts, and_from, or_parts, or_from, not-t
 use Rattle.fab_base.specs.declared.identities.BrickId.{BrickId}
 use Rattle.messages.specs.declared.calls.Call.{Call}
 use Rattle.messages.specs.declared.replies.Reply.{Reply}
-use Rattle.fab_base.specs.Layouts.{Group}
 use Rattle.protocol.specs.declared.phases.Counted.{Counted}
 use Rattle.protocol.specs.Coordinators.{Coordinator, has_seat, counts_at, with_reply}
 use Rattle.protocol.proofs.CountsAt.{counts_facts}
@@ -37,9 +36,9 @@ apart-take (suc n) (c ∷ counted) apart =
     (ap not (seat-take c.seat n counted (not-true (has_seat c.seat counted) parts.0))) (apart-take n counted parts.1)
 
 -- the first n replies of a phase are such
-pub fewer_replies : (block : ℕ) (group : Group) (c : Coordinator) (n : ℕ) → IsInPhase block group c
-    → IsInPhase block group (record c { counted = take n c.counted })
-fewer_replies block group c n is =
+pub fewer_replies : (block : ℕ) (c : Coordinator) (n : ℕ) → IsInPhase block c
+    → IsInPhase block (record c { counted = take n c.counted })
+fewer_replies block c n is =
     record {
       long = is.long;
       content = is.content;
@@ -72,16 +71,16 @@ apart-more (c ∷ counted) x apart none =
     (ap not (seat-more c.seat counted x (not-true (has_seat c.seat counted) parts.0) other)) (apart-more counted x parts.1 nones.1)
 
 -- a reply that counts makes the replies of a phase such again
-pub one_more_reply : (block : ℕ) (group : Group) (c : Coordinator) (from : BrickId) (call : Call) (reply : Reply) (seat : ℕ)
-    → IsInPhase block group c → counts_at block group c from.0 call reply ≡ Some seat
-    → IsInPhase block group (with_reply c seat from reply)
-one_more_reply block group c from call reply seat is counts =
-    let facts = counts_facts block group c from.0 call reply seat counts in
+pub one_more_reply : (block : ℕ) (c : Coordinator) (from : BrickId) (call : Call) (reply : Reply) (seat : ℕ)
+    → IsInPhase block c → counts_at block c from.0 call reply ≡ Some seat
+    → IsInPhase block (with_reply c seat from reply)
+one_more_reply block c from call reply seat is counts =
+    let facts = counts_facts block c from.0 call reply seat counts in
     let x : Counted = record { seat = seat; brick = from; reply = reply } in
     record {
       long = is.long;
       content = is.content;
-      seats = all-more _ c.counted x is.seats (lt-ltb seat (length group.members) (seat_within group from.0 seat facts.seat_is));
+      seats = all-more _ c.counted x is.seats (lt-ltb seat (length c.group.members) (seat_within c.group from.0 seat facts.seat_is));
       answers = all-more _ c.counted x is.answers facts.answers;
       apart = apart-more c.counted x is.apart facts.first;
     }

@@ -13,7 +13,6 @@ use Rattle.fab_base.specs.Stamps.{stamp_below}
 use Rattle.messages.specs.declared.replies.Reply.{Reply}
 use Rattle.messages.specs.declared.replies.Reply.TheVariants as replies
 use Rattle.rs_code.specs.Codewords.{AreSeats}
-use Rattle.fab_base.specs.Layouts.{Group}
 use Rattle.protocol.specs.Settings.{Piece}
 use Rattle.protocol.specs.declared.phases.Counted.{Counted}
 use Rattle.protocol.specs.declared.phases.Phase.{Phase}
@@ -210,15 +209,15 @@ pub record GiveBack (m block : ℕ) (pieces : List Piece) (seats blocks : List �
   pub first : AreFirst m block pieces (take m seats) (take (m * block) blocks)
 
 -- so do those of a version that m counted replies tell
-pub give_back : (block : ℕ) (group : Group) (c : Coordinator) (v : Stamp) (m : ℕ) (seats blocks : List ℕ) → IsInPhase block group c
-    → length group.members ≤ 32
+pub give_back : (block : ℕ) (c : Coordinator) (v : Stamp) (m : ℕ) (seats blocks : List ℕ) → IsInPhase block c
+    → length c.group.members ≤ 32
     → m ≤ length (pieces_at v c.counted) → seats ≡ seats_of (pieces_at v c.counted) → blocks ≡ blocks_of (pieces_at v c.counted)
     → GiveBack m block (pieces_at v c.counted) seats blocks
-give_back block group c v m seats blocks is few enough seats_are blocks_are =
+give_back block c v m seats blocks is few enough seats_are blocks_are =
     let found : List Counted = filter (finds v) c.counted in
     let pieces : List Piece = pieces_at v c.counted in
     let long = found_are_long block c.stamp v c.phase c.counted is.answers in
-    let below = below_limit (length group.members) (take m found) few (all-take _ m found (all-filter _ (finds v) c.counted is.seats)) in
+    let below = below_limit (length c.group.members) (take m found) few (all-take _ m found (all-filter _ (finds v) c.counted is.seats)) in
     let apart = apart-take m found (apart-filter (finds v) c.counted is.apart) in
     let count : length (take m found) ≡ m = length-take_first m found (omega (arith, enough, length-pieces_of found)) in
     let firsts : take m seats ≡ seats_of (pieces_of (take m found)) = ap (take m) seats_are ∙ take-seats_of m pieces

@@ -1,5 +1,5 @@
 -- How what a coordinator answers its brick, what it holds then and what it tells stand for what the machine decides.
-use Rattle.std.specs.Prelude.{◌≡◌, Bool, true, false, if◌then◌else◌, Option, Some, None}
+use Rattle.std.specs.Prelude.{◌≡◌, ℕ, ◌<◌, ◌-◌, ◌*◌, ◌^◌, Bool, true, false, if◌then◌else◌, length, Option, Some, None}
 use Rattle.fab_base.specs.declared.identities.BrickId.{BrickId}
 use Rattle.fab_base.specs.declared.identities.CallId.{CallId}
 use Rattle.fab_base.specs.declared.stamps.Stamp.{Stamp}
@@ -8,11 +8,11 @@ use Rattle.messages.specs.declared.calls.Call.{Call}
 use Rattle.messages.specs.declared.packets.Message.{Message}
 use Rattle.messages.specs.declared.turns.Next.{Next}
 use Rattle.messages.specs.declared.turns.Next.TheVariants.{Send, Wait, End, Recover}
-use Rattle.messages.specs.declared.turns.Turn.TheVariants as Turn
+use Rattle.messages.specs.declared.turns.Turn.{Turn}
 use Rattle.protocol.specs.Coordinators as machine
 use Rattle.protocol.specs.declared.phases.Phase.{Phase}
 use Rattle.protocol.specs.declared.phases.Phase.TheVariants.{Looks, Orders, Recovers, Descends, Stores}
-use Rattle.protocol.specs.Coordinators.{Coordinator, in_phase, restoring, stored_content}
+use Rattle.protocol.specs.Coordinators.{Coordinator, in_phase, restoring}
 use Rattle.stripe_code.specs.Codes.{block_code}
 use Rattle.coord_phase.specs.Operations.{Operation, StaysAsked, counts}
 use Rattle.coord_phase.specs.Messages.{phase_messages}
@@ -62,12 +62,25 @@ NeverRecovers Wait = Unit {0}
 NeverRecovers (End answer) = Unit {0}
 NeverRecovers (Recover turn) = ⊥
 
--- a recovery is asked for only where it may be, and by a coordinator that is as it was
-abbrev pub AsksRecovery : Bool → Next → Coordinator → Coordinator → Type 0
-AsksRecovery may (Send messages) before after = Unit {0}
-AsksRecovery may Wait before after = Unit {0}
-AsksRecovery may (End answer) before after = Unit {0}
-AsksRecovery may (Recover turn) before after = (may ≡ true) × (after ≡ before)
+-- where a recovery begins with the store of a version, that is m blocks of this many bytes
+abbrev pub HasBlocks : ℕ → ℕ → Turn → Type 0
+HasBlocks block m Turn.Order = Unit {0}
+HasBlocks block m (Turn.Down bound) = Unit {0}
+HasBlocks block m (Turn.Store base content) = length content ≡ m * block
+
+-- A recovery may be asked for, by a coordinator that is as it was, and has a next phase.
+pub record MayRecover (may : Bool) (block : ℕ) (turn : Turn) (before after : Coordinator) : Type 0 where
+  pub may_be : may ≡ true
+  pub blocks : HasBlocks block after.group.m turn
+  pub room : after.call.phase < 2 ^ 32 - 1
+  pub same : after ≡ before
+
+-- a recovery is asked for only where it may be
+abbrev pub AsksRecovery : Bool → ℕ → Next → Coordinator → Coordinator → Type 0
+AsksRecovery may block (Send messages) before after = Unit {0}
+AsksRecovery may block Wait before after = Unit {0}
+AsksRecovery may block (End answer) before after = Unit {0}
+AsksRecovery may block (Recover turn) before after = MayRecover may block turn before after
 
 -- nothing is done
 abbrev pub IsWait : Next → Type 0
@@ -82,7 +95,7 @@ call_id call = record { boot = call.boot; seq = call.seq }
 
 -- what an operation tells as it makes its version
 abbrev pub note_of : Coordinator → Note
-note_of c = Note.Made (call_id c.call) c.stamp c.base (stored_content c)
+note_of c = Note.Made (call_id c.call) c.stamp c.base c.content
 
 -- what is told of a version that was read at once, if one was
 abbrev pub seen_note : Call → Option Stamp → Option Note
@@ -100,7 +113,7 @@ note_told call (machine.Ends answer seen stored) = seen_note call seen
 -- the machine's decision on a message, where a new round would have this fresh stamp
 abbrev pub decided_on : Option Stamp → Operation → BrickId → Message → machine.Next
 decided_on fresh op from (Message.Reply call reply) =
-    machine.on_reply op.block (block_code op.block) op.group fresh op.state from call reply
+    machine.on_reply op.block (block_code op.block) fresh op.state from call reply
 decided_on fresh op from message = machine.Ignores
 
 -- An operation that heard a message answers, holds and tells what the machine decides: after a message that does not count it waits, as it was.

@@ -1,38 +1,40 @@
 -- An operation in a phase, at its coordinator.
 use Rattle.std.specs.Prelude.{◌≡◌, ℕ, ◌-◌, ◌*◌, Bool, true, false, not, nat_lt, ◌&&◌, List, [], ◌∷◌, length, take, Option, Some, None, is_some}
-use Rattle.std.specs.List.{list_all}
+use Rattle.std.specs.List.{list_all, list_any}
 use Rattle.fab_base.specs.declared.identities.BrickId.{BrickId}
 use Rattle.fab_base.specs.declared.identities.CallId.{CallId}
 use Rattle.fab_base.specs.declared.identities.ViewNo.{ViewNo}
 use Rattle.fab_base.specs.declared.stamps.Stamp.{Stamp}
 use Rattle.fab_base.specs.declared.asks.Ask.{Ask}
+use Rattle.fab_base.specs.declared.asks.Op.{Op}
 use Rattle.fab_base.specs.declared.notes.Note.{Note}
 use Rattle.messages.specs.declared.calls.Call.{Call}
 use Rattle.messages.specs.declared.packets.Message.{Message}
 use Rattle.coord_phase.specs.declared.operations.Stage.{Stage}
-use Rattle.fab_base.specs.Layouts.{Layout, Group, group_of}
+use Rattle.coord_phase.specs.declared.operations.ReadBack.{ReadBack}
+use Rattle.fab_base.specs.Layouts.{Layout, Group}
+use Rattle.protocol.specs.Views.{group_kept}
 use Rattle.protocol.specs.declared.phases.Phase.{Phase}
 use Rattle.protocol.specs.declared.phases.Phase.TheVariants.{Looks, Orders, Recovers, Descends, Stores}
 use Rattle.protocol.specs.declared.phases.Counted.{Counted}
-use Rattle.protocol.specs.Coordinators.{Coordinator, answers_phase, counts_at, has_seat, stored_content, with_reply}
-use Rattle.protocol.specs.Nodes.{has_length}
+use Rattle.protocol.specs.Coordinators.{Coordinator, answers_phase, counts_at, has_seat, with_reply}
+use Rattle.protocol.specs.Nodes.{has_length, given_content}
 
--- an operation: the bytes of a block, the group with the members that are asked, how far the machine's coordinator is, and by the last reply that it
--- heard the version that it told, and the one that it had stored, which may be collected
+-- an operation: the bytes of a block, how far the machine's coordinator is, and by the last reply that it heard the version that it told, and the one
+-- that it had stored, which may be collected
 pub record Operation : Type 0 where
   pub block : ℕ
-  pub group : Group
   pub state : Coordinator
   pub note : Option Note
   pub made : Option Stamp
 
 -- the operation, once its coordinator is this far
 abbrev pub with_state : Operation → Coordinator → Operation
-with_state op c = record { block = op.block; group = op.group; state = c; note = op.note; made = op.made }
+with_state op c = record { block = op.block; state = c; note = op.note; made = op.made }
 
 -- the operation, once its coordinator is this far, with what it tells
 abbrev pub telling : Operation → Coordinator → Option Note → Operation
-telling op c note = record { block = op.block; group = op.group; state = c; note = note; made = None }
+telling op c note = record { block = op.block; state = c; note = note; made = None }
 
 -- the coordinator without the last reply that counts
 abbrev pub without_last : Coordinator → Coordinator
@@ -41,17 +43,27 @@ without_last c = record c { counted = take (length c.counted - 1) c.counted }
 -- an operation stays what it is: its blocks' length, its group, and what it is asked
 pub record StaysAsked (before after : Operation) : Type 0 where
   pub block : after.block ≡ before.block
-  pub group : after.group ≡ before.group
+  pub group : after.state.group ≡ before.state.group
   pub ask : after.state.ask ≡ before.state.ask
 
--- a group that is now kept by these members
-abbrev pub kept_by : List BrickId → Option Group → Group
-kept_by members None = record { members = members; m = 0; stripes = 0 }
-kept_by members (Some group) = record { members = members; m = group.m; stripes = group.stripes }
+-- a group, or one without data blocks
+abbrev pub group_or_none : Option Group → Group
+group_or_none None = record { members = []; m = 0; stripes = 0 }
+group_or_none (Some group) = group
 
 -- the group of this number, kept by the members of a view; a group that the layout lacks has no data block
 abbrev pub group_in_view : Layout → List BrickId → ℕ → Group
-group_in_view layout members g = kept_by members (group_of layout g)
+group_in_view layout members g = group_or_none (group_kept layout members g)
+
+-- the version that was read back, if one was
+abbrev pub base_in : Option ReadBack → Option Stamp
+base_in None = None
+base_in (Some read) = Some read.base
+
+-- what an operation stores: what it read back, where it did, and else what it was given
+abbrev pub content_in : Op → Option ReadBack → List ℕ
+content_in op None = given_content op
+content_in op (Some read) = read.content
 
 -- a call's phase of this number, in a view
 abbrev pub call_in : CallId → ℕ → Ask → ViewNo → Call
@@ -61,24 +73,24 @@ call_in call number ask view =
 -- the coordinator as it begins a stage, in which no reply counts yet
 abbrev pub at_stage : Coordinator → Stage → Coordinator
 at_stage c stage =
-    record {
-      ask = c.ask;
-      stamp = stage.stamp;
-      round = stage.round;
-      base = c.base;
-      content = c.content;
-      call = stage.call;
-      phase = stage.phase;
-      counted = [];
-    }
+    record c { stamp = stage.stamp; round = stage.round; call = stage.call; phase = stage.phase; counted = [] }
+
+-- the phases are the same, whatever their bounds
+abbrev pub same_phase : Phase → Phase → Bool
+same_phase Looks Looks = true
+same_phase Orders Orders = true
+same_phase Recovers Recovers = true
+same_phase (Descends bound) (Descends other) = true
+same_phase Stores Stores = true
+same_phase phase other = false
+
+-- the phase is one of these, whatever its bound
+abbrev pub is_among : List Phase → Phase → Bool
+is_among phases phase = list_any (same_phase phase) phases
 
 -- the phase asks for an order, and may be asked again in another round
 abbrev pub is_ordering : Phase → Bool
-is_ordering Looks = false
-is_ordering Orders = true
-is_ordering Recovers = true
-is_ordering (Descends bound) = false
-is_ordering Stores = false
+is_ordering = is_among (Orders ∷ Recovers ∷ [])
 
 -- no two of the replies are of one seat
 abbrev pub are_apart : List Counted → Bool
@@ -95,16 +107,16 @@ StoresBlocks block m content Stores = length content ≡ m * block
 
 -- What is true of an operation in each phase: what it is given to write has its length; what it stores is m blocks; and each reply that counts is of a
 -- seat of the group, answers the phase, and is its seat's only one.
-pub record IsInPhase (block : ℕ) (group : Group) (c : Coordinator) : Type 0 where
-  pub long : has_length group.m block c.ask.op ≡ true
-  pub content : StoresBlocks block group.m (stored_content c) c.phase
-  pub seats : list_all (λ reply. nat_lt reply.seat (length group.members)) c.counted ≡ true
+pub record IsInPhase (block : ℕ) (c : Coordinator) : Type 0 where
+  pub long : has_length c.group.m block c.ask.op ≡ true
+  pub content : StoresBlocks block c.group.m c.content c.phase
+  pub seats : list_all (λ reply. nat_lt reply.seat (length c.group.members)) c.counted ≡ true
   pub answers : list_all (λ reply. answers_phase block c.stamp c.phase reply.reply) c.counted ≡ true
   pub apart : are_apart c.counted ≡ true
 
 -- the seat at which a message counts, if it does: only a reply may
 unfoldable pub seat_told : Operation → ℕ → Message → Option ℕ
-seat_told op from (Message.Reply call reply) = counts_at op.block op.group op.state from call reply
+seat_told op from (Message.Reply call reply) = counts_at op.block op.state from call reply
 seat_told op from message = None
 
 -- the message counts

@@ -59,7 +59,7 @@ impl Operation {
 
     /// Whether the member at a seat has a reply that counts.
     pub(crate) fn has_reply(&self, seat: u8) -> bool
-        requires { seat < length self.now.group.members }
+        requires { seat < length self.now.state.group.members }
         ensures { result ≡ has_seat seat self.now.state.counted }
     {
         self.replies.has_reply(seat)
@@ -68,7 +68,7 @@ impl Operation {
     /// The seat at which a reply counts: it is to this very phase, answers it, and is its seat's first.
     #[tactic(auto, unfolding(protocol::specs::Coordinators::counts_at))]
     fn seat_to_count(&self, from: BrickId, call: Call, reply: &Reply) -> Option<u8>
-        ensures seat { result ≡ counts_at self.now.block self.now.group self.now.state from.0 call reply.now }
+        ensures seat { result ≡ counts_at self.now.block self.now.state from.0 call reply.now }
         ensures few { IfSome result (λ _. self.now.state.call.phase < 2 ^ 32 - 1) }
     {
         let is_to_this_phase = is_same_call(call, self.stage.call)
@@ -131,9 +131,9 @@ impl Operation {
 
     /// Whether a quorum of replies counts.
     pub(crate) fn is_full(&self) -> bool
-        ensures full { result ≡ not (nat_lt (length self.now.state.counted) (quorum_of self.now.group)) }
-        ensures enough { result ≡ true → self.now.group.m ≤ length self.now.state.counted }
-        ensures long { has_length self.now.group.m self.now.block self.now.state.ask.op ≡ true }
+        ensures full { result ≡ not (nat_lt (length self.now.state.counted) (quorum_of self.now.state.group)) }
+        ensures enough { result ≡ true → self.now.state.group.m ≤ length self.now.state.counted }
+        ensures long { has_length self.now.state.group.m self.now.block self.now.state.ask.op ≡ true }
     {
         self.replies.is_quorum()
     }

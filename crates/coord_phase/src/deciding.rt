@@ -30,16 +30,16 @@ pub trait Decide {
     /// `NoMemory` where no memory was left; then nothing has changed.
     fn decide(op: &mut Operation, alloc: Global, fresh: Option<Stamp>) -> Result<Next, NoMem>
         requires own { is_own op.old.state.phase ≡ true }
-        requires long { has_length op.old.group.m op.old.block op.old.state.ask.op ≡ true }
-        requires enough { op.old.group.m ≤ length op.old.state.counted }
+        requires long { has_length op.old.state.group.m op.old.block op.old.state.ask.op ≡ true }
+        requires enough { op.old.state.group.m ≤ length op.old.state.counted }
         requires few { op.old.state.call.phase < 2 ^ 32 - 1 }
-        ensures next { IfOk result (λ next. decision op.new next ≡ decided (block_code op.old.block) op.old.group.m fresh op.old.state) }
+        ensures next { IfOk result (λ next. decision op.new next ≡ decided op.old.block (block_code op.old.block) fresh op.old.state) }
         ensures sent { IfOk result (λ next. SendsPhase op.new next) }
         ensures told { OnOk result (op.new.note ≡ note_told op.old.state.call
-            (decided (block_code op.old.block) op.old.group.m fresh op.old.state)) }
+            (decided op.old.block (block_code op.old.block) fresh op.old.state)) }
         ensures stays { OnOk result (StaysAsked op.old op.new) }
         ensures own { OnOk result (is_own op.new.state.phase ≡ true) }
-        ensures recovery { IfOk result (λ next. AsksRecovery may_recover next op.old.state op.new.state) }
+        ensures recovery { IfOk result (λ next. AsksRecovery may_recover op.old.block next op.old.state op.new.state) }
         ensures err { OnErr result (op.new ≡ op.old) };
 }
 
@@ -64,7 +64,7 @@ impl Operation {
         requires own { D.is_own self.old.state.phase ≡ true }
         ensures answers { IfOk result (λ next. Answers fresh self.old from message.now next self.new) }
         ensures own { OnOk result (D.is_own self.new.state.phase ≡ true) }
-        ensures recovery { IfOk result (λ next. AsksRecovery D.may_recover next self.old.state (without_last self.new.state)) }
+        ensures recovery { IfOk result (λ next. AsksRecovery D.may_recover self.old.block next self.old.state (without_last self.new.state)) }
         ensures err { OnErr result (self.new ≡ self.old) }
     {
         if !self.count(alloc, from, message)? {

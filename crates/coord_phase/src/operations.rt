@@ -1,10 +1,8 @@
 //! An operation in a phase.
 
-ghost use Rattle.std.specs.Prelude.{◌≡◌, ◌≤◌, [], None, Some, IfOk, IfSome, length, option_copied};
+ghost use Rattle.std.specs.Prelude.{◌≡◌, IfOk, length};
 ghost use Rattle.quorum.specs.Quorums.{IsWithinLimits};
-ghost use Rattle.protocol.specs.Coordinators.{stored_by, stored_content};
-ghost use Rattle.protocol.specs.Nodes.{has_length};
-ghost use Rattle.coord_phase.specs.Operations.{group_in_view, StoresBlocks};
+ghost use Rattle.coord_phase.specs.Operations.{group_in_view};
 
 use crate::replies::Replies;
 use fab_base::{Ask, Bytes, GroupId, Members, NoMem, Note, Op, Stamp, View};
@@ -27,37 +25,42 @@ pub struct Stage {
     pub phase: Phase,
 }
 
-/// An open operation: the bytes of a block, the group with the members that are asked, what is asked, how far the operation is, the
-/// version that it read back with its content, where it did, the replies that count in its phase, and what it told and stored.
+/// The version that an operation read back, and its content.
+#[derive(Debug, Drop)]
+pub(crate) struct ReadBack {
+    pub(crate) base: Stamp,
+    pub(crate) content: Bytes,
+}
+
+/// An open operation: the bytes of a block, the group with the members that are asked, what is asked, how far the operation is, what it
+/// read back, where it did, the replies that count in its phase, and what it told and stored.
 #[derive(Debug, Drop)]
 pub struct Operation {
     pub(crate) block: u16,
     pub(crate) group: Group,
     pub(crate) ask: Ask,
     pub(crate) stage: Stage,
-    pub(crate) base: Option<Stamp>,
-    pub(crate) content: Bytes,
+    pub(crate) read_back: Option<ReadBack>,
     pub(crate) replies: Replies,
     pub(crate) note: Option<Note>,
     pub(crate) made: Option<Stamp>,
 }
 
 impl Model for Operation {
-    ghost use Rattle.coord_phase.specs.Operations.{Operation, IsInPhase};
+    ghost use Rattle.coord_phase.specs.Operations.{Operation, IsInPhase, base_in, content_in};
     ghost use Rattle.coord_phase.specs.Tallies.{IsTallyFor};
 
     ghost Value = { Operation };
 
     ghost view = { λ op. record {
       block = op.block;
-      group = op.group;
-      state = record { ask = op.ask; stamp = op.stage.stamp; round = op.stage.round; base = op.base; content = op.content; call = op.stage.call; phase = op.stage.phase; counted = op.replies.list.items };
+      state = record { group = op.group; ask = op.ask; stamp = op.stage.stamp; round = op.stage.round; base = base_in op.read_back; content = content_in op.ask.op op.read_back; call = op.stage.call; phase = op.stage.phase; counted = op.replies.list.items };
       note = op.note;
       made = op.made;
     } };
 
-    ghost invariant = { λ op. IsInPhase op.block op.group
-        (record { ask = op.ask; stamp = op.stage.stamp; round = op.stage.round; base = op.base; content = op.content; call = op.stage.call; phase = op.stage.phase; counted = op.replies.list.items })
+    ghost invariant = { λ op. IsInPhase op.block
+        (record { group = op.group; ask = op.ask; stamp = op.stage.stamp; round = op.stage.round; base = base_in op.read_back; content = content_in op.ask.op op.read_back; call = op.stage.call; phase = op.stage.phase; counted = op.replies.list.items })
         × IsTallyFor op.group op.replies.tally };
 }
 
@@ -72,8 +75,8 @@ fn group_of_members(members: Members, m: u8, stripes: u32) -> Group
     }
 }
 
-/// The group of this number, kept by the members of a view.
-fn group_in_view(layout: &Layout, view: &View, group: GroupId) -> Group
+/// The group of this number, kept by the members of a view, which are within the limits of a quorum of its data blocks.
+pub fn group_in_view(layout: &Layout, view: &View, group: GroupId) -> Group
     requires { IsWithinLimits (group_in_view layout.now view.now.members group.0).m (length view.now.members) }
     ensures { result ≡ group_in_view layout.now view.now.members group.0 }
 {
@@ -93,56 +96,44 @@ fn copy_note(alloc: Global, note: &Option<Note>) -> Result<Option<Note>, NoMem>
     }
 }
 
-/// What an operation stores: what it is given to write, or what it read back.
-pub(crate) fn stored<'a>(op: &'a Op, content: &'a Bytes) -> &'a [u8]
-    ensures { result.now ≡ stored_by op.now content.now }
+/// A copy of what an operation read back, if it did.
+fn copy_read_back(alloc: Global, read_back: &Option<ReadBack>) -> Result<Option<ReadBack>, NoMem>
+    ensures { IfOk result (λ made. made ≡ read_back.now) }
 {
-    match op {
-        Op::WriteStripe(bytes) => bytes.as_slice(),
-        Op::ReadBlock(_) | Op::WriteBlock(_, _) | Op::ReadStripe => content.as_slice(),
+    match read_back {
+        None => Ok(None),
+        Some(read) => Ok(Some(ReadBack {
+            base: read.base,
+            content: read.content.copy(alloc)?,
+        })),
     }
 }
 
 impl Operation {
-    ghost use Rattle.std.specs.Prelude.{◌≡◌, ◌≤◌, [], true, None, Some, IfOk, length, option_copied};
-    ghost use Rattle.quorum.specs.Quorums.{IsWithinLimits};
-    ghost use Rattle.protocol.specs.Coordinators.{stored_by, stored_content};
-    ghost use Rattle.protocol.specs.Nodes.{has_length};
-    ghost use Rattle.coord_phase.specs.Operations.{group_in_view, StoresBlocks};
+    ghost use Rattle.std.specs.Prelude.{◌≡◌, [], true, None, Some, IfOk, length, option_copied};
+    ghost use Rattle.protocol.specs.Coordinators.{forgetting};
+    ghost use Rattle.protocol.specs.Nodes.{has_length, given_content};
+    ghost use Rattle.coord_phase.specs.Operations.{StoresBlocks, telling};
 
-    /// An operation of the members of a view as it begins a stage, with the version that it read back and its content, where it did.
-    /// The bytes that it is given to write are one block, or m blocks, and where the stage stores, or makes ready to store, that is
-    /// m blocks.
-    pub fn new(
-        layout: &Layout,
-        view: &View,
-        ask: Ask,
-        stage: Stage,
-        base: Option<Stamp>,
-        content: Bytes,
-        alloc: Global,
-    ) -> Operation
-        requires limits { IsWithinLimits (group_in_view layout.now view.now.members ask.group.0).m (length view.now.members) }
-        requires length { has_length (group_in_view layout.now view.now.members ask.group.0).m layout.now.block ask.op ≡ true }
-        requires content { StoresBlocks layout.now.block (group_in_view layout.now view.now.members ask.group.0).m
-            (stored_by ask.op content) stage.phase }
+    /// An operation as it begins a stage, in blocks of this many bytes: it asks the members of the group, and has read nothing back.
+    /// What it is given to write is one block, or m blocks, and where the stage stores, or makes ready to store, that is m blocks.
+    pub fn new(alloc: Global, block: u16, group: Group, ask: Ask, stage: Stage) -> Operation
+        requires length { has_length group.m block ask.op ≡ true }
+        requires content { StoresBlocks block group.m (given_content ask.op) stage.phase }
         ensures { result ≡ record {
-          block = layout.now.block;
-          group = group_in_view layout.now view.now.members ask.group.0;
-          state = record { ask = ask; stamp = stage.stamp; round = stage.round; base = base; content = content; call = stage.call; phase = stage.phase; counted = [] };
+          block = block;
+          state = record { group = group; ask = ask; stamp = stage.stamp; round = stage.round; base = None; content = given_content ask.op; call = stage.call; phase = stage.phase; counted = [] };
           note = None;
           made = None;
         } }
     {
-        let group = group_in_view(layout, view, ask.group);
         let replies = Replies::new(alloc, group.policy());
         Operation {
-            block: layout.block(),
+            block,
             group,
             ask,
             stage,
-            base,
-            content,
+            read_back: None,
             replies,
             note: None,
             made: None,
@@ -153,27 +144,37 @@ impl Operation {
     pub fn copy(&self, alloc: Global) -> Result<Operation, NoMem>
         ensures { IfOk result (λ made. made ≡ self.now) }
     {
-        let group = group_of_members(
-            self.group.members().copy(),
-            self.group.policy().m(),
-            self.group.stripes(),
-        );
         Ok(Operation {
             block: self.block,
-            group,
+            group: self.group.copy(),
             ask: self.ask.copy(alloc)?,
             stage: self.stage,
-            base: self.base,
-            content: self.content.copy(alloc)?,
+            read_back: copy_read_back(alloc, &self.read_back)?,
             replies: self.replies.copy(alloc)?,
             note: copy_note(alloc, &self.note)?,
             made: self.made,
         })
     }
 
+    /// An equal operation, with no reply that counts, and nothing to tell.
+    pub fn renewed(&self, alloc: Global) -> Result<Operation, NoMem>
+        ensures { IfOk result (λ made. made ≡ telling self.now (forgetting self.now.state) None) }
+    {
+        Ok(Operation {
+            block: self.block,
+            group: self.group.copy(),
+            ask: self.ask.copy(alloc)?,
+            stage: self.stage,
+            read_back: copy_read_back(alloc, &self.read_back)?,
+            replies: Replies::new(alloc, self.group.policy()),
+            note: None,
+            made: None,
+        })
+    }
+
     /// The group, with the members that are asked.
     pub fn group(&self) -> &Group
-        ensures { result.now ≡ self.now.group }
+        ensures { result.now ≡ self.now.state.group }
     {
         &self.group
     }
@@ -199,12 +200,26 @@ impl Operation {
         self.stage
     }
 
-    /// What the operation stores: what it is given to write, or what it read back.
-    pub fn stored(&self) -> &[u8]
-        ensures value { result.now ≡ stored_content self.now.state }
-        ensures long { StoresBlocks self.now.block self.now.group.m (stored_content self.now.state) self.now.state.phase }
+    /// The version that it read back, if it did.
+    pub(crate) fn base(&self) -> Option<Stamp>
+        ensures { result ≡ self.now.state.base }
     {
-        stored(&self.ask.op, &self.content)
+        match &self.read_back {
+            Some(read) => Some(read.base),
+            None => None,
+        }
+    }
+
+    /// What the operation stores: what it read back, where it did, and else what it was given.
+    pub fn stored(&self) -> &[u8]
+        ensures value { result.now ≡ self.now.state.content }
+        ensures long { StoresBlocks self.now.block self.now.state.group.m self.now.state.content self.now.state.phase }
+    {
+        match (&self.read_back, &self.ask.op) {
+            (Some(read), _) => read.content.as_slice(),
+            (None, Op::WriteStripe(bytes)) => bytes.as_slice(),
+            (None, Op::ReadBlock(_) | Op::WriteBlock(_, _) | Op::ReadStripe) => &[],
+        }
     }
 
     /// The replies that count in the phase, in the order in which they came.

@@ -10,7 +10,7 @@ impl Operation {
     ghost use Rattle.std.specs.Prelude.{◌≡◌, ◌<◌, IfOk, length};
     ghost use Rattle.stripe_code.specs.Codes.{block_code};
     ghost use Rattle.protocol.specs.declared.phases.Phase.TheVariants.{Stores};
-    ghost use Rattle.protocol.specs.Coordinators.{request_of, stored_content};
+    ghost use Rattle.protocol.specs.Coordinators.{request_of};
     ghost use Rattle.coord_phase.specs.Messages.{phase_messages, HasParity};
 
     /// All parity blocks of what the phase stores, made in one pass; none where it stores nothing.
@@ -31,9 +31,9 @@ impl Operation {
     /// The block that the member at a seat is to keep, of which there are the parity blocks.
     fn block_at(&self, alloc: Global, seat: u8, parity: &[u8]) -> Result<Bytes, NoMem>
         requires stores { self.now.state.phase ≡ Stores }
-        requires seat { seat < length self.now.group.members }
+        requires seat { seat < length self.now.state.group.members }
         requires parity { HasParity self.now parity.now }
-        ensures { IfOk result (λ block. block ≡ (block_code self.now.block).encode self.now.group.m (stored_content self.now.state) seat) }
+        ensures { IfOk result (λ block. block ≡ (block_code self.now.block).encode self.now.state.group.m self.now.state.content seat) }
     {
         let m = self.group.policy().m();
         if seat < m {
@@ -47,9 +47,9 @@ impl Operation {
     /// What the phase asks of the member at a seat. What it stores has these parity blocks.
     #[tactic(auto, unfolding(protocol::specs::Coordinators::request_of))]
     fn request(&self, alloc: Global, seat: u8, parity: &[u8]) -> Result<Request, NoMem>
-        requires seat { seat < length self.now.group.members }
+        requires seat { seat < length self.now.state.group.members }
         requires parity { HasParity self.now parity.now }
-        ensures { IfOk result (λ request. request ≡ request_of (block_code self.now.block) self.now.group.m self.now.state seat) }
+        ensures { IfOk result (λ request. request ≡ request_of (block_code self.now.block) self.now.state seat) }
     {
         let stamp = self.stage.stamp;
         match self.stage.phase {

@@ -1,8 +1,9 @@
 //! How one phase follows another.
 
 ghost use Rattle.std.specs.Prelude.{◌≡◌, length};
+ghost use Rattle.reg_model.specs.Registers.{block_of};
 
-use crate::operations::{Operation, Stage, stored};
+use crate::operations::{Operation, ReadBack, Stage};
 use crate::replies::Replies;
 use fab_base::{Answer, Bytes, CallId, Cause, NoMem, Note, Op, Stamp};
 use messages::{Messages, Next, Turn};
@@ -13,9 +14,20 @@ use std::mem;
 /// How many rounds of ordering an operation may begin.
 pub const MOST_ROUNDS: u8 = 4;
 
+/// Data block `j` of a content, as far as the content goes.
+fn data_block(block: u16, j: u8, content: &[u8]) -> &[u8]
+    ensures { result.now ≡ block_of block j content.now }
+{
+    let size = block as usize;
+    let (_, rest) = content.split_at((j as usize * size).min(content.len()));
+    let (data, _) = rest.split_at(size.min(rest.len()));
+    data
+}
+
 impl Operation {
     ghost use Rattle.std.specs.Prelude.{◌≡◌, ◌-◌, ◌*◌, ◌<◌, ◌^◌, true, None, Some, IfOk, OnOk, OnErr, length};
-    ghost use Rattle.protocol.specs.Coordinators.{Ends, Makes, next_phase, in_phase, restoring, reordering, ordered_again, answer_of, greatest_refuser, aborted_by, aborted_full, unless_refused, stored_by, stored_content};
+    ghost use Rattle.protocol.specs.Coordinators.{Ends, Makes, next_phase, in_phase, restoring, reordering, ordered_again, answer_with, greatest_refuser, aborted_by, aborted_full, unless_refused};
+    ghost use Rattle.reg_model.specs.Registers.{read_of};
     ghost use Rattle.protocol.specs.declared.phases.Phase.TheVariants.{Orders, Stores};
     ghost use Rattle.coord_phase.specs.Operations.{telling, at_stage, is_ordering, StoresBlocks, StaysAsked};
     ghost use Rattle.coord_phase.specs.Messages.{phase_messages};
@@ -51,7 +63,7 @@ impl Operation {
 
     /// What the operation tells as it makes its version, with this copy of its content.
     fn note_of(&self, content: Bytes) -> Note
-        requires { content ≡ stored_content self.now.state }
+        requires { content ≡ self.now.state.content }
         ensures { result ≡ note_of self.now.state }
     {
         Note::Made {
@@ -60,19 +72,21 @@ impl Operation {
                 seq: self.stage.call.seq,
             },
             stamp: self.stage.stamp,
-            base: self.base,
+            base: self.base(),
             content,
         }
     }
 
     /// What an operation that stored its version is answered.
     fn answer(&self, alloc: Global) -> Result<Answer, NoMem>
-        ensures { IfOk result (λ answer. answer ≡ answer_of self.now.state.ask.op self.now.state.content) }
+        ensures { IfOk result (λ answer. answer ≡ answer_with (read_of self.now.block self.now.state.ask.op self.now.state.content)) }
     {
-        match &self.ask.op {
-            Op::WriteBlock(_, _) | Op::WriteStripe(_) => Ok(Answer::Done),
-            Op::ReadBlock(_) | Op::ReadStripe => Ok(Answer::Data(self.content.copy(alloc)?)),
-        }
+        let read = match &self.ask.op {
+            Op::WriteBlock(_, _) | Op::WriteStripe(_) => return Ok(Answer::Done),
+            Op::ReadBlock(j) => data_block(self.block, *j, self.stored()),
+            Op::ReadStripe => self.stored(),
+        };
+        Ok(Answer::Data(Bytes::from_slice(alloc, read)?))
     }
 
     /// Asks that its stripe be recovered, beginning so, with nothing to tell.
@@ -86,7 +100,7 @@ impl Operation {
 
     /// Begins a stage, and gives its messages. Where memory runs out nothing has changed.
     pub fn begin(&mut self, alloc: Global, stage: Stage) -> Result<Messages, NoMem>
-        requires content { StoresBlocks self.old.block self.old.group.m (stored_content self.old.state) stage.phase }
+        requires content { StoresBlocks self.old.block self.old.state.group.m self.old.state.content stage.phase }
         ensures state { OnOk result (self.new ≡ telling self.old (at_stage self.old.state stage) None) }
         ensures messages { IfOk result (λ messages. messages.items ≡ phase_messages self.new) }
         ensures err { OnErr result (self.new ≡ self.old) }
@@ -126,20 +140,18 @@ impl Operation {
     /// runs out nothing has changed.
     pub fn restore(&mut self, alloc: Global, base: Stamp, content: Bytes) -> Result<Messages, NoMem>
         requires phase { self.old.state.call.phase < 2 ^ 32 - 1 }
-        requires content { length (stored_by self.old.state.ask.op content) ≡ self.old.group.m * self.old.block }
+        requires content { length content ≡ self.old.state.group.m * self.old.block }
         ensures state { OnOk result (self.new ≡ telling self.old (restoring self.old.state base content)
             (Some (note_of (restoring self.old.state base content)))) }
         ensures messages { IfOk result (λ messages. messages.items ≡ phase_messages self.new) }
         ensures err { OnErr result (self.new ≡ self.old) }
     {
-        let told = Bytes::from_slice(alloc, stored(&self.ask.op, &content))?;
-        let base = mem::replace(&mut self.base, Some(base));
-        let before = mem::replace(&mut self.content, content);
+        let told = content.copy(alloc)?;
+        let before = mem::replace(&mut self.read_back, Some(ReadBack { base, content }));
         let messages = match self.begin(alloc, self.next_stage(Phase::Stores)) {
             Ok(messages) => messages,
             Err(fault) => {
-                self.base = base;
-                self.content = before;
+                self.read_back = before;
                 return Err(fault);
             }
         };
@@ -210,7 +222,7 @@ impl Operation {
     /// changed.
     pub fn end_store(&mut self, alloc: Global) -> Result<Next, NoMem>
         ensures next { IfOk result (λ next. decision self.new next ≡ unless_refused (greatest_refuser self.old.state.counted)
-            (Ends (answer_of self.old.state.ask.op self.old.state.content) None (Some self.old.state.stamp))) }
+            (Ends (answer_with (read_of self.old.block self.old.state.ask.op self.old.state.content)) None (Some self.old.state.stamp))) }
         ensures sent { IfOk result (λ next. SendsPhase self.new next) }
         ensures never { IfOk result NeverRecovers }
         ensures told { OnOk result (self.new.note ≡ None) }

@@ -105,10 +105,10 @@ impl Operation {
 
     /// The content of a version, by the first m of its blocks that the replies tell.
     pub fn content_of(&self, alloc: Global, version: Stamp) -> Result<Bytes, NoMem>
-        requires { self.now.group.m ≤ length (pieces_at version self.now.state.counted) }
-        ensures value { IfOk result (λ content. content ≡ (block_code self.now.block).decode self.now.group.m
+        requires { self.now.state.group.m ≤ length (pieces_at version self.now.state.counted) }
+        ensures value { IfOk result (λ content. content ≡ (block_code self.now.block).decode self.now.state.group.m
             (pieces_at version self.now.state.counted)) }
-        ensures long { IfOk result (λ content. length content ≡ self.now.group.m * self.now.block) }
+        ensures long { IfOk result (λ content. length content ≡ self.now.state.group.m * self.now.block) }
     {
         let m = self.group.policy().m();
         let seats = seats_finding(alloc, self.replies.as_slice(), version)?;

@@ -1,15 +1,15 @@
 //! Recoveries.
 
 ghost use Rattle.std.specs.Prelude.{◌≡◌, ◌-◌, ◌<◌, ◌^◌, true, false, IfOk, OnOk, OnErr};
-ghost use Rattle.protocol.specs.Coordinators.{read_back, greatest_found};
-ghost use Rattle.protocol.specs.Nodes.{has_length};
+ghost use Rattle.protocol.specs.declared.phases.Phase.TheVariants.{Recovers};
+ghost use Rattle.protocol.specs.Coordinators.{read_back, greatest_found, greatest_refuser, once_ordered, unless_refused};
 ghost use Rattle.stripe_code.specs.Codes.{block_code};
 ghost use Rattle.coord_phase.specs.Operations.{StaysAsked};
 ghost use Rattle.coord_phase.specs.Decisions.{SendsPhase, NeverRecovers, decision, note_told};
-ghost use Rattle.coord_recover.specs.Recoveries.{is_of_recovery, looks_for_version};
+ghost use Rattle.coord_recover.specs.Recoveries.{is_of_recovery};
 
-use coord_phase::{Decide, Operation, Stage};
-use fab_base::{Ask, BrickId, Bytes, CallId, NoMem, Note, Stamp, View};
+use coord_phase::{Decide, Operation, Stage, group_in_view};
+use fab_base::{Ask, BrickId, CallId, NoMem, Note, Stamp, View};
 use layout::{Group, Layout};
 use messages::{Call, Message, Next, Turn};
 use protocol::Phase;
@@ -38,16 +38,14 @@ impl Model for Recovery {
 /// Reads back the greatest version that the replies tell, and begins to store it, where they tell m blocks of it; else looks for
 /// the greatest version below it. Where they tell none, forgets them, and waits for more. After want of memory nothing has changed.
 fn read_back(op: &mut Operation, alloc: Global) -> Result<Next, NoMem>
-    requires phase { op.old.state.call.phase < 2 ^ 32 - 1 }
-    requires looks { looks_for_version op.old.state.phase ≡ true }
-    requires long { has_length op.old.group.m op.old.block op.old.state.ask.op ≡ true }
-    ensures next { IfOk result (λ next. decision op.new next ≡ read_back (block_code op.old.block) op.old.group.m op.old.state
-        (greatest_found op.old.state.counted)) }
+    requires few { op.old.state.call.phase < 2 ^ 32 - 1 }
+    requires phase { is_of_recovery op.old.state.phase ≡ true }
+    ensures next { IfOk result (λ next. decision op.new next ≡ read_back (block_code op.old.block) op.old.state (greatest_found op.old.state.counted)) }
     ensures sent { IfOk result (λ next. SendsPhase op.new next) }
     ensures never { IfOk result NeverRecovers }
     ensures own { OnOk result (is_of_recovery op.new.state.phase ≡ true) }
     ensures told { OnOk result (op.new.note ≡ note_told op.old.state.call
-        (read_back (block_code op.old.block) op.old.group.m op.old.state (greatest_found op.old.state.counted))) }
+        (read_back (block_code op.old.block) op.old.state (greatest_found op.old.state.counted))) }
     ensures stays { OnOk result (StaysAsked op.old op.new) }
     ensures err { OnErr result (op.new ≡ op.old) }
 {
@@ -65,23 +63,62 @@ fn read_back(op: &mut Operation, alloc: Global) -> Result<Next, NoMem>
     Ok(Next::Send(messages))
 }
 
+/// Reads a version back, or goes on to another round of ordering where a member told a later stamp.
+fn end_order(op: &mut Operation, alloc: Global, fresh: Option<Stamp>) -> Result<Next, NoMem>
+    requires few { op.old.state.call.phase < 2 ^ 32 - 1 }
+    requires phase { op.old.state.phase ≡ Recovers }
+    ensures next { IfOk result (λ next. decision op.new next ≡ once_ordered fresh op.old.state (greatest_refuser op.old.state.counted)
+        (read_back (block_code op.old.block) op.old.state (greatest_found op.old.state.counted))) }
+    ensures sent { IfOk result (λ next. SendsPhase op.new next) }
+    ensures never { IfOk result NeverRecovers }
+    ensures own { OnOk result (is_of_recovery op.new.state.phase ≡ true) }
+    ensures told { OnOk result (op.new.note ≡ note_told op.old.state.call (once_ordered fresh op.old.state (greatest_refuser op.old.state.counted)
+        (read_back (block_code op.old.block) op.old.state (greatest_found op.old.state.counted)))) }
+    ensures stays { OnOk result (StaysAsked op.old op.new) }
+    ensures err { OnErr result (op.new ≡ op.old) }
+{
+    match op.refuser() {
+        Some(refuser) => op.order_again(alloc, fresh, refuser),
+        None => read_back(op, alloc),
+    }
+}
+
+/// Reads an older version back, unless a member told a later stamp.
+fn end_descent(op: &mut Operation, alloc: Global) -> Result<Next, NoMem>
+    requires few { op.old.state.call.phase < 2 ^ 32 - 1 }
+    requires phase { is_of_recovery op.old.state.phase ≡ true }
+    ensures next { IfOk result (λ next. decision op.new next ≡ unless_refused (greatest_refuser op.old.state.counted)
+        (read_back (block_code op.old.block) op.old.state (greatest_found op.old.state.counted))) }
+    ensures sent { IfOk result (λ next. SendsPhase op.new next) }
+    ensures never { IfOk result NeverRecovers }
+    ensures own { OnOk result (is_of_recovery op.new.state.phase ≡ true) }
+    ensures told { OnOk result (op.new.note ≡ note_told op.old.state.call (unless_refused (greatest_refuser op.old.state.counted)
+        (read_back (block_code op.old.block) op.old.state (greatest_found op.old.state.counted)))) }
+    ensures stays { OnOk result (StaysAsked op.old op.new) }
+    ensures err { OnErr result (op.new ≡ op.old) }
+{
+    match op.refuser() {
+        Some(refuser) => Ok(op.abort(refuser)),
+        None => read_back(op, alloc),
+    }
+}
+
 impl Decide for Recovery {
     ghost is_own = { is_of_recovery };
 
     ghost may_recover = { false };
 
     /// What a quorum of replies decides. A member's full store aborts the operation, whatever the others told.
+    #[tactic(auto, unfolding(protocol::specs::Coordinators::decided))]
     fn decide(op: &mut Operation, alloc: Global, fresh: Option<Stamp>) -> Result<Next, NoMem> {
         if let Some(member) = op.full_member() {
             return Ok(op.abort_full(member));
         }
-        match (op.stage().phase, op.refuser()) {
-            (Phase::Stores, _) => op.end_store(alloc),
-            (Phase::Recovers, Some(refuser)) => op.order_again(alloc, fresh, refuser),
-            (Phase::Descends(_), Some(refuser)) => Ok(op.abort(refuser)),
-            (Phase::Recovers, None) => read_back(op, alloc),
-            (Phase::Descends(_), None) => read_back(op, alloc),
-            (Phase::Looks | Phase::Orders, _) => unreachable!(),
+        match op.stage().phase {
+            Phase::Recovers => end_order(op, alloc, fresh),
+            Phase::Descends(_) => end_descent(op, alloc),
+            Phase::Stores => op.end_store(alloc),
+            Phase::Looks | Phase::Orders => unreachable!(),
         }
     }
 }
@@ -91,10 +128,9 @@ impl Recovery {
     ghost use Rattle.protocol.specs.declared.phases.Phase.TheVariants.{Stores};
     ghost use Rattle.quorum.specs.Quorums.{IsWithinLimits};
     ghost use Rattle.protocol.specs.Nodes.{has_length};
-    ghost use Rattle.protocol.specs.Coordinators.{stored_by};
-    ghost use Rattle.coord_phase.specs.Operations.{group_in_view, counts, StoresBlocks};
-    ghost use Rattle.coord_phase.specs.Decisions.{Answers, SendsPhase, NeverRecovers, IsSend};
-    ghost use Rattle.coord_recover.specs.Recoveries.{begun_op, turn_phase, turn_content, looks_for_version};
+    ghost use Rattle.coord_phase.specs.Operations.{group_in_view, counts};
+    ghost use Rattle.coord_phase.specs.Decisions.{Answers, SendsPhase, NeverRecovers, IsSend, HasBlocks};
+    ghost use Rattle.coord_recover.specs.Recoveries.{begun_op, entered};
 
     /// Begins the recovery of the stripe of an operation, with its stamp, in this phase of its call, the first of which is 1: with the
     /// order, with the look for the greatest version below a bound, or with the store of a version that was read back, which it then
@@ -117,67 +153,69 @@ impl Recovery {
         requires limits { IsWithinLimits (group_in_view layout.now view.members ask.group.0).m (length view.members) }
         requires phase { 1 ≤ phase }
         requires length { has_length (group_in_view layout.now view.members ask.group.0).m layout.now.block ask.op ≡ true }
-        requires content { StoresBlocks layout.now.block (group_in_view layout.now view.members ask.group.0).m (stored_by ask.op (turn_content turn))
-            (turn_phase turn) }
+        requires content { HasBlocks layout.now.block (group_in_view layout.now view.members ask.group.0).m turn }
         ensures op { IfOk result (λ begun. begun.0 ≡ begun_op layout.now view call phase ask stamp turn) }
         ensures send { IfOk result (λ begun. IsSend begun.1) }
         ensures sent { IfOk result (λ begun. SendsPhase begun.0 begun.1) }
     {
-        let mut stage = Stage {
+        // The recovery begins in the next phase of this one.
+        let stage = Stage {
             stamp,
             round: 1,
             call: Call {
                 boot: call.boot,
                 seq: call.seq,
-                phase,
+                phase: phase - 1,
                 group: ask.group,
                 view: view.number,
                 stripe: ask.stripe,
             },
             phase: Phase::Recovers,
         };
+        let group = group_in_view(layout, &view, ask.group);
+        let op = Operation::new(alloc, layout.block(), group, ask, stage);
+        Recovery::enter(alloc, op, turn)
+    }
+
+    /// Begins the recovery of the stripe of an operation that asks for it, in the next phase of its call; what it stores is m blocks.
+    ///
+    /// # Errors
+    ///
+    /// `NoMemory` where no memory was left.
+    pub fn follow(alloc: Global, op: &Operation, turn: Turn) -> Result<(Recovery, Next), NoMem>
+        requires phase { op.now.state.call.phase < 2 ^ 32 - 1 }
+        requires content { HasBlocks op.now.block op.now.state.group.m turn }
+        ensures op { IfOk result (λ begun. begun.0 ≡ entered op.now turn) }
+        ensures send { IfOk result (λ begun. IsSend begun.1) }
+        ensures sent { IfOk result (λ begun. SendsPhase begun.0 begun.1) }
+    {
+        Recovery::enter(alloc, op.renewed(alloc)?, turn)
+    }
+
+    /// The recovery that an operation becomes in the next phase of its call.
+    fn enter(alloc: Global, mut op: Operation, turn: Turn) -> Result<(Recovery, Next), NoMem>
+        requires phase { op.state.call.phase < 2 ^ 32 - 1 }
+        requires content { HasBlocks op.block op.state.group.m turn }
+        ensures op { IfOk result (λ begun. begun.0 ≡ entered op turn) }
+        ensures send { IfOk result (λ begun. IsSend begun.1) }
+        ensures sent { IfOk result (λ begun. SendsPhase begun.0 begun.1) }
+    {
         match turn {
-            Turn::Order => Recovery::begin(alloc, layout, &view, ask, stage),
+            Turn::Order => {
+                let stage = op.next_stage(Phase::Recovers);
+                let messages = op.begin(alloc, stage)?;
+                Ok((Recovery { alloc, op }, Next::Send(messages)))
+            }
             Turn::Down(bound) => {
-                stage.phase = Phase::Descends(bound);
-                Recovery::begin(alloc, layout, &view, ask, stage)
+                let stage = op.next_stage(Phase::Descends(bound));
+                let messages = op.begin(alloc, stage)?;
+                Ok((Recovery { alloc, op }, Next::Send(messages)))
             }
             Turn::Store { base, content } => {
-                // The phase before has just read the version back.
-                stage.call.phase -= 1;
-                let none = Bytes::empty(alloc);
-                let mut op = Operation::new(layout, &view, ask, stage, None, none, alloc);
                 let messages = op.restore(alloc, base, content)?;
                 Ok((Recovery { alloc, op }, Next::Send(messages)))
             }
         }
-    }
-
-    /// A recovery that has read nothing back, as it begins a stage in which it looks for a version.
-    fn begin(
-        alloc: Global,
-        layout: &Layout,
-        view: &View,
-        ask: Ask,
-        stage: Stage,
-    ) -> Result<(Recovery, Next), NoMem>
-        requires limits { IsWithinLimits (group_in_view layout.now view.now.members ask.group.0).m (length view.now.members) }
-        requires length { has_length (group_in_view layout.now view.now.members ask.group.0).m layout.now.block ask.op ≡ true }
-        requires looks { looks_for_version stage.phase ≡ true }
-        ensures op { IfOk result (λ begun. begun.0 ≡ record {
-          block = layout.now.block;
-          group = group_in_view layout.now view.now.members ask.group.0;
-          state = record { ask = ask; stamp = stage.stamp; round = stage.round; base = None; content = []; call = stage.call; phase = stage.phase; counted = [] };
-          note = None;
-          made = None;
-        }) }
-        ensures send { IfOk result (λ begun. IsSend begun.1) }
-        ensures sent { IfOk result (λ begun. SendsPhase begun.0 begun.1) }
-    {
-        let none = Bytes::empty(alloc);
-        let op = Operation::new(layout, view, ask, stage, None, none, alloc);
-        let messages = op.messages(alloc)?;
-        Ok((Recovery { alloc, op }, Next::Send(messages)))
     }
 
     /// Whether a message counts: it is a reply to this very phase of the recovery, answers it, and is its member's first.
@@ -277,7 +315,7 @@ impl Recovery {
 
     /// The group, with the members that are asked.
     pub fn group(&self) -> &Group
-        ensures { result.now ≡ self.now.group }
+        ensures { result.now ≡ self.now.state.group }
     {
         self.op.group()
     }

@@ -9,8 +9,8 @@ ghost use Rattle.coord_phase.specs.Operations.{StaysAsked};
 ghost use Rattle.coord_phase.specs.Decisions.{SendsPhase, NeverRecovers, decision, note_told};
 ghost use Rattle.coord_stripe.specs.StripeOps.{is_of_stripe};
 
-use coord_phase::{Decide, Operation, Stage};
-use fab_base::{Ask, BrickId, Bytes, CallId, NoMem, Note, Op, Stamp, View};
+use coord_phase::{Decide, Operation, Stage, group_in_view};
+use fab_base::{Ask, BrickId, CallId, NoMem, Note, Op, Stamp, View};
 use layout::{Group, Layout};
 use messages::{Call, Message, Next, Reply, Turn};
 use protocol::{Counted, Phase};
@@ -92,12 +92,12 @@ fn version_told_by_all(op: &Operation) -> Option<Stamp>
 /// Answers a read whose version all replies tell, and has the stripe of another read recovered.
 fn end_look(op: &mut Operation, alloc: Global) -> Result<Next, NoMem>
     requires phase { op.old.state.phase ≡ Looks }
-    requires enough { op.old.group.m ≤ length op.old.state.counted }
-    ensures next { IfOk result (λ next. decision op.new next ≡ answered_fast (block_code op.old.block) op.old.group.m op.old.state
+    requires enough { op.old.state.group.m ≤ length op.old.state.counted }
+    ensures next { IfOk result (λ next. decision op.new next ≡ answered_fast (block_code op.old.block) op.old.state
         (fast_version op.old.state.counted)) }
     ensures sent { IfOk result (λ next. SendsPhase op.new next) }
     ensures told { OnOk result (op.new.note ≡ note_told op.old.state.call
-        (answered_fast (block_code op.old.block) op.old.group.m op.old.state (fast_version op.old.state.counted))) }
+        (answered_fast (block_code op.old.block) op.old.state (fast_version op.old.state.counted))) }
     ensures stays { OnOk result (StaysAsked op.old op.new) }
     ensures state { OnOk result (op.new.state ≡ op.old.state) }
     ensures err { OnErr result (op.new ≡ op.old) }
@@ -191,7 +191,8 @@ impl StripeOp {
             },
             phase: first_phase(&ask.op),
         };
-        let op = Operation::new(layout, &view, ask, stage, None, Bytes::empty(alloc), alloc);
+        let group = group_in_view(layout, &view, ask.group);
+        let op = Operation::new(alloc, layout.block(), group, ask, stage);
         let messages = op.messages(alloc)?;
         Ok((StripeOp { alloc, op }, Next::Send(messages)))
     }
@@ -217,10 +218,17 @@ impl StripeOp {
     ) -> Result<Next, NoMem>
         ensures answers { IfOk result (λ next. Answers fresh self.old from reply.now next self.new) }
         ensures kind { OnOk result (is_of_stripe self.new.state.phase ≡ true) }
-        ensures recovery { IfOk result (λ next. AsksRecovery true next self.old.state (without_last self.new.state)) }
+        ensures recovery { IfOk result (λ next. AsksRecovery true self.old.block next self.old.state (without_last self.new.state)) }
         ensures err { OnErr result (self.new ≡ self.old) }
     {
         self.op.on_reply::<StripeOp>(self.alloc, from, reply, fresh)
+    }
+
+    /// The operation, as the coordinators of all kinds share it.
+    pub fn operation(&self) -> &Operation
+        ensures { result.now ≡ self.now }
+    {
+        &self.op
     }
 
     /// Takes the last reply that counted back: after a reply upon which the operation asked for a recovery, its coordinator is as it
@@ -309,7 +317,7 @@ impl StripeOp {
 
     /// The group, with the members that are asked.
     pub fn group(&self) -> &Group
-        ensures { result.now ≡ self.now.group }
+        ensures { result.now ≡ self.now.state.group }
     {
         self.op.group()
     }

@@ -13,3 +13,4 @@ pub mod Steps
 pub mod Requests
 pub mod Starts
 pub mod Sent
+pub mod Runs

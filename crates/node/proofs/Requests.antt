@@ -1,5 +1,5 @@
 -- What a brick does with a message that it serves, over its store.
-use Rattle.std.proofs.Common.{◌≡◌, ℕ, ◌&&◌, List, Option, Some, None, inl, inr, refl, sym, ◌∙◌, ap, subst}
+use Rattle.std.proofs.Common.{◌≡◌, ℕ, ◌&&◌, List, [], Option, Some, None, inl, inr, refl, sym, ◌∙◌, ap, subst}
 use Rattle.std.specs.Prelude.{slice_index_or}
 use Rattle.std.proofs.lemmas.Bool.{cond_both}
 use Rattle.fab_base.specs.declared.identities.BrickId.{BrickId}
@@ -12,9 +12,9 @@ use Rattle.brick_state.specs.declared.groups.Group.{Group as Kept}
 use Rattle.brick_state.specs.States.{StateOf, no_group}
 use Rattle.brick_store.specs.Bricks.{Brick}
 use Rattle.brick_store.specs.Images.{StandsFor}
-use Rattle.fab_base.specs.Layouts.{Layout, Group, group_of, seat_in}
-use Rattle.protocol.specs.Nodes.{Node, NodeStep, no_step, requested_in, requested_at, is_served, fits_block}
-use Rattle.protocol.specs.declared.tellings.Told.TheVariants.{Nothing}
+use Rattle.fab_base.specs.Layouts.{Layout, Group, seat_in}
+use Rattle.protocol.specs.Nodes.{Node, NodeStep, no_step, requested_in, requested_at, seat_served}
+use Rattle.protocol.specs.Nodes as machine
 use Rattle.replica.specs.Parts.{IsPartsOf, IsFirstView}
 use Rattle.replica.specs.Reactions.{IsStep, member_step, answer_packets}
 use Rattle.replica.specs.Handling.{me_of, OpensAsEither}
@@ -30,27 +30,25 @@ record KeepsCalls (old : Node) (step : NodeStep) : Type 0 where
   known : step.node.known ≡ old.known
   busy : step.node.busy ≡ old.busy
   calls : step.node.calls ≡ old.calls
-  told : step.told ≡ Nothing
+  told : step.told ≡ []
+  answers : step.answers ≡ []
 
 same_calls : (node : Node) → KeepsCalls node (no_step node)
-same_calls node = record { boot = refl; seq = refl; known = refl; busy = refl; calls = refl; told = refl }
+same_calls node = record { boot = refl; seq = refl; known = refl; busy = refl; calls = refl; told = refl; answers = refl }
 
 at_seat : (records : ℕ) (me from : BrickId) (node : Node) (call : Call) (request : Request) (seat : Option ℕ)
     → KeepsCalls node (requested_at records me from node call request seat)
 at_seat records me from node call request None = same_calls node
-at_seat records me from node call request (Some seat) = record { boot = refl; seq = refl; known = refl; busy = refl; calls = refl; told = refl }
+at_seat records me from node call request (Some seat) = record { boot = refl; seq = refl; known = refl; busy = refl; calls = refl; told = refl; answers = refl }
 
 -- so a request does
 keeps_calls : (layout : Layout) (me from : BrickId) (node : Node) (call : Call) (request : Request) (group : Option Group)
     → KeepsCalls node (requested_in layout me from node call request group)
-keeps_calls layout me from node call request None = same_calls node
-keeps_calls layout me from node call request (Some group) =
-    cond_both (is_served group call && fits_block layout.block request) _ _ (λ (step : NodeStep). KeepsCalls node step)
-    (λ valid. at_seat layout.records me from node call request (seat_in group.members me.0)) (λ void. same_calls node)
+keeps_calls layout me from node call request group = at_seat layout.records me from node call request (seat_served layout me node call request group)
 
 -- so does each message that a member serves
 serves_calls : (layout : Layout) (me from : BrickId) (node : Node) (message : Message) → KeepsCalls node (member_step layout me from node message)
-serves_calls layout me from node (Message.Request call request) = keeps_calls layout me from node call request (group_of layout call.group.0)
+serves_calls layout me from node (Message.Request call request) = keeps_calls layout me from node call request (machine.group_at layout node call.group.0)
 serves_calls layout me from node (Message.Reply call reply) = same_calls node
 serves_calls layout me from node (Message.Learn group view) = same_calls node
 serves_calls layout me from node (Message.Synced group view) = same_calls node
@@ -74,9 +72,9 @@ module _ {D : Type 0} (layout : Layout) (calls : OpenCalls) (old : Brick D) (fro
   abbrev Follows : Option Message → StateOf Version → Type 0
   Follows = IsStep layout calls.me from message old.state
 
-  seen_parts : IsPartsOf layout.block old.state (state_of (running layout calls old))
+  seen_parts : IsPartsOf layout old.state (state_of (running layout calls old))
   unfolding state_of
-  seen_parts = record { boot = refl; live = refl; replicas = λ g s. refl }
+  seen_parts = record { boot = refl; live = refl; learnt = λ g. refl; accepted = λ g. refl; replicas = λ g e s. refl }
 
   -- the state of a store that follows is the machine's
   pub follows_state : (new : Brick D) (answer : Option Message) → Follows answer new.state → state_of (running layout calls new) ≡ after.node
@@ -84,8 +82,9 @@ module _ {D : Type 0} (layout : Layout) (calls : OpenCalls) (old : Brick D) (fro
   follows_state new answer is =
       let node = state_of (running layout calls old) in
       let keeps = serves_calls layout calls.me from node message in
-      let parts = is.parts node (record { boot = refl; live = refl; replicas = λ g s. refl }) in
-      same_states _ _ (sym parts.boot) (sym keeps.seq) (sym keeps.known) (sym keeps.busy) (sym parts.live) (λ g s. sym (parts.replicas g s))
+      let parts = is.parts node seen_parts in
+      same_states _ _ (sym parts.boot) (sym keeps.seq) (sym keeps.known) (sym keeps.busy) (sym parts.live) (λ g. sym (parts.learnt g))
+      (λ g. sym (parts.accepted g)) (λ g e s. sym (parts.replicas g e s))
       (λ k. ap (λ (f : ℕ → Option _). f k) (sym keeps.calls))
 
   -- it was opened as often as before
@@ -100,12 +99,12 @@ module _ {D : Type 0} (layout : Layout) (calls : OpenCalls) (old : Brick D) (fro
   pub follows_packets : (st : StateOf Version) (answer : Option Message) → Follows answer st → after.packets ≡ answer_packets calls.me from answer
   follows_packets st answer is = is.packets (state_of (running layout calls old)) seen_parts
 
-  -- and tells nothing
-  pub follows_told : Nothing ≡ after.told
-  follows_told = sym (serves_calls layout calls.me from (state_of (running layout calls old)) message).told
+  -- and tells and answers nothing
+  pub follows_told : ([] ≡ after.told) × ([] ≡ after.answers)
+  follows_told = let keeps = serves_calls layout calls.me from (state_of (running layout calls old)) message in (sym keeps.told, sym keeps.answers)
 
   -- an image that opens as what follows shows the brick after the message
-  pub follows_shown : old.shape ≡ shape_at layout calls.me → IsKept layout.block old.state (state_of (running layout calls old)) → (image : List ℕ)
+  pub follows_shown : old.shape ≡ shape_at layout calls.me → IsKept layout old.state (state_of (running layout calls old)) → (image : List ℕ)
       → OpensAsEither old.shape old.state Follows image
       → ShowsEither layout calls.me (state_of (running layout calls old)) after.node image
   follows_shown shape kept image (inl stands) = inl (shows_so layout calls.me (state_of (running layout calls old)) old image shape kept stands)

@@ -3,7 +3,8 @@ use Rattle.std.proofs.Common.{◌≡◌, ℕ, ◌+◌, ◌<◌, ◌^◌, ◌-◌
 use Rattle.std.specs.Prelude.{nat_lt}
 use Rattle.fab_base.specs.declared.identities.BrickId.{BrickId}
 use Rattle.fab_base.specs.declared.stamps.Stamp.{Stamp}
-use Rattle.fab_base.specs.Layouts.{Group}
+use Rattle.fab_base.specs.declared.identities.ViewNo.{ViewNo}
+use Rattle.protocol.specs.Coordinators.{Coordinator}
 use Rattle.messages.specs.declared.calls.Call.{Call}
 use Rattle.messages.specs.declared.packets.Message.{Message}
 use Rattle.messages.specs.declared.requests.Request.{Request}
@@ -25,17 +26,17 @@ collect_is me call t seat (member ∷ members) =
     (collect_is me call t (seat + 1) members)
 
 -- all members may collect what is below the version that was stored
-pub collected_is : (me : BrickId) (group : Group) (call : Call) (stored : Option Stamp)
-    → packets_from me (collect_messages call stored group.members) ≡ collect_packets group me call stored
-collected_is me group call None = refl
-collected_is me group call (Some t) = collect_is me call t 0 group.members
+pub collected_is : (me : BrickId) (c : Coordinator) (stored : Option Stamp)
+    → packets_from me (collect_messages c.call stored c.group.members) ≡ collect_packets me c stored
+collected_is me c None = refl
+collected_is me c (Some t) = collect_is me c.call t 0 c.group.members
 
 -- while a later time is left, a fresh stamp is the brick's new one
-pub made_is : (me : BrickId) (now boot known : ℕ) (stamp : Stamp) → known + 1 < 2 ^ 64 → fresh_stamp me now boot known ≡ Some stamp
-    → stamp ≡ new_stamp me now boot known
-made_is me now boot known stamp later made = by (nat_lt known (2 ^ 64 - 1)) refl made
+pub made_is : (me : BrickId) (view : ViewNo) (now boot known : ℕ) (stamp : Stamp) → known + 1 < 2 ^ 64
+    → fresh_stamp me view now boot known ≡ Some stamp → stamp ≡ new_stamp me view now boot known
+made_is me view now boot known stamp later made = by (nat_lt known (2 ^ 64 - 1)) refl made
   where
-    by : (b : Bool) → nat_lt known (2 ^ 64 - 1) ≡ b → cond b (Some (new_stamp me now boot known)) None ≡ Some stamp
-        → stamp ≡ new_stamp me now boot known
+    by : (b : Bool) → nat_lt known (2 ^ 64 - 1) ≡ b → cond b (Some (new_stamp me view now boot known)) None ≡ Some stamp
+        → stamp ≡ new_stamp me view now boot known
     by true at is = cc
     by false at is = cc

@@ -9,7 +9,7 @@ use Rattle.brick_store.specs.Images.{StandsForEither}
 use Rattle.brick_store.specs.Openings.{IsAllowedOr}
 use Rattle.fab_base.specs.Layouts.{Layout}
 use Rattle.protocol.specs.Nodes.{Node, restarted, no_calls}
-use Rattle.replica.specs.Parts.{part_in}
+use Rattle.replica.specs.Parts.{part_in, learnt_in, accepted_in}
 use Rattle.node.specs.declared.open_calls.OpenCalls.{OpenCalls}
 use Rattle.node.specs.States.{KeptParts, state_with, parts_in}
 use Rattle.node.specs.Running.{running, state_of, shape_at, ImageShows, ShowsEither, LeavesBrick, reopened}
@@ -19,7 +19,7 @@ use Rattle.node.proofs.Moments.{leaves_more}
 
 -- a brick of which no call was made, and no time known
 abbrev pub fresh_node : ℕ → KeptParts → Node
-fresh_node boot parts = record { boot = boot; seq = 0; known = 0; busy = 0; live = parts.live; replicas = parts.replicas; calls = no_calls }
+fresh_node boot parts = record { boot = boot; seq = 0; known = 0; busy = 0; live = parts.live; learnt = parts.learnt; accepted = parts.accepted; replicas = parts.replicas; calls = no_calls }
 
 -- over a store that was opened once more, the brick is the one that the image showed, restarted
 pub restarts_so : {D : Type 0} (layout : Layout) (me : BrickId) (calls : OpenCalls) (store : Brick D) (boot : ℕ) (node : Node) (image : List ℕ)
@@ -29,10 +29,12 @@ pub restarts_so : {D : Type 0} (layout : Layout) (me : BrickId) (calls : OpenCal
 unfolding restarted
 restarts_so layout me calls store boot node image own same fresh shows is =
     seen_so layout calls store own
-    ∙ fresh (parts_in layout.block store.state)
+    ∙ fresh (parts_in layout store.state)
     ∙ same_states _ _ (same ∙ ap (λ (st : StateOf Version). st.boot) is ∙ ap (λ b. b + 1) (sym shows.parts.boot)) refl refl refl
     (ap (λ (st : StateOf Version). live st) is ∙ sym shows.parts.live)
-    (λ g s. ap (λ (st : StateOf Version). part_in layout.block st g s) is ∙ sym (shows.parts.replicas g s)) (λ k. refl)
+    (λ g. ap (λ (st : StateOf Version). learnt_in layout st g) is ∙ sym (shows.parts.learnt g))
+    (λ g. ap (λ (st : StateOf Version). accepted_in st g) is ∙ sym (shows.parts.accepted g))
+    (λ g e s. ap (λ (st : StateOf Version). part_in layout.block st g e s) is ∙ sym (shows.parts.replicas g e s)) (λ k. refl)
 
 module _ (layout : Layout) (me : BrickId) (node : Node) (first : List ℕ) (shows : ImageShows layout me node first) where
   -- an image that opens as the state before or after an opening shows the brick before or after it
@@ -43,7 +45,13 @@ module _ (layout : Layout) (me : BrickId) (node : Node) (first : List ℕ) (show
       inr (record {
         st = booted (shows.st.boot + 1) shows.st;
         stands = stands;
-        parts = record { boot = ap (λ b. b + 1) shows.parts.boot; live = shows.parts.live; replicas = shows.parts.replicas };
+        parts = record {
+          boot = ap (λ b. b + 1) shows.parts.boot;
+          live = shows.parts.live;
+          learnt = shows.parts.learnt;
+          accepted = shows.parts.accepted;
+          replicas = shows.parts.replicas;
+        };
         first = shows.first;
       })
 

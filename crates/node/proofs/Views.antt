@@ -12,7 +12,9 @@ use Rattle.brick_state.specs.States.{StateOf}
 use Rattle.brick_store.specs.Bricks.{Brick}
 use Rattle.brick_store.specs.Images.{StandsFor, LeavesState}
 use Rattle.fab_base.specs.Layouts.{Layout}
-use Rattle.protocol.specs.Nodes.{Node}
+use Rattle.protocol.specs.Nodes.{Node, view_at}
+use Rattle.protocol.specs.Views.{Learnt, first_learnt}
+use Rattle.replica.specs.Parts.{IsFirstView, part_in, learnt_or}
 use Rattle.node.specs.declared.open_calls.OpenCalls.{OpenCalls}
 use Rattle.node.specs.Operations.{coordinator_of}
 use Rattle.node.specs.States.{state_with, parts_in}
@@ -34,16 +36,31 @@ map_lookup f test (e ∷ es) =
 
 module _ {D : Type 0} (layout : Layout) (calls : OpenCalls) (store : Brick D) where
   -- the machine sees the store's parts, and the open calls
-  pub seen_so : calls.stamps.boot ≡ store.state.boot → state_of (running layout calls store) ≡ state_with (parts_in layout.block store.state) calls
+  pub seen_so : calls.stamps.boot ≡ store.state.boot → state_of (running layout calls store) ≡ state_with (parts_in layout store.state) calls
   unfolding state_of state_with
   seen_so boot =
-      same_states _ _ (sym boot) refl refl (map_length (λ e. (e.0, coordinator_of e.1)) calls.operations.entries) refl (λ g s. refl)
+      same_states _ _ (sym boot) refl refl (map_length (λ e. (e.0, coordinator_of e.1)) calls.operations.entries) refl (λ g. refl) (λ g. refl) (λ g e s. refl)
       (λ k. map_lookup coordinator_of (is_at (nat_cmp k)) calls.operations.entries)
 
   -- what the machine's brick keeps is what the store keeps
-  pub kept_so : IsBrickOf layout store.shape store.state calls → IsKept layout.block store.state (state_of (running layout calls store))
+  pub kept_so : IsBrickOf layout store.shape store.state calls → IsKept layout store.state (state_of (running layout calls store))
   unfolding state_of
-  kept_so is = record { parts = record { boot = refl; live = refl; replicas = λ g s. refl }; first = is.first }
+  kept_so is =
+      record {
+        parts = record { boot = refl; live = refl; learnt = λ g. refl; accepted = λ g. refl; replicas = λ g e s. refl };
+        first = is.first;
+      }
+
+  -- no later view was learnt of a group
+  pub first_learnt_so : IsFirstView store.state → (g : ℕ) → (state_of (running layout calls store)).learnt g ≡ first_learnt layout g
+  unfolding state_of
+  first_learnt_so first g = ap (learnt_or (first_learnt layout g)) (first g)
+
+  -- so its part of a stripe is that of the first view
+  pub part_so : IsFirstView store.state → (g s : ℕ) → (let node = state_of (running layout calls store) in part_in layout.block store.state g 1 s
+      ≡ node.replicas g (view_at node g) s)
+  unfolding state_of
+  part_so first g s = ap (λ (learnt : Learnt). part_in layout.block store.state g learnt.view.number.0 s) (sym (first_learnt_so first g))
 
 -- whatever calls are open, the images are the same
 pub still_shows : {D : Type 0} (layout : Layout) (before after : OpenCalls) (store : Brick D) (me : BrickId) (image : List ℕ)
@@ -53,7 +70,13 @@ still_shows layout before after store me image shows =
     record {
       st = shows.st;
       stands = shows.stands;
-      parts = record { boot = shows.parts.boot; live = shows.parts.live; replicas = shows.parts.replicas };
+      parts = record {
+        boot = shows.parts.boot;
+        live = shows.parts.live;
+        learnt = shows.parts.learnt;
+        accepted = shows.parts.accepted;
+        replicas = shows.parts.replicas;
+      };
       first = shows.first;
     }
 
@@ -62,16 +85,16 @@ pub same_kept : {D : Type 0} (layout : Layout) (calls : OpenCalls) (old new : Br
     → state_of (running layout calls new) ≡ state_of (running layout calls old)
 unfolding state_of
 same_kept layout calls old new is =
-    ap (λ (st : StateOf Version). state_of (running layout calls (record { disk = old.disk; shape = old.shape; state = st; halted = old.halted }))) is
+    ap (λ (st : StateOf Version). state_of (running layout calls (record { disk = old.disk; shape = old.shape; state = st; listed = old.listed; halted = old.halted }))) is
 
 -- an image that stands for the store shows the brick
 pub shows_so : {D : Type 0} (layout : Layout) (me : BrickId) (node : Node) (store : Brick D) (image : List ℕ) → store.shape ≡ shape_at layout me
-    → IsKept layout.block store.state node → StandsFor store.shape store.state image → ImageShows layout me node image
+    → IsKept layout store.state node → StandsFor store.shape store.state image → ImageShows layout me node image
 shows_so layout me node store image shape kept stands =
     record { st = store.state; stands = subst (λ (s : Shape). StandsFor s store.state image) shape stands; parts = kept.parts; first = kept.first }
 
 -- so does all that a crash leaves
 pub leaves_so : {D : Type 0} (layout : Layout) (me : BrickId) (node : Node) (store : Brick D) (left : List ℕ → Type 0)
     → store.shape ≡ shape_at layout me
-    → IsKept layout.block store.state node → LeavesState store.shape store.state left → LeavesBrick layout me node left
+    → IsKept layout store.state node → LeavesState store.shape store.state left → LeavesBrick layout me node left
 leaves_so layout me node store left shape kept leaves = λ image is. shows_so layout me node store image shape kept (leaves image is)

@@ -13,7 +13,7 @@ use Rattle.brick_store.specs.Images.{StandsFor}
 use Rattle.fab_base.specs.Layouts.{Layout}
 use Rattle.protocol.specs.Coordinators.{Coordinator}
 use Rattle.protocol.specs.Nodes as machine
-use Rattle.replica.specs.Parts.{part_in, IsPartsOf, IsFirstView}
+use Rattle.replica.specs.Parts.{part_in, learnt_in, accepted_in, IsPartsOf, IsFirstView}
 use Rattle.replica.specs.Reactions.{KeepsOtherViews}
 use Rattle.node.specs.declared.open_calls.OpenCalls.{OpenCalls}
 use Rattle.node.specs.declared.operations.Operation.{Operation}
@@ -39,6 +39,8 @@ state_of node =
       known = node.known;
       busy = length node.calls;
       live = live node.brick.state;
+      learnt = learnt_in node.layout node.brick.state;
+      accepted = accepted_in node.brick.state;
       replicas = part_in node.layout.block node.brick.state;
       calls = λ k. lookup (is_at (nat_cmp k)) node.calls;
     }
@@ -57,15 +59,15 @@ abbrev pub shape_at : Layout → BrickId → Shape
 shape_at layout me = shape_of me.0 layout.block layout.records
 
 -- the store's state keeps what the machine's brick keeps, and no later view
-pub record IsKept (block : ℕ) (st : StateOf Version) (node : machine.Node) : Type 0 where
-  pub parts : IsPartsOf block st node
+pub record IsKept (layout : Layout) (st : StateOf Version) (node : machine.Node) : Type 0 where
+  pub parts : IsPartsOf layout st node
   pub first : IsFirstView st
 
 -- the image opens as a store that keeps what the machine's brick keeps
 pub record ImageShows (layout : Layout) (me : BrickId) (node : machine.Node) (image : List ℕ) : Type 0 where
   pub st : StateOf Version
   pub stands : StandsFor (shape_at layout me) st image
-  pub parts : IsPartsOf layout.block st node
+  pub parts : IsPartsOf layout st node
   pub first : IsFirstView st
 
 -- the image shows the brick before a step, or the brick after it
@@ -81,7 +83,7 @@ abbrev pub reopened : machine.Node → machine.Node
 reopened node = record node { boot = node.boot + 1 }
 
 -- What the machine does not see of a store is as it was: the views that were learnt and the ballots of each group, and what is kept of stripes in
--- other views than the first.
+-- other views than the learnt ones.
 pub record KeepsUnseen (before after : StateOf Version) : Type 0 where
   pub groups : after.groups ≡ before.groups
   pub views : KeepsOtherViews before after

@@ -1,9 +1,9 @@
 //! A brick's steps.
 
-ghost use Rattle.std.specs.Prelude.{◌≡◌, ◌≢◌, ◌⊎◌, ◌+◌, ◌-◌, ◌^◌, ◌<◌, ◌≤◌, ℕ, List, true, false, Some, None, Ok, Err, IfOk, IfErr, OnOk, OnErr, vec_len};
+ghost use Rattle.std.specs.Prelude.{◌≡◌, ◌≢◌, ◌⊎◌, ◌+◌, ◌-◌, ◌^◌, ◌<◌, ◌≤◌, ℕ, List, true, false, Some, None, Ok, Err, IsOk, IfOk, IfErr, OnOk, OnErr, length, vec_len};
 ghost use Rattle.std.specs.Option.{SomeIff};
 ghost use Rattle.fab_disk.specs.Disk.{IsUntouched, LeavesOnly, Kept, KeepsRoom};
-ghost use Rattle.fab_disk.specs.Plan.{IsPlanned};
+ghost use Rattle.fab_disk.specs.Plan.{IsRun};
 ghost use Rattle.frame_store.specs.Images.{IsNoStore};
 ghost use Rattle.version_log.specs.Versions.{Version};
 ghost use Rattle.brick_state.specs.States.{StateOf, booted};
@@ -11,19 +11,22 @@ ghost use Rattle.brick_store.specs.Bricks.{Brick};
 ghost use Rattle.brick_store.specs.Images.{IsFound};
 ghost use Rattle.brick_store.specs.Openings.{IsAllowedOr};
 ghost use Rattle.protocol.specs.Nodes as machine;
-ghost use Rattle.protocol.specs.Nodes.{is_stripe_op, refusal_of, invoked, replied, received, absorbed, ticked, restarted};
+ghost use Rattle.protocol.specs.Nodes.{is_stripe_op, view_at, refusal_of, invoked, replied, received, absorbed, ticked, restarted};
 ghost use Rattle.messages.specs.declared.packets.Message.TheVariants as message;
 ghost use Rattle.stripe_code.specs.Codes.{coding};
 ghost use Rattle.replica.specs.Parts.{IsFirstView, part_seen};
 ghost use Rattle.replica.specs.Reactions.{member_step};
 ghost use Rattle.replica.specs.Handling.{KeepsParts};
+ghost use Rattle.replica.specs.Calls.{message_calls};
 ghost use Rattle.coord_phase.specs.Messages.{packets_from};
+ghost use Rattle.node.specs.Calls.{packet_calls, RunsAsOpening};
 ghost use Rattle.node.specs.Faults.{halted_after, RefusesAs};
 ghost use Rattle.node.specs.States.{BeginsAs, StepsAs};
 ghost use Rattle.node.specs.Running.{shape_at, state_of, IsKept, ImageShows, ShowsEither, LeavesBrick, KeepsUnseen, IsSameBrick, reopened};
 
 use crate::faults::NodeFault;
 use crate::open_calls::OpenCalls;
+use crate::operations::first_view;
 use crate::outs::{Begun, Outs};
 use crate::sending::answer_messages;
 use brick_store::{BrickStore, State, StoreFault};
@@ -31,7 +34,6 @@ use fab_base::{Ask, BrickId, GroupId, Refusal, StripeNo, ViewNo};
 use fab_disk::{Armed, Disk, Plan};
 use layout::Layout;
 use messages::{Call, Message, Messages, Packet, Reply};
-use protocol::Told;
 use std::alloc::Global;
 use std::marker::Model;
 
@@ -57,7 +59,8 @@ impl<D: Disk> Model for Node<D> {
 }
 
 impl<D: Disk> Node<D> {
-    /// Opens the store that a disk holds for a brick of a layout: the brick runs, has made no call, and knows no time.
+    /// Opens the store that a disk holds for a brick of a layout: the brick runs, has made no call, and knows no time. Its calls of the
+    /// disk are those of [`open_store`](brick_store::open_store).
     ///
     /// # Errors
     ///
@@ -90,6 +93,11 @@ impl<D: Disk> Node<D> {
             → LeavesOnly D.moment D.left_since disk node.brick.disk (ShowsEither layout me before (reopened before))) }
         ensures any_moment_err { IfErr result (λ e. D.tells → (before : machine.Node) → LeavesBrick layout me before (D.may_leave disk)
             → LeavesOnly D.moment D.left_since disk e.1 (ShowsEither layout me before (reopened before))) }
+        // Under a plan, the call that it names is reached exactly where the opening makes so many.
+        ensures run { IfOk result (λ node. RunsAsOpening D.tells D.seen D.moment D.plan D.unlisted (shape_at layout me) disk node.brick.disk (Unit {0}) ⊥) }
+        // A store that was there is opened whole before it is found to have learnt a later view.
+        ensures run_err { IfErr result (λ e. RunsAsOpening D.tells D.seen D.moment D.plan D.unlisted (shape_at layout me) disk e.1
+            (e.0 ≡ StoreFault.NotAStore) (e.0 ≡ StoreFault.Disk)) }
         // There is no store, and nothing has changed; or its store has learnt a later view.
         ensures not_a_store { IfErr result (λ e. e.0 ≡ StoreFault.NotAStore → D.tells
             → (IsNoStore (shape_at layout me) (D.seen disk) × IsUntouched D.seen D.may_leave D.moment D.left_since disk e.1)
@@ -153,7 +161,8 @@ impl<D: Disk> Node<D> {
             Ok(group) => group,
             Err(refusal) => return Err(NodeFault::Refused(refusal)),
         };
-        Ok(self.calls.begin(self.alloc, &self.layout, group, now, ask)?)
+        let view = first_view(group);
+        Ok(self.calls.begin(self.alloc, &self.layout, view, now, ask)?)
     }
 
     /// At a tick of the brick's clock each open operation, in the order of beginning, sends its present phase again to each member
@@ -174,8 +183,8 @@ impl<D: Disk> Node<D> {
         Ok(self.calls.on_tick(self.alloc)?)
     }
 
-    /// Handles a message, at this time of the brick's clock. What it keeps of a request is on the disk before it answers; a message that
-    /// changes nothing that is kept makes no call of the disk.
+    /// Handles a message, at this time of the brick's clock. What it keeps of a request is on the disk before it answers, by the calls of
+    /// [`replica::handle`]; a message that changes nothing that is kept makes no call of the disk.
     ///
     /// # Errors
     ///
@@ -184,7 +193,7 @@ impl<D: Disk> Node<D> {
     #[tactic(auto, unfolding(protocol::specs::Nodes::received, protocol::specs::Nodes::requested, protocol::specs::Nodes::absorbed))]
     pub fn on_message(&mut self, now: u64, packet: &Packet) -> Result<Outs, NodeFault>
         ensures step { IfOk result (StepsAs self.old.me (state_of self.new) (received (coding self.old.layout) self.old.me now (state_of self.old) packet.now)) }
-        ensures few { IfOk result (λ outs. vec_len outs.messages ≤ 32) }
+        ensures few { IfOk result (λ outs. length outs.messages ≤ 32) }
         ensures err { OnErr result (state_of self.new ≡ state_of self.old) }
         ensures same { IsSameBrick self.old self.new }
         ensures unseen { KeepsUnseen self.old.brick.state self.new.brick.state }
@@ -197,6 +206,9 @@ impl<D: Disk> Node<D> {
         ensures moments { D.tells → self.old.brick.halted ≡ false → LeavesOnly D.moment D.left_since self.old.brick.disk self.new.brick.disk
             (ShowsEither self.old.layout self.old.me (state_of self.old)
             (absorbed (coding self.old.layout) self.old.me (state_of self.old) packet.now)) }
+        // Under a plan, the call that it names is reached exactly where the message makes so many.
+        ensures run { IsRun D.tells D.moment D.plan D.unlisted (packet_calls self.old packet.now) self.old.brick.disk self.new.brick.disk
+            (IsOk result) (result ≡ Err NodeFault.Disk) }
         ensures halted { self.old.brick.halted ≡ true → result ≡ Err NodeFault.Halted }
         ensures only_halted { result ≡ Err NodeFault.Halted → self.old.brick.halted ≡ true }
         ensures halts { self.new.brick.halted ≡ halted_after self.old.brick.halted result }
@@ -226,7 +238,7 @@ impl<D: Disk> Node<D> {
         requires durable { D.tells → LeavesBrick self.old.layout self.old.me (state_of self.old) (D.may_leave self.old.brick.disk) }
         ensures step { IfOk result (StepsAs self.old.me (state_of self.new)
             (member_step self.old.layout self.old.me from (state_of self.old) message.now)) }
-        ensures few { IfOk result (λ outs. vec_len outs.messages ≤ 32) }
+        ensures few { IfOk result (λ outs. length outs.messages ≤ 32) }
         ensures err { OnErr result (state_of self.new ≡ state_of self.old) }
         ensures same { IsSameBrick self.old self.new }
         ensures unseen { KeepsUnseen self.old.brick.state self.new.brick.state }
@@ -236,6 +248,9 @@ impl<D: Disk> Node<D> {
         ensures moments { D.tells → LeavesOnly D.moment D.left_since self.old.brick.disk self.new.brick.disk
             (ShowsEither self.old.layout self.old.me (state_of self.old)
             (member_step self.old.layout self.old.me from (state_of self.old) message.now).node) }
+        ensures run { IsRun D.tells D.moment D.plan D.unlisted
+            (message_calls self.old.layout self.old.me from self.old.brick (state_of self.old) message.now)
+            self.old.brick.disk self.new.brick.disk (IsOk result) (result ≡ Err NodeFault.Disk) }
         ensures not_halted { result ≢ Err NodeFault.Halted }
         ensures halts { self.new.brick.halted ≡ halted_after false result }
         ensures not_refused { (reason : Refusal) → result ≢ Err (NodeFault.Refused reason) }
@@ -247,10 +262,7 @@ impl<D: Disk> Node<D> {
         // The answer has its room before anything is kept: after that nothing can fail.
         let room = Vec::with_capacity(self.alloc, 1)?;
         let answer = replica::handle(self.alloc, &mut self.store, &self.layout, from, message)?;
-        Ok(Outs {
-            messages: answer_messages(room, from, answer),
-            told: Told::Nothing,
-        })
+        Ok(Outs::sending(answer_messages(room, from, answer)))
     }
 
     /// Handles a reply, at this time of the brick's clock: the operation of its call counts it, or leaves it out.
@@ -264,7 +276,7 @@ impl<D: Disk> Node<D> {
         requires reply { packet.now.message ≡ message.Reply call reply.now }
         ensures step { IfOk result (StepsAs self.old.me (state_of self.new) (replied (coding self.old.layout) self.old.me now packet.now.from
             (state_of self.old) call reply.now)) }
-        ensures few { IfOk result (λ outs. vec_len outs.messages ≤ 32) }
+        ensures few { IfOk result (λ outs. length outs.messages ≤ 32) }
         ensures err { OnErr result (state_of self.new ≡ state_of self.old) }
         ensures same { IsSameBrick self.old self.new }
         ensures brick { self.new.brick ≡ self.old.brick }
@@ -272,10 +284,7 @@ impl<D: Disk> Node<D> {
             (state_of self.new) image }
         ensures only { OnErr result (result ≡ Err NodeFault.NoMemory) }
     {
-        Ok(
-            self.calls
-                .on_reply(self.alloc, &self.layout, now, packet, call, reply)?,
-        )
+        Ok(self.calls.on_reply(self.alloc, now, packet, call, reply)?)
     }
 
     /// Gives the disk back. Where the brick is not halted, the disk shows it, and so does whatever a crash leaves.
@@ -301,7 +310,7 @@ impl<D: Disk> Node<D> {
         ensures value { result ≡ self.now.brick.halted }
         ensures durable { D.tells → self.now.brick.halted ≡ false → LeavesBrick self.now.layout self.now.me (state_of self.now)
             (D.may_leave self.now.brick.disk) }
-        ensures kept { IsKept self.now.layout.block self.now.brick.state (state_of self.now) }
+        ensures kept { IsKept self.now.layout self.now.brick.state (state_of self.now) }
         ensures shape { self.now.brick.shape ≡ shape_at self.now.layout self.now.me }
     {
         // The clauses speak of the whole brick, so all of it is looked at.
@@ -316,10 +325,9 @@ impl<D: Disk> Node<D> {
         &self.store
     }
 
-    /// The brick's part of a stripe: its order stamp, and its log.
-    #[tactic(auto, unfolding(crate::specs::Running::state_of))]
+    /// The brick's part of a stripe in the view that it has learnt: its order stamp, and its log.
     pub fn log(&self, group: GroupId, stripe: StripeNo) -> State<'_>
-        ensures { part_seen result ≡ (state_of self.now).replicas group.0 stripe.0 }
+        ensures { part_seen result ≡ (state_of self.now).replicas group.0 (view_at (state_of self.now) group.0) stripe.0 }
     {
         self.store.state(group, ViewNo(1), stripe)
     }
@@ -358,10 +366,13 @@ impl<D: Armed> Node<D> {
         ensures halted { self.new.brick.halted ≡ self.old.brick.halted }
         ensures content { D.seen self.new.brick.disk ≡ D.seen self.old.brick.disk }
         ensures crash { (image : List ℕ) → D.may_leave self.new.brick.disk image → D.may_leave self.old.brick.disk image }
-        ensures planned { (n : ℕ) → IsPlanned plan n → D.fails_in self.new.brick.disk n }
+        ensures room_left { self.new.brick.listed ≡ self.old.brick.listed }
+        ensures planned { D.plan self.new.brick.disk ≡ plan }
+        ensures listed { D.unlisted self.old.brick.disk → D.unlisted self.new.brick.disk }
         ensures faults { D.faults self.new.brick.disk ≡ D.faults self.old.brick.disk }
         ensures room { KeepsRoom (D.has_room self.old.brick.disk) (D.has_room self.new.brick.disk) }
         ensures sound { plan ≡ Plan.Never → D.sound self.old.brick.disk → D.sound self.new.brick.disk }
+        ensures again { plan ≡ Plan.Never → D.unlisted self.old.brick.disk → D.sound self.new.brick.disk }
     {
         self.store.arm(plan);
     }

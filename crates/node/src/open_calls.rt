@@ -8,10 +8,9 @@ ghost use Rattle.protocol.specs.Nodes.{known_after, fresh_stamp};
 use crate::operations::Operation;
 use crate::outs::{Begun, Outs};
 use crate::refusals::{has_block, has_later_time, has_length};
-use fab_base::{Ask, BrickId, CallId, NoMem, Refusal, Stamp, ViewNo};
+use fab_base::{Ask, BrickId, CallId, NoMem, Refusal, Stamp, View, ViewNo};
 use layout::{Group, Layout};
 use messages::{Call, Messages, Packet, Reply};
-use protocol::Told;
 use stamp_store::StampSource;
 use std::alloc::Global;
 use std::collections::BTreeMap;
@@ -42,21 +41,23 @@ fn after_reply(mut stamps: StampSource, reply: &Reply) -> StampSource
     stamps
 }
 
-/// The stamp that a new round of ordering would have, at this time of the brick's clock. None where no later time is left.
-fn fresh_stamp(mut stamps: StampSource, now: u64, me: BrickId) -> Option<Stamp>
-    ensures { result ≡ fresh_stamp me now stamps.boot stamps.known }
+/// The stamp that a new round of ordering would have in a view, at this time of the brick's clock. None where no later time is left.
+fn fresh_stamp(mut stamps: StampSource, now: u64, view: ViewNo, me: BrickId) -> Option<Stamp>
+    ensures { result ≡ fresh_stamp me view now stamps.boot stamps.known }
 {
-    stamps.next(now, ViewNo(1), me)
+    stamps.next(now, view, me)
 }
 
 impl OpenCalls {
-    ghost use Rattle.std.specs.Prelude.{◌≡◌, ◌+◌, ◌-◌, ◌^◌, ◌<◌, ◌≤◌, ℕ, true, None, Some, IfOk, OnOk, OnErr, vec_len};
+    ghost use Rattle.std.specs.Prelude.{◌≡◌, ◌+◌, ◌-◌, ◌^◌, ◌<◌, ◌≤◌, ℕ, true, None, Some, IfOk, OnOk, OnErr, length, vec_len};
     ghost use Rattle.std.specs.BTreeMap.{btree_map_len};
     ghost use Rattle.std.specs.Option.{SomeIff};
     ghost use Rattle.std.specs.Result.{result_err};
     ghost use Rattle.fab_base.specs.Layouts as layouts;
     ghost use Rattle.fab_base.specs.Layouts.{group_of};
-    ghost use Rattle.protocol.specs.Nodes.{is_stripe_op, has_length, refusal_in, refusal_of, new_coordinator, began_in, replied, ticked, no_calls};
+    ghost use Rattle.protocol.specs.Nodes.{is_stripe_op, has_length, refusal_in, refusal_of, coordinator_in, began_in, replied, ticked, no_calls};
+    ghost use Rattle.quorum.specs.Quorums.{IsWithinLimits};
+    ghost use Rattle.coord_phase.specs.Operations.{group_in_view};
     ghost use Rattle.messages.specs.declared.packets.Message.TheVariants as message;
     ghost use Rattle.stripe_code.specs.Codes.{coding};
     ghost use Rattle.coord_phase.specs.Messages.{packets_from};
@@ -66,7 +67,7 @@ impl OpenCalls {
     pub(crate) fn new(alloc: Global, me: BrickId, boot: u32) -> OpenCalls
         ensures me { result.me ≡ me }
         ensures boot { result.stamps.boot ≡ boot }
-        ensures state { (parts : KeptParts) → state_with parts result ≡ record { boot = boot; seq = 0; known = 0; busy = 0; live = parts.live; replicas = parts.replicas; calls = no_calls } }
+        ensures state { (parts : KeptParts) → state_with parts result ≡ record { boot = boot; seq = 0; known = 0; busy = 0; live = parts.live; learnt = parts.learnt; accepted = parts.accepted; replicas = parts.replicas; calls = no_calls } }
         ensures calls { (layout : layouts.Layout) → AreCallsOf layout result }
     {
         let stamps = StampSource::new(boot);
@@ -151,12 +152,12 @@ impl OpenCalls {
         self.seq.checked_add(1)
     }
 
-    /// Begins an operation that is not refused, on a stripe of this group.
+    /// Begins an operation that is not refused, in this view of its group.
     pub(crate) fn begin(
         &mut self,
         alloc: Global,
         layout: &Layout,
-        group: &Group,
+        view: View,
         now: u64,
         ask: &Ask,
     ) -> Result<Begun, NoMem>
@@ -164,12 +165,12 @@ impl OpenCalls {
         requires known { self.old.stamps.known + 1 < 2 ^ 64 }
         requires seq { self.old.seq + 1 < 2 ^ 64 }
         requires stripe { is_stripe_op ask.now.op ≡ true }
-        requires group { group_of layout.now ask.now.group.0 ≡ Some group.now }
-        requires fits { has_length group.now.m layout.now.block ask.now.op ≡ true }
+        requires limits { IsWithinLimits (group_in_view layout.now view.members ask.now.group.0).m (length view.members) }
+        requires fits { has_length (group_in_view layout.now view.members ask.now.group.0).m layout.now.block ask.now.op ≡ true }
         requires node { AreCallsOf layout.now self.old }
         ensures begun { (parts : KeptParts) → IfOk result
-            (BeginsAs self.old.me (state_with parts self.new) (began_in (coding layout.now) group.now self.old.me (state_with parts self.old)
-            (new_coordinator self.old.me now (state_with parts self.old) ask.now))) }
+            (BeginsAs self.old.me (state_with parts self.new) (began_in (coding layout.now) self.old.me (state_with parts self.old)
+            (coordinator_in (group_in_view layout.now view.members ask.now.group.0) view.number self.old.me now (state_with parts self.old) ask.now))) }
         ensures err { OnErr result ((parts : KeptParts) → state_with parts self.new ≡ state_with parts self.old) }
         ensures me { self.new.me ≡ self.old.me }
         ensures boot { self.new.stamps.boot ≡ self.old.stamps.boot }
@@ -177,7 +178,7 @@ impl OpenCalls {
         ensures few { IfOk result (λ begun. vec_len begun.messages ≤ 32) }
     {
         let seq = self.seq + 1;
-        let Some(stamp) = fresh_stamp(self.stamps, now, self.me) else {
+        let Some(stamp) = fresh_stamp(self.stamps, now, view.number, self.me) else {
             unreachable!()
         };
         let call = CallId {
@@ -187,7 +188,7 @@ impl OpenCalls {
         let (operation, messages) = Operation::begin(
             alloc,
             layout,
-            group,
+            view,
             call,
             ask.copy(alloc)?,
             stamp,
@@ -202,54 +203,43 @@ impl OpenCalls {
     pub(crate) fn on_reply(
         &mut self,
         alloc: Global,
-        layout: &Layout,
         now: u64,
         packet: &Packet,
         call: Call,
         reply: &Reply,
     ) -> Result<Outs, NoMem>
         requires reply { packet.now.message ≡ message.Reply call reply.now }
-        requires node { AreCallsOf layout.now self.old }
-        ensures step { (parts : KeptParts) → IfOk result (StepsAs self.old.me (state_with parts self.new)
-            (replied (coding layout.now) self.old.me now packet.now.from (state_with parts self.old) call reply.now)) }
-        ensures few { IfOk result (λ outs. vec_len outs.messages ≤ 32) }
+        ensures step { (layout : layouts.Layout) → AreCallsOf layout self.old → (parts : KeptParts) → IfOk result (StepsAs self.old.me
+            (state_with parts self.new) (replied (coding layout) self.old.me now packet.now.from (state_with parts self.old) call reply.now)) }
+        ensures few { IfOk result (λ outs. length outs.messages ≤ 32) }
         ensures err { OnErr result ((parts : KeptParts) → state_with parts self.new ≡ state_with parts self.old) }
-        ensures node { AreCallsOf layout.now self.new }
+        ensures node { (layout : layouts.Layout) → AreCallsOf layout self.old → AreCallsOf layout self.new }
         ensures me { self.new.me ≡ self.old.me }
         ensures boot { self.new.stamps.boot ≡ self.old.stamps.boot }
     {
         let mut stamps = after_reply(self.stamps, reply);
-        let fresh = fresh_stamp(stamps, now, self.me);
+        let me = self.me;
         let Some(open) = self.operations.get_mut(&call.seq) else {
             self.stamps = stamps;
             return Ok(Outs::nothing(alloc));
         };
-        let outs = open.on_reply(
-            alloc,
-            layout,
-            packet.from,
-            &packet.message,
-            fresh,
-            &mut stamps,
-        )?;
+        let fresh = fresh_stamp(stamps, now, open.call().view, me);
+        let outs = open.on_reply(alloc, packet.from, &packet.message, fresh, &mut stamps)?;
         self.stamps = stamps;
-        self.close_answered(call.seq, &outs.told);
+        self.close_answered(call.seq, &outs);
         Ok(outs)
     }
 
-    /// Forgets the open operation of this number where a step tells its answer.
-    fn close_answered(&mut self, seq: u64, told: &Told)
+    /// Forgets the open operation of this number where a step answers it.
+    fn close_answered(&mut self, seq: u64, outs: &Outs)
         requires held { is_some (tree.get nat_cmp self.old.operations seq) ≡ true }
-        ensures calls { AreCallsAfter told.now seq self.old.operations self.new.operations }
+        ensures calls { AreCallsAfter outs.now.answers seq self.old.operations self.new.operations }
         ensures me { self.new.me ≡ self.old.me }
         ensures seq { self.new.seq ≡ self.old.seq }
         ensures stamps { self.new.stamps ≡ self.old.stamps }
     {
-        match told {
-            Told::Answers { .. } => {
-                self.operations.remove(&seq);
-            }
-            Told::Nothing | Told::Made { .. } => {}
+        if outs.answer.is_some() {
+            self.operations.remove(&seq);
         }
     }
 

@@ -1,13 +1,13 @@
 //! The open operations of a brick.
 
-ghost use Rattle.std.specs.Prelude.{◌≡◌, ◌-◌, ◌<◌, ◌≤◌, ◌^◌, IfOk, OnErr, length, vec_len};
+ghost use Rattle.std.specs.Prelude.{◌≡◌, ◌-◌, ◌<◌, ◌^◌, IfOk, OnErr, length};
 ghost use Rattle.quorum.specs.Quorums.{IsWithinLimits};
-ghost use Rattle.protocol.specs.Coordinators.{Sends, in_phase};
-ghost use Rattle.protocol.specs.declared.phases.Phase.TheVariants.{Recovers};
-ghost use Rattle.coord_phase.specs.Decisions.{decision};
 ghost use Rattle.coord_phase.specs.Operations.{with_state, without_last};
-ghost use Rattle.node.specs.Operations.{first_view, IsOfLayout, IsFirst};
-ghost use Rattle.node.specs.Decisions.{messages_in, GoesOnBy};
+ghost use Rattle.coord_phase.specs.Decisions as decisions;
+ghost use Rattle.coord_phase.specs.Decisions.{IsSend, HasBlocks};
+ghost use Rattle.coord_recover.specs.Recoveries.{entered};
+ghost use Rattle.node.specs.Operations.{first_view};
+ghost use Rattle.node.specs.Decisions.{messages_in};
 
 use crate::outs::Outs;
 use crate::sending::put_collects;
@@ -16,7 +16,7 @@ use coord_stripe::StripeOp;
 use fab_base::{Answer, Ask, BrickId, CallId, NoMem, Note, Stamp, View, ViewNo};
 use layout::{Group, Layout};
 use messages::{Call, Message, Messages, Next, Turn};
-use protocol::Told;
+use protocol::{Answered, Told};
 use stamp_store::StampSource;
 use std::alloc::Global;
 
@@ -54,16 +54,18 @@ pub enum Operation {
 }
 
 impl Operation {
-    ghost use Rattle.std.specs.Prelude.{◌≡◌, ◌-◌, ◌<◌, ◌≤◌, ◌^◌, ◌↔◌, IsTrue, true, IfOk, OnErr, [], Some, length, vec_len, vec_capacity, option_copied};
-    ghost use Rattle.fab_base.specs.Layouts.{Layout, group_of};
+    ghost use Rattle.std.specs.Prelude.{◌≡◌, ◌≤◌, ◌↔◌, IsTrue, true, IfOk, OnErr, [], ◌∷◌, length, vec_len, vec_capacity, option_copied};
+    ghost use Rattle.quorum.specs.Quorums.{IsWithinLimits};
+    ghost use Rattle.fab_base.specs.Layouts.{Layout};
     ghost use Rattle.protocol.specs.declared.phases.Phase.TheVariants.{Stores};
-    ghost use Rattle.protocol.specs.Nodes.{is_stripe_op, has_length};
+    ghost use Rattle.protocol.specs.Nodes.{is_stripe_op, has_length, seen_told};
+    ghost use Rattle.coord_phase.specs.Operations.{group_in_view};
     ghost use Rattle.coord_phase.specs.Decisions as decisions;
-    ghost use Rattle.coord_phase.specs.Decisions.{IsSend, decision, decided_on, begins_in, seen_in, note_told};
+    ghost use Rattle.coord_phase.specs.Decisions.{Answers, NeverRecovers, IsSend, decided_on, begins_in, seen_in, note_told};
     ghost use Rattle.coord_phase.specs.Messages.{phase_messages};
     ghost use Rattle.coord_stripe.specs.StripeOps.{first_op};
     ghost use Rattle.node.specs.Operations.{shown_of, coordinator_of, IsOperationOf};
-    ghost use Rattle.node.specs.Decisions.{made_in, told_in, or_waits, known_by, SendsPhase, GoesOn, GoesOnBy, CarriesOut, Collects};
+    ghost use Rattle.node.specs.Decisions.{made_in, told_in, or_waits, known_by, SendsPhase, CarriesOut, Collects};
     ghost use Rattle.node.specs.Sending.{collect_messages};
 
     /// The call of the present phase.
@@ -88,7 +90,7 @@ impl Operation {
 
     /// The group, with the members that are asked.
     pub fn group(&self) -> &Group
-        ensures { result.now ≡ (shown_of self.now).group }
+        ensures { result.now ≡ (coordinator_of self.now).group }
     {
         match self {
             Operation::Stripe(op) => op.group(),
@@ -146,25 +148,25 @@ impl Operation {
         }
     }
 
-    /// Begins an operation on a whole stripe of a group, in the group's first view: the operation, and the messages of its first phase.
+    /// Begins an operation on a whole stripe of a group, in this view: the operation, and the messages of its first phase.
     pub fn begin(
         alloc: Global,
         layout: &Layout,
-        group: &Group,
+        view: View,
         call: CallId,
         ask: Ask,
         stamp: Stamp,
     ) -> Result<(Operation, Messages), NoMem>
-        requires group { group_of layout.now ask.group.0 ≡ Some group.now }
+        requires limits { IsWithinLimits (group_in_view layout.now view.members ask.group.0).m (length view.members) }
         requires stripe { is_stripe_op ask.op ≡ true }
-        requires fits { has_length group.now.m layout.now.block ask.op ≡ true }
-        ensures operation { IfOk result (λ begun. shown_of begun.0 ≡ first_op layout.now (first_view group.now) call ask stamp) }
-        ensures kept { IfOk result (λ begun. IsOperationOf layout.now begun.0) }
+        requires fits { has_length (group_in_view layout.now view.members ask.group.0).m layout.now.block ask.op ≡ true }
+        ensures operation { IfOk result (λ begun. shown_of begun.0 ≡ first_op layout.now view call ask stamp) }
         ensures sends { IfOk result (λ begun. SendsPhase layout.now begun.0 begun.1.items) }
         ensures few { IfOk result (λ begun. vec_len begun.1 ≤ 32) }
     {
-        let view = first_view(group);
         let (op, next) = StripeOp::start(alloc, layout, view, call, ask, stamp)?;
+        // There is a message for each member, and these are few.
+        let _ = op.group().policy();
         Ok((Operation::Stripe(op), messages_in(alloc, next)))
     }
 
@@ -192,7 +194,7 @@ impl Operation {
 
     /// How many members are asked, at most 32.
     fn member_count(&self) -> usize
-        ensures value { result ≡ length (shown_of self.now).group.members }
+        ensures value { result ≡ length (coordinator_of self.now).group.members }
         ensures few { result ≤ 32 }
     {
         self.group().policy().n() as usize
@@ -201,8 +203,8 @@ impl Operation {
     /// Room for the messages that let all members collect. Only an operation that stores its version may end with such messages.
     fn room_to_collect(&self, alloc: Global) -> Result<Messages, NoMem>
         ensures empty { IfOk result (λ room. room.items ≡ []) }
-        ensures few { length (shown_of self.now).group.members ≤ 32 }
-        ensures room { IfOk result (λ room. (coordinator_of self.now).phase ≡ Stores → length (shown_of self.now).group.members ≤ vec_capacity room) }
+        ensures few { length (coordinator_of self.now).group.members ≤ 32 }
+        ensures room { IfOk result (λ room. (coordinator_of self.now).phase ≡ Stores → length (coordinator_of self.now).group.members ≤ vec_capacity room) }
     {
         let most = self.member_count();
         if !self.is_storing() {
@@ -211,22 +213,19 @@ impl Operation {
         Ok(Vec::with_capacity(alloc, most)?)
     }
 
-    /// Takes a message in place, in the group's first view. A new round of ordering would have the fresh stamp; there is none where no
-    /// later time is left. A read whose stripe is to be recovered becomes the recovery, in the next phase of its call.
+    /// Takes a message in place. A new round of ordering would have the fresh stamp; there is none where no later time is left. A read
+    /// whose stripe is to be recovered becomes the recovery, in the next phase of its call.
     fn take_reply(
         &mut self,
         alloc: Global,
-        layout: &Layout,
         from: BrickId,
         message: &Message,
         fresh: Option<Stamp>,
     ) -> Result<Next, NoMem>
-        requires operation { IsOperationOf layout.now self.old }
-        ensures decided { IfOk result (λ next. decision (shown_of self.new) next ≡ or_waits (coordinator_of self.old)
-            (decided_on fresh (shown_of self.old) from message.now)) }
-        ensures kept { IfOk result (λ next. GoesOnBy layout.now self.old self.new next) }
+        ensures answers { IfOk result (λ next. Answers fresh (shown_of self.old) from message.now next (shown_of self.new)) }
+        ensures never { IfOk result NeverRecovers }
         ensures same { OnErr result (coordinator_of self.new ≡ coordinator_of self.old) }
-        ensures kept_err { OnErr result (GoesOn layout.now self.old self.new) }
+        ensures block { OnErr result ((shown_of self.new).block ≡ (shown_of self.old).block) }
     {
         match self {
             Operation::Recovery(op) => {
@@ -238,7 +237,7 @@ impl Operation {
                 Next::Send(messages) => Ok(Next::Send(messages)),
                 Next::End(answer) => Ok(Next::End(answer)),
                 Next::Recover(turn) => {
-                    let (recovery, next) = recover(alloc, layout, op, turn)?;
+                    let (recovery, next) = recover(alloc, op, turn)?;
                     *self = Operation::Recovery(recovery);
                     Ok(next)
                 }
@@ -249,49 +248,51 @@ impl Operation {
     /// What is sent and told as a phase begins: the version, where the operation makes it. The stamp of a new round is known from now on.
     fn begin_phase(&self, messages: Messages, stamps: &mut StampSource) -> Outs
         requires { (shown_of self.now).note ≡ note_told (coordinator_of self.now).call (begins_in (coordinator_of self.now).phase (coordinator_of self.now)) }
-        ensures messages { result.messages ≡ messages }
-        ensures told { result.told ≡ told_in (coordinator_of self.now).call.seq (begins_in (coordinator_of self.now).phase (coordinator_of self.now)) }
+        ensures outs { result ≡ record {
+          messages = messages.items;
+          told = told_in (coordinator_of self.now).call.seq (begins_in (coordinator_of self.now).phase (coordinator_of self.now));
+          answers = [];
+        } }
         ensures known { stamps.new.known ≡ known_by stamps.old.known (begins_in (coordinator_of self.now).phase (coordinator_of self.now)) }
         ensures boot { stamps.new.boot ≡ stamps.old.boot }
     {
-        match self.version() {
-            Some((stamp, base)) => Outs {
-                messages,
-                told: Told::Made {
-                    seq: self.call().seq,
-                    stamp,
-                    base,
-                },
-            },
-            None => {
-                stamps.saw(self.stamp());
-                Outs {
-                    messages,
-                    told: Told::Nothing,
-                }
-            }
+        let Some((stamp, base)) = self.version() else {
+            stamps.saw(self.stamp());
+            return Outs::sending(messages);
+        };
+        let seq = self.call().seq;
+        Outs {
+            messages,
+            told: Some(Told::Made { seq, stamp, base }),
+            answer: None,
         }
     }
 
-    /// What is sent and told at the end of a call, in this room: all members may collect what is below the version that was stored.
+    /// What is sent, told and answered at the end of a call, in this room: all members may collect what is below the version that was
+    /// stored.
     fn end(&self, room: Messages, call: Call, answer: Answer) -> Outs
         requires empty { room.items ≡ [] }
-        requires room { Collects (shown_of self.now).made (length (shown_of self.now).group.members ≤ vec_capacity room) }
-        ensures messages { result.messages.items ≡ collect_messages call (shown_of self.now).made (shown_of self.now).group.members }
-        ensures told { result.told ≡ Told.Answers call.seq answer (seen_in (shown_of self.now).note) }
+        requires room { Collects (shown_of self.now).made (length (coordinator_of self.now).group.members ≤ vec_capacity room) }
+        ensures { result ≡ record {
+          messages = collect_messages call (shown_of self.now).made (coordinator_of self.now).group.members;
+          told = seen_told call.seq (seen_in (shown_of self.now).note);
+          answers = record { seq = call.seq; answer = answer } ∷ [];
+        } }
     {
+        let seq = call.seq;
+        let told = match self.seen() {
+            Some(stamp) => Some(Told::Seen { seq, stamp }),
+            None => None,
+        };
         Outs {
             messages: put_collects(room, self.group(), call, self.made()),
-            told: Told::Answers {
-                seq: call.seq,
-                answer,
-                seen: self.seen(),
-            },
+            told,
+            answer: Some(Answered { seq, answer }),
         }
     }
 
-    /// What the operation does with a message, in place and in the group's first view: what is sent and told. A new round of ordering
-    /// would have the fresh stamp; there is none where no later time is left. The stamp of a new round is known from then on.
+    /// What the operation does with a message, in place: what is sent, told and answered. A new round of ordering would have the fresh
+    /// stamp; there is none where no later time is left. The stamp of a new round is known from then on.
     ///
     /// # Errors
     ///
@@ -299,24 +300,22 @@ impl Operation {
     pub fn on_reply(
         &mut self,
         alloc: Global,
-        layout: &Layout,
         from: BrickId,
         message: &Message,
         fresh: Option<Stamp>,
         stamps: &mut StampSource,
     ) -> Result<Outs, NoMem>
-        requires operation { IsOperationOf layout.now self.old }
-        ensures step { IfOk result (λ outs. CarriesOut layout.now self.old self.new stamps.old.known stamps.new.known
-            (or_waits (coordinator_of self.old) (decided_on fresh (shown_of self.old) from message.now)) outs) }
-        ensures few { IfOk result (λ outs. vec_len outs.messages ≤ 32) }
+        ensures step { IfOk result (λ outs. (layout : Layout) → IsOperationOf layout self.old → CarriesOut layout self.old self.new stamps.old.known
+            stamps.new.known (or_waits (coordinator_of self.old) (decided_on fresh (shown_of self.old) from message.now)) outs) }
+        ensures few { IfOk result (λ outs. length outs.messages ≤ 32) }
         ensures boot { stamps.new.boot ≡ stamps.old.boot }
         ensures same { OnErr result (coordinator_of self.new ≡ coordinator_of self.old) }
-        ensures kept_err { OnErr result (GoesOn layout.now self.old self.new) }
+        ensures block { OnErr result ((shown_of self.new).block ≡ (shown_of self.old).block) }
     {
         // All that an end needs is there before the reply counts: nothing can fail after it.
         let room = self.room_to_collect(alloc)?;
         let call = self.call();
-        match self.take_reply(alloc, layout, from, message, fresh)? {
+        match self.take_reply(alloc, from, message, fresh)? {
             Next::Wait => Ok(Outs::nothing(alloc)),
             Next::Send(messages) => Ok(self.begin_phase(messages, stamps)),
             Next::End(answer) => Ok(self.end(room, call, answer)),
@@ -325,62 +324,21 @@ impl Operation {
     }
 }
 
-/// Begins the recovery of the stripe of a read, in the next phase of the read's call. Where memory runs out, the read takes the reply
-/// back on which it asked for this.
-fn recover(
-    alloc: Global,
-    layout: &Layout,
-    op: &mut StripeOp,
-    turn: Turn,
-) -> Result<(Recovery, Next), NoMem>
-    requires of_layout { IsOfLayout layout.now op.old }
-    requires first { IsFirst op.old.state }
-    requires order { turn ≡ Turn.Order }
+/// The recovery of the stripe of a read that asks for it, in the next phase of the read's call. Where memory runs out, the read takes
+/// the reply back on which it asked for this.
+fn recover(alloc: Global, op: &mut StripeOp, turn: Turn) -> Result<(Recovery, Next), NoMem>
     requires phase { op.old.state.call.phase < 2 ^ 32 - 1 }
-    ensures decided { IfOk result (λ begun. decision begun.0 begun.1 ≡ Sends (in_phase op.old.state Recovers)) }
-    ensures kept { IfOk result (λ begun. GoesOnBy layout.now (Operation.Stripe op.old) (Operation.Recovery begun.0) begun.1) }
+    requires content { HasBlocks op.old.block op.old.state.group.m turn }
+    ensures op { IfOk result (λ begun. begun.0 ≡ entered op.old turn) }
+    ensures send { IfOk result (λ begun. IsSend begun.1) }
+    ensures sent { IfOk result (λ begun. decisions.SendsPhase begun.0 begun.1) }
     ensures err { OnErr result (op.new ≡ with_state op.old (without_last op.old.state)) }
 {
-    match begin_recovery(alloc, layout, op, turn) {
+    match Recovery::follow(alloc, op.operation(), turn) {
         Ok(begun) => Ok(begun),
         Err(fault) => {
             op.take_back();
             Err(fault)
         }
     }
-}
-
-/// The recovery of the stripe of a read, as it begins in the next phase of the read's call.
-fn begin_recovery(
-    alloc: Global,
-    layout: &Layout,
-    op: &StripeOp,
-    turn: Turn,
-) -> Result<(Recovery, Next), NoMem>
-    requires of_layout { IsOfLayout layout.now op.now }
-    requires first { IsFirst op.now.state }
-    requires order { turn ≡ Turn.Order }
-    requires phase { op.now.state.call.phase < 2 ^ 32 - 1 }
-    ensures decided { IfOk result (λ begun. decision begun.0 begun.1 ≡ Sends (in_phase op.now.state Recovers)) }
-    ensures kept { IfOk result (λ begun. GoesOnBy layout.now (Operation.Stripe op.now) (Operation.Recovery begun.0) begun.1) }
-{
-    let last = op.call();
-    let call = CallId {
-        boot: last.boot,
-        seq: last.seq,
-    };
-    let ask = op.ask().copy(alloc)?;
-    let view = first_view(op.group());
-    let phase = last.phase + 1;
-    let (recovery, next) = Recovery::start(
-        alloc,
-        layout,
-        view,
-        call,
-        phase,
-        ask,
-        op.stamp(),
-        turn,
-    )?;
-    Ok((recovery, next))
 }

@@ -101,10 +101,10 @@ module _ {D : Type 0} (tells : Type 0) (seen : D → List ℕ) (may_leave : D �
       followed (Err fault) h = tt
 
   -- A change of the store, and the reply that says so.
-  module _ (g s : ℕ) (old new : Brick D) (after : StateOf Version) (adds : Bool) (calls : ℕ) (reply : Reply) (runs : Runs tells may_leave old)
+  module _ (g e s : ℕ) (old new : Brick D) (after : StateOf Version) (adds : Bool) (calls : ℕ) (reply : Reply) (runs : Runs tells may_leave old)
       (made : (adds ≡ true → live old.state ≡ old.shape.records → ⊥) → Follows (Some reply) after)
       (none : adds ≡ true → live old.state ≡ old.shape.records → Follows (Some (Full (live old.state))) old.state)
-      (moves : part_in old.shape.block after g s ≡ part_in old.shape.block old.state g s → ⊥) where
+      (moves : part_in old.shape.block after g e s ≡ part_in old.shape.block old.state g e s → ⊥) where
     abbrev Changed : Result (Unit {0}) StoreFault → Type 0
     Changed answer = Changes tells seen may_leave moment left_since faults_of sound old new after adds calls answer
 
@@ -131,7 +131,7 @@ module _ {D : Type 0} (tells : Type 0) (seen : D → List ℕ) (may_leave : D �
           shape = change.ok.shape;
           durable = change.durable;
           any_moment = moments (Ok done) change follows;
-          still = λ same. absurd (moves (subst (λ (st : StateOf Version). part_in old.shape.block st g s ≡ part_in old.shape.block old.state g s) change.ok.state (same g s)));
+          still = λ same. absurd (moves (subst (λ (st : StateOf Version). part_in old.shape.block st g e s ≡ part_in old.shape.block old.state g e s) change.ok.state (same g e s)));
           halted = λ h. differ (sym runs.runs ∙ h);
           only_halted = λ h. absurd cc;
           halts = change.answer.halts;

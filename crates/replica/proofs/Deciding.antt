@@ -107,4 +107,4 @@ promised_again full part t reply same =
     promise o = promised part o reply
 
     adding : Bool → Reaction
-    adding b = record { replica = part; reply = Some reply; adds = b }
+    adding b = record { replica = part; reply = Some reply; adds = cond b 1 0; drops = 0 }

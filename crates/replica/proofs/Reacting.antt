@@ -1,5 +1,5 @@
 -- The machine's reactions, over what a store keeps.
-use Rattle.std.proofs.Common.{◌≡◌, ℕ, ◌+◌, Bool, true, false, not, ◌&&◌, cond, eqb, Option, Some, None, List, [], ◌∷◌, ◌++◌, length, map, refl, sym, ap, subst, ◌∙◌, arith, eq-eqb, append_assoc}
+use Rattle.std.proofs.Common.{◌≡◌, ℕ, ◌+◌, ◌-◌, Bool, true, false, not, ◌&&◌, cond, eqb, ltb, Option, Some, None, List, [], ◌∷◌, ◌++◌, length, map, refl, sym, ap, subst, ◌∙◌, arith, eq-eqb, append_assoc}
 use Rattle.std.specs.List.Sorted.{IsStrictlySortedBy}
 use Rattle.std.specs.Map.{keys_of}
 use Rattle.std.specs.Prelude.{replicate}
@@ -13,11 +13,12 @@ use Rattle.messages.specs.declared.replies.Reply.{Reply}
 use Rattle.messages.specs.declared.replies.Reply.TheVariants.{Full, Stored}
 use Rattle.version_log.specs.Versions.{Version as Kept, version}
 use Rattle.brick_state.specs.States.{Place, StripeOf, StateOf, place_cmp, stripe_at, with_stripe, with_order, with_added, ordered, added, live}
-use Rattle.brick_store.specs.Blocks.{log_of}
+use Rattle.brick_store.specs.Blocks.{log_of, adds_stamp}
 use Rattle.protocol.specs.Replicas.{Replica, Reaction, stays, promised, stored, unless_full}
-use Rattle.protocol.specs.Nodes.{put}
+use Rattle.protocol.specs.Nodes.{full_at, put, with_part}
+use Rattle.messages.specs.declared.calls.Call.{Call}
 use Rattle.replica.specs.Parts.{as_version, part_of, part_in}
-use Rattle.replica.specs.Reactions.{full_in, IsReacted, KeepsOtherViews}
+use Rattle.replica.specs.Reactions.{place_of, part_at, IsReacted}
 use Rattle.replica.proofs.Places.{put_here, put_other, live_put}
 
 differ : {A : Type 0} → false ≡ true → A
@@ -29,59 +30,87 @@ differ h = absurd cc
 abbrev part_from : ℕ → StripeOf Kept → Replica
 part_from block s = part_of s.order (log_of block s)
 
-abbrev place_of : ℕ → ℕ → Place
-place_of g s = (g, 1, s)
-
 -- one part is changed, and no other
-parts_put : (block g s : ℕ) (new : StripeOf Kept) (st : StateOf Kept) → IsStrictlySortedBy place_cmp (keys_of st.stripes) → (h t : ℕ)
-    → part_in block (with_stripe (g, 1, s) new st) h t ≡ put (part_in block st) g (put (part_in block st g) s (part_from block new)) h t
-parts_put block g s new st sorted h t = by (eqb h g) refl
+parts_put : (block : ℕ) (call : Call) (new : StripeOf Kept) (st : StateOf Kept) → IsStrictlySortedBy place_cmp (keys_of st.stripes) → (h v t : ℕ)
+    → part_in block (with_stripe (place_of call) new st) h v t ≡ with_part (part_in block st) call (part_from block new) h v t
+parts_put block call new st sorted h v t = by (eqb h g) refl
   where
-    away : (place_of h t ≡ place_of g s → ⊥) → part_in block (with_stripe (g, 1, s) new st) h t ≡ part_in block st h t
-    away other = ap (part_from block) (put_other (g, 1, s) (h, 1, t) new st.stripes other)
+    g : ℕ
+    g = call.group.0
 
-    here : h ≡ g → t ≡ s → part_in block (with_stripe (g, 1, s) new st) h t ≡ part_from block new
-    here group stripe =
-        ap (λ (i : ℕ). part_in block (with_stripe (g, 1, s) new st) i t) group
-        ∙ ap (λ (j : ℕ). part_in block (with_stripe (g, 1, s) new st) g j) stripe
-        ∙ ap (part_from block) (put_here (g, 1, s) new st.stripes sorted)
+    e : ℕ
+    e = call.view.0
 
-    inside : (d : Bool) → h ≡ g → eqb t s ≡ d → part_in block (with_stripe (g, 1, s) new st) h t ≡ cond d (part_from block new) (part_in block st g t)
-    inside true group stripe = here group (eqb-true t s stripe)
-    inside false group stripe =
-        away (λ same. differ (sym stripe ∙ eq-eqb t s (ap (λ (p : Place). p.2) same))) ∙ ap (λ (i : ℕ). part_in block st i t) group
+    s : ℕ
+    s = call.stripe.0
 
-    by : (b : Bool) → eqb h g ≡ b → part_in block (with_stripe (g, 1, s) new st) h t ≡ cond b (put (part_in block st g) s (part_from block new))
-        (part_in block st h) t
-    by true group = inside (eqb t s) (eqb-true h g group) refl
+    changed : ℕ → ℕ → ℕ → Replica
+    changed = part_in block (with_stripe (place_of call) new st)
+
+    away : ((h, v, t) ≡ place_of call → ⊥) → changed h v t ≡ part_in block st h v t
+    away other = ap (part_from block) (put_other (place_of call) (h, v, t) new st.stripes other)
+
+    here : h ≡ g → v ≡ e → t ≡ s → changed h v t ≡ part_from block new
+    here group view stripe =
+        ap (λ (i : ℕ). changed i v t) group
+        ∙ ap (λ (i : ℕ). changed g i t) view
+        ∙ ap (λ (i : ℕ). changed g e i) stripe
+        ∙ ap (part_from block) (put_here (place_of call) new st.stripes sorted)
+
+    inmost : (d : Bool) → h ≡ g → v ≡ e → eqb t s ≡ d → changed h v t ≡ cond d (part_from block new) (part_in block st g e t)
+    inmost true group view stripe = here group view (eqb-true t s stripe)
+    inmost false group view stripe =
+        away (λ same. differ (sym stripe ∙ eq-eqb t s (ap (λ (p : Place). p.2) same)))
+        ∙ ap (λ (i : ℕ). part_in block st i v t) group ∙ ap (λ (i : ℕ). part_in block st g i t) view
+
+    inside : (d : Bool) → h ≡ g → eqb v e ≡ d
+        → changed h v t ≡ cond d (put (part_in block st g e) s (part_from block new)) (part_in block st g v) t
+    inside true group view = inmost (eqb t s) group (eqb-true v e view) refl
+    inside false group view =
+        away (λ same. differ (sym view ∙ eq-eqb v e (ap (λ (p : Place). p.1) same))) ∙ ap (λ (i : ℕ). part_in block st i v t) group
+
+    by : (b : Bool) → eqb h g ≡ b
+        → changed h v t ≡ cond b (put (part_in block st g) e (put (part_in block st g e) s (part_from block new))) (part_in block st h) v t
+    by true group = inside (eqb v e) (eqb-true h g group) refl
     by false group = away (λ same. differ (sym group ∙ eq-eqb h g (ap (λ (p : Place). p.0) same)))
 
--- nothing changes in other views
-views_put : (g s : ℕ) (new : StripeOf Kept) (st : StateOf Kept) → KeepsOtherViews st (with_stripe (g, 1, s) new st)
-views_put g s new st h v t other = put_other (g, 1, s) (h, v, t) new st.stripes (λ same. other (ap (λ (p : Place). p.1) same))
-
 -- a part put where it is changes nothing
-parts_same : (f : ℕ → ℕ → Replica) (g s h t : ℕ) → f h t ≡ put f g (put (f g) s (f g s)) h t
-parts_same f g s h t = by (eqb h g) refl
+parts_same : (f : ℕ → ℕ → ℕ → Replica) (call : Call) (h v t : ℕ)
+    → f h v t ≡ with_part f call (f call.group.0 call.view.0 call.stripe.0) h v t
+parts_same f call h v t = by (eqb h g) refl
   where
-    inside : (d : Bool) → h ≡ g → eqb t s ≡ d → f h t ≡ cond d (f g s) (f g t)
-    inside true group stripe = ap (λ (i : ℕ). f i t) group ∙ ap (f g) (eqb-true t s stripe)
-    inside false group stripe = ap (λ (i : ℕ). f i t) group
+    g : ℕ
+    g = call.group.0
 
-    by : (b : Bool) → eqb h g ≡ b → f h t ≡ cond b (put (f g) s (f g s)) (f h) t
-    by true group = inside (eqb t s) (eqb-true h g group) refl
+    e : ℕ
+    e = call.view.0
+
+    s : ℕ
+    s = call.stripe.0
+
+    inmost : (d : Bool) → h ≡ g → v ≡ e → eqb t s ≡ d → f h v t ≡ cond d (f g e s) (f g e t)
+    inmost true group view stripe = ap (λ (i : ℕ). f i v t) group ∙ ap (λ (i : ℕ). f g i t) view ∙ ap (f g e) (eqb-true t s stripe)
+    inmost false group view stripe = ap (λ (i : ℕ). f i v t) group ∙ ap (λ (i : ℕ). f g i t) view
+
+    inside : (d : Bool) → h ≡ g → eqb v e ≡ d → f h v t ≡ cond d (put (f g e) s (f g e s)) (f g v) t
+    inside true group view = inmost (eqb t s) group (eqb-true v e view) refl
+    inside false group view = ap (λ (i : ℕ). f i v t) group
+
+    by : (b : Bool) → eqb h g ≡ b → f h v t ≡ cond b (put (f g) e (put (f g e) s (f g e s))) (f h) v t
+    by true group = inside (eqb v e) (eqb-true h g group) refl
     by false group = refl
 
 -- ---- a part that stays
 
-pub reacted_stays : (block g s : ℕ) (reply : Reply) (st : StateOf Kept) → IsReacted block g s st (stays (part_in block st g s) reply) (Some reply) st
-reacted_stays block g s reply st = record {
+pub reacted_stays : (block : ℕ) (call : Call) (reply : Reply) (st : StateOf Kept)
+    → IsReacted block call st (stays (part_at block st call) reply) (Some reply) st
+reacted_stays block call reply st = record {
   told = refl;
   boot = refl;
   groups = refl;
-  live = refl;
-  parts = λ h t. parts_same (part_in block st) g s h t;
-  views = λ h v t other. refl;
+  live = omega arith;
+  parts = λ h v t. parts_same (part_in block st) call h v t;
+  others = λ p other. refl;
 }
 
 -- ---- an order stamp
@@ -94,33 +123,33 @@ later_not_first order t later = by (stamp_same t first_stamp) refl
     by true is = differ (sym (stamp_below_first order) ∙ ap (stamp_below order) (sym (stamp_same_true t first_stamp is)) ∙ later)
 
 -- it is one live record more where the one before it was the first
-order_adds : (b c : Bool) (n was now : ℕ) → c ≡ false → now + (cond b 0 1 + n) ≡ was + (cond c 0 1 + n) → now ≡ cond (b && not c) (was + 1) was
+order_adds : (b c : Bool) (n was now : ℕ) → c ≡ false → now + (cond b 0 1 + n) ≡ was + (cond c 0 1 + n) → now ≡ was + cond (b && not c) 1 0 - 0
 order_adds true false n was now is sum = omega arith
 order_adds false false n was now is sum = omega arith
 order_adds true true n was now is sum = differ (sym is)
 order_adds false true n was now is sum = differ (sym is)
 
-module _ (block g s : ℕ) (st : StateOf Kept) (sorted : IsStrictlySortedBy place_cmp (keys_of st.stripes)) where
+module _ (block : ℕ) (call : Call) (st : StateOf Kept) (sorted : IsStrictlySortedBy place_cmp (keys_of st.stripes)) where
   abbrev stripe : StripeOf Kept
-  stripe = stripe_at st (g, 1, s)
+  stripe = stripe_at st (place_of call)
 
-  reacted_order : (t : Stamp) (reply : Reply) → stamp_below stripe.order t ≡ true → IsReacted block g s st (promised (part_in block st g s) t reply)
-      (Some reply) (ordered (g, 1, s) t st)
+  reacted_order : (t : Stamp) (reply : Reply) → stamp_below stripe.order t ≡ true → IsReacted block call st (promised (part_at block st call) t reply)
+      (Some reply) (ordered (place_of call) t st)
   reacted_order t reply later = record {
     told = refl;
     boot = refl;
     groups = refl;
-    live = order_adds (stamp_same stripe.order first_stamp) (stamp_same t first_stamp) (length stripe.added) (live st) (live (ordered (g, 1, s) t st))
+    live = order_adds (stamp_same stripe.order first_stamp) (stamp_same t first_stamp) (length stripe.added) (live st) (live (ordered (place_of call) t st))
         (later_not_first stripe.order t later)
-        (live_put (g, 1, s) (with_order t stripe) st.stripes sorted);
-    parts = parts_put block g s (with_order t stripe) st sorted;
-    views = views_put g s (with_order t stripe) st;
+        (live_put (place_of call) (with_order t stripe) st.stripes sorted);
+    parts = parts_put block call (with_order t stripe) st sorted;
+    others = λ p other. put_other (place_of call) p (with_order t stripe) st.stripes other;
   }
 
-  pub order_moves : (t : Stamp) → stamp_below stripe.order t ≡ true → part_in block (ordered (g, 1, s) t st) g s ≡ part_in block st g s → ⊥
+  pub order_moves : (t : Stamp) → stamp_below stripe.order t ≡ true → part_in block (ordered (place_of call) t st) call.group.0 call.view.0 call.stripe.0 ≡ part_at block st call → ⊥
   order_moves t later same =
-      let now : (part_in block (ordered (g, 1, s) t st) g s).order ≡ t = ap (λ (x : StripeOf Kept). x.order)
-      (put_here (g, 1, s) (with_order t stripe) st.stripes sorted) in
+      let now : (part_in block (ordered (place_of call) t st) call.group.0 call.view.0 call.stripe.0).order ≡ t = ap (λ (x : StripeOf Kept). x.order)
+      (put_here (place_of call) (with_order t stripe) st.stripes sorted) in
       let is : t ≡ stripe.order = sym now ∙ ap (λ (r : Replica). r.order) same in
       differ (sym (stamp_below_irrefl stripe.order) ∙ ap (stamp_below stripe.order) (sym is) ∙ later)
 
@@ -139,67 +168,80 @@ module _ (block g s : ℕ) (st : StateOf Kept) (sorted : IsStrictlySortedBy plac
       part_with : List Version → Replica
       part_with vs = record { order = stripe.order; log = vs }
 
-  reacted_store : (t : Stamp) (bytes : List ℕ) → IsReacted block g s st (stored (part_in block st g s) t bytes) (Some Stored)
-      (added (g, 1, s) (version t bytes) st)
+  reacted_store : (t : Stamp) (bytes : List ℕ) → IsReacted block call st (stored (part_at block st call) t bytes) (Some Stored)
+      (added (place_of call) (version t bytes) st)
   reacted_store t bytes =
       let v = version t bytes in
       record {
         told = refl;
         boot = refl;
         groups = refl;
-        live = omega (arith, live_put (g, 1, s) (with_added v stripe) st.stripes sorted, length-append stripe.added (v ∷ []));
-        parts = λ h i.
-            subst (λ (r : Replica). part_in block (added (g, 1, s) v st) h i ≡ put (part_in block st) g (put (part_in block st g) s r) h i)
-            (log_added v) (parts_put block g s (with_added v stripe) st sorted h i);
-        views = views_put g s (with_added v stripe) st;
+        live = omega (arith, live_put (place_of call) (with_added v stripe) st.stripes sorted, length-append stripe.added (v ∷ []));
+        parts = λ h e i.
+            subst (λ (r : Replica). part_in block (added (place_of call) v st) h e i ≡ with_part (part_in block st) call r h e i)
+            (log_added v) (parts_put block call (with_added v stripe) st sorted h e i);
+        others = λ p other. put_other (place_of call) p (with_added v stripe) st.stripes other;
       }
 
-  pub store_moves : (t : Stamp) (bytes : List ℕ) → part_in block (added (g, 1, s) (version t bytes) st) g s ≡ part_in block st g s → ⊥
+  pub store_moves : (t : Stamp) (bytes : List ℕ) → part_in block (added (place_of call) (version t bytes) st) call.group.0 call.view.0 call.stripe.0 ≡ part_at block st call → ⊥
   store_moves t bytes same =
       let v = version t bytes in
-      let now = ap (part_from block) (put_here (g, 1, s) (with_added v stripe) st.stripes sorted) ∙ log_added v in
+      let now = ap (part_from block) (put_here (place_of call) (with_added v stripe) st.stripes sorted) ∙ log_added v in
       let longer : length (map as_version (log_of block stripe) ++ (as_version v ∷ [])) ≡ length (map as_version (log_of block stripe)) = ap
       (λ (r : Replica). length r.log) (sym now ∙ same) in
       omega (arith, longer, length-append (map as_version (log_of block stripe)) (as_version v ∷ []))
 
   -- ---- where there is room, and where there is none
 
-  unless_room : (records : ℕ) (part : Replica) (reaction : Reaction) → (reaction.adds ≡ true → live st ≡ records → ⊥)
-      → reaction ≡ unless_full (full_in records st) part reaction
+  -- the reaction takes more records than it gives back
+  abbrev grows : Reaction → Bool
+  grows reaction = ltb reaction.drops reaction.adds
+
+  pub unless_room : (records : ℕ) (part : Replica) (reaction : Reaction) → (grows reaction ≡ true → live st ≡ records → ⊥)
+      → reaction ≡ unless_full (full_at records (live st)) part reaction
   unless_room records part reaction free = by (eqb (live st) records) refl
     where
-      adding : (d : Bool) → reaction.adds ≡ d → live st ≡ records → reaction ≡ cond d (stays part (Full (live st))) reaction
+      adding : (d : Bool) → grows reaction ≡ d → live st ≡ records → reaction ≡ cond d (stays part (Full (live st))) reaction
       adding true adds full = absurd (free adds full)
       adding false adds full = refl
 
       by : (b : Bool) → eqb (live st) records ≡ b → reaction ≡ unless_full (cond b (Some (live st)) None) part reaction
       by false at = refl
-      by true at = adding reaction.adds refl (eqb-true (live st) records at)
+      by true at = adding (grows reaction) refl (eqb-true (live st) records at)
 
-  unless_none : (records : ℕ) (part : Replica) (reaction : Reaction) → reaction.adds ≡ true → live st ≡ records
-      → stays part (Full (live st)) ≡ unless_full (full_in records st) part reaction
+  pub unless_none : (records : ℕ) (part : Replica) (reaction : Reaction) → grows reaction ≡ true → live st ≡ records
+      → stays part (Full (live st)) ≡ unless_full (full_at records (live st)) part reaction
   unless_none records part reaction adds full = rw (eq-eqb (live st) records full) (rw adds refl)
 
   abbrev Reacts : Reaction → Option Reply → StateOf Kept → Type 0
-  Reacts reaction reply after = IsReacted block g s st reaction reply after
+  Reacts reaction reply after = IsReacted block call st reaction reply after
+
+  -- a promise takes a record where the store adds a stamp
+  one_more : (b : Bool) → ltb 0 (cond b 1 0) ≡ b
+  one_more true = refl
+  one_more false = refl
+
+  pub promise_grows : (t : Stamp) (reply : Reply) → grows (promised (part_at block st call) t reply) ≡ adds_stamp t stripe.order
+  promise_grows t reply = one_more (adds_stamp t stripe.order)
 
   pub order_made : (records : ℕ) (t : Stamp) (reply : Reply) → stamp_below stripe.order t ≡ true
-      → ((promised (part_in block st g s) t reply).adds ≡ true → live st ≡ records → ⊥)
-      → Reacts (unless_full (full_in records st) (part_in block st g s) (promised (part_in block st g s) t reply)) (Some reply)
-      (ordered (g, 1, s) t st)
+      → (adds_stamp t stripe.order ≡ true → live st ≡ records → ⊥)
+      → Reacts (unless_full (full_at records (live st)) (part_at block st call) (promised (part_at block st call) t reply)) (Some reply)
+      (ordered (place_of call) t st)
   order_made records t reply later free =
-      subst (λ (r : Reaction). Reacts r (Some reply) (ordered (g, 1, s) t st))
-      (unless_room records (part_in block st g s) (promised (part_in block st g s) t reply) free) (reacted_order t reply later)
+      subst (λ (r : Reaction). Reacts r (Some reply) (ordered (place_of call) t st))
+      (unless_room records (part_at block st call) (promised (part_at block st call) t reply) (λ grows_so. free (sym (promise_grows t reply) ∙ grows_so)))
+      (reacted_order t reply later)
 
   pub store_made : (records : ℕ) (t : Stamp) (bytes : List ℕ) → (true ≡ true → live st ≡ records → ⊥)
-      → Reacts (unless_full (full_in records st) (part_in block st g s) (stored (part_in block st g s) t bytes)) (Some Stored)
-      (added (g, 1, s) (version t bytes) st)
+      → Reacts (unless_full (full_at records (live st)) (part_at block st call) (stored (part_at block st call) t bytes)) (Some Stored)
+      (added (place_of call) (version t bytes) st)
   store_made records t bytes free =
-      subst (λ (r : Reaction). Reacts r (Some Stored) (added (g, 1, s) (version t bytes) st))
-      (unless_room records (part_in block st g s) (stored (part_in block st g s) t bytes) free) (reacted_store t bytes)
+      subst (λ (r : Reaction). Reacts r (Some Stored) (added (place_of call) (version t bytes) st))
+      (unless_room records (part_at block st call) (stored (part_at block st call) t bytes) free) (reacted_store t bytes)
 
-  pub none_made : (records : ℕ) (reaction : Reaction) → reaction.adds ≡ true → live st ≡ records
-      → Reacts (unless_full (full_in records st) (part_in block st g s) reaction) (Some (Full (live st))) st
+  pub none_made : (records : ℕ) (reaction : Reaction) → grows reaction ≡ true → live st ≡ records
+      → Reacts (unless_full (full_at records (live st)) (part_at block st call) reaction) (Some (Full (live st))) st
   none_made records reaction adds full =
-      subst (λ (r : Reaction). Reacts r (Some (Full (live st))) st) (unless_none records (part_in block st g s) reaction adds full)
-      (reacted_stays block g s (Full (live st)) st)
+      subst (λ (r : Reaction). Reacts r (Some (Full (live st))) st) (unless_none records (part_at block st call) reaction adds full)
+      (reacted_stays block call (Full (live st)) st)

@@ -1,5 +1,6 @@
 -- A reaction over what a store keeps is the step of each brick of the machine that keeps it.
-use Rattle.std.proofs.Common.{◌≡◌, ℕ, ◌+◌, Bool, true, false, ◌&&◌, cond, eqb, Option, Some, None, refl, sym, ap, subst, ◌∙◌}
+use Rattle.std.specs.Prelude.{is_some, slice_index_or}
+use Rattle.std.proofs.Common.{◌≡◌, ℕ, ◌+◌, ◌-◌, List, Bool, true, false, cond, eqb, Option, Some, None, refl, sym, ap, subst, ◌∙◌}
 use Rattle.std.specs.Option.{option_map}
 use Rattle.fab_base.specs.declared.identities.BrickId.{BrickId}
 use Rattle.messages.specs.declared.calls.Call.{Call}
@@ -7,72 +8,87 @@ use Rattle.messages.specs.declared.packets.Message.{Message}
 use Rattle.messages.specs.declared.requests.Request.{Request}
 use Rattle.messages.specs.declared.replies.Reply.{Reply}
 use Rattle.version_log.specs.Versions.{Version}
-use Rattle.brick_state.specs.States.{StateOf}
-use Rattle.fab_base.specs.Layouts.{Layout, Group, group_of, seat_in}
+use Rattle.brick_state.specs.declared.groups.Group.{Group as KeptGroup}
+use Rattle.brick_state.specs.States.{Place, StateOf, no_group, live}
+use Rattle.brick_state.specs.States.{group_at as group_of_state}
+use Rattle.fab_base.specs.declared.member_lists.View.{View}
+use Rattle.brick_store.specs.Blocks.{learnt_of, accepted_of}
+use Rattle.brick_store.specs.Bricks.{Brick}
+use Rattle.fab_base.specs.Layouts.{Layout, Group}
 use Rattle.protocol.specs.Replicas.{Replica, Reaction, handle}
-use Rattle.protocol.specs.Nodes.{Node, NodeStep, put, is_served, fits_block, requested_in, requested_at, reacted, with_replica, full_at, replica_at, no_step, reply_packets}
-use Rattle.replica.specs.Parts.{part_in, IsPartsOf}
-use Rattle.replica.specs.Reactions.{full_in, seat_served, answer_packets, IsReacted, IsStep}
+use Rattle.protocol.specs.Views.{Learnt, first_learnt}
+use Rattle.protocol.specs.Nodes.{Node, NodeStep, put, group_at, with_part, seat_served, requested_in, requested_at, reacted, with_replica, full_at, replica_at, no_step, reply_packets}
+use Rattle.replica.specs.Parts.{learnt_or, part_in, IsPartsOf, IsFirstView}
+use Rattle.replica.specs.Reactions.{part_at, answer_packets, IsReacted, IsStep}
+use Rattle.replica.specs.Calls.{part_calls, message_calls}
+use Rattle.replica.proofs.Runs.{calls_kept, replica_after}
 
 -- ---- the step of the machine
 
 module _ (layout : Layout) (me from : BrickId) (node : Node) (call : Call) (request : Request) where
   -- a request that is not void is handled by the member at its seat
-  served_is : (group : Option Group) (seat : ℕ) → seat_served layout me call request group ≡ Some seat
+  served_is : (group : Option Group) (seat : ℕ) → seat_served layout me node call request group ≡ Some seat
       → requested_in layout me from node call request group ≡ reacted me from node call
-      (handle (full_at layout.records node) seat (replica_at node call) request)
-  served_is None seat h = absurd cc
-  served_is (Some group) seat h = by (is_served group call && fits_block layout.block request) (seat_in group.members me.0) h
-    where
-      by : (b : Bool) (found : Option ℕ) → cond b found None ≡ Some seat
-          → cond b (requested_at layout.records me from node call request found) (no_step node) ≡ reacted me from node call
-          (handle (full_at layout.records node) seat (replica_at node call) request)
-      by true found at = ap (requested_at layout.records me from node call request) at
-      by false found at = absurd cc
+      (handle (full_at layout.records node.live) seat (replica_at node call) request)
+  served_is group seat h = ap (requested_at layout.records me from node call request) h
 
   -- a void one is ignored
-  void_is : (group : Option Group) → seat_served layout me call request group ≡ None
+  void_is : (group : Option Group) → seat_served layout me node call request group ≡ None
       → requested_in layout me from node call request group ≡ no_step node
-  void_is None h = refl
-  void_is (Some group) h = by (is_served group call && fits_block layout.block request) (seat_in group.members me.0) h
-    where
-      by : (b : Bool) (found : Option ℕ) → cond b found None ≡ None → cond b (requested_at layout.records me from node call request found)
-          (no_step node) ≡ no_step node
-      by true found at = ap (requested_at layout.records me from node call request) at
-      by false found at = refl
+  void_is group h = ap (requested_at layout.records me from node call request) h
 
 -- ---- a brick that keeps what the store keeps
 
--- functions that are the same everywhere are so after a change of one value
-put_same : (f k : ℕ → ℕ → Replica) → ((h t : ℕ) → f h t ≡ k h t) → (g s : ℕ) (r : Replica) (h t : ℕ) → put f g (put (f g) s r) h t ≡ put k g
-    (put (k g) s r) h t
-put_same f k same g s r h t = by (eqb h g)
+-- parts that are the same everywhere are so after a change of one of them
+put_same : (f k : ℕ → ℕ → ℕ → Replica) → ((h v t : ℕ) → f h v t ≡ k h v t) → (call : Call) (r : Replica) (h v t : ℕ)
+    → with_part f call r h v t ≡ with_part k call r h v t
+put_same f k same call r h v t = by (eqb h g)
   where
-    inside : (d : Bool) → cond d r (f g t) ≡ cond d r (k g t)
-    inside true = refl
-    inside false = same g t
+    g : ℕ
+    g = call.group.0
 
-    by : (b : Bool) → cond b (put (f g) s r) (f h) t ≡ cond b (put (k g) s r) (k h) t
-    by true = inside (eqb t s)
-    by false = same h t
+    e : ℕ
+    e = call.view.0
 
-module _ (block : ℕ) (before after : StateOf Version) (node : Node) (parts : IsPartsOf block before node) where
-  parts_after : (call : Call) (reaction : Reaction) (reply : Option Reply) → IsReacted block call.group.0 call.stripe.0 before reaction reply after
-      → IsPartsOf block after (with_replica node call reaction)
+    s : ℕ
+    s = call.stripe.0
+
+    inmost : (d : Bool) → cond d r (f g e t) ≡ cond d r (k g e t)
+    inmost true = refl
+    inmost false = same g e t
+
+    inside : (d : Bool) → cond d (put (f g e) s r) (f g v) t ≡ cond d (put (k g e) s r) (k g v) t
+    inside true = inmost (eqb t s)
+    inside false = same g v t
+
+    by : (b : Bool) → cond b (put (f g) e (put (f g e) s r)) (f h) v t ≡ cond b (put (k g) e (put (k g e) s r)) (k h) v t
+    by true = inside (eqb v e)
+    by false = same h v t
+
+module _ (layout : Layout) (before after : StateOf Version) (node : Node) (parts : IsPartsOf layout before node) where
+  parts_after : (call : Call) (reaction : Reaction) (reply : Option Reply) → IsReacted layout.block call before reaction reply after
+      → IsPartsOf layout after (with_replica node call reaction)
   parts_after call reaction reply reacted_so = record {
     boot = parts.boot ∙ sym reacted_so.boot;
-    live = ap (λ (n : ℕ). cond reaction.adds (n + 1) n) parts.live ∙ sym reacted_so.live;
-    replicas = λ h t. put_same node.replicas (part_in block before) parts.replicas call.group.0 call.stripe.0 reaction.replica h t
-        ∙ sym (reacted_so.parts h t);
+    live = ap (λ (n : ℕ). n + reaction.adds - reaction.drops) parts.live ∙ sym reacted_so.live;
+    learnt = λ g. parts.learnt g ∙ ap (λ (groups : List KeptGroup). learnt_among groups g) (sym reacted_so.groups);
+    accepted = λ g. parts.accepted g ∙ ap (λ (groups : List KeptGroup). accepted_among groups g) (sym reacted_so.groups);
+    replicas = λ h v t. put_same node.replicas (part_in layout.block before) parts.replicas call reaction.replica h v t
+        ∙ sym (reacted_so.parts h v t);
   }
+    where
+      learnt_among : List KeptGroup → ℕ → Learnt
+      learnt_among groups g = learnt_or (first_learnt layout g) (slice_index_or groups g no_group).known
+
+      accepted_among : List KeptGroup → ℕ → Bool
+      accepted_among groups g = is_some (accepted_of (slice_index_or groups g no_group))
 
   -- its reaction is that over what is kept
   same_reaction : (records seat : ℕ) (call : Call) (request : Request)
-      → handle (full_at records node) seat (replica_at node call) request ≡ handle (full_in records before) seat
-      (part_in block before call.group.0 call.stripe.0) request
+      → handle (full_at records node.live) seat (replica_at node call) request ≡ handle (full_at records (live before)) seat (part_at layout.block before call) request
   same_reaction records seat call request =
       ap (λ (n : ℕ). handle (cond (eqb n records) (Some n) None) seat (replica_at node call) request) parts.live
-      ∙ ap (λ (r : Replica). handle (full_in records before) seat r request) (parts.replicas call.group.0 call.stripe.0)
+      ∙ ap (λ (r : Replica). handle (full_at records (live before)) seat r request) (parts.replicas call.group.0 call.view.0 call.stripe.0)
 
 -- the packets of a reply are those of an answer
 reply_is : (me from : BrickId) (call : Call) (reply : Option Reply) → reply_packets me from call reply ≡ answer_packets me from
@@ -81,38 +97,65 @@ reply_is me from call None = refl
 reply_is me from call (Some reply) = refl
 
 module _ (layout : Layout) (me from : BrickId) (call : Call) (request : Request) (before : StateOf Version) where
+  -- each brick that keeps what the store keeps serves the request at this seat, or at none
+  abbrev Serves : Option ℕ → Type 0
+  Serves seat = (node : Node) → IsPartsOf layout before node → seat ≡ seat_served layout me node call request (group_at layout node call.group.0)
+
+  -- the reaction of the member at a seat
+  abbrev reaction_at : ℕ → Reaction
+  reaction_at seat = handle (full_at layout.records (live before)) seat (part_at layout.block before call) request
+
+  served_step : (seat : ℕ) → Serves (Some seat) → (node : Node) → IsPartsOf layout before node
+      → requested_in layout me from node call request (group_at layout node call.group.0) ≡ reacted me from node call (reaction_at seat)
+  served_step seat served node parts =
+      served_is layout me from node call request (group_at layout node call.group.0) seat (sym (served node parts))
+      ∙ ap (reacted me from node call) (same_reaction layout before before node parts layout.records seat call request)
+
+  void_step : Serves None → (node : Node) → IsPartsOf layout before node
+      → requested_in layout me from node call request (group_at layout node call.group.0) ≡ no_step node
+  void_step void node parts = void_is layout me from node call request (group_at layout node call.group.0) (sym (void node parts))
+
   -- the member's reaction
-  pub step_served : (seat : ℕ) → seat_served layout me call request (group_of layout call.group.0) ≡ Some seat
-      → (reply : Option Reply) (after : StateOf Version)
-      → IsReacted layout.block call.group.0 call.stripe.0 before
-      (handle (full_in layout.records before) seat (part_in layout.block before call.group.0 call.stripe.0) request) reply after
+  pub step_served : IsFirstView before → call.view.0 ≡ 1 → (seat : ℕ) → Serves (Some seat) → (reply : Option Reply) (after : StateOf Version)
+      → IsReacted layout.block call before (reaction_at seat) reply after
       → IsStep layout me from (Message.Request call request) before (option_map (λ r. Message.Reply call r) reply) after
-  step_served seat served reply after reacted_so = record {
-    packets = λ node parts. ap (λ (step : NodeStep). step.packets) (is node parts) ∙ ap (reply_packets me from call) reacted_so.told
-        ∙ reply_is me from call reply;
-    parts = λ node parts. subst (λ (step : NodeStep). IsPartsOf layout.block after step.node) (sym (is node parts))
-        (parts_after layout.block before after node parts call reaction reply reacted_so);
+  step_served first in_first seat served reply after reacted_so = record {
+    packets = λ node parts. ap (λ (step : NodeStep). step.packets) (served_step seat served node parts)
+        ∙ ap (reply_packets me from call) reacted_so.told ∙ reply_is me from call reply;
+    parts = λ node parts. subst (λ (step : NodeStep). IsPartsOf layout after step.node) (sym (served_step seat served node parts))
+        (parts_after layout before after node parts call (reaction_at seat) reply reacted_so);
     groups = reacted_so.groups;
-    views = reacted_so.views;
+    views = λ g v s other. reacted_so.others (g, v, s)
+        (λ same. other (ap (λ (p : Place). p.1) same ∙ in_first ∙ sym (learnt_first g)));
   }
     where
-      reaction : Reaction
-      reaction = handle (full_in layout.records before) seat (part_in layout.block before call.group.0 call.stripe.0) request
+      known_as : ℕ → Option (View × Bool) → KeptGroup
+      known_as g known = record { known = known; ballots = (group_of_state before g).ballots }
 
-      is : (node : Node) → IsPartsOf layout.block before node → requested_in layout me from node call request (group_of layout call.group.0)
-          ≡ reacted me from node call reaction
-      is node parts =
-          served_is layout me from node call request (group_of layout call.group.0) seat served
-          ∙ ap (reacted me from node call) (same_reaction layout.block before before node parts layout.records seat call request)
+      learnt_first : (g : ℕ) → learnt_of (group_of_state before g) ≡ 1
+      learnt_first g = ap (λ (known : Option (View × Bool)). learnt_of (known_as g known)) (first g)
 
   -- no reaction
-  pub step_void : seat_served layout me call request (group_of layout call.group.0) ≡ None
-      → IsStep layout me from (Message.Request call request) before None before
+  pub step_void : Serves None → IsStep layout me from (Message.Request call request) before None before
   step_void void = record {
-    packets = λ node parts. ap (λ (step : NodeStep). step.packets)
-        (void_is layout me from node call request (group_of layout call.group.0) void);
-    parts = λ node parts. subst (λ (step : NodeStep). IsPartsOf layout.block before step.node)
-        (sym (void_is layout me from node call request (group_of layout call.group.0) void)) parts;
+    packets = λ node parts. ap (λ (step : NodeStep). step.packets) (void_step void node parts);
+    parts = λ node parts. subst (λ (step : NodeStep). IsPartsOf layout before step.node) (sym (void_step void node parts)) parts;
     groups = refl;
     views = λ h v t other. refl;
   }
+
+  -- how many calls that makes
+  module _ {D : Type 0} (store : Brick D) (node : Node) (parts : IsPartsOf layout before node) where
+    abbrev changed_by : NodeStep → ℕ
+    changed_by step = part_calls store (replica_at node call) (replica_at step.node call)
+
+    pub calls_served : (seat : ℕ) → Serves (Some seat)
+        → message_calls layout me from store node (Message.Request call request)
+        ≡ part_calls store (part_at layout.block before call) (reaction_at seat).replica
+    calls_served seat served =
+        ap changed_by (served_step seat served node parts)
+        ∙ ap (part_calls store (replica_at node call)) (replica_after node call (reaction_at seat))
+        ∙ ap (λ (r : Replica). part_calls store r (reaction_at seat).replica) (parts.replicas call.group.0 call.view.0 call.stripe.0)
+
+    pub calls_void : Serves None → message_calls layout me from store node (Message.Request call request) ≡ 0
+    calls_void void = ap changed_by (void_step void node parts) ∙ calls_kept store (replica_at node call)

@@ -39,7 +39,7 @@ pub record Runs {D : Type 0} (tells : Type 0) (may_leave : D → List ℕ → Ty
 
 -- the parts of all stripes are as they were
 abbrev pub KeepsParts : ℕ → StateOf Version → StateOf Version → Type 0
-KeepsParts block old new = (g s : ℕ) → part_in block new g s ≡ part_in block old g s
+KeepsParts block old new = (g e s : ℕ) → part_in block new g e s ≡ part_in block old g e s
 
 -- The call makes an answer and a state that follow, the state whole or not at all, or is refused.
 pub record Handles {D A : Type 0} (tells : Type 0) (seen : D → List ℕ) (may_leave : D → List ℕ → Type 0) (moment : D → ℕ)

@@ -2,3 +2,4 @@ pub mod Parts
 pub mod Plans
 pub mod Reactions
 pub mod Handling
+pub mod Calls

@@ -1,21 +1,23 @@
 //! Messages to a brick's part of a stripe.
 
-ghost use Rattle.std.specs.Prelude.{◌≡◌, ◌≢◌, ◌<◌, ◌≤◌, Err, IsSome, IsTrue, length};
+ghost use Rattle.std.specs.Prelude.{◌≡◌, ◌≢◌, ◌<◌, ◌≤◌, true, Err, IsSome, IsTrue, length};
 ghost use Rattle.brick_store.specs.declared.faults.StoreFault.TheVariants as faults;
+ghost use Rattle.brick_state.specs.States.{live};
 ghost use Rattle.frame_store.specs.Layouts.{shape_of};
-ghost use Rattle.fab_base.specs.Layouts.{seat_in, group_of};
-ghost use Rattle.protocol.specs.Nodes.{is_served, fits_block};
+ghost use Rattle.fab_base.specs.Layouts.{seat_in};
+ghost use Rattle.protocol.specs.Nodes.{Node, view_at, group_at, is_served, fits_block, full_at, seat_served};
 ghost use Rattle.messages.specs.declared.packets.Message.TheVariants as message;
-ghost use Rattle.replica.specs.Parts.{part_in, IsFirstView};
+ghost use Rattle.replica.specs.Parts.{IsPartsOf, IsFirstView};
 ghost use Rattle.replica.specs.Plans.{planned, IsChange};
-ghost use Rattle.replica.specs.Reactions.{full_in, seat_served, IsReacted, IsStep};
+ghost use Rattle.replica.specs.Reactions.{part_at, IsReacted, IsStep};
 ghost use Rattle.replica.specs.Handling.{Handles, Runs, answered, me_of, seen_as};
+ghost use Rattle.replica.specs.Calls.{part_calls, message_calls, RunsAs};
 
 use crate::faults::ReplicaFault;
 use crate::members::decide;
 use crate::plans::Plan;
 use brick_store::{BrickStore, StoreFault};
-use fab_base::{BrickId, GroupId, StripeNo, ViewNo};
+use fab_base::{BrickId, ViewNo};
 use fab_disk::Disk;
 use layout::{Group, Layout};
 use messages::{Call, Message, Reply, Request};
@@ -43,37 +45,43 @@ fn answered(reply: Reply, answer: Result<(), StoreFault>) -> Result<Option<Reply
 // Keeps what is planned, and then replies.
 fn carry_out<D: Disk>(
     store: &mut BrickStore<D>,
-    group: GroupId,
-    stripe: StripeNo,
+    call: Call,
     plan: Plan,
 ) -> Result<Option<Reply>, ReplicaFault>
-    requires group { group.0 < 64 }
+    requires group { call.group.0 < 64 }
+    requires first { call.view.0 ≡ 1 }
     requires view { IsFirstView store.old.state }
     requires runs { Runs D.tells D.may_leave store.old }
-    requires change { IsChange store.old.shape.block (part_in store.old.shape.block store.old.state group.0 stripe.0) plan }
-    ensures { Handles D.tells D.seen D.may_leave D.moment D.left_since D.faults D.sound
-        (IsReacted store.old.shape.block group.0 stripe.0 store.old.state
-        (planned (full_in store.old.shape.records store.old.state)
-        (part_in store.old.shape.block store.old.state group.0 stripe.0) plan)) store.old store.new result }
+    requires change { IsChange store.old.shape.block (part_at store.old.shape.block store.old.state call) plan }
+    ensures handles { Handles D.tells D.seen D.may_leave D.moment D.left_since D.faults D.sound
+        (IsReacted store.old.shape.block call store.old.state
+        (planned (full_at store.old.shape.records (live store.old.state))
+        (part_at store.old.shape.block store.old.state call) plan)) store.old store.new result }
+    ensures run { RunsAs D.tells D.moment D.plan D.unlisted
+        (part_calls store.old (part_at store.old.shape.block store.old.state call)
+        (planned (full_at store.old.shape.records (live store.old.state)) (part_at store.old.shape.block store.old.state call) plan).replica)
+        store.old store.new result }
 {
+    let (group, view, stripe) = (call.group, call.view, call.stripe);
     match plan {
         Plan::Ignore => Ok(None),
         Plan::Tell(reply) => Ok(Some(reply)),
         Plan::Promise(stamp, reply) => {
-            answered(reply, store.set_order(group, FIRST_VIEW, stripe, stamp))
+            answered(reply, store.set_order(group, view, stripe, stamp))
         }
         Plan::Store(stamp, block) => {
-            let answer = store.add_version(group, FIRST_VIEW, stripe, stamp, Some(block));
+            let answer = store.add_version(group, view, stripe, stamp, Some(block));
             answered(Reply::Stored, answer)
         }
     }
 }
 
-// Whether a call is of a stripe that the group has, in its first view.
-fn is_served(group: &Group, call: Call) -> bool
-    ensures { result ≡ is_served group.now call }
+// Whether a call is of a stripe that the group has, in its first view, while no list of members was accepted to follow that.
+fn is_served(group: &Group, accepted: bool, call: Call) -> bool
+    ensures served { (node : Node) → view_at node call.group.0 ≡ 1 → node.accepted call.group.0 ≡ accepted → result ≡ is_served group.now node call }
+    ensures first { result ≡ true → call.view.0 ≡ 1 }
 {
-    call.stripe.0 < group.stripes() && call.view.0 == FIRST_VIEW.0
+    call.stripe.0 < group.stripes() && call.view.0 == FIRST_VIEW.0 && !accepted
 }
 
 // Whether what a request stores has the length of a block.
@@ -90,17 +98,26 @@ fn fits_block(block: u16, request: &Request) -> bool
 }
 
 // The seat of the brick, where the request is not void.
-fn seat_served(layout: &Layout, me: BrickId, call: Call, request: &Request) -> Option<u8>
-    ensures seat { result ≡ seat_served layout.now me call request.now (group_of layout.now call.group.0) }
+fn seat_served<D: Disk>(
+    store: &BrickStore<D>,
+    layout: &Layout,
+    call: Call,
+    request: &Request,
+) -> Option<u8>
+    requires { IsFirstView store.now.state }
+    ensures seat { (node : Node) → IsPartsOf layout.now store.now.state node
+        → result ≡ seat_served layout.now (me_of store.now) node call request.now (group_at layout.now node call.group.0) }
     ensures group { IsSome result → call.group.0 < 64 }
+    ensures first { IsSome result → call.view.0 ≡ 1 }
     ensures fits { IsSome result → IsTrue (fits_block layout.now.block request.now) }
 {
     // Both calls only tell limits: a layout has at most 64 groups, and a group at most 32 seats.
     let _ = layout.group_count();
     let group = layout.group(call.group)?;
     let _ = group.policy();
-    if is_served(group, call) && fits_block(layout.block(), request) {
-        group.seat_of(me)
+    let accepted = store.accepted(call.group).is_some();
+    if is_served(group, accepted, call) && fits_block(layout.block(), request) {
+        group.seat_of(store.me())
     } else {
         None
     }
@@ -123,7 +140,9 @@ fn answer(
 /// Does what a brick of the machine does with a message as a member of a group: its answer to the sender, if there is one. A message that
 /// is no request, or is a request of a stripe that the brick does not serve, has none.
 ///
-/// The answer is made only once what it promises is kept. A message that changes nothing makes no call of the disk.
+/// The answer is made only once what it promises is kept. A message that changes nothing makes no call of the disk; one that changes the
+/// order stamp makes four of `write_at` and `sync`, one that stores a version five, and either seven more where the list of frames is
+/// rewritten first, for want of room.
 ///
 /// # Errors
 /// [`ReplicaFault::Halted`]: an earlier call of the store answered Disk. [`ReplicaFault::Disk`]: the disk failed, and the store is
@@ -137,8 +156,11 @@ pub fn handle<D: Disk>(
 ) -> Result<Option<Message>, ReplicaFault>
     requires shape { store.old.shape ≡ shape_of store.old.shape.me layout.now.block layout.now.records }
     requires view { IsFirstView store.old.state }
-    ensures { Handles D.tells D.seen D.may_leave D.moment D.left_since D.faults D.sound
+    ensures handles { Handles D.tells D.seen D.may_leave D.moment D.left_since D.faults D.sound
         (IsStep layout.now (me_of store.old) from message.now store.old.state) store.old store.new result }
+    // Under a plan, the call that it names is reached exactly where the message makes so many.
+    ensures run { (node : Node) → IsPartsOf layout.now store.old.state node → RunsAs D.tells D.moment D.plan D.unlisted
+        (message_calls layout.now (me_of store.old) from store.old node message.now) store.old store.new result }
 {
     // A member answers whoever asks.
     let _ = from;
@@ -148,10 +170,10 @@ pub fn handle<D: Disk>(
     let Message::Request(call, request) = message else {
         return Ok(None);
     };
-    let Some(seat) = seat_served(layout, store.me(), *call, request) else {
+    let Some(seat) = seat_served(store, layout, *call, request) else {
         return Ok(None);
     };
-    let part = store.state(call.group, FIRST_VIEW, call.stripe);
+    let part = store.state(call.group, call.view, call.stripe);
     let plan = decide(alloc, seat, layout.block(), &part, request)?;
-    answer(*call, carry_out(store, call.group, call.stripe, plan))
+    answer(*call, carry_out(store, *call, plan))
 }

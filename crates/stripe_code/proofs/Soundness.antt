@@ -179,6 +179,6 @@ pub coding_is_sound : (layout : Layout) → IsLayout layout → IsSound (coding 
 coding_is_sound layout is = record {
   limits = λ g group here. (is.each g group here).limits;
   distinct = λ g group here. (is.each g group here).distinct;
-  decodes = λ g group here. any_blocks_decode group.m (length group.members) layout.block (is.each g group here).limits;
-  zero_blocks = λ g group seat here. zero_block group.m layout.block seat;
+  decodes = λ m n limits. any_blocks_decode m n layout.block limits;
+  zero_blocks = λ m n seat limits. zero_block m layout.block seat;
 }

@@ -16,8 +16,8 @@ returns-clause-next c =
     let version = c.in-Some.version in
     let told : all_tell version op.state.counted ≡ true = c.in-Some.ensures.all in
     let fast : Some version ≡ fast_version op.state.counted = c.in-Some.ensures.value in
-    let content : c.in_ok-content.content ≡ decoded op.group.m op.block (pieces_of op.state.counted) =
-    c.in_ok-content.ensures.value ∙ ap (decoded op.group.m op.block) (all_pieces version op.state.counted told) in
+    let content : c.in_ok-content.content ≡ decoded op.state.group.m op.block (pieces_of op.state.counted) =
+    c.in_ok-content.ensures.value ∙ ap (decoded op.state.group.m op.block) (all_pieces version op.state.counted told) in
     c.end_look.ensures.next
     ∙ ap (λ (z : List ℕ). Ends (Data z) (Some version) None) content
-    ∙ ap (answered_fast (block_code op.block) op.group.m op.state) fast
+    ∙ ap (answered_fast (block_code op.block) op.state) fast

@@ -14,9 +14,9 @@ decode-requires-clause-seats c =
     let m_is : c.m-m.result ≡ inside.group.m = c.m-m.ensures.value ∙ c.policy.ensures.m in
     let few : length inside.group.members ≤ 32 = omega (arith, c.policy.ensures.limits.few_seats) in
     let needed : inside.group.m ≤ length (pieces_at v inside.replies.list.items) = subst
-    (λ (op : Operation). op.group.m ≤ length (pieces_at v op.state.counted)) (sym c.self.view_is) c.requires in
+    (λ (op : Operation). op.state.group.m ≤ length (pieces_at v op.state.counted)) (sym c.self.view_is) c.requires in
     let enough : c.m-m.result ≤ length (pieces_at v inside.replies.list.items) = omega (arith, needed, m_is) in
-    (give_back _ _ _ v _ _ _ c.self.invariant.0 few enough
+    (give_back _ _ v _ _ _ c.self.invariant.0 few enough
     (c.deref.ensures.value ∙ c.in_ok-seats.ensures ∙ ap (λ counted. seats_of (pieces_at v counted)) c.as_slice.ensures)
     (c.deref-2.ensures.value ∙ c.in_ok-blocks.ensures ∙ ap (λ counted. blocks_of (pieces_at v counted)) c.as_slice-2.ensures)).at_seats
 
@@ -27,9 +27,9 @@ decode-requires-clause-long c =
     let m_is : c.m-m.result ≡ inside.group.m = c.m-m.ensures.value ∙ c.policy.ensures.m in
     let few : length inside.group.members ≤ 32 = omega (arith, c.policy.ensures.limits.few_seats) in
     let needed : inside.group.m ≤ length (pieces_at v inside.replies.list.items) = subst
-    (λ (op : Operation). op.group.m ≤ length (pieces_at v op.state.counted)) (sym c.self.view_is) c.requires in
+    (λ (op : Operation). op.state.group.m ≤ length (pieces_at v op.state.counted)) (sym c.self.view_is) c.requires in
     let enough : c.m-m.result ≤ length (pieces_at v inside.replies.list.items) = omega (arith, needed, m_is) in
-    (give_back _ _ _ v _ _ _ c.self.invariant.0 few enough
+    (give_back _ _ v _ _ _ c.self.invariant.0 few enough
     (c.deref.ensures.value ∙ c.in_ok-seats.ensures ∙ ap (λ counted. seats_of (pieces_at v counted)) c.as_slice.ensures)
     (c.deref-2.ensures.value ∙ c.in_ok-blocks.ensures ∙ ap (λ counted. blocks_of (pieces_at v counted)) c.as_slice-2.ensures)).long
 
@@ -43,22 +43,22 @@ returns-clause-value c =
     let m_is : c.m-m.result ≡ inside.group.m = c.m-m.ensures.value ∙ c.policy.ensures.m in
     let few : length inside.group.members ≤ 32 = omega (arith, c.policy.ensures.limits.few_seats) in
     let needed : inside.group.m ≤ length (pieces_at v inside.replies.list.items) = subst
-    (λ (op : Operation). op.group.m ≤ length (pieces_at v op.state.counted)) (sym c.self.view_is) c.requires in
+    (λ (op : Operation). op.state.group.m ≤ length (pieces_at v op.state.counted)) (sym c.self.view_is) c.requires in
     let enough : c.m-m.result ≤ length (pieces_at v inside.replies.list.items) = omega (arith, needed, m_is) in
-    let back = give_back _ _ _ v _ _ _ c.self.invariant.0 few enough
+    let back = give_back _ _ v _ _ _ c.self.invariant.0 few enough
     (c.deref.ensures.value ∙ c.in_ok-seats.ensures ∙ ap (λ counted. seats_of (pieces_at v counted)) c.as_slice.ensures)
     (c.deref-2.ensures.value ∙ c.in_ok-blocks.ensures ∙ ap (λ counted. blocks_of (pieces_at v counted)) c.as_slice-2.ensures) in
     IfOk-weaker c.decode.result _ _
     (λ content is.
     is _ back.first
     ∙ ap (λ m. decoded m inside.block (pieces_at v inside.replies.list.items)) m_is
-    ∙ ap (λ (op : Operation). decoded op.group.m op.block (pieces_at v op.state.counted)) c.self.view_is)
+    ∙ ap (λ (op : Operation). decoded op.state.group.m op.block (pieces_at v op.state.counted)) c.self.view_is)
     c.decode.ensures
 
 pub returns-clause-long : goal.returns-clause-long
 returns-clause-long c =
     let now = c.args.self.now in
     let v = c.args.version in
-    IfOk-weaker c.decode.result (λ content. content ≡ decoded now.group.m now.block (pieces_at v now.state.counted)) _
-    (λ content is. ap length is ∙ length-decoded now.group.m now.block (pieces_at v now.state.counted))
+    IfOk-weaker c.decode.result (λ content. content ≡ decoded now.state.group.m now.block (pieces_at v now.state.counted)) _
+    (λ content is. ap length is ∙ length-decoded now.state.group.m now.block (pieces_at v now.state.counted))
     (returns-clause-value c)

@@ -9,24 +9,24 @@ use Rattle.coord_phase.proofs.operations.Operation.count.Goals as goal
 
 pub push-requires-clause-within : goal.push-requires-clause-within
 push-requires-clause-within c =
-    let told = subst (λ (op : Operation). counts_at op.block op.group op.state c.args.from.0 c.in-Reply.call c.in-Reply.reply ≡ Some c.in-Some.seat)
+    let told = subst (λ (op : Operation). counts_at op.block op.state c.args.from.0 c.in-Reply.call c.in-Reply.reply ≡ Some c.in-Some.seat)
     (sym c.self.view_is) (sym c.in-Some.ensures.seat) in
-    let facts = counts_facts _ _ _ c.args.from.0 c.in-Reply.call c.in-Reply.reply c.in-Some.seat told in
+    let facts = counts_facts _ _ c.args.from.0 c.in-Reply.call c.in-Reply.reply c.in-Some.seat told in
     omega (arith, c.self.invariant.1.n, seat_within c.self.inside.group c.args.from.0 c.in-Some.seat facts.seat_is)
 
 pub push-requires-clause-first : goal.push-requires-clause-first
 push-requires-clause-first c =
-    let told = subst (λ (op : Operation). counts_at op.block op.group op.state c.args.from.0 c.in-Reply.call c.in-Reply.reply ≡ Some c.in-Some.seat)
+    let told = subst (λ (op : Operation). counts_at op.block op.state c.args.from.0 c.in-Reply.call c.in-Reply.reply ≡ Some c.in-Some.seat)
     (sym c.self.view_is) (sym c.in-Some.ensures.seat) in
-    (counts_facts _ _ _ c.args.from.0 c.in-Reply.call c.in-Reply.reply c.in-Some.seat told).first
+    (counts_facts _ _ c.args.from.0 c.in-Reply.call c.in-Reply.reply c.in-Some.seat told).first
 
 pub invariant_of-self-2 : goal.invariant_of-self-2
 invariant_of-self-2 c =
-    let told = subst (λ (op : Operation). counts_at op.block op.group op.state c.args.from.0 c.in-Reply.call c.in-Reply.reply ≡ Some c.in-Some.seat)
+    let told = subst (λ (op : Operation). counts_at op.block op.state c.args.from.0 c.in-Reply.call c.in-Reply.reply ≡ Some c.in-Some.seat)
     (sym c.self.view_is) (sym c.in-Some.ensures.seat) in
     let pushed = c.in_ok-push.ensures.counted in
     let copied = c.in_ok-copy.ensures in (
-      rw pushed (rw copied (one_more_reply _ _ _ c.args.from c.in-Reply.call c.in-Reply.reply c.in-Some.seat c.self.invariant.0 told)),
+      rw pushed (rw copied (one_more_reply _ _ c.args.from c.in-Reply.call c.in-Reply.reply c.in-Some.seat c.self.invariant.0 told)),
       record {
         n = c.in_ok-push.ensures.n ∙ c.self.invariant.1.n;
         q = c.in_ok-push.ensures.q ∙ c.self.invariant.1.q;

@@ -6,6 +6,6 @@ use Rattle.coord_phase.proofs.operations.Operation.messages.Goals as goal
 
 pub loop-seat-preserved-then-has_reply : goal.loop-seat-preserved-then-has_reply
 loop-seat-preserved-then-has_reply c =
-    let within : c.loop-seat.seat < length c.args.self.now.group.members = search rules in
+    let within : c.loop-seat.seat < length c.args.self.now.state.group.members = search rules in
     let replied : has_seat c.loop-seat.seat c.args.self.now.state.counted ≡ true = search rules in
     silent_passed _ _ _ _ _ _ _ within replied c.loop-seat.invariant

@@ -5,7 +5,7 @@ use Rattle.coord_phase.proofs.operations.Operation.take_back.Goals as goal
 
 pub invariant_of-self : goal.invariant_of-self
 invariant_of-self c = (
-  rw c.take_back.ensures.list (fewer_replies _ _ _ _ c.self.invariant.0),
+  rw c.take_back.ensures.list (fewer_replies _ _ _ c.self.invariant.0),
   record {
     n = c.take_back.ensures.n ∙ c.self.invariant.1.n;
     q = c.take_back.ensures.q ∙ c.self.invariant.1.q;

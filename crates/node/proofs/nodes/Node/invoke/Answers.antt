@@ -1,12 +1,16 @@
 -- The open calls begin what the brick does.
-use Rattle.std.proofs.Common.{◌≡◌, Some, None, sym, ◌∙◌, ap, subst}
-use Rattle.protocol.specs.Nodes.{Node, refusal_of, invoked}
+use Rattle.std.proofs.Common.{◌≡◌, true, length, Some, None, sym, ◌∙◌, ap, subst}
+use Rattle.fab_base.specs.declared.member_lists.View.{View}
+use Rattle.fab_base.specs.Layouts.{Group}
+use Rattle.quorum.specs.Quorums.{IsWithinLimits}
+use Rattle.protocol.specs.Nodes.{Node, refusal_of, invoked, began_in, coordinator_in, has_length}
 use Rattle.stripe_code.specs.Codes.{coding}
-use Rattle.node.specs.States.{parts_in, BeginsAs}
+use Rattle.coord_phase.specs.Operations.{group_in_view}
+use Rattle.node.specs.States.{KeptParts, state_with, parts_in, BeginsAs}
 use Rattle.node.specs.Running.{Running, running, state_of}
 use Rattle.node.proofs.Views.{seen_so}
 use Rattle.node.proofs.States.{on_err}
-use Rattle.node.proofs.Steps.{begins_so, stays_so}
+use Rattle.node.proofs.Steps.{begins_so, stays_so, group_in_first_view}
 use Rattle.node.proofs.nodes.Node.invoke.Goals as goal
 
 pub returns-in-Err-clause-refused : goal.returns-in-Err-clause-refused
@@ -14,7 +18,7 @@ returns-in-Err-clause-refused g c =
     let x = c.self.inside in
     subst (λ (n : Running g.row.D.Denot). refusal_of n.layout (state_of n) c.args.ask.now ≡ Some c.in-Err.refusal) c.self.view_is
     (ap (λ (s : Node). refusal_of x.layout s c.args.ask.now) (seen_so x.layout x.calls x.store c.self.invariant.boot)
-    ∙ sym (c.in-Err.ensures.refused (parts_in x.layout.block x.store.state)))
+    ∙ sym (c.in-Err.ensures.refused (parts_in x.layout x.store.state)))
 
 pub returns-in_err-begin-clause-err : goal.returns-in_err-begin-clause-err
 returns-in_err-begin-clause-err g c =
@@ -28,14 +32,39 @@ returns-clause-refused g c =
     let x = c.self.inside in
     subst (λ (n : Running g.row.D.Denot). refusal_of n.layout (state_of n) c.args.ask.now ≡ None) c.self.view_is
     (ap (λ (s : Node). refusal_of x.layout s c.args.ask.now) (seen_so x.layout x.calls x.store c.self.invariant.boot)
-    ∙ sym (c.in-Ok.ensures.refused (parts_in x.layout.block x.store.state)))
+    ∙ sym (c.in-Ok.ensures.refused (parts_in x.layout x.store.state)))
+
+pub begin-requires-clause-limits : goal.begin-requires-clause-limits
+begin-requires-clause-limits g c =
+    let x = c.self.inside in
+    let group = c.in-Ok.group.now in
+    let is : group_in_view x.layout c.first_view-view.result.members c.args.ask.now.group.0 ≡ group =
+    ap (λ (view : View). group_in_view x.layout view.members c.args.ask.now.group.0) c.first_view-view.ensures.view
+    ∙ group_in_first_view x.layout c.args.ask.now.group.0 group c.in-Ok.ensures.group in
+    subst (λ (view : View). IsWithinLimits (group_in_view x.layout view.members c.args.ask.now.group.0).m (length view.members))
+    (sym c.first_view-view.ensures.view)
+    (subst (λ (k : Group). IsWithinLimits k.m (length group.members))
+    (sym (group_in_first_view x.layout c.args.ask.now.group.0 group c.in-Ok.ensures.group)) c.first_view-view.ensures.limits)
+
+pub begin-requires-clause-fits : goal.begin-requires-clause-fits
+begin-requires-clause-fits g c =
+    let x = c.self.inside in
+    let group = c.in-Ok.group.now in
+    let is : group_in_view x.layout c.first_view-view.result.members c.args.ask.now.group.0 ≡ group =
+    ap (λ (view : View). group_in_view x.layout view.members c.args.ask.now.group.0) c.first_view-view.ensures.view
+    ∙ group_in_first_view x.layout c.args.ask.now.group.0 group c.in-Ok.ensures.group in
+    subst (λ (k : Group). has_length k.m x.layout.block c.args.ask.now.op ≡ true) (sym is) c.in-Ok.ensures.fits
 
 pub returns-clause-begun : goal.returns-clause-begun
 returns-clause-begun g c =
     let x = c.self.inside in
+    let begun = subst (λ (view : View). (parts : KeptParts) → BeginsAs x.calls.me (state_with parts c.begin.new.self)
+    (began_in (coding x.layout) x.calls.me (state_with parts x.calls)
+    (coordinator_in (group_in_view x.layout view.members c.args.ask.now.group.0) view.number x.calls.me c.args.now (state_with parts x.calls) c.args.ask.now))
+    c.in_ok-begin.field-0) c.first_view-view.ensures.view c.in_ok-begin.ensures.begun in
     subst
     (λ (n : Running g.row.D.Denot). BeginsAs n.me (state_of (running x.layout c.begin.new.self x.store))
     (invoked (coding n.layout) n.me c.args.now (state_of n) c.args.ask.now) c.in_ok-begin.field-0)
     c.self.view_is
     (begins_so x.layout x.calls c.begin.new.self x.store c.self.invariant.boot c.args.now c.args.ask.now c.in-Ok.group.now c.in_ok-begin.field-0
-    c.in_ok-begin.ensures.boot c.in-Ok.ensures.group c.in_ok-begin.ensures.begun)
+    c.in_ok-begin.ensures.boot c.self.invariant.first c.in-Ok.ensures.group begun)

@@ -17,5 +17,5 @@ returns-clause-durable g c =
 pub returns-clause-kept : goal.returns-clause-kept
 returns-clause-kept g c =
     let x = c.self.inside in
-    subst (λ (n : Running g.row.D.Denot). IsKept n.layout.block n.brick.state (state_of n)) c.self.view_is
+    subst (λ (n : Running g.row.D.Denot). IsKept n.layout n.brick.state (state_of n)) c.self.view_is
     (kept_so x.layout x.calls x.store c.self.invariant)

@@ -1,13 +1,33 @@
 -- The open calls do what the brick does.
-use Rattle.std.proofs.Common.{List, ℕ, ◌∙◌, ap, subst}
+use Rattle.std.proofs.Common.{List, ℕ, sym, ◌∙◌, ap, subst}
 use Rattle.protocol.specs.Nodes.{replied}
 use Rattle.stripe_code.specs.Codes.{coding}
 use Rattle.node.specs.States.{StepsAs}
-use Rattle.node.specs.Running.{Running, running, state_of, ImageShows}
+use Rattle.node.specs.Running.{Running, running, state_of, shape_at, ImageShows}
 use Rattle.node.proofs.Views.{still_shows}
 use Rattle.node.proofs.States.{on_err}
 use Rattle.node.proofs.Steps.{steps_so, stays_so}
 use Rattle.node.proofs.nodes.Node.on_reply.Goals as goal
+
+pub invariant_of-self : goal.invariant_of-self
+invariant_of-self g c =
+    let is = c.self.invariant in
+    record {
+      shape_is = is.shape_is ∙ ap (shape_at c.self.inside.layout) (sym c.on_reply.ensures.me);
+      boot = c.on_reply.ensures.boot ∙ is.boot;
+      first = is.first;
+      open_calls = c.on_reply.ensures.node c.self.inside.layout is.open_calls;
+    }
+
+pub invariant_of-self-2 : goal.invariant_of-self-2
+invariant_of-self-2 g c =
+    let is = c.self.invariant in
+    record {
+      shape_is = is.shape_is ∙ ap (shape_at c.self.inside.layout) (sym c.on_reply.ensures.me);
+      boot = c.on_reply.ensures.boot ∙ is.boot;
+      first = is.first;
+      open_calls = c.on_reply.ensures.node c.self.inside.layout is.open_calls;
+    }
 
 pub returns-in_err-on_reply-clause-err : goal.returns-in_err-on_reply-clause-err
 returns-in_err-on_reply-clause-err g c =
@@ -33,7 +53,7 @@ returns-clause-step g c =
     c.self.view_is
     (steps_so x.layout x.calls c.on_reply.new.self x.store c.self.invariant.boot
     (λ s. replied (coding x.layout) x.calls.me c.args.now c.args.packet.now.from s c.args.call c.args.reply.now) c.in_ok-on_reply.field-0
-    c.in_ok-on_reply.ensures.boot c.in_ok-on_reply.ensures.step)
+    c.in_ok-on_reply.ensures.boot (c.in_ok-on_reply.ensures.step x.layout c.self.invariant.open_calls))
 
 pub returns-clause-shown : goal.returns-clause-shown
 returns-clause-shown g c =

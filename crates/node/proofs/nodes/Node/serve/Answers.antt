@@ -1,12 +1,15 @@
 -- What follows of the store is what the machine's brick does.
-use Rattle.std.proofs.Common.{◌≡◌, false, inl, sym, ◌∙◌, ap, subst}
+use Rattle.std.proofs.Common.{◌≡◌, false, inl, Err, refl, sym, ◌∙◌, ap, subst}
+use Rattle.std.proofs.lemmas.Result.{err_from_is_err_and}
 use Rattle.fab_base.specs.declared.identities.BrickId.{BrickId}
 use Rattle.fab_disk.specs.Disk.{IsUntouched, LeavesOnly}
+use Rattle.fab_disk.proofs.Plans.{run_whole}
 use Rattle.frame_store.specs.declared.shapes.Shape.{Shape}
-use Rattle.protocol.specs.declared.tellings.Told.TheVariants.{Nothing}
 use Rattle.coord_phase.specs.Messages.{packets_from}
 use Rattle.replica.specs.Reactions.{IsStep, member_step}
 use Rattle.replica.specs.Handling.{OpensAsEither, KeepsParts}
+use Rattle.node.specs.declared.faults.NodeFault.{NodeFault}
+use Rattle.node.specs.Outcomes.{Outcome}
 use Rattle.node.specs.States.{StepsAs}
 use Rattle.node.specs.Running.{Running, running, state_of, ShowsEither, LeavesBrick, KeepsUnseen}
 use Rattle.node.proofs.Views.{kept_so, leaves_so, same_kept}
@@ -14,6 +17,7 @@ use Rattle.node.proofs.Moments.{leaves_more, leaves_still}
 use Rattle.node.proofs.States.{on_err}
 use Rattle.node.proofs.Sent.{answered_is}
 use Rattle.node.proofs.Requests.{is_me, first_view_after, follows_state, follows_boot, follows_packets, follows_told, follows_shown}
+use Rattle.node.proofs.Runs.{run_refused, run_shown}
 use Rattle.node.proofs.nodes.Node.serve.Goals as goal
 
 pub returns-in_err-room-clause-moments : goal.returns-in_err-room-clause-moments
@@ -26,7 +30,7 @@ pub returns-in_err-answer-clause-err : goal.returns-in_err-answer-clause-err
 returns-in_err-answer-clause-err g c =
     let x = c.self.inside in
     on_err _
-    (same_kept x.layout x.calls x.store c.handle.new.store c.in_err-answer.ensures.refused
+    (same_kept x.layout x.calls x.store c.handle.new.store c.in_err-answer.ensures.handles.refused
     ∙ ap (λ (n : Running g.row.D.Denot). state_of n) c.self.view_is)
 
 pub returns-in_err-answer-clause-moments : goal.returns-in_err-answer-clause-moments
@@ -41,7 +45,7 @@ returns-in_err-answer-clause-moments g c = λ told.
     let runs : old.halted ≡ false = ap (λ (n : Running g.row.D.Denot). n.brick.halted) c.self.view_is ∙ c.requires.runs in
     let moved = subst (λ (me : BrickId). LeavesOnly d.moment d.left_since old.disk new.disk
     (OpensAsEither old.shape old.state (IsStep x.layout me from message old.state)))
-    (is_me x.layout x.calls old from message shape) (c.in_err-answer.ensures.any_moment told runs) in
+    (is_me x.layout x.calls old from message shape) (c.in_err-answer.ensures.handles.any_moment told runs) in
     subst
     (λ (n : Running g.row.D.Denot). LeavesOnly d.moment d.left_since n.brick.disk new.disk
     (ShowsEither n.layout n.me (state_of n) (member_step n.layout n.me from (state_of n) message).node))
@@ -52,7 +56,7 @@ returns-in_err-answer-clause-moments g c = λ told.
 pub invariant_of-self-2 : goal.invariant_of-self-2
 invariant_of-self-2 g c =
     let x = c.self.inside in
-    let h = c.in_ok-answer.ensures in
+    let h = c.in_ok-answer.ensures.handles in
     let is = subst (λ (me : BrickId). IsStep x.layout me c.args.from c.args.message.now x.store.state c.in_ok-answer.answer c.handle.new.store.state)
     (is_me x.layout x.calls x.store c.args.from c.args.message.now c.self.invariant.shape_is) h.ok in
     record {
@@ -70,15 +74,17 @@ returns-clause-step g c =
     let answer = c.in_ok-answer.answer in
     let new = c.handle.new.store in
     let is = subst (λ (me : BrickId). IsStep x.layout me from message x.store.state answer new.state)
-    (is_me x.layout x.calls x.store from message c.self.invariant.shape_is) c.in_ok-answer.ensures.ok in
+    (is_me x.layout x.calls x.store from message c.self.invariant.shape_is) c.in_ok-answer.ensures.handles.ok in
     subst
     (λ (n : Running g.row.D.Denot). StepsAs n.me (state_of (running x.layout x.calls new))
-    (member_step n.layout n.me from (state_of n) message) (record { messages = c.answer_messages.result; told = Nothing }))
+    (member_step n.layout n.me from (state_of n) message) c.sending.result)
     c.self.view_is
     (record {
-      packets = ap (packets_from x.calls.me) c.answer_messages.ensures.items ∙ answered_is x.calls.me from answer
+      packets = ap (λ (outs : Outcome). packets_from x.calls.me outs.messages) c.sending.ensures
+          ∙ ap (packets_from x.calls.me) c.answer_messages.ensures.items ∙ answered_is x.calls.me from answer
           ∙ sym (follows_packets x.layout x.calls x.store from message new.state answer is);
-      told = follows_told x.layout x.calls x.store from message;
+      told = ap (λ (outs : Outcome). outs.told) c.sending.ensures ∙ (follows_told x.layout x.calls x.store from message).0;
+      answers = ap (λ (outs : Outcome). outs.answers) c.sending.ensures ∙ (follows_told x.layout x.calls x.store from message).1;
       state_is = follows_state x.layout x.calls x.store from message new answer is;
     })
 
@@ -86,7 +92,7 @@ pub returns-clause-durable : goal.returns-clause-durable
 returns-clause-durable g c = λ told.
     let d = g.D.Disk in
     let x = c.self.inside in
-    let h = c.in_ok-answer.ensures in
+    let h = c.in_ok-answer.ensures.handles in
     let new = c.handle.new.store in
     subst (λ (n : Running g.row.D.Denot). LeavesBrick n.layout n.me (state_of (running x.layout x.calls new)) (d.may_leave new.disk)) c.self.view_is
     (leaves_so x.layout x.calls.me (state_of (running x.layout x.calls new)) new (d.may_leave new.disk) (h.shape ∙ c.self.invariant.shape_is)
@@ -104,7 +110,7 @@ returns-clause-moments g c = λ told.
     let runs : old.halted ≡ false = ap (λ (n : Running g.row.D.Denot). n.brick.halted) c.self.view_is ∙ c.requires.runs in
     let moved = subst (λ (me : BrickId). LeavesOnly d.moment d.left_since old.disk new.disk
     (OpensAsEither old.shape old.state (IsStep x.layout me from message old.state)))
-    (is_me x.layout x.calls old from message shape) (c.in_ok-answer.ensures.any_moment told runs) in
+    (is_me x.layout x.calls old from message shape) (c.in_ok-answer.ensures.handles.any_moment told runs) in
     subst
     (λ (n : Running g.row.D.Denot). LeavesOnly d.moment d.left_since n.brick.disk new.disk
     (ShowsEither n.layout n.me (state_of n) (member_step n.layout n.me from (state_of n) message).node))
@@ -114,7 +120,7 @@ returns-clause-moments g c = λ told.
 
 pub returns-clause-unseen : goal.returns-clause-unseen
 returns-clause-unseen g c =
-    let is = c.in_ok-answer.ensures.ok in
+    let is = c.in_ok-answer.ensures.handles.ok in
     subst (λ (n : Running g.row.D.Denot). KeepsUnseen n.brick.state c.handle.new.store.state) c.self.view_is (record { groups = is.groups; views = is.views })
 
 pub returns-clause-still : goal.returns-clause-still
@@ -124,5 +130,23 @@ returns-clause-still g c =
     let new = c.handle.new.store in
     subst (λ (n : Running g.row.D.Denot). KeepsParts n.layout.block n.brick.state new.state → (new.state ≡ n.brick.state)
     × IsUntouched d.seen d.may_leave d.moment d.left_since n.brick.disk new.disk) c.self.view_is
-    (λ same. c.in_ok-answer.ensures.still
+    (λ same. c.in_ok-answer.ensures.handles.still
     (subst (λ (s : Shape). KeepsParts s.block x.store.state new.state) (sym c.self.invariant.shape_is) same))
+
+pub returns-in_err-answer-clause-run : goal.returns-in_err-answer-clause-run
+returns-in_err-answer-clause-run g c =
+    let d = g.D.Disk in
+    let x = c.self.inside in
+    let fault = err_from_is_err_and c.from_residual-in_err-answer.result c.from_residual-in_err-answer.ensures.1 in
+    run_refused d.tells d.moment d.plan d.unlisted _ _ _ c.args.self.now.brick.disk c.handle.new.store.disk c.in_err-answer.field-0.0 _
+    (fault.1 ∙ ap (λ (e : NodeFault). Err e) fault.2)
+    (run_shown d.tells d.moment d.plan d.unlisted x.layout x.calls c.args.from c.args.message.now x.store c.handle.new.store c.args.self.now _ _
+    c.self.view_is c.self.invariant c.in_err-answer.ensures.run)
+
+pub returns-clause-run : goal.returns-clause-run
+returns-clause-run g c =
+    let d = g.D.Disk in
+    let x = c.self.inside in
+    run_whole d.tells d.moment d.plan d.unlisted _ c.args.self.now.brick.disk c.handle.new.store.disk _ _ _ _ refl refl (λ h. absurd cc)
+    (run_shown d.tells d.moment d.plan d.unlisted x.layout x.calls c.args.from c.args.message.now x.store c.handle.new.store c.args.self.now _ _
+    c.self.view_is c.self.invariant c.in_ok-answer.ensures.run)

@@ -2,16 +2,21 @@
 use Rattle.std.proofs.Common.{◌≡◌, ◌+◌, inr, refl, sym, ◌∙◌, ap, subst}
 use Rattle.fab_base.specs.declared.identities.BrickId.{BrickId}
 use Rattle.fab_disk.specs.Disk.{LeavesOnly}
+use Rattle.fab_disk.proofs.Plans.{run_as, run_whole}
 use Rattle.frame_store.specs.declared.shapes.Shape.{Shape}
+use Rattle.frame_store.specs.Images.{IsNoStore}
 use Rattle.frame_store.specs.Layouts.{shape_of}
 use Rattle.version_log.specs.Versions.{Version}
 use Rattle.brick_state.specs.States.{StateOf, booted}
+use Rattle.brick_store.specs.declared.faults.StoreFault.{StoreFault}
 use Rattle.brick_store.specs.Images.{IsFound, StandsFor, StandsForEither}
 use Rattle.brick_store.specs.Openings.{IsAllowedOr}
 use Rattle.replica.specs.Parts.{IsFirstView}
+use Rattle.node.specs.Calls.{RunsAsOpening}
 use Rattle.node.specs.Running.{running, state_of, shape_at, reopened}
 use Rattle.node.proofs.Views.{kept_so, leaves_so}
 use Rattle.node.proofs.Starts.{restarts_so, opening_shows, all_shown}
+use Rattle.node.proofs.Runs.{opens_some}
 use Rattle.node.proofs.nodes.Node.start.Goals as goal
 
 pub returns-in-Err-clause-moments_err : goal.returns-in-Err-clause-moments_err
@@ -154,3 +159,43 @@ returns-clause-any_moment g c = λ told before all.
     let shows = all (d.seen disk) (g.met.D.Disk.seen_is_left disk) in
     all_shown d.moment d.left_since layout me before (reopened before) (d.may_leave disk) disk c.in-Ok.store.disk all
     (returns-clause-moments g c told before shows)
+
+pub returns-in-Err-clause-run_err : goal.returns-in-Err-clause-run_err
+returns-in-Err-clause-run_err g c = λ told frames closed opens.
+    let d = g.D.Disk in
+    let disk = c.args.disk in
+    let layout = c.args.layout in
+    let me = c.args.me in
+    let same : shape_of me.0 c.block.result c.records.result ≡ shape_at layout me = λ i. shape_of me.0 (c.block.ensures i)
+    (c.records.ensures.value i) in
+    let last = c.in-Err.refused.1 in
+    let run = subst (λ (s : Shape). RunsAsOpening d.tells d.seen d.moment d.plan d.unlisted s disk last ⊥ (c.in-Err.refused.0 ≡ StoreFault.Disk)) same
+    c.in-Err.ensures.run_err told frames closed opens in
+    run_as d.tells d.moment d.plan d.unlisted _ disk last _ _ _ _
+    (λ is. opens_some (shape_at layout me) frames closed (d.seen disk) opens
+    (subst (λ (s : Shape). IsNoStore s (d.seen disk)) same (c.in-Err.ensures.not_a_store is told)))
+    (λ is. is) (λ a b. run.waits (λ h. h) b) run
+
+pub returns-then-not-is_first_view-clause-run_err : goal.returns-then-not-is_first_view-clause-run_err
+returns-then-not-is_first_view-clause-run_err g c = λ told frames closed opens.
+    let d = g.D.Disk in
+    let disk = c.args.disk in
+    let layout = c.args.layout in
+    let me = c.args.me in
+    let same : shape_of me.0 c.block.result c.records.result ≡ shape_at layout me = λ i. shape_of me.0 (c.block.ensures i)
+    (c.records.ensures.value i) in
+    let last = c.into_disk.result in
+    let opened = subst
+    (λ (end : g.row.D.Denot). RunsAsOpening d.tells d.seen d.moment d.plan d.unlisted (shape_of me.0 c.block.result c.records.result) disk end (Unit {0}) ⊥)
+    (sym c.into_disk.ensures.disk) c.in-Ok.ensures.run in
+    run_whole d.tells d.moment d.plan d.unlisted _ disk last (Unit {0}) ⊥ _ _ tt refl (λ h. absurd cc)
+    (subst (λ (s : Shape). RunsAsOpening d.tells d.seen d.moment d.plan d.unlisted s disk last (Unit {0}) ⊥) same opened told frames closed opens)
+
+pub returns-clause-run : goal.returns-clause-run
+returns-clause-run g c =
+    let d = g.D.Disk in
+    let layout = c.args.layout in
+    let me = c.args.me in
+    let same : shape_of me.0 c.block.result c.records.result ≡ shape_at layout me = λ i. shape_of me.0 (c.block.ensures i)
+    (c.records.ensures.value i) in
+    subst (λ (s : Shape). RunsAsOpening d.tells d.seen d.moment d.plan d.unlisted s c.args.disk c.in-Ok.store.disk (Unit {0}) ⊥) same c.in-Ok.ensures.run

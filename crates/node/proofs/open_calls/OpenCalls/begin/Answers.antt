@@ -1,22 +1,22 @@
 -- The new operation is the machine's, and its number was free.
-use Rattle.std.proofs.Common.{◌≡◌, ◌+◌, Some, None, [], length, refl, sym, ◌∙◌, ap, subst, arith}
+use Rattle.std.proofs.Common.{◌≡◌, ◌+◌, Some, length, refl, sym, ◌∙◌, ap, subst, arith}
 use Rattle.std.specs.Option.{is_some, option_map}
 use Rattle.std.specs.Ordering.{nat_cmp}
 use Rattle.std.specs.BTreeMap.{get, btree_map_len}
-use Rattle.fab_base.specs.declared.asks.Ask.{Ask}
+use Rattle.fab_base.specs.declared.identities.CallId.{CallId}
 use Rattle.fab_base.specs.declared.stamps.Stamp.{Stamp}
-use Rattle.fab_base.specs.Layouts.{Group}
 use Rattle.protocol.specs.Coordinators.{Coordinator}
-use Rattle.protocol.specs.Nodes.{put, new_stamp, phase_packets, first_phase, new_coordinator}
+use Rattle.protocol.specs.Nodes.{put, new_stamp, phase_packets, coordinator_in}
 use Rattle.stripe_code.specs.Codes.{coding}
 use Rattle.coord_phase.specs.Operations as phased
+use Rattle.coord_phase.specs.Operations.{group_in_view}
+use Rattle.coord_stripe.specs.StripeOps.{first_op}
 use Rattle.node.specs.declared.operations.Operation.{Operation}
-use Rattle.node.specs.Operations.{shown_of, coordinator_of}
+use Rattle.node.specs.Operations.{coordinator_of}
 use Rattle.node.specs.States.{KeptParts, state_with, IsAt}
 use Rattle.node.proofs.States.{same_states, on_err}
 use Rattle.node.proofs.Tables.{shown_after, same_calls, each_after, each_same, one_more}
 use Rattle.node.proofs.Sent.{made_is}
-use Rattle.node.proofs.Answered.{group_in_first_view}
 use Rattle.node.proofs.open_calls.OpenCalls.begin.Goals as goal
 
 pub returns-in_err-insert-clause-err : goal.returns-in_err-insert-clause-err
@@ -30,7 +30,7 @@ returns-in_err-insert-clause-err c =
       calls = λ k. option_map coordinator_of
           (get nat_cmp n k);
     } ≡ state_with parts c.args.self.now =
-    λ parts. same_states _ _ refl refl refl (ap length entries) refl (λ g s. refl) (λ k. ap (option_map coordinator_of) (same_calls m n entries k)) in
+    λ parts. same_states _ _ refl refl refl (ap length entries) refl (λ g. refl) (λ g. refl) (λ g e s. refl) (λ k. ap (option_map coordinator_of) (same_calls m n entries k)) in
     on_err _ same
 
 pub returns-in_err-insert-clause-node : goal.returns-in_err-insert-clause-node
@@ -41,39 +41,27 @@ pub returns-clause-begun : goal.returns-clause-begun
 unfolding state_with
 returns-clause-begun c = λ parts.
     let layout = c.args.layout.now in
-    let group = c.args.group.now in
+    let view = c.args.view in
     let me = c.args.self.now.me in
     let before = state_with parts c.args.self.now in
     let m = c.args.self.now.operations in
     let n = c.insert.new.self in
     let seq = c.args.self.now.seq + 1 in
     let operation : Operation = c.in_ok-operation.operation in
-    let stamp : c.in-Some.stamp ≡ new_stamp me c.args.now before.boot before.known =
-    made_is me c.args.now before.boot before.known c.in-Some.stamp c.requires.known (sym c.fresh_stamp.ensures ∙ c.in-Some.is) in
-    let same : coordinator_of operation ≡ new_coordinator me c.args.now before c.args.ask.now =
-    ap (λ (op : phased.Operation). op.state) c.in_ok-operation.ensures.operation ∙ (λ i. record {
-      ask = c.in_ok-copy.ensures i;
-      stamp = stamp i;
-      round = 1;
-      base = None;
-      content = [];
-      call = record { boot = c.args.self.now.stamps.boot; seq = seq; phase = 1; group = (c.in_ok-copy.ensures i).group; view = record { 0 = 1 }; stripe = (c.in_ok-copy.ensures i).stripe };
-      phase = first_phase (c.in_ok-copy.ensures i).op;
-      counted = [];
-    }) in
-    let group_is : (shown_of operation).group ≡ group =
-    ap (λ (op : phased.Operation). op.group) c.in_ok-operation.ensures.operation
-    ∙ ap (λ (ask : Ask). phased.group_in_view layout group.members ask.group.0) c.in_ok-copy.ensures
-    ∙ group_in_first_view layout c.args.ask.now.group.0 group c.requires.group in
+    let stamp : c.in-Some.stamp ≡ new_stamp me view.number c.args.now before.boot before.known =
+    made_is me view.number c.args.now before.boot before.known c.in-Some.stamp c.requires.known (sym c.fresh_stamp.ensures ∙ c.in-Some.is) in
+    let call : CallId = record { boot = c.args.self.now.stamps.boot; seq = seq } in
+    let same : coordinator_of operation
+    ≡ coordinator_in (group_in_view layout view.members c.args.ask.now.group.0) view.number me c.args.now before c.args.ask.now =
+    ap (λ (op : phased.Operation). op.state) c.in_ok-operation.ensures.operation
+    ∙ (λ i. (first_op layout view call (c.in_ok-copy.ensures i) (stamp i)).state) in
     let absent = ap is_some c.in_ok-insert.ensures.old ∙ c.args.self.now.fresh seq (omega arith) in
     record {
-      packets = c.in_ok-operation.ensures.sends me
-          ∙ ap (λ (g : Group). phase_packets (coding layout) g me (coordinator_of operation)) group_is
-          ∙ ap (λ (k : Coordinator). phase_packets (coding layout) group me k) same;
+      packets = c.in_ok-operation.ensures.sends me ∙ ap (phase_packets (coding layout) me) same;
       seq = refl;
       state_is = same_states _ _ refl refl (ap (λ (t : Stamp). t.time) stamp)
           (one_more c.in_ok-insert.field-0 (btree_map_len m) (btree_map_len n) absent c.in_ok-insert.ensures.len)
-          refl (λ g s. refl)
+          refl (λ g. refl) (λ g. refl) (λ g e s. refl)
           (λ k. shown_after coordinator_of m n seq (Some operation) c.in_ok-insert.ensures.updates.0 k
           ∙ ap (λ (o : Coordinator). put (λ j. option_map coordinator_of (get nat_cmp m j)) seq (Some o) k) same);
     }
@@ -84,7 +72,10 @@ returns-clause-node c =
     let operation : Operation = c.in_ok-operation.operation in
     let seq = c.args.self.now.seq + 1 in
     let at : IsAt layout seq operation =
-    record { seq = ap (λ (op : phased.Operation). op.state.call.seq) c.in_ok-operation.ensures.operation; is_operation = c.in_ok-operation.ensures.kept } in
+    record {
+      seq = ap (λ (op : phased.Operation). op.state.call.seq) c.in_ok-operation.ensures.operation;
+      is_operation = ap (λ (op : phased.Operation). op.block) c.in_ok-operation.ensures.operation;
+    } in
     each_after (λ k (op : Operation). IsAt layout k op) c.args.self.now.operations c.insert.new.self seq
     (Some operation) c.in_ok-insert.ensures.updates.0 c.requires.node
     (λ op is. let same : operation ≡ op = cc in subst (λ (o : Operation). IsAt layout seq o) same at)

@@ -1,68 +1,99 @@
 -- What the operation did with the message is carried out.
-use Rattle.std.proofs.Common.{◌≡◌, length, ap, sym, ◌∙◌, subst, arith}
-use Rattle.messages.specs.declared.turns.Next.{Next}
+use Rattle.std.proofs.Common.{◌≡◌, ◌≤◌, length, vec_capacity, refl, ap, sym, ◌∙◌, subst, arith}
+use Rattle.messages.specs.declared.turns.Next.TheVariants.{Wait, Send, End}
 use Rattle.fab_base.specs.Layouts.{Group}
 use Rattle.protocol.specs.Coordinators as machine
-use Rattle.coord_phase.specs.Decisions.{decision, seen_in}
-use Rattle.node.specs.Operations.{shown_of}
-use Rattle.node.specs.Decisions.{BeginsPhase, EndsSo, GoesOnBy, CarriesOut}
-use Rattle.node.proofs.GoingOn.{waits_out, begins_out, ends_out, count_of_phase, few_collects}
+use Rattle.protocol.specs.declared.phases.Phase.TheVariants.{Stores}
+use Rattle.coord_phase.specs.Decisions.{begins_in, seen_in}
+use Rattle.coord_phase.specs.Messages.{packets_from}
+use Rattle.node.specs.Operations.{shown_of, coordinator_of}
+use Rattle.node.specs.Outcomes.{Outcome}
+use Rattle.node.specs.Decisions.{or_waits, CarriesOut}
+use Rattle.node.proofs.Answered.{answers_as, waits_so, or_waits-begins, decided_if_busy, follows_if_busy, begins_so, begun_note}
+use Rattle.node.proofs.Resending.{phase_sent, few_again}
+use Rattle.node.proofs.GoingOn.{waits_out, begins_out, ends_out, few_collects, collects_more}
 use Rattle.node.proofs.operations.Operation.on_reply.Goals as goal
 
 pub returns-in-Wait-clause-step : goal.returns-in-Wait-clause-step
-returns-in-Wait-clause-step c =
-    let layout = c.args.layout.now in
+returns-in-Wait-clause-step c = λ layout of.
     let before = c.args.self.now in
     let after = c.take_reply.new.self in
-    let is = c.in_ok-take_reply.ensures in
-    let decided = ap (decision (shown_of after)) (sym c.in-Wait.is) ∙ is.decided in
-    subst (λ (next : machine.Next). CarriesOut layout before after c.args.stamps.now.known c.args.stamps.now.known next c.nothing.result) decided
-    (waits_out layout before after c.args.stamps.now.known c.nothing.result
-    (subst (λ (next : Next). GoesOnBy layout before after next) c.in-Wait.is is.kept) c.nothing.ensures.messages c.nothing.ensures.told)
+    let known = c.args.stamps.now.known in
+    let is = answers_as c.args.fresh (shown_of before) c.args.from c.args.message.now _ Wait (shown_of after) c.in-Wait.is
+    c.in_ok-take_reply.ensures.answers in
+    let waits = waits_so c.args.fresh (shown_of before) c.args.from c.args.message.now (shown_of after) is in
+    subst (λ (next : machine.Next). CarriesOut layout before after known known next c.nothing.result) waits.0
+    (subst (λ (outs : Outcome). CarriesOut layout before after known known (machine.Waits (coordinator_of after)) outs) (sym c.nothing.ensures)
+    (waits_out layout before after is.stays.block known waits.1))
+
+pub begin_phase-requires : goal.begin_phase-requires
+begin_phase-requires c =
+    begun_note c.args.fresh (shown_of c.args.self.now) c.args.from c.args.message.now (Send c.in-Send.messages) (shown_of c.take_reply.new.self)
+    (λ wrong. wrong)
+    (answers_as c.args.fresh (shown_of c.args.self.now) c.args.from c.args.message.now _ (Send c.in-Send.messages) (shown_of c.take_reply.new.self)
+    c.in-Send.is c.in_ok-take_reply.ensures.answers) refl
 
 pub returns-in-Send-clause-step : goal.returns-in-Send-clause-step
-returns-in-Send-clause-step c =
-    let layout = c.args.layout.now in
+returns-in-Send-clause-step c = λ layout of.
     let before = c.args.self.now in
     let after = c.take_reply.new.self in
-    let is = c.in_ok-take_reply.ensures in
-    let decided = ap (decision (shown_of after)) (sym c.in-Send.is) ∙ is.decided in
-    let begins : BeginsPhase layout before after c.in-Send.messages.items = subst (λ (next : Next). GoesOnBy layout before after next) c.in-Send.is is.kept in
-    subst (λ (next : machine.Next). CarriesOut layout before after c.args.stamps.now.known c.begin_phase.new.stamps.known next c.begin_phase.result) decided
-    (begins_out layout before after c.args.stamps.now.known c.begin_phase.new.stamps.known c.in-Send.messages.items c.begin_phase.result begins
-    (ap (λ messages. messages.items) c.begin_phase.ensures.messages) c.begin_phase.ensures.told c.begin_phase.ensures.known)
+    let was = coordinator_of before in
+    let d = coordinator_of after in
+    let known = c.args.stamps.now.known in
+    let later = c.begin_phase.new.stamps.known in
+    let is = answers_as c.args.fresh (shown_of c.args.self.now) c.args.from c.args.message.now _ (Send c.in-Send.messages) (shown_of c.take_reply.new.self)
+    c.in-Send.is c.in_ok-take_reply.ensures.answers in
+    let begins = begins_so d.phase was d
+    (follows_if_busy c.args.fresh (shown_of before) c.args.from c.args.message.now (Send c.in-Send.messages) (shown_of after) (λ wrong. wrong) is) in
+    let decided = sym (or_waits-begins was d d.phase)
+    ∙ ap (or_waits was) (sym (decided_if_busy c.args.fresh (shown_of before) c.args.from c.args.message.now (Send c.in-Send.messages) (shown_of after)
+    (λ wrong. wrong) is)) in
+    subst (λ (next : machine.Next). CarriesOut layout before after known later next c.begin_phase.result) decided
+    (subst (λ (outs : Outcome). CarriesOut layout before after known later (begins_in d.phase d) outs) (sym c.begin_phase.ensures.outs)
+    (begins_out layout before after is.stays.block known later c.in-Send.messages.items
+    (λ me. ap (packets_from me) is.sent ∙ phase_sent layout (shown_of after) me (is.stays.block ∙ of) begins.counted) begins.call
+    c.begin_phase.ensures.known))
 
 pub returns-in-Send-clause-few : goal.returns-in-Send-clause-few
 returns-in-Send-clause-few c =
-    let layout = c.args.layout.now in
-    let before = c.args.self.now in
-    let after = c.take_reply.new.self in
-    let begins : BeginsPhase layout before after c.in-Send.messages.items =
-    subst (λ (next : Next). GoesOnBy layout before after next) c.in-Send.is c.in_ok-take_reply.ensures.kept in
-    let count = count_of_phase layout after c.in-Send.messages.items begins.sends in
-    let same = ap (λ (group : Group). length group.members) begins.goes_on.group in
-    let sent : length c.begin_phase.result.messages.items ≡ length c.in-Send.messages.items = ap (λ messages. length messages.items) c.begin_phase.ensures.messages in
-    omega (arith, c.room_to_collect.ensures.few)
+    let is = answers_as c.args.fresh (shown_of c.args.self.now) c.args.from c.args.message.now _ (Send c.in-Send.messages) (shown_of c.take_reply.new.self)
+    c.in-Send.is c.in_ok-take_reply.ensures.answers in
+    let same = ap (λ (group : Group). length group.members) is.stays.group in
+    let few = few_again (shown_of c.take_reply.new.self) c.in-Send.messages.items is.sent (omega (arith, c.room_to_collect.ensures.few, same)) in
+    let sent = ap (λ (outs : Outcome). length outs.messages) c.begin_phase.ensures.outs in
+    omega arith
+
+pub end-requires-clause-room : goal.end-requires-clause-room
+end-requires-clause-room c =
+    let before = shown_of c.args.self.now in
+    let after = shown_of c.take_reply.new.self in
+    let is = answers_as c.args.fresh (shown_of c.args.self.now) c.args.from c.args.message.now _ (End c.in-End.answer) (shown_of c.take_reply.new.self)
+    c.in-End.is c.in_ok-take_reply.ensures.answers in
+    let stored = follows_if_busy c.args.fresh before c.args.from c.args.message.now (End c.in-End.answer) after (λ wrong. wrong) is in
+    collects_more after.made (before.state.phase ≡ Stores) (length after.state.group.members ≤ vec_capacity c.in_ok-room.room)
+    (λ stores. subst (λ (group : Group). length group.members ≤ vec_capacity c.in_ok-room.room) (sym is.stays.group) (c.in_ok-room.ensures.room stores)) stored
 
 pub returns-in-End-clause-step : goal.returns-in-End-clause-step
-returns-in-End-clause-step c =
-    let layout = c.args.layout.now in
+returns-in-End-clause-step c = λ layout of.
     let before = c.args.self.now in
     let after = c.take_reply.new.self in
-    let is = c.in_ok-take_reply.ensures in
-    let decided = ap (decision (shown_of after)) (sym c.in-End.is) ∙ is.decided in
-    let ends : EndsSo before after = subst (λ (next : Next). GoesOnBy layout before after next) c.in-End.is is.kept in
-    subst (λ (next : machine.Next). CarriesOut layout before after c.args.stamps.now.known c.args.stamps.now.known next c.end.result) decided
-    (ends_out layout before after c.args.stamps.now.known c.call-call.result c.in-End.answer (seen_in (shown_of after).note) (shown_of after).made
-    c.end.result ends.group c.call-call.ensures c.end.ensures.messages c.end.ensures.told)
+    let known = c.args.stamps.now.known in
+    let is = answers_as c.args.fresh (shown_of c.args.self.now) c.args.from c.args.message.now _ (End c.in-End.answer) (shown_of c.take_reply.new.self)
+    c.in-End.is c.in_ok-take_reply.ensures.answers in
+    let seen = seen_in (shown_of after).note in
+    let stored = (shown_of after).made in
+    let decided = ap (or_waits (coordinator_of before)) (sym (decided_if_busy c.args.fresh (shown_of before) c.args.from c.args.message.now
+    (End c.in-End.answer) (shown_of after) (λ wrong. wrong) is)) in
+    subst (λ (next : machine.Next). CarriesOut layout before after known known next c.end.result) decided
+    (subst (λ (outs : Outcome). CarriesOut layout before after known known (machine.Ends c.in-End.answer seen stored) outs) (sym c.end.ensures)
+    (ends_out layout before after is.stays.block known c.call-call.result c.in-End.answer seen stored is.stays.group c.call-call.ensures))
 
 pub returns-in-End-clause-few : goal.returns-in-End-clause-few
 returns-in-End-clause-few c =
-    let before = c.args.self.now in
     let after = c.take_reply.new.self in
-    let ends : EndsSo before after =
-    subst (λ (next : Next). GoesOnBy c.args.layout.now before after next) c.in-End.is c.in_ok-take_reply.ensures.kept in
-    let same = ap (λ (group : Group). length group.members) ends.group in
-    let sent = ap length c.end.ensures.messages in
-    let few = few_collects c.call-call.result (shown_of after).made (shown_of after).group.members in
-    omega (arith, c.room_to_collect.ensures.few)
+    let is = answers_as c.args.fresh (shown_of c.args.self.now) c.args.from c.args.message.now _ (End c.in-End.answer) (shown_of c.take_reply.new.self)
+    c.in-End.is c.in_ok-take_reply.ensures.answers in
+    let same = ap (λ (group : Group). length group.members) is.stays.group in
+    let sent = ap (λ (outs : Outcome). length outs.messages) c.end.ensures in
+    let few = few_collects c.call-call.result (shown_of after).made (coordinator_of after).group.members in
+    omega (arith, c.room_to_collect.ensures.few, same)

@@ -1,0 +1,75 @@
+-- How many calls of the disk a step of a brick makes, from those of its store.
+use Rattle.std.proofs.Common.{◌≡◌, ℕ, List, Bool, Result, Err, refl, sym, subst}
+use Rattle.std.specs.Prelude.{IsOk}
+use Rattle.fab_base.specs.declared.identities.BrickId.{BrickId}
+use Rattle.fab_base.specs.Layouts.{Layout}
+use Rattle.fab_disk.specs.declared.disk.Plan.{Plan}
+use Rattle.fab_disk.specs.Plan.{IsRun}
+use Rattle.fab_disk.proofs.Plans.{run_as}
+use Rattle.frame_store.specs.declared.frames.Frame.{Frame}
+use Rattle.frame_store.specs.declared.shapes.Shape.{Shape}
+use Rattle.frame_store.specs.declared.shapes.Half.{Half}
+use Rattle.frame_store.specs.declared.shapes.Half.TheVariants.{A, B}
+use Rattle.frame_store.specs.Images.{InForce, OpensAs, IsNoStore}
+use Rattle.messages.specs.declared.packets.Message.{Message}
+use Rattle.brick_store.specs.Bricks.{Brick}
+use Rattle.replica.specs.declared.faults.ReplicaFault.{ReplicaFault}
+use Rattle.replica.specs.declared.faults.ReplicaFault.TheVariants as replica
+use Rattle.replica.specs.Calls.{message_calls}
+use Rattle.replica.specs.Parts.{IsPartsOf}
+use Rattle.replica.specs.Handling.{me_of}
+use Rattle.protocol.specs.Nodes.{Node}
+use Rattle.node.specs.declared.faults.NodeFault.{NodeFault}
+use Rattle.node.specs.declared.faults.NodeFault.TheVariants.{Disk}
+use Rattle.node.specs.declared.open_calls.OpenCalls.{OpenCalls}
+use Rattle.node.specs.Faults.{fault_of}
+use Rattle.node.specs.Running.{Running, running, state_of, IsBrickOf}
+use Rattle.node.proofs.Views.{kept_so}
+use Rattle.node.proofs.Requests.{is_me}
+
+-- where an image opens, there is a store
+pub opens_some : (shape : Shape) (frames : List Frame) (closed : Bool) (image : List ℕ) → OpensAs shape frames closed image
+    → IsNoStore shape image → ⊥
+opens_some shape frames closed image opens none = by opens.half opens.in_force
+  where
+    by : (half : Half) → InForce shape half image → ⊥
+    by A is = none.first is.0
+    by B is = none.second is.0
+
+-- an answer of the store that is a fault, and one of the brick
+abbrev refused : (T : Type 0) → ReplicaFault → Result T ReplicaFault
+refused T fault = Err fault
+
+abbrev failed : (T : Type 0) → NodeFault → Result T NodeFault
+failed T fault = Err fault
+
+module _ {D : Type 0} (tells : Type 0) (moment : D → ℕ) (plan : D → Plan) (unlisted : D → Type 0) where
+  -- the brick's run of calls is that of its store, where that was refused
+  pub run_refused : (T Q : Type 0) (calls : ℕ) (old new : D) (fault : ReplicaFault) (answer : Result T NodeFault) → answer ≡ failed T (fault_of fault)
+      → IsRun tells moment plan unlisted calls old new (IsOk (refused Q fault)) (refused Q fault ≡ Err replica.Disk)
+      → IsRun tells moment plan unlisted calls old new (IsOk answer) (answer ≡ Err Disk)
+  run_refused T Q calls old new fault answer is run =
+      subst (λ (r : Result T NodeFault). IsRun tells moment plan unlisted calls old new (IsOk r) (r ≡ Err Disk)) (sym is) (by fault run)
+    where
+      by : (fault : ReplicaFault) → IsRun tells moment plan unlisted calls old new (IsOk (refused Q fault)) (refused Q fault ≡ Err replica.Disk)
+          → IsRun tells moment plan unlisted calls old new (IsOk (failed T (fault_of fault))) (failed T (fault_of fault) ≡ Err Disk)
+      by replica.Disk run = run_as tells moment plan unlisted calls old new _ _ _ _ (λ h. absurd cc) (λ h. refl) (λ a b. absurd (b refl)) run
+      by replica.Halted run =
+          run_as tells moment plan unlisted calls old new _ _ _ _ (λ h. absurd cc) (λ h. absurd cc) (λ a b. run.waits (λ h. absurd cc) (λ h. absurd cc)) run
+      by replica.NoMemory run =
+          run_as tells moment plan unlisted calls old new _ _ _ _ (λ h. absurd cc) (λ h. absurd cc) (λ a b. run.waits (λ h. absurd cc) (λ h. absurd cc)) run
+
+  -- the store's run of calls, for the machine's brick that it shows, is the brick's
+  pub run_shown : (layout : Layout) (calls : OpenCalls) (from : BrickId) (message : Message) (old new : Brick D) (node : Running D) (W C : Type 0)
+      → running layout calls old ≡ node → IsBrickOf layout old.shape old.state calls
+      → ((machine : Node) → IsPartsOf layout old.state machine
+      → IsRun tells moment plan unlisted (message_calls layout (me_of old) from old machine message) old.disk new.disk W C)
+      → IsRun tells moment plan unlisted (message_calls node.layout node.me from node.brick (state_of node) message) node.brick.disk new.disk W C
+  run_shown layout calls from message old new node W C is brick run =
+      let shown = running layout calls old in
+      let made = run (state_of shown) (kept_so layout calls old brick).parts in
+      subst
+      (λ (n : Running D). IsRun tells moment plan unlisted (message_calls n.layout n.me from n.brick (state_of n) message) n.brick.disk new.disk W C)
+      is
+      (subst (λ (me : BrickId). IsRun tells moment plan unlisted (message_calls layout me from old (state_of shown) message) old.disk new.disk W C)
+      (is_me layout calls old from message brick.shape_is) made)

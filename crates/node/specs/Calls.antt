@@ -1,0 +1,22 @@
+-- How many calls of the disk's `write_at` and `sync` a step of a brick makes.
+use Rattle.std.specs.Prelude.{ℕ, List, Bool}
+use Rattle.fab_disk.specs.declared.disk.Plan.{Plan}
+use Rattle.fab_disk.specs.Plan.{IsRun}
+use Rattle.messages.specs.declared.packets.Packet.{Packet}
+use Rattle.frame_store.specs.declared.frames.Frame.{Frame}
+use Rattle.frame_store.specs.declared.shapes.Shape.{Shape}
+use Rattle.frame_store.specs.Images.{OpensAs}
+use Rattle.brick_store.specs.Calls.{opening_calls}
+use Rattle.brick_store.specs.Openings.{opens_appendable}
+use Rattle.replica.specs.Calls.{message_calls}
+use Rattle.node.specs.Running.{Running, state_of}
+
+-- so many calls keep what a packet makes a brick change: those of its store for a request that it serves, and none for any other message
+abbrev pub packet_calls : {D : Type 0} → Running D → Packet → ℕ
+packet_calls node packet = message_calls node.layout node.me packet.from node.brick (state_of node) packet.message
+
+-- The opening of the store that a disk holds is a run of five calls, or of twelve where its list of frames can't be appended to.
+abbrev pub RunsAsOpening : {D : Type 0} → Type 0 → (D → List ℕ) → (D → ℕ) → (D → Plan) → (D → Type 0) → Shape → D → D → Type 0 → Type 0 → Type 0
+RunsAsOpening tells seen moment plan unlisted shape old new whole cut =
+    tells → (frames : List Frame) (closed : Bool) → OpensAs shape frames closed (seen old)
+    → IsRun tells moment plan unlisted (opening_calls (opens_appendable shape frames closed)) old new whole cut
