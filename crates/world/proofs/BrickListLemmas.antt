@@ -9,18 +9,18 @@ use Rattle.std.proofs.lemmas.Result.{IfOk-weaker, on_err_weaker}
 use Rattle.fab_base.specs.declared.asks.Ask.{Ask}
 use Rattle.fab_base.specs.declared.faults.NoMem.{NoMem}
 use Rattle.fab_base.specs.declared.identities.BrickId.{BrickId}
-use Rattle.fab_disk.specs.MemDisk.{IsSound}
+use Rattle.fab_disk.specs.MemDisk.{may_be_left, IsSound}
 use Rattle.fab_disk.specs.declared.mem_disk.MemDisk.{MemDisk}
 use Rattle.messages.specs.declared.packets.Packet.{Packet}
 use Rattle.messages.specs.declared.packets.Message.{Message}
 use Rattle.coord_phase.specs.Messages.{packets_from}
 use Rattle.brick_store.specs.Bricks.{Brick as Store}
 use Rattle.node.specs.declared.outs.Begun.{Begun}
-use Rattle.node.specs.declared.outs.Outs.{Outs}
+use Rattle.node.specs.Outcomes.{Outcome}
 use Rattle.node.specs.declared.faults.NodeFault.{NodeFault}
 use Rattle.stripe_code.specs.Codes.{coding}
 use Rattle.node.specs.Faults.{RefusesAs}
-use Rattle.node.specs.Running.{Running, state_of, IsSameBrick}
+use Rattle.node.specs.Running.{Running, state_of, LeavesBrick, IsSameBrick}
 use Rattle.node.specs.States.{BeginsAs, StepsAs}
 use Rattle.protocol.specs.Worlds.{World, first_world, is_brick, is_up, may_start}
 use Rattle.fab_base.specs.Layouts.{Layout}
@@ -30,7 +30,7 @@ use Rattle.world.specs.Shown.{IsRunning, Rests, ShowsPower, ShowsBrick, ShowsBri
 use Rattle.world.specs.declared.bricks.Brick.{Brick}
 use Rattle.world.specs.declared.bricks.Power.{Power}
 use Rattle.world.specs.declared.bricks.Power.TheVariants.{Up, Down}
-use Rattle.world.proofs.BrickLemmas.{still_runs}
+use Rattle.world.proofs.BrickLemmas.{kept_as, kept_same, kept_still, still_runs}
 use Rattle.world.proofs.Places.{grown, replaced, value_here, value_elsewhere}
 
 -- one brick changed, and no other
@@ -218,6 +218,7 @@ asked_begun bricks b old node new ask result within is on same store begins =
       as_machine.seq ∙ ap (λ (x : machine.NodeStep). x.node.seq) alike,
       shows_step layout bricks b old new w next at.clock up.0
           (still_runs layout (brick_of b) (w.nodes b) next node new runs same (as_machine.state_is ∙ ap (λ (x : machine.NodeStep). x.node) alike)
+          (kept_same layout (brick_of b) (w.nodes b) next node new runs same.layout store (as_machine.state_is ∙ ap (λ (x : machine.NodeStep). x.node) alike))
           (ap (λ (x : Store MemDisk). x.halted) store ∙ runs.runs) (subst (λ (x : Store MemDisk). IsSound x.disk) (sym store) runs.sound))
           shows,
     ))
@@ -226,36 +227,42 @@ asked_begun bricks b old node new ask result within is on same store begins =
 -- a brick of which the machine sees the same
 pub same_shown : (bricks : List Brick) (b : ℕ) (old : Brick) (node new : Running MemDisk)
     → b < length bricks → old ≡ get_or bricks b old → old.power ≡ Up node → IsSameBrick node new → new.brick.halted ≡ false → IsSound new.brick.disk
-    → state_of new ≡ state_of node
+    → ((image : List ℕ) → may_be_left new.brick.disk image → may_be_left node.brick.disk image) → state_of new ≡ state_of node
     → (layout : Layout) (w : World) → ShowsBricks layout bricks w.nodes w.up w.clocks
     → ShowsBricks layout (set bricks b (with_power old (Up new))) w.nodes w.up w.clocks
-same_shown bricks b old node new within is on same halted sound state layout w shows =
+same_shown bricks b old node new within is on same halted sound crash state layout w shows =
     let at = brick_at layout bricks w b old within is shows in
     let up = runs_at layout bricks w b old node within is on shows in
     shows_after layout bricks b (with_power old (Up new)) w w
     (record {
-      power = (up.0, still_runs layout (brick_of b) (w.nodes b) (w.nodes b) node new up.1 same (state ∙ up.1.state_is) halted sound);
+      power = (
+        up.0,
+        still_runs layout (brick_of b) (w.nodes b) (w.nodes b) node new up.1 same (state ∙ up.1.state_is)
+            (kept_still layout (brick_of b) (w.nodes b) node.brick.disk new.brick.disk crash up.1.kept) halted sound,
+      );
       clock = at.clock;
     })
     (λ i other. (refl, refl, refl)) shows
 
 pub asked_same : {T E : Type 0} (bricks : List Brick) (b : ℕ) (old : Brick) (node new : Running MemDisk) (result : Result T E)
     → b < length bricks → old ≡ get_or bricks b old → old.power ≡ Up node → IsSameBrick node new → new.brick.halted ≡ false → IsSound new.brick.disk
+    → ((image : List ℕ) → may_be_left new.brick.disk image → may_be_left node.brick.disk image)
     → OnErr result (state_of new ≡ state_of node)
     → OnErr result ((layout : Layout) (w : World) → ShowsBricks layout bricks w.nodes w.up w.clocks
     → ShowsBricks layout (set bricks b (with_power old (Up new))) w.nodes w.up w.clocks)
-asked_same bricks b old node new result within is on same halted sound err =
-    on_err_weaker result (same_shown bricks b old node new within is on same halted sound) err
+asked_same bricks b old node new result within is on same halted sound crash err =
+    on_err_weaker result (same_shown bricks b old node new within is on same halted sound crash) err
 
 -- a brick handles a message as the machine's does
-pub handed_over : (bricks : List Brick) (b : ℕ) (old : Brick) (node new : Running MemDisk) (packet : Packet) (outs : Outs)
+pub handed_over : (bricks : List Brick) (b : ℕ) (old : Brick) (node new : Running MemDisk) (packet : Packet) (outs : Outcome)
     → b < length bricks → old ≡ get_or bricks b old → old.power ≡ Up node → IsSameBrick node new → new.brick.halted ≡ false → IsSound new.brick.disk
+    → LeavesBrick node.layout node.me (state_of new) (may_be_left new.brick.disk)
     → StepsAs node.me (state_of new) (machine.received (coding node.layout) node.me old.clock (state_of node) packet) outs
     → (layout : Layout) (w : World) → ShowsBricks layout bricks w.nodes w.up w.clocks
     → (let step = machine.received (coding layout) (brick_of b) (w.clocks b) (w.nodes b) packet in
-    (packets_from (brick_of b) outs.messages.items ≡ step.packets) × (outs.told ≡ step.told)
+    (packets_from (brick_of b) outs.messages ≡ step.packets) × (outs.told ≡ step.told) × (outs.answers ≡ step.answers)
     × ShowsBricks layout (set bricks b (with_power old (Up new))) (machine.put w.nodes b step.node) w.up w.clocks)
-handed_over bricks b old node new packet outs within is on same halted sound as_machine layout w shows =
+handed_over bricks b old node new packet outs within is on same halted sound durable as_machine layout w shows =
     let at = brick_at layout bricks w b old within is shows in
     let up = runs_at layout bricks w b old node within is on shows in
     let runs = up.1 in
@@ -267,11 +274,14 @@ handed_over bricks b old node new packet outs within is on same halted sound as_
     ∙ ap (λ (x : machine.Node). machine.received (coding layout) (brick_of b) (w.clocks b) x packet) runs.state_is
     in
     let next : machine.Node = (machine.received (coding layout) (brick_of b) (w.clocks b) (w.nodes b) packet).node in (
-      ap (λ (x : BrickId). packets_from x outs.messages.items) (sym runs.me_is) ∙ as_machine.packets ∙ ap (λ (x : machine.NodeStep). x.packets) alike,
+      ap (λ (x : BrickId). packets_from x outs.messages) (sym runs.me_is) ∙ as_machine.packets ∙ ap (λ (x : machine.NodeStep). x.packets) alike,
       as_machine.told ∙ ap (λ (x : machine.NodeStep). x.told) alike,
+      as_machine.answers ∙ ap (λ (x : machine.NodeStep). x.answers) alike,
       shows_step layout bricks b old new w next at.clock up.0
           (still_runs layout (brick_of b) (w.nodes b) next node new runs same
-          (as_machine.state_is ∙ ap (λ (x : machine.NodeStep). x.node) alike) halted sound)
+          (as_machine.state_is ∙ ap (λ (x : machine.NodeStep). x.node) alike)
+          (kept_as layout (brick_of b) next node new runs.layout_is runs.me_is (as_machine.state_is ∙ ap (λ (x : machine.NodeStep). x.node) alike) durable)
+          halted sound)
           shows,
     )
 
@@ -299,7 +309,7 @@ next_is seq (Some next) gives left = ap (λ n. Some n) gives.1
 -- bricks of the first world
 pub record AreFresh (layout : Layout) (bricks : List Brick) (n : ℕ) : Type 0 where
   pub count : length bricks ≡ n
-  pub each : (i : ℕ) (brick : Brick) → slice_get bricks i ≡ Some brick → ShowsBrick layout i brick (machine.first_node layout.block) true 0
+  pub each : (i : ℕ) (brick : Brick) → slice_get bricks i ≡ Some brick → ShowsBrick layout i brick (machine.first_node layout) true 0
 
 -- no brick yet
 pub fresh_none : (layout : Layout) → AreFresh layout [] 0
@@ -307,15 +317,15 @@ fresh_none layout = record { count = refl; each = λ i brick is. let e : None �
 
 -- one more
 pub fresh_more : (layout : Layout) (bricks : List Brick) (n : ℕ) (brick : Brick) → AreFresh layout bricks n
-    → ShowsBrick layout n brick (machine.first_node layout.block) true 0 → AreFresh layout (bricks ++ brick ∷ []) (n + 1)
+    → ShowsBrick layout n brick (machine.first_node layout) true 0 → AreFresh layout (bricks ++ brick ∷ []) (n + 1)
 fresh_more layout bricks n brick fresh one = record {
   count = length-append bricks _ ∙ ap (λ k. k + 1) fresh.count;
   each = λ i x is.
       ⊎_elim
       (λ (old : slice_get bricks i ≡ Some x). fresh.each i x old)
       (λ (new : (i ≡ length bricks) × (brick ≡ x)).
-      subst (λ (y : Brick). ShowsBrick layout i y (machine.first_node layout.block) true 0) new.1
-      (subst (λ (k : ℕ). ShowsBrick layout k brick (machine.first_node layout.block) true 0) (sym (new.0 ∙ fresh.count)) one))
+      subst (λ (y : Brick). ShowsBrick layout i y (machine.first_node layout) true 0) new.1
+      (subst (λ (k : ℕ). ShowsBrick layout k brick (machine.first_node layout) true 0) (sym (new.0 ∙ fresh.count)) one))
       (grown bricks brick i x is);
 }
 

@@ -1,7 +1,7 @@
 -- What a history tells, step by step.
 use Rattle.std.proofs.Common.{◌≡◌, ◌≢◌, ℕ, ◌+◌, ◌<◌, ◌≤◌, ◌-◌, ⊎_elim, get_or, set, Bool, true, false, cond, nat_eq, List, [], ◌∷◌, ◌++◌, length, Option, Some, None, refl, sym, ap, ◌∙◌, subst, arith, length-append}
-use Rattle.std.specs.Prelude.{slice_get, if◌then◌else◌, unwrap_or}
-use Rattle.std.specs.Option.{option_map, option_or}
+use Rattle.std.specs.Prelude.{option_to_list, slice_get, if◌then◌else◌, unwrap_or}
+use Rattle.std.specs.Option.{option_map}
 use Rattle.std.specs.BTreeMap.{BTreeMap, get, is_at}
 use Rattle.std.proofs.lemmas.Bool.{cond_both, eqb-true, eqb-false, ne_eqb}
 use Rattle.std.proofs.lemmas.Option.{slice_get_within, slice_get_past, slice_get-get_or}
@@ -13,13 +13,15 @@ use Rattle.messages.specs.declared.packets.Packet.{Packet}
 use Rattle.reg_model.specs.declared.marks.Mark.{Mark}
 use Rattle.reg_model.specs.declared.marks.Mark.TheVariants.{Begin, End, Crash}
 use Rattle.protocol.specs.Nodes.{Node, NodeStep, put, stopped, restarted}
-use Rattle.protocol.specs.declared.tellings.Told.TheVariants.{Made, Answers}
+use Rattle.protocol.specs.declared.tellings.Answered.{Answered}
+use Rattle.protocol.specs.declared.tellings.Told.{Told}
+use Rattle.protocol.specs.declared.tellings.Told.TheVariants.{Made, Seen}
 use Rattle.protocol.specs.Settings.{Setting}
-use Rattle.protocol.specs.Worlds.{World, Operation, number_of, with_number, world_began, world_stepped, world_stopped, world_started, with_made, with_answer, version_after, is_answer}
+use Rattle.protocol.specs.Worlds.{World, Operation, number_of, with_number, world_began, world_stepped, world_stopped, world_started, world_told, world_tells, world_answered, world_answers, with_made, with_seen, with_answer, is_answer}
 use Rattle.protocol.specs.Happenings.{writes}
 use Rattle.world.specs.declared.histories.History.{History}
 use Rattle.world.specs.declared.histories.KeptOperation.{KeptOperation}
-use Rattle.world.specs.Shown.{TellsOperations, ChangesAt, TellsOperation, IsOfCall, Tells, pair_cmp, made_kept, ended_kept}
+use Rattle.world.specs.Shown.{TellsOperations, ChangesAt, TellsOperation, Tells, pair_cmp, made_kept, seen_kept, ended_kept}
 use Rattle.world.proofs.Places.{grown, each_value, value_here, value_elsewhere, call_apart, set_here, set_elsewhere}
 
 -- room alone changes nothing that is told
@@ -129,18 +131,35 @@ made_alike stamp base known o is = (
   },
 )
 
--- an operation that ended
-pub ended_alike : (answer : Answer) (seen : Option Stamp) (known : KeptOperation) (o : Operation) → TellsOperation known o
-    → (p : Operation) × (with_answer answer seen (Some o) ≡ Some p)
-    × TellsOperation (ended_kept (is_answer answer) seen known) p
-ended_alike answer seen known o is = (
+-- an operation that read a version at once
+pub seen_alike : (stamp : Stamp) (known : KeptOperation) (o : Operation) → TellsOperation known o
+    → (p : Operation) × (with_seen stamp (Some o) ≡ Some p) × TellsOperation (seen_kept stamp known) p
+seen_alike stamp known o is = (
   _,
   refl,
   record {
     begin = is.begin;
     group = is.group;
     stripe = is.stripe;
-    version = ap (λ v. version_after v seen) is.version;
+    version = refl;
+    made = is.made;
+    base = is.base;
+    writes = is.writes;
+    answered = is.answered;
+  },
+)
+
+-- an operation that ended
+pub ended_alike : (answer : Answer) (known : KeptOperation) (o : Operation) → TellsOperation known o
+    → (p : Operation) × (with_answer answer (Some o) ≡ Some p) × TellsOperation (ended_kept (is_answer answer) known) p
+ended_alike answer known o is = (
+  _,
+  refl,
+  record {
+    begin = is.begin;
+    group = is.group;
+    stripe = is.stripe;
+    version = is.version;
     made = is.made;
     base = is.base;
     writes = is.writes;
@@ -300,18 +319,6 @@ changes_at kept number default change some within n =
     let other : n ≢ number - 1 = (λ e. apart (omega arith)) in
     set_elsewhere kept (number - 1) (change (get_or kept (number - 1) default)) n other)
 
--- what is kept of an operation that ended, field by field
-pub ended_fields : (answered : Bool) (seen version : Option Stamp) (known : KeptOperation) → version ≡ option_or seen known.version
-    → ended_kept answered seen known
-    ≡ record known { version = version; answered = answered }
-ended_fields answered seen version known is =
-    ap (λ (v : Option Stamp). record known { version = v; answered = answered })
-    (by_seen seen ∙ sym is)
-  where
-    by_seen : (seen : Option Stamp) → version_after known.version seen ≡ option_or seen known.version
-    by_seen None = refl
-    by_seen (Some v) = refl
-
 -- the operation of a number became this
 pub changes_to : (kept : List KeptOperation) (number : ℕ) (default value : KeptOperation) (change : KeptOperation → KeptOperation) → number ≢ 0 → number - 1 < length kept
     → change (get_or kept (number - 1) default) ≡ value → ChangesAt kept (set kept (number - 1) value) number change
@@ -333,60 +340,98 @@ tells_made old new w b seq number stamp base kept after tells is are become sent
     tells_changed old new w (number_of w b seq) kept after (made_kept stamp base) (with_made stamp base) tells are become (made_alike stamp base)
     (subst (λ n. ChangesAt kept after n (made_kept stamp base)) is changed) count sent numbers w.marks (marks ∙ tells.marks)
 
+-- an operation read a version at once
+pub tells_seen : (old new : History) (w : World) (b seq number : ℕ) (stamp : Stamp) (kept after : List KeptOperation) → Tells old w
+    → number ≡ number_of w b seq → kept ≡ old.operations.items → new.operations.items ≡ after
+    → new.sent.items ≡ old.sent.items → new.marks.items ≡ old.marks.items
+    → ChangesAt kept after number (seen_kept stamp) → length after ≡ length kept → new.numbers ≡ old.numbers
+    → Tells new (record w { operations = put w.operations (number_of w b seq) (with_seen stamp (w.operations (number_of w b seq))) })
+tells_seen old new w b seq number stamp kept after tells is are become sent marks changed count numbers =
+    tells_changed old new w (number_of w b seq) kept after (seen_kept stamp) (with_seen stamp) tells are become (seen_alike stamp)
+    (subst (λ n. ChangesAt kept after n (seen_kept stamp)) is changed) count sent numbers w.marks (marks ∙ tells.marks)
+
 -- an operation ended
-pub tells_ended : (old new : History) (w : World) (b seq number : ℕ) (answer : Answer) (answered : Bool) (seen : Option Stamp)
+pub tells_ended : (old new : History) (w : World) (brick : BrickId) (seq number : ℕ) (answer : Answer) (answered : Bool)
     (kept after : List KeptOperation)
-    → Tells old w → number ≡ number_of w b seq → kept ≡ old.operations.items → new.operations.items ≡ after → answered ≡ is_answer answer
+    → Tells old w → number ≡ number_of w brick.0 seq → kept ≡ old.operations.items → new.operations.items ≡ after → answered ≡ is_answer answer
     → new.sent.items ≡ old.sent.items → new.marks.items ≡ old.marks.items ++ End (length old.marks.items) number answer ∷ []
-    → ChangesAt kept after number (ended_kept answered seen) → length after ≡ length kept → new.numbers ≡ old.numbers
-    → Tells new (record w {
-      marks = w.marks ++ End (length w.marks) (number_of w b seq) answer ∷ [];
-      operations = put w.operations (number_of w b seq) (with_answer answer seen (w.operations (number_of w b seq)));
-    })
-tells_ended old new w b seq number answer answered seen kept after tells is are become right sent marks changed count numbers =
-    let at : ChangesAt kept after (number_of w b seq) (ended_kept answered seen) =
-    subst (λ n. ChangesAt kept after n (ended_kept answered seen)) is changed in
-    tells_changed old new w (number_of w b seq) kept after (ended_kept (is_answer answer) seen) (with_answer answer seen) tells are become
-    (ended_alike answer seen)
-    (subst (λ (x : Bool). ChangesAt kept after (number_of w b seq) (ended_kept x seen)) right at) count sent numbers _
+    → ChangesAt kept after number (ended_kept answered) → length after ≡ length kept → new.numbers ≡ old.numbers
+    → Tells new (world_answered w brick (record { seq = seq; answer = answer }))
+tells_ended old new w brick seq number answer answered kept after tells is are become right sent marks changed count numbers =
+    let at : ChangesAt kept after (number_of w brick.0 seq) (ended_kept answered) =
+    subst (λ n. ChangesAt kept after n (ended_kept answered)) is changed in
+    tells_changed old new w (number_of w brick.0 seq) kept after (ended_kept (is_answer answer)) (with_answer answer) tells are become
+    (ended_alike answer)
+    (subst (λ (x : Bool). ChangesAt kept after (number_of w brick.0 seq) (ended_kept x)) right at) count sent numbers _
     (marks ∙ ap (λ n. old.marks.items ++ End (length old.marks.items) n answer ∷ []) is
-    ∙ ap (λ (xs : List Mark). xs ++ End (length xs) (number_of w b seq) answer ∷ []) tells.marks)
+    ∙ ap (λ (xs : List Mark). xs ++ End (length xs) (number_of w brick.0 seq) answer ∷ []) tells.marks)
 
--- a step that made a version
-pub tells_step_made : (setting : Setting) (history : History) (w : World) (brick : BrickId) (step : NodeStep) (packets : List Packet) (seq : ℕ) (stamp : Stamp)
-    (base : Option Stamp) → step.told ≡ Made seq stamp base → packets ≡ step.packets → step.node.boot ≡ (w.nodes brick.0).boot
-    → step.node.seq ≡ (w.nodes brick.0).seq → IsOfCall (w.nodes brick.0) step.told
-    → (1 ≤ seq → seq ≤ (w.nodes brick.0).seq
-    → Tells history (record w {
-      packets = w.packets ++ packets;
-      operations = put w.operations (number_of w brick.0 seq) (with_made stamp base (w.operations (number_of w brick.0 seq)));
-    }))
-    → Tells history (world_stepped setting w brick step step.told)
-tells_step_made setting history w brick step packets seq stamp base is sent boot next of made =
-    let call : (1 ≤ seq) × (seq ≤ (w.nodes brick.0).seq) = subst (IsOfCall (w.nodes brick.0)) is of in
-    subst (λ told. Tells history (world_stepped setting w brick step told)) (sym is)
-    (tells_other history _ (world_stepped setting w brick step (Made seq stamp base)) (ap (λ xs. w.packets ++ xs) (sym sent)) refl refl refl
-    (calls_same _ (world_stepped setting w brick step (Made seq stamp base)) (boots_stay w brick step.node boot) (seqs_stay w brick step.node next) refl)
-    (made call.0 call.1))
+-- so the one answer of a step is told
+pub tells_one : (new : History) (w : World) (brick : BrickId) (answer : Option Answered) (one : Answered) → answer ≡ Some one
+    → Tells new (world_answered w brick one) → Tells new (world_answers w brick (option_to_list answer))
+tells_one new w brick answer one is tells =
+    subst (λ (a : Option Answered). Tells new (world_answers w brick (option_to_list a))) (sym is) tells
 
--- a step that ended an operation
-pub tells_step_ended : (setting : Setting) (history : History) (w : World) (brick : BrickId) (step : NodeStep) (packets : List Packet) (seq : ℕ) (answer : Answer)
-    (seen : Option Stamp)
-    → step.told ≡ Answers seq answer seen → packets ≡ step.packets → step.node.boot ≡ (w.nodes brick.0).boot
-    → step.node.seq ≡ (w.nodes brick.0).seq → IsOfCall (w.nodes brick.0) step.told
-    → (1 ≤ seq → seq ≤ (w.nodes brick.0).seq
-    → Tells history (record w {
-      packets = w.packets ++ packets;
-      marks = w.marks ++ End (length w.marks) (number_of w brick.0 seq) answer ∷ [];
-      operations = put w.operations (number_of w brick.0 seq) (with_answer answer seen (w.operations (number_of w brick.0 seq)));
-    }))
-    → Tells history (world_stepped setting w brick step step.told)
-tells_step_ended setting history w brick step packets seq answer seen is sent boot next of ended =
-    let call : (1 ≤ seq) × (seq ≤ (w.nodes brick.0).seq) = subst (IsOfCall (w.nodes brick.0)) is of in
-    subst (λ told. Tells history (world_stepped setting w brick step told)) (sym is)
-    (tells_other history _ (world_stepped setting w brick step (Answers seq answer seen)) (ap (λ xs. w.packets ++ xs) (sym sent)) refl refl refl
-    (calls_same _ (world_stepped setting w brick step (Answers seq answer seen)) (boots_stay w brick step.node boot) (seqs_stay w brick step.node next) refl)
-    (ended call.0 call.1))
+-- what contents versions have is told by no history
+pub tells_contents : (history : History) (w : World) (contents : ℕ → ℕ → Stamp → List ℕ) → Tells history w
+    → Tells history (record w { contents = contents })
+tells_contents history w contents tells =
+    let v : World = record w { contents = contents } in
+    tells_other history w v refl refl refl refl (calls_same w v (λ i. refl) (λ i. refl) refl) tells
+
+-- What is told and answered changes operations, contents and marks alone.
+pub record KeepsRest (w v : World) : Type 0 where
+  pub nodes : v.nodes ≡ w.nodes
+  pub up : v.up ≡ w.up
+  pub clocks : v.clocks ≡ w.clocks
+  pub packets : v.packets ≡ w.packets
+
+told_keeps : (setting : Setting) (w : World) (brick : BrickId) (told : List Told) → KeepsRest w (world_tells setting w brick told)
+told_keeps setting w brick [] = record { nodes = refl; up = refl; clocks = refl; packets = refl }
+told_keeps setting w brick (Made seq stamp base ∷ more) =
+    let k = told_keeps setting (world_told setting w brick (Made seq stamp base)) brick more in
+    record { nodes = k.nodes; up = k.up; clocks = k.clocks; packets = k.packets }
+told_keeps setting w brick (Seen seq stamp ∷ more) =
+    let k = told_keeps setting (world_told setting w brick (Seen seq stamp)) brick more in
+    record { nodes = k.nodes; up = k.up; clocks = k.clocks; packets = k.packets }
+
+answers_keep : (w : World) (brick : BrickId) (answers : List Answered) → KeepsRest w (world_answers w brick answers)
+answers_keep w brick [] = record { nodes = refl; up = refl; clocks = refl; packets = refl }
+answers_keep w brick (one ∷ more) =
+    let k = answers_keep (world_answered w brick one) brick more in
+    record { nodes = k.nodes; up = k.up; clocks = k.clocks; packets = k.packets }
+
+-- the world once a step told and answered what it did
+abbrev pub world_heard : Setting → World → BrickId → NodeStep → World
+world_heard setting w brick step = world_answers (world_tells setting w brick step.told) brick step.answers
+
+pub nodes_told : (setting : Setting) (w : World) (brick : BrickId) (told : List Told) → (world_tells setting w brick told).nodes ≡ w.nodes
+nodes_told setting w brick told = (told_keeps setting w brick told).nodes
+
+pub heard_keeps : (setting : Setting) (w : World) (brick : BrickId) (step : NodeStep) → KeepsRest w (world_heard setting w brick step)
+heard_keeps setting w brick step =
+    let told = told_keeps setting w brick step.told in
+    let answered = answers_keep (world_tells setting w brick step.told) brick step.answers in
+    record {
+      nodes = answered.nodes ∙ told.nodes;
+      up = answered.up ∙ told.up;
+      clocks = answered.clocks ∙ told.clocks;
+      packets = answered.packets ∙ told.packets;
+    }
+
+-- a step that told, answered and sent
+pub tells_stepped : (setting : Setting) (history : History) (w : World) (brick : BrickId) (step : NodeStep) (packets : List Packet)
+    → packets ≡ step.packets → step.node.boot ≡ (w.nodes brick.0).boot → step.node.seq ≡ (w.nodes brick.0).seq
+    → Tells history (record (world_heard setting w brick step) { packets = (world_heard setting w brick step).packets ++ packets })
+    → Tells history (world_stepped setting w brick step)
+tells_stepped setting history w brick step packets sent boot next tells =
+    let heard : World = world_heard setting w brick step in
+    let keeps = heard_keeps setting w brick step in
+    tells_other history (record heard { packets = heard.packets ++ packets }) (world_stepped setting w brick step)
+    (ap (λ (xs : List Packet). xs ++ step.packets) (sym keeps.packets) ∙ ap (λ (xs : List Packet). heard.packets ++ xs) (sym sent)) refl refl refl
+    (calls_same (record heard { packets = heard.packets ++ packets }) (world_stepped setting w brick step)
+    (λ i. boots_stay w brick step.node boot i ∙ ap (λ (f : ℕ → Node). (f i).boot) (sym keeps.nodes))
+    (λ i. seqs_stay w brick step.node next i ∙ ap (λ (f : ℕ → Node). (f i).seq) (sym keeps.nodes)) refl) tells
 
 -- a brick stopped
 pub tells_crashed : (setting : Setting) (old new : History) (w : World) (brick : BrickId) → Tells old w → new.sent.items ≡ old.sent.items

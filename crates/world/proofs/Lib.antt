@@ -1,4 +1,5 @@
 pub mod BrickLemmas
+pub mod DiskLemmas
 pub mod EntryMaps
 pub mod HistoryLemmas
 pub mod KeptOperations

@@ -1,7 +1,7 @@
 -- When an operation begins in the machine, and what a message does there.
-use Rattle.std.proofs.Common.{◌≡◌, ℕ, ◌+◌, ◌<◌, ◌≤◌, Bool, true, false, not, cond, nat_lt, ◌&&◌, Option, Some, None, refl, ap, ◌∙◌, arith}
+use Rattle.std.proofs.Common.{◌≡◌, ℕ, ◌+◌, ◌<◌, ◌≤◌, Bool, true, false, not, cond, nat_lt, ◌&&◌, List, Option, Some, None, refl, ap, ◌∙◌, arith}
 use Rattle.std.specs.Prelude.{if◌then◌else◌}
-use Rattle.std.specs.Option.{is_some}
+use Rattle.std.specs.Option.{is_some, option_map}
 use Rattle.std.proofs.lemmas.Bool.Decides.{nat_tests}
 use Rattle.fab_base.specs.declared.asks.Ask.{Ask}
 use Rattle.fab_base.specs.declared.asks.Op.{Op}
@@ -10,7 +10,8 @@ use Rattle.fab_base.specs.declared.identities.BrickId.{BrickId}
 use Rattle.messages.specs.declared.packets.Packet.{Packet}
 use Rattle.fab_base.specs.Layouts.{Layout, Group, group_of}
 use Rattle.protocol.specs.Settings.{Setting}
-use Rattle.protocol.specs.Nodes.{Node, put, is_stripe_op, has_block, has_length, is_spent, most_open, refusal_in, refusal_of, began, invoked, received}
+use Rattle.protocol.specs.Views.{kept_by}
+use Rattle.protocol.specs.Nodes.{Node, group_at, put, is_stripe_op, has_block, has_length, is_spent, most_open, refusal_in, refusal_of, began, invoked, received}
 use Rattle.protocol.specs.Worlds.{World, Invokes, Delivers, Sets, Ticks, Stops, Starts, Before, is_up, may_start, world_began, world_stepped, world_ticked, world_stopped, world_started, replies_with, delivered, packet_of, happens}
 use Rattle.world.specs.Runs.{ask_of, refusal_at}
 
@@ -85,6 +86,12 @@ happens_begun setting w brick ask up stripe none =
     ap (λ b. cond b (world_began w brick ask (invoked setting brick (w.clocks brick.0) (w.nodes brick.0) ask)) w)
     (may (is_up setting.layout w brick) (is_stripe_op ask.op) (refusal_of setting.layout (w.nodes brick.0) ask) up stripe none)
 
+-- a group has as many data blocks and stripes in each view, so a refusal is the same in each
+refused_alike : (layout : Layout) (node : Node) (ask : Ask) (members : List BrickId) (found : Option Group)
+    → refusal_in layout.block node ask (option_map (kept_by members) found) ≡ refusal_in layout.block node ask found
+refused_alike layout node ask members None = refl
+refused_alike layout node ask members (Some group) = refl
+
 began_next : (setting : Setting) (brick : BrickId) (now : ℕ) (node : Node) (ask : Ask) (found : Option Group)
     → refusal_in setting.layout.block node ask found ≡ None
     → (began setting brick now node ask found).node.seq ≡ node.seq + 1
@@ -95,7 +102,9 @@ began_next setting brick now node ask (Some group) none = refl
 pub invoked_next : (setting : Setting) (brick : BrickId) (now : ℕ) (node : Node) (ask : Ask) → refusal_of setting.layout node ask ≡ None
     → (invoked setting brick now node ask).node.seq ≡ node.seq + 1
 unfolding invoked refusal_of
-invoked_next setting brick now node ask none = began_next setting brick now node ask (group_of setting.layout ask.group.0) none
+invoked_next setting brick now node ask none =
+    began_next setting brick now node ask (group_at setting.layout node ask.group.0)
+    (refused_alike setting.layout node ask (node.learnt ask.group.0).view.members (group_of setting.layout ask.group.0) ∙ none)
 
 -- it is a call of the same boot
 invoked_boot_in : (setting : Setting) (brick : BrickId) (now : ℕ) (node : Node) (ask : Ask) (found : Option Group)
@@ -106,13 +115,13 @@ invoked_boot_in setting brick now node ask (Some group) = refl
 pub invoked_boot : (setting : Setting) (brick : BrickId) (now : ℕ) (node : Node) (ask : Ask)
     → (invoked setting brick now node ask).node.boot ≡ node.boot
 unfolding invoked
-invoked_boot setting brick now node ask = invoked_boot_in setting brick now node ask (group_of setting.layout ask.group.0)
+invoked_boot setting brick now node ask = invoked_boot_in setting brick now node ask (group_at setting.layout node ask.group.0)
 
 -- the world after its brick handled a message
 abbrev pub after_message : Setting → World → Packet → World
 after_message setting w packet =
     let step = received setting packet.to (w.clocks packet.to.0) (w.nodes packet.to.0) packet in
-    world_stepped setting (record w { replies = replies_with setting w packet }) packet.to step step.told
+    world_stepped setting (record w { replies = replies_with setting w packet }) packet.to step
 
 -- a number that was not sent changes nothing
 pub happens_unsent : (setting : Setting) (w : World) (number : ℕ) → packet_of w.packets number ≡ None → happens setting w (Delivers number) ≡ w

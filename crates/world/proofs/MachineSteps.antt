@@ -2,74 +2,70 @@
 use Rattle.std.proofs.Common.{◌≡◌, ℕ, ◌≤◌, ◌&&◌, Option, Some, None, refl, arith}
 use Rattle.std.proofs.lemmas.Bool.{cond_both}
 use Rattle.fab_base.specs.declared.identities.BrickId.{BrickId}
+use Rattle.fab_base.specs.declared.stamps.Stamp.{Stamp}
 use Rattle.messages.specs.declared.calls.Call.{Call}
 use Rattle.messages.specs.declared.packets.Message.{Message}
 use Rattle.messages.specs.declared.packets.Packet.{Packet}
 use Rattle.messages.specs.declared.requests.Request.{Request}
 use Rattle.messages.specs.declared.replies.Reply.{Reply}
-use Rattle.fab_base.specs.Layouts.{Layout, Group, group_of, seat_in}
+use Rattle.fab_base.specs.Layouts.{Layout, Group, seat_in}
 use Rattle.protocol.specs.Settings.{Setting}
 use Rattle.protocol.specs.Coordinators.{Coordinator, Next, Ignores, Waits, Sends, Makes, Ends, on_reply}
-use Rattle.protocol.specs.Nodes.{Node, NodeStep, known_after, fresh_stamp, no_step, is_served, fits_block, requested_at, requested_in, requested, carried_out, replied_to, replied_at, replied, received}
-use Rattle.world.specs.Shown.{IsOfCall}
+use Rattle.protocol.specs.Nodes.{Node, NodeStep, group_at, known_after, fresh_stamp, no_step, seat_served, requested_at, requested_in, requested, seen_told, carried_out, replied_at, replied, received}
+use Rattle.world.specs.Shown.{AreTold, AreAnswered}
 
 -- each open call knows its number, and is one of the brick's calls so far
 abbrev pub CallsAreNumbered : Node → Type 0
 CallsAreNumbered node = (k : ℕ) (c : Coordinator) → node.calls k ≡ Some c → (c.call.seq ≡ k) × (1 ≤ k) × (k ≤ node.seq)
 
--- the step opens no call, and tells of one of the calls so far
+-- the step opens no call, and tells and answers of the calls so far
 pub record OpensNone (node : Node) (step : NodeStep) : Type 0 where
   pub boot : step.node.boot ≡ node.boot
   pub seq : step.node.seq ≡ node.seq
-  pub told : IsOfCall node step.told
+  pub told : AreTold node step.told
+  pub answers : AreAnswered node step.answers
 
 -- a request
 requested_at_opens_none : (records : ℕ) (me from : BrickId) (node : Node) (call : Call) (request : Request) (seat : Option ℕ)
     → OpensNone node (requested_at records me from node call request seat)
-requested_at_opens_none records me from node call request None = record { boot = refl; seq = refl; told = tt }
-requested_at_opens_none records me from node call request (Some seat) = record { boot = refl; seq = refl; told = tt }
+requested_at_opens_none records me from node call request None = record { boot = refl; seq = refl; told = tt; answers = tt }
+requested_at_opens_none records me from node call request (Some seat) = record { boot = refl; seq = refl; told = tt; answers = tt }
 
 requested_in_opens_none : (layout : Layout) (me from : BrickId) (node : Node) (call : Call) (request : Request) (group : Option Group)
     → OpensNone node (requested_in layout me from node call request group)
-requested_in_opens_none layout me from node call request None = record { boot = refl; seq = refl; told = tt }
-requested_in_opens_none layout me from node call request (Some group) =
-    cond_both (is_served group call && fits_block layout.block request)
-    (requested_at layout.records me from node call request (seat_in group.members me.0)) (no_step node)
-    (λ (step : NodeStep). OpensNone node step)
-    (λ serves. requested_at_opens_none layout.records me from node call request (seat_in group.members me.0))
-    (λ void. record { boot = refl; seq = refl; told = tt })
+requested_in_opens_none layout me from node call request group =
+    requested_at_opens_none layout.records me from node call request (seat_served layout me node call request group)
 
 requested_opens_none : (setting : Setting) (me from : BrickId) (node : Node) (call : Call) (request : Request)
     → OpensNone node (requested setting me from node call request)
 unfolding requested
 requested_opens_none setting me from node call request = requested_in_opens_none setting.layout me from node call request
-    (group_of setting.layout call.group.0)
+    (group_at setting.layout node call.group.0)
 
 -- a reply
-carried_out_opens_none : (setting : Setting) (group : Group) (me : BrickId) (node : Node) (known : ℕ) (c : Coordinator) (next : Next)
-    → 1 ≤ c.call.seq → c.call.seq ≤ node.seq → OpensNone node (carried_out setting group me node known c next)
-carried_out_opens_none setting group me node known c Ignores low high = record { boot = refl; seq = refl; told = tt }
-carried_out_opens_none setting group me node known c (Waits d) low high = record { boot = refl; seq = refl; told = tt }
-carried_out_opens_none setting group me node known c (Sends d) low high = record { boot = refl; seq = refl; told = tt }
-carried_out_opens_none setting group me node known c (Makes d) low high = record { boot = refl; seq = refl; told = (low, high) }
-carried_out_opens_none setting group me node known c (Ends answer seen stored) low high = record { boot = refl; seq = refl; told = (low, high) }
+seen_is_told : (node : Node) (seq : ℕ) (seen : Option Stamp) → 1 ≤ seq → seq ≤ node.seq → AreTold node (seen_told seq seen)
+seen_is_told node seq None low high = tt
+seen_is_told node seq (Some v) low high = ((low, high), tt)
 
-replied_to_opens_none : (setting : Setting) (me : BrickId) (now : ℕ) (from : BrickId) (node : Node) (call : Call) (reply : Reply) (c : Coordinator)
-    (group : Option Group) → 1 ≤ c.call.seq → c.call.seq ≤ node.seq → OpensNone node (replied_to setting me now from node call reply c group)
-replied_to_opens_none setting me now from node call reply c None low high = record { boot = refl; seq = refl; told = tt }
-replied_to_opens_none setting me now from node call reply c (Some group) low high =
-    let known : ℕ = known_after node.known reply in
-    carried_out_opens_none setting group me node known c
-    (on_reply setting.layout.block setting.code group (fresh_stamp me now node.boot known) c from call reply) low high
+carried_out_opens_none : (setting : Setting) (me : BrickId) (node : Node) (known : ℕ) (c : Coordinator) (next : Next)
+    → 1 ≤ c.call.seq → c.call.seq ≤ node.seq → OpensNone node (carried_out setting me node known c next)
+carried_out_opens_none setting me node known c Ignores low high = record { boot = refl; seq = refl; told = tt; answers = tt }
+carried_out_opens_none setting me node known c (Waits d) low high = record { boot = refl; seq = refl; told = tt; answers = tt }
+carried_out_opens_none setting me node known c (Sends d) low high = record { boot = refl; seq = refl; told = tt; answers = tt }
+carried_out_opens_none setting me node known c (Makes d) low high = record { boot = refl; seq = refl; told = ((low, high), tt); answers = tt }
+carried_out_opens_none setting me node known c (Ends answer seen stored) low high =
+    record { boot = refl; seq = refl; told = seen_is_told node c.call.seq seen low high; answers = ((low, high), tt) }
 
 replied_at_opens_none : (setting : Setting) (me : BrickId) (now : ℕ) (from : BrickId) (node : Node) (call : Call) (reply : Reply)
     (found : Option Coordinator) → CallsAreNumbered node → node.calls call.seq ≡ found
     → OpensNone node (replied_at setting me now from node call reply found)
-replied_at_opens_none setting me now from node call reply None numbered is = record { boot = refl; seq = refl; told = tt }
+replied_at_opens_none setting me now from node call reply None numbered is = record { boot = refl; seq = refl; told = tt; answers = tt }
 replied_at_opens_none setting me now from node call reply (Some c) numbered is =
     let at = numbered call.seq c is in
-    replied_to_opens_none setting me now from node call reply c (group_of setting.layout c.ask.group.0) (omega (arith, at.0, at.1))
-    (omega (arith, at.0, at.2))
+    let known : ℕ = known_after node.known reply in
+    carried_out_opens_none setting me node known c
+    (on_reply setting.layout.block setting.code (fresh_stamp me c.call.view now node.boot known) c from call reply)
+    (omega (arith, at.0, at.1)) (omega (arith, at.0, at.2))
 
 replied_opens_none : (setting : Setting) (me : BrickId) (now : ℕ) (from : BrickId) (node : Node) (call : Call) (reply : Reply)
     → CallsAreNumbered node → OpensNone node (replied setting me now from node call reply)
@@ -84,7 +80,7 @@ unfolding received
 received_as_opens_none setting me now from to node (Message.Request call request) numbered = requested_opens_none setting me from node call request
 received_as_opens_none setting me now from to node
     (Message.Reply call reply) numbered = replied_opens_none setting me now from node call reply numbered
-received_as_opens_none setting me now from to node message numbered = record { boot = refl; seq = refl; told = tt }
+received_as_opens_none setting me now from to node message numbered = record { boot = refl; seq = refl; told = tt; answers = tt }
 
 pub received_opens_none : (setting : Setting) (me : BrickId) (now : ℕ) (node : Node) (packet : Packet) → CallsAreNumbered node
     → OpensNone node (received setting me now node packet)

@@ -1,52 +1,103 @@
--- The world that a run leaves.
-use Rattle.std.proofs.Common.{◌≡◌, ℕ, ◌<◌, ◌-◌, Bool, true, false, cond, nat_lt, ◌&&◌, List, [], ◌∷◌, ◌++◌, length, take, drop, take_all, length-drop, Option, Some, None, refl, sym, ap, ◌∙◌, subst, arith}
-use Rattle.std.specs.Prelude.{option_to_list}
+-- The world that a run leaves, and what its disks keep.
+use Rattle.std.proofs.Common.{◌≡◌, ℕ, ◌+◌, ◌<◌, ◌≤◌, ◌-◌, Bool, true, false, cond, nat_lt, ◌&&◌, List, [], ◌∷◌, ◌++◌, length, length-append, take, drop, take_all, length-drop, append-nil, append_assoc, Option, Some, None, refl, sym, ap, ◌∙◌, subst, arith}
+use Rattle.std.specs.Prelude.{slice_get}
+use Rattle.std.specs.Option.{option_map}
+use Rattle.std.proofs.lemmas.Bool.{cond_both}
 use Rattle.std.proofs.lemmas.Bool.Decides.{nat_tests}
+use Rattle.std.proofs.lemmas.List.{drop_all, length-map}
+use Rattle.std.proofs.lemmas.Option.{slice_get-map}
+use Rattle.fab_base.specs.declared.identities.BrickId.{BrickId}
+use Rattle.fab_disk.specs.declared.mem_disk.MemDisk.{MemDisk}
 use Rattle.messages.specs.declared.requests.Version.{Version}
+use Rattle.messages.specs.declared.packets.Packet.{Packet}
 use Rattle.reg_model.specs.declared.marks.Mark.{Mark}
+use Rattle.reg_model.specs.declared.marks.Mark.TheVariants as mark
 use Rattle.lines.specs.declared.forms.Line.{Line}
+use Rattle.lines.specs.declared.forms.Line.TheVariants.{Nothing, Invoke, Deliver, SetClock, Tick, Crash, Start}
 use Rattle.stripe_code.specs.Codes.{coding}
 use Rattle.fab_base.specs.Layouts.{Layout, Group, group_of}
+use Rattle.protocol.specs.Nodes.{Node, NodeStep, put, view_at, invoked, received}
+use Rattle.protocol.specs.declared.tellings.Answered.{Answered}
+use Rattle.protocol.specs.declared.tellings.Told.{Told}
+use Rattle.protocol.specs.declared.tellings.Told.TheVariants as told
 use Rattle.protocol.specs.Settings.{Setting}
-use Rattle.protocol.specs.Worlds.{World, Event, first_world, is_up, number_of, happens, run}
+use Rattle.protocol.specs.Worlds.{World, Event, Found, Invokes, Delivers, Sets, Ticks, Stops, Starts, Before, After, first_world, is_brick, is_up, may_begin, may_start, number_of, packet_of, replies_with, delivered, world_began, world_told, world_tells, world_answered, world_answers, world_stepped, world_ticked, world_stopped, world_found, world_started, happens, run}
 use Rattle.protocol_laws.proofs.Books.{Books}
-use Rattle.world.specs.Runs.{Run, event_of, after_event, after_line, after_lines, world_of, events_of, brick_of}
-use Rattle.world.specs.Shown.{IsNumbered, Shows}
-use Rattle.world.specs.Steps.{with_line, is_stripe, log_at}
-use Rattle.world.specs.Texts.{text_of, outcome_text, outcome_of, new_marks}
+use Rattle.world.specs.Runs.{Run, Step, world_of, all_events, events_of, brick_of, ask_of, op_of}
+use Rattle.world.specs.Disks.{ShowsDisk, ShowsDisks}
+use Rattle.world.specs.Shown.{IsNumbered, Shows, ShowsBricks, ShowsPower, disk_in, disks_of, came_to}
+use Rattle.world.specs.Steps.{Runs, with_step, is_stripe, log_at}
+use Rattle.world.specs.Texts.{text_of, event_text, marks_text, outcome_text, new_marks}
+use Rattle.world.specs.declared.bricks.Brick.{Brick}
+use Rattle.world.specs.declared.bricks.Power.{Power}
+use Rattle.world.specs.declared.bricks.Power.TheVariants.{Up, Down}
 use Rattle.world.specs.declared.simulations.Outcome.{Outcome}
 use Rattle.world.specs.declared.simulations.Simulation.{Simulation}
+use Rattle.world.proofs.MachineBegins.{after_message}
 
--- one line more
-pub after_lines-append : (setting : Setting) (w : World) (lines : List Line) (line : Line)
-    → after_lines setting w (lines ++ line ∷ []) ≡ after_line setting (after_lines setting w lines) line
-after_lines-append setting w [] line = refl
-after_lines-append setting w (first ∷ lines) line = after_lines-append setting (after_line setting w first) lines line
+-- events behind others
+pub run-append : (setting : Setting) (w : World) (events more : List Event) → run setting (events ++ more) w ≡ run setting more (run setting events w)
+run-append setting w [] more = refl
+run-append setting w (event ∷ events) more = run-append setting (happens setting w event) events more
 
--- the world after a line more
-pub world_of-with_line : (r : Run) (line : Line) → world_of (with_line r line) ≡ after_line (coding r.layout) (world_of r) line
-world_of-with_line r line = after_lines-append (coding r.layout) (first_world r.layout) r.lines line
+-- the events of one step more
+pub all_events-more : (steps : List Step) (step : Step) → all_events (steps ++ step ∷ []) ≡ all_events steps ++ step.events
+all_events-more [] step = append-nil step.events
+all_events-more (first ∷ steps) step = ap (λ events. first.events ++ events) (all_events-more steps step) ∙ sym (append_assoc first.events (all_events steps) step.events)
 
--- the state that shows the world after a line shows the world of the run with that line
-pub shows_line : (layout : Layout) (state : Simulation) (old new : List Line) (line : Line) → new ≡ old ++ line ∷ []
-    → Shows layout state (after_line (coding layout) (world_of (record { layout = layout; lines = old })) line)
-    → Shows layout state (world_of (record { layout = layout; lines = new }))
-shows_line layout state old new line grown shows =
+-- the world after one step more
+pub world_of-with_step : (r : Run) (step : Step) (disks : List MemDisk)
+    → world_of (with_step r step disks) ≡ run (coding r.layout) step.events (world_of r)
+world_of-with_step r step disks =
+    ap (λ events. run (coding r.layout) events (first_world r.layout)) (all_events-more r.steps step)
+    ∙ run-append (coding r.layout) (first_world r.layout) (all_events r.steps) step.events
+
+-- the state that shows the world after a step shows the world of the run with that step
+pub shows_step : (layout : Layout) (state : Simulation) (old new : List Step) (step : Step) (before disks : List MemDisk) → new ≡ old ++ step ∷ []
+    → Shows layout state (run (coding layout) step.events (world_of (record { layout = layout; steps = old; disks = before })))
+    → Shows layout state (world_of (record { layout = layout; steps = new; disks = disks }))
+shows_step layout state old new step before disks grown shows =
     subst (λ (v : World). Shows layout state v)
-    (sym (ap (λ (lines : List Line). world_of (record { layout = layout; lines = lines })) grown
-    ∙ world_of-with_line (record { layout = layout; lines = old }) line)) shows
+    (sym (ap (λ (steps : List Step). world_of (record { layout = layout; steps = steps; disks = disks })) grown
+    ∙ world_of-with_step (record { layout = layout; steps = old; disks = before }) step disks)) shows
+
+-- the disk of a brick that is shown keeps what the machine's brick keeps
+disk_kept : (layout : Layout) (me : BrickId) (node : Node) (up : Bool) (power : Power) → ShowsPower layout me node up power
+    → ShowsDisk layout me node (disk_in power)
+disk_kept layout me node up (Up running) is = is.1.kept
+disk_kept layout me node up (Down disk) is = is.1.kept
+
+-- so do the disks of all
+disks_kept : (layout : Layout) (bricks : List Brick) (nodes : ℕ → Node) (up : ℕ → Bool) (clocks : ℕ → ℕ) → ShowsBricks layout bricks nodes up clocks
+    → (i : ℕ) (found : Option Brick) (disk : MemDisk) → slice_get bricks i ≡ found → option_map (λ (brick : Brick). disk_in brick.power) found ≡ Some disk
+    → ShowsDisk layout (brick_of i) (nodes i) disk
+disks_kept layout bricks nodes up clocks shows i None disk at is = absurd (let e : None ≡ Some disk = is in cc)
+disks_kept layout bricks nodes up clocks shows i (Some brick) disk at is =
+    subst (λ (d : MemDisk). ShowsDisk layout (brick_of i) (nodes i) d) (let e : Some (disk_in brick.power) ≡ Some disk = is in cc)
+    (disk_kept layout (brick_of i) (nodes i) (up i) brick.power (shows.each i brick at).power)
+
+-- the disks of a run whose world is shown
+pub disks_shown : (layout : Layout) (state : Simulation) (steps : List Step)
+    → Shows layout state (world_of (record { layout = layout; steps = steps; disks = disks_of state.bricks.items }))
+    → ShowsDisks (record { layout = layout; steps = steps; disks = disks_of state.bricks.items })
+disks_shown layout state steps shows = record {
+  count = length-map state.bricks.items (λ (brick : Brick). disk_in brick.power) ∙ shows.bricks.count;
+  each = λ i disk at.
+      disks_kept layout state.bricks.items _ _ _ shows.bricks i (slice_get state.bricks.items i) disk refl
+      (sym (slice_get-map (λ (brick : Brick). disk_in brick.power) state.bricks.items i) ∙ at);
+}
 
 -- the log of a part that there is
 pub log_at_part : (r : Run) (b g s : ℕ) (group : Group) (log : List Version) → group_of r.layout g ≡ Some group → s < group.stripes
     → is_up r.layout (world_of r) (brick_of b) ≡ true
-    → log ≡ (((world_of r).nodes b).replicas g s).log → Some log ≡ log_at r b g s
+    → log ≡ (((world_of r).nodes b).replicas g (view_at ((world_of r).nodes b) g) s).log → Some log ≡ log_at r b g s
 log_at_part r b g s group log found within up is =
     let there : is_stripe (group_of r.layout g) s && is_up r.layout (world_of r) (brick_of b) ≡ true =
     ap (λ o. is_stripe o s && is_up r.layout (world_of r) (brick_of b)) found
     ∙ both (nat_lt s group.stripes) (is_up r.layout (world_of r) (brick_of b))
     (let e : nat_lt s group.stripes ≡ true = grind (arith, nat_tests) in e) up
     in
-    ap (λ l. Some l) is ∙ sym (ap (λ x. cond x (Some (((world_of r).nodes b).replicas g s).log) None) there)
+    ap (λ l. Some l) is ∙ sym (ap (λ x. cond x (Some (((world_of r).nodes b).replicas g (view_at ((world_of r).nodes b) g) s).log) None) there)
   where
     both : (x y : Bool) → x ≡ true → y ≡ true → x && y ≡ true
     both true y first second = second
@@ -55,28 +106,78 @@ log_at_part r b g s group log found within up is =
 -- there is no log of a brick that is not up
 pub log_at_down : (r : Run) (b g s : ℕ) → is_up r.layout (world_of r) (brick_of b) ≡ false → None ≡ log_at r b g s
 log_at_down r b g s down =
-    sym (ap (λ x. cond (is_stripe (group_of r.layout g) s && x) (Some (((world_of r).nodes b).replicas g s).log) None) down
-    ∙ ap (λ x. cond x (Some (((world_of r).nodes b).replicas g s).log) None) (never (is_stripe (group_of r.layout g) s)))
+    sym (ap (λ x. cond (is_stripe (group_of r.layout g) s && x) (Some (((world_of r).nodes b).replicas g (view_at ((world_of r).nodes b) g) s).log) None) down
+    ∙ ap (λ x. cond x (Some (((world_of r).nodes b).replicas g (view_at ((world_of r).nodes b) g) s).log) None) (never (is_stripe (group_of r.layout g) s)))
   where
     never : (x : Bool) → x && false ≡ false
     never true = refl
     never false = refl
 
--- a line does what its event does, where the lines behind it do so
-after_event-run : (setting : Setting) (lines : List Line) → ((v : World) → after_lines setting v lines ≡ run setting (events_of lines) v)
-    → (w : World) (event : Option Event)
-    → after_lines setting (after_event setting w event) lines ≡ run setting (option_to_list event ++ events_of lines) w
-after_event-run setting lines behind w None = behind w
-after_event-run setting lines behind w (Some event) = behind (happens setting w event)
+-- marks are only added
+told_marks : (setting : Setting) (w : World) (brick : BrickId) (told : List Told) → (world_tells setting w brick told).marks ≡ w.marks
+told_marks setting w brick [] = refl
+told_marks setting w brick (told.Made seq stamp base ∷ more) = told_marks setting (world_told setting w brick (told.Made seq stamp base)) brick more
+told_marks setting w brick (told.Seen seq stamp ∷ more) = told_marks setting (world_told setting w brick (told.Seen seq stamp)) brick more
 
--- lines do what their events do
-pub after_lines-run : (setting : Setting) (w : World) (lines : List Line) → after_lines setting w lines ≡ run setting (events_of lines) w
-after_lines-run setting w [] = refl
-after_lines-run setting w (line ∷ lines) = after_event-run setting lines (λ v. after_lines-run setting v lines) w (event_of line)
+answers_grow : (w : World) (brick : BrickId) (answers : List Answered) → length w.marks ≤ length (world_answers w brick answers).marks
+answers_grow w brick [] = omega arith
+answers_grow w brick (one ∷ more) =
+    omega (
+      arith,
+      length-append w.marks (mark.End (length w.marks) (number_of w brick.0 one.seq) one.answer ∷ []),
+      answers_grow (world_answered w brick one) brick more,
+    )
 
--- the world that a run leaves is one that a schedule of events reaches
-pub world_of-run : (r : Run) → world_of r ≡ run (coding r.layout) (events_of r.lines) (first_world r.layout)
-world_of-run r = after_lines-run (coding r.layout) (first_world r.layout) r.lines
+stepped_grows : (setting : Setting) (w : World) (brick : BrickId) (step : NodeStep) → length w.marks ≤ length (world_stepped setting w brick step).marks
+stepped_grows setting w brick step =
+    let told : World = world_tells setting w brick step.told in
+    omega (arith, ap length (told_marks setting w brick step.told), answers_grow told brick step.answers)
+
+found_grows : (w : World) (brick : BrickId) (openings : ℕ) (found : Found)
+    → length w.marks ≤ length (world_started (world_found w brick found) brick openings).marks
+found_grows w brick openings Before = omega arith
+found_grows w brick openings After = omega arith
+
+happens_grows : (setting : Setting) (w : World) (event : Event) → length w.marks ≤ length (happens setting w event).marks
+unfolding happens
+happens_grows setting w (Invokes brick ask) =
+    cond_both (may_begin setting w brick ask) (world_began w brick ask (invoked setting brick (w.clocks brick.0) (w.nodes brick.0) ask)) w
+    (λ (v : World). length w.marks ≤ length v.marks)
+    (λ is. omega (arith, length-append w.marks (mark.Begin (length w.marks) (w.begun + 1) brick ask ∷ []))) (λ isnt. omega arith)
+happens_grows setting w (Delivers number) = delivered_grows (packet_of w.packets number)
+  where
+    delivered_grows : (packet : Option Packet) → length w.marks ≤ length (delivered setting w packet).marks
+    delivered_grows None = omega arith
+    delivered_grows (Some packet) =
+        cond_both (is_up setting.layout w packet.to) (after_message setting w packet) w (λ (v : World). length w.marks ≤ length v.marks)
+        (λ is. stepped_grows setting (record w { replies = replies_with setting w packet }) packet.to
+        (received setting packet.to (w.clocks packet.to.0) (w.nodes packet.to.0) packet)) (λ isnt. omega arith)
+happens_grows setting w (Sets brick time) =
+    cond_both (is_brick setting.layout brick) (record w { clocks = put w.clocks brick.0 time }) w (λ (v : World). length w.marks ≤ length v.marks)
+    (λ is. omega arith) (λ isnt. omega arith)
+happens_grows setting w (Ticks brick) =
+    cond_both (is_up setting.layout w brick) (world_ticked setting w brick) w (λ (v : World). length w.marks ≤ length v.marks)
+    (λ is. omega arith) (λ isnt. omega arith)
+happens_grows setting w (Stops brick during) =
+    cond_both (is_up setting.layout w brick) (world_stopped setting w brick during) w (λ (v : World). length w.marks ≤ length v.marks)
+    (λ is. omega (arith, length-append w.marks (mark.Crash (length w.marks) brick ∷ []))) (λ isnt. omega arith)
+happens_grows setting w (Starts brick openings found) =
+    cond_both (may_start setting.layout w brick openings) (world_started (world_found w brick found) brick openings) w
+    (λ (v : World). length w.marks ≤ length v.marks) (λ is. found_grows w brick openings found) (λ isnt. omega arith)
+
+run_grows : (setting : Setting) (w : World) (events : List Event) → length w.marks ≤ length (run setting events w).marks
+run_grows setting w [] = omega arith
+run_grows setting w (event ∷ events) = omega (arith, happens_grows setting w event, run_grows setting (happens setting w event) events)
+
+-- so a run with one step more has no fewer
+pub marks_grow : (layout : Layout) (old new : List Step) (step : Step) (before disks : List MemDisk) → new ≡ old ++ step ∷ []
+    → length (world_of (record { layout = layout; steps = old; disks = before })).marks
+    ≤ length (world_of (record { layout = layout; steps = new; disks = disks })).marks
+marks_grow layout old new step before disks grown =
+    let w : World = world_of (record { layout = layout; steps = old; disks = before }) in
+    subst (λ (v : World). length w.marks ≤ length v.marks)
+    (sym (ap (λ (steps : List Step). world_of (record { layout = layout; steps = steps; disks = disks })) grown
+    ∙ world_of-with_step (record { layout = layout; steps = old; disks = before }) step disks)) (run_grows (coding layout) w step.events)
 
 -- what a world's books say of its open calls
 pub numbered_from_books : (setting : Setting) (w : World) → Books setting w → IsNumbered w
@@ -87,20 +188,33 @@ numbered_from_books setting w books i k c is =
     let seq : (w.nodes call.operation.brick.0).seq ≡ (w.nodes i).seq = ap (λ j. (w.nodes j).seq) call.brick in
     (call.call_seq, omega (arith, operation.called.0, call.seq), omega (arith, operation.called.1 boot, call.seq, seq))
 
--- what a line came to, with the marks behind those before it, is what it prints
+-- what events that are none or one came to, with the marks behind those before, is what they print
+came_text : (setting : Setting) (w : World) (line : Line)
+    → outcome_text (came_to setting w (events_of line)) (new_marks w (run setting (events_of line) w)) ≡ text_of setting w (events_of line)
+came_text setting w Nothing = ap marks_text (drop_all (length w.marks) w.marks (omega arith))
+came_text setting w (Invoke b g s access) = sym (append-nil (event_text setting w (Invokes (brick_of b) (ask_of g s (op_of access)))))
+came_text setting w (Deliver k) = sym (append-nil (event_text setting w (Delivers k)))
+came_text setting w (SetClock b v) = sym (append-nil (event_text setting w (Sets (brick_of b) v)))
+came_text setting w (Tick b) = sym (append-nil (event_text setting w (Ticks (brick_of b))))
+came_text setting w (Crash b) = sym (append-nil (event_text setting w (Stops (brick_of b) None)))
+came_text setting w (Start b) = sym (append-nil (event_text setting w (Starts (brick_of b) 1 Before)))
+
 pub text_is : (old new : Run) (line : Line) (outcome : Outcome) (marks : List Mark) (before : ℕ) (text : List ℕ)
-    → new ≡ with_line old line → outcome ≡ outcome_of (coding old.layout) (world_of old) line → marks ≡ (world_of new).marks
+    → Runs old new line (record { line = line; events = events_of line })
+    → outcome ≡ came_to (coding old.layout) (world_of old) (events_of line) → marks ≡ (world_of new).marks
     → before ≡ length (world_of old).marks → text ≡ outcome_text outcome (take (length marks - before) (drop before marks))
-    → text ≡ text_of (coding old.layout) (world_of old) line
-text_is old new line outcome marks before text grown came are count is =
+    → text ≡ text_of (coding old.layout) (world_of old) (events_of line)
+text_is old new line outcome marks before text runs came are count is =
+    let step : Step = record { line = line; events = events_of line } in
     let rest : take (length marks - before) (drop before marks) ≡ drop before marks =
     take_all (length marks - before) (drop before marks) (omega (arith, length-drop before marks))
     in
-    let after : marks ≡ (after_line (coding old.layout) (world_of old) line).marks =
-    are ∙ ap (λ (r : Run). (world_of r).marks) grown ∙ ap (λ (w : World). w.marks) (world_of-with_line old line)
+    let after : marks ≡ (run (coding old.layout) (events_of line) (world_of old)).marks =
+    are ∙ ap (λ (r : Run). (world_of r).marks) runs.run ∙ ap (λ (w : World). w.marks) (world_of-with_step old step new.disks)
     in
-    let made : drop before marks ≡ new_marks (world_of old) (after_line (coding old.layout) (world_of old) line) =
+    let made : drop before marks ≡ new_marks (world_of old) (run (coding old.layout) (events_of line) (world_of old)) =
     ap (λ n. drop n marks) count ∙ ap (λ (xs : List Mark). drop (length (world_of old).marks) xs) after
     in
     is ∙ ap (λ (xs : List Mark). outcome_text outcome xs) (rest ∙ made)
-    ∙ ap (λ (x : Outcome). outcome_text x (new_marks (world_of old) (after_line (coding old.layout) (world_of old) line))) came
+    ∙ ap (λ (x : Outcome). outcome_text x (new_marks (world_of old) (run (coding old.layout) (events_of line) (world_of old)))) came
+    ∙ came_text (coding old.layout) (world_of old) line

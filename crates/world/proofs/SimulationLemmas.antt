@@ -4,19 +4,16 @@ use Rattle.std.specs.Prelude.{Result, Ok, Err, IfNone, OnErr, slice_get}
 use Rattle.std.proofs.lemmas.Bool.Decides.{nat_tests}
 use Rattle.fab_base.specs.declared.asks.Ask.{Ask}
 use Rattle.fab_base.specs.declared.asks.Op.{Op}
-use Rattle.fab_base.specs.declared.answers.Refusal.{Refusal}
 use Rattle.fab_base.specs.declared.identities.BrickId.{BrickId}
 use Rattle.messages.specs.declared.packets.Packet.{Packet}
 use Rattle.stripe_code.specs.Codes.{coding}
 use Rattle.node.specs.Running.{Running, state_of}
 use Rattle.fab_base.specs.Layouts.{Layout}
-use Rattle.protocol.specs.Nodes.{Node, NodeStep, put, is_stripe_op, refusal_of, invoked, received, ticked, stopped, may_open}
-use Rattle.protocol.specs.declared.tellings.Told.{Told}
-use Rattle.protocol.specs.declared.tellings.Told.TheVariants.{Nothing, Made, Answers}
-use Rattle.protocol.specs.Worlds.{World, Invokes, Delivers, Sets, Ticks, Stops, Starts, Before, is_up, may_start, packet_of, replies_with, world_began, world_stepped, world_stopped, world_started, happens}
+use Rattle.protocol.specs.Nodes.{NodeStep, put, is_stripe_op, refusal_of, invoked, received, ticked, stopped, may_open}
+use Rattle.protocol.specs.Worlds.{World, Invokes, Delivers, Sets, Ticks, Stops, Starts, Before, is_brick, is_up, may_start, packet_of, replies_with, world_began, world_stepped, world_stopped, world_started, happens}
 use Rattle.world.specs.Runs.{ask_of, brick_of}
 use Rattle.world.specs.Shown.{Shows, ShowsPower, ShowsBricks, ShowsStarted, Tells}
-use Rattle.world.specs.Texts.{handled_or_idle, set_or_idle, done_or_idle, started_or_idle}
+use Rattle.world.specs.Texts.{marks_if, is_deliverable}
 use Rattle.world.specs.declared.simulations.Outcome.TheVariants.{Marks, Idle}
 use Rattle.world.specs.declared.histories.History.{History}
 use Rattle.world.specs.declared.bricks.Brick.{Brick}
@@ -24,9 +21,8 @@ use Rattle.world.specs.declared.bricks.Power.{Power}
 use Rattle.world.specs.declared.bricks.Power.TheVariants.{Up, Down}
 use Rattle.fab_disk.specs.declared.mem_disk.MemDisk.{MemDisk}
 use Rattle.world.specs.declared.simulations.Simulation.{Simulation}
-use Rattle.world.proofs.MachineBegins.{happens_refused, happens_down, happens_begun, happens_unsent, happens_astray, happens_handled, happens_set, happens_unset, happens_ticked, happens_unticked, happens_stopped, happens_unstopped, happens_started, happens_unstarted, after_message}
-use Rattle.world.proofs.HistoryLemmas.{tells_other, calls_same, tells_started}
-use Rattle.protocol.specs.Settings.{Setting}
+use Rattle.world.proofs.MachineBegins.{happens_begun, happens_handled, happens_set, happens_ticked, happens_stopped, happens_started, happens_unstarted, after_message}
+use Rattle.world.proofs.HistoryLemmas.{tells_other, calls_same, heard_keeps, tells_started}
 
 -- what holds anyway holds where there is an error
 pub on_err_always : {T E P : Type 0} (r : Result T E) → P → OnErr r P
@@ -72,49 +68,9 @@ shows_begun layout state w brick ask up stripe none bricks history =
     subst (λ (v : World). Shows layout state v) (sym (happens_begun (coding layout) w brick ask up stripe none))
     (record { bricks = bricks; history = history })
 
--- an operation that was refused
-pub shows_refused : (layout : Layout) (state : Simulation) (w : World) (brick : BrickId) (ask : Ask) (reason : Refusal)
-    → refusal_of layout (w.nodes brick.0) ask ≡ Some reason → Shows layout state w
-    → Shows layout state (happens (coding layout) w (Invokes brick ask))
-shows_refused layout state w brick ask reason is shows =
-    subst (λ (v : World). Shows layout state v) (sym (happens_refused (coding layout) w brick ask reason is)) shows
-
--- an operation of a brick that is not up
-pub shows_down : (layout : Layout) (state : Simulation) (w : World) (brick : BrickId) (ask : Ask) → is_up layout w brick ≡ false
-    → Shows layout state w → Shows layout state (happens (coding layout) w (Invokes brick ask))
-shows_down layout state w brick ask down shows =
-    subst (λ (v : World). Shows layout state v) (sym (happens_down (coding layout) w brick ask down)) shows
-
--- a number that was not sent
-pub shows_unsent : (layout : Layout) (state : Simulation) (w : World) (number : ℕ) → packet_of w.packets number ≡ None
-    → Shows layout state w → Shows layout state (happens (coding layout) w (Delivers number))
-shows_unsent layout state w number none shows =
-    subst (λ (v : World). Shows layout state v) (sym (happens_unsent (coding layout) w number none)) shows
-
--- a message to a brick that is not up
-pub shows_astray : (layout : Layout) (state : Simulation) (w : World) (number : ℕ) (packet : Packet) → packet_of w.packets number ≡ Some packet
-    → is_up layout w packet.to ≡ false → Shows layout state w → Shows layout state (happens (coding layout) w (Delivers number))
-shows_astray layout state w number packet sent down shows =
-    subst (λ (v : World). Shows layout state v) (sym (happens_astray (coding layout) w number packet sent down)) shows
-
--- a step changes its brick alone, whatever is told
-nodes_stepped : (setting : Setting) (w : World) (brick : BrickId) (step : NodeStep) (told : Told)
-    → (world_stepped setting w brick step told).nodes ≡ put w.nodes brick.0 step.node
-nodes_stepped setting w brick step Nothing = refl
-nodes_stepped setting w brick step (Made seq stamp base) = refl
-nodes_stepped setting w brick step (Answers seq answer seen) = refl
-
--- and no clock
-clocks_stepped : (setting : Setting) (w : World) (brick : BrickId) (step : NodeStep) (told : Told) → (world_stepped setting w brick step told).clocks ≡ w.clocks
-clocks_stepped setting w brick step Nothing = refl
-clocks_stepped setting w brick step (Made seq stamp base) = refl
-clocks_stepped setting w brick step (Answers seq answer seen) = refl
-
--- nor whether a brick is up
-up_stepped : (setting : Setting) (w : World) (brick : BrickId) (step : NodeStep) (told : Told) → (world_stepped setting w brick step told).up ≡ w.up
-up_stepped setting w brick step Nothing = refl
-up_stepped setting w brick step (Made seq stamp base) = refl
-up_stepped setting w brick step (Answers seq answer seen) = refl
+-- an event that changes nothing
+pub shows_still : (layout : Layout) (state : Simulation) (w v : World) → v ≡ w → Shows layout state w → Shows layout state v
+shows_still layout state w v same shows = subst (λ (x : World). Shows layout state x) (sym same) shows
 
 -- which replies count is told by no history
 pub tells_replies : (layout : Layout) (history : History) (w : World) (packet : Packet) → Tells history w
@@ -137,10 +93,10 @@ shows_handled layout state w number packet sent up bricks history =
     (record {
       bricks = subst (λ (f : ℕ → ℕ). ShowsBricks layout state.bricks.items (after_message (coding layout) w packet).nodes
           (after_message (coding layout) w packet).up f)
-          (sym (clocks_stepped (coding layout) v packet.to step step.told))
+          (sym (heard_keeps (coding layout) v packet.to step).clocks)
           (subst (λ (f : ℕ → Bool). ShowsBricks layout state.bricks.items (after_message (coding layout) w packet).nodes f w.clocks)
-          (sym (up_stepped (coding layout) v packet.to step step.told))
-          (subst (λ (f : ℕ → Node). ShowsBricks layout state.bricks.items f w.up w.clocks) (sym (nodes_stepped (coding layout) v packet.to step step.told)) bricks));
+          (sym (heard_keeps (coding layout) v packet.to step).up)
+          bricks);
       history = history;
     })
 
@@ -149,14 +105,14 @@ pub shows_delivered : (layout : Layout) (state : Simulation) (w : World) (number
     → packet_of w.packets number ≡ Some packet → is_up layout w to ≡ true
     → (let step = received (coding layout) to (w.clocks to.0) (w.nodes to.0) packet in
     ShowsBricks layout state.bricks.items (put w.nodes to.0 step.node) w.up w.clocks
-    → Tells state.history (world_stepped (coding layout) (record w { replies = replies_with (coding layout) w packet }) to step step.told)
+    → Tells state.history (world_stepped (coding layout) (record w { replies = replies_with (coding layout) w packet }) to step)
     → Shows layout state (happens (coding layout) w (Delivers number)))
 shows_delivered layout state w number packet to same sent up bricks history =
     shows_handled layout state w number packet sent (subst (λ (b : BrickId). is_up layout w b ≡ true) same up)
     (subst (λ (b : BrickId). ShowsBricks layout state.bricks.items
     (put w.nodes b.0 (received (coding layout) b (w.clocks b.0) (w.nodes b.0) packet).node) w.up w.clocks) same bricks)
     (subst (λ (b : BrickId). let step = received (coding layout) b (w.clocks b.0) (w.nodes b.0) packet in
-    Tells state.history (world_stepped (coding layout) (record w { replies = replies_with (coding layout) w packet }) b step step.told)) same history)
+    Tells state.history (world_stepped (coding layout) (record w { replies = replies_with (coding layout) w packet }) b step)) same history)
 
 -- a clock that was set
 pub shows_set : (layout : Layout) (old new : Simulation) (w : World) (brick : BrickId) (time : ℕ) → brick.0 < layout.bricks
@@ -171,52 +127,30 @@ shows_set layout old new w brick time within bricks same shows =
           (calls_same w (record w { clocks = put w.clocks brick.0 time }) (λ i. refl) (λ i. refl) refl) shows.history);
     })
 
--- a clock that there is not
-pub shows_unset : (layout : Layout) (state : Simulation) (w : World) (brick : BrickId) (time : ℕ) → layout.bricks ≤ brick.0
-    → Shows layout state w → Shows layout state (happens (coding layout) w (Sets brick time))
-shows_unset layout state w brick time past shows =
-    subst (λ (v : World). Shows layout state v) (sym (happens_unset (coding layout) w brick time past)) shows
-
 -- no brick starts that there is not
-started_nowhere : (layout : Layout) (w : World) (brick : BrickId) → layout.bricks ≤ brick.0 → may_start layout w brick 1 ≡ false
+pub started_nowhere : (layout : Layout) (w : World) (brick : BrickId) → layout.bricks ≤ brick.0 → may_start layout w brick 1 ≡ false
 started_nowhere layout w brick past =
     ap (λ b. b && (not (w.up brick.0) && may_open 1 (w.nodes brick.0)))
     (let e : nat_lt brick.0 layout.bricks ≡ false = grind (arith, nat_tests) in e)
 
 -- what setting a clock comes to
-pub set_here : (layout : Layout) (brick : BrickId) → brick.0 < layout.bricks → Marks ≡ set_or_idle layout brick
+pub set_here : (layout : Layout) (brick : BrickId) → brick.0 < layout.bricks → Marks ≡ marks_if (is_brick layout brick)
 set_here layout brick within =
     sym (ap (λ b. cond b Marks Idle) (let e : nat_lt brick.0 layout.bricks ≡ true = grind (arith, nat_tests) in e))
 
-pub set_nowhere : (layout : Layout) (brick : BrickId) → layout.bricks ≤ brick.0 → Idle ≡ set_or_idle layout brick
+pub set_nowhere : (layout : Layout) (brick : BrickId) → layout.bricks ≤ brick.0 → Idle ≡ marks_if (is_brick layout brick)
 set_nowhere layout brick past =
     sym (ap (λ b. cond b Marks Idle) (let e : nat_lt brick.0 layout.bricks ≡ false = grind (arith, nat_tests) in e))
 
 -- a message to a brick that is not up comes to nothing
 pub handled_astray : (layout : Layout) (w : World) (packet : Packet) (found : Option Packet) → found ≡ Some packet → is_up layout w packet.to ≡ false
-    → Idle ≡ handled_or_idle (coding layout) w found
-handled_astray layout w packet found is down = sym (ap (handled_or_idle (coding layout) w) is ∙ ap (λ b. cond b Marks Idle) down)
+    → Idle ≡ marks_if (is_deliverable (coding layout) w found)
+handled_astray layout w packet found is down = sym (ap (λ p. marks_if (is_deliverable (coding layout) w p)) is ∙ ap (λ b. cond b Marks Idle) down)
 
 -- a message to a brick that is up is handled
 pub handled_here : (layout : Layout) (w : World) (packet : Packet) (found : Option Packet) → found ≡ Some packet → is_up layout w packet.to ≡ true
-    → Marks ≡ handled_or_idle (coding layout) w found
-handled_here layout w packet found is up = sym (ap (handled_or_idle (coding layout) w) is ∙ ap (λ b. cond b Marks Idle) up)
-
--- a tick, a crash or a start at no brick that it may happen to
-pub shows_unticked : (layout : Layout) (state : Simulation) (w : World) (brick : BrickId) → is_up layout w brick ≡ false
-    → Shows layout state w → Shows layout state (happens (coding layout) w (Ticks brick))
-shows_unticked layout state w brick down shows = subst (λ (v : World). Shows layout state v)
-    (sym (happens_unticked (coding layout) w brick down)) shows
-
-pub shows_unstopped : (layout : Layout) (state : Simulation) (w : World) (brick : BrickId) → is_up layout w brick ≡ false
-    → Shows layout state w → Shows layout state (happens (coding layout) w (Stops brick None))
-shows_unstopped layout state w brick down shows = subst (λ (v : World). Shows layout state v)
-    (sym (happens_unstopped (coding layout) w brick down)) shows
-
-pub shows_nowhere : (layout : Layout) (state : Simulation) (w : World) (brick : BrickId) → layout.bricks ≤ brick.0
-    → Shows layout state w → Shows layout state (happens (coding layout) w (Starts brick 1 Before))
-shows_nowhere layout state w brick past shows =
-    subst (λ (v : World). Shows layout state v) (sym (happens_unstarted (coding layout) w brick (started_nowhere layout w brick past))) shows
+    → Marks ≡ marks_if (is_deliverable (coding layout) w found)
+handled_here layout w packet found is up = sym (ap (λ p. marks_if (is_deliverable (coding layout) w p)) is ∙ ap (λ b. cond b Marks Idle) up)
 
 -- a brick that ticked
 pub shows_ticked : (layout : Layout) (state : Simulation) (w : World) (brick : BrickId) → is_up layout w brick ≡ true
@@ -250,16 +184,16 @@ shows_start layout old new w brick false is same shows =
     (record { bricks = is.after; history = subst (λ (h : History). Tells h w) (sym same) shows.history })
 
 -- what a tick and a crash come to
-pub done_here : (layout : Layout) (w : World) (brick : BrickId) → is_up layout w brick ≡ true → Marks ≡ done_or_idle layout w brick
+pub done_here : (layout : Layout) (w : World) (brick : BrickId) → is_up layout w brick ≡ true → Marks ≡ marks_if (is_up layout w brick)
 done_here layout w brick up = sym (ap (λ b. cond b Marks Idle) up)
 
-pub done_nowhere : (layout : Layout) (w : World) (brick : BrickId) → is_up layout w brick ≡ false → Idle ≡ done_or_idle layout w brick
+pub done_nowhere : (layout : Layout) (w : World) (brick : BrickId) → is_up layout w brick ≡ false → Idle ≡ marks_if (is_up layout w brick)
 done_nowhere layout w brick down = sym (ap (λ b. cond b Marks Idle) down)
 
 -- what a start comes to
 pub start_came : (layout : Layout) (w : World) (brick : BrickId) (bricks : List Brick) (started : Bool) → ShowsStarted layout brick w bricks started
-    → cond started Marks Idle ≡ started_or_idle layout w brick
+    → cond started Marks Idle ≡ marks_if (may_start layout w brick 1)
 start_came layout w brick bricks started is = ap (λ b. cond b Marks Idle) is.may
 
-pub start_nowhere : (layout : Layout) (w : World) (brick : BrickId) → layout.bricks ≤ brick.0 → Idle ≡ started_or_idle layout w brick
+pub start_nowhere : (layout : Layout) (w : World) (brick : BrickId) → layout.bricks ≤ brick.0 → Idle ≡ marks_if (may_start layout w brick 1)
 start_nowhere layout w brick past = sym (ap (λ b. cond b Marks Idle) (started_nowhere layout w brick past))

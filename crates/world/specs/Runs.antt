@@ -1,11 +1,12 @@
--- A run: the lines of a schedule, one after another, over the disk of a layout.
-use Rattle.std.specs.Prelude.{ℕ, if◌then◌else◌, List, [], ◌∷◌, ◌++◌, Option, Some, None, option_to_list}
+-- A run: the steps of a schedule, one after another, over the disk of a layout.
+use Rattle.std.specs.Prelude.{◌≡◌, ℕ, if◌then◌else◌, List, [], ◌∷◌, ◌++◌, Option, Some, None}
 use Rattle.fab_base.specs.declared.identities.BrickId.{BrickId}
 use Rattle.fab_base.specs.declared.asks.Ask.{Ask}
 use Rattle.fab_base.specs.declared.asks.Op.{Op}
 use Rattle.fab_base.specs.declared.asks.Op.TheVariants as op
 use Rattle.fab_base.specs.declared.answers.Refusal.{Refusal}
 use Rattle.fab_base.specs.declared.answers.Refusal.TheVariants.{Down}
+use Rattle.fab_disk.specs.declared.mem_disk.MemDisk.{MemDisk}
 use Rattle.lines.specs.declared.forms.Access.{Access}
 use Rattle.lines.specs.declared.forms.Access.TheVariants.{ReadStripe, WriteStripe}
 use Rattle.lines.specs.declared.forms.Line.{Line}
@@ -13,13 +14,19 @@ use Rattle.lines.specs.declared.forms.Line.TheVariants.{Nothing, Invoke, Deliver
 use Rattle.fab_base.specs.Layouts.{Layout}
 use Rattle.protocol.specs.Settings.{Setting}
 use Rattle.protocol.specs.Nodes.{refusal_of}
-use Rattle.protocol.specs.Worlds.{World, Event, Invokes, Delivers, Sets, Ticks, Stops, Starts, Before, first_world, is_up, happens}
+use Rattle.protocol.specs.Worlds.{World, Event, Invokes, Delivers, Sets, Ticks, Stops, Starts, Before, first_world, is_up, run}
 use Rattle.stripe_code.specs.Codes.{coding}
 
--- the lines that were run over the disk of this layout
+-- a line of a schedule that was run, and the events of the machine that it was
+pub record Step : Type 0 where
+  pub line : Line
+  pub events : List Event
+
+-- the steps that were run over the disk of this layout, and the disk of each brick now, by number
 pub record Run : Type 0 where
   pub layout : Layout
-  pub lines : List Line
+  pub steps : List Step
+  pub disks : List MemDisk
 
 -- the brick of a number
 abbrev pub brick_of : ℕ → BrickId
@@ -34,38 +41,28 @@ abbrev pub op_of : Access → Op
 op_of ReadStripe = op.ReadStripe
 op_of (WriteStripe bytes) = op.WriteStripe bytes
 
--- the event of a line, if it is one: a brick stops during no handling, and one that starts opens its store once, and finds what it kept
-abbrev pub event_of : Line → Option Event
-event_of Nothing = None
-event_of (Invoke b g s access) = Some (Invokes (brick_of b) (ask_of g s (op_of access)))
-event_of (Deliver k) = Some (Delivers k)
-event_of (SetClock b v) = Some (Sets (brick_of b) v)
-event_of (Tick b) = Some (Ticks (brick_of b))
-event_of (Crash b) = Some (Stops (brick_of b) None)
-event_of (Start b) = Some (Starts (brick_of b) 1 Before)
+-- the events of a line: a brick stops during no handling, and one that starts opens its store once, and finds what it kept
+abbrev pub events_of : Line → List Event
+events_of Nothing = []
+events_of (Invoke b g s access) = Invokes (brick_of b) (ask_of g s (op_of access)) ∷ []
+events_of (Deliver k) = Delivers k ∷ []
+events_of (SetClock b v) = Sets (brick_of b) v ∷ []
+events_of (Tick b) = Ticks (brick_of b) ∷ []
+events_of (Crash b) = Stops (brick_of b) None ∷ []
+events_of (Start b) = Starts (brick_of b) 1 Before ∷ []
 
--- the world after an event, if there is one
-abbrev pub after_event : Setting → World → Option Event → World
-after_event setting w None = w
-after_event setting w (Some event) = happens setting w event
+-- a line may be these events: each line that there is has just its own
+abbrev pub IsEventsOf : Line → List Event → Type 0
+IsEventsOf line events = events ≡ events_of line
 
--- the world after a line
-abbrev pub after_line : Setting → World → Line → World
-after_line setting w line = after_event setting w (event_of line)
+-- the events of steps, in order
+abbrev pub all_events : List Step → List Event
+all_events [] = []
+all_events (step ∷ steps) = step.events ++ all_events steps
 
--- the world after lines
-abbrev pub after_lines : Setting → World → List Line → World
-after_lines setting w [] = w
-after_lines setting w (line ∷ lines) = after_lines setting (after_line setting w line) lines
-
--- the events of lines
-abbrev pub events_of : List Line → List Event
-events_of [] = []
-events_of (line ∷ lines) = option_to_list (event_of line) ++ events_of lines
-
--- the world that a run leaves
+-- the world of the machine that a run leaves
 abbrev pub world_of : Run → World
-world_of r = after_lines (coding r.layout) (first_world r.layout) r.lines
+world_of r = run (coding r.layout) (all_events r.steps) (first_world r.layout)
 
 -- why a brick does not begin an operation, where it does not: it is not up, or it refuses
 abbrev pub refusal_at : Setting → World → BrickId → Ask → Option Refusal

@@ -1,25 +1,31 @@
 -- What a world keeps, and the machine's world that it shows.
-use Rattle.std.specs.Prelude.{◌≡◌, ℕ, ◌+◌, ◌<◌, ◌≤◌, Bool, true, false, not, ◌&&◌, nat_eq, if◌then◌else◌, List, length, Option, Some, None, Result, Ok, Err, slice_get, vec_len, vec_capacity}
+use Rattle.std.specs.Prelude.{◌≡◌, ℕ, ◌+◌, ◌<◌, ◌≤◌, Bool, true, false, not, ◌&&◌, nat_eq, if◌then◌else◌, List, [], ◌∷◌, length, map, Option, Some, None, Result, Ok, Err, slice_get, vec_len, vec_capacity}
 use Rattle.std.specs.declared.cmp.Ordering.{Ordering}
 use Rattle.std.specs.Ordering.{nat_cmp, ordering_then}
 use Rattle.std.specs.BTreeMap.{get}
+use Rattle.std.specs.List.{AllByRecursion}
 use Rattle.std.specs.Option.{option_map}
 use Rattle.fab_base.specs.declared.faults.NoMem.{NoMem}
 use Rattle.fab_base.specs.declared.identities.BrickId.{BrickId}
 use Rattle.fab_base.specs.declared.stamps.Stamp.{Stamp}
-use Rattle.fab_disk.specs.Past.{IsImage}
-use Rattle.fab_disk.specs.MemDisk.{content_of, past_of_disk, IsSound}
+use Rattle.fab_disk.specs.MemDisk.{IsSound}
 use Rattle.fab_disk.specs.declared.mem_disk.MemDisk.{MemDisk}
-use Rattle.node.specs.Running.{Running, state_of, ImageShows, LeavesBrick}
+use Rattle.node.specs.Running.{Running, state_of}
 use Rattle.fab_base.specs.Layouts.{Layout}
-use Rattle.protocol.specs.Replicas.{first_replica}
 use Rattle.protocol.specs.Coordinators.{Coordinator}
 use Rattle.protocol.specs.Nodes as machine
+use Rattle.protocol.specs.declared.tellings.Answered.{Answered}
 use Rattle.protocol.specs.declared.tellings.Told.{Told}
 use Rattle.protocol.specs.declared.tellings.Told.TheVariants as told
-use Rattle.protocol.specs.Worlds.{World, Operation, is_up, may_start, number_of, version_after}
+use Rattle.protocol.specs.Worlds.{World, Operation, is_up, may_start, number_of}
 use Rattle.protocol.specs.Happenings.{writes}
+use Rattle.protocol.specs.Settings.{Setting}
+use Rattle.protocol.specs.Worlds.{Event}
 use Rattle.world.specs.Runs.{brick_of}
+use Rattle.world.specs.Disks.{ShowsDisk}
+use Rattle.world.specs.Texts.{outcome_of}
+use Rattle.world.specs.declared.simulations.Outcome.{Outcome}
+use Rattle.world.specs.declared.simulations.Outcome.TheVariants.{Marks}
 use Rattle.world.specs.declared.histories.History.{History}
 use Rattle.world.specs.declared.histories.KeptOperation.{KeptOperation}
 use Rattle.world.specs.declared.bricks.Brick.{Brick}
@@ -53,38 +59,50 @@ abbrev pub made_kept : Stamp → Option Stamp → KeptOperation → KeptOperatio
 made_kept stamp base kept = record kept { version = Some stamp; made = true; base = base }
 
 -- what is kept of an operation that ended
-abbrev pub ended_kept : Bool → Option Stamp → KeptOperation → KeptOperation
-ended_kept answered seen kept = record kept { version = version_after kept.version seen; answered = answered }
+abbrev pub ended_kept : Bool → KeptOperation → KeptOperation
+ended_kept answered kept = record kept { answered = answered }
+
+-- what is kept of an operation that read a version at once
+abbrev pub seen_kept : Stamp → KeptOperation → KeptOperation
+seen_kept stamp kept = record kept { version = Some stamp }
 
 -- what is kept of the operation of a number changed, and of no other
 abbrev pub ChangesAt : List KeptOperation → List KeptOperation → ℕ → (KeptOperation → KeptOperation) → Type 0
 ChangesAt old new number change =
     (n : ℕ) → slice_get new n ≡ (if nat_eq (n + 1) number then option_map change (slice_get old n) else slice_get old n)
 
--- A brick that runs: it is this brick of this layout, the machine sees this of it, it is not halted, and its
--- disk is sound.
+-- A brick that runs: it is this brick of this layout, the machine sees this of it, its disk keeps it, it is not
+-- halted, and its disk is sound.
 pub record IsRunning (layout : Layout) (me : BrickId) (state : machine.Node) (node : Running MemDisk) : Type 0 where
   pub layout_is : node.layout ≡ layout
   pub me_is : node.me ≡ me
   pub state_is : state_of node ≡ state
+  pub kept : ShowsDisk layout me state node.brick.disk
   pub runs : node.brick.halted ≡ false
   pub sound : IsSound node.brick.disk
 
--- A disk at rest: it shows this brick, so does whatever a crash leaves, and it is sound.
+-- a disk at rest: it keeps this brick, and is sound
 pub record Rests (layout : Layout) (me : BrickId) (state : machine.Node) (disk : MemDisk) : Type 0 where
-  pub seen : ImageShows layout me state (content_of disk)
-  pub durable : LeavesBrick layout me state (λ image. IsImage (past_of_disk disk) (content_of disk) image)
+  pub kept : ShowsDisk layout me state disk
   pub sound : IsSound disk
 
 -- a brick whose store was made, and not opened yet
-abbrev pub unopened : ℕ → machine.Node
-unopened block =
-    record { boot = 0; seq = 0; known = 0; busy = 0; live = 0; replicas = λ g s. first_replica block; calls = λ k. None }
+abbrev pub unopened : Layout → machine.Node
+unopened layout = record (machine.first_node layout) { boot = 0 }
 
 -- the brick is up and runs, or it is down and its disk is at rest
 abbrev pub ShowsPower : Layout → BrickId → machine.Node → Bool → Power → Type 0
 ShowsPower layout me state up (Up node) = (up ≡ true) × IsRunning layout me state node
 ShowsPower layout me state up (Down disk) = (up ≡ false) × Rests layout me state disk
+
+-- the disk of a brick
+abbrev pub disk_in : Power → MemDisk
+disk_in (Up node) = node.brick.disk
+disk_in (Down disk) = disk
+
+-- the disks of bricks
+abbrev pub disks_of : List Brick → List MemDisk
+disks_of bricks = map (λ brick. disk_in brick.power) bricks
 
 -- The brick of a number is the machine's, it is up or not, and its clock reads this time.
 pub record ShowsBrick (layout : Layout) (i : ℕ) (brick : Brick) (node : machine.Node) (up : Bool) (time : ℕ) : Type 0 where
@@ -168,8 +186,23 @@ pub record HasStepRoom (history : History) : Type 0 where
 abbrev pub IsNumbered : World → Type 0
 IsNumbered w = (i k : ℕ) (c : Coordinator) → (w.nodes i).calls k ≡ Some c → (c.call.seq ≡ k) × (1 ≤ k) × (k ≤ (w.nodes i).seq)
 
--- what is told is of one of the brick's calls so far
-abbrev pub IsOfCall : machine.Node → Told → Type 0
-IsOfCall node told.Nothing = Unit {0}
-IsOfCall node (told.Made seq stamp base) = (1 ≤ seq) × (seq ≤ node.seq)
-IsOfCall node (told.Answers seq answer seen) = (1 ≤ seq) × (seq ≤ node.seq)
+-- a call of this number is one of the brick's calls so far
+abbrev pub IsOfCall : machine.Node → ℕ → Type 0
+IsOfCall node seq = (1 ≤ seq) × (seq ≤ node.seq)
+
+-- the call of whose operation this is told
+abbrev pub told_call : Told → ℕ
+told_call (told.Made seq stamp base) = seq
+told_call (told.Seen seq stamp) = seq
+
+-- what is told, and what is answered, is of the brick's calls so far
+abbrev pub AreTold : machine.Node → List Told → Type 0
+AreTold node told = AllByRecursion (λ one. IsOfCall node (told_call one)) told
+
+abbrev pub AreAnswered : machine.Node → List Answered → Type 0
+AreAnswered node answers = AllByRecursion (λ one. IsOfCall node one.seq) answers
+
+-- what events that are none or one come to
+abbrev pub came_to : Setting → World → List Event → Outcome
+came_to setting w [] = Marks
+came_to setting w (event ∷ events) = outcome_of setting w event

@@ -1,11 +1,11 @@
 -- What a world always keeps.
 use Rattle.world.specs.Runs.{Run, world_of}
-use Rattle.world.specs.Shown.{Shows}
+use Rattle.world.specs.Shown.{Shows, disks_of}
 use Rattle.world.specs.declared.worlds.World.TheInside.{Inside}
 
--- the run of a world's lines over its layout
+-- the run of a world: the steps that it took over its layout, and the disks of its bricks
 abbrev pub run_of : Inside → Run
-run_of inside = record { layout = inside.layout; lines = inside.lines.items }
+run_of inside = record { layout = inside.layout; steps = inside.trail.steps; disks = disks_of inside.simulation.bricks.items }
 
 -- its state shows the world that its run leaves
 pub record IsStanding (inside : Inside) : Type 0 where

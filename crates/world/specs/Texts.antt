@@ -1,4 +1,4 @@
--- The text that a line prints.
+-- The text that a step prints.
 use Rattle.std.specs.Prelude.{ℕ, Bool, false, if◌then◌else◌, List, [], ◌∷◌, ◌++◌, length, drop, codes, Option, Some, None}
 use Rattle.std.specs.Fmt.{decimal}
 use Rattle.hex.specs.Hex.{encode_lower}
@@ -14,14 +14,10 @@ use Rattle.fab_base.specs.declared.answers.Refusal.TheVariants.{Down, NoStripe, 
 use Rattle.fab_base.specs.Stamps.{stamp_text}
 use Rattle.reg_model.specs.declared.marks.Mark.{Mark}
 use Rattle.reg_model.specs.declared.marks.Mark.TheVariants.{Begin, End}
-use Rattle.lines.specs.declared.forms.Line.{Line}
-use Rattle.lines.specs.declared.forms.Line.TheVariants.{Nothing, Invoke, Deliver, SetClock, Tick, Crash, Start}
 use Rattle.messages.specs.declared.packets.Packet.{Packet}
 use Rattle.protocol.specs.Settings.{Setting}
-use Rattle.protocol.specs.Worlds.{World, is_brick, is_up, may_start, packet_of}
-use Rattle.fab_base.specs.Layouts.{Layout}
-use Rattle.fab_base.specs.declared.identities.BrickId.{BrickId}
-use Rattle.world.specs.Runs.{after_line, brick_of, ask_of, op_of, refusal_at}
+use Rattle.protocol.specs.Worlds.{World, Event, Invokes, Delivers, Sets, Ticks, Stops, Starts, is_brick, is_up, may_start, packet_of, happens}
+use Rattle.world.specs.Runs.{refusal_at}
 use Rattle.world.specs.declared.simulations.Outcome.{Outcome}
 use Rattle.world.specs.declared.simulations.Outcome.TheVariants.{Marks, Refused, Idle}
 
@@ -97,38 +93,30 @@ abbrev pub refused_or_begun : Option Refusal → Outcome
 refused_or_begun None = Marks
 refused_or_begun (Some refusal) = Refused refusal
 
--- a message was handled, or there was none
-abbrev pub handled_or_idle : Setting → World → Option Packet → Outcome
-handled_or_idle setting w packet = if is_deliverable setting w packet then Marks else Idle
+-- it happens where it may, with its marks, and else there is nothing to do
+abbrev pub marks_if : Bool → Outcome
+marks_if may = if may then Marks else Idle
 
--- a clock was set, or there is no such brick
-abbrev pub set_or_idle : Layout → BrickId → Outcome
-set_or_idle layout brick = if is_brick layout brick then Marks else Idle
+-- what an event comes to
+abbrev pub outcome_of : Setting → World → Event → Outcome
+outcome_of setting w (Invokes brick ask) = refused_or_begun (refusal_at setting w brick ask)
+outcome_of setting w (Delivers number) = marks_if (is_deliverable setting w (packet_of w.packets number))
+outcome_of setting w (Sets brick time) = marks_if (is_brick setting.layout brick)
+outcome_of setting w (Ticks brick) = marks_if (is_up setting.layout w brick)
+outcome_of setting w (Stops brick during) = marks_if (is_up setting.layout w brick)
+outcome_of setting w (Starts brick openings found) = marks_if (may_start setting.layout w brick openings)
 
--- a brick ticked or stopped, or there is none that is up
-abbrev pub done_or_idle : Layout → World → BrickId → Outcome
-done_or_idle layout w brick = if is_up layout w brick then Marks else Idle
-
--- a brick started, or it may not
-abbrev pub started_or_idle : Layout → World → BrickId → Outcome
-started_or_idle layout w brick = if may_start layout w brick 1 then Marks else Idle
-
--- what a line comes to
-abbrev pub outcome_of : Setting → World → Line → Outcome
-outcome_of setting w Nothing = Marks
-outcome_of setting w (Invoke b g s access) = refused_or_begun (refusal_at setting w (brick_of b) (ask_of g s (op_of access)))
-outcome_of setting w (Deliver k) = handled_or_idle setting w (packet_of w.packets k)
-outcome_of setting w (SetClock b v) = set_or_idle setting.layout (brick_of b)
-outcome_of setting w (Tick b) = done_or_idle setting.layout w (brick_of b)
-outcome_of setting w (Crash b) = done_or_idle setting.layout w (brick_of b)
-outcome_of setting w (Start b) = started_or_idle setting.layout w (brick_of b)
-
--- the text of what a line came to, with the marks that it made
+-- the text of what an event came to, with the marks that it made
 abbrev pub outcome_text : Outcome → List Mark → List ℕ
 outcome_text Marks marks = marks_text marks
 outcome_text (Refused refusal) marks = refusal_text refusal
 outcome_text Idle marks = idle_text
 
--- What a line prints: its marks; or why it was refused; or that it found nothing to do.
-abbrev pub text_of : Setting → World → Line → List ℕ
-text_of setting w line = outcome_text (outcome_of setting w line) (new_marks w (after_line setting w line))
+-- what an event prints: its marks; or why it was refused; or that it found nothing to do
+abbrev pub event_text : Setting → World → Event → List ℕ
+event_text setting w event = outcome_text (outcome_of setting w event) (new_marks w (happens setting w event))
+
+-- what a step prints that is these events: their texts, one after another
+abbrev pub text_of : Setting → World → List Event → List ℕ
+text_of setting w [] = []
+text_of setting w (event ∷ events) = event_text setting w event ++ text_of setting (happens setting w event) events

@@ -1,6 +1,6 @@
 //! The bricks of a world: each is a disk in memory, and the brick that runs over it while it is up.
 
-ghost use Rattle.std.specs.Prelude.{◌≡◌, ◌≢◌, ◌+◌, ◌^◌, ◌<◌, ◌≤◌, true, false, Err, IfOk, OnErr, vec_len, length};
+ghost use Rattle.std.specs.Prelude.{◌≡◌, ◌≢◌, ◌+◌, ◌^◌, ◌<◌, ◌≤◌, true, false, Some, Err, IfOk, OnErr, vec_len, length, map};
 ghost use Rattle.std.specs.Option.{SomeIff};
 ghost use Rattle.protocol.specs.Nodes as machine;
 ghost use Rattle.protocol.specs.Nodes.{first_node, is_stripe_op, refusal_of, invoked, received, ticked, stopped};
@@ -8,8 +8,10 @@ ghost use Rattle.protocol.specs.Nodes.{put as changed};
 ghost use Rattle.protocol.specs.Worlds.{World, first_world};
 ghost use Rattle.stripe_code.specs.Codes.{coding};
 ghost use Rattle.coord_phase.specs.Messages.{packets_from};
+ghost use Rattle.fab_disk.specs.MemDisk.{content_of};
 ghost use Rattle.node.specs.Faults.{RefusesAs};
-ghost use Rattle.world.specs.Shown.{Rests, ShowsBrick, ShowsBricks, ShowsStarted, TurnsOn, FindsUp, IsUp, AreNodesOf, unopened};
+ghost use Rattle.world.specs.Disks.{KeepsOthers};
+ghost use Rattle.world.specs.Shown.{Rests, ShowsBrick, ShowsBricks, ShowsStarted, TurnsOn, FindsUp, IsUp, AreNodesOf, disk_in, disks_of, unopened};
 
 use brick_store::StoreFault;
 use fab_base::{Ask, BrickId, NoMem};
@@ -37,14 +39,16 @@ pub struct Brick {
 }
 
 impl Power {
-    ghost use Rattle.std.specs.Prelude.{false};
+    ghost use Rattle.std.specs.Prelude.{◌≡◌, false, OnErr};
+    ghost use Rattle.fab_disk.specs.MemDisk.{content_of};
     ghost use Rattle.protocol.specs.Nodes.{stopped};
-    ghost use Rattle.world.specs.Shown.{ShowsPower, IsNodeOf, TurnsOn};
+    ghost use Rattle.world.specs.Shown.{ShowsPower, IsNodeOf, TurnsOn, disk_in};
 
     /// What is left where the brick stops.
     pub fn off(self) -> Power
-        ensures { (layout : _) (me : _) (state : _) (up : _) → ShowsPower layout me state up self
+        ensures shows { (layout : _) (me : _) (state : _) (up : _) → ShowsPower layout me state up self
             → ShowsPower layout me (stopped state) false result }
+        ensures disk { disk_in result ≡ disk_in self }
     {
         match self {
             Power::Up(node) => Power::Down(node.into_disk()),
@@ -56,7 +60,8 @@ impl Power {
     /// whether it did. The brick shows what it showed where it did not, and where memory is refused.
     pub fn on(self, alloc: Global, layout: &Layout, me: BrickId) -> (Power, Result<bool, NoMem>)
         requires { IsNodeOf layout.now me.0 self }
-        ensures { (state : _) (up : _) → ShowsPower layout.now me state up self → TurnsOn layout.now me state up result.0 result.1 }
+        ensures turns { (state : _) (up : _) → ShowsPower layout.now me state up self → TurnsOn layout.now me state up result.0 result.1 }
+        ensures content { OnErr result.1 (content_of (disk_in result.0) ≡ content_of (disk_in self)) }
     {
         match self {
             Power::Up(node) => (Power::Up(node), Ok(false)),
@@ -73,7 +78,8 @@ fn start_over(
     disk: MemDisk,
 ) -> (Power, Result<bool, NoMem>)
     requires { (state : machine.Node) × Rests layout.now me state disk }
-    ensures { (state : machine.Node) → Rests layout.now me state disk → TurnsOn layout.now me state false result.0 result.1 }
+    ensures turns { (state : machine.Node) → Rests layout.now me state disk → TurnsOn layout.now me state false result.0 result.1 }
+    ensures content { OnErr result.1 (content_of (disk_in result.0) ≡ content_of disk) }
 {
     let layout = match layout.copy(alloc) {
         Ok(layout) => layout,
@@ -97,7 +103,7 @@ fn start_over(
 
 /// A disk with a store that was made for a brick, and not opened yet.
 fn fresh_disk(alloc: Global, layout: &Layout, me: BrickId) -> Result<MemDisk, NoMem>
-    ensures { IfOk result (λ disk. Rests layout.now me (unopened layout.now.block) disk) }
+    ensures { IfOk result (λ disk. Rests layout.now me (unopened layout.now) disk) }
 {
     let mut disk = MemDisk::new(alloc, Vec::new(alloc));
     match brick_store::format(alloc, &mut disk, me, layout.block(), layout.records()) {
@@ -115,7 +121,7 @@ fn fresh_disk(alloc: Global, layout: &Layout, me: BrickId) -> Result<MemDisk, No
 
 /// A brick that is up, its store fresh and its clock at 0.
 fn fresh_brick(alloc: Global, layout: &Layout, me: BrickId) -> Result<Brick, NoMem>
-    ensures { IfOk result (λ brick. ShowsBrick layout.now me.0 brick (first_node layout.now.block) true 0) }
+    ensures { IfOk result (λ brick. ShowsBrick layout.now me.0 brick (first_node layout.now) true 0) }
 {
     let disk = fresh_disk(alloc, layout, me)?;
     let (power, started) = start_over(alloc, layout, me, disk);
@@ -175,6 +181,7 @@ pub fn ask_brick(bricks: &mut Vec<Brick>, number: BrickId, ask: &Ask) -> Result<
     ensures few { IfOk result (λ begun. vec_len begun.messages ≤ 32) }
     ensures err { OnErr result ((layout : _) (w : World) → ShowsBricks layout bricks.old.items w.nodes w.up w.clocks
         → ShowsBricks layout bricks.new.items w.nodes w.up w.clocks) }
+    ensures disks { disks_of bricks.new.items ≡ disks_of bricks.old.items }
     ensures not_halted { result ≢ Err NodeFault.Halted }
     ensures not_disk { result ≢ Err NodeFault.Disk }
 {
@@ -190,11 +197,13 @@ pub fn hand_over(bricks: &mut Vec<Brick>, number: BrickId, packet: &Packet) -> R
     requires { (layout : _) × IsUp layout bricks.old.items number }
     ensures stepped { IfOk result (λ outs. (layout : _) (w : World) → ShowsBricks layout bricks.old.items w.nodes w.up w.clocks
         → (let step = received (coding layout) number (w.clocks number.0) (w.nodes number.0) packet.now in
-        (packets_from number outs.messages.items ≡ step.packets) × (outs.told ≡ step.told)
+        (packets_from number outs.messages ≡ step.packets) × (outs.told ≡ step.told) × (outs.answers ≡ step.answers)
         × ShowsBricks layout bricks.new.items (changed w.nodes number.0 step.node) w.up w.clocks)) }
-    ensures few { IfOk result (λ outs. vec_len outs.messages ≤ 32) }
+    ensures few { IfOk result (λ outs. length outs.messages ≤ 32) }
     ensures err { OnErr result ((layout : _) (w : World) → ShowsBricks layout bricks.old.items w.nodes w.up w.clocks
         → ShowsBricks layout bricks.new.items w.nodes w.up w.clocks) }
+    ensures others { KeepsOthers (Some number) (disks_of bricks.old.items) (disks_of bricks.new.items) }
+    ensures contents { OnErr result (map content_of (disks_of bricks.new.items) ≡ map content_of (disks_of bricks.old.items)) }
 {
     let brick = &mut bricks[number.0 as usize];
     match &mut brick.power {
@@ -230,8 +239,9 @@ pub fn tick_brick(bricks: &[Brick], number: BrickId) -> Result<Messages, NoMem>
 /// A brick stops: its disk is all that is left of it.
 pub fn stop_brick(bricks: &mut Vec<Brick>, alloc: Global, number: BrickId)
     requires { number.0 < vec_len bricks.old }
-    ensures { (layout : _) (w : World) → ShowsBricks layout bricks.old.items w.nodes w.up w.clocks
+    ensures shows { (layout : _) (w : World) → ShowsBricks layout bricks.old.items w.nodes w.up w.clocks
         → ShowsBricks layout bricks.new.items (changed w.nodes number.0 (stopped (w.nodes number.0))) (changed w.up number.0 false) w.clocks }
+    ensures disks { disks_of bricks.new.items ≡ disks_of bricks.old.items }
 {
     let brick = &mut bricks[number.0 as usize];
     let nothing = Power::Down(MemDisk::new(alloc, Vec::new(alloc)));
@@ -253,6 +263,8 @@ pub fn start_brick(
         → ShowsStarted layout.now number w bricks.new.items started) }
     ensures err { OnErr result ((w : World) → ShowsBricks layout.now bricks.old.items w.nodes w.up w.clocks
         → ShowsBricks layout.now bricks.new.items w.nodes w.up w.clocks) }
+    ensures others { KeepsOthers (Some number) (disks_of bricks.old.items) (disks_of bricks.new.items) }
+    ensures contents { OnErr result (map content_of (disks_of bricks.new.items) ≡ map content_of (disks_of bricks.old.items)) }
 {
     let brick = &mut bricks[number.0 as usize];
     let nothing = Power::Down(MemDisk::new(alloc, Vec::new(alloc)));

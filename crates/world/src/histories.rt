@@ -5,12 +5,12 @@ ghost use Rattle.coord_phase.specs.Messages.{packets_from};
 ghost use Rattle.std.specs.Option.{option_copied};
 ghost use Rattle.protocol.specs.Worlds.{packet_of, is_answer};
 ghost use Rattle.protocol.specs.Happenings.{writes};
-ghost use Rattle.world.specs.Shown.{ChangesAt, made_kept, ended_kept};
+ghost use Rattle.world.specs.Shown.{ChangesAt, made_kept, seen_kept, ended_kept};
 
 use fab_base::{Answer, Ask, BrickId, GroupId, NoMem, Op, Stamp, StripeNo};
 use messages::{Messages, Packet};
 use node::Outs;
-use protocol::Told;
+use protocol::{Answered, Told};
 use reg_model::Mark;
 use std::alloc::Global;
 use std::collections::BTreeMap;
@@ -98,9 +98,9 @@ fn note_made(operations: &mut [KeptOperation], number: u64, stamp: Stamp, base: 
     kept.base = base;
 }
 
-/// The operation of a number ended: answered, or aborted; a read may have seen a version.
-fn note_answer(operations: &mut [KeptOperation], number: u64, answered: bool, seen: Option<Stamp>)
-    ensures { ChangesAt operations.old operations.new number (ended_kept answered seen) }
+/// The operation of a number read a version at once.
+fn note_seen(operations: &mut [KeptOperation], number: u64, stamp: Stamp)
+    ensures { ChangesAt operations.old operations.new number (seen_kept stamp) }
 {
     if number == 0 {
         return;
@@ -109,9 +109,21 @@ fn note_answer(operations: &mut [KeptOperation], number: u64, answered: bool, se
     if place >= operations.len() {
         return;
     }
-    let kept = &mut operations[place];
-    kept.version = seen.or(kept.version);
-    kept.answered = answered;
+    operations[place].version = Some(stamp);
+}
+
+/// The operation of a number ended: answered, or aborted.
+fn note_answer(operations: &mut [KeptOperation], number: u64, answered: bool)
+    ensures { ChangesAt operations.old operations.new number (ended_kept answered) }
+{
+    if number == 0 {
+        return;
+    }
+    let place = (number - 1) as usize;
+    if place >= operations.len() {
+        return;
+    }
+    operations[place].answered = answered;
 }
 
 /// Puts what a brick sends behind what was sent, in order. There is room for it.
@@ -129,7 +141,7 @@ fn put_packets(sent: &mut Vec<Packet>, brick: BrickId, messages: Messages)
 }
 
 impl History {
-    ghost use Rattle.std.specs.Prelude.{◌≡◌, ◌+◌, ◌<◌, ◌≤◌, [], ◌∷◌, ◌++◌, Some, None, length, unwrap_or, OnOk, OnErr, vec_len, vec_capacity};
+    ghost use Rattle.std.specs.Prelude.{◌≡◌, ◌+◌, ◌<◌, ◌≤◌, [], ◌∷◌, ◌++◌, Some, None, length, unwrap_or, option_to_list, OnOk, OnErr, vec_len, vec_capacity};
     ghost use Rattle.std.specs.BTreeMap.{get};
     ghost use Rattle.std.specs.Option.{ForSome};
     ghost use Rattle.fab_base.specs.Layouts.{Layout};
@@ -137,9 +149,8 @@ impl History {
     ghost use Rattle.protocol.specs.Settings.{Setting};
     ghost use Rattle.protocol.specs.Nodes.{NodeStep};
     ghost use Rattle.protocol.specs.Nodes.{put as changed};
-    ghost use Rattle.protocol.specs.Worlds.{World, first_world, number_of, world_began, world_stepped, world_stopped, with_made, with_answer};
-    ghost use Rattle.reg_model.specs.declared.marks.Mark.TheVariants.{End};
-    ghost use Rattle.world.specs.Shown.{Tells, HasStepRoom, pair_cmp, IsOfCall};
+    ghost use Rattle.protocol.specs.Worlds.{World, first_world, number_of, world_began, world_stepped, world_stopped, world_tells, world_answers, with_made, with_seen};
+    ghost use Rattle.world.specs.Shown.{Tells, HasStepRoom, pair_cmp, AreTold, AreAnswered};
 
     /// Nothing yet.
     pub fn new(alloc: Global) -> History
@@ -157,7 +168,6 @@ impl History {
     pub fn make_room(&mut self) -> Result<(), NoMem>
         ensures room { OnOk result (HasStepRoom self.new) }
         ensures same { (w : World) → Tells self.old w → Tells self.new w }
-        ensures marks { vec_len self.new.marks ≡ vec_len self.old.marks }
     {
         self.sent.reserve(MOST_PACKETS)?;
         self.marks.reserve(1)?;
@@ -172,7 +182,6 @@ impl History {
         ensures number { OnOk result ((w : World) → Tells self.old w
             → get pair_cmp self.new.numbers (brick.0, seq) ≡ Some (w.begun + 1)) }
         ensures same { (w : World) → (w.nodes brick.0).seq < seq → Tells self.old w → Tells self.new w }
-        ensures marks { vec_len self.new.marks ≡ vec_len self.old.marks }
     {
         let operation = self.operations.len() as u64 + 1;
         self.numbers.insert((brick.0, seq), operation)?;
@@ -186,7 +195,6 @@ impl History {
         ensures number { OnOk result (ForSome next (λ seq. (w : World) → Tells self.old w
             → get pair_cmp self.new.numbers (brick.0, seq) ≡ Some (w.begun + 1))) }
         ensures same { (w : World) → ForSome next (λ seq. (w.nodes brick.0).seq < seq) → Tells self.old w → Tells self.new w }
-        ensures marks { vec_len self.new.marks ≡ vec_len self.old.marks }
     {
         self.make_room()?;
         match next {
@@ -223,7 +231,6 @@ impl History {
         ensures sent { OnOk result ((w : World) → Tells self.old w
             → Tells self.new (record w { packets = w.packets ++ packets_from brick messages.items })) }
         ensures err { OnErr result ((w : World) → Tells self.old w → Tells self.new w) }
-        ensures marks { vec_len self.new.marks ≡ vec_len self.old.marks }
     {
         self.sent.reserve(messages.len())?;
         self.send(brick, messages);
@@ -233,8 +240,7 @@ impl History {
     /// Notes that a brick stops.
     pub fn crash(&mut self, brick: BrickId)
         requires { HasStepRoom self.old }
-        ensures crashed { (setting : Setting) (w : World) → Tells self.old w → Tells self.new (world_stopped setting w brick None) }
-        ensures marks { vec_len self.old.marks ≤ vec_len self.new.marks }
+        ensures { (setting : Setting) (w : World) → Tells self.old w → Tells self.new (world_stopped setting w brick None) }
     {
         let position = self.marks.len() as u64;
         // There is room for it.
@@ -245,10 +251,9 @@ impl History {
     pub fn begin(&mut self, brick: BrickId, ask: Ask, messages: Messages)
         requires room { HasStepRoom self.old }
         requires few { vec_len messages ≤ 32 }
-        ensures begun { (w : World) (step : NodeStep) → Tells self.old w
+        ensures { (w : World) (step : NodeStep) → Tells self.old w
             → packets_from brick messages.items ≡ step.packets → step.node.boot ≡ (w.nodes brick.0).boot → step.node.seq ≡ (w.nodes brick.0).seq + 1
             → get pair_cmp self.old.numbers (brick.0, step.node.seq) ≡ Some (w.begun + 1) → Tells self.new (world_began w brick ask step) }
-        ensures marks { vec_len self.old.marks ≤ vec_len self.new.marks }
     {
         let position = self.marks.len() as u64;
         let operation = self.operations.len() as u64 + 1;
@@ -279,23 +284,50 @@ impl History {
             → (let n = number_of w brick.0 seq in Tells self.new
             (record w { operations = changed w.operations n (with_made stamp base (w.operations n)) })) }
         ensures marks { self.new.marks ≡ self.old.marks }
+        ensures sent { self.new.sent ≡ self.old.sent }
     {
         let number = self.number(brick, seq);
         note_made(&mut self.operations, number, stamp, base);
     }
 
-    /// The operation of a brick's call ended.
-    fn end(&mut self, brick: BrickId, seq: u64, answer: Answer, seen: Option<Stamp>)
-        requires { vec_len self.old.marks < vec_capacity self.old.marks }
-        ensures ended { (w : World) → Tells self.old w → 1 ≤ seq → seq ≤ (w.nodes brick.0).seq
-            → (let n = number_of w brick.0 seq in Tells self.new (record w {
-              marks = w.marks ++ End (length w.marks) n answer ∷ [];
-              operations = changed w.operations n (with_answer answer seen (w.operations n));
-            })) }
-        ensures marks { vec_len self.old.marks ≤ vec_len self.new.marks }
+    /// The operation of a brick's call read a version at once.
+    fn seen(&mut self, brick: BrickId, seq: u64, stamp: Stamp)
+        ensures seen { (w : World) → Tells self.old w → 1 ≤ seq → seq ≤ (w.nodes brick.0).seq
+            → (let n = number_of w brick.0 seq in Tells self.new
+            (record w { operations = changed w.operations n (with_seen stamp (w.operations n)) })) }
+        ensures marks { self.new.marks ≡ self.old.marks }
+        ensures sent { self.new.sent ≡ self.old.sent }
     {
+        let number = self.number(brick, seq);
+        note_seen(&mut self.operations, number, stamp);
+    }
+
+    /// Notes what a step told, if anything.
+    fn tell(&mut self, brick: BrickId, told: Option<Told>)
+        ensures told { (setting : Setting) (w : World) → Tells self.old w → AreTold (w.nodes brick.0) (option_to_list told)
+            → Tells self.new (world_tells setting w brick (option_to_list told)) }
+        ensures marks { self.new.marks ≡ self.old.marks }
+        ensures sent { self.new.sent ≡ self.old.sent }
+    {
+        match told {
+            None => {}
+            Some(Told::Made { seq, stamp, base }) => self.made(brick, seq, stamp, base),
+            Some(Told::Seen { seq, stamp }) => self.seen(brick, seq, stamp),
+        }
+    }
+
+    /// Notes the answer that a step gave, if one.
+    fn answer(&mut self, brick: BrickId, answer: Option<Answered>)
+        requires { vec_len self.old.marks < vec_capacity self.old.marks }
+        ensures answered { (w : World) → Tells self.old w → AreAnswered (w.nodes brick.0) (option_to_list answer)
+            → Tells self.new (world_answers w brick (option_to_list answer)) }
+        ensures sent { self.new.sent ≡ self.old.sent }
+    {
+        let Some(Answered { seq, answer }) = answer else {
+            return;
+        };
         let operation = self.number(brick, seq);
-        note_answer(&mut self.operations, operation, is_answer(&answer), seen);
+        note_answer(&mut self.operations, operation, is_answer(&answer));
         let position = self.marks.len() as u64;
         // There is room for it.
         let _ = self.marks.push(Mark::End {
@@ -305,22 +337,19 @@ impl History {
         });
     }
 
-    /// Notes what a step sent and told.
+    /// Notes what a step told, answered and sent.
     pub fn step(&mut self, brick: BrickId, outs: Outs)
         requires room { HasStepRoom self.old }
-        requires few { vec_len outs.messages ≤ 32 }
-        ensures stepped { (setting : Setting) (w : World) (step : NodeStep) → Tells self.old w
-            → packets_from brick outs.messages.items ≡ step.packets → outs.told ≡ step.told
-            → step.node.boot ≡ (w.nodes brick.0).boot → step.node.seq ≡ (w.nodes brick.0).seq → IsOfCall (w.nodes brick.0) step.told
-            → Tells self.new (world_stepped setting w brick step step.told) }
-        ensures marks { vec_len self.old.marks ≤ vec_len self.new.marks }
+        requires few { length outs.messages ≤ 32 }
+        ensures { (setting : Setting) (w : World) (step : NodeStep) → Tells self.old w
+            → packets_from brick outs.messages ≡ step.packets → outs.told ≡ step.told → outs.answers ≡ step.answers
+            → step.node.boot ≡ (w.nodes brick.0).boot → step.node.seq ≡ (w.nodes brick.0).seq
+            → AreTold (w.nodes brick.0) step.told → AreAnswered (w.nodes brick.0) step.answers
+            → Tells self.new (world_stepped setting w brick step) }
     {
-        let Outs { messages, told } = outs;
+        let (messages, told, answer) = outs.into_parts();
+        self.tell(brick, told);
+        self.answer(brick, answer);
         self.send(brick, messages);
-        match told {
-            Told::Nothing => {}
-            Told::Made { seq, stamp, base } => self.made(brick, seq, stamp, base),
-            Told::Answers { seq, answer, seen } => self.end(brick, seq, answer, seen),
-        }
     }
 }

@@ -7,6 +7,7 @@ mod histories;
 mod simulations;
 mod stripe_entries;
 mod texts;
+mod trails;
 mod walks;
 mod worlds;
 

@@ -63,15 +63,17 @@ fn op_of(alloc: Global, access: &Access) -> Result<Op, NoMem>
 }
 
 impl Simulation {
-    ghost use Rattle.std.specs.Prelude.{◌≡◌, ◌<◌, ◌≤◌, true, None, vec_len, IfOk, OnOk, OnErr};
+    ghost use Rattle.std.specs.Prelude.{◌≡◌, ◌<◌, ◌≤◌, true, Some, None, map, vec_len, IfOk, OnOk, OnErr};
+    ghost use Rattle.fab_disk.specs.MemDisk.{content_of};
     ghost use Rattle.protocol.specs.Nodes.{is_stripe_op};
-    ghost use Rattle.protocol.specs.Worlds.{World, first_world, happens, packet_of};
+    ghost use Rattle.protocol.specs.Worlds.{World, first_world, happens, is_brick, is_up, may_start, packet_of, run};
     ghost use Rattle.protocol.specs.Worlds.Event.{Invokes, Delivers, Sets, Ticks, Stops, Starts};
     ghost use Rattle.protocol.specs.Worlds.Found.{Before};
     ghost use Rattle.stripe_code.specs.Codes.{coding};
-    ghost use Rattle.world.specs.Runs.{brick_of, ask_of, op_of, refusal_at, after_line};
-    ghost use Rattle.world.specs.Shown.{AreNodesOf, Shows, IsUp, IsNumbered};
-    ghost use Rattle.world.specs.Texts.{refused_or_begun, handled_or_idle, set_or_idle, done_or_idle, started_or_idle, outcome_of};
+    ghost use Rattle.world.specs.Runs.{brick_of, ask_of, op_of, refusal_at, events_of};
+    ghost use Rattle.world.specs.Disks.{KeepsDisks, KeepsOthers, changes_disk_of};
+    ghost use Rattle.world.specs.Shown.{AreNodesOf, Shows, IsUp, IsNumbered, disks_of, came_to};
+    ghost use Rattle.world.specs.Texts.{refused_or_begun, marks_if, is_deliverable};
 
     /// All bricks up, their stores fresh, their clocks at 0, and nothing sent.
     pub fn new(alloc: Global, layout: &Layout) -> Result<Simulation, NoMem>
@@ -88,11 +90,13 @@ impl Simulation {
         requires nodes { AreNodesOf layout.now self.old.bricks.items }
         requires bricks { vec_len self.old.bricks ≡ layout.now.bricks }
         ensures shows { OnOk result ((w : World) → IsNumbered w → Shows layout.now self.old w
-            → Shows layout.now self.new (after_line (coding layout.now) w line.now)) }
+            → Shows layout.now self.new (run (coding layout.now) (events_of line.now) w)) }
         ensures outcome { IfOk result (λ outcome. (w : World) → Shows layout.now self.old w
-            → outcome ≡ outcome_of (coding layout.now) w line.now) }
+            → outcome ≡ came_to (coding layout.now) w (events_of line.now)) }
+        ensures disks { OnOk result ((w : World) → Shows layout.now self.old w
+            → KeepsDisks (coding layout.now) w (events_of line.now) (disks_of self.old.bricks.items) (disks_of self.new.bricks.items)) }
+        ensures contents { OnErr result (map content_of (disks_of self.new.bricks.items) ≡ map content_of (disks_of self.old.bricks.items)) }
         ensures err { OnErr result ((w : World) → Shows layout.now self.old w → Shows layout.now self.new w) }
-        ensures marks { vec_len self.old.history.marks ≤ vec_len self.new.history.marks }
     {
         match line {
             Line::Nothing => Ok(Outcome::Marks),
@@ -127,7 +131,7 @@ impl Simulation {
         ensures outcome { IfOk result (λ outcome. (w : World) → Shows layout.now self.old w
             → outcome ≡ refused_or_begun (refusal_at (coding layout.now) w (brick_of brick) (ask_of group stripe (op_of access.now)))) }
         ensures err { OnErr result ((w : World) → Shows layout.now self.old w → Shows layout.now self.new w) }
-        ensures marks { vec_len self.old.history.marks ≤ vec_len self.new.history.marks }
+        ensures disks { disks_of self.new.bricks.items ≡ disks_of self.old.bricks.items }
     {
         let brick = match find_up(&self.bricks, layout, brick) {
             Some(brick) => brick,
@@ -150,7 +154,7 @@ impl Simulation {
         ensures outcome { IfOk result (λ outcome. (w : World) → Shows layout.now self.old w
             → outcome ≡ refused_or_begun (refusal_at (coding layout.now) w brick ask)) }
         ensures err { OnErr result ((w : World) → Shows layout.now self.old w → Shows layout.now self.new w) }
-        ensures marks { vec_len self.old.history.marks ≤ vec_len self.new.history.marks }
+        ensures disks { disks_of self.new.bricks.items ≡ disks_of self.old.bricks.items }
     {
         let next = next_of(&self.bricks, brick);
         self.history.expect_call(brick, next)?;
@@ -172,9 +176,11 @@ impl Simulation {
         ensures shows { OnOk result ((w : World) → IsNumbered w → Shows layout.now self.old w
             → Shows layout.now self.new (happens (coding layout.now) w (Delivers message))) }
         ensures outcome { IfOk result (λ outcome. (w : World) → Shows layout.now self.old w
-            → outcome ≡ handled_or_idle (coding layout.now) w (packet_of w.packets message)) }
+            → outcome ≡ marks_if (is_deliverable (coding layout.now) w (packet_of w.packets message))) }
         ensures err { OnErr result ((w : World) → Shows layout.now self.old w → Shows layout.now self.new w) }
-        ensures marks { vec_len self.old.history.marks ≤ vec_len self.new.history.marks }
+        ensures disks { OnOk result ((w : World) → Shows layout.now self.old w
+            → KeepsOthers (changes_disk_of w (Delivers message)) (disks_of self.old.bricks.items) (disks_of self.new.bricks.items)) }
+        ensures contents { OnErr result (map content_of (disks_of self.new.bricks.items) ≡ map content_of (disks_of self.old.bricks.items)) }
     {
         self.history.make_room()?;
         let packet = match packet_at(&self.history.sent, message) {
@@ -195,8 +201,9 @@ impl Simulation {
         requires { vec_len self.old.bricks ≡ layout.now.bricks }
         ensures shows { (w : World) → Shows layout.now self.old w
             → Shows layout.now self.new (happens (coding layout.now) w (Sets (brick_of brick) time)) }
-        ensures outcome { result ≡ set_or_idle layout.now (brick_of brick) }
+        ensures outcome { result ≡ marks_if (is_brick layout.now (brick_of brick)) }
         ensures history { self.new.history ≡ self.old.history }
+        ensures disks { disks_of self.new.bricks.items ≡ disks_of self.old.bricks.items }
     {
         if brick >= u64::from(layout.bricks()) {
             return Outcome::Idle;
@@ -213,9 +220,9 @@ impl Simulation {
         ensures shows { OnOk result ((w : World) → Shows layout.now self.old w
             → Shows layout.now self.new (happens (coding layout.now) w (Ticks (brick_of brick)))) }
         ensures outcome { IfOk result (λ outcome. (w : World) → Shows layout.now self.old w
-            → outcome ≡ done_or_idle layout.now w (brick_of brick)) }
+            → outcome ≡ marks_if (is_up layout.now w (brick_of brick))) }
         ensures err { OnErr result ((w : World) → Shows layout.now self.old w → Shows layout.now self.new w) }
-        ensures marks { vec_len self.old.history.marks ≤ vec_len self.new.history.marks }
+        ensures disks { disks_of self.new.bricks.items ≡ disks_of self.old.bricks.items }
     {
         let brick = match find_up(&self.bricks, layout, brick) {
             Some(brick) => brick,
@@ -233,9 +240,9 @@ impl Simulation {
         ensures shows { OnOk result ((w : World) → Shows layout.now self.old w
             → Shows layout.now self.new (happens (coding layout.now) w (Stops (brick_of brick) None))) }
         ensures outcome { IfOk result (λ outcome. (w : World) → Shows layout.now self.old w
-            → outcome ≡ done_or_idle layout.now w (brick_of brick)) }
+            → outcome ≡ marks_if (is_up layout.now w (brick_of brick))) }
         ensures err { OnErr result ((w : World) → Shows layout.now self.old w → Shows layout.now self.new w) }
-        ensures marks { vec_len self.old.history.marks ≤ vec_len self.new.history.marks }
+        ensures disks { disks_of self.new.bricks.items ≡ disks_of self.old.bricks.items }
     {
         let brick = match find_up(&self.bricks, layout, brick) {
             Some(brick) => brick,
@@ -254,9 +261,11 @@ impl Simulation {
         ensures shows { OnOk result ((w : World) → Shows layout.now self.old w
             → Shows layout.now self.new (happens (coding layout.now) w (Starts (brick_of brick) 1 Before))) }
         ensures outcome { IfOk result (λ outcome. (w : World) → Shows layout.now self.old w
-            → outcome ≡ started_or_idle layout.now w (brick_of brick)) }
+            → outcome ≡ marks_if (may_start layout.now w (brick_of brick) 1)) }
         ensures err { OnErr result ((w : World) → Shows layout.now self.old w → Shows layout.now self.new w) }
         ensures history { self.new.history ≡ self.old.history }
+        ensures disks { KeepsOthers (Some (brick_of brick)) (disks_of self.old.bricks.items) (disks_of self.new.bricks.items) }
+        ensures contents { OnErr result (map content_of (disks_of self.new.bricks.items) ≡ map content_of (disks_of self.old.bricks.items)) }
     {
         if brick >= u64::from(layout.bricks()) {
             return Ok(Outcome::Idle);

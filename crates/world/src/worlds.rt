@@ -1,4 +1,4 @@
-//! The world: a run of lines over the disk of a layout.
+//! The world: a run of steps over the disk of a layout.
 
 ghost use Rattle.std.specs.Prelude.{◌≡◌, IfOk};
 ghost use Rattle.world.specs.Texts.{outcome_text};
@@ -7,6 +7,7 @@ use crate::bricks::Power;
 use crate::simulations::{Outcome, Simulation};
 use crate::stripe_entries::StripeEntries;
 use crate::texts::{idle_text, marks_text, refusal_text};
+use crate::trails::Trail;
 use crate::walks;
 use fab_base::{BrickId, Bytes, GroupId, NoMem, StripeNo};
 use layout::Layout;
@@ -16,19 +17,26 @@ use reg_model::{Happening, Mark};
 use std::alloc::Global;
 use std::marker::Model;
 
-/// The whole disk of a layout over simulated bricks, and the lines that it ran: it stands for that run.
+/// The whole disk of a layout over simulated bricks. It stands for the run of the steps that it took.
+///
+/// A clause sees the layout, the steps, and the disk of each brick. The steps themselves are not kept.
 #[derive(Drop)]
 pub struct World {
     alloc: Global,
     layout: Layout,
-    lines: Vec<Line>,
     simulation: Simulation,
+    trail: Trail,
 }
 
 impl Model for World {
     ghost use Rattle.world.specs.Runs.{Run};
 
     ghost Value = { Run };
+
+    ghost use Rattle.std.specs.Coded.{codes};
+    ghost use Rattle.fab_disk.specs.contracts.mem_disk.MemDisk as disk;
+
+    ghost coded = { Prim.hlevel (codes, disk.the_row.coded) };
 
     ghost use Rattle.world.specs.Standing.{run_of, IsStanding};
 
@@ -77,21 +85,23 @@ impl World {
     ghost use Rattle.lines.specs.Grammar.{line_of};
     ghost use Rattle.stripe_code.specs.Codes.{coding};
     ghost use Rattle.protocol.specs.Happenings.{happenings_of};
-    ghost use Rattle.world.specs.Runs.{world_of};
-    ghost use Rattle.world.specs.Texts.{outcome_of};
-    ghost use Rattle.world.specs.Steps.{Ran, Stands, with_line, log_at};
+    ghost use Rattle.world.specs.Runs.{world_of, events_of};
+    ghost use Rattle.world.specs.Disks.{ShowsDisks};
+    ghost use Rattle.world.specs.Shown.{came_to};
+    ghost use Rattle.world.specs.Steps.{Ran, Runs, IsAsBefore, Stands, log_at};
     ghost use Rattle.world.specs.Walks.{AreEntriesOf};
 
     /// All bricks up, their stores fresh, their clocks at 0, and nothing sent.
     pub fn new(alloc: Global, layout: Layout) -> Result<World, NoMem>
-        ensures { IfOk result (λ world. world ≡ record { layout = layout; lines = [] }) }
+        ensures first { IfOk result (λ world. world ≡ record { layout = layout; steps = []; disks = world.disks }) }
+        ensures disks { IfOk result ShowsDisks }
     {
         let simulation = Simulation::new(alloc, &layout)?;
         Ok(World {
             alloc,
             layout,
-            lines: Vec::new(alloc),
             simulation,
+            trail: Trail::new(),
         })
     }
 
@@ -100,18 +110,20 @@ impl World {
     /// # Errors
     ///
     /// `BadLine` exactly where the bytes are no line of a schedule; nothing has changed then. `NoMemory` where no memory was left: either
-    /// nothing has changed, or the line was run and only its text is missing.
+    /// nothing that a disk gives or that happened has changed, or the line was run and only its text is missing.
     pub fn step(&mut self, content: &[u8]) -> Result<Bytes, StepFault>
         ensures ok { IfOk result (λ text. Ran self.old self.new content.now text) }
         ensures bad { IsErrOf result StepFault.BadLine → (line_of content.now ≡ None) × (self.new ≡ self.old) }
         ensures memory { Stands self.old self.new content.now result }
+        // Whatever it answers, each disk keeps what the machine's brick keeps.
+        ensures disks { ShowsDisks self.new }
     {
+        let before = self.simulation.history.marks.len();
         let line = match parse(self.alloc, content)? {
             Some(line) => line,
             None => return Err(StepFault::BadLine),
         };
-        let before = self.simulation.history.marks.len();
-        let outcome = self.run(line)?;
+        let outcome = self.run(&line)?;
         Ok(print(
             self.alloc,
             outcome,
@@ -120,16 +132,15 @@ impl World {
     }
 
     /// Runs a line.
-    fn run(&mut self, line: Line) -> Result<Outcome, NoMem>
-        ensures ok { OnOk result (self.new ≡ with_line self.old line) }
-        ensures outcome { IfOk result (λ outcome. outcome ≡ outcome_of (coding self.old.layout) (world_of self.old) line) }
+    fn run(&mut self, line: &Line) -> Result<Outcome, NoMem>
+        ensures ok { OnOk result (Runs self.old self.new line.now (record { line = line.now; events = events_of line.now })) }
+        ensures outcome { IfOk result (λ outcome. outcome ≡ came_to (coding self.old.layout) (world_of self.old) (events_of line.now)) }
         ensures marks { OnOk result (length (world_of self.old).marks ≤ length (world_of self.new).marks) }
-        ensures err { OnErr result (self.new ≡ self.old) }
+        ensures err { OnErr result (IsAsBefore self.old self.new) }
+        ensures disks { ShowsDisks self.new }
     {
-        self.lines.reserve(1)?;
-        let outcome = self.simulation.run(self.alloc, &self.layout, &line)?;
-        // There is room for it.
-        let _ = self.lines.push(line);
+        let outcome = self.simulation.run(self.alloc, &self.layout, line)?;
+        self.trail = Trail::with(&self.trail, line);
         Ok(outcome)
     }
 

@@ -1,8 +1,10 @@
 -- The brick of the number does what the machine's does.
 use Rattle.std.proofs.Common.{◌≡◌, true, false, ap, ◌∙◌, subst, sym}
-use Rattle.fab_disk.specs.MemDisk.{IsSound}
+use Rattle.fab_disk.specs.MemDisk.{may_be_left, IsSound}
 use Rattle.fab_disk.specs.declared.mem_disk.MemDisk.{MemDisk}
 use Rattle.brick_store.specs.Bricks.{Brick as Store}
+use Rattle.world.specs.Shown.{disk_in}
+use Rattle.world.proofs.DiskLemmas.{disks_same}
 use Rattle.world.proofs.BrickListLemmas.{on_at, asked_refused, asked_begun, asked_same}
 use Rattle.world.proofs.bricks.ask_brick.Goals as goal
 
@@ -28,7 +30,13 @@ returns-clause-err c =
     asked_same c.args.bricks.now.items c.args.number.0 c.index_mut-brick.result.now c.in-Up.node c.invoke.new.self c.invoke.result
     c.requires.brick.1.within c.index_mut-brick.ensures.value c.in-Up.is c.invoke.ensures.same
     (ap (λ (x : Store MemDisk). x.halted) c.invoke.ensures.brick ∙ on.0)
-    (subst (λ (x : Store MemDisk). IsSound x.disk) (sym c.invoke.ensures.brick) on.1) c.invoke.ensures.err
+    (subst (λ (x : Store MemDisk). IsSound x.disk) (sym c.invoke.ensures.brick) on.1)
+    (λ image left. subst (λ (x : Store MemDisk). may_be_left x.disk image) c.invoke.ensures.brick left) c.invoke.ensures.err
+
+pub returns-clause-disks : goal.returns-clause-disks
+returns-clause-disks c =
+    disks_same c.args.bricks.now.items c.args.number.0 c.index_mut-brick.result.now _ c.index_mut-brick.ensures.value
+    (ap (λ (x : Store MemDisk). x.disk) c.invoke.ensures.brick ∙ sym (ap disk_in c.in-Up.is))
 
 pub returns-clause-not_halted : goal.returns-clause-not_halted
 returns-clause-not_halted c = λ halted.

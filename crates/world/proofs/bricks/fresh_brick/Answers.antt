@@ -6,7 +6,7 @@ use Rattle.world.proofs.bricks.fresh_brick.Goals as goal
 
 pub returns : goal.returns
 returns c =
-    let turned = c.start_over-power.ensures (unopened c.args.layout.now.block) c.in_ok-disk.ensures in
+    let turned = c.start_over-power.ensures.turns (unopened c.args.layout.now) c.in_ok-disk.ensures in
     record {
       power = fresh_runs c.args.layout.now c.args.me c.start_over-power.result.0 c.start_over-power.result.1 c.in_ok-started.field-0
           c.in_ok-started.was turned;

@@ -1,6 +1,11 @@
 -- The brick of the number does what the machine's does.
-use Rattle.std.proofs.Common.{refl, ◌∙◌, rules}
-use Rattle.node.specs.Running.{IsSameBrick}
+use Rattle.std.proofs.Common.{refl, sym, ap, ◌∙◌, subst, rules}
+use Rattle.fab_disk.specs.MemDisk.{content_of}
+use Rattle.node.specs.Running.{ImageShows, IsSameBrick}
+use Rattle.protocol.specs.Nodes.{Node}
+use Rattle.world.specs.Shown.{disk_in}
+use Rattle.world.specs.declared.bricks.Power.{Power}
+use Rattle.world.proofs.DiskLemmas.{others_kept, contents_same}
 use Rattle.world.proofs.BrickListLemmas.{on_at, handed_over, same_shown}
 use Rattle.world.proofs.bricks.hand_over.Goals as goal
 
@@ -26,9 +31,13 @@ returns-in-Ok-clause-stepped c =
     c.requires.1.within c.index_mut-brick.ensures.value c.in-Up.is same
     (c.arm.ensures.halted ∙ (let runs = on.0 in let sound = on.1 in search rules))
     (c.arm.ensures.sound refl (let runs = on.0 in let sound = on.1 in search rules))
+    (λ image left.
+    subst (λ (x : Node). ImageShows c.in-Up.node.layout c.in-Up.node.me x image) (sym c.arm.ensures.state)
+    (c.in-Ok.ensures.durable tt image (c.arm.ensures.crash image left)))
     (record {
       packets = c.in-Ok.ensures.step.packets;
       told = c.in-Ok.ensures.step.told;
+      answers = c.in-Ok.ensures.step.answers;
       state_is = c.arm.ensures.state ∙ c.in-Ok.ensures.step.state_is;
     })
 
@@ -39,4 +48,16 @@ returns-in-Err-NoMemory-clause-err c =
     in
     same_shown c.args.bricks.now.items c.args.number.0 c.index_mut-brick.result.now c.in-Up.node c.on_message.new.self
     c.requires.1.within c.index_mut-brick.ensures.value c.in-Up.is c.on_message.ensures.same (let runs = on.0 in let sound = on.1 in search rules)
-    (let runs = on.0 in let sound = on.1 in search rules) c.in-Err-NoMemory.ensures.err
+    (let runs = on.0 in let sound = on.1 in search rules) (c.in-Err-NoMemory.ensures.no_call (λ never. cc)).crash c.in-Err-NoMemory.ensures.err
+
+pub returns-in-Ok-clause-others : goal.returns-in-Ok-clause-others
+returns-in-Ok-clause-others c = others_kept c.args.bricks.now.items c.args.number _
+
+pub returns-in-Err-NoMemory-clause-others : goal.returns-in-Err-NoMemory-clause-others
+returns-in-Err-NoMemory-clause-others c = others_kept c.args.bricks.now.items c.args.number _
+
+pub returns-in-Err-NoMemory-clause-contents : goal.returns-in-Err-NoMemory-clause-contents
+returns-in-Err-NoMemory-clause-contents c =
+    contents_same c.args.bricks.now.items c.args.number.0 c.index_mut-brick.result.now _ c.index_mut-brick.ensures.value
+    ((c.in-Err-NoMemory.ensures.no_call (λ never. cc)).content
+    ∙ sym (ap (λ (power : Power). content_of (disk_in power)) c.in-Up.is))

@@ -1,17 +1,14 @@
 -- The operation of the number changed, where there is one.
-use Rattle.std.proofs.Common.{◌-◌, get_or}
 use Rattle.world.specs.Shown.{ended_kept}
-use Rattle.world.proofs.HistoryLemmas.{changes_none, changes_past, changes_to, ended_fields}
+use Rattle.world.proofs.HistoryLemmas.{changes_none, changes_past, changes_at}
 use Rattle.world.proofs.histories.note_answer.Goals as goal
 
 pub returns-then-number-eq0 : goal.returns-then-number-eq0
-returns-then-number-eq0 c = changes_none c.args.operations.now c.args.number (ended_kept c.args.answered c.args.seen) c.if-number-eq0.true
+returns-then-number-eq0 c = changes_none c.args.operations.now c.args.number (ended_kept c.args.answered) c.if-number-eq0.true
 
 pub returns-then-place-operations : goal.returns-then-place-operations
 returns-then-place-operations c =
-    changes_past c.args.operations.now c.args.number (ended_kept c.args.answered c.args.seen) c.if-number-eq0.false c.if-place-operations.true
+    changes_past c.args.operations.now c.args.number (ended_kept c.args.answered) c.if-number-eq0.false c.if-place-operations.true
 
 pub returns : goal.returns
-returns c =
-    changes_to c.args.operations.now c.args.number _ _ (ended_kept c.args.answered c.args.seen) c.if-number-eq0.false c.if-place-operations.false
-    (ended_fields c.args.answered c.args.seen c.or-kept.result (get_or c.args.operations.now (c.args.number - 1) _) c.or-kept.ensures)
+returns c = changes_at c.args.operations.now c.args.number _ (ended_kept c.args.answered) c.if-number-eq0.false c.if-place-operations.false

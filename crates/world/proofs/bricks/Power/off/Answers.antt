@@ -5,15 +5,12 @@ use Rattle.world.specs.Shown.{ShowsPower}
 use Rattle.world.proofs.BrickLemmas.{rests_off, rests_stopped}
 use Rattle.world.proofs.bricks.Power.off.Goals as goal
 
-pub returns-in-Up : goal.returns-in-Up
-returns-in-Up c layout me state up shows =
-    let on = subst (λ (power : Power). ShowsPower layout me state up power) c.in-Up.is shows in (
-      refl,
-      rests_off layout me state c.in-Up.node c.into_disk.result on.1 c.into_disk.ensures.disk (c.into_disk.ensures.seen tt on.1.runs)
-          (c.into_disk.ensures.durable tt on.1.runs),
-    )
+pub returns-in-Up-clause-shows : goal.returns-in-Up-clause-shows
+returns-in-Up-clause-shows c layout me state up shows =
+    let on = subst (λ (power : Power). ShowsPower layout me state up power) c.in-Up.is shows in
+    (refl, rests_off layout me state c.in-Up.node c.into_disk.result on.1 c.into_disk.ensures.disk)
 
-pub returns-in-Down : goal.returns-in-Down
-returns-in-Down c layout me state up shows =
+pub returns-in-Down-clause-shows : goal.returns-in-Down-clause-shows
+returns-in-Down-clause-shows c layout me state up shows =
     let down = subst (λ (power : Power). ShowsPower layout me state up power) c.in-Down.is shows in
     (refl, rests_stopped layout me state c.in-Down.disk down.1)

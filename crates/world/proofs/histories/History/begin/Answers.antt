@@ -7,8 +7,8 @@ use Rattle.world.proofs.HistoryLemmas.{begun_kept, tells_began}
 use Rattle.world.proofs.Places.{with_room}
 use Rattle.world.proofs.histories.History.begin.Goals as goal
 
-pub returns-clause-begun : goal.returns-clause-begun
-returns-clause-begun c w step tells sent boot next number =
+pub returns : goal.returns
+returns c w step tells sent boot next number =
     let old = c.args.self.now in
     let sent_to = c.send.new.self in
     let place = c.len-position.ensures ∙ old.marks.ok.0 in

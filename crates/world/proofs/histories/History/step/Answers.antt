@@ -1,17 +1,27 @@
--- What is told of a call is noted of its operation.
-use Rattle.std.proofs.Common.{◌++◌, sym, ◌∙◌}
+-- What is told and answered is noted, and then what was sent.
+use Rattle.std.proofs.Common.{◌≡◌, ℕ, List, sym, ap, subst, ◌∙◌}
+use Rattle.std.specs.Prelude.{option_to_list}
 use Rattle.coord_phase.specs.Messages.{packets_from}
-use Rattle.world.proofs.HistoryLemmas.{tells_step_made, tells_step_ended}
+use Rattle.protocol.specs.Nodes.{Node}
+use Rattle.protocol.specs.declared.tellings.Answered.{Answered}
+use Rattle.protocol.specs.declared.tellings.Told.{Told}
+use Rattle.protocol.specs.Worlds.{World, world_tells, world_answers}
+use Rattle.world.specs.Shown.{Tells, AreTold, AreAnswered}
+use Rattle.world.proofs.HistoryLemmas.{nodes_told, tells_stepped}
 use Rattle.world.proofs.histories.History.step.Goals as goal
 
-pub returns-in-Made-clause-stepped : goal.returns-in-Made-clause-stepped
-returns-in-Made-clause-stepped c setting w step tells sent told boot next of =
-    tells_step_made setting c.made.new.self w c.args.brick step (packets_from c.args.brick c.args.outs.messages.items) c.in-Made.seq c.in-Made.stamp c.in-Made.base
-    (sym told ∙ c.in-Made.is) sent boot next of
-    (λ low high. c.made.ensures.made (record w { packets = w.packets ++ (packets_from c.args.brick c.args.outs.messages.items) }) (c.send.ensures.sent w tells) low high)
-
-pub returns-in-Answers-clause-stepped : goal.returns-in-Answers-clause-stepped
-returns-in-Answers-clause-stepped c setting w step tells sent told boot next of =
-    tells_step_ended setting c.end.new.self w c.args.brick step (packets_from c.args.brick c.args.outs.messages.items) c.in-Answers.seq c.in-Answers.answer c.in-Answers.seen
-    (sym told ∙ c.in-Answers.is) sent boot next of
-    (λ low high. c.end.ensures.ended (record w { packets = w.packets ++ (packets_from c.args.brick c.args.outs.messages.items) }) (c.send.ensures.sent w tells) low high)
+pub returns : goal.returns
+returns c setting w step tells sent told answers boot next of_told of_answers =
+    let brick = c.args.brick in
+    let told_is : option_to_list c.into_parts-messages.result.1 ≡ step.told = c.into_parts-messages.ensures.told ∙ told in
+    let answers_is : option_to_list c.into_parts-messages.result.2 ≡ step.answers = c.into_parts-messages.ensures.answers ∙ answers in
+    let first = subst (λ (l : List Told). Tells c.tell.new.self (world_tells setting w brick l)) told_is
+    (c.tell.ensures.told setting w tells (subst (λ (l : List Told). AreTold (w.nodes brick.0) l) (sym told_is) of_told)) in
+    let v : World = world_tells setting w brick step.told in
+    let of_v = subst (λ (f : ℕ → Node). AreAnswered (f brick.0) (option_to_list c.into_parts-messages.result.2)) (sym (nodes_told setting w brick step.told))
+    (subst (λ (l : List Answered). AreAnswered (w.nodes brick.0) l) (sym answers_is) of_answers) in
+    let second = subst (λ (l : List Answered). Tells c.answer.new.self (world_answers v brick l)) answers_is
+    (c.answer.ensures.answered v first of_v) in
+    tells_stepped setting c.send.new.self w brick step (packets_from brick c.into_parts-messages.result.0.items)
+    (ap (packets_from brick) c.into_parts-messages.ensures.messages ∙ sent) boot next
+    (c.send.ensures.sent (world_answers v brick step.answers) second)

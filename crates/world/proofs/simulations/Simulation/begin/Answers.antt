@@ -8,9 +8,9 @@ use Rattle.node.specs.declared.outs.Begun.{Begun}
 use Rattle.protocol.specs.Nodes.{NodeStep, invoked, refusal_of}
 use Rattle.world.specs.Shown.{IsUp, ShowsBricks}
 use Rattle.world.specs.declared.bricks.Brick.{Brick}
-use Rattle.world.proofs.MachineBegins.{invoked_boot, invoked_next}
+use Rattle.world.proofs.MachineBegins.{invoked_boot, invoked_next, happens_refused}
 use Rattle.world.proofs.BrickListLemmas.{next_above, next_is}
-use Rattle.world.proofs.SimulationLemmas.{on_err_always, shows_begun, shows_refused}
+use Rattle.world.proofs.SimulationLemmas.{on_err_always, shows_begun, shows_still}
 use Rattle.world.proofs.simulations.Simulation.begin.Goals as goal
 
 pub next_of-next-requires : goal.next_of-next-requires
@@ -49,7 +49,7 @@ returns-in-Ok-clause-shows c w shows =
     in
     let is = next_is (w.nodes c.args.brick.0).seq c.next_of-next.result gives left in
     shows_begun c.args.layout.now _ w c.args.brick c.args.ask (c.requires.brick.up w shows.bricks) c.requires.stripes none begun.2
-    (c.begin.ensures.begun w step
+    (c.begin.ensures w step
     (c.expect_call.ensures.same w (next_above (w.nodes c.args.brick.0).seq c.next_of-next.result gives) shows.history)
     begun.0 (invoked_boot (coding c.args.layout.now) c.args.brick (w.clocks c.args.brick.0) (w.nodes c.args.brick.0) c.args.ask) next
     (c.in_ok-expect_call.ensures.number step.node.seq (is ∙ ap (λ n. Some n) (sym next)) w shows.history))
@@ -59,10 +59,10 @@ returns-in-Err-Refused-clause-shows c w shows =
     let next = c.next_of-next.ensures c.args.layout.now w
     (subst (λ (bricks : List Brick). ShowsBricks c.args.layout.now bricks w.nodes w.up w.clocks) (sym c.deref.ensures.value) shows.bricks)
     in
-    shows_refused c.args.layout.now _ w c.args.brick c.args.ask c.in-Err-Refused.refusal
+    shows_still c.args.layout.now _ w _ (happens_refused (coding c.args.layout.now) w c.args.brick c.args.ask c.in-Err-Refused.refusal
     (subst (λ (fault : NodeFault). RefusesAs {T = Begun} (Err fault)
     (refusal_of c.args.layout.now (w.nodes c.args.brick.0) c.args.ask)) c.in-Err-Refused.field-0-is
-    (c.in-Err-Refused.ensures.refused c.args.layout.now w shows.bricks))
+    (c.in-Err-Refused.ensures.refused c.args.layout.now w shows.bricks)))
     (record {
       bricks = c.in-Err-Refused.ensures.err c.args.layout.now w shows.bricks;
       history = c.expect_call.ensures.same w (next_above (w.nodes c.args.brick.0).seq c.next_of-next.result next) shows.history;

@@ -7,13 +7,14 @@ use Rattle.world.specs.Runs.{brick_of}
 use Rattle.world.specs.Shown.{Shows}
 use Rattle.world.specs.declared.simulations.Simulation.{Simulation}
 use Rattle.world.proofs.BrickListLemmas.{down_at, up_at}
-use Rattle.world.proofs.SimulationLemmas.{on_err_always, shows_crashed, shows_unstopped, done_here, done_nowhere}
+use Rattle.world.proofs.MachineBegins.{happens_unstopped}
+use Rattle.world.proofs.SimulationLemmas.{on_err_always, shows_crashed, shows_still, done_here, done_nowhere}
 use Rattle.world.proofs.simulations.Simulation.crash.Goals as goal
 
 pub returns-in-None-clause-shows : goal.returns-in-None-clause-shows
 returns-in-None-clause-shows c w shows =
-    shows_unstopped c.args.layout.now c.args.self.now w (brick_of c.args.brick)
-    (down_at c.args.layout.now _ _ c.args.brick (brick_of c.args.brick) c.deref.ensures.value refl c.in-None.ensures w shows.bricks) shows
+    shows_still c.args.layout.now c.args.self.now w _ (happens_unstopped (coding c.args.layout.now) w (brick_of c.args.brick)
+    (down_at c.args.layout.now _ _ c.args.brick (brick_of c.args.brick) c.deref.ensures.value refl c.in-None.ensures w shows.bricks)) shows
 
 pub returns-in-None-clause-outcome : goal.returns-in-None-clause-outcome
 returns-in-None-clause-outcome c w shows =
@@ -39,8 +40,8 @@ returns-clause-shows c w shows =
     in
     let state : Simulation = record { bricks = c.stop_brick.new.bricks; history = c.crash.new.self } in
     subst (λ (brick : BrickId). Shows c.args.layout.now state (happens (coding c.args.layout.now) w (Stops brick None))) found.0
-    (shows_crashed c.args.layout.now state w c.in-Some.brick (found.1.up w shows.bricks) (c.stop_brick.ensures c.args.layout.now w shows.bricks)
-    (c.crash.ensures.crashed (coding c.args.layout.now) w (c.make_room.ensures.same w shows.history)))
+    (shows_crashed c.args.layout.now state w c.in-Some.brick (found.1.up w shows.bricks) (c.stop_brick.ensures.shows c.args.layout.now w shows.bricks)
+    (c.crash.ensures (coding c.args.layout.now) w (c.make_room.ensures.same w shows.history)))
 
 pub returns-clause-outcome : goal.returns-clause-outcome
 returns-clause-outcome c w shows =

@@ -8,15 +8,15 @@ use Rattle.protocol.specs.Worlds.{World, Invokes, is_up, happens}
 use Rattle.world.specs.Runs.{brick_of, ask_of, op_of, refusal_at}
 use Rattle.world.specs.Shown.{Shows}
 use Rattle.world.specs.Texts.{refused_or_begun}
-use Rattle.world.proofs.MachineBegins.{refusal_down, refusal_here}
+use Rattle.world.proofs.MachineBegins.{refusal_down, refusal_here, happens_down, happens_refused}
 use Rattle.world.proofs.BrickListLemmas.{down_at, up_at}
-use Rattle.world.proofs.SimulationLemmas.{ask_is, shows_down, shows_refused}
+use Rattle.world.proofs.SimulationLemmas.{ask_is, shows_still}
 use Rattle.world.proofs.simulations.Simulation.invoke.Goals as goal
 
 pub returns-in-None-clause-shows : goal.returns-in-None-clause-shows
 returns-in-None-clause-shows c w shows =
-    shows_down c.args.layout.now c.args.self.now w _ _
-    (down_at c.args.layout.now _ _ c.args.brick (brick_of c.args.brick) c.deref.ensures.value refl c.in-None.ensures w shows.bricks) shows
+    shows_still c.args.layout.now c.args.self.now w _ (happens_down (coding c.args.layout.now) w _ _
+    (down_at c.args.layout.now _ _ c.args.brick (brick_of c.args.brick) c.deref.ensures.value refl c.in-None.ensures w shows.bricks)) shows
 
 pub returns-in-None-clause-outcome : goal.returns-in-None-clause-outcome
 returns-in-None-clause-outcome c w shows =
@@ -24,7 +24,9 @@ returns-in-None-clause-outcome c w shows =
     (down_at c.args.layout.now _ _ c.args.brick (brick_of c.args.brick) c.deref.ensures.value refl c.in-None.ensures w shows.bricks)))
 
 pub returns-in-None-place_of-clause-shows : goal.returns-in-None-place_of-clause-shows
-returns-in-None-place_of-clause-shows c w shows = shows_refused c.args.layout.now c.args.self.now w _ _ _ (c.in-None-place_of.ensures.none _ _) shows
+returns-in-None-place_of-clause-shows c w shows =
+    shows_still c.args.layout.now c.args.self.now w _
+    (happens_refused (coding c.args.layout.now) w _ _ _ (c.in-None-place_of.ensures.none _ _)) shows
 
 pub returns-in-None-place_of-clause-outcome : goal.returns-in-None-place_of-clause-outcome
 returns-in-None-place_of-clause-outcome c w shows =

@@ -1,13 +1,17 @@
 -- The clock of the brick is set, as the machine's is.
 use Rattle.std.proofs.Common.{arith, refl}
+use Rattle.stripe_code.specs.Codes.{coding}
 use Rattle.world.specs.Runs.{brick_of}
 use Rattle.world.proofs.BrickListLemmas.{shows_clock}
-use Rattle.world.proofs.SimulationLemmas.{shows_set, shows_unset, set_here, set_nowhere}
+use Rattle.world.proofs.DiskLemmas.{disks_same}
+use Rattle.world.proofs.MachineBegins.{happens_unset}
+use Rattle.world.proofs.SimulationLemmas.{shows_set, shows_still, set_here, set_nowhere}
 use Rattle.world.proofs.simulations.Simulation.set_clock.Goals as goal
 
 pub returns-then-brick-from-clause-shows : goal.returns-then-brick-from-clause-shows
 returns-then-brick-from-clause-shows c w shows =
-    shows_unset c.args.layout.now c.args.self.now w (brick_of c.args.brick) c.args.time (omega arith) shows
+    shows_still c.args.layout.now c.args.self.now w _
+    (happens_unset (coding c.args.layout.now) w (brick_of c.args.brick) c.args.time (omega arith)) shows
 
 pub returns-then-brick-from-clause-outcome : goal.returns-then-brick-from-clause-outcome
 returns-then-brick-from-clause-outcome c = set_nowhere c.args.layout.now (brick_of c.args.brick) (omega arith)
@@ -21,3 +25,7 @@ returns-clause-shows c w shows =
     (shows_clock c.args.layout.now c.args.self.now.bricks.items c.args.brick c.index_mut-brick.result.now c.args.time w
     (omega (arith, c.args.self.now.bricks.ok.0, c.requires)) c.index_mut-brick.ensures.value shows.bricks)
     refl shows
+
+pub returns-clause-disks : goal.returns-clause-disks
+returns-clause-disks c =
+    disks_same c.args.self.now.bricks.items c.args.brick c.index_mut-brick.result.now _ c.index_mut-brick.ensures.value refl

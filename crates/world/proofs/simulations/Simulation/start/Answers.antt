@@ -2,14 +2,19 @@
 use Rattle.std.proofs.Common.{Bool, true, false, Result, Ok, Err, arith, refl, subst}
 use Rattle.std.specs.Result.{OnErr}
 use Rattle.fab_base.specs.declared.faults.NoMem.{NoMem}
+use Rattle.stripe_code.specs.Codes.{coding}
 use Rattle.world.specs.Runs.{brick_of}
 use Rattle.world.specs.Shown.{ShowsStarted}
 use Rattle.world.specs.declared.simulations.Outcome.{Outcome}
-use Rattle.world.proofs.SimulationLemmas.{shows_nowhere, shows_start}
+use Rattle.world.proofs.MachineBegins.{happens_unstarted}
+use Rattle.world.proofs.SimulationLemmas.{shows_still, started_nowhere, shows_start}
 use Rattle.world.proofs.simulations.Simulation.start.Goals as goal
 
 pub returns-then-brick-from-clause-shows : goal.returns-then-brick-from-clause-shows
-returns-then-brick-from-clause-shows c w shows = shows_nowhere c.args.layout.now c.args.self.now w (brick_of c.args.brick) (omega arith) shows
+returns-then-brick-from-clause-shows c w shows =
+    shows_still c.args.layout.now c.args.self.now w _
+    (happens_unstarted (coding c.args.layout.now) w (brick_of c.args.brick)
+    (started_nowhere c.args.layout.now w (brick_of c.args.brick) (omega arith))) shows
 
 pub returns-then-branch-clause-shows : goal.returns-then-branch-clause-shows
 returns-then-branch-clause-shows c w shows =
@@ -33,3 +38,9 @@ of_err (Err refused) P holds = holds
 pub returns-in_err-start_brick-clause-err : goal.returns-in_err-start_brick-clause-err
 returns-in_err-start_brick-clause-err c =
     of_err c.from_residual.result _ (λ w shows. record { bricks = c.in_err-start_brick.ensures.err w shows.bricks; history = shows.history })
+
+pub returns-then-brick-from-clause-disks : goal.returns-then-brick-from-clause-disks
+returns-then-brick-from-clause-disks c i other = refl
+
+pub returns-in_err-start_brick-clause-contents : goal.returns-in_err-start_brick-clause-contents
+returns-in_err-start_brick-clause-contents c = of_err c.from_residual.result _ c.in_err-start_brick.ensures.contents

@@ -9,13 +9,14 @@ use Rattle.world.specs.Shown.{IsUp, Shows, ShowsBricks, Tells}
 use Rattle.world.specs.declared.bricks.Brick.{Brick}
 use Rattle.world.specs.declared.simulations.Simulation.{Simulation}
 use Rattle.world.proofs.BrickListLemmas.{down_at, up_at}
-use Rattle.world.proofs.SimulationLemmas.{on_err_always, shows_ticked, shows_unticked, done_here, done_nowhere}
+use Rattle.world.proofs.MachineBegins.{happens_unticked}
+use Rattle.world.proofs.SimulationLemmas.{on_err_always, shows_ticked, shows_still, done_here, done_nowhere}
 use Rattle.world.proofs.simulations.Simulation.tick.Goals as goal
 
 pub returns-in-None-clause-shows : goal.returns-in-None-clause-shows
 returns-in-None-clause-shows c w shows =
-    shows_unticked c.args.layout.now c.args.self.now w (brick_of c.args.brick)
-    (down_at c.args.layout.now _ _ c.args.brick (brick_of c.args.brick) c.deref.ensures.value refl c.in-None.ensures w shows.bricks) shows
+    shows_still c.args.layout.now c.args.self.now w _ (happens_unticked (coding c.args.layout.now) w (brick_of c.args.brick)
+    (down_at c.args.layout.now _ _ c.args.brick (brick_of c.args.brick) c.deref.ensures.value refl c.in-None.ensures w shows.bricks)) shows
 
 pub returns-in-None-clause-outcome : goal.returns-in-None-clause-outcome
 returns-in-None-clause-outcome c w shows =

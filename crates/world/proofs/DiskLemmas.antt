@@ -1,0 +1,49 @@
+-- What becomes of the disks where one brick changes.
+use Rattle.std.proofs.Common.{◌≡◌, ℕ, zero, suc, List, [], ◌∷◌, set, get_or, map, Option, Some, None, refl, sym, ap, ◌∙◌}
+use Rattle.std.specs.Option.{option_map}
+use Rattle.std.proofs.lemmas.Option.{slice_get-map}
+use Rattle.fab_base.specs.declared.identities.BrickId.{BrickId}
+use Rattle.fab_disk.specs.MemDisk.{content_of}
+use Rattle.fab_disk.specs.declared.mem_disk.MemDisk.{MemDisk}
+use Rattle.protocol.specs.Settings.{Setting}
+use Rattle.protocol.specs.Worlds.{World, Event}
+use Rattle.world.specs.Disks.{KeepsOthers, KeepsDisks, changes_disk_of}
+use Rattle.world.specs.Shown.{disk_in, disks_of}
+use Rattle.world.specs.declared.bricks.Brick.{Brick}
+use Rattle.world.proofs.Places.{set_elsewhere}
+
+-- what of each element is as it was where one of them changes, of which it is as it was
+map_same : {A B : Type 0} (f : A → B) (xs : List A) (k : ℕ) (old new : A) → old ≡ get_or xs k old → f new ≡ f old → map f (set xs k new) ≡ map f xs
+map_same f [] k old new is same = refl
+map_same f (x ∷ xs) zero old new is same = ap (λ y. y ∷ map f xs) (same ∙ ap f is)
+map_same f (x ∷ xs) (suc k) old new is same = ap (λ ys. f x ∷ ys) (map_same f xs k old new is same)
+
+-- the disks, where a brick has the disk that it had
+pub disks_same : (bricks : List Brick) (b : ℕ) (old new : Brick) → old ≡ get_or bricks b old → disk_in new.power ≡ disk_in old.power
+    → disks_of (set bricks b new) ≡ disks_of bricks
+disks_same bricks b old new is same = map_same (λ (brick : Brick). disk_in brick.power) bricks b old new is same
+
+-- the other disks, where a brick has changed
+pub others_kept : (bricks : List Brick) (b : BrickId) (new : Brick) → KeepsOthers (Some b) (disks_of bricks) (disks_of (set bricks b.0 new))
+others_kept bricks b new i other =
+    let disk : Brick → MemDisk = λ (brick : Brick). disk_in brick.power in
+    slice_get-map disk (set bricks b.0 new) i ∙ ap (option_map disk) (set_elsewhere bricks b.0 new i other) ∙ sym (slice_get-map disk bricks i)
+
+-- what reads give of the disks, where they give what they gave of one that may have changed
+pub contents_same : (bricks : List Brick) (b : ℕ) (old new : Brick) → old ≡ get_or bricks b old
+    → content_of (disk_in new.power) ≡ content_of (disk_in old.power) → map content_of (disks_of (set bricks b new)) ≡ map content_of (disks_of bricks)
+contents_same [] b old new is same = refl
+contents_same (x ∷ bricks) zero old new is same =
+    ap (λ (bytes : List ℕ). bytes ∷ map content_of (disks_of bricks)) (same ∙ ap (λ (brick : Brick). content_of (disk_in brick.power)) is)
+contents_same (x ∷ bricks) (suc b) old new is same =
+    ap (λ (all : List (List ℕ)). content_of (disk_in x.power) ∷ all) (contents_same bricks b old new is same)
+
+-- where nothing has changed
+pub all_kept : (brick : Option BrickId) (disks : List MemDisk) → KeepsOthers brick disks disks
+all_kept None disks = refl
+all_kept (Some brick) disks = λ i other. refl
+
+-- what one event keeps
+pub one_kept : (setting : Setting) (w : World) (event : Event) (old new : List MemDisk) → KeepsOthers (changes_disk_of w event) old new
+    → KeepsDisks setting w (event ∷ []) old new
+one_kept setting w event old new kept = (new, kept, refl)

@@ -1,0 +1,1 @@
+-- What is told of a call is noted of its operation.

@@ -1,0 +1,43 @@
+-- What the disks of a run hold, and which of them an event may change.
+use Rattle.std.specs.Prelude.{◌≡◌, ◌≢◌, ℕ, List, [], ◌∷◌, length, slice_get, Option, Some, None}
+use Rattle.std.specs.Option.{option_map}
+use Rattle.fab_base.specs.declared.identities.BrickId.{BrickId}
+use Rattle.fab_base.specs.Layouts.{Layout}
+use Rattle.fab_disk.specs.MemDisk.{content_of, may_be_left}
+use Rattle.fab_disk.specs.declared.mem_disk.MemDisk.{MemDisk}
+use Rattle.node.specs.Running.{ImageShows, LeavesBrick}
+use Rattle.protocol.specs.Nodes.{Node}
+use Rattle.protocol.specs.Settings.{Setting}
+use Rattle.protocol.specs.Worlds.{World, Event, Invokes, Delivers, Sets, Ticks, Stops, Starts, packet_of, happens}
+use Rattle.world.specs.Runs.{Run, world_of, brick_of}
+
+-- a disk keeps just what this brick of the layout keeps: so says what a read gives, and whatever a crash may leave
+pub record ShowsDisk (layout : Layout) (me : BrickId) (node : Node) (disk : MemDisk) : Type 0 where
+  pub seen : ImageShows layout me node (content_of disk)
+  pub durable : LeavesBrick layout me node (may_be_left disk)
+
+-- there is a disk for each brick of the layout, and it keeps what the machine's brick keeps after the steps
+pub record ShowsDisks (r : Run) : Type 0 where
+  pub count : length r.disks ≡ r.layout.bricks
+  pub each : (i : ℕ) (disk : MemDisk) → slice_get r.disks i ≡ Some disk → ShowsDisk r.layout (brick_of i) ((world_of r).nodes i) disk
+
+-- the brick whose disk an event may change: the one that handles a message, or stops in the midst of that, or starts
+abbrev pub changes_disk_of : World → Event → Option BrickId
+changes_disk_of w (Invokes brick ask) = None
+changes_disk_of w (Delivers number) = option_map (λ packet. packet.to) (packet_of w.packets number)
+changes_disk_of w (Sets brick time) = None
+changes_disk_of w (Ticks brick) = None
+changes_disk_of w (Stops brick None) = None
+changes_disk_of w (Stops brick (Some number)) = Some brick
+changes_disk_of w (Starts brick openings found) = Some brick
+
+-- every disk but that of this brick, if there is one, is as it was
+abbrev pub KeepsOthers : Option BrickId → List MemDisk → List MemDisk → Type 0
+KeepsOthers None old new = new ≡ old
+KeepsOthers (Some brick) old new = (i : ℕ) → i ≢ brick.0 → slice_get new i ≡ slice_get old i
+
+-- each of these events, one after another from this world, changes no disk but that of its brick
+abbrev pub KeepsDisks : Setting → World → List Event → List MemDisk → List MemDisk → Type 0
+KeepsDisks setting w [] old new = new ≡ old
+KeepsDisks setting w (event ∷ events) old new =
+    (next : List MemDisk) × KeepsOthers (changes_disk_of w event) old next × KeepsDisks setting (happens setting w event) events next new
