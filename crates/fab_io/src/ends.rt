@@ -1,5 +1,5 @@
 // The two ends of a stream of bytes, as a program above sees them.
-ghost use Rattle.std.specs.Prelude.{◌≡◌, ℕ, List, Option, IsErrOf};
+ghost use Rattle.std.specs.Prelude.{◌≡◌, ℕ, List, Option, IsErrOf, MatchResult};
 ghost use Rattle.std.specs.Io.{ReadsAtMost};
 ghost use Rattle.std.specs.Io.KnownBytes.{ReadConsumes, Keeps};
 ghost use Rattle.fab_io.specs.Ends.{Kept, WriteTakes};
@@ -9,13 +9,16 @@ use crate::fault::IoFault;
 /// Where bytes come from.
 ///
 /// A source has a count of faults, which never falls and stays at `u64::MAX` once it is there. It may tell the
-/// bytes that it has left. A source that is sound does not fail and stays sound.
+/// bytes that it has left, and it tells how many its last read gave. A source that is sound does not fail and stays sound.
 pub trait Source {
     // The faults so far.
     ghost faults: { Self → ℕ };
 
     // The bytes that are left, where the source tells them.
     ghost told: { Self → Option (List ℕ) };
+
+    // How many bytes the last read gave; none where it failed, or before the first.
+    ghost came: { Self → ℕ };
 
     // No call fails from here on.
     ghost sound: { Self → Type 0 };
@@ -29,6 +32,7 @@ pub trait Source {
     fn read(&mut self, into: &mut [u8]) -> Result<usize, IoFault>
         ensures within { ReadsAtMost result into.new }
         ensures content { ReadConsumes (told self.old) (told self.new) result into.new }
+        ensures came { MatchResult result (λ n. came self.new ≡ n) (λ _. came self.new ≡ 0) }
         ensures kept { Kept (faults self.old) (faults self.new) (sound self.old) (sound self.new)
             (result ≡ Err IoFault.Failed) };
 }

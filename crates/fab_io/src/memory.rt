@@ -1,5 +1,5 @@
 // A source and a sink in memory.
-ghost use Rattle.std.specs.Prelude.{◌≡◌, ◌≢◌, ◌↔◌, ◌≤◌, ◌<◌, length, IfOk, OnOk, OnErr, IsErrOf};
+ghost use Rattle.std.specs.Prelude.{◌≡◌, ◌≢◌, ◌↔◌, ◌≤◌, ◌<◌, length, IfOk, OnOk, OnErr, IsErrOf, MatchResult};
 ghost use Rattle.std.specs.Io.{ReadsAtMost};
 ghost use Rattle.std.specs.Io.KnownBytes.{ReadConsumes, Keeps};
 ghost use Rattle.fab_io.specs.Ends.{Kept, WriteTakes};
@@ -19,6 +19,7 @@ pub struct MemSource {
     bytes: Vec<u8>,
     at: usize,
     piece: usize,
+    came: usize,
     calls: Calls,
 }
 
@@ -28,7 +29,7 @@ impl Model for MemSource {
 
     ghost Value = { SourceInMemory };
 
-    ghost view = { λ s. record { left = drop s.at s.bytes.items; piece = s.piece; calls = s.calls } };
+    ghost view = { λ s. record { left = drop s.at s.bytes.items; piece = s.piece; came = s.came; calls = s.calls } };
 
     ghost invariant = { λ s. (s.at ≤ length s.bytes.items) × (0 < s.piece) };
 }
@@ -43,6 +44,7 @@ impl MemSource {
             bytes,
             at: 0,
             piece: usize::MAX,
+            came: 0,
             calls: Calls::new(alloc),
         }
     }
@@ -71,11 +73,14 @@ impl Source for MemSource {
 
     ghost told = { λ s. Some s.left };
 
+    ghost came = { λ s. s.came };
+
     ghost sound = { λ s. NoneToFail s.calls };
 
     fn read(&mut self, into: &mut [u8]) -> Result<usize, IoFault>
         ensures within { ReadsAtMost result into.new }
         ensures content { ReadConsumes (Some self.old.left) (Some self.new.left) result into.new }
+        ensures came { MatchResult result (λ n. self.new.came ≡ n) (λ _. self.new.came ≡ 0) }
         ensures kept { Kept self.old.calls.faults self.new.calls.faults
             (NoneToFail self.old.calls) (NoneToFail self.new.calls) (result ≡ Err IoFault.Failed) }
 
@@ -88,11 +93,13 @@ impl Source for MemSource {
         ensures ok { IfOk result (λ n. self.new ≡ after_read self.old n) }
         ensures err { OnErr result (self.new ≡ after_failed_read self.old) }
     {
+        self.came = 0;
         self.calls.count()?;
         let left = &self.bytes[self.at..];
         let n = self.piece.min(into.len().min(left.len()));
         into[..n].copy_from_slice(&left[..n]);
         self.at += n;
+        self.came = n;
         Ok(n)
     }
 }

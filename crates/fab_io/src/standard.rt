@@ -1,4 +1,4 @@
-// Adapters over the readers and writers of std, as standard input and output.
+// ReaderAdapters over the readers and writers of std, as standard input and output.
 ghost use Rattle.std.specs.Prelude.{◌≡◌};
 ghost use Rattle.std.specs.Io.{ReadsAtMost};
 ghost use Rattle.std.specs.Io.KnownBytes.{ReadConsumes};
@@ -17,23 +17,28 @@ use std::marker::Model;
 #[derive(Drop)]
 pub struct StdSource<R: Read> {
     input: R,
+    came: usize,
     faults: u64,
 }
 
 impl<R: Read> Model for StdSource<R> {
-    ghost use Rattle.fab_io.specs.Standard.{Adapter};
+    ghost use Rattle.fab_io.specs.Standard.{ReaderAdapter};
 
-    ghost Value = { Adapter };
+    ghost Value = { ReaderAdapter };
 
-    ghost view = { λ s. record { told = R.remaining s.input; faults = s.faults } };
+    ghost view = { λ s. record { told = R.remaining s.input; came = s.came; faults = s.faults } };
 }
 
 impl<R: Read> StdSource<R> {
     /// A source that gives what the reader gives from here on.
     pub fn new(input: R) -> StdSource<R>
-        ensures { result ≡ record { told = R.remaining input; faults = 0 } }
+        ensures { result ≡ record { told = R.remaining input; came = 0; faults = 0 } }
     {
-        StdSource { input, faults: 0 }
+        StdSource {
+            input,
+            came: 0,
+            faults: 0,
+        }
     }
 }
 
@@ -42,11 +47,17 @@ impl<R: Read> Source for StdSource<R> {
 
     ghost told = { λ s. s.told };
 
+    ghost came = { λ s. s.came };
+
     ghost sound = { λ _. ⊥ };
 
     fn read(&mut self, into: &mut [u8]) -> Result<usize, IoFault> {
+        self.came = 0;
         match read_once(&mut self.input, into) {
-            Ok(count) => Ok(count),
+            Ok(count) => {
+                self.came = count;
+                Ok(count)
+            }
             Err(_) => Err(raise(&mut self.faults)),
         }
     }
@@ -82,9 +93,9 @@ pub struct StdSink<W: Write> {
 }
 
 impl<W: Write> Model for StdSink<W> {
-    ghost use Rattle.fab_io.specs.Standard.{Adapter};
+    ghost use Rattle.fab_io.specs.Standard.{WriterAdapter};
 
-    ghost Value = { Adapter };
+    ghost Value = { WriterAdapter };
 
     ghost view = { λ s. record { told = W.contents s.output; faults = s.faults } };
 }

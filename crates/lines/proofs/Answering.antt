@@ -1,23 +1,16 @@
 -- What an answer says of an input, from what it did to the bytes that were read of it.
-use Rattle.std.proofs.Common.{◌≡◌, ℕ, ◌+◌, ◌-◌, ◌<◌, ◌≤◌, List, [], ◌∷◌, ◌++◌, length, take, drop, Option, Some, None, IfSome, refl, sym, ap, ◌∙◌, subst, arith, append-nil}
+use Rattle.std.proofs.Common.{◌≡◌, ℕ, ◌+◌, ◌<◌, List, [], ◌∷◌, ◌++◌, length, take, drop, Option, Some, None, IfSome, refl, sym, ap, ◌∙◌, subst, arith, append-nil}
 use Rattle.std.specs.List.{position}
 use Rattle.std.specs.Io.KnownBytes.{Keeps, IsAtEnd, prepend_known}
 use Rattle.std.proofs.KnownBytes.{Keeps-refl, prepend_known-end}
-use Rattle.std.proofs.lemmas.Bool.Decides.{nat_tests}
 use Rattle.lines.specs.Lines.{is_line_feed, raw_lines}
-use Rattle.lines.specs.Reading.{Passes, BeginsLong, Says}
+use Rattle.lines.specs.Reading.{Passes, BeginsLong, Says, IsWhole}
 use Rattle.lines.specs.Unread.{Takes, TakesLast}
 use Rattle.lines.specs.declared.reader.Piece.{Piece}
-use Rattle.lines.specs.declared.reader.Piece.TheVariants.{Whole, Long, Ended}
-use Rattle.lines.proofs.RawLines.{feed, raw_lines-feed, raw_lines-last, begins, content_length}
-
--- the place that a search found
-pub feed_found : (bytes : List ℕ) (at : ℕ) → position is_line_feed bytes ≡ Some at → (feed bytes ≡ at) × (feed bytes < length bytes)
-feed_found bytes at e = (grind (arith, nat_tests), grind (arith, nat_tests))
-
--- no place was found
-pub feed_none : (bytes : List ℕ) → position is_line_feed bytes ≡ None → length bytes ≤ feed bytes
-feed_none bytes e = grind (arith, nat_tests)
+use Rattle.lines.specs.declared.reader.Piece.TheVariants.{Whole, Last, Long, Ended}
+use Rattle.std.specs.Str.Lines.{strip_carriage_return}
+use Rattle.lines.proofs.RawLines.{raw_lines-feed, raw_lines-last, begins}
+use Rattle.lines.proofs.WholeLines.{feed_found, feed_none, taken_whole, begun_within}
 
 -- the line up to the first line feed is the first
 first_taken : (at : ℕ) (old new more line : List ℕ) → position is_line_feed old ≡ Some at → line ≡ take (at + 1) old → new ≡ drop (at + 1) old
@@ -55,7 +48,8 @@ passes (Some x) (Some y) old new line k h = ap raw_lines (sym k) ∙ h y refl
 pub says_found : (limit at : ℕ) (start now : Option (List ℕ)) (old new : List ℕ) (piece : Piece) → Keeps start (prepend_known old now)
     → position is_line_feed old ≡ Some at → Takes limit (at + 1) old new piece → Says limit start (prepend_known new now) piece
 says_found limit at start now old new (Whole line) k found (is, left, short) =
-    (short, passes start now old new line k (λ more _. first_taken at old new more line found is left))
+    (short, passes start now old new line k (λ more _. first_taken at old new more line found is left), subst IsWhole (sym is) (taken_whole old at found))
+says_found limit at start now old new (Last line) k found t = absurd t
 says_found limit at start now old new Long k found (same, over) = (
   subst (λ l. Keeps start (prepend_known l now)) (sym same) k,
   at_known start now old (BeginsLong limit) k
@@ -70,22 +64,29 @@ says_found limit at start now old new Long k found (same, over) = (
 says_found limit at start now old new Ended k found t = absurd t
 
 -- a front without a line feed that is past the limit
-long_front : (limit : ℕ) (old more : List ℕ) → position is_line_feed old ≡ None → limit < length old - 2 → BeginsLong limit (old ++ more)
-long_front limit old more none over =
-    let (line, rest, first, reach) = begins old more (omega arith) (feed_none old none) in
-    (line, rest, first, omega (arith, content_length line))
+long_front : (limit : ℕ) (old more : List ℕ) → position is_line_feed old ≡ None → limit < length (strip_carriage_return old)
+    → BeginsLong limit (old ++ more)
+long_front limit [] more none over = absurd (omega (arith, over))
+long_front limit (b ∷ old) more none over =
+    let lacks = feed_none (b ∷ old) none in
+    let (behind, rest, first) = begins (b ∷ old) more (omega arith) lacks in
+    ((b ∷ old) ++ behind, rest, first, omega (arith, over, begun_within (b ∷ old) behind (omega arith) lacks))
 
 -- the answer where there is no line feed within the limit
 pub says_long : (limit : ℕ) (start now : Option (List ℕ)) (old : List ℕ) → Keeps start (prepend_known old now)
-    → position is_line_feed old ≡ None → limit < length old - 2 → Says limit start (prepend_known old now) Long
+    → position is_line_feed old ≡ None → limit < length (strip_carriage_return old) → Says limit start (prepend_known old now) Long
 says_long limit start now old k none over =
     (k, at_known start now old (BeginsLong limit) k (λ more _. long_front limit old more none over))
 
 -- the answer where nothing more comes
 pub says_last : (limit : ℕ) (start now : Option (List ℕ)) (old new : List ℕ) (piece : Piece) → Keeps start (prepend_known old now)
     → position is_line_feed old ≡ None → IsAtEnd now → TakesLast limit old new piece → Says limit start (prepend_known new now) piece
-says_last limit start now old new (Whole line) k none end (some, is, left, short) =
-    (short, passes start now old new line k (λ more e. last_taken old new more line none some is left (subst IsAtEnd e end)))
+says_last limit start now old new (Whole line) k none end t = absurd t
+says_last limit start now old new (Last line) k none end (some, is, left, short) = (
+  short,
+  passes start now old new line k (λ more e. last_taken old new more line none some is left (subst IsAtEnd e end)),
+  prepend_known-end (prepend_known new now) now new (Keeps-refl (prepend_known new now)) left end,
+)
 says_last limit start now old new Long k none end (some, same, over) = (
   subst (λ l. Keeps start (prepend_known l now)) (sym same) k,
   at_known start now old (BeginsLong limit) k (λ more e. (

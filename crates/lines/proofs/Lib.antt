@@ -4,6 +4,9 @@ pub mod Arguments
 pub mod FirstWords
 pub mod LineLengths
 pub mod RawLines
+pub mod WholeLines
+pub mod LineReading
+pub mod Needs
 mod Scanning
 pub mod Passing
 pub mod Answering

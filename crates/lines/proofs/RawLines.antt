@@ -38,35 +38,36 @@ raw_lines-last (b ∷ c ∷ rest) some none =
       | false ↦ λ h. let one = raw_lines-last (c ∷ rest) (omega arith) (omega arith) in ap (onto_first b) one
     ]) none
 
--- the input has a first line, of at least so many bytes
-abbrev pub Begins : ℕ → List (List ℕ) → Type 0
-Begins count lines = (line : List ℕ) × (rest : List (List ℕ)) × (lines ≡ line ∷ rest) × (count ≤ length line)
+-- the first line begins with these bytes
+abbrev pub Begins : List ℕ → List (List ℕ) → Type 0
+Begins front lines = (more : List ℕ) × (rest : List (List ℕ)) × (lines ≡ (front ++ more) ∷ rest)
 
 -- a byte before a line
-onto_line : (b count : ℕ) (lines : List (List ℕ)) → Begins count lines → Begins (suc count) (onto_first b lines)
-onto_line b count lines (line, rest, e, long) = (b ∷ line, rest, ap (onto_first b) e, omega arith)
+onto_line : (b : ℕ) (front : List ℕ) (lines : List (List ℕ)) → Begins front lines → Begins (b ∷ front) (onto_first b lines)
+onto_line b front lines (more, rest, e) = (more, rest, ap (onto_first b) e)
 
-onto_any : (b : ℕ) (lines : List (List ℕ)) → Begins 1 (onto_first b lines)
-onto_any b [] = (b ∷ [], [], refl, omega arith)
-onto_any b (line ∷ rest) = (b ∷ line, rest, refl, omega arith)
+onto_any : (b : ℕ) (lines : List (List ℕ)) → Begins (b ∷ []) (onto_first b lines)
+onto_any b [] = ([], [], refl)
+onto_any b (line ∷ rest) = (line, rest, refl)
 
 -- a front without a line feed belongs to the first line
-pub begins : (front more : List ℕ) → 0 < length front → length front ≤ feed front → Begins (length front) (raw_lines (front ++ more))
+pub begins : (front more : List ℕ) → 0 < length front → length front ≤ feed front → Begins front (raw_lines (front ++ more))
 begins [] more some none = absurd (omega arith)
 begins (b ∷ []) more some none =
-    (elim (is_line_feed b) as (λ t. 1 ≤ cond (not t) (1 + 0) 0 → Begins 1 (cond t ((b ∷ []) ∷ raw_lines more) (onto_first b (raw_lines more)))) [
+    (elim (is_line_feed b) as (λ t. 1 ≤ cond (not t) (1 + 0) 0
+    → Begins (b ∷ []) (cond t ((b ∷ []) ∷ raw_lines more) (onto_first b (raw_lines more)))) [
       | true ↦ λ h. absurd (omega arith)
       | false ↦ λ h. onto_any b (raw_lines more)
     ]) none
 begins (b ∷ c ∷ front) more some none =
     (elim (is_line_feed b) as (λ t. suc (suc (length front)) ≤ cond (not t) (1 + feed (c ∷ front)) 0
-    → Begins (suc (suc (length front))) (cond t ((b ∷ []) ∷ raw_lines ((c ∷ front) ++ more)) (onto_first b (raw_lines ((c ∷ front) ++ more))))) [
+    → Begins (b ∷ c ∷ front) (cond t ((b ∷ []) ∷ raw_lines ((c ∷ front) ++ more)) (onto_first b (raw_lines ((c ∷ front) ++ more))))) [
       | true ↦ λ h. absurd (omega arith)
-      | false ↦ λ h. onto_line b (suc (length front)) (raw_lines ((c ∷ front) ++ more)) (begins (c ∷ front) more (omega arith) (omega arith))
+      | false ↦ λ h. onto_line b (c ∷ front) (raw_lines ((c ∷ front) ++ more)) (begins (c ∷ front) more (omega arith) (omega arith))
     ]) none
 
 -- at most two bytes of a line are not its content
-stripped : (l : List ℕ) → length l ≤ length (strip_carriage_return l) + 1
+pub stripped : (l : List ℕ) → length l ≤ length (strip_carriage_return l) + 1
 stripped l =
     cond_both (slice_index l (length l - 1) == 13) (take (length l - 1) l) l (λ (x : List ℕ). length l ≤ length x + 1)
     (λ e. omega (arith, length-take (length l - 1) l)) (λ e. omega arith)

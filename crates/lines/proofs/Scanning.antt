@@ -6,7 +6,7 @@ use Rattle.std.proofs.lemmas.List.{take-append-drop, length-append, length-take}
 use Rattle.std.proofs.lemmas.Bool.Decides.{nat_tests}
 use Rattle.lines.specs.Lines.{is_line_feed}
 use Rattle.lines.proofs.RawLines.{feed}
-use Rattle.lines.proofs.Answering.{feed_found, feed_none}
+use Rattle.lines.proofs.WholeLines.{feed_found, feed_none}
 
 -- the place of the first line feed behind bytes that have none
 feed_behind : (front back : List ℕ) → length front ≤ feed front → feed (front ++ back) ≡ length front + feed back

@@ -3,10 +3,10 @@ ghost use Rattle.std.specs.Prelude.{◌≡◌, ◌+◌, ◌<◌, ◌≤◌, [], 
 ghost use Rattle.std.specs.Io.KnownBytes.{Keeps, IsAtEnd, prepend_known};
 ghost use Rattle.fab_io.specs.Ends.{Kept};
 ghost use Rattle.lines.specs.Lines.{is_line_feed};
-ghost use Rattle.lines.specs.Reading.{Says};
-ghost use Rattle.lines.specs.Unread.{Takes, TakesLast};
+ghost use Rattle.lines.specs.Reading.{Says, LineReads, taken_by};
+ghost use Rattle.lines.specs.Unread.{Takes, TakesLast, Fills};
 
-use crate::contents::content_of;
+use crate::contents::{content_of, without_return};
 use fab_base::Bytes;
 use fab_io::{IoFault, Source};
 use std::alloc::{AllocError, Global};
@@ -18,8 +18,10 @@ pub const READ_LEN: usize = 4096;
 /// An answer to the question for the next line.
 #[derive(Debug, Drop)]
 pub enum Piece {
-    /// The next line, with its line feed, which a last line may lack. It was taken.
+    /// The next line, with its line feed. It was taken.
     Whole(Bytes),
+    /// The last line, which lacks its line feed. It was taken, and the source is at its end.
+    Last(Bytes),
     /// The next line has more bytes than the limit allows. Nothing was taken.
     Long,
     /// No line is left.
@@ -59,7 +61,7 @@ impl Unread {
     ///
     /// A line has at most `limit` bytes, its line feed and the one carriage return before that not counted. Where the
     /// next one has more, the answer is [`Piece::Long`], as soon as that is seen. No more than the limit and
-    /// [`READ_LEN`] and two more bytes are held.
+    /// [`READ_LEN`] and two more bytes are held. The source is read only while what is held is of a line that was begun.
     ///
     /// `Failed` comes only where the source failed, and `NoMemory` where there was no memory. Neither takes anything.
     pub fn next_line<S: Source>(&mut self, source: &mut S, limit: usize) -> Result<Piece, IoFault>
@@ -67,6 +69,8 @@ impl Unread {
             (prepend_known self.new (S.told source.new)) piece) }
         ensures err { OnErr result (Keeps (prepend_known self.old (S.told source.old))
             (prepend_known self.new (S.told source.new))) }
+        ensures reads { LineReads limit self.old self.new (S.told source.old) (S.told source.new) (S.came source.new)
+            (source.new ≡ source.old) (taken_by result) (result ≡ Err IoFault.Failed) }
         ensures held { length self.new ≤ max (length self.old) (limit + 2 + READ_LEN) }
         ensures kept { Kept (S.faults source.old) (S.faults source.new) (S.sound source.old) (S.sound source.new)
             (result ≡ Err IoFault.Failed) }
@@ -77,7 +81,7 @@ impl Unread {
             if let Some(at) = self.first_line_feed(scanned) {
                 return Ok(self.take(at + 1, limit)?);
             }
-            if held.saturating_sub(2) > limit {
+            if without_return(self.as_slice()).len() > limit {
                 return Ok(Piece::Long);
             }
             scanned = held;
@@ -125,7 +129,7 @@ impl Unread {
         Ok(Piece::Whole(Bytes::from_vec(line)))
     }
 
-    /// Takes all the bytes, as a line, where there are any and that is within the limit.
+    /// Takes all the bytes, as the last line, where there are any and that is within the limit.
     fn take_last(&mut self, limit: usize) -> Result<Piece, AllocError>
         ensures ok { IfOk result (λ piece. TakesLast limit self.old self.new piece) }
         ensures err { OnErr result (self.new ≡ self.old) }
@@ -134,12 +138,16 @@ impl Unread {
         if held == 0 {
             return Ok(Piece::Ended);
         }
-        self.take(held, limit)
+        match self.take(held, limit)? {
+            Piece::Whole(line) => Ok(Piece::Last(line)),
+            piece => Ok(piece),
+        }
     }
 
     /// Reads once more, and answers how many bytes came.
     fn fill<S: Source>(&mut self, source: &mut S) -> Result<usize, IoFault>
         ensures content { Keeps (prepend_known self.old (S.told source.old)) (prepend_known self.new (S.told source.new)) }
+        ensures reads { Fills self.old self.new (S.told source.old) (S.told source.new) (S.came source.new) }
         ensures front { IfOk result (λ came. take (length self.old) self.new ≡ self.old) }
         ensures grows { IfOk result (λ came. length self.new ≡ length self.old + came) }
         ensures within { IfOk result (λ came. came ≤ READ_LEN) }

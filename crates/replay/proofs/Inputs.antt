@@ -48,7 +48,7 @@ PrintsHeaded-refused head left old new r output is p =
 -- the layout was read, and the lines behind it were run
 pub PrintsHeaded-lines : (head : List ℕ) (layout : Layout) (run : Run) (left old new : Option (List ℕ)) (r : Result Verdict Halt)
     → layout_of head ≡ Ok layout
-    → run ≡ record { layout = layout; lines = [] } → PrintsRest run 0 left old new r
+    → run ≡ record { layout = layout; steps = []; disks = run.disks } → PrintsRest run 0 left old new r
     → PrintsHeaded head left old new r
 PrintsHeaded-lines head layout run left old new r is first p =
     let rest = subst (λ (u : Run). PrintsRest u 0 left old new r) first p in
@@ -80,7 +80,7 @@ PrintsInput-refused source old new input output r is_input is p =
     record { input = input; is_input = is_input; printed = Prints-same old new r (output_of input) output is p }
 
 -- an input of these parts, whose layout's text is within the limit
-input_of-parts : (bytes head : List ℕ) (schedule : List (List ℕ)) → length head ≤ most_layout_bytes
+pub input_of-parts : (bytes head : List ℕ) (schedule : List (List ℕ)) → length head ≤ most_layout_bytes
     → parts bytes ≡ Some (record { layout = head; schedule = schedule }) → input_of bytes ≡ Parted head schedule
 unfolding input_of
 input_of-parts bytes head schedule under is = rw is (within head (Parted head schedule) under)

@@ -3,6 +3,8 @@ pub mod Printing
 pub mod LeftLines
 pub mod Rests
 pub mod Inputs
+pub mod HeadReading
+pub mod OpenEnds
 pub mod StripeTexts
 pub mod LayoutTexts
 pub mod Successions

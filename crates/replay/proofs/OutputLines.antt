@@ -8,9 +8,7 @@ use Rattle.stripe_code.specs.Codes.{coding}
 use Rattle.fab_base.specs.Layouts.{Layout}
 use Rattle.protocol.specs.Settings.{Setting}
 use Rattle.protocol.specs.Worlds.{World}
-use Rattle.world.specs.Runs.{after_line, after_lines}
-use Rattle.world.specs.Texts.{text_of}
-use Rattle.replay.specs.Outputs.{Output, onto, output_line, output_from, finished, bad_line, too_many_lines, most_lines}
+use Rattle.replay.specs.Outputs.{Output, line_prints, after_line, onto, output_line, output_from, finished, bad_line, too_many_lines, most_lines}
 use Rattle.replay.specs.Turns.{line_text}
 
 -- a line that there may be
@@ -26,7 +24,7 @@ output_from-end layout w n = refl
 pub output_from-line : (layout : Layout) (w : World) (n : ℕ) (content : List ℕ) (rest : List (List ℕ)) (line : Line) → n < most_lines
     → line_of content ≡ Some line
     → output_from layout w n (content ∷ rest)
-    ≡ onto (text_of (coding layout) w line) (output_from layout (after_line (coding layout) w line) (n + 1) rest)
+    ≡ onto (line_prints (coding layout) w line) (output_from layout (after_line (coding layout) w line) (n + 1) rest)
 unfolding output_from
 output_from-line layout w n content rest line h is = rw (within n h, is) refl
 
@@ -50,10 +48,15 @@ output_from-front layout w n content rest h = rw (within n h)
     (by_line (line_of content) (λ line. output_from layout (after_line (coding layout) w line) (n + 1) rest))
   where
     by_line : (line : Option Line) (ran : Line → Output)
-        → (more : List ℕ) × ((output_line n true line (λ l. onto (text_of (coding layout) w l) (ran l))).text ≡ line_text
+        → (more : List ℕ) × ((output_line n true line (λ l. onto (line_prints (coding layout) w l) (ran l))).text ≡ line_text
         (coding layout) w line ++ more)
     by_line None ran = ((bad_line (n + 1)).text, refl)
     by_line (Some line) ran = ((ran line).text, refl)
+
+-- the world that lines leave
+abbrev pub after_lines : Setting → World → List Line → World
+after_lines setting w [] = w
+after_lines setting w (line ∷ lines) = after_lines setting (after_line setting w line) lines
 
 -- a line behind others
 pub after_lines-push : (setting : Setting) (w : World) (lines : List Line) (line : Line)

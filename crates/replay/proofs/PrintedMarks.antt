@@ -1,25 +1,24 @@
 -- The marks among the printed lines are those of the world that the lines of the schedule leave.
-use Rattle.std.proofs.Common.{◌≡◌, ℕ, ◌+◌, Bool, true, false, not, ◌&&◌, if◌then◌else◌, List, [], ◌∷◌, ◌++◌, length, drop, map, Option, Some, None, is_some, refl, sym, ap, ◌∙◌, append_assoc, append-nil}
+use Rattle.std.proofs.Common.{◌≡◌, ℕ, ◌+◌, Bool, true, false, not, ◌&&◌, if◌then◌else◌, List, [], ◌∷◌, ◌++◌, length, drop, map, Option, Some, None, is_some, refl, sym, ap, subst, ◌∙◌, append_assoc, append-nil}
 use Rattle.fab_base.specs.declared.identities.BrickId.{BrickId}
-use Rattle.fab_base.specs.declared.asks.Ask.{Ask}
 use Rattle.fab_base.specs.declared.answers.Refusal.{Refusal}
 use Rattle.fab_base.specs.declared.answers.Refusal.TheVariants.{Down}
 use Rattle.messages.specs.declared.packets.Packet.{Packet}
 use Rattle.reg_model.specs.declared.marks.Mark.{Mark}
 use Rattle.reg_model.specs.declared.marks.Mark.TheVariants as mark
-use Rattle.lines.specs.declared.forms.Line.{Line}
-use Rattle.lines.specs.declared.forms.Line.TheVariants.{Nothing, Invoke, Deliver, SetClock, Tick, Crash, Start}
 use Rattle.protocol.specs.Settings.{Setting}
+use Rattle.protocol.specs.declared.tellings.Answered.{Answered}
 use Rattle.protocol.specs.declared.tellings.Told.{Told}
 use Rattle.protocol.specs.declared.tellings.Told.TheVariants as told
 use Rattle.protocol.specs.Nodes.{NodeStep, put, is_stripe_op, refusal_of, invoked, received}
-use Rattle.protocol.specs.Worlds.{World, number_of, is_brick, is_up, may_start, world_began, world_stepped, world_ticked, world_stopped, world_started, replies_with, delivered, packet_of, happens}
-use Rattle.world.specs.Runs.{brick_of, ask_of, op_of, after_line, after_lines}
-use Rattle.world.specs.Texts.{mark_text, marks_text, new_marks, outcome_of, outcome_text, refused_or_begun, handled_or_idle}
+use Rattle.protocol.specs.Worlds.{World, Event, Found, Invokes, Delivers, Sets, Ticks, Stops, Starts, Before, After, number_of, is_brick, is_up, may_start, world_began, world_told, world_tells, world_answered, world_answers, world_stepped, world_ticked, world_stopped, world_found, world_started, replies_with, delivered, packet_of, happens, run}
+use Rattle.world.specs.Runs.{Step, all_events}
+use Rattle.world.proofs.RunLemmas.{run-append}
+use Rattle.world.specs.Texts.{mark_text, marks_text, new_marks, is_deliverable, marks_if, outcome_of, outcome_text, event_text, text_of, refused_or_begun}
 use Rattle.world.specs.declared.simulations.Outcome.{Outcome}
 use Rattle.world.specs.declared.simulations.Outcome.TheVariants.{Marks, Refused, Idle}
 use Rattle.replay.specs.Printed.{Printed, OfMark, OfRefusal, OfNothing, printed_text, printed_texts, marks_in, printed_marks}
-use Rattle.replay.specs.Replays.{lines_text}
+use Rattle.replay.specs.Replays.{steps_text}
 
 -- the lines that an outcome prints, with the marks that were made
 abbrev lines_of : Outcome → List Mark → List Printed
@@ -79,23 +78,35 @@ done_or_not : (w next : World) (t : Bool) → IsPrinted w next Marks → IsPrint
 done_or_not w next true printed = printed
 done_or_not w next false printed = printed_idle w
 
-stepped_printed : (setting : Setting) (w before : World) (brick : BrickId) (step : NodeStep) (t : Told) → before.marks ≡ w.marks
-    → IsPrinted w (world_stepped setting before brick step t) Marks
-stepped_printed setting w before brick step told.Nothing same = printed_none w (world_stepped setting before brick step told.Nothing) same
-stepped_printed setting w before brick step (told.Made seq t base) same =
-    printed_none w (world_stepped setting before brick step (told.Made seq t base)) same
-stepped_printed setting w before brick step (told.Answers seq answer seen) same =
-    let more : List Mark = mark.End (length before.marks) (number_of before brick.0 seq) answer ∷ [] in
-    printed_more w (world_stepped setting before brick step (told.Answers seq answer seen)) more (ap (λ (l : List Mark). l ++ more) same)
+-- an answer is a mark, and nothing else that a step does is
+told_marks : (setting : Setting) (w : World) (brick : BrickId) (told : List Told) → (world_tells setting w brick told).marks ≡ w.marks
+told_marks setting w brick [] = refl
+told_marks setting w brick (told.Made seq t base ∷ more) = told_marks setting (world_told setting w brick (told.Made seq t base)) brick more
+told_marks setting w brick (told.Seen seq t ∷ more) = told_marks setting (world_told setting w brick (told.Seen seq t)) brick more
+
+answer_marks : (w : World) (brick : BrickId) (answers : List Answered) → (more : List Mark) × ((world_answers w brick answers).marks ≡ w.marks ++ more)
+answer_marks w brick [] = ([], sym (append-nil w.marks))
+answer_marks w brick (one ∷ answers) =
+    let here : Mark = mark.End (length w.marks) (number_of w brick.0 one.seq) one.answer in
+    let rest = answer_marks (world_answered w brick one) brick answers in
+    (here ∷ rest.0, rest.1 ∙ append_assoc w.marks (here ∷ []) rest.0)
+
+stepped_printed : (setting : Setting) (w before : World) (brick : BrickId) (step : NodeStep) → before.marks ≡ w.marks
+    → IsPrinted w (world_stepped setting before brick step) Marks
+stepped_printed setting w before brick step same =
+    let told : World = world_tells setting before brick step.told in
+    let more = answer_marks told brick step.answers in
+    printed_more w (world_stepped setting before brick step) more.0
+    (more.1 ∙ ap (λ (l : List Mark). l ++ more.0) (told_marks setting before brick step.told ∙ same))
 
 delivered_printed : (setting : Setting) (w : World) (packet : Option Packet)
-    → IsPrinted w (delivered setting w packet) (handled_or_idle setting w packet)
+    → IsPrinted w (delivered setting w packet) (marks_if (is_deliverable setting w packet))
 delivered_printed setting w None = printed_idle w
 delivered_printed setting w (Some packet) =
     let step : NodeStep = received setting packet.to (w.clocks packet.to.0) (w.nodes packet.to.0) packet in
     let counted : World = record w { replies = replies_with setting w packet } in
-    done_or_not w (world_stepped setting counted packet.to step step.told) (is_up setting.layout w packet.to)
-    (stepped_printed setting w counted packet.to step step.told refl)
+    done_or_not w (world_stepped setting counted packet.to step) (is_up setting.layout w packet.to)
+    (stepped_printed setting w counted packet.to step refl)
 
 -- an operation begins exactly where no refusal is printed
 invoked_printed : (w next : World) (up stripe : Bool) (refusal : Option Refusal) → IsPrinted w next Marks
@@ -106,46 +117,69 @@ invoked_printed w next true false (Some refusal) printed = printed_refused w ref
 invoked_printed w next true true None printed = printed
 invoked_printed w next true true (Some refusal) printed = printed_refused w refusal
 
--- the marks that a line makes are those that it prints
-line_printed : (setting : Setting) (w : World) (line : Line) → IsPrinted w (after_line setting w line) (outcome_of setting w line)
+started_printed : (w : World) (brick : BrickId) (openings : ℕ) (found : Found) → IsPrinted w (world_started (world_found w brick found) brick openings) Marks
+started_printed w brick openings Before = printed_none w (world_started w brick openings) refl
+started_printed w brick openings After = printed_none w (world_started (world_found w brick After) brick openings) refl
+
+-- the marks that an event makes are those that it prints
+event_printed : (setting : Setting) (w : World) (event : Event) → IsPrinted w (happens setting w event) (outcome_of setting w event)
 unfolding happens
-line_printed setting w Nothing = printed_none w w refl
-line_printed setting w (Invoke b g s access) =
-    let brick : BrickId = brick_of b in
-    let ask : Ask = ask_of g s (op_of access) in
+event_printed setting w (Invokes brick ask) =
     let step : NodeStep = invoked setting brick (w.clocks brick.0) (w.nodes brick.0) ask in
-    invoked_printed w (world_began w brick ask step) (is_up setting.layout w brick) (is_stripe_op (op_of access))
+    invoked_printed w (world_began w brick ask step) (is_up setting.layout w brick) (is_stripe_op ask.op)
     (refusal_of setting.layout (w.nodes brick.0) ask) (printed_more w (world_began w brick ask step)
     (mark.Begin (length w.marks) (w.begun + 1) brick ask ∷ []) refl)
-line_printed setting w (Deliver k) = delivered_printed setting w (packet_of w.packets k)
-line_printed setting w (SetClock b v) =
-    done_or_not w (record w { clocks = put w.clocks (brick_of b).0 v }) (is_brick setting.layout (brick_of b))
-    (printed_none w (record w { clocks = put w.clocks (brick_of b).0 v }) refl)
-line_printed setting w (Tick b) =
-    done_or_not w (world_ticked setting w (brick_of b)) (is_up setting.layout w (brick_of b)) (printed_none w (world_ticked setting w (brick_of b)) refl)
-line_printed setting w (Crash b) =
-    done_or_not w (world_stopped setting w (brick_of b) None) (is_up setting.layout w (brick_of b))
-    (printed_more w (world_stopped setting w (brick_of b) None) (mark.Crash (length w.marks) (brick_of b) ∷ []) refl)
-line_printed setting w (Start b) =
-    done_or_not w (world_started w (brick_of b) 1) (may_start setting.layout w (brick_of b) 1) (printed_none w (world_started w (brick_of b) 1) refl)
+event_printed setting w (Delivers number) = delivered_printed setting w (packet_of w.packets number)
+event_printed setting w (Sets brick time) =
+    done_or_not w (record w { clocks = put w.clocks brick.0 time }) (is_brick setting.layout brick)
+    (printed_none w (record w { clocks = put w.clocks brick.0 time }) refl)
+event_printed setting w (Ticks brick) =
+    done_or_not w (world_ticked setting w brick) (is_up setting.layout w brick) (printed_none w (world_ticked setting w brick) refl)
+event_printed setting w (Stops brick during) =
+    done_or_not w (world_stopped setting w brick during) (is_up setting.layout w brick)
+    (printed_more w (world_stopped setting w brick during) (mark.Crash (length w.marks) brick ∷ []) refl)
+event_printed setting w (Starts brick openings found) =
+    done_or_not w (world_started (world_found w brick found) brick openings) (may_start setting.layout w brick openings)
+    (started_printed w brick openings found)
 
--- what lines print, and the marks that they make
-pub record PrintedLines (setting : Setting) (w : World) (lines : List Line) : Type 0 where
+-- a text is that of printed lines, and the marks among them are those that a world has after another
+pub record IsPrintedAs (w next : World) (text : List ℕ) : Type 0 where
   pub printed : List Printed
-  pub text_is : lines_text setting w lines ≡ printed_texts printed
-  pub marks_are : (after_lines setting w lines).marks ≡ w.marks ++ printed_marks printed
+  pub text_is : text ≡ printed_texts printed
+  pub marks_are : next.marks ≡ w.marks ++ printed_marks printed
 
-pub printed_lines : (setting : Setting) (w : World) (lines : List Line) → PrintedLines setting w lines
-printed_lines setting w [] = record { printed = []; text_is = refl; marks_are = sym (append-nil w.marks) }
-printed_lines setting w (line ∷ lines) =
-    let next : World = after_line setting w line in
-    let here : List Printed = lines_of (outcome_of setting w line) (new_marks w next) in
-    let rest : PrintedLines setting next lines = printed_lines setting next lines in
-    record {
-      printed = here ++ rest.printed;
-      text_is = ap (λ (text : List ℕ). text ++ lines_text setting next lines) (outcome_printed (outcome_of setting w line) (new_marks w next))
-          ∙ ap (λ (text : List ℕ). printed_texts here ++ text) rest.text_is ∙ sym (texts_both here rest.printed);
-      marks_are = rest.marks_are ∙ ap (λ (marks : List Mark). marks ++ printed_marks rest.printed) (line_printed setting w line)
-          ∙ append_assoc w.marks (printed_marks here) (printed_marks rest.printed)
-          ∙ ap (λ (marks : List Mark). w.marks ++ marks) (sym (marks_both here rest.printed));
-    }
+-- nothing
+nothing_printed : (w : World) → IsPrintedAs w w []
+nothing_printed w = record { printed = []; text_is = refl; marks_are = sym (append-nil w.marks) }
+
+-- one text, and then another
+both_printed : (w mid next : World) (first second : List ℕ) → IsPrintedAs w mid first → IsPrintedAs mid next second → IsPrintedAs w next (first ++ second)
+both_printed w mid next first second one other = record {
+  printed = one.printed ++ other.printed;
+  text_is = ap (λ (text : List ℕ). text ++ second) one.text_is ∙ ap (λ (text : List ℕ). printed_texts one.printed ++ text) other.text_is
+      ∙ sym (texts_both one.printed other.printed);
+  marks_are = other.marks_are ∙ ap (λ (marks : List Mark). marks ++ printed_marks other.printed) one.marks_are
+      ∙ append_assoc w.marks (printed_marks one.printed) (printed_marks other.printed)
+      ∙ ap (λ (marks : List Mark). w.marks ++ marks) (sym (marks_both one.printed other.printed));
+}
+
+-- what events print, and the marks that they make
+events_printed : (setting : Setting) (w : World) (events : List Event) → IsPrintedAs w (run setting events w) (text_of setting w events)
+events_printed setting w [] = nothing_printed w
+events_printed setting w (event ∷ events) =
+    let next : World = happens setting w event in
+    both_printed w next (run setting events next) (event_text setting w event) (text_of setting next events)
+    (record {
+      printed = lines_of (outcome_of setting w event) (new_marks w next);
+      text_is = outcome_printed (outcome_of setting w event) (new_marks w next);
+      marks_are = event_printed setting w event;
+    }) (events_printed setting next events)
+
+-- and steps
+pub steps_printed : (setting : Setting) (w : World) (steps : List Step) → IsPrintedAs w (run setting (all_events steps) w) (steps_text setting w steps)
+steps_printed setting w [] = nothing_printed w
+steps_printed setting w (step ∷ steps) =
+    let next : World = run setting step.events w in
+    subst (λ (v : World). IsPrintedAs w v (steps_text setting w (step ∷ steps))) (sym (run-append setting w step.events (all_events steps)))
+    (both_printed w next (run setting (all_events steps) next) (text_of setting w step.events) (steps_text setting next steps)
+    (events_printed setting w step.events) (steps_printed setting next steps))

@@ -6,6 +6,7 @@ use Rattle.fab_io.specs.Ends.{AppendsFront}
 use Rattle.fab_io.proofs.Content.{Appends-none, AppendsFront-none, AppendsFront-after, AppendsFront-more}
 use Rattle.replay.specs.declared.endings.Verdict.{Verdict}
 use Rattle.replay.specs.declared.endings.Halt.{Halt}
+use Rattle.replay.specs.declared.endings.Halt.TheVariants.{Source, Memory}
 use Rattle.replay.specs.Outputs.{Output, onto}
 use Rattle.replay.specs.Turns.{Prints}
 
@@ -42,3 +43,11 @@ Prints-front a b output halt text (more, e) p = subst (AppendsFront a b) (sym e)
 pub at_err : {T E : Type 0} (r : Result T E) (P : Result T E → Type 0) → ((e : E) → P (Err e)) → IsErr r → P r
 at_err (Ok x) P h is = cc
 at_err (Err e) P h is = h e
+
+-- the error of an exit is the one that was met
+pub same_error : {T : Type 0} (r : Result T Halt) (met gave said : Halt) → r ≡ Err gave → gave ≡ met → r ≡ Err said → met ≡ said
+same_error r met gave said is same e = cc
+
+-- want of memory is no failure of the source
+pub memory_alone : Memory ≡ Source → ⊥
+memory_alone e = cc

@@ -5,7 +5,7 @@ use Rattle.fab_base.specs.Layouts.{Layout, Group, group_of}
 use Rattle.protocol.specs.Worlds.{World}
 use Rattle.protocol_laws.specs.Laws.{NeverFalls, AddsNothingBelow, IsLost, IsHeldByQuorum}
 
--- No brick has lowered what it had promised or stored, or added a version below that, and no version that was lost has surfaced.
+-- No brick has lowered the stamp below which it takes nothing for a stripe, or added a version below that, and no version that was lost has surfaced.
 pub record Succeeds (layout : Layout) (earlier later : World) : Type 0 where
   pub never_falls : NeverFalls earlier later
   pub adds_nothing_below : AddsNothingBelow earlier later

@@ -9,13 +9,14 @@ use Rattle.reg_model.specs.declared.marks.Happening.{Happening}
 use Rattle.lines.specs.declared.forms.Line.{Line}
 use Rattle.lines.specs.Grammar.{line_of}
 use Rattle.fab_base.specs.Layouts.{Layout, Group, group_of}
-use Rattle.protocol.specs.Worlds.{World, first_world}
+use Rattle.protocol.specs.Settings.{Setting}
+use Rattle.protocol.specs.Worlds.{World, first_world, run}
 use Rattle.protocol.specs.Happenings.{happenings_of}
 use Rattle.stripe_code.specs.Codes.{coding}
 use Rattle.layout.specs.declared.faults.LayoutFault.{LayoutFault}
 use Rattle.layout.specs.Names.{fault_text}
 use Rattle.layout.specs.Texts.{layout_of}
-use Rattle.world.specs.Runs.{after_line}
+use Rattle.world.specs.Runs.{events_of}
 use Rattle.replay.specs.declared.endings.Verdict.{Verdict}
 use Rattle.replay.specs.declared.endings.Verdict.TheVariants.{Whole, BadLayout, BadLine, TooManyLines}
 use Rattle.world.specs.Texts.{text_of, newline}
@@ -94,6 +95,18 @@ count_text lines marks =
 abbrev pub closing_text : Layout → World → ℕ → List ℕ
 closing_text layout w lines = groups_text layout w most_groups ++ count_text lines w.marks
 
+-- what a line prints, and the world after it
+abbrev pub line_prints : Setting → World → Line → List ℕ
+line_prints setting w line = text_of setting w (events_of line)
+
+abbrev pub after_line : Setting → World → Line → World
+after_line setting w line = run setting (events_of line) w
+
+-- the texts of lines, one after another
+abbrev pub lines_text : Setting → World → List Line → List ℕ
+lines_text setting w [] = []
+lines_text setting w (line ∷ lines) = line_prints setting w line ++ lines_text setting (after_line setting w line) lines
+
 -- what is printed, and how the input ends that
 pub record Output : Type 0 where
   pub text : List ℕ
@@ -126,7 +139,7 @@ unfoldable pub output_from : Layout → World → ℕ → List (List ℕ) → Ou
 output_from layout w n [] = finished layout w n
 output_from layout w n (content ∷ contents) =
     output_line n (nat_lt n most_lines) (line_of content)
-    (λ line. onto (text_of (coding layout) w line) (output_from layout (after_line (coding layout) w line) (n + 1) contents))
+    (λ line. onto (line_prints (coding layout) w line) (output_from layout (after_line (coding layout) w line) (n + 1) contents))
 
 -- the output of an input without a layout, and why it has none
 abbrev pub bad_layout : List ℕ → Output

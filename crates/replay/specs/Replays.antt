@@ -1,28 +1,32 @@
 -- What the program `replay` promises: how it answers its words, what it prints of an input, and that what it
 -- prints is strict.
-use Rattle.std.specs.Prelude.{◌≡◌, ℕ, ◌⊎◌, Bool, false, List, [], ◌∷◌, ◌++◌, length, ⊤, map, codes, Option, Some, None, Result, Ok, Err}
+use Rattle.std.specs.Prelude.{◌≡◌, ℕ, ◌⊎◌, Bool, false, List, [], ◌∷◌, ◌++◌, ◌≤◌, length, ⊤, map, codes, Option, Some, None, Result, Ok, Err}
+use Rattle.std.specs.List.{concat, AllByRecursion}
 use Rattle.std.specs.Str.{bytes_eq}
-use Rattle.std.specs.Io.KnownBytes.{Appends, IsAtEnd}
+use Rattle.std.specs.Io.KnownBytes.{Appends, Consumes, IsAtEnd}
 use Rattle.fab_io.specs.Ends.{AppendsFront}
 use Rattle.reg_model.specs.Marks.{stripe_marks, IsWellFormed}
 use Rattle.reg_model.specs.Strict.{IsStrict}
 use Rattle.lines.specs.declared.forms.Line.{Line}
 use Rattle.lines.specs.Grammar.{line_of}
+use Rattle.lines.specs.Lines.{whole_lines, begun_line}
+use Rattle.lines.specs.Reading.{IsBegun}
 use Rattle.fab_base.specs.Layouts.{Layout, Group, group_of}
 use Rattle.protocol.specs.Settings.{Setting}
-use Rattle.protocol.specs.Worlds.{World, first_world}
+use Rattle.protocol.specs.Views.{layout_views}
+use Rattle.protocol.specs.Worlds.{World, first_world, run}
 use Rattle.protocol.specs.Happenings.{happenings_of}
 use Rattle.protocol_laws.specs.Laws.{AbortsShow, Laws}
 use Rattle.stripe_code.specs.Codes.{coding}
 use Rattle.layout.specs.Texts.{layout_of}
-use Rattle.world.specs.Runs.{after_line, world_of}
-use Rattle.world.specs.Texts.{text_of, newline}
+use Rattle.world.specs.Runs.{Step, IsEventsOf, all_events}
+use Rattle.world.specs.Texts.{newline, text_of}
 use Rattle.replay.specs.declared.endings.Verdict.{Verdict}
 use Rattle.replay.specs.declared.endings.Verdict.TheVariants.{Whole, BadLayout, BadLine, TooManyLines}
 use Rattle.replay.specs.declared.endings.Halt.{Halt}
 use Rattle.replay.specs.declared.endings.Halt.TheVariants.{Source, Sink, Memory}
-use Rattle.replay.specs.Inputs.{Input, Parted, input_of, IsInput}
-use Rattle.replay.specs.Outputs.{output_of, closing_text}
+use Rattle.replay.specs.Inputs.{Input, Parted, TooLong, Endless, most_layout_bytes, input_of, IsInput}
+use Rattle.replay.specs.Outputs.{output_of, closing_text, lines_text, most_lines}
 use Rattle.replay.specs.Printed.{Printed, printed_texts, printed_marks}
 use Rattle.replay.specs.Turns.{Prints}
 use Rattle.replay.specs.Histories.{Succeeds}
@@ -53,14 +57,19 @@ abbrev pub Refuses : Option (List ℕ) → Option (List ℕ) → ℕ → Type 0
 Refuses old new status =
     ((status ≡ 2) × Appends old new usage_text) ⊎ (((status ≡ 6) ⊎ (status ≡ 7)) × AppendsFront old new usage_text)
 
--- the texts of lines, one after another
-abbrev pub lines_text : Setting → World → List Line → List ℕ
-lines_text setting w [] = []
-lines_text setting w (line ∷ lines) = text_of setting w line ++ lines_text setting (after_line setting w line) lines
+-- the world that steps leave over the disk of a layout
+abbrev pub left_by : Layout → List Step → World
+left_by layout steps = run (coding layout) (all_events steps) (first_world layout)
 
--- the world that lines leave over the disk of a layout
-abbrev pub left_by : Layout → List Line → World
-left_by layout lines = world_of (record { layout = layout; lines = lines })
+-- the texts of steps, one after another
+abbrev pub steps_text : Setting → World → List Step → List ℕ
+steps_text setting w [] = []
+steps_text setting w (step ∷ steps) = text_of setting w step.events ++ steps_text setting (run setting step.events w) steps
+
+-- Each of these steps is of its line of the schedule: its events are such as that line may be.
+pub record AreStepsOf (schedule : List (List ℕ)) (steps : List Step) : Type 0 where
+  pub lines : map line_of schedule ≡ map (λ step. Some step.line) steps
+  pub events : AllByRecursion (λ step. IsEventsOf step.line step.events) steps
 
 -- What lines left is strict: the marks are well formed, the happenings of each stripe are strict for its
 -- marks, and every abort shows its evidence. Beside these all laws of the disk hold of it.
@@ -69,54 +78,95 @@ pub record IsStrictWorld (layout : Layout) (world : World) : Type 0 where
   pub strict : (g s : ℕ) (group : Group) → group_of layout g ≡ Some group
       → IsStrict group.m layout.block (stripe_marks g s world.marks) (happenings_of world g s)
   pub aborts_show : AbortsShow world
-  pub laws : Laws (coding layout) world
+  pub laws : Laws (coding layout) (layout_views layout) world
 
--- What was printed is strict. The input has a layout and a schedule, every line of the schedule was run, and
--- the text is theirs and then the happenings of each stripe in the world that they leave, which is strict. Each
+-- What was printed is strict. The input has a layout and a schedule, and there is a step for each line of the schedule; the text is
+-- that of the steps and then the happenings of each stripe in the world that they leave, which is strict. Each
 -- line of their text is a mark, a refusal or `idle`, and the marks among them are, in order, those of that world.
 pub record IsLinearizable (input : Input) (text : List ℕ) : Type 0 where
   pub head : List ℕ
   pub layout : Layout
   pub schedule : List (List ℕ)
-  pub lines : List Line
+  pub steps : List Step
   pub world : World
   pub input_is : input ≡ Parted head schedule
   pub layout_is : layout_of head ≡ Ok layout
-  pub lines_are : map line_of schedule ≡ map Some lines
-  pub world_is : world ≡ left_by layout lines
+  pub steps_are : AreStepsOf schedule steps
+  pub world_is : world ≡ left_by layout steps
   pub printed : List Printed
-  pub text_is : text ≡ lines_text (coding layout) (first_world layout) lines ++ closing_text layout world (length lines)
-  pub lines_text_is : lines_text (coding layout) (first_world layout) lines ≡ printed_texts printed
+  pub text_is : text ≡ steps_text (coding layout) (first_world layout) steps ++ closing_text layout world (length steps)
+  pub steps_text_is : steps_text (coding layout) (first_world layout) steps ≡ printed_texts printed
   pub marks_are : printed_marks printed ≡ world.marks
   pub is_strict : IsStrictWorld layout world
 
--- these lines are the first of an input's schedule, over its layout
-pub record BeginsWith (input : Input) (layout : Layout) (lines : List Line) : Type 0 where
+-- these are steps of the first lines of an input's schedule, over its layout
+pub record BeginsWith (input : Input) (layout : Layout) (steps : List Step) : Type 0 where
   pub head : List ℕ
   pub schedule : List (List ℕ)
   pub rest : List (List ℕ)
   pub input_is : input ≡ Parted head (schedule ++ rest)
   pub layout_is : layout_of head ≡ Ok layout
-  pub lines_are : map line_of schedule ≡ map Some lines
+  pub steps_are : AreStepsOf schedule steps
 
--- However far a run comes, what its lines left by then is strict, and what further lines leave follows it: no
--- brick has lowered what it had promised or stored, and no version that was lost has surfaced.
+-- However far a run comes, what its steps left by then is strict, and what further steps leave follows it: no
+-- brick takes anything below what it took nothing below, and no version that was lost has surfaced.
 pub record StaysStrict (input : Input) : Type 0 where
-  pub strict : (layout : Layout) (lines : List Line) → BeginsWith input layout lines → IsStrictWorld layout (left_by layout lines)
-  pub follows : (layout : Layout) (lines more : List Line) → BeginsWith input layout (lines ++ more)
-      → Succeeds layout (left_by layout lines) (left_by layout (lines ++ more))
+  pub strict : (layout : Layout) (steps : List Step) → BeginsWith input layout steps → IsStrictWorld layout (left_by layout steps)
+  pub follows : (layout : Layout) (steps more : List Step) → BeginsWith input layout (steps ++ more)
+      → Succeeds layout (left_by layout steps) (left_by layout (steps ++ more))
+
+-- The whole lines of a schedule are all lines, and no more than there may be, over a layout; and this is their text.
+pub record IsRunSoFar (head : List ℕ) (schedule : List (List ℕ)) (text : List ℕ) : Type 0 where
+  pub layout : Layout
+  pub lines : List Line
+  pub layout_is : layout_of head ≡ Ok layout
+  pub lines_are : map line_of schedule ≡ map Some lines
+  pub within : length lines ≤ most_lines
+  pub text_is : text ≡ lines_text (coding layout) (first_world layout) lines
+
+-- A run may go on behind an input as far as its last line feed, and the line that was begun: the text of its layout goes
+-- on, or its schedule does; and this is the text of its lines.
+abbrev pub MayGoOn : Input → List ℕ → List ℕ → Type 0
+MayGoOn Endless begun text = IsBegun most_layout_bytes begun × (text ≡ [])
+MayGoOn TooLong begun text = ⊥
+MayGoOn (Parted head schedule) begun text = IsBegun 70000 begun × IsRunSoFar head schedule text
+
+-- the bytes that were read do not decide how the run ends, and this is the text of their whole lines
+abbrev pub LeavesOpen : List ℕ → List ℕ → Type 0
+LeavesOpen read text = MayGoOn (input_of (concat (whole_lines read))) (begun_line read) text
+
+-- The source was read no further than it took: what was read before the last read does not decide how the run ends. That read
+-- gave so many bytes.
+pub record ReadsAsNeeded (source source_after : Option (List ℕ)) (came : ℕ) : Type 0 where
+  pub before : List ℕ
+  pub last : List ℕ
+  pub text : List ℕ
+  pub was_read : Consumes source source_after (before ++ last)
+  pub by_last_read : length last ≤ came
+  pub leaves_open : LeavesOpen before text
+
+-- The source failed: what was read by then does not decide how the run ends, and the sink took the text of its whole lines.
+pub record FailedSource (source source_after sink sink_after : Option (List ℕ)) : Type 0 where
+  pub read : List ℕ
+  pub text : List ℕ
+  pub was_read : Consumes source source_after read
+  pub leaves_open : LeavesOpen read text
+  pub printed : Appends sink sink_after text
 
 -- A run. There is an input, of which what the source tells is the bytes, and an end, of which the status
 -- tells. The sink took the whole output of the input, which ends so, or, where the run was stopped from
--- outside, some of the output, from its front. Where all was run, the source is at its end, and what was
+-- outside, some of the output, from its front. The source was read no further than it took. Where it failed, the
+-- sink took the text of the lines that were whole. Where all was run, the source is at its end, and what was
 -- printed is strict; and however far it came, what its lines left is strict, and what further lines leave
 -- follows it.
-pub record RunEnds (source source_after sink sink_after : Option (List ℕ)) (status : ℕ) : Type 0 where
+pub record RunEnds (source source_after : Option (List ℕ)) (came : ℕ) (sink sink_after : Option (List ℕ)) (status : ℕ) : Type 0 where
   pub input : Input
   pub ending : Result Verdict Halt
   pub is_input : IsInput source input
   pub status_is : status ≡ status_of ending
   pub printed : Prints sink sink_after (output_of input) ending
+  pub reads_as_needed : ReadsAsNeeded source source_after came
+  pub failed_source : ending ≡ Err Source → FailedSource source source_after sink sink_after
   pub read : ending ≡ Ok Whole → IsAtEnd source_after
   pub linearizable : ending ≡ Ok Whole → IsLinearizable input (output_of input).text
   pub stays_strict : StaysStrict input

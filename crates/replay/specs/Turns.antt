@@ -1,23 +1,24 @@
 -- What a part of a run printed, of the output that it had to print.
 use Rattle.std.specs.Prelude.{◌≡◌, ℕ, ◌≤◌, Bool, true, false, List, [], ◌∷◌, length, ⊤, map, Option, Some, None, Result, Ok, Err}
-use Rattle.std.specs.Io.KnownBytes.{Appends, Keeps}
+use Rattle.std.specs.Io.KnownBytes.{Appends, Keeps, IsAtEnd}
 use Rattle.fab_io.specs.Ends.{AppendsFront}
 use Rattle.lines.specs.declared.forms.Line.{Line}
 use Rattle.lines.specs.Grammar.{line_of}
 use Rattle.lines.specs.Lines.{raw_lines, content}
-use Rattle.lines.specs.Reading.{Passes, ReadsSchedule}
+use Rattle.lines.specs.Reading.{Says, ReadsSchedule}
+use Rattle.lines.specs.declared.reader.Piece.{Piece}
+use Rattle.lines.specs.declared.reader.Piece.TheVariants.{Whole, Last, Long, Ended}
 use Rattle.stripe_code.specs.Codes.{coding}
 use Rattle.protocol.specs.Settings.{Setting}
 use Rattle.protocol.specs.Worlds.{World}
-use Rattle.world.specs.Runs.{Run, world_of}
-use Rattle.world.specs.Steps.{with_line}
-use Rattle.world.specs.Texts.{text_of}
+use Rattle.world.specs.Runs.{Run, Step, world_of}
+use Rattle.world.specs.Steps.{Runs}
 use Rattle.replay.specs.declared.endings.Verdict.{Verdict}
 use Rattle.replay.specs.declared.endings.Halt.{Halt}
 use Rattle.replay.specs.declared.heads.Head.{Head}
-use Rattle.replay.specs.declared.heads.Head.TheVariants.{Text}
+use Rattle.replay.specs.declared.heads.Head.TheVariants.{Text, Alone}
 use Rattle.replay.specs.Inputs.{Input, Parted, TooLong, Endless, most_layout_bytes, IsInput}
-use Rattle.replay.specs.Outputs.{Output, output_from, output_of}
+use Rattle.replay.specs.Outputs.{Output, line_prints, output_from, output_of}
 
 -- the sink took the whole output, which ends so; or a run that was stopped gave it some of the output, from
 -- its front
@@ -39,14 +40,15 @@ pub record PrintsRest (run : Run) (n : ℕ) (left old new : Option (List ℕ)) (
 -- the text of a line, if it is one
 abbrev pub line_text : Setting → World → Option Line → List ℕ
 line_text setting w None = []
-line_text setting w (Some line) = text_of setting w line
+line_text setting w (Some line) = line_prints setting w line
 
 -- a line was run and printed
 pub record LineRuns (before after : Run) (content : List ℕ) (old new : Option (List ℕ)) : Type 0 where
   pub line : Line
   pub is_line : line_of content ≡ Some line
-  pub run : after ≡ with_line before line
-  pub printed : Appends old new (text_of (coding before.layout) (world_of before) line)
+  pub step : Step
+  pub runs : Runs before after line step
+  pub printed : Appends old new (line_prints (coding before.layout) (world_of before) line)
 
 -- a line was run and printed; or it is no line; or a run that was stopped printed some of its text, from the
 -- front
@@ -56,17 +58,31 @@ LineMeans before after content old new (Ok false) = (line_of content ≡ None) �
 LineMeans before after content old new (Err halt) =
     AppendsFront old new (line_text (coding before.layout) (world_of before) (line_of content))
 
--- the next line of the source was run and printed
-pub record TurnRuns (before after : Run) (left rest old new : Option (List ℕ)) : Type 0 where
-  pub bytes : List ℕ
-  pub passes : Passes left rest (bytes ∷ [])
-  pub runs : LineRuns before after (content bytes) old new
+-- a line was run and printed; or the run ended at it, or was stopped, and printed the output of it and any lines behind it
+abbrev pub LineTurnMeans : Run → Run → ℕ → List ℕ → Option (List ℕ) → Option (List ℕ) → Result (Option Verdict) Halt → Type 0
+LineTurnMeans before after n content old new (Ok None) = LineRuns before after content old new
+LineTurnMeans before after n content old new (Ok (Some verdict)) =
+    (rest : List (List ℕ)) → Prints old new (output_from before.layout (world_of before) n (content ∷ rest)) (Ok verdict)
+LineTurnMeans before after n content old new (Err halt) =
+    (rest : List (List ℕ)) → Prints old new (output_from before.layout (world_of before) n (content ∷ rest)) (Err halt)
+
+-- a run printed the output of what comes next, and of any lines that may be left behind it
+abbrev pub PieceMeans : Run → ℕ → Piece → Option (List ℕ) → Option (List ℕ) → Result Verdict Halt → Type 0
+PieceMeans run n piece old new result = (left rest : Option (List ℕ)) → Says 70000 left rest piece → PrintsRest run n left old new result
 
 -- a line was run, or the run ended
-abbrev pub TurnMeans : Run → Run → ℕ → Option (List ℕ) → Option (List ℕ) → Option (List ℕ) → Option (List ℕ) → Result (Option Verdict) Halt → Type 0
-TurnMeans before after n left rest old new (Ok None) = TurnRuns before after left rest old new
-TurnMeans before after n left rest old new (Ok (Some verdict)) = PrintsRest before n left old new (Ok verdict)
-TurnMeans before after n left rest old new (Err halt) = PrintsRest before n left old new (Err halt)
+abbrev pub TurnMeans : Run → Run → ℕ → Piece → Option (List ℕ) → Option (List ℕ) → Result (Option Verdict) Halt → Type 0
+TurnMeans before after n piece old new (Ok None) =
+    (line : List ℕ) × (piece ≡ Whole line) × LineRuns before after (content line) old new
+TurnMeans before after n piece old new (Ok (Some verdict)) = PieceMeans before n piece old new (Ok verdict)
+TurnMeans before after n piece old new (Err halt) = PieceMeans before n piece old new (Err halt)
+
+-- nothing comes behind this
+abbrev pub IsTheEnd : Piece → Type 0
+IsTheEnd (Whole line) = ⊥
+IsTheEnd (Last line) = ⊤
+IsTheEnd Long = ⊥
+IsTheEnd Ended = ⊤
 
 -- a run printed the output of this layout's text and the lines that are left behind it
 pub record PrintsHeaded (head : List ℕ) (left old new : Option (List ℕ)) (result : Result Verdict Halt) : Type 0 where
@@ -78,6 +94,7 @@ pub record PrintsHeaded (head : List ℕ) (left old new : Option (List ℕ)) (re
 -- else the input is.
 abbrev pub HeadMeans : Option (List ℕ) → Option (List ℕ) → Head → Type 0
 HeadMeans start now (Text text) = (length text.items ≤ most_layout_bytes) × ReadsSchedule start now text.items []
+HeadMeans start now (Alone text) = (length text.items ≤ most_layout_bytes) × ReadsSchedule start now text.items [] × IsAtEnd now
 HeadMeans start now Head.TooLong = IsInput start TooLong
 HeadMeans start now Head.Endless = IsInput start Endless
 

@@ -4,6 +4,7 @@ ghost use Rattle.std.specs.Prelude.{◌≡◌, ◌≢◌, IfOk};
 ghost use Rattle.std.specs.Io.KnownBytes.{prepend_known};
 ghost use Rattle.fab_io.specs.Ends.{Kept};
 ghost use Rattle.replay.specs.Turns.{HeadMeans};
+ghost use Rattle.replay.specs.Readings.{HeadReads};
 
 use crate::endings::Halt;
 use crate::turns::next;
@@ -17,6 +18,8 @@ use std::alloc::Global;
 pub(crate) enum Head {
     /// The text before the first line `---`, which was read too.
     Text(Vec<u8>),
+    /// The text before a line `---` that lacks its line feed: the input ends there.
+    Alone(Vec<u8>),
     /// A text past its limit.
     TooLong,
     /// There is no line `---`.
@@ -31,6 +34,8 @@ pub(crate) fn read_head<S: Source>(
 ) -> Result<Head, Halt>
     ensures head { IfOk result (λ head. HeadMeans (prepend_known unread.old (S.told source.old))
         (prepend_known unread.new (S.told source.new)) head) }
+    ensures reads { HeadReads unread.old unread.new (S.told source.old) (S.told source.new) (S.came source.new)
+        (source.new ≡ source.old) result }
     ensures kept { Kept (S.faults source.old) (S.faults source.new) (S.sound source.old) (S.sound source.new)
         (result ≡ Err Halt.Source) }
     ensures cause { result ≢ Err Halt.Sink }
@@ -46,6 +51,15 @@ pub(crate) fn read_head<S: Source>(
                     return Ok(Head::TooLong);
                 }
                 head.extend_from_slice(line.as_slice())?;
+            }
+            Piece::Last(line) => {
+                if is_layout_end(line.as_slice()) {
+                    return Ok(Head::Alone(head));
+                }
+                if line.len() > LAYOUT_LIMIT - head.len() {
+                    return Ok(Head::TooLong);
+                }
+                return Ok(Head::Endless);
             }
             Piece::Long => return Ok(Head::TooLong),
             Piece::Ended => return Ok(Head::Endless),

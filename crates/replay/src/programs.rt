@@ -18,7 +18,7 @@ use std::alloc::Global;
 /// | 2 | the words are not the one word `run` | the usage line |
 /// | 3 | the text before the line `---` is no layout, is past 1,048,576 bytes, or there is no such line | `bad layout: toml`, `bad layout: field NAME`, `bad layout: limit NAME`, `bad layout: end` |
 /// | 4 | a line of the schedule is no line; the earlier ones were run and printed | `bad line N` |
-/// | 5 | the source failed | nothing more |
+/// | 5 | the source failed; the lines whose line feed was read before were run and printed | nothing more |
 /// | 6 | the sink failed | nothing more; what was taken is a prefix of the output |
 /// | 7 | no memory was left | nothing more; what was taken is a prefix of the output |
 /// | 8 | there are more than 1,048,576 lines; the first 1,048,576 were run and printed | `too many lines` |
@@ -33,6 +33,9 @@ use std::alloc::Global;
 /// and `IsLinearizable` (`specs/Replays.antt`) says that the happenings printed for each stripe are strict
 /// for its marks, `IsStrict` (`specs/Strict.antt` of `reg_model`). The schedules that are accepted are those
 /// that end with status 0.
+///
+/// What comes first in the input decides: no read is made once what was read holds a line that is none, a line past
+/// 70,000 bytes, a layout that is none, or a line too many (`ReadsAsNeeded` and `FailedSource`, `specs/Replays.antt`).
 ///
 /// However far a run comes, all laws of the disk hold of what its lines left (`Laws` of `protocol_laws`), and what
 /// further lines leave follows it: no brick has lowered what it had promised or stored, or added a version
@@ -49,7 +52,7 @@ pub fn replay<S: Source, K: Sink>(
 
     // The one word `run`.
     ensures run { asks_run (map string_bytes words.now) ≡ true
-        → RunEnds (S.told source.old) (S.told source.new) (K.told sink.old) (K.told sink.new) result }
+        → RunEnds (S.told source.old) (S.told source.new) (S.came source.new) (K.told sink.old) (K.told sink.new) result }
 
     // A failure comes only where that end's count of faults rose, and never from a sound end.
     ensures source { Kept (S.faults source.old) (S.faults source.new) (S.sound source.old) (S.sound source.new) (result ≡ 5) }

@@ -1,17 +1,18 @@
-//! One line of a schedule after another: each is read, run and printed.
+//! One line of a schedule after another: each is run and printed.
 
 ghost use Rattle.std.specs.Prelude.{◌≡◌, ◌≢◌, ◌<◌, IfOk};
-ghost use Rattle.std.specs.Io.KnownBytes.{IsAtEnd, Keeps, prepend_known};
+ghost use Rattle.std.specs.Io.KnownBytes.{Keeps, prepend_known};
 ghost use Rattle.fab_io.specs.Ends.{Kept, WriteTakes};
-ghost use Rattle.lines.specs.Reading.{Says};
+ghost use Rattle.lines.specs.Lines.{content};
+ghost use Rattle.lines.specs.Reading.{Says, LineReads, taken_by};
 ghost use Rattle.world.specs.Runs.{world_of};
 ghost use Rattle.replay.specs.Outputs.{finished, bad_line, most_lines};
-ghost use Rattle.replay.specs.Turns.{Prints, PrintsRest, LineMeans, TurnMeans};
+ghost use Rattle.replay.specs.Turns.{Prints, LineMeans, LineTurnMeans, PieceMeans, TurnMeans, IsTheEnd};
 
 use crate::endings::{Halt, Verdict};
 use crate::texts::closing_text;
 use fab_io::{IoFault, Sink, Source};
-use lines::{LINE_LIMIT, Piece, Unread, content_of};
+use lines::{Piece, Unread, content_of};
 use std::alloc::Global;
 use world::{StepFault, World};
 
@@ -26,6 +27,8 @@ pub(crate) fn next<S: Source>(
 ) -> Result<Piece, Halt>
     ensures says { IfOk result (λ piece. Says limit (prepend_known unread.old (S.told source.old))
         (prepend_known unread.new (S.told source.new)) piece) }
+    ensures reads { LineReads limit unread.old unread.new (S.told source.old) (S.told source.new) (S.came source.new)
+        (source.new ≡ source.old) (taken_by result) (result ≡ Err Halt.Source) }
     ensures kept { Kept (S.faults source.old) (S.faults source.new) (S.sound source.old) (S.sound source.new)
         (result ≡ Err Halt.Source) }
     ensures cause { result ≢ Err Halt.Sink }
@@ -67,7 +70,12 @@ pub(crate) fn close<K: Sink>(sink: &mut K, text: &[u8], verdict: Verdict) -> Res
 }
 
 /// Closes the output of a run all lines of which were run.
-fn finish<K: Sink>(alloc: Global, world: &World, sink: &mut K, lines: u64) -> Result<Verdict, Halt>
+pub(crate) fn finish<K: Sink>(
+    alloc: Global,
+    world: &World,
+    sink: &mut K,
+    lines: u64,
+) -> Result<Verdict, Halt>
     ensures content { Prints (K.told sink.old) (K.told sink.new) (finished world.now.layout (world_of world.now) lines) result }
     ensures kept { Kept (K.faults sink.old) (K.faults sink.new) (K.sound sink.old) (K.sound sink.new)
         (result ≡ Err Halt.Sink) }
@@ -105,55 +113,68 @@ fn run_line<K: Sink>(world: &mut World, sink: &mut K, content: &[u8]) -> Result<
     }
 }
 
-/// Reads the next line after this many, runs it and writes its text, and answers how the run ends, where it
-/// does.
-pub(crate) fn take_turn<S: Source, K: Sink>(
+/// Runs a line after this many and writes its text, and answers how the run ends, where it does.
+fn run_or_refuse<K: Sink>(
     alloc: Global,
     world: &mut World,
-    source: &mut S,
-    unread: &mut Unread,
     sink: &mut K,
-    line: u64,
+    line: &[u8],
+    count: u64,
 ) -> Result<Option<Verdict>, Halt>
-    requires { line < MOST_LINES }
-    ensures means { TurnMeans world.old world.new line (prepend_known unread.old (S.told source.old))
-        (prepend_known unread.new (S.told source.new)) (K.told sink.old) (K.told sink.new) result }
-    ensures read { result ≡ Ok (Some Verdict.Whole) → IsAtEnd (prepend_known unread.new (S.told source.new)) }
-    ensures source { Kept (S.faults source.old) (S.faults source.new) (S.sound source.old) (S.sound source.new)
-        (result ≡ Err Halt.Source) }
-    ensures sink { Kept (K.faults sink.old) (K.faults sink.new) (K.sound sink.old) (K.sound sink.new)
+    requires { count < MOST_LINES }
+    ensures means { LineTurnMeans world.old world.new count (content line.now) (K.told sink.old) (K.told sink.new) result }
+    ensures whole { result ≢ Ok (Some Verdict.Whole) }
+    ensures kept { Kept (K.faults sink.old) (K.faults sink.new) (K.sound sink.old) (K.sound sink.new)
         (result ≡ Err Halt.Sink) }
+    ensures cause { result ≢ Err Halt.Source }
 {
-    match next(source, unread, LINE_LIMIT)? {
-        Piece::Ended => Ok(Some(finish(alloc, world, sink, line)?)),
-        Piece::Long => Ok(Some(refuse_line(alloc, sink, line + 1)?)),
-        Piece::Whole(bytes) => {
-            if run_line(world, sink, content_of(bytes.as_slice()))? {
-                Ok(None)
-            } else {
-                Ok(Some(refuse_line(alloc, sink, line + 1)?))
-            }
-        }
+    if run_line(world, sink, content_of(line))? {
+        Ok(None)
+    } else {
+        Ok(Some(refuse_line(alloc, sink, count + 1)?))
     }
 }
 
-/// Ends a run that has run as many lines as there may be.
-pub(crate) fn take_last_turn<S: Source, K: Sink>(
+/// Runs what comes next after this many lines and writes its text, and answers how the run ends, where it does.
+pub(crate) fn take_turn<K: Sink>(
+    alloc: Global,
+    world: &mut World,
+    sink: &mut K,
+    piece: &Piece,
+    count: u64,
+) -> Result<Option<Verdict>, Halt>
+    requires { count < MOST_LINES }
+    ensures means { TurnMeans world.old world.new count piece.now (K.told sink.old) (K.told sink.new) result }
+    ensures whole { result ≡ Ok (Some Verdict.Whole) → IsTheEnd piece.now }
+    ensures kept { Kept (K.faults sink.old) (K.faults sink.new) (K.sound sink.old) (K.sound sink.new)
+        (result ≡ Err Halt.Sink) }
+    ensures cause { result ≢ Err Halt.Source }
+{
+    match piece {
+        Piece::Whole(line) => run_or_refuse(alloc, world, sink, line.as_slice(), count),
+        Piece::Last(line) => match run_or_refuse(alloc, world, sink, line.as_slice(), count)? {
+            None => Ok(Some(finish(alloc, world, sink, count + 1)?)),
+            Some(verdict) => Ok(Some(verdict)),
+        },
+        Piece::Long => Ok(Some(refuse_line(alloc, sink, count + 1)?)),
+        Piece::Ended => Ok(Some(finish(alloc, world, sink, count)?)),
+    }
+}
+
+/// Ends a run that has run as many lines as there may be, by what comes next.
+pub(crate) fn take_last_turn<K: Sink>(
     alloc: Global,
     world: &World,
-    source: &mut S,
-    unread: &mut Unread,
     sink: &mut K,
+    piece: &Piece,
 ) -> Result<Verdict, Halt>
-    ensures rest { PrintsRest world.now most_lines (prepend_known unread.old (S.told source.old))
-        (K.told sink.old) (K.told sink.new) result }
-    ensures read { result ≡ Ok Verdict.Whole → IsAtEnd (prepend_known unread.new (S.told source.new)) }
-    ensures source { Kept (S.faults source.old) (S.faults source.new) (S.sound source.old) (S.sound source.new)
-        (result ≡ Err Halt.Source) }
-    ensures sink { Kept (K.faults sink.old) (K.faults sink.new) (K.sound sink.old) (K.sound sink.new)
+    ensures rest { PieceMeans world.now most_lines piece.now (K.told sink.old) (K.told sink.new) result }
+    ensures whole { result ≡ Ok Verdict.Whole → IsTheEnd piece.now }
+    ensures kept { Kept (K.faults sink.old) (K.faults sink.new) (K.sound sink.old) (K.sound sink.new)
         (result ≡ Err Halt.Sink) }
+    ensures cause { result ≢ Err Halt.Source }
 {
-    if let Piece::Ended = next(source, unread, LINE_LIMIT)? {
+    if let Piece::Ended = piece {
         return finish(alloc, world, sink, MOST_LINES);
     }
     close(sink, b"too many lines\n".as_slice(), Verdict::TooManyLines)

@@ -6,6 +6,7 @@ use Rattle.replay.specs.declared.endings.Halt.{Halt}
 use Rattle.replay.specs.Outputs.{output_of}
 use Rattle.replay.specs.Turns.{Prints}
 use Rattle.replay.proofs.Linearity.{linearizable, stays_strict}
+use Rattle.replay.proofs.OpenEnds.{reads_as_needed, failed_source}
 use Rattle.replay.proofs.Statuses.{of_write}
 use Rattle.replay.proofs.programs.replay.Goals as goal
 
@@ -18,6 +19,8 @@ returns-then-is_run-clause-run g c = λ _.
       is_input = run.is_input;
       status_is = c.status_of.ensures;
       printed = run.printed;
+      reads_as_needed = reads_as_needed _ _ _ _ _ _ _ c.run.ensures.reads;
+      failed_source = λ failed. failed_source _ _ _ _ _ _ _ c.run.ensures.reads failed;
       read = c.run.ensures.read;
       linearizable = λ whole. linearizable run.input
           (subst (λ (r : Result Verdict Halt). Prints (g.K.Sink.told c.args.sink.now) (g.K.Sink.told c.run.new.sink)

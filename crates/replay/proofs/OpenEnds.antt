@@ -1,0 +1,205 @@
+-- What was read does not decide how a run ends.
+use Rattle.std.proofs.Common.{◌≡◌, ℕ, ◌≤◌, false, List, [], ◌∷◌, ◌++◌, length, map, Option, Some, None, Result, Ok, Err, inl, inr, refl, sym, ap, ◌∙◌, subst, arith, append_assoc, append-nil}
+use Rattle.std.specs.List.{list_any, concat, position}
+use Rattle.std.proofs.lemmas.List.Folds.{concat-append}
+use Rattle.std.specs.Io.KnownBytes.{Consumes, Appends}
+use Rattle.std.proofs.KnownBytes.{Consumes-nil, Consumes-trans}
+use Rattle.fab_base.specs.Layouts.{Layout}
+use Rattle.layout.specs.Texts.{layout_of}
+use Rattle.world.specs.Runs.{Run}
+use Rattle.lines.specs.Lines.{is_line_feed, raw_lines, content, ends_layout, parts, parts_of_lines, whole_lines}
+use Rattle.lines.specs.Reading.{AreWhole, IsNeeded}
+use Rattle.lines.proofs.WholeLines.{AreWhole-both, whole_firsts, lines_of}
+use Rattle.lines.proofs.HeadLines.{parts-none, parts-found}
+use Rattle.lines.proofs.Needs.{IsNeeded-none, IsNeeded-map, IsNeeded-more}
+use Rattle.replay.specs.declared.endings.Halt.{Halt}
+use Rattle.replay.specs.declared.endings.Halt.TheVariants.{Source}
+use Rattle.replay.specs.declared.heads.Head.{Head}
+use Rattle.replay.specs.Inputs.{Input, Parted, Endless, most_layout_bytes, input_of}
+use Rattle.replay.specs.Readings.{ReadsPart, HeadSoFar, LinesSoFar, ScheduleSoFar, TakesHead, HeadReads}
+use Rattle.replay.specs.Replays.{MayGoOn, LeavesOpen, ReadsAsNeeded, FailedSource}
+use Rattle.replay.proofs.LayoutTexts.{within}
+use Rattle.replay.proofs.Inputs.{input_of-parts}
+
+-- whole lines alone
+alone : (lines : List (List ℕ)) → AreWhole lines → raw_lines (concat lines) ≡ lines
+alone lines whole = ap raw_lines (sym (append-nil (concat lines))) ∙ whole_firsts lines [] whole ∙ append-nil lines
+
+-- whole lines, and a line that was begun, from which a run may go on
+open_of : (lines : List (List ℕ)) (begun bytes text : List ℕ) (input : Input) → AreWhole lines → position is_line_feed begun ≡ None
+    → bytes ≡ concat lines ++ begun → input_of (concat lines) ≡ input → MayGoOn input begun text → LeavesOpen bytes text
+open_of lines begun bytes text input whole none is same may =
+    let split = lines_of lines begun whole none in
+    let at : List ℕ = concat lines ++ begun in
+    let first : MayGoOn (input_of (concat lines)) begun text = subst (λ (i : Input). MayGoOn i begun text) (sym same) may in
+    let then : MayGoOn (input_of (concat (whole_lines at))) begun text =
+    subst (λ (l : List (List ℕ)). MayGoOn (input_of (concat l)) begun text) (sym split.0) first in
+    let all : LeavesOpen at text = subst (λ (b : List ℕ). MayGoOn (input_of (concat (whole_lines at))) b text) (sym split.1) then in
+    subst (λ (b : List ℕ). LeavesOpen b text) (sym is) all
+
+-- the lines of a layout's text have no schedule behind them
+endless_lines : (lines : List (List ℕ)) → AreWhole lines → list_any ends_layout lines ≡ false → length (concat lines) ≤ most_layout_bytes
+    → input_of (concat lines) ≡ Endless
+unfolding input_of
+endless_lines lines whole none under =
+    rw (ap parts_of_lines (alone lines whole) ∙ parts-none lines none) (within (concat lines) Endless under)
+
+-- the text of a layout goes on
+pub head_open : (bytes : List ℕ) → HeadSoFar bytes → LeavesOpen bytes []
+head_open bytes h =
+    open_of h.lines h.begun bytes [] Endless h.are_whole h.is_begun.0 h.bytes_are (endless_lines h.lines h.are_whole h.none_ends h.within)
+    (h.is_begun, refl)
+
+-- the schedule goes on
+schedule_open : (head bytes new before text : List ℕ) → TakesHead head bytes new → ScheduleSoFar head (new ++ before) text
+    → LeavesOpen (bytes ++ before) text
+schedule_open head bytes new before text t (layout, is_layout, s) =
+    let lines : List (List ℕ) = t.lines ++ (t.end ∷ s.raw) in
+    let whole : AreWhole lines = AreWhole-both t.lines (t.end ∷ s.raw) t.are_whole (t.is_whole, s.are_whole) in
+    let joined : concat lines ≡ concat t.lines ++ (t.end ++ concat s.raw) = concat-append t.lines (t.end ∷ s.raw) in
+    let found : parts (concat lines) ≡ Some (record { layout = head; schedule = map content s.raw }) =
+    ap parts_of_lines (alone lines whole) ∙ parts-found t.lines t.end s.raw t.none_ends t.ends
+    ∙ ap (λ (l : List ℕ). Some (record { layout = l; schedule = map content s.raw })) (sym t.text_is) in
+    let is : bytes ++ before ≡ concat lines ++ s.begun =
+    ap (λ (l : List ℕ). l ++ before) t.bytes_are ∙ append_assoc (concat t.lines) (t.end ++ new) before
+    ∙ ap (λ (l : List ℕ). concat t.lines ++ l) (append_assoc t.end new before
+    ∙ ap (λ (l : List ℕ). t.end ++ l) s.bytes_are ∙ sym (append_assoc t.end (concat s.raw) s.begun))
+    ∙ sym (append_assoc (concat t.lines) (t.end ++ concat s.raw) s.begun)
+    ∙ ap (λ (l : List ℕ). l ++ s.begun) (sym joined) in
+    open_of lines s.begun (bytes ++ before) text (Parted head (map content s.raw)) whole s.is_begun.0 is
+    (input_of-parts (concat lines) head (map content s.raw) t.within found) (
+      s.is_begun,
+      record { layout = layout; lines = s.lines; layout_is = is_layout; lines_are = s.lines_are; within = s.within; text_is = s.text_is },
+    )
+
+-- before the first read
+nothing_open : LeavesOpen [] []
+nothing_open = head_open [] (record {
+  lines = [];
+  begun = [];
+  are_whole = tt;
+  is_begun = (refl, omega arith);
+  bytes_are = refl;
+  none_ends = refl;
+  within = omega arith;
+})
+
+abbrev IsLeftOpen : List ℕ → Type 0
+IsLeftOpen bytes = (text : List ℕ) × LeavesOpen bytes text
+
+-- nothing was read in a part of a run
+pub ReadsPart-none : (open_after : List ℕ → List ℕ → Type 0) (unread : List ℕ) (told old new : Option (List ℕ)) (came : ℕ) (untouched failed : Type 0)
+    → untouched → (failed → ⊥) → ReadsPart open_after unread told told old new came untouched failed
+ReadsPart-none open_after unread told old new came untouched failed same other = record {
+  read = [];
+  consumes = Consumes-nil told;
+  needed = IsNeeded-none (λ bytes. (text : List ℕ) × open_after bytes text) unread came untouched same;
+  printed = λ e. absurd (other e);
+}
+
+-- what lines print is told of no disk
+undisked_run : (layout : Layout) (first : Run) (bytes text : List ℕ) → LinesSoFar (record { layout = layout; steps = []; disks = first.disks }) bytes text
+    → LinesSoFar (record { layout = layout; steps = []; disks = [] }) bytes text
+undisked_run layout first bytes text s = record {
+  raw = s.raw;
+  begun = s.begun;
+  lines = s.lines;
+  are_whole = s.are_whole;
+  is_begun = s.is_begun;
+  bytes_are = s.bytes_are;
+  lines_are = s.lines_are;
+  within = s.within;
+  text_is = s.text_is;
+}
+
+-- lines were read behind the text of a layout
+pub ReadsPart-schedule : (head unread : List ℕ) (first : Run) (layout : Layout) (told told_after old new : Option (List ℕ)) (came : ℕ) (untouched failed : Type 0)
+    → layout_of head ≡ Ok layout → first ≡ record { layout = layout; steps = []; disks = first.disks }
+    → ReadsPart (LinesSoFar first) unread told told_after old new came untouched failed
+    → ReadsPart (ScheduleSoFar head) unread told told_after old new came untouched failed
+ReadsPart-schedule head unread first layout told told_after old new came untouched failed is start p =
+    let to : (bytes text : List ℕ) → LinesSoFar first bytes text → ScheduleSoFar head bytes text =
+    λ bytes text s. (layout, is, undisked_run layout first bytes text (subst (λ (u : Run). LinesSoFar u bytes text) start s)) in
+    record {
+      read = p.read;
+      consumes = p.consumes;
+      needed = IsNeeded-map (λ bytes. (text : List ℕ) × LinesSoFar first bytes text) (λ bytes. (text : List ℕ) × ScheduleSoFar head bytes text) unread p.read came
+          untouched (λ bytes s. (s.0, to bytes s.0 s.1)) p.needed;
+      printed = λ e. let s = p.printed e in (s.0, to (unread ++ p.read) s.0 s.1, s.2);
+    }
+
+-- nothing was unread at first
+pub HeadReads-first : (first unread : List ℕ) (told told_after : Option (List ℕ)) (came : ℕ) (untouched : Type 0) (result : Result Head Halt)
+    → first ≡ [] → HeadReads first unread told told_after came untouched result → HeadReads [] unread told told_after came untouched result
+HeadReads-first first unread told told_after came untouched result none h =
+    subst (λ (l : List ℕ). HeadReads l unread told told_after came untouched result) none h
+
+-- the text before a schedule was read, and no more
+pub ReadsPart-head : (unread : List ℕ) (told told_after old new : Option (List ℕ)) (came : ℕ) (untouched failed : Type 0) (result : Result Head Halt)
+    → HeadReads [] unread told told_after came untouched result → (failed → (result ≡ Err Source) × Appends old new [])
+    → ReadsPart LeavesOpen [] told told_after old new came untouched failed
+ReadsPart-head unread told told_after old new came untouched failed result h cause = record {
+  read = h.read;
+  consumes = h.consumes;
+  needed = IsNeeded-map HeadSoFar IsLeftOpen [] h.read came untouched (λ bytes s. ([], head_open bytes s)) h.needed;
+  printed = λ e. ([], head_open h.read (h.failed (cause e).0), (cause e).1);
+}
+
+-- nothing was read behind the text before a schedule
+pub ReadsPart-alone : (unread : List ℕ) (told told_mid told_after old new : Option (List ℕ)) (came came_after : ℕ) (untouched untouched_after failed : Type 0)
+    (result : Result Head Halt) → HeadReads [] unread told told_mid came untouched result → told_after ≡ told_mid → came_after ≡ came
+    → (untouched → untouched_after) → (failed → ⊥) → ReadsPart LeavesOpen [] told told_after old new came_after untouched_after failed
+ReadsPart-alone unread told told_mid told_after old new came came_after untouched untouched_after failed result h same_told same_came still other = record {
+  read = h.read;
+  consumes = subst (λ (t : Option (List ℕ)). Consumes told t h.read) (sym same_told) h.consumes;
+  needed = subst (λ (n : ℕ). IsNeeded IsLeftOpen [] h.read n untouched_after) (sym same_came)
+      (of_untouched (IsNeeded-map HeadSoFar IsLeftOpen [] h.read came untouched (λ bytes s. ([], head_open bytes s)) h.needed));
+  printed = λ e. absurd (other e);
+}
+  where
+    of_untouched : IsNeeded IsLeftOpen [] h.read came untouched → IsNeeded IsLeftOpen [] h.read came untouched_after
+    of_untouched needed = elim needed [ inl none ↦ inl (none.0, still none.1) | inr some ↦ inr some ]
+
+-- the text before a schedule was read, and then lines behind it
+pub ReadsPart-both : (head unread : List ℕ) (told told_mid told_after old new : Option (List ℕ)) (came came_after : ℕ)
+    (untouched same untouched_after failed : Type 0) (result : Result Head Halt) → (h : HeadReads [] unread told told_mid came untouched result)
+    → TakesHead head h.read unread → ReadsPart (ScheduleSoFar head) unread told_mid told_after old new came_after same failed
+    → (same → (came_after ≡ came) × (untouched → untouched_after))
+    → ReadsPart LeavesOpen [] told told_after old new came_after untouched_after failed
+ReadsPart-both head unread told told_mid told_after old new came came_after untouched same untouched_after failed result h t p stays = record {
+  read = h.read ++ p.read;
+  consumes = Consumes-trans told told_mid told_after h.read p.read h.consumes p.consumes;
+  needed = IsNeeded-more IsLeftOpen (λ bytes. (text : List ℕ) × ScheduleSoFar head bytes text) [] h.read unread p.read came came_after
+      untouched same untouched_after (IsNeeded-map HeadSoFar IsLeftOpen [] h.read came untouched (λ bytes s. ([], head_open bytes s)) h.needed)
+      p.needed stays (λ before s. (s.0, schedule_open head h.read unread before s.0 t s.1));
+  printed = λ e. let s = p.printed e in (s.0, schedule_open head h.read unread p.read s.0 t s.1, s.2);
+}
+
+-- what a whole run read
+pub reads_as_needed : (told told_after old new : Option (List ℕ)) (came : ℕ) (untouched failed : Type 0)
+    → ReadsPart LeavesOpen [] told told_after old new came untouched failed → ReadsAsNeeded told told_after came
+reads_as_needed told told_after old new came untouched failed p =
+    elim p.needed [
+      | inl none ↦ record {
+        before = [];
+        last = [];
+        text = [];
+        was_read = subst (Consumes told told_after) none.0 p.consumes;
+        by_last_read = omega arith;
+        leaves_open = nothing_open;
+      }
+      | inr some ↦ record {
+        before = some.0;
+        last = some.1;
+        text = some.4.0;
+        was_read = subst (Consumes told told_after) some.2 p.consumes;
+        by_last_read = some.3;
+        leaves_open = some.4.1;
+      }
+    ]
+
+pub failed_source : (told told_after old new : Option (List ℕ)) (came : ℕ) (untouched failed : Type 0)
+    → ReadsPart LeavesOpen [] told told_after old new came untouched failed → failed → FailedSource told told_after old new
+failed_source told told_after old new came untouched failed p e =
+    let s = p.printed e in
+    record { read = p.read; text = s.0; was_read = p.consumes; leaves_open = s.1; printed = s.2 }
