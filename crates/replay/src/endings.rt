@@ -8,7 +8,7 @@ use fab_base::NoMem;
 use std::alloc::AllocError;
 
 /// How an input ends a run.
-#[derive(Clone, Copy, Debug, PartialEq, Eq)]
+#[derive(Clone, Copy, PartialEq, Eq)]
 pub enum Verdict {
     /// All lines were run.
     Whole,

@@ -14,7 +14,7 @@ use lines::{Piece, Unread, is_layout_end};
 use std::alloc::Global;
 
 /// What stands before the schedule of an input.
-#[derive(Debug, Drop)]
+#[derive(Drop)]
 pub(crate) enum Head {
     /// The text before the first line `---`, which was read too.
     Text(Vec<u8>),

@@ -1,12 +1,14 @@
 -- What one brick is, over its disk.
-use Rattle.std.proofs.Common.{◌≡◌, ℕ, ◌+◌, ◌-◌, ◌^◌, ◌<◌, zero, suc, Bool, true, false, cond, List, [], ◌∷◌, ◌++◌, Result, Ok, refl, sym, ap, ◌∙◌, subst, arith}
-use Rattle.std.specs.Prelude.{nat_lt, nat_eq, is_some, replicate, slice_index_or}
+use Rattle.std.proofs.Common.{◌≡◌, ◌⊎◌, inl, inr, ℕ, ◌+◌, ◌-◌, ◌^◌, ◌<◌, zero, suc, Bool, true, false, cond, List, [], ◌∷◌, ◌++◌, Result, Ok, Err, refl, sym, ap, ◌∙◌, subst, arith}
+use Rattle.std.specs.Prelude.{OnErr, IfOk, nat_lt, nat_eq, is_some, replicate, slice_index_or}
 use Rattle.std.proofs.lemmas.Bool.Decides.{nat_tests}
 use Rattle.fab_base.specs.declared.faults.NoMem.{NoMem}
+use Rattle.fab_base.specs.declared.faults.NoMem.TheVariants.{NoMemory as none}
 use Rattle.fab_base.specs.declared.identities.BrickId.{BrickId}
 use Rattle.fab_disk.specs.Past.{IsImage}
 use Rattle.fab_disk.specs.MediumLaws.{fits_shown}
-use Rattle.fab_disk.specs.MemDisk.{content_of, past_of_disk, may_be_left, IsSound}
+use Rattle.fab_disk.specs.Disk.{IsUntouched}
+use Rattle.fab_disk.specs.MemDisk.{content_of, past_of_disk, may_be_left, moment_of, was_left_since, IsSound}
 use Rattle.fab_disk.specs.PastLaws.{content_is_image}
 use Rattle.fab_disk.specs.declared.mem_disk.MemDisk.{MemDisk}
 use Rattle.frame_store.specs.declared.frames.Frame.{Frame}
@@ -18,6 +20,8 @@ use Rattle.fab_base.specs.Stamps.{first_stamp}
 use Rattle.brick_state.specs.declared.groups.Group.{Group}
 use Rattle.brick_state.specs.States.{StateOf, empty, booted, no_group, live}
 use Rattle.brick_store.specs.Bricks.{Brick as Store}
+use Rattle.brick_store.specs.declared.faults.StoreFault.{StoreFault}
+use Rattle.brick_store.specs.declared.faults.StoreFault.TheVariants.{Worn, NoMemory}
 use Rattle.brick_store.specs.Images.{IsFound, StandsFor, state_in}
 use Rattle.brick_store.specs.Blocks.{accepted_of}
 use Rattle.protocol.specs.Views.{first_learnt}
@@ -27,8 +31,10 @@ use Rattle.node.specs.Running.{Running, state_of, shape_at, ImageShows, LeavesBr
 use Rattle.fab_base.specs.Layouts.{Layout}
 use Rattle.protocol.specs.Nodes as machine
 use Rattle.world.specs.Disks.{ShowsDisk}
-use Rattle.world.specs.Shown.{IsRunning, Rests, ShowsPower, TurnsOn, unopened}
+use Rattle.world.specs.Shown.{IsRunning, Rests, ShowsPower, ShowsBrick, TurnsOn, unopened}
+use Rattle.world.specs.declared.bricks.Brick.{Brick}
 use Rattle.world.specs.declared.bricks.Power.{Power}
+use Rattle.world.specs.declared.bricks.Power.TheVariants.{Down}
 
 -- an image is found as the one state that it stands for
 pub found_is : (shape : Shape) (st other : StateOf Version) (image : List ℕ) → IsFound shape st image → StandsFor shape other image → st ≡ other
@@ -190,6 +196,30 @@ is_spent layout made me disk state same rests found =
     in
     may_open_not state.boot found.0.boot (found_boot made me state found.0 (content_of disk) found.1 seen) found.2
 
+-- a disk at rest that was only looked at
+pub rests_untouched : (layout : Layout) (me : BrickId) (state : machine.Node) (disk left : MemDisk)
+    → IsUntouched content_of may_be_left moment_of was_left_since disk left → (IsSound disk → IsSound left) → Rests layout me state disk
+    → Rests layout me state left
+rests_untouched layout me state disk left same sound rests = record {
+  kept = record {
+    seen = subst (λ (image : List ℕ). ImageShows layout me state image) (sym same.content) rests.kept.seen;
+    durable = λ image left. rests.kept.durable image (same.crash image left);
+  };
+  sound = sound rests.sound;
+}
+
+-- a brick whose store was not opened: it was opened as often as it can be, or memory was refused
+pub not_started : (layout made : Layout) (me : BrickId) (disk left : MemDisk) (state : machine.Node) (fault : StoreFault) (result : Result Bool NoMem)
+    → made ≡ layout → Rests layout me state disk
+    → ((fault ≡ Worn) × (result ≡ Ok false)) ⊎ ((fault ≡ NoMemory) × (result ≡ Err none))
+    → (fault ≡ Worn → (st : StateOf Version) × IsFound (shape_at made me) st (content_of disk) × (st.boot ≡ 2 ^ 32 - 1))
+    → ((fault ≡ Worn) ⊎ (fault ≡ NoMemory) → Rests layout me state left) → TurnsOn layout me state false (Down left) result
+not_started layout made me disk left state fault result same rests (inl (is, refused)) worn still =
+    subst (λ (r : Result Bool NoMem). TurnsOn layout me state false (Down left) r) (sym refused)
+    (is_spent layout made me disk state same rests (worn is), (refl, still (inl is)))
+not_started layout made me disk left state fault result same rests (inr (is, refused)) worn still =
+    subst (λ (r : Result Bool NoMem). TurnsOn layout me state false (Down left) r) (sym refused) (refl, still (inr is))
+
 -- a brick that was started over its disk
 pub runs_over : (layout made : Layout) (me : BrickId) (disk : MemDisk) (node : Running MemDisk) (state : machine.Node) → made ≡ layout
     → Rests layout me state disk → node.layout ≡ made → node.me ≡ me → node.brick.halted ≡ false
@@ -239,3 +269,16 @@ fresh_runs layout me power result false was turns =
     let now = subst (λ (r : Result Bool NoMem). TurnsOn layout me (unopened layout) false power r) was turns in
     let spent : true ≡ false = now.0 in
     absurd cc
+
+-- and is made with its clock at 0 where it started
+pub fresh_made : (layout : Layout) (me : BrickId) (power : Power) (started : Result Bool NoMem) (made : Result Brick NoMem)
+    → TurnsOn layout me (unopened layout) false power started
+    → IfOk made (λ brick. (brick.power ≡ power) × (brick.clock ≡ 0) × OnErr started ⊥)
+    → IfOk made (λ brick. ShowsBrick layout me.0 brick (machine.first_node layout) true 0)
+fresh_made layout me power (Ok started) (Ok brick) turns (same, clock, done) = record {
+  power = subst (λ (p : Power). ShowsPower layout me (machine.first_node layout) true p) (sym same)
+      (fresh_runs layout me power (Ok started) started refl turns);
+  clock = clock;
+}
+fresh_made layout me power (Err refused) (Ok brick) turns (same, clock, done) = absurd done
+fresh_made layout me power started (Err refused) turns made = made

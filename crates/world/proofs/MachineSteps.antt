@@ -1,6 +1,5 @@
 -- A message leaves a brick's boot and call numbers as they are, and what a brick tells is of one of its calls.
-use Rattle.std.proofs.Common.{◌≡◌, ℕ, ◌≤◌, ◌&&◌, Option, Some, None, refl, arith}
-use Rattle.std.proofs.lemmas.Bool.{cond_both}
+use Rattle.std.proofs.Common.{◌≡◌, ℕ, ◌≤◌, Option, Some, None, refl, arith}
 use Rattle.fab_base.specs.declared.identities.BrickId.{BrickId}
 use Rattle.fab_base.specs.declared.stamps.Stamp.{Stamp}
 use Rattle.messages.specs.declared.calls.Call.{Call}
@@ -8,10 +7,10 @@ use Rattle.messages.specs.declared.packets.Message.{Message}
 use Rattle.messages.specs.declared.packets.Packet.{Packet}
 use Rattle.messages.specs.declared.requests.Request.{Request}
 use Rattle.messages.specs.declared.replies.Reply.{Reply}
-use Rattle.fab_base.specs.Layouts.{Layout, Group, seat_in}
+use Rattle.fab_base.specs.Layouts.{Layout, Group}
 use Rattle.protocol.specs.Settings.{Setting}
 use Rattle.protocol.specs.Coordinators.{Coordinator, Next, Ignores, Waits, Sends, Makes, Ends, on_reply}
-use Rattle.protocol.specs.Nodes.{Node, NodeStep, group_at, known_after, fresh_stamp, no_step, seat_served, requested_at, requested_in, requested, seen_told, carried_out, replied_at, replied, received}
+use Rattle.protocol.specs.Nodes.{Node, NodeStep, group_at, known_after, fresh_stamp, seat_served, requested_at, requested_in, requested, seen_told, carried_out, replied_at, replied, received}
 use Rattle.world.specs.Shown.{AreTold, AreAnswered}
 
 -- each open call knows its number, and is one of the brick's calls so far

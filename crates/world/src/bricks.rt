@@ -1,6 +1,6 @@
 //! The bricks of a world: each is a disk in memory, and the brick that runs over it while it is up.
 
-ghost use Rattle.std.specs.Prelude.{◌≡◌, ◌≢◌, ◌+◌, ◌^◌, ◌<◌, ◌≤◌, true, false, Some, Err, IfOk, OnErr, vec_len, length, map};
+ghost use Rattle.std.specs.Prelude.{◌≡◌, ◌≢◌, ◌+◌, ◌^◌, ◌<◌, ◌≤◌, ◌⊎◌, true, false, Some, Ok, Err, IfOk, OnErr, vec_len, length, map};
 ghost use Rattle.std.specs.Option.{SomeIff};
 ghost use Rattle.protocol.specs.Nodes as machine;
 ghost use Rattle.protocol.specs.Nodes.{first_node, is_stripe_op, refusal_of, invoked, received, ticked, stopped};
@@ -87,17 +87,20 @@ fn start_over(
     };
     match Node::start(alloc, layout, me, disk) {
         Ok(node) => (Power::Up(node), Ok(true)),
-        Err((StoreFault::Worn, disk)) => (Power::Down(disk), Ok(false)),
-        Err((StoreFault::NoMemory, disk)) => (Power::Down(disk), Err(NoMem::NoMemory)),
-        Err(
-            (
-                StoreFault::Disk
-                | StoreFault::NotAStore
-                | StoreFault::Halted
-                | StoreFault::Full { .. },
-                _,
-            ),
-        ) => { unreachable!() }
+        Err((fault, disk)) => (Power::Down(disk), refused(fault)),
+    }
+}
+
+// What the start of a brick answers whose store was not opened.
+fn refused(fault: StoreFault) -> Result<bool, NoMem>
+    requires { (fault ≡ StoreFault.Worn) ⊎ (fault ≡ StoreFault.NoMemory) }
+    ensures { ((fault ≡ StoreFault.Worn) × (result ≡ Ok false)) ⊎ ((fault ≡ StoreFault.NoMemory) × (result ≡ Err NoMem.NoMemory)) }
+{
+    match fault {
+        StoreFault::Worn => Ok(false),
+        StoreFault::NoMemory => Err(NoMem::NoMemory),
+        StoreFault::Disk | StoreFault::NotAStore | StoreFault::Halted | StoreFault::Full { .. } =>
+            unreachable!(),
     }
 }
 
@@ -125,8 +128,17 @@ fn fresh_brick(alloc: Global, layout: &Layout, me: BrickId) -> Result<Brick, NoM
 {
     let disk = fresh_disk(alloc, layout, me)?;
     let (power, started) = start_over(alloc, layout, me, disk);
-    started?;
-    Ok(Brick { power, clock: 0 })
+    with_clock(power, started)
+}
+
+// A brick whose clock is at 0, where it started.
+fn with_clock(power: Power, started: Result<bool, NoMem>) -> Result<Brick, NoMem>
+    ensures { IfOk result (λ brick. (brick.power ≡ power) × (brick.clock ≡ 0) × OnErr started ⊥) }
+{
+    match started {
+        Ok(_) => Ok(Brick { power, clock: 0 }),
+        Err(refused) => Err(refused),
+    }
 }
 
 /// All bricks of a layout, their stores fresh, their clocks at 0.
@@ -213,10 +225,19 @@ pub fn hand_over(bricks: &mut Vec<Brick>, number: BrickId, packet: &Packet) -> R
                 node.arm(Plan::Never);
                 Ok(outs)
             }
-            Err(NodeFault::NoMemory) => Err(NoMem::NoMemory),
-            Err(NodeFault::Halted | NodeFault::Refused(_) | NodeFault::Disk) => unreachable!(),
+            Err(fault) => Err(memory_refused(fault)),
         },
         Power::Down(_) => unreachable!(),
+    }
+}
+
+// The one fault of a sound brick that is asked for nothing.
+fn memory_refused(fault: NodeFault) -> NoMem
+    requires { fault ≡ NodeFault.NoMemory }
+{
+    match fault {
+        NodeFault::NoMemory => NoMem::NoMemory,
+        NodeFault::Halted | NodeFault::Refused(_) | NodeFault::Disk => unreachable!(),
     }
 }
 
@@ -229,8 +250,7 @@ pub fn tick_brick(bricks: &[Brick], number: BrickId) -> Result<Messages, NoMem>
     match &bricks[number.0 as usize].power {
         Power::Up(node) => match node.on_tick() {
             Ok(messages) => Ok(messages),
-            Err(NodeFault::NoMemory) => Err(NoMem::NoMemory),
-            Err(NodeFault::Halted | NodeFault::Refused(_) | NodeFault::Disk) => unreachable!(),
+            Err(fault) => Err(memory_refused(fault)),
         },
         Power::Down(_) => unreachable!(),
     }

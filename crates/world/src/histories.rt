@@ -20,7 +20,7 @@ use std::collections::BTreeMap;
 const MOST_PACKETS: usize = 32;
 
 /// What is kept of an operation.
-#[derive(Clone, Copy, Debug)]
+#[derive(Clone, Copy)]
 pub struct KeptOperation {
     /// The position of its Begin.
     pub begin: u64,

@@ -24,7 +24,7 @@ pub struct Simulation {
 }
 
 /// What a line comes to.
-#[derive(Clone, Copy, Debug, PartialEq, Eq)]
+#[derive(Clone, Copy, PartialEq, Eq)]
 pub enum Outcome {
     /// Its marks, none or one, stand at the end of the marks.
     Marks,

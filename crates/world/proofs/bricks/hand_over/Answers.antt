@@ -1,5 +1,6 @@
 -- The brick of the number does what the machine's does.
-use Rattle.std.proofs.Common.{refl, sym, ap, ◌∙◌, subst, rules}
+use Rattle.std.proofs.Common.{refl, sym, ap, ◌∙◌, subst, rules, arith}
+use Rattle.std.proofs.lemmas.Grind.{common_steps}
 use Rattle.fab_disk.specs.MemDisk.{content_of}
 use Rattle.node.specs.Running.{ImageShows, IsSameBrick}
 use Rattle.protocol.specs.Nodes.{Node}
@@ -9,14 +10,14 @@ use Rattle.world.proofs.DiskLemmas.{others_kept, contents_same}
 use Rattle.world.proofs.BrickListLemmas.{on_at, handed_over, same_shown}
 use Rattle.world.proofs.bricks.hand_over.Goals as goal
 
-pub unreachable-requires : goal.unreachable-requires
-unreachable-requires c =
+pub memory_refused-requires : goal.memory_refused-requires
+memory_refused-requires c =
     let on =
     on_at c.requires.0 c.args.bricks.now.items c.args.number c.index_mut-brick.result.now _ c.index_mut-brick.ensures.value c.in-Up.is c.requires.1
     in
     let runs = on.0 in
     let sound = on.1 in
-    search rules
+    grind (arith, common_steps)
 
 pub returns-in-Ok-clause-stepped : goal.returns-in-Ok-clause-stepped
 returns-in-Ok-clause-stepped c =
@@ -41,23 +42,26 @@ returns-in-Ok-clause-stepped c =
       state_is = c.arm.ensures.state ∙ c.in-Ok.ensures.step.state_is;
     })
 
-pub returns-in-Err-NoMemory-clause-err : goal.returns-in-Err-NoMemory-clause-err
-returns-in-Err-NoMemory-clause-err c =
+pub returns-in-Err-clause-err : goal.returns-in-Err-clause-err
+returns-in-Err-clause-err c =
     let on =
     on_at c.requires.0 c.args.bricks.now.items c.args.number c.index_mut-brick.result.now _ c.index_mut-brick.ensures.value c.in-Up.is c.requires.1
     in
     same_shown c.args.bricks.now.items c.args.number.0 c.index_mut-brick.result.now c.in-Up.node c.on_message.new.self
     c.requires.1.within c.index_mut-brick.ensures.value c.in-Up.is c.on_message.ensures.same (let runs = on.0 in let sound = on.1 in search rules)
-    (let runs = on.0 in let sound = on.1 in search rules) (c.in-Err-NoMemory.ensures.no_call (λ never. cc)).crash c.in-Err-NoMemory.ensures.err
+    (let runs = on.0 in let sound = on.1 in search rules) (c.in-Err.ensures.no_call (c.in-Err.ensures.cause.never (let runs = on.0 in let sound = on.1 in search rules))).crash c.in-Err.ensures.err
 
 pub returns-in-Ok-clause-others : goal.returns-in-Ok-clause-others
 returns-in-Ok-clause-others c = others_kept c.args.bricks.now.items c.args.number _
 
-pub returns-in-Err-NoMemory-clause-others : goal.returns-in-Err-NoMemory-clause-others
-returns-in-Err-NoMemory-clause-others c = others_kept c.args.bricks.now.items c.args.number _
+pub returns-in-Err-clause-others : goal.returns-in-Err-clause-others
+returns-in-Err-clause-others c = others_kept c.args.bricks.now.items c.args.number _
 
-pub returns-in-Err-NoMemory-clause-contents : goal.returns-in-Err-NoMemory-clause-contents
-returns-in-Err-NoMemory-clause-contents c =
+pub returns-in-Err-clause-contents : goal.returns-in-Err-clause-contents
+returns-in-Err-clause-contents c =
+    let on =
+    on_at c.requires.0 c.args.bricks.now.items c.args.number c.index_mut-brick.result.now _ c.index_mut-brick.ensures.value c.in-Up.is c.requires.1
+    in
     contents_same c.args.bricks.now.items c.args.number.0 c.index_mut-brick.result.now _ c.index_mut-brick.ensures.value
-    ((c.in-Err-NoMemory.ensures.no_call (λ never. cc)).content
+    ((c.in-Err.ensures.no_call (c.in-Err.ensures.cause.never (let runs = on.0 in let sound = on.1 in search rules))).content
     ∙ sym (ap (λ (power : Power). content_of (disk_in power)) c.in-Up.is))

@@ -1,11 +1,12 @@
 -- The brick of the number sends what the machine's does.
-use Rattle.std.proofs.Common.{get_or, ap, rules}
+use Rattle.std.proofs.Common.{get_or, ap, arith}
+use Rattle.std.proofs.lemmas.Grind.{common_steps}
 use Rattle.world.specs.declared.bricks.Brick.{Brick}
 use Rattle.world.proofs.BrickListLemmas.{on_at, ticks_as}
 use Rattle.world.proofs.bricks.tick_brick.Goals as goal
 
-pub unreachable-requires : goal.unreachable-requires
-unreachable-requires c =
+pub memory_refused-requires : goal.memory_refused-requires
+memory_refused-requires c =
     let brick : Brick = get_or c.args.bricks.now c.args.number.0 c.index-bricks-number.result in
     let on =
     on_at c.requires.0 c.args.bricks.now c.args.number brick _
@@ -13,7 +14,7 @@ unreachable-requires c =
     c.in-Up.is c.requires.1
     in
     let runs = on.0 in
-    search rules
+    grind (arith, common_steps)
 
 pub returns-in-Ok : goal.returns-in-Ok
 returns-in-Ok c =
