@@ -1,7 +1,6 @@
 -- What a brick does with a message that it serves, over its store.
-use Rattle.std.proofs.Common.{◌≡◌, ℕ, ◌&&◌, List, [], Option, Some, None, inl, inr, refl, sym, ◌∙◌, ap, subst}
+use Rattle.std.proofs.Common.{◌≡◌, ℕ, List, [], Option, Some, None, inl, inr, refl, sym, ◌∙◌, ap, subst}
 use Rattle.std.specs.Prelude.{slice_index_or}
-use Rattle.std.proofs.lemmas.Bool.{cond_both}
 use Rattle.fab_base.specs.declared.identities.BrickId.{BrickId}
 use Rattle.messages.specs.declared.calls.Call.{Call}
 use Rattle.messages.specs.declared.packets.Message.{Message}
@@ -12,7 +11,7 @@ use Rattle.brick_state.specs.declared.groups.Group.{Group as Kept}
 use Rattle.brick_state.specs.States.{StateOf, no_group}
 use Rattle.brick_store.specs.Bricks.{Brick}
 use Rattle.brick_store.specs.Images.{StandsFor}
-use Rattle.fab_base.specs.Layouts.{Layout, Group, seat_in}
+use Rattle.fab_base.specs.Layouts.{Layout, Group}
 use Rattle.protocol.specs.Nodes.{Node, NodeStep, no_step, requested_in, requested_at, seat_served}
 use Rattle.protocol.specs.Nodes as machine
 use Rattle.replica.specs.Parts.{IsPartsOf, IsFirstView}

@@ -22,24 +22,10 @@ pub not_above : {X : Type 0} (m : BTreeMap ℕ X) (last k : ℕ)
     → ((q : ℕ) → last < q → is_some (get nat_cmp m q) ≡ false) → is_some (get nat_cmp m k) ≡ true → k ≤ last
 not_above m last k fresh held = grind (arith, fresh k)
 
--- after a change at a key that is not above the last, nothing is above the last
-pub fresh_after : {X : Type 0} (m n : BTreeMap ℕ X) (before last k : ℕ) (w : Option X)
-    → ((q : ℕ) → before < q → is_some (get nat_cmp m q) ≡ false) → before ≤ last → k ≤ last
-    → ((q : ℕ) → get nat_cmp n q ≡ cond (is_at (nat_cmp k) q) w (get nat_cmp m q))
-    → (q : ℕ) → last < q → is_some (get nat_cmp n q) ≡ false
-fresh_after m n before last k w fresh later within e q above =
-    let apart : nat_eq q k ≡ false = grind (arith, nat_tests) in
-    ap is_some (e q ∙ ap (λ b. cond b w (get nat_cmp m q)) (is_at_number k q ∙ apart)) ∙ fresh q (omega arith)
-
 -- a key that was absent makes one more entry
 pub one_more : {X : Type 0} (old : Option X) (before after : ℕ)
     → is_some old ≡ false → after ≡ before + (if is_some old then 0 else 1) → after ≡ before + 1
 one_more old before after absent e = e ∙ ap (λ b. before + (if b then 0 else 1)) absent
-
--- a key that was present leaves one entry fewer
-pub one_fewer : {X : Type 0} (old : Option X) (before after : ℕ)
-    → is_some old ≡ true → after + (if is_some old then 1 else 0) ≡ before → after + 1 ≡ before
-one_fewer old before after present e = ap (λ b. after + (if b then 1 else 0)) (sym present) ∙ e
 
 -- maps with the same entries have the same values
 pub same_calls : {X : Type 0} (m n : BTreeMap ℕ X) → n.entries ≡ m.entries → (k : ℕ) → get nat_cmp n k ≡ get nat_cmp m k

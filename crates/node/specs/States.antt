@@ -56,13 +56,18 @@ pub record IsAt (layout : Layout) (k : ℕ) (operation : Operation) : Type 0 whe
 abbrev pub AreCallsOf : Layout → OpenCalls → Type 0
 AreCallsOf layout calls = (k : ℕ) (operation : Operation) → get nat_cmp calls.operations k ≡ Some operation → IsAt layout k operation
 
+-- the operation of this number is open too, and the others are as they were
+pub record IsOpened {X : Type 0} (k : ℕ) (operation : X) (before after : BTreeMap ℕ X) : Type 0 where
+  pub calls : (q : ℕ) → get nat_cmp after q ≡ (if is_at (nat_cmp k) q then Some operation else get nat_cmp before q)
+  pub count : btree_map_len after ≡ btree_map_len before + 1
+
 -- the operation of this number is open no more, and the others are
-pub record IsClosed (k : ℕ) (before after : BTreeMap ℕ Operation) : Type 0 where
+pub record IsClosed {X : Type 0} (k : ℕ) (before after : BTreeMap ℕ X) : Type 0 where
   pub calls : (q : ℕ) → get nat_cmp after q ≡ (if is_at (nat_cmp k) q then None else get nat_cmp before q)
   pub count : btree_map_len after + 1 ≡ btree_map_len before
 
 -- the open operations after a step of the call of number k with these answers: an answered one is open no more
-abbrev pub AreCallsAfter : List Answered → ℕ → BTreeMap ℕ Operation → BTreeMap ℕ Operation → Type 0
+abbrev pub AreCallsAfter : {X : Type 0} → List Answered → ℕ → BTreeMap ℕ X → BTreeMap ℕ X → Type 0
 AreCallsAfter [] k before after = after ≡ before
 AreCallsAfter (answered ∷ answers) k before after = IsClosed k before after
 

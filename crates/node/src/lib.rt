@@ -4,6 +4,7 @@
 
 pub mod faults;
 pub mod nodes;
+mod numbered;
 pub mod open_calls;
 pub mod operations;
 pub mod outs;

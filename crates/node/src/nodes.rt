@@ -260,7 +260,9 @@ impl<D: Disk> Node<D> {
             (result ≡ Err NodeFault.Disk) }
     {
         // The answer has its room before anything is kept: after that nothing can fail.
-        let room = Vec::with_capacity(self.alloc, 1)?;
+        let Ok(room) = Vec::with_capacity(self.alloc, 1) else {
+            return Err(NodeFault::NoMemory);
+        };
         let answer = replica::handle(self.alloc, &mut self.store, &self.layout, from, message)?;
         Ok(Outs::sending(answer_messages(room, from, answer)))
     }

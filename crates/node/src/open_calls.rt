@@ -1,10 +1,11 @@
 //! The operations that a brick coordinates.
 
-ghost use Rattle.std.specs.Prelude.{◌≡◌, ◌<◌, ◌≤◌, ℕ, true, false, IfOk, OnOk, OnErr, is_some, vec_len};
+ghost use Rattle.std.specs.Prelude.{◌≡◌, ◌<◌, ◌≤◌, ℕ, false, is_some};
 ghost use Rattle.std.specs.BTreeMap as tree;
 ghost use Rattle.std.specs.Ordering.{nat_cmp};
 ghost use Rattle.protocol.specs.Nodes.{known_after, fresh_stamp};
 
+use crate::numbered::{close_answered, keep_open};
 use crate::operations::Operation;
 use crate::outs::{Begun, Outs};
 use crate::refusals::{has_block, has_later_time, has_length};
@@ -61,7 +62,7 @@ impl OpenCalls {
     ghost use Rattle.messages.specs.declared.packets.Message.TheVariants as message;
     ghost use Rattle.stripe_code.specs.Codes.{coding};
     ghost use Rattle.coord_phase.specs.Messages.{packets_from};
-    ghost use Rattle.node.specs.States.{state_with, KeptParts, AreCallsOf, AreCallsAfter, BeginsAs, StepsAs};
+    ghost use Rattle.node.specs.States.{state_with, KeptParts, AreCallsOf, BeginsAs, StepsAs};
 
     /// No operation is open, and none was since the store was opened for the so-manieth time.
     pub(crate) fn new(alloc: Global, me: BrickId, boot: u32) -> OpenCalls
@@ -185,18 +186,15 @@ impl OpenCalls {
             boot: self.stamps.boot,
             seq,
         };
-        let (operation, messages) = Operation::begin(
-            alloc,
-            layout,
-            view,
-            call,
-            ask.copy(alloc)?,
-            stamp,
-        )?;
-        self.operations.insert(seq, operation)?;
-        self.seq = seq;
-        self.stamps.known = stamp.time;
-        Ok(Begun { seq, messages })
+        match Operation::begin(alloc, layout, view, call, ask, stamp) {
+            Ok((operation, messages)) => {
+                keep_open(&mut self.operations, seq, operation)?;
+                self.seq = seq;
+                self.stamps.known = stamp.time;
+                Ok(Begun { seq, messages })
+            }
+            Err(fault) => Err(fault),
+        }
     }
 
     /// Handles a reply, at this time of the brick's clock: the operation of its call counts it, or leaves it out.
@@ -226,21 +224,8 @@ impl OpenCalls {
         let fresh = fresh_stamp(stamps, now, open.call().view, me);
         let outs = open.on_reply(alloc, packet.from, &packet.message, fresh, &mut stamps)?;
         self.stamps = stamps;
-        self.close_answered(call.seq, &outs);
+        close_answered(&mut self.operations, call.seq, &outs);
         Ok(outs)
-    }
-
-    /// Forgets the open operation of this number where a step answers it.
-    fn close_answered(&mut self, seq: u64, outs: &Outs)
-        requires held { is_some (tree.get nat_cmp self.old.operations seq) ≡ true }
-        ensures calls { AreCallsAfter outs.now.answers seq self.old.operations self.new.operations }
-        ensures me { self.new.me ≡ self.old.me }
-        ensures seq { self.new.seq ≡ self.old.seq }
-        ensures stamps { self.new.stamps ≡ self.old.stamps }
-    {
-        if outs.answer.is_some() {
-            self.operations.remove(&seq);
-        }
     }
 
     /// At a tick of the brick's clock each open operation, in the order of beginning, sends its present phase again to each member

@@ -45,7 +45,7 @@ fn messages_in(alloc: Global, next: Next) -> Messages
 }
 
 /// An open operation at its coordinator.
-#[derive(Debug, Drop)]
+#[derive(Drop)]
 pub enum Operation {
     /// The read or write of a stripe.
     Stripe(StripeOp),
@@ -64,6 +64,7 @@ impl Operation {
     ghost use Rattle.coord_phase.specs.Decisions.{Answers, NeverRecovers, IsSend, decided_on, begins_in, seen_in, note_told};
     ghost use Rattle.coord_phase.specs.Messages.{phase_messages};
     ghost use Rattle.coord_stripe.specs.StripeOps.{first_op};
+    ghost use Rattle.node.specs.declared.operations.Operation.TheVariants as variant;
     ghost use Rattle.node.specs.Operations.{shown_of, coordinator_of, IsOperationOf};
     ghost use Rattle.node.specs.Decisions.{made_in, told_in, or_waits, known_by, SendsPhase, CarriesOut, Collects};
     ghost use Rattle.node.specs.Sending.{collect_messages};
@@ -154,17 +155,17 @@ impl Operation {
         layout: &Layout,
         view: View,
         call: CallId,
-        ask: Ask,
+        ask: &Ask,
         stamp: Stamp,
     ) -> Result<(Operation, Messages), NoMem>
-        requires limits { IsWithinLimits (group_in_view layout.now view.members ask.group.0).m (length view.members) }
-        requires stripe { is_stripe_op ask.op ≡ true }
-        requires fits { has_length (group_in_view layout.now view.members ask.group.0).m layout.now.block ask.op ≡ true }
-        ensures operation { IfOk result (λ begun. shown_of begun.0 ≡ first_op layout.now view call ask stamp) }
+        requires limits { IsWithinLimits (group_in_view layout.now view.members ask.now.group.0).m (length view.members) }
+        requires stripe { is_stripe_op ask.now.op ≡ true }
+        requires fits { has_length (group_in_view layout.now view.members ask.now.group.0).m layout.now.block ask.now.op ≡ true }
+        ensures operation { IfOk result (λ begun. shown_of begun.0 ≡ first_op layout.now view call ask.now stamp) }
         ensures sends { IfOk result (λ begun. SendsPhase layout.now begun.0 begun.1.items) }
         ensures few { IfOk result (λ begun. vec_len begun.1 ≤ 32) }
     {
-        let (op, next) = StripeOp::start(alloc, layout, view, call, ask, stamp)?;
+        let (op, next) = StripeOp::start(alloc, layout, view, call, ask.copy(alloc)?, stamp)?;
         // There is a message for each member, and these are few.
         let _ = op.group().policy();
         Ok((Operation::Stripe(op), messages_in(alloc, next)))
@@ -228,21 +229,25 @@ impl Operation {
         ensures block { OnErr result ((shown_of self.new).block ≡ (shown_of self.old).block) }
     {
         match self {
-            Operation::Recovery(op) => {
-                let next = op.on_reply(from, message, fresh)?;
-                Ok(next)
-            }
+            Operation::Recovery(op) => op.on_reply(from, message, fresh),
             Operation::Stripe(op) => match op.on_reply(from, message, fresh)? {
-                Next::Wait => Ok(Next::Wait),
-                Next::Send(messages) => Ok(Next::Send(messages)),
-                Next::End(answer) => Ok(Next::End(answer)),
-                Next::Recover(turn) => {
-                    let (recovery, next) = recover(alloc, op, turn)?;
-                    *self = Operation::Recovery(recovery);
-                    Ok(next)
-                }
+                Next::Recover(turn) => match recover(alloc, op, turn) {
+                    Ok((recovery, next)) => {
+                        self.become_recovery(recovery);
+                        Ok(next)
+                    }
+                    Err(fault) => Err(fault),
+                },
+                next => Ok(next),
             },
         }
+    }
+
+    /// The operation becomes this recovery.
+    fn become_recovery(&mut self, recovery: Recovery)
+        ensures { self.new ≡ variant.Recovery recovery }
+    {
+        *self = Operation::Recovery(recovery);
     }
 
     /// What is sent and told as a phase begins: the version, where the operation makes it. The stamp of a new round is known from now on.

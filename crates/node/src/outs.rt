@@ -8,7 +8,7 @@ use std::alloc::Global;
 use std::marker::Model;
 
 /// What a step sends, in order, what it tells of an operation's version, and the operation that it answers. A clause sees each as a list.
-#[derive(Debug, Drop)]
+#[derive(Drop)]
 pub struct Outs {
     /// The messages, each with its receiver, in the order of sending.
     pub messages: Messages,
@@ -28,7 +28,7 @@ impl Model for Outs {
 }
 
 /// A new operation: the number of its call, and the messages that it sends, in order.
-#[derive(Debug, Drop)]
+#[derive(Drop)]
 pub struct Begun {
     /// The number of the call since the brick's store was opened.
     pub seq: u64,

@@ -7,6 +7,7 @@ ghost use Rattle.frame_store.specs.Layouts.{shape_of};
 ghost use Rattle.fab_base.specs.Layouts.{seat_in};
 ghost use Rattle.protocol.specs.Nodes.{Node, view_at, group_at, is_served, fits_block, full_at, seat_served};
 ghost use Rattle.messages.specs.declared.packets.Message.TheVariants as message;
+ghost use Rattle.messages.specs.declared.replies.Reply as told;
 ghost use Rattle.replica.specs.Parts.{IsPartsOf, IsFirstView};
 ghost use Rattle.replica.specs.Plans.{planned, IsChange};
 ghost use Rattle.replica.specs.Reactions.{part_at, IsReacted, IsStep};
@@ -26,6 +27,21 @@ use std::alloc::Global;
 // The view of each stripe, until a brick learns of a later one.
 const FIRST_VIEW: ViewNo = ViewNo(1);
 
+// The reply where the store refused a change.
+fn refused(fault: StoreFault) -> Result<Option<Reply>, ReplicaFault>
+    requires a_store { fault ≢ faults.NotAStore }
+    requires not_worn { fault ≢ faults.Worn }
+    ensures { (reply : told.Reply) → result ≡ answered reply (Err fault) }
+{
+    match fault {
+        StoreFault::Full { live } => Ok(Some(Reply::Full { live })),
+        StoreFault::Disk => Err(ReplicaFault::Disk),
+        StoreFault::Halted => Err(ReplicaFault::Halted),
+        StoreFault::NoMemory => Err(ReplicaFault::NoMemory),
+        StoreFault::NotAStore | StoreFault::Worn => unreachable!(),
+    }
+}
+
 // The reply, once the store answered the change that it promises.
 fn answered(reply: Reply, answer: Result<(), StoreFault>) -> Result<Option<Reply>, ReplicaFault>
     requires a_store { answer ≢ Err faults.NotAStore }
@@ -34,11 +50,7 @@ fn answered(reply: Reply, answer: Result<(), StoreFault>) -> Result<Option<Reply
 {
     match answer {
         Ok(()) => Ok(Some(reply)),
-        Err(StoreFault::Full { live }) => Ok(Some(Reply::Full { live })),
-        Err(StoreFault::Disk) => Err(ReplicaFault::Disk),
-        Err(StoreFault::Halted) => Err(ReplicaFault::Halted),
-        Err(StoreFault::NoMemory) => Err(ReplicaFault::NoMemory),
-        Err(StoreFault::NotAStore | StoreFault::Worn) => unreachable!(),
+        Err(fault) => refused(fault),
     }
 }
 

@@ -4,7 +4,7 @@ use fab_base::{Bytes, Stamp};
 use messages::Reply;
 
 /// What a request comes to at a member, before it is kept.
-#[derive(Debug, Drop)]
+#[derive(Drop)]
 pub(crate) enum Plan {
     /// The request is ignored.
     Ignore,

@@ -1,5 +1,5 @@
 -- What is planned for the part that the store shows is the machine's reaction, and so its step.
-use Rattle.std.proofs.Common.{◌≡◌, ℕ, Option, None, List, Result, Ok, refl, sym, ap, subst, ◌∙◌}
+use Rattle.std.proofs.Common.{◌≡◌, ℕ, Option, None, List, Result, Ok, refl, sym, ap, subst, ◌∙◌, rules}
 use Rattle.std.specs.Prelude.{IsSome}
 use Rattle.fab_base.specs.declared.stamps.Stamp.{Stamp}
 use Rattle.messages.specs.declared.packets.Message.{Message}
@@ -115,3 +115,11 @@ returns-clause-run g c node parts =
     (subst (λ (r : Result (Option Message) ReplicaFault). RunsAs d.tells d.moment d.plan d.unlisted
     (part_calls old part (planned full part c.in_ok-plan.plan).replica) old new r) (sym c.answer.ensures)
     (runs_seen d.tells d.moment d.plan d.unlisted (λ (r : Reply). Message.Reply call r) _ old new c.carry_out.result c.carry_out.ensures.run))
+
+-- ---- where the store is left as it is
+
+pub returns-then-is_halted : goal.returns-then-is_halted
+returns-then-is_halted g c = search rules
+
+pub returns-in_default : goal.returns-in_default
+returns-in_default g c = search rules

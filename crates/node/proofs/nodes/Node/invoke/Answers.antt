@@ -1,5 +1,6 @@
 -- The open calls begin what the brick does.
-use Rattle.std.proofs.Common.{◌≡◌, true, length, Some, None, sym, ◌∙◌, ap, subst}
+use Rattle.std.proofs.Common.{◌≡◌, true, length, Some, None, sym, ◌∙◌, ap, subst, rules}
+use Rattle.std.proofs.lemmas.Bool.{true≢false}
 use Rattle.fab_base.specs.declared.member_lists.View.{View}
 use Rattle.fab_base.specs.Layouts.{Group}
 use Rattle.quorum.specs.Quorums.{IsWithinLimits}
@@ -13,12 +14,22 @@ use Rattle.node.proofs.States.{on_err}
 use Rattle.node.proofs.Steps.{begins_so, stays_so, group_in_first_view}
 use Rattle.node.proofs.nodes.Node.invoke.Goals as goal
 
-pub returns-in-Err-clause-refused : goal.returns-in-Err-clause-refused
-returns-in-Err-clause-refused g c =
+pub returns-in-Err : goal.returns-in-Err
+returns-in-Err g c =
     let x = c.self.inside in
-    subst (λ (n : Running g.row.D.Denot). refusal_of n.layout (state_of n) c.args.ask.now ≡ Some c.in-Err.refusal) c.self.view_is
-    (ap (λ (s : Node). refusal_of x.layout s c.args.ask.now) (seen_so x.layout x.calls x.store c.self.invariant.boot)
-    ∙ sym (c.in-Err.ensures.refused (parts_in x.layout x.store.state)))
+    record {
+      refused = subst (λ (n : Running g.row.D.Denot). refusal_of n.layout (state_of n) c.args.ask.now ≡ Some c.in-Err.refusal) c.self.view_is
+          (ap (λ (s : Node). refusal_of x.layout s c.args.ask.now) (seen_so x.layout x.calls x.store c.self.invariant.boot)
+          ∙ sym (c.in-Err.ensures.refused (parts_in x.layout x.store.state)));
+      begun = tt;
+      err = search rules;
+      few = tt;
+      same = search rules;
+      brick = search rules;
+      halted = λ is. absurd (true≢false (sym is ∙ sym c.is_halted.ensures.value ∙ c.if-is_halted.false));
+      only_halted = λ is. absurd cc;
+      not_disk = λ is. absurd cc;
+    }
 
 pub returns-in_err-begin-clause-err : goal.returns-in_err-begin-clause-err
 returns-in_err-begin-clause-err g c =
@@ -68,3 +79,6 @@ returns-clause-begun g c =
     c.self.view_is
     (begins_so x.layout x.calls c.begin.new.self x.store c.self.invariant.boot c.args.now c.args.ask.now c.in-Ok.group.now c.in_ok-begin.field-0
     c.in_ok-begin.ensures.boot c.self.invariant.first c.in-Ok.ensures.group begun)
+
+pub returns-then-is_halted : goal.returns-then-is_halted
+returns-then-is_halted g c = search rules

@@ -1,5 +1,5 @@
 -- A reply leaves the store as it was.
-use Rattle.std.proofs.Common.{◌≡◌, false, refl, sym, subst}
+use Rattle.std.proofs.Common.{◌≡◌, false, refl, sym, subst, rules}
 use Rattle.std.specs.Result.{OnOk}
 use Rattle.fab_disk.specs.Disk.{IsUntouched}
 use Rattle.brick_store.specs.Bricks.{Brick}
@@ -7,6 +7,7 @@ use Rattle.replica.specs.Handling.{KeepsParts}
 use Rattle.node.specs.Running.{state_of, LeavesBrick, KeepsUnseen}
 use Rattle.node.proofs.Moments.{untouched_same}
 use Rattle.node.proofs.States.{on_ok}
+use Rattle.protocol.specs.Nodes.{received, requested, absorbed}
 use Rattle.node.proofs.nodes.Node.on_message.Goals as goal
 
 pub returns-in-Reply-clause-durable : goal.returns-in-Reply-clause-durable
@@ -34,3 +35,15 @@ returns-in-Reply-clause-still g c =
     subst (λ (b : Brick g.row.D.Denot). OnOk c.on_reply.result (KeepsParts old.layout.block old.brick.state b.state
     → (b.state ≡ old.brick.state) × IsUntouched d.seen d.may_leave d.moment d.left_since old.brick.disk b.disk)) (sym c.on_reply.ensures.brick)
     (on_ok c.on_reply.result (λ same. (refl, untouched_same d.moment d.left_since d.seen d.may_leave old.brick.disk)))
+
+pub returns-then-is_halted : goal.returns-then-is_halted
+unfolding received requested absorbed
+returns-then-is_halted g c = search rules
+
+pub returns-in-Request : goal.returns-in-Request
+unfolding received requested absorbed
+returns-in-Request g c = search rules
+
+pub returns-in-Learn : goal.returns-in-Learn
+unfolding received requested absorbed
+returns-in-Learn g c = search rules

@@ -6,6 +6,7 @@ use Rattle.fab_disk.specs.Disk.{IsUntouched, LeavesOnly}
 use Rattle.fab_disk.proofs.Plans.{run_whole}
 use Rattle.frame_store.specs.declared.shapes.Shape.{Shape}
 use Rattle.coord_phase.specs.Messages.{packets_from}
+use Rattle.replica.proofs.Runs.{run_refused as not_begun}
 use Rattle.replica.specs.Reactions.{IsStep, member_step}
 use Rattle.replica.specs.Handling.{OpensAsEither, KeepsParts}
 use Rattle.node.specs.declared.faults.NodeFault.{NodeFault}
@@ -13,18 +14,34 @@ use Rattle.node.specs.Outcomes.{Outcome}
 use Rattle.node.specs.States.{StepsAs}
 use Rattle.node.specs.Running.{Running, running, state_of, ShowsEither, LeavesBrick, KeepsUnseen}
 use Rattle.node.proofs.Views.{kept_so, leaves_so, same_kept}
-use Rattle.node.proofs.Moments.{leaves_more, leaves_still}
+use Rattle.node.proofs.Moments.{leaves_more, leaves_still, untouched_same, kept_same}
 use Rattle.node.proofs.States.{on_err}
 use Rattle.node.proofs.Sent.{answered_is}
 use Rattle.node.proofs.Requests.{is_me, first_view_after, follows_state, follows_boot, follows_packets, follows_told, follows_shown}
 use Rattle.node.proofs.Runs.{run_refused, run_shown}
 use Rattle.node.proofs.nodes.Node.serve.Goals as goal
 
-pub returns-in_err-room-clause-moments : goal.returns-in_err-room-clause-moments
-returns-in_err-room-clause-moments g c = λ told.
+-- without room nothing is done
+pub returns-in_default : goal.returns-in_default
+returns-in_default g c =
     let d = g.D.Disk in
-    leaves_still d.moment d.left_since d.may_leave g.met.D.Disk.only_now c.args.self.now.brick.disk _
-    (λ image left. inl (c.requires.durable told image left))
+    let disk = c.args.self.now.brick.disk in
+    record {
+      step = tt;
+      few = tt;
+      err = refl;
+      same = record { layout = refl; me = refl };
+      unseen = record { groups = refl; views = λ group view stripe other. refl };
+      still = tt;
+      durable = λ told. tt;
+      moments = λ told. leaves_still d.moment d.left_since d.may_leave g.met.D.Disk.only_now disk _ (λ image left. inl (c.requires.durable told image left));
+      run = not_begun d.tells d.moment d.plan d.unlisted disk disk refl (λ free. free) _ _ _ (λ whole. absurd cc) (λ cut. absurd cc);
+      not_halted = λ is. absurd cc;
+      halts = c.requires.runs;
+      not_refused = λ reason is. absurd cc;
+      no_call = λ other. untouched_same d.moment d.left_since d.seen d.may_leave disk;
+      cause = kept_same (d.faults disk) (d.sound disk) _ (λ failed. absurd cc);
+    }
 
 pub returns-in_err-answer-clause-err : goal.returns-in_err-answer-clause-err
 returns-in_err-answer-clause-err g c =
@@ -137,7 +154,7 @@ pub returns-in_err-answer-clause-run : goal.returns-in_err-answer-clause-run
 returns-in_err-answer-clause-run g c =
     let d = g.D.Disk in
     let x = c.self.inside in
-    let fault = err_from_is_err_and c.from_residual-in_err-answer.result c.from_residual-in_err-answer.ensures.1 in
+    let fault = err_from_is_err_and c.from_residual.result c.from_residual.ensures.1 in
     run_refused d.tells d.moment d.plan d.unlisted _ _ _ c.args.self.now.brick.disk c.handle.new.store.disk c.in_err-answer.field-0.0 _
     (fault.1 ∙ ap (λ (e : NodeFault). Err e) fault.2)
     (run_shown d.tells d.moment d.plan d.unlisted x.layout x.calls c.args.from c.args.message.now x.store c.handle.new.store c.args.self.now _ _

@@ -1,6 +1,6 @@
 -- The new operation is the machine's, and its number was free.
-use Rattle.std.proofs.Common.{◌≡◌, ◌+◌, Some, length, refl, sym, ◌∙◌, ap, subst, arith}
-use Rattle.std.specs.Option.{is_some, option_map}
+use Rattle.std.proofs.Common.{◌≡◌, ◌+◌, Some, length, refl, sym, ◌∙◌, ap, subst, rules}
+use Rattle.std.specs.Option.{option_map}
 use Rattle.std.specs.Ordering.{nat_cmp}
 use Rattle.std.specs.BTreeMap.{get, btree_map_len}
 use Rattle.fab_base.specs.declared.identities.CallId.{CallId}
@@ -15,16 +15,16 @@ use Rattle.node.specs.declared.operations.Operation.{Operation}
 use Rattle.node.specs.Operations.{coordinator_of}
 use Rattle.node.specs.States.{KeptParts, state_with, IsAt}
 use Rattle.node.proofs.States.{same_states, on_err}
-use Rattle.node.proofs.Tables.{shown_after, same_calls, each_after, each_same, one_more}
+use Rattle.node.proofs.Tables.{shown_after, same_calls, each_after, each_same}
 use Rattle.node.proofs.Sent.{made_is}
 use Rattle.node.proofs.open_calls.OpenCalls.begin.Goals as goal
 
-pub returns-in_err-insert-clause-err : goal.returns-in_err-insert-clause-err
+pub returns-in_err-keep_open-in-Ok-clause-err : goal.returns-in_err-keep_open-in-Ok-clause-err
 unfolding state_with
-returns-in_err-insert-clause-err c =
+returns-in_err-keep_open-in-Ok-clause-err c =
     let m = c.args.self.now.operations in
-    let n = c.insert.new.self in
-    let entries = c.in_err-insert.ensures.err in
+    let n = c.keep_open.new.values in
+    let entries = c.in_err-keep_open-in-Ok.ensures.err in
     let same : (parts : KeptParts) → record (state_with parts c.args.self.now) {
       busy = btree_map_len n;
       calls = λ k. option_map coordinator_of
@@ -33,49 +33,51 @@ returns-in_err-insert-clause-err c =
     λ parts. same_states _ _ refl refl refl (ap length entries) refl (λ g. refl) (λ g. refl) (λ g e s. refl) (λ k. ap (option_map coordinator_of) (same_calls m n entries k)) in
     on_err _ same
 
-pub returns-in_err-insert-clause-node : goal.returns-in_err-insert-clause-node
-returns-in_err-insert-clause-node c =
-    each_same (λ k (operation : Operation). IsAt c.args.layout.now k operation) c.args.self.now.operations c.insert.new.self c.in_err-insert.ensures.err c.requires.node
+pub returns-in_err-keep_open-in-Ok-clause-node : goal.returns-in_err-keep_open-in-Ok-clause-node
+returns-in_err-keep_open-in-Ok-clause-node c =
+    each_same (λ k (operation : Operation). IsAt c.args.layout.now k operation) c.args.self.now.operations c.keep_open.new.values c.in_err-keep_open-in-Ok.ensures.err c.requires.node
 
-pub returns-clause-begun : goal.returns-clause-begun
+pub returns-in_ok-keep_open-in-Ok-clause-begun : goal.returns-in_ok-keep_open-in-Ok-clause-begun
 unfolding state_with
-returns-clause-begun c = λ parts.
+returns-in_ok-keep_open-in-Ok-clause-begun c = λ parts.
     let layout = c.args.layout.now in
     let view = c.args.view in
     let me = c.args.self.now.me in
     let before = state_with parts c.args.self.now in
     let m = c.args.self.now.operations in
-    let n = c.insert.new.self in
+    let n = c.keep_open.new.values in
     let seq = c.args.self.now.seq + 1 in
-    let operation : Operation = c.in_ok-operation.operation in
+    let operation : Operation = c.in-Ok.operation in
     let stamp : c.in-Some.stamp ≡ new_stamp me view.number c.args.now before.boot before.known =
     made_is me view.number c.args.now before.boot before.known c.in-Some.stamp c.requires.known (sym c.fresh_stamp.ensures ∙ c.in-Some.is) in
     let call : CallId = record { boot = c.args.self.now.stamps.boot; seq = seq } in
     let same : coordinator_of operation
     ≡ coordinator_in (group_in_view layout view.members c.args.ask.now.group.0) view.number me c.args.now before c.args.ask.now =
-    ap (λ (op : phased.Operation). op.state) c.in_ok-operation.ensures.operation
-    ∙ (λ i. (first_op layout view call (c.in_ok-copy.ensures i) (stamp i)).state) in
-    let absent = ap is_some c.in_ok-insert.ensures.old ∙ c.args.self.now.fresh seq (omega arith) in
+    ap (λ (op : phased.Operation). op.state) c.in-Ok.ensures.operation
+    ∙ (λ i. (first_op layout view call c.args.ask.now (stamp i)).state) in
     record {
-      packets = c.in_ok-operation.ensures.sends me ∙ ap (phase_packets (coding layout) me) same;
+      packets = c.in-Ok.ensures.sends me ∙ ap (phase_packets (coding layout) me) same;
       seq = refl;
       state_is = same_states _ _ refl refl (ap (λ (t : Stamp). t.time) stamp)
-          (one_more c.in_ok-insert.field-0 (btree_map_len m) (btree_map_len n) absent c.in_ok-insert.ensures.len)
+          c.in_ok-keep_open-in-Ok.ensures.opened.count
           refl (λ g. refl) (λ g. refl) (λ g e s. refl)
-          (λ k. shown_after coordinator_of m n seq (Some operation) c.in_ok-insert.ensures.updates.0 k
+          (λ k. shown_after coordinator_of m n seq (Some operation) c.in_ok-keep_open-in-Ok.ensures.opened.calls k
           ∙ ap (λ (o : Coordinator). put (λ j. option_map coordinator_of (get nat_cmp m j)) seq (Some o) k) same);
     }
 
-pub returns-clause-node : goal.returns-clause-node
-returns-clause-node c =
+pub returns-in_ok-keep_open-in-Ok-clause-node : goal.returns-in_ok-keep_open-in-Ok-clause-node
+returns-in_ok-keep_open-in-Ok-clause-node c =
     let layout = c.args.layout.now in
-    let operation : Operation = c.in_ok-operation.operation in
+    let operation : Operation = c.in-Ok.operation in
     let seq = c.args.self.now.seq + 1 in
     let at : IsAt layout seq operation =
     record {
-      seq = ap (λ (op : phased.Operation). op.state.call.seq) c.in_ok-operation.ensures.operation;
-      is_operation = ap (λ (op : phased.Operation). op.block) c.in_ok-operation.ensures.operation;
+      seq = ap (λ (op : phased.Operation). op.state.call.seq) c.in-Ok.ensures.operation;
+      is_operation = ap (λ (op : phased.Operation). op.block) c.in-Ok.ensures.operation;
     } in
-    each_after (λ k (op : Operation). IsAt layout k op) c.args.self.now.operations c.insert.new.self seq
-    (Some operation) c.in_ok-insert.ensures.updates.0 c.requires.node
+    each_after (λ k (op : Operation). IsAt layout k op) c.args.self.now.operations c.keep_open.new.values seq
+    (Some operation) c.in_ok-keep_open-in-Ok.ensures.opened.calls c.requires.node
     (λ op is. let same : operation ≡ op = cc in subst (λ (o : Operation). IsAt layout seq o) same at)
+
+pub returns-in-Err : goal.returns-in-Err
+returns-in-Err c = search rules

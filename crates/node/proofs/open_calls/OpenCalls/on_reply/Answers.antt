@@ -1,12 +1,11 @@
 -- Which of the machine's cases a reply is.
-use Rattle.std.proofs.Common.{◌≡◌, ℕ, nat_eq, List, Option, Some, refl, sym, ◌∙◌, ap, subst, rules}
+use Rattle.std.proofs.Common.{◌≡◌, ℕ, nat_eq, List, length, Option, Some, refl, sym, ◌∙◌, ap, subst, arith, rules}
 use Rattle.std.specs.Option.{option_map}
 use Rattle.std.specs.Ordering.{nat_cmp}
 use Rattle.std.specs.BTreeMap.{BTreeMap, get, btree_map_len}
 use Rattle.fab_base.specs.declared.stamps.Stamp.{Stamp}
 use Rattle.messages.specs.declared.packets.Message.{Message}
 use Rattle.messages.specs.declared.packets.Message.TheVariants as message
-use Rattle.stamp_store.specs.declared.stamp_sources.StampSource.{StampSource}
 use Rattle.protocol.specs.Coordinators as machine
 use Rattle.protocol.specs.Coordinators.{Coordinator}
 use Rattle.protocol.specs.Nodes.{Node, put, with_known, known_after, fresh_stamp}
@@ -24,26 +23,31 @@ use Rattle.node.proofs.Tables.{shown_after, each_after}
 use Rattle.node.proofs.Replied.{put_held, no_call, replied_is, busy_after, does_node, does_send, does_tell, does_answer, calls_left, at_if_open}
 use Rattle.node.proofs.open_calls.OpenCalls.on_reply.Goals as goal
 
-pub returns-in_default-clause-step : goal.returns-in_default-clause-step
+pub returns-in_default : goal.returns-in_default
 unfolding state_with
-returns-in_default-clause-step c = λ layout of parts.
-    let before : Node = state_with parts c.args.self.now in
-    let same = c.get_mut.follows.holds-at-none in
-    steps_as c.args.self.now.me _ _ _ c.nothing.result
-    (no_call layout c.args.self.now.me c.args.now c.args.packet.now.from before c.args.call c.args.reply.now
-    (ap (option_map coordinator_of) (sym c.in_default.ensures.value)))
-    (record {
-      packets = ap (λ (outs : Outcome). packets_from c.args.self.now.me outs.messages) c.nothing.ensures;
-      told = ap (λ (outs : Outcome). outs.told) c.nothing.ensures;
-      answers = ap (λ (outs : Outcome). outs.answers) c.nothing.ensures;
-      state_is = same_states _ (with_known before (known_after before.known c.args.reply.now)) c.after_reply-stamps.ensures.boot refl
-          c.after_reply-stamps.ensures.known (ap btree_map_len same) refl (λ g. refl) (λ g. refl) (λ g e s. refl)
-          (λ k. ap (λ (m : BTreeMap ℕ Operation). option_map coordinator_of (get nat_cmp m k)) same);
-    })
-
-pub returns-in_default-clause-node : goal.returns-in_default-clause-node
-returns-in_default-clause-node c = λ layout of.
-    λ k operation is. of k operation (ap (λ (m : BTreeMap ℕ Operation). get nat_cmp m k) (sym c.get_mut.follows.holds-at-none) ∙ is)
+returns-in_default c =
+    record {
+      step = λ layout of parts.
+          let before : Node = state_with parts c.args.self.now in
+          let same = c.get_mut.follows.holds-at-none in
+          steps_as c.args.self.now.me _ _ _ c.nothing.result
+          (no_call layout c.args.self.now.me c.args.now c.args.packet.now.from before c.args.call c.args.reply.now
+          (ap (option_map coordinator_of) (sym c.in_default.ensures.value)))
+          (record {
+            packets = ap (λ (outs : Outcome). packets_from c.args.self.now.me outs.messages) c.nothing.ensures;
+            told = ap (λ (outs : Outcome). outs.told) c.nothing.ensures;
+            answers = ap (λ (outs : Outcome). outs.answers) c.nothing.ensures;
+            state_is = same_states _ (with_known before (known_after before.known c.args.reply.now)) c.after_reply-stamps.ensures.boot refl
+                c.after_reply-stamps.ensures.known (ap btree_map_len same) refl (λ g. refl) (λ g. refl) (λ g e s. refl)
+                (λ k. ap (λ (m : BTreeMap ℕ Operation). option_map coordinator_of (get nat_cmp m k)) same);
+          });
+      few = omega (arith, ap (λ (outs : Outcome). length outs.messages) c.nothing.ensures);
+      err = tt;
+      node = λ layout of.
+          λ k operation is. of k operation (ap (λ (m : BTreeMap ℕ Operation). get nat_cmp m k) (sym c.get_mut.follows.holds-at-none) ∙ is);
+      me = refl;
+      boot = c.after_reply-stamps.ensures.boot;
+    }
 
 pub returns-in_err-outs-clause-err : goal.returns-in_err-outs-clause-err
 unfolding state_with
@@ -79,68 +83,73 @@ returns-in_err-outs-clause-node c = λ layout of.
     (written.3 (search rules)).0 of
     (λ operation is. let same : after ≡ operation = cc in subst (λ (o : Operation). IsAt layout seq o) same at)
 
-pub returns-clause-step : goal.returns-clause-step
+pub returns : goal.returns
 unfolding state_with
-returns-clause-step c = λ layout of parts.
-    let me = c.args.self.now.me in
-    let from = c.args.packet.now.from in
-    let call = c.args.call in
-    let reply = c.args.reply.now in
-    let before : Node = state_with parts c.args.self.now in
-    let m = c.args.self.now.operations in
-    let left_calls = c.close_answered.new.self.operations in
-    let op : Operation = c.in-Some.open.now in
-    let after : Operation = c.on_reply.new.self in
-    let outs : Outcome = c.in_ok-outs.outs in
-    let k : Coordinator = coordinator_of op in
-    let held : get nat_cmp m call.seq ≡ Some op = sym c.in-Some.ensures.value in
-    let at : IsAt layout call.seq op = of call.seq op held in
-    let known = known_after before.known reply in
-    let fresh = fresh_stamp me k.call.view c.args.now before.boot known in
-    let new : c.fresh_stamp-fresh.result ≡ fresh =
-    c.fresh_stamp-fresh.ensures
-    ∙ (λ i. fresh_stamp me (c.call.ensures i).view c.args.now (c.after_reply-stamps.ensures.boot i) (c.after_reply-stamps.ensures.known i)) in
-    let next = machine.on_reply layout.block (block_code layout.block) fresh k from call reply in
-    let decided : decided_on c.fresh_stamp-fresh.result (shown_of op) from c.args.packet.now.message ≡ next =
-    ap (λ (m : Message). decided_on c.fresh_stamp-fresh.result (shown_of op) from m) c.requires.reply
-    ∙ ap (λ (f : Option Stamp). decided_on f (shown_of op) from (message.Reply call reply)) new
-    ∙ ap (λ (b : ℕ). machine.on_reply b (block_code b) fresh k from call reply) at.is_operation in
-    let carried : CarriesOut layout op after c.after_reply-stamps.result.known c.on_reply.new.stamps.known (or_waits k next) outs =
-    subst (λ (n : machine.Next). CarriesOut layout op after c.after_reply-stamps.result.known c.on_reply.new.stamps.known (or_waits k n) outs)
-    decided (c.in_ok-outs.ensures.step layout at.is_operation) in
-    let written = c.get_mut.follows.holds after in
-    let left = calls_left outs.answers m (c.get_mut.follows.lender after) left_calls call.seq after (written.3 (search rules)).0 written.2
-    c.close_answered.ensures.calls in
-    let f = λ (q : ℕ). option_map coordinator_of (get nat_cmp m q) in
-    steps_as me _ _ _ outs
-    (replied_is layout me c.args.now from before call reply k (ap (option_map coordinator_of) held) at.seq)
-    (record {
-      packets = carried.packets me ∙ sym (does_send layout me before known k next);
-      told = carried.told ∙ sym (does_tell layout me before known k next);
-      answers = carried.answers ∙ sym (does_answer layout me before known k next);
-      state_is = same_states _ _
-          (ap (λ (s : StampSource). s.boot) c.close_answered.ensures.stamps ∙ c.on_reply.ensures.boot ∙ c.after_reply-stamps.ensures.boot)
-          c.close_answered.ensures.seq
-          (ap (λ (s : StampSource). s.known) c.close_answered.ensures.stamps ∙ carried.knows
-          ∙ ap (λ (t : ℕ). known_by t (or_waits k next)) c.after_reply-stamps.ensures.known)
-          (left.1 ∙ ap (λ (answers : List Answered). busy_after answers before.busy) carried.answers) refl (λ g. refl) (λ g. refl) (λ g e s. refl)
-          (λ q. shown_after coordinator_of m left_calls call.seq (left_open outs.answers after) left.0 q
-          ∙ ap (λ (o : Option Coordinator). put f call.seq o q) (sym carried.left)
-          ∙ ap (λ (s : ℕ). put f s (left_by (or_waits k next)) q) (sym at.seq))
-          ∙ sym (does_node layout me before known k next);
-    })
-
-pub returns-clause-node : goal.returns-clause-node
-returns-clause-node c = λ layout of.
-    let seq = c.args.call.seq in
-    let m = c.args.self.now.operations in
-    let op : Operation = c.in-Some.open.now in
-    let after : Operation = c.on_reply.new.self in
-    let outs : Outcome = c.in_ok-outs.outs in
-    let written = c.get_mut.follows.holds after in
-    let left = calls_left outs.answers m (c.get_mut.follows.lender after) c.close_answered.new.self.operations seq after (written.3 (search rules)).0 written.2
-    c.close_answered.ensures.calls in
-    let at : IsAt layout seq op = of seq op (sym c.in-Some.ensures.value) in
-    let carried = c.in_ok-outs.ensures.step layout at.is_operation in
-    each_after (λ k (operation : Operation). IsAt layout k operation) m c.close_answered.new.self.operations seq (left_open outs.answers after) left.0 of
-    (λ operation is. at_if_open layout seq op after operation outs.answers at carried.keeps carried.block is)
+returns c =
+    record {
+      step = λ layout of parts.
+          let me = c.args.self.now.me in
+          let from = c.args.packet.now.from in
+          let call = c.args.call in
+          let reply = c.args.reply.now in
+          let before : Node = state_with parts c.args.self.now in
+          let m = c.args.self.now.operations in
+          let left_calls = c.close_answered.new.values in
+          let op : Operation = c.in-Some.open.now in
+          let after : Operation = c.on_reply.new.self in
+          let outs : Outcome = c.in_ok-outs.outs in
+          let k : Coordinator = coordinator_of op in
+          let held : get nat_cmp m call.seq ≡ Some op = sym c.in-Some.ensures.value in
+          let at : IsAt layout call.seq op = of call.seq op held in
+          let known = known_after before.known reply in
+          let fresh = fresh_stamp me k.call.view c.args.now before.boot known in
+          let new : c.fresh_stamp-fresh.result ≡ fresh =
+          c.fresh_stamp-fresh.ensures
+          ∙ (λ i. fresh_stamp me (c.call.ensures i).view c.args.now (c.after_reply-stamps.ensures.boot i) (c.after_reply-stamps.ensures.known i)) in
+          let next = machine.on_reply layout.block (block_code layout.block) fresh k from call reply in
+          let decided : decided_on c.fresh_stamp-fresh.result (shown_of op) from c.args.packet.now.message ≡ next =
+          ap (λ (m : Message). decided_on c.fresh_stamp-fresh.result (shown_of op) from m) c.requires.reply
+          ∙ ap (λ (f : Option Stamp). decided_on f (shown_of op) from (message.Reply call reply)) new
+          ∙ ap (λ (b : ℕ). machine.on_reply b (block_code b) fresh k from call reply) at.is_operation in
+          let carried : CarriesOut layout op after c.after_reply-stamps.result.known c.on_reply.new.stamps.known (or_waits k next) outs =
+          subst (λ (n : machine.Next). CarriesOut layout op after c.after_reply-stamps.result.known c.on_reply.new.stamps.known (or_waits k n) outs)
+          decided (c.in_ok-outs.ensures.step layout at.is_operation) in
+          let written = c.get_mut.follows.holds after in
+          let left = calls_left outs.answers m (c.get_mut.follows.lender after) left_calls call.seq after (written.3 (search rules)).0 written.2
+          c.close_answered.ensures.calls in
+          let f = λ (q : ℕ). option_map coordinator_of (get nat_cmp m q) in
+          steps_as me _ _ _ outs
+          (replied_is layout me c.args.now from before call reply k (ap (option_map coordinator_of) held) at.seq)
+          (record {
+            packets = carried.packets me ∙ sym (does_send layout me before known k next);
+            told = carried.told ∙ sym (does_tell layout me before known k next);
+            answers = carried.answers ∙ sym (does_answer layout me before known k next);
+            state_is = same_states _ _
+                (c.on_reply.ensures.boot ∙ c.after_reply-stamps.ensures.boot)
+                refl
+                (carried.knows
+                ∙ ap (λ (t : ℕ). known_by t (or_waits k next)) c.after_reply-stamps.ensures.known)
+                (left.1 ∙ ap (λ (answers : List Answered). busy_after answers before.busy) carried.answers) refl (λ g. refl) (λ g. refl) (λ g e s. refl)
+                (λ q. shown_after coordinator_of m left_calls call.seq (left_open outs.answers after) left.0 q
+                ∙ ap (λ (o : Option Coordinator). put f call.seq o q) (sym carried.left)
+                ∙ ap (λ (s : ℕ). put f s (left_by (or_waits k next)) q) (sym at.seq))
+                ∙ sym (does_node layout me before known k next);
+          });
+      few = c.in_ok-outs.ensures.few;
+      err = tt;
+      node = λ layout of.
+          let seq = c.args.call.seq in
+          let m = c.args.self.now.operations in
+          let op : Operation = c.in-Some.open.now in
+          let after : Operation = c.on_reply.new.self in
+          let outs : Outcome = c.in_ok-outs.outs in
+          let written = c.get_mut.follows.holds after in
+          let left = calls_left outs.answers m (c.get_mut.follows.lender after) c.close_answered.new.values seq after (written.3 (search rules)).0 written.2
+          c.close_answered.ensures.calls in
+          let at : IsAt layout seq op = of seq op (sym c.in-Some.ensures.value) in
+          let carried = c.in_ok-outs.ensures.step layout at.is_operation in
+          each_after (λ k (operation : Operation). IsAt layout k operation) m c.close_answered.new.values seq (left_open outs.answers after) left.0 of
+          (λ operation is. at_if_open layout seq op after operation outs.answers at carried.keeps carried.block is);
+      me = refl;
+      boot = c.on_reply.ensures.boot ∙ c.after_reply-stamps.ensures.boot;
+    }
