@@ -8,8 +8,11 @@ ghost use Rattle.version_log.specs.Versions.{newest, has_stamp};
 
 use brick_store::{BrickStore, State, StoreFault, format, open_store};
 use fab_base::{Ballot, BrickId, Bytes, GroupId, Members, Stamp, StripeNo, View, ViewNo};
-use fab_disk::{Armed, Disk, Plan};
+use fab_disk::{Armed, Disk, MemDisk, Plan};
 use std::alloc::Global;
+
+/// The records that a store has room for, where nothing else is said.
+pub const ROOMY: u32 = 100;
 
 const ME: BrickId = BrickId(5);
 
@@ -119,23 +122,38 @@ impl<D: Disk + Drop> Brick<D> {
         }
     }
 
+    /// The same, where the disk is not wanted back from a refusal.
+    pub fn reopen(alloc: Global, disk: D, records: u32) -> Result<Brick<D>, StoreFault>
+        requires { (1 ≤ records) × (records ≤ 1048576) }
+    {
+        match Brick::open(alloc, disk, records) {
+            Ok(brick) => Ok(brick),
+            Err((fault, _)) => Err(fault),
+        }
+    }
+
     /// A store that is made on a disk, and opened.
     pub fn make(alloc: Global, disk: D, records: u32) -> Result<Brick<D>, StoreFault>
         requires { (1 ≤ records) × (records ≤ 1048576) }
     {
         let mut disk = disk;
         format(alloc, &mut disk, ME, 2, records)?;
-        Brick::open(alloc, disk, records).map_err(|refused| refused.0)
+        Brick::reopen(alloc, disk, records)
+    }
+
+    /// Asks these changes of the store, up to one that is refused.
+    pub fn apply_all(&mut self, alloc: Global, changes: &[Change]) -> Result<(), StoreFault> {
+        for change in changes {
+            self.apply(alloc, *change)?;
+        }
+        Ok(())
     }
 
     /// Asks a change of the store; `NotAStore` where it may not be asked for it.
     pub fn apply(&mut self, alloc: Global, change: Change) -> Result<(), StoreFault> {
         match change {
             Change::Order(time) => self.order(stamp(time)),
-            Change::Version(time, byte) => self.add(
-                stamp(time),
-                Some(Bytes::from_slice(alloc, &[byte, 1])?),
-            ),
+            Change::Version(time, byte) => self.add_block(alloc, stamp(time), byte),
             Change::Same(time) => self.add(stamp(time), None),
             Change::Collect(time) => self.collect(stamp(time)),
             Change::Promise(round) => self.promise(ballot(round)),
@@ -150,6 +168,11 @@ impl<D: Disk + Drop> Brick<D> {
             return Err(StoreFault::NotAStore);
         }
         self.store.set_order(GROUP, VIEW, STRIPE, stamp)
+    }
+
+    fn add_block(&mut self, alloc: Global, stamp: Stamp, byte: u8) -> Result<(), StoreFault> {
+        let block = Bytes::from_slice(alloc, &[byte, 1])?;
+        self.add(stamp, Some(block))
     }
 
     fn add(&mut self, stamp: Stamp, block: Option<Bytes>) -> Result<(), StoreFault>
@@ -200,24 +223,35 @@ impl<D: Disk + Drop> Brick<D> {
         self.store.synced(GROUP, learnt)
     }
 
-    /// What the store tells.
-    pub fn look(&self) -> Picture {
-        let state = self.store.state(GROUP, VIEW, STRIPE);
-        let (newest, byte) = match state.newest() {
-            Some((stamp, block)) => (
-                Some(stamp.time),
-                block.as_slice().first().copied().unwrap_or(0),
-            ),
+    // The time of the newest version, and the first byte of its block.
+    fn newest(&self) -> (Option<u64>, u8) {
+        match self.store.state(GROUP, VIEW, STRIPE).newest() {
+            Some((stamp, block)) => {
+                let byte = block.as_slice().first().copied().unwrap_or(0);
+                (Some(stamp.time), byte)
+            }
             None => (None, 0),
-        };
-        let synced = match self.store.known_view(GROUP) {
+        }
+    }
+
+    fn is_synced(&self) -> bool {
+        match self.store.known_view(GROUP) {
             Some((_, synced)) => synced,
             None => false,
-        };
-        let accepted = match self.store.accepted(GROUP) {
+        }
+    }
+
+    fn accepted(&self) -> Option<u32> {
+        match self.store.accepted(GROUP) {
             Some((ballot, _)) => Some(ballot.round),
             None => None,
-        };
+        }
+    }
+
+    /// What the store tells.
+    pub fn look(&self) -> Picture {
+        let (newest, byte) = self.newest();
+        let state = self.store.state(GROUP, VIEW, STRIPE);
         Picture {
             boot: self.store.boot(),
             live: self.store.live(),
@@ -227,16 +261,59 @@ impl<D: Disk + Drop> Brick<D> {
             newest,
             byte,
             view: self.store.learnt(GROUP).0,
-            synced,
+            synced: self.is_synced(),
             promised: self.store.promised(GROUP).map(|ballot| ballot.round),
-            accepted,
+            accepted: self.accepted(),
         }
+    }
+
+    /// What the store tells as it is let go.
+    pub fn close(self) -> Picture {
+        let told = self.look();
+        let _ = self.into_disk();
+        told
     }
 
     /// The disk.
     pub fn into_disk(self) -> D {
         self.store.into_disk()
     }
+}
+
+/// A disk in memory that holds nothing.
+pub fn empty_disk(alloc: Global) -> MemDisk {
+    MemDisk::new(alloc, Vec::new(alloc))
+}
+
+/// What the store on a disk tells once it is opened.
+pub fn told_by<D: Disk + Drop>(alloc: Global, disk: D) -> Result<Picture, StoreFault> {
+    Ok(Brick::reopen(alloc, disk, ROOMY)?.close())
+}
+
+/// What a store tells that is made on a disk, once these changes were asked of it.
+pub fn told_after<D: Disk + Drop>(
+    alloc: Global,
+    disk: D,
+    changes: &[Change],
+) -> Result<Picture, StoreFault> {
+    let mut brick = Brick::make(alloc, disk, ROOMY)?;
+    let answer = brick.apply_all(alloc, changes);
+    let told = brick.close();
+    answer?;
+    Ok(told)
+}
+
+/// The disk of a store that is made on it, once these changes were asked of the store.
+pub fn disk_after<D: Disk + Drop>(
+    alloc: Global,
+    disk: D,
+    changes: &[Change],
+) -> Result<D, StoreFault> {
+    let mut brick = Brick::make(alloc, disk, ROOMY)?;
+    let answer = brick.apply_all(alloc, changes);
+    let disk = brick.into_disk();
+    answer?;
+    Ok(disk)
 }
 
 impl<D: Armed> Brick<D> {

@@ -4,18 +4,18 @@ ghost use Rattle.std.specs.Prelude.{◌≡◌, ◌++◌, ◌∷◌, [], ◌≤�
 ghost use Rattle.frame_store.specs.Layouts.{shape_of, half_size};
 ghost use Rattle.frame_store.specs.Listed.{frame_of, size_of};
 
-use crate::bricks::{Brick, Change};
+use crate::bricks::{Change, ROOMY, disk_after, empty_disk};
 use anyhow::Result;
 use fab_base::Bytes;
-use fab_disk::{FileDisk, MemDisk, Plan};
+use fab_disk::{Armed, Disk, FileDisk, MemDisk, Plan};
 use frame_store::{Frame, FrameFault, FrameStore, format, open_store};
 use std::alloc::Global;
-use std::fs;
 use std::fs::File;
 use std::rt::Files;
+use std::{fs, io};
 
 /// The list on a disk that was made for one block of two bytes at brick 258.
-fn opened(alloc: Global, disk: MemDisk) -> Result<FrameStore<MemDisk>, FrameFault>
+fn opened<D: Disk + Drop>(alloc: Global, disk: D) -> Result<FrameStore<D>, FrameFault>
     ensures { IfOk result (λ store. store.shape ≡ shape_of 258 2 1) }
 {
     match open_store(alloc, disk, 258, 2, 1) {
@@ -39,34 +39,63 @@ fn two_frames(alloc: Global) -> Result<Vec<Frame>, FrameFault>
     Ok(vec![in alloc; first, second]?)
 }
 
-/// Rewrites the list as two empty frames, on a disk that stops at one of its calls and is settled by this number.
-fn rewritten(alloc: Global, disk: MemDisk, call: u64, pick: u64) -> Result<MemDisk, FrameFault> {
-    let mut store = opened(alloc, disk)?;
+/// Rewrites the list as two empty frames, on a disk that stops at one of its calls.
+fn rewrite<D: Armed>(
+    alloc: Global,
+    store: &mut FrameStore<D>,
+    call: u64,
+) -> Result<(), FrameFault> {
     store.sync()?;
     store.arm(Plan::Stop(call));
     let _ = store.rewrite(two_frames(alloc)?);
-    let mut disk = store.into_disk();
-    disk.settle(pick);
+    Ok(())
+}
+
+/// The disk after such a rewrite of its list.
+fn rewritten<D: Armed + Drop>(alloc: Global, disk: D, call: u64) -> Result<D, FrameFault> {
+    let mut store = opened(alloc, disk)?;
+    let answer = rewrite(alloc, &mut store, call);
+    let disk = store.into_disk();
+    answer?;
     Ok(disk)
+}
+
+/// The list on a disk that holds none of its frames yet.
+fn fresh_disk(alloc: Global, bricks: &[u16]) -> Result<MemDisk, FrameFault> {
+    let mut disk = empty_disk(alloc);
+    for brick in bricks {
+        format(alloc, &mut disk, *brick, 2, 1)?;
+    }
+    Ok(disk)
+}
+
+/// How many frames the list on a disk has.
+fn count_frames<D: Disk + Drop>(alloc: Global, disk: D) -> Result<usize, FrameFault> {
+    Ok(opened(alloc, disk)?.frames().len())
+}
+
+/// How many frames are found where a rewrite stopped before its gate was opened, and the next one at its first call, which is settled by
+/// this number.
+fn stale_frames(alloc: Global, pick: u64) -> Result<usize, FrameFault> {
+    let mut disk = rewritten(alloc, fresh_disk(alloc, &[258])?, 5)?;
+    disk.settle(1);
+    let mut disk = rewritten(alloc, disk, 1)?;
+    disk.settle(pick);
+    count_frames(alloc, disk)
 }
 
 /// A rewrite that was stopped before its gate was opened leaves a list that the next one's first call may not bring to life. How many
 /// frames are found, at most, over many picks.
-fn stale_frames(alloc: Global) -> Result<usize, FrameFault> {
+fn most_stale_frames(alloc: Global) -> Result<usize, FrameFault> {
     let mut most = 0;
     for pick in 0..32 {
-        let mut disk = MemDisk::new(alloc, Vec::new(alloc));
-        format(alloc, &mut disk, 258, 2, 1)?;
-        let disk = rewritten(alloc, disk, 5, 1)?;
-        let disk = rewritten(alloc, disk, 1, pick)?;
-        let store = opened(alloc, disk)?;
-        most = store.frames().len().max(most);
+        most = stale_frames(alloc, pick)?.max(most);
     }
     Ok(most)
 }
 
 /// The first byte of the block in a slot of blocks of two bytes.
-fn byte_in(store: &mut FrameStore<MemDisk>, slot: u32) -> Result<u8, FrameFault> {
+fn byte_in<D: Disk>(store: &mut FrameStore<D>, slot: u32) -> Result<u8, FrameFault> {
     let mut block = [0; 2];
     if store.has_slot(slot) && store.shape().block == 2 {
         store.read_slot(slot, &mut block)?;
@@ -74,56 +103,92 @@ fn byte_in(store: &mut FrameStore<MemDisk>, slot: u32) -> Result<u8, FrameFault>
     Ok(block[0])
 }
 
-/// A store of three versions, of which the last one alone is left, and then of a fourth: its block takes the least free slot.
-fn print_slots(rt: &(impl Print + AllocGlobal)) -> Result<()> {
-    let alloc = rt.alloc();
-    let mut brick = Brick::make(alloc, MemDisk::new(alloc, Vec::new(alloc)), 100)?;
-    let changes = [(1, 11), (2, 12), (3, 13)];
-    for (time, byte) in changes {
-        brick.apply(alloc, Change::Version(time, byte))?;
-    }
-    brick.apply(alloc, Change::Collect(3))?;
-    brick.apply(alloc, Change::Version(4, 14))?;
-    let mut store = match open_store(alloc, brick.into_disk(), 5, 2, 100) {
-        Ok(store) => store,
-        Err((fault, _)) => return Err(fault.into()),
-    };
+fn print_slots<D: Disk>(rt: &impl Print, store: &mut FrameStore<D>) -> Result<()> {
     for slot in 0..4 {
-        println!(rt; "slot {slot}: {}", byte_in(&mut store, slot)?)?;
+        println!(rt; "slot {slot}: {}", byte_in(store, slot)?)?;
     }
     Ok(())
 }
 
-/// The bytes of a list that was just made on a real file: two headers, a slot, and a closed gate.
-fn print_format<R: Files<File = File> + Print + AllocGlobal>(rt: &R) -> Result<()> {
-    let path = "store_cases_format";
+/// Prints the first bytes of the slots of the brick's store on a disk.
+fn print_slots_on<D: Disk + Drop>(rt: &(impl Print + AllocGlobal), disk: D) -> Result<()> {
+    match open_store(rt.alloc(), disk, 5, 2, ROOMY) {
+        Ok(mut store) => print_slots(rt, &mut store),
+        Err((fault, _)) => Err(fault.into()),
+    }
+}
+
+/// A store of three versions, of which the last one alone is left, and then of a fourth: its block takes the least free slot.
+fn reuse_slots(rt: &(impl Print + AllocGlobal)) -> Result<()> {
+    let alloc = rt.alloc();
+    let changes = [
+        Change::Version(1, 11),
+        Change::Version(2, 12),
+        Change::Version(3, 13),
+        Change::Collect(3),
+        Change::Version(4, 14),
+    ];
+    print_slots_on(rt, disk_after(alloc, empty_disk(alloc), &changes)?)
+}
+
+/// Makes a list in a new file.
+fn make_list<R: Files<File = File> + AllocGlobal>(rt: &R, path: &str) -> Result<()> {
     let mut disk = FileDisk::new(File::create_new(rt, path)?);
-    format(rt.alloc(), &mut disk, 258, 2, 1)?;
-    drop(disk);
+    Ok(format(rt.alloc(), &mut disk, 258, 2, 1)?)
+}
+
+/// The bytes of a file, which is removed.
+fn taken<R: Files<File = File> + AllocGlobal>(rt: &R, path: &str) -> io::Result<Vec<u8>> {
     let bytes = fs::read(rt, path)?;
     fs::remove_file(rt, path)?;
+    Ok(bytes)
+}
+
+/// The bytes of a list that was just made on a real file: two headers, a slot, and a closed gate.
+fn bytes_of_new<R: Files<File = File> + AllocGlobal>(rt: &R) -> Result<Vec<u8>> {
+    let path = "store_cases_format";
+    make_list(rt, path)?;
+    Ok(taken(rt, path)?)
+}
+
+fn print_bytes(rt: &impl Print, bytes: &[u8]) -> io::Result<()> {
+    print!(rt; "format:")?;
+    for byte in bytes {
+        print!(rt; " {byte:02x}")?;
+    }
+    println!(rt;)
+}
+
+fn print_format(rt: &impl Print, bytes: &[u8]) -> io::Result<()> {
     for piece in bytes.chunks(32) {
-        print!(rt; "format:")?;
-        for byte in piece {
-            print!(rt; " {byte:02x}")?;
-        }
-        println!(rt;)?;
+        print_bytes(rt, piece)?;
+    }
+    Ok(())
+}
+
+/// Why a list is not opened on whose disk another brick's was made.
+fn refusal(alloc: Global) -> Result<Option<FrameFault>, FrameFault> {
+    let disk = fresh_disk(alloc, &[258, 259])?;
+    Ok(opened(alloc, disk).err())
+}
+
+fn print_stale(rt: &(impl Print + AllocGlobal)) -> Result<()> {
+    let most = most_stale_frames(rt.alloc())?;
+    println!(rt; "frames of a stale list: {most}")?;
+    Ok(())
+}
+
+fn print_refusal(rt: &(impl Print + AllocGlobal)) -> Result<()> {
+    if let Some(fault) = refusal(rt.alloc())? {
+        println!(rt; "another brick's list: {fault:?}")?;
     }
     Ok(())
 }
 
 /// Prints what is found of them.
 pub fn run<R: Files<File = File> + Print + AllocGlobal>(rt: &R) -> Result<()> {
-    let alloc = rt.alloc();
-    print_format(rt)?;
-    print_slots(rt)?;
-    println!(rt; "frames of a stale list: {}", stale_frames(alloc)?)?;
-    let mut disk = MemDisk::new(alloc, Vec::new(alloc));
-    for brick in [258, 259] {
-        format(alloc, &mut disk, brick, 2, 1)?;
-    }
-    if let Err(fault) = opened(alloc, disk) {
-        println!(rt; "another brick's list: {fault:?}")?;
-    }
-    Ok(())
+    print_format(rt, &bytes_of_new(rt)?)?;
+    reuse_slots(rt)?;
+    print_stale(rt)?;
+    print_refusal(rt)
 }
