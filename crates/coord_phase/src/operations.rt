@@ -13,7 +13,7 @@ use std::alloc::Global;
 use std::marker::Model;
 
 /// How far an operation is: its stamp, how many rounds of ordering it has begun, the call of its phase, and what the phase asks.
-#[derive(Clone, Copy, Debug)]
+#[derive(Clone, Copy)]
 pub struct Stage {
     /// The operation's stamp.
     pub stamp: Stamp,
@@ -26,7 +26,7 @@ pub struct Stage {
 }
 
 /// The version that an operation read back, and its content.
-#[derive(Debug, Drop)]
+#[derive(Drop)]
 pub(crate) struct ReadBack {
     pub(crate) base: Stamp,
     pub(crate) content: Bytes,
@@ -34,7 +34,7 @@ pub(crate) struct ReadBack {
 
 /// An open operation: the bytes of a block, the group with the members that are asked, what is asked, how far the operation is, what it
 /// read back, where it did, the replies that count in its phase, and what it told and stored.
-#[derive(Debug, Drop)]
+#[derive(Drop)]
 pub struct Operation {
     pub(crate) block: u16,
     pub(crate) group: Group,

@@ -11,7 +11,7 @@ use std::alloc::Global;
 
 /// The replies that count in a phase, in the order in which they came, and their tally by seat: a reply that tells a version reports
 /// its stamp.
-#[derive(Debug, Drop)]
+#[derive(Drop)]
 pub struct Replies {
     list: Vec<Counted>,
     tally: Tally,

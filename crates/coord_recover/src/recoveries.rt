@@ -4,20 +4,21 @@ ghost use Rattle.std.specs.Prelude.{◌≡◌, ◌-◌, ◌<◌, ◌^◌, true, 
 ghost use Rattle.protocol.specs.declared.phases.Phase.TheVariants.{Recovers};
 ghost use Rattle.protocol.specs.Coordinators.{read_back, greatest_found, greatest_refuser, once_ordered, unless_refused};
 ghost use Rattle.stripe_code.specs.Codes.{block_code};
+ghost use Rattle.coord_phase.specs.Messages.{phase_messages};
 ghost use Rattle.coord_phase.specs.Operations.{StaysAsked};
-ghost use Rattle.coord_phase.specs.Decisions.{SendsPhase, NeverRecovers, decision, note_told};
-ghost use Rattle.coord_recover.specs.Recoveries.{is_of_recovery};
+ghost use Rattle.coord_phase.specs.Decisions.{SendsPhase, NeverRecovers, HasBlocks, decision, note_told};
+ghost use Rattle.coord_recover.specs.Recoveries.{is_of_recovery, entered};
 
 use coord_phase::{Decide, Operation, Stage, group_in_view};
 use fab_base::{Ask, BrickId, CallId, NoMem, Note, Stamp, View};
 use layout::{Group, Layout};
-use messages::{Call, Message, Next, Turn};
+use messages::{Call, Message, Messages, Next, Turn};
 use protocol::Phase;
 use std::alloc::Global;
 use std::marker::Model;
 
 /// A stripe's recovery, under way for an operation.
-#[derive(Debug, Drop)]
+#[derive(Drop)]
 pub struct Recovery {
     alloc: Global,
     op: Operation,
@@ -33,6 +34,21 @@ impl Model for Recovery {
     ghost view = { λ recovery. recovery.op };
 
     ghost invariant = { λ recovery. is_of_recovery recovery.op.state.phase ≡ true };
+}
+
+/// Begins the recovery of the operation's stripe in the next phase of its call, and gives the phase's messages.
+fn take_turn(op: &mut Operation, alloc: Global, turn: Turn) -> Result<Messages, NoMem>
+    requires phase { op.old.state.call.phase < 2 ^ 32 - 1 }
+    requires content { HasBlocks op.old.block op.old.state.group.m turn }
+    ensures state { OnOk result (op.new ≡ entered op.old turn) }
+    ensures own { OnOk result (is_of_recovery op.new.state.phase ≡ true) }
+    ensures messages { IfOk result (λ messages. messages.items ≡ phase_messages op.new) }
+{
+    match turn {
+        Turn::Order => op.begin(alloc, op.next_stage(Phase::Recovers)),
+        Turn::Down(bound) => op.begin(alloc, op.next_stage(Phase::Descends(bound))),
+        Turn::Store { base, content } => op.restore(alloc, base, content),
+    }
 }
 
 /// Reads back the greatest version that the replies tell, and begins to store it, where they tell m blocks of it; else looks for
@@ -200,22 +216,8 @@ impl Recovery {
         ensures send { IfOk result (λ begun. IsSend begun.1) }
         ensures sent { IfOk result (λ begun. SendsPhase begun.0 begun.1) }
     {
-        match turn {
-            Turn::Order => {
-                let stage = op.next_stage(Phase::Recovers);
-                let messages = op.begin(alloc, stage)?;
-                Ok((Recovery { alloc, op }, Next::Send(messages)))
-            }
-            Turn::Down(bound) => {
-                let stage = op.next_stage(Phase::Descends(bound));
-                let messages = op.begin(alloc, stage)?;
-                Ok((Recovery { alloc, op }, Next::Send(messages)))
-            }
-            Turn::Store { base, content } => {
-                let messages = op.restore(alloc, base, content)?;
-                Ok((Recovery { alloc, op }, Next::Send(messages)))
-            }
-        }
+        let messages = take_turn(&mut op, alloc, turn)?;
+        Ok((Recovery { alloc, op }, Next::Send(messages)))
     }
 
     /// Whether a message counts: it is a reply to this very phase of the recovery, answers it, and is its member's first.

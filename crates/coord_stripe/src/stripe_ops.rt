@@ -18,7 +18,7 @@ use std::alloc::Global;
 use std::marker::Model;
 
 /// An open operation on a whole stripe.
-#[derive(Debug, Drop)]
+#[derive(Drop)]
 pub struct StripeOp {
     alloc: Global,
     op: Operation,

@@ -1,8 +1,9 @@
 //! A client's invocation, and its answer.
 
+ghost use Rattle.std.specs.Prelude.{◌≡◌, ◌≢◌};
 ghost use Rattle.fields.specs.Parts.{Adds};
 ghost use Rattle.fields.specs.Reading.{GivesOrNoMemory};
-ghost use Rattle.fab_wire.specs.Clients.{client_codec, answer_codec};
+ghost use Rattle.fab_wire.specs.Clients.{Refuse, client_codec, answer_codec, status_number};
 
 use crate::values::{put_op, take_op};
 use fab_base::{Answer, Cause, NoMem, Refusal};
@@ -27,14 +28,30 @@ pub fn put_client(out: &mut Vec<u8>, ask: &ClientAsk) -> Result<(), NoMem>
 pub fn take_client(alloc: Global, from: &mut Reader<'_>) -> Result<ClientAsk, ReadFault>
     ensures { GivesOrNoMemory result from.new.rest.now (client_codec.read from.old.rest.now) }
 {
+    let (id, (group, stripe)) = from.take()?;
     Ok(ClientAsk {
-        id: from.take()?,
-        group: from.take()?,
-        stripe: from.take()?,
+        id,
+        group,
+        stripe,
         op: take_op(from)?,
         block: from.take()?,
         bytes: take_content(alloc, from)?,
     })
+}
+
+// The status of a refusal that is sent.
+fn number_of_refusal(refusal: Refusal) -> u8
+    requires { refusal ≢ Refusal.Down }
+    ensures { result ≡ status_number (Refuse refusal) }
+{
+    match refusal {
+        Refusal::NoStripe => 16,
+        Refusal::NoBlock => 17,
+        Refusal::Length => 18,
+        Refusal::Busy => 19,
+        Refusal::Spent => 20,
+        Refusal::Down => unreachable!(),
+    }
 }
 
 /// Adds the answer to a client's invocation: its status, and what goes with it.
@@ -55,12 +72,7 @@ pub fn put_answer(out: &mut Vec<u8>, answer: &ClientAnswer) -> Result<(), NoMem>
             Cause::Full { brick, live } => (4u8, (brick, live)).put(out),
             Cause::Moved { brick, view } => (5u8, (brick, view)).put(out),
         },
-        ClientAnswer::Refused(Refusal::NoStripe) => 16u8.put(out),
-        ClientAnswer::Refused(Refusal::NoBlock) => 17u8.put(out),
-        ClientAnswer::Refused(Refusal::Length) => 18u8.put(out),
-        ClientAnswer::Refused(Refusal::Busy) => 19u8.put(out),
-        ClientAnswer::Refused(Refusal::Spent) => 20u8.put(out),
-        ClientAnswer::Refused(Refusal::Down) => unreachable!(),
+        ClientAnswer::Refused(refusal) => number_of_refusal(*refusal).put(out),
     }
 }
 
@@ -72,19 +84,21 @@ pub fn take_answer(alloc: Global, from: &mut Reader<'_>) -> Result<ClientAnswer,
     let answer = match from.take()? {
         0u8 => Answer::Data(take_content(alloc, from)?),
         1 => Answer::Done,
-        2 => Answer::Aborted(Cause::Later {
+        2 => {
+            let (brick, stamp) = from.take()?;
+            Answer::Aborted(Cause::Later { brick, stamp })
+        }
+        3 => Answer::Aborted(Cause::Gone {
             brick: from.take()?,
-            stamp: from.take()?,
         }),
-        3 => Answer::Aborted(from.take().map(|brick| Cause::Gone { brick })?),
-        4 => Answer::Aborted(Cause::Full {
-            brick: from.take()?,
-            live: from.take()?,
-        }),
-        5 => Answer::Aborted(Cause::Moved {
-            brick: from.take()?,
-            view: from.take()?,
-        }),
+        4 => {
+            let (brick, live) = from.take()?;
+            Answer::Aborted(Cause::Full { brick, live })
+        }
+        5 => {
+            let (brick, view) = from.take()?;
+            Answer::Aborted(Cause::Moved { brick, view })
+        }
         16 => return Ok(ClientAnswer::Refused(Refusal::NoStripe)),
         17 => return Ok(ClientAnswer::Refused(Refusal::NoBlock)),
         18 => return Ok(ClientAnswer::Refused(Refusal::Length)),

@@ -1,12 +1,13 @@
 //! Messages as the bytes of a datagram, and back.
 
-ghost use Rattle.std.specs.Prelude.{◌≡◌, ◌<◌, ◌+◌, ◌↔◌, List, ℕ, length, IfOk, IfErr, IfSome, IsNone};
+ghost use Rattle.std.specs.Prelude.{◌≡◌, ◌<◌, ◌+◌, ◌↔◌, ◌∷◌, List, ℕ, length, IfOk, IfErr, IfSome, IsNone};
 ghost use Rattle.messages.specs.declared.packets.Message.{Message};
-ghost use Rattle.fields.specs.Parts.{Adds};
-ghost use Rattle.fields.specs.Reading.{GivesOrNoMemory, GivesAll};
+ghost use Rattle.fields.specs.Kinds.{kinds_at};
+ghost use Rattle.fields.specs.Parts.{Adds, exactly};
+ghost use Rattle.fields.specs.Reading.{Gives, GivesOrNoMemory, GivesAll, as_at, then_at, exactly_at};
 ghost use Rattle.fields.specs.Values.{ballot_codec, stamp_codec};
 ghost use Rattle.fab_wire.specs.Values.{call_codec};
-ghost use Rattle.fab_wire.specs.Spelling.{HasSpelling, fields_of, message_codec, datagram_of, Spells, MalformedIs, IsAt};
+ghost use Rattle.fab_wire.specs.Spelling.{HasSpelling, fields_of, message_codec, datagram_of, kind_number, kind_value, message_kind, body_parts, body_at, Spells, MalformedIs, IsAt};
 
 use crate::clients::{put_answer, put_client, take_answer, take_client};
 use crate::phases::{
@@ -14,7 +15,7 @@ use crate::phases::{
 };
 use crate::values::{put_call, take_call};
 use fab_base::{Ballot, Bytes, NoMem, Stamp};
-use fields::{Field, ReadFault, Reader};
+use fields::{Field, Malformed, ReadFault, Reader};
 use messages::{Call, Message};
 use std::alloc::Global;
 use thiserror::Error;
@@ -102,13 +103,12 @@ pub fn read_ballot(bytes: &[u8], at: usize) -> Option<Ballot>
     Ballot::take(&mut Reader { rest }).ok()
 }
 
-/// Adds the message's bytes.
-#[tactic(auto, using(fields::proofs::Writings::joined), unfolding(crate::specs::Spelling::message_fields))]
-fn put_message(out: &mut Vec<u8>, message: &Message) -> Result<(), NoMem>
+/// Adds the number of the message's kind, and its fields.
+#[tactic(auto, using(fields::proofs::Writings::joined))]
+fn put_body(out: &mut Vec<u8>, message: &Message) -> Result<(), NoMem>
     requires { HasSpelling message.now }
-    ensures { Adds result out.old.items out.new.items (fields_of message.now) }
+    ensures { Adds result out.old.items out.new.items (exactly (kind_number (message_kind message.now)) ∷ body_parts message.now) }
 {
-    (FABW, VERSION).put(out)?;
     match message {
         Message::Request(call, request) => {
             number_of_request(request).put(out)?;
@@ -136,13 +136,24 @@ fn put_message(out: &mut Vec<u8>, message: &Message) -> Result<(), NoMem>
     }
 }
 
+/// Adds the message's bytes.
+#[tactic(auto, using(fields::proofs::Writings::joined), unfolding(crate::specs::Spelling::message_fields))]
+fn put_message(out: &mut Vec<u8>, message: &Message) -> Result<(), NoMem>
+    requires { HasSpelling message.now }
+    ensures { Adds result out.old.items out.new.items (fields_of message.now) }
+{
+    (FABW, VERSION).put(out)?;
+    put_body(out, message)
+}
+
 /// The message that is all of the bytes.
-#[tactic(auto, unfolding(crate::specs::Spelling::datagram_of))]
+#[tactic(auto, unfolding(crate::specs::Spelling::datagram_of, crate::specs::Spelling::message_fields))]
 fn take_datagram(alloc: Global, bytes: &[u8]) -> Result<Message, ReadFault>
     ensures { GivesAll result (datagram_of bytes.now) }
 {
     let mut from = Reader { rest: bytes };
-    let message = take_message(alloc, &mut from)?;
+    take_start(&mut from)?;
+    let message = take_body(alloc, &mut from)?;
     if from.rest.is_empty() {
         Ok(message)
     } else {
@@ -150,32 +161,38 @@ fn take_datagram(alloc: Global, bytes: &[u8]) -> Result<Message, ReadFault>
     }
 }
 
-/// Reads a message.
-#[tactic(auto, unfolding(crate::specs::Spelling::message_fields))]
-fn take_message(alloc: Global, from: &mut Reader<'_>) -> Result<Message, ReadFault>
-    ensures { GivesOrNoMemory result from.new.rest.now (message_codec.read from.old.rest.now) }
+/// Reads the four bytes FABW and the version.
+fn take_start(from: &mut Reader<'_>) -> Result<(), Malformed>
+    ensures { Gives result from.new.rest.now (as_at (λ p. p.0) (then_at (exactly_at 4 1178681943) (exactly_at 1 1)) from.old.rest.now) }
 {
     let left = from.rest.len();
     if from.take::<u32>()? != FABW {
-        return Err(ReadFault::Malformed(left));
+        return Err(Malformed { left });
     }
     let left = from.rest.len();
     if from.take::<u8>()? != VERSION {
-        return Err(ReadFault::Malformed(left));
+        return Err(Malformed { left });
     }
+    Ok(())
+}
+
+/// Reads the kind of a message, and the fields of that kind.
+fn take_body(alloc: Global, from: &mut Reader<'_>) -> Result<Message, ReadFault>
+    ensures { GivesOrNoMemory result from.new.rest.now (kinds_at kind_value body_at from.old.rest.now) }
+{
     let left = from.rest.len();
     let number = from.take()?;
     Ok(match number {
         1..=9 => { Message::Request(take_call(from)?, take_request(alloc, from, number)?) }
         32..=45 => Message::Reply(take_call(from)?, take_reply(alloc, from, number)?),
-        10 => Message::Learn {
-            group: from.take()?,
-            view: from.take()?,
-        },
-        11 => Message::Synced {
-            group: from.take()?,
-            view: from.take()?,
-        },
+        10 => {
+            let (group, view) = from.take()?;
+            Message::Learn { group, view }
+        }
+        11 => {
+            let (group, view) = from.take()?;
+            Message::Synced { group, view }
+        }
         64 => Message::Client(take_client(alloc, from)?),
         65 => Message::ClientReply {
             id: from.take()?,

@@ -6,6 +6,7 @@ ghost use Rattle.fields.specs.Reading.{GivesOrNoMemory};
 ghost use Rattle.fields.specs.Kinds.{kind_of, parts_of, LimitsOf, read_of};
 ghost use Rattle.fab_wire.specs.Requests.{request_number, request_of, request_row, request_view};
 ghost use Rattle.fab_wire.specs.Replies.{reply_number, reply_of, reply_row, reply_view};
+ghost use Rattle.fab_wire.specs.Values.{choice_of, lineage_of};
 
 use crate::values::{
     put_look, put_version, put_want, take_data_block, take_look, take_version, take_want,
@@ -56,8 +57,7 @@ pub fn put_request(out: &mut Vec<u8>, request: &Request) -> Result<(), NoMem>
             data_block,
             delta,
         } => {
-            stamp.put(out)?;
-            base.put(out)?;
+            (*stamp, *base).put(out)?;
             data_block.put(out)?;
             put_block(out, delta)
         }
@@ -75,8 +75,12 @@ pub fn take_request(alloc: Global, from: &mut Reader<'_>, number: u8) -> Result<
     ensures { GivesOrNoMemory result from.new.rest.now (read_of (request_row (request_of number)) from.old.rest.now) }
 {
     Ok(match number {
-        1 => take_want(from).map(|want| Request::Read { want })?,
-        2 => from.take().map(|stamp| Request::Order { stamp })?,
+        1 => Request::Read {
+            want: take_want(from)?,
+        },
+        2 => Request::Order {
+            stamp: from.take()?,
+        },
         3 => Request::OrderRead {
             stamp: from.take()?,
             look: take_look(from)?,
@@ -86,20 +90,29 @@ pub fn take_request(alloc: Global, from: &mut Reader<'_>, number: u8) -> Result<
             stamp: from.take()?,
             block: take_block(alloc, from)?,
         },
-        5 => Request::Modify {
+        5 => {
+            let (stamp, base) = from.take()?;
+            Request::Modify {
+                stamp,
+                base,
+                data_block: take_data_block(from)?,
+                delta: take_block(alloc, from)?,
+            }
+        }
+        6 => Request::Collect {
             stamp: from.take()?,
-            base: from.take()?,
-            data_block: take_data_block(from)?,
-            delta: take_block(alloc, from)?,
         },
-        6 => from.take().map(|stamp| Request::Collect { stamp })?,
-        7 => from.take().map(|bound| Request::OldRead { bound })?,
-        8 => from.take().map(|ballot| Request::Prepare { ballot })?,
-        // The last kind of requests.
-        _ => Request::Accept {
+        7 => Request::OldRead {
+            bound: from.take()?,
+        },
+        8 => Request::Prepare {
             ballot: from.take()?,
-            members: from.take()?,
         },
+        // The last kind of requests.
+        _ => {
+            let (ballot, members) = from.take()?;
+            Request::Accept { ballot, members }
+        }
     })
 }
 
@@ -140,23 +153,42 @@ pub fn put_reply(out: &mut Vec<u8>, reply: &Reply) -> Result<(), NoMem>
         Reply::Behind { newest } => newest.put(out),
         Reply::Later { stamp } => stamp.put(out),
         Reply::Full { live } => live.put(out),
-        Reply::Moved { view, lineage } => {
-            let pair = lineage
-                .as_ref()
-                .map(|known| (known.members.copy(), known.prior.copy()));
-            (*view, pair).put(out)
-        }
-        Reply::Promise { accepted } => {
-            let pair = accepted
-                .as_ref()
-                .map(|choice| (choice.ballot, choice.members.copy()));
-            pair.put(out)
-        }
+        Reply::Moved { view, lineage } => match lineage {
+            None => (*view, false).put(out),
+            Some(known) => {
+                (*view, true).put(out)?;
+                known.members.put(out)?;
+                known.prior.put(out)
+            }
+        },
+        Reply::Promise { accepted } => match accepted {
+            None => false.put(out),
+            Some(choice) => {
+                (true, choice.ballot).put(out)?;
+                choice.members.put(out)
+            }
+        },
         Reply::Outbid { ballot } => ballot.put(out),
         // These have no fields.
         Reply::Ordered | Reply::Stored | Reply::Retired => Ok(()),
         Reply::Accepted | Reply::NotSynced => Ok(()),
     }
+}
+
+// The members of a view and those of the view before, if they are known.
+fn lineage_of(known: Option<(Members, Members)>) -> Option<Lineage>
+    ensures { result ≡ lineage_of known }
+{
+    let (members, prior) = known?;
+    Some(Lineage { members, prior })
+}
+
+// What was accepted, if anything was.
+fn choice_of(accepted: Option<(Ballot, Members)>) -> Option<Choice>
+    ensures { result ≡ choice_of accepted }
+{
+    let (ballot, members) = accepted?;
+    Some(Choice { ballot, members })
 }
 
 /// Reads the fields of a reply, by the number of its kind.
@@ -169,26 +201,35 @@ pub fn take_reply(alloc: Global, from: &mut Reader<'_>, number: u8) -> Result<Re
             newest: take_version(alloc, from)?,
         },
         33 => Reply::Ordered,
-        34 => take_version(alloc, from).map(|found| Reply::OrderedRead { found })?,
-        35 => Reply::Stored,
-        36 => from.take().map(|newest| Reply::Behind { newest })?,
-        37 => from.take().map(|stamp| Reply::Later { stamp })?,
-        38 => Reply::Full { live: from.take()? },
-        39 => Reply::Moved {
-            view: from.take()?,
-            lineage: from
-                .take::<Option<(Members, Members)>>()?
-                .map(|(members, prior)| Lineage { members, prior }),
+        34 => Reply::OrderedRead {
+            found: take_version(alloc, from)?,
         },
-        40 => take_version(alloc, from).map(|found| Reply::Old { found })?,
+        35 => Reply::Stored,
+        36 => Reply::Behind {
+            newest: from.take()?,
+        },
+        37 => Reply::Later {
+            stamp: from.take()?,
+        },
+        38 => Reply::Full { live: from.take()? },
+        39 => {
+            let (view, known) = from.take()?;
+            Reply::Moved {
+                view,
+                lineage: lineage_of(known),
+            }
+        }
+        40 => Reply::Old {
+            found: take_version(alloc, from)?,
+        },
         41 => Reply::Retired,
         42 => Reply::Promise {
-            accepted: from
-                .take::<Option<(Ballot, Members)>>()?
-                .map(|(ballot, members)| Choice { ballot, members }),
+            accepted: choice_of(from.take()?),
         },
         43 => Reply::Accepted,
-        44 => from.take().map(|ballot| Reply::Outbid { ballot })?,
+        44 => Reply::Outbid {
+            ballot: from.take()?,
+        },
         // The last kind of replies.
         _ => Reply::NotSynced,
     })

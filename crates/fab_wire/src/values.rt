@@ -15,14 +15,8 @@ use std::alloc::Global;
 pub fn put_call(out: &mut Vec<u8>, call: Call) -> Result<(), NoMem>
     ensures { Adds result out.old.items out.new.items (call_codec.parts call) }
 {
-    (
-        call.boot,
-        (
-            call.seq,
-            (call.phase, (call.group, (call.view, call.stripe))),
-        ),
-    )
-        .put(out)
+    let place = (call.group, (call.view, call.stripe));
+    (call.boot, (call.seq, (call.phase, place))).put(out)
 }
 
 /// Reads a call.
@@ -30,13 +24,14 @@ pub fn put_call(out: &mut Vec<u8>, call: Call) -> Result<(), NoMem>
 pub fn take_call(from: &mut Reader<'_>) -> Result<Call, Malformed>
     ensures { Gives result from.new.rest.now (call_codec.read from.old.rest.now) }
 {
+    let (boot, (seq, (phase, (group, (view, stripe))))) = from.take()?;
     Ok(Call {
-        boot: from.take()?,
-        seq: from.take()?,
-        phase: from.take()?,
-        group: from.take()?,
-        view: from.take()?,
-        stripe: from.take()?,
+        boot,
+        seq,
+        phase,
+        group,
+        view,
+        stripe,
     })
 }
 

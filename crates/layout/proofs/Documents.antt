@@ -1,5 +1,5 @@
 -- Texts as TOML documents.
-use Rattle.std.proofs.Common.{◌≡◌, ℕ, Bool, true, false, cond, codes, pos, List, Option, Some, None, Result, Ok, refl, ap, ◌∙◌}
+use Rattle.std.proofs.Common.{◌≡◌, ℕ, Bool, true, false, cond, codes, pos, List, Some, None, Ok, refl, ap, ◌∙◌}
 use Rattle.std.specs.Str.{IsUtf8, is_utf8, chars}
 use lib.Utf8.{encode}
 use Rattle.std.proofs.lemmas.Str.{IsUtf8-from_is_utf8, is_utf8-from_IsUtf8}

@@ -1,5 +1,5 @@
 -- What a layout text says.
-use Rattle.std.specs.Prelude.{ℕ, List, [], ◌∷◌, if◌then◌else◌, Option, None, Some, Result, Ok, Err}
+use Rattle.std.specs.Prelude.{ℕ, List, [], ◌∷◌, if◌then◌else◌, Option, None, Some, Result, Err}
 use Rattle.std.specs.Str.{is_utf8}
 use Rattle.fab_base.specs.Layouts.{Group, Layout}
 use Rattle.toml.specs.Data.{Members}

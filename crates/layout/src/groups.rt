@@ -9,7 +9,7 @@ use quorum::Policy;
 use std::marker::Model;
 
 /// A group: stripes that are kept by the same members, within the limits of a quorum.
-#[derive(Debug, Drop)]
+#[derive(Drop)]
 pub struct Group {
     members: Members,
     policy: Policy,

@@ -12,7 +12,7 @@ use std::alloc::Global;
 use std::marker::Model;
 
 /// The layout of a disk. Each value is within the limits of the format, as a text that says it.
-#[derive(Debug, Drop)]
+#[derive(Drop)]
 pub struct Layout {
     block: u16,
     bricks: u16,

@@ -5,7 +5,7 @@ ghost use Rattle.toml.specs.Data.{get_member};
 ghost use Rattle.toml.specs.View.{view, array_view, table_view};
 ghost use Rattle.layout.specs.Limits.{IsLayout};
 ghost use Rattle.layout.specs.Names.{key_text};
-ghost use Rattle.layout.specs.Checks.{integer_at, array_at, brick_in, natural, within, number_at, port_at, least_other, keys_of, integers_in, bricks_in, stands_in, are_distinct, members_at, blocks_at, group_in, tables_in, tables_at, groups_in, is_known, layout_in};
+ghost use Rattle.layout.specs.Checks.{integer_at, array_at, brick_in, natural, within, number_at, port_at, least_other, keys_of, no_other, top_keys, group_keys, integers_in, bricks_in, stands_in, are_distinct, members_at, blocks_at, group_in, tables_in, tables_at, groups_in, is_known, layout_in};
 
 use crate::faults::{FieldName, Key, KeyText, LayoutFault};
 use crate::groups::Group;
@@ -27,6 +27,13 @@ fn no_field(key: Key) -> LayoutFault
     LayoutFault::Field {
         name: FieldName::Known(key),
     }
+}
+
+// The fault of a value outside the limits of its key.
+fn limit(key: Key) -> LayoutFault
+    ensures { result ≡ LayoutFault.Limit key }
+{
+    LayoutFault::Limit { name: key }
 }
 
 // The value at a key, if there is one.
@@ -69,7 +76,7 @@ fn within(key: Key, low: u32, high: u32, number: Option<i64>) -> Result<u32, Lay
     ensures range { IfOk result (λ n. (low ≤ n) × (n ≤ high)) }
 {
     let number = number.ok_or(no_field(key))?;
-    natural(low, high, number).ok_or(LayoutFault::Limit { name: key })
+    natural(low, high, number).ok_or(limit(key))
 }
 
 // The number of a key that has to be there.
@@ -157,9 +164,6 @@ fn members_at(alloc: Global, table: &Table, m: u8, bricks: u16) -> Result<Member
         → members_at m bricks (table_view table.now) ≡ Err fault) }
     ensures seats { IfOk result (λ members. (m ≤ length members) × (length members ≤ 32)) }
 {
-    let limit = LayoutFault::Limit {
-        name: Key::GroupMembers,
-    };
     let Some(array) = array_at(table, Key::GroupMembers) else {
         return Err(no_field(Key::GroupMembers));
     };
@@ -167,13 +171,13 @@ fn members_at(alloc: Global, table: &Table, m: u8, bricks: u16) -> Result<Member
         return Err(no_field(Key::GroupMembers));
     };
     let Some(members) = bricks_in(alloc, bricks, numbers.as_slice())? else {
-        return Err(limit);
+        return Err(limit(Key::GroupMembers));
     };
     let members = members.as_slice();
     if members.len() < usize::from(m) || members.len() > 32 || !are_distinct(members) {
-        return Err(limit);
+        return Err(limit(Key::GroupMembers));
     }
-    Members::new(members).ok_or(limit)
+    Members::new(members).ok_or(limit(Key::GroupMembers))
 }
 
 // The number of data blocks of a group, if a stripe's data then has at most 32,768 bytes.
@@ -184,7 +188,7 @@ fn blocks_at(table: &Table, block: u16) -> Result<u8, LayoutFault>
 {
     let m = number_at(table, Key::GroupM, 1, 16)?;
     if m * u32::from(block) > 32_768 {
-        return Err(LayoutFault::Limit { name: Key::GroupM });
+        return Err(limit(Key::GroupM));
     }
     Ok(m as u8)
 }
@@ -207,6 +211,34 @@ fn other_key<'a>(table: &'a Table, known: &[Key]) -> Option<&'a str>
         }
     }
     None
+}
+
+// Refuses another key at the top than those of the format.
+fn refuse_other(alloc: Global, table: &Table) -> Result<(), LayoutFault>
+    ensures ok { IfOk result (λ known. no_other FieldName.Other top_keys (table_view table.now) ≡ Ok known) }
+    ensures err { IfErr result (λ fault. fault ≢ LayoutFault.NoMemory
+        → no_other FieldName.Other top_keys (table_view table.now) ≡ Err fault) }
+{
+    match other_key(table, &TOP_KEYS) {
+        None => Ok(()),
+        Some(text) => Err(LayoutFault::Field {
+            name: FieldName::Other(KeyText::from_str(alloc, text)?),
+        }),
+    }
+}
+
+// Refuses another key of a group than those of the format.
+fn refuse_other_of_group(alloc: Global, table: &Table) -> Result<(), LayoutFault>
+    ensures ok { IfOk result (λ known. no_other FieldName.OtherOfGroup group_keys (table_view table.now) ≡ Ok known) }
+    ensures err { IfErr result (λ fault. fault ≢ LayoutFault.NoMemory
+        → no_other FieldName.OtherOfGroup group_keys (table_view table.now) ≡ Err fault) }
+{
+    match other_key(table, &GROUP_KEYS) {
+        None => Ok(()),
+        Some(text) => Err(LayoutFault::Field {
+            name: FieldName::OtherOfGroup(KeyText::from_str(alloc, text)?),
+        }),
+    }
 }
 
 // The tables of a list, if it has nothing else.
@@ -238,7 +270,7 @@ fn tables_at(alloc: Global, table: &Table) -> Result<Vec<&Table>, LayoutFault>
         return Err(no_field(Key::Group));
     };
     if tables.is_empty() || tables.len() > 64 {
-        return Err(LayoutFault::Limit { name: Key::Group });
+        return Err(limit(Key::Group));
     }
     Ok(tables)
 }
@@ -253,11 +285,7 @@ fn group_in(alloc: Global, block: u16, bricks: u16, table: &Table) -> Result<Gro
     let m = blocks_at(table, block)?;
     let members = members_at(alloc, table, m, bricks)?;
     let stripes = number_at(table, Key::GroupStripes, 1, 65_536)?;
-    if let Some(text) = other_key(table, &GROUP_KEYS) {
-        return Err(LayoutFault::Field {
-            name: FieldName::OtherOfGroup(KeyText::from_str(alloc, text)?),
-        });
-    }
+    refuse_other_of_group(alloc, table)?;
     Ok(Group::new(members, m, stripes).unwrap())
 }
 
@@ -294,10 +322,6 @@ pub fn layout_in(alloc: Global, table: &Table) -> Result<Layout, LayoutFault>
     let port = port_at(table)? as u16;
     let tables = tables_at(alloc, table)?;
     let groups = groups_in(alloc, block, bricks, tables.as_slice())?;
-    if let Some(text) = other_key(table, &TOP_KEYS) {
-        return Err(LayoutFault::Field {
-            name: FieldName::Other(KeyText::from_str(alloc, text)?),
-        });
-    }
+    refuse_other(alloc, table)?;
     Ok(Layout::new(alloc, block, bricks, records, port, groups))
 }

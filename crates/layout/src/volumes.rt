@@ -7,7 +7,7 @@ use std::alloc::Global;
 use std::marker::Model;
 
 /// A volume: stripes that a client sees as one run of bytes.
-#[derive(Debug, Drop)]
+#[derive(Drop)]
 pub struct Volume {
     name: String,
     segments: Vec<Segment>,

@@ -10,7 +10,7 @@ use std::alloc::Global;
 pub const LINE_LIMIT: usize = 70_000;
 
 /// What an operation is to do with its stripe.
-#[derive(Debug, Drop)]
+#[derive(Drop)]
 pub enum Access {
     /// To read all data blocks.
     ReadStripe,
@@ -20,7 +20,7 @@ pub enum Access {
 
 /// What a line of a schedule says. Its numbers are any below 2^64: whether there is such a brick, group, stripe or
 /// message is for the one who runs the line to find.
-#[derive(Debug, Drop)]
+#[derive(Drop)]
 pub enum Line {
     /// Nothing: the line is blank, or its first token begins with `#`.
     Nothing,

@@ -16,7 +16,7 @@ use std::marker::Model;
 pub const READ_LEN: usize = 4096;
 
 /// An answer to the question for the next line.
-#[derive(Debug, Drop)]
+#[derive(Drop)]
 pub enum Piece {
     /// The next line, with its line feed. It was taken.
     Whole(Bytes),

@@ -1,5 +1,5 @@
 -- Records of several kinds, each read by the row of its number.
-use Rattle.std.proofs.Common.{◌≡◌, ℕ, Bool, cond, eqb, List, ◌++◌, Option, Some, None, Ok, refl, sym, ap, subst, ◌∙◌, inl, inr}
+use Rattle.std.proofs.Common.{◌≡◌, ℕ, eqb, List, ◌++◌, Option, Some, None, Ok, refl, sym, ap, subst, ◌∙◌, inl, inr}
 use Rattle.std.proofs.lemmas.Bool.{eqb-true}
 use Rattle.fields.specs.Parts.{Part, spelled, AllFit}
 use Rattle.fields.specs.Reading.{Reads}

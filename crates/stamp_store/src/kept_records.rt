@@ -9,7 +9,7 @@ use fields::{Field, Malformed, Reader};
 use std::alloc::Global;
 
 /// A record of a brick's store.
-#[derive(Debug, Drop)]
+#[derive(Drop)]
 pub enum Kept {
     /// How often the store was opened.
     Boot(u32),
@@ -143,27 +143,36 @@ impl Kept {
     {
         Ok(match kind {
             1 => Kept::Boot(from.take()?),
-            2 => Kept::View {
-                group: from.take()?,
-                view: View {
-                    number: from.take()?,
-                    members: from.take()?,
-                    prior: from.take()?,
-                },
-                synced: from.take()?,
-            },
-            3 => Kept::Ballots {
-                group: from.take()?,
-                view: from.take()?,
-                promised: from.take()?,
-                accepted: from.take()?,
-            },
-            4 => Kept::Order {
-                group: from.take()?,
-                view: from.take()?,
-                stripe: from.take()?,
-                stamp: from.take()?,
-            },
+            2 => {
+                let (group, (number, (members, (prior, synced)))) = from.take()?;
+                Kept::View {
+                    group,
+                    view: View {
+                        number,
+                        members,
+                        prior,
+                    },
+                    synced,
+                }
+            }
+            3 => {
+                let (group, (view, (promised, accepted))) = from.take()?;
+                Kept::Ballots {
+                    group,
+                    view,
+                    promised,
+                    accepted,
+                }
+            }
+            4 => {
+                let (group, (view, (stripe, stamp))) = from.take()?;
+                Kept::Order {
+                    group,
+                    view,
+                    stripe,
+                    stamp,
+                }
+            }
             _ => {
                 return Err(Malformed {
                     left: from.rest.len(),

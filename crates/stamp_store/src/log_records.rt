@@ -9,7 +9,7 @@ use fields::{Field, Malformed, Reader};
 use std::alloc::Global;
 
 /// What happens to a log.
-#[derive(Clone, Copy, Debug, PartialEq, Eq)]
+#[derive(Clone, Copy, PartialEq, Eq)]
 pub enum LogChange {
     /// A version is added whose block is that of the version below it.
     Same,
@@ -25,7 +25,7 @@ pub enum LogChange {
 }
 
 /// A record of a change of one log.
-#[derive(Clone, Copy, Debug, PartialEq, Eq)]
+#[derive(Clone, Copy, PartialEq, Eq)]
 pub struct Logged {
     /// The group.
     pub group: GroupId,
@@ -111,16 +111,16 @@ impl Logged {
         match kind {
             6 => Logged::take_change(LogChange::Same, from),
             7 => Logged::take_change(LogChange::Collect, from),
-            8 => Ok(Logged {
-                group: from.take()?,
-                view: from.take()?,
-                stripe: from.take()?,
-                stamp: from.take()?,
-                change: LogChange::Slot {
-                    bottom: from.take()?,
-                    slot: from.take()?,
-                },
-            }),
+            8 => {
+                let (group, (view, (stripe, (stamp, (bottom, slot))))) = from.take()?;
+                Ok(Logged {
+                    group,
+                    view,
+                    stripe,
+                    stamp,
+                    change: LogChange::Slot { bottom, slot },
+                })
+            }
             _ => Err(Malformed {
                 left: from.rest.len(),
             }),
@@ -131,11 +131,12 @@ impl Logged {
     fn take_change(change: LogChange, from: &mut Reader<'_>) -> Result<Logged, Malformed>
         ensures { Gives result from.new.rest.now (as_at (made_change change) place_fields.read from.old.rest.now) }
     {
+        let (group, (view, (stripe, stamp))) = from.take()?;
         Ok(Logged {
-            group: from.take()?,
-            view: from.take()?,
-            stripe: from.take()?,
-            stamp: from.take()?,
+            group,
+            view,
+            stripe,
+            stamp,
             change,
         })
     }

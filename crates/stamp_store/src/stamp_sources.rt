@@ -7,7 +7,7 @@ use fab_base::{BrickId, Stamp, ViewNo};
 
 /// Makes the stamps of one brick since one opening of its store. Each has a greater time than all that it made or saw before
 /// (Frølund 2004, `newTS`).
-#[derive(Clone, Copy, Debug, PartialEq, Eq)]
+#[derive(Clone, Copy, PartialEq, Eq)]
 pub struct StampSource {
     /// How often the brick's store had been opened, from 1.
     pub boot: u32,

@@ -1,5 +1,5 @@
 -- What was read is within the limits, as all that the checks accept.
-use Rattle.std.proofs.Common.{arith}
+use Rattle.std.proofs.Common.{arith, rules}
 use Rattle.std.proofs.lemmas.Grind.{common_steps}
 use Rattle.toml.specs.View.{table_view}
 use Rattle.fab_base.specs.Layouts.{Layout}
@@ -12,3 +12,24 @@ new-requires c =
     let said : Layout =
     layout_with c.in_ok-block.field-0 c.in_ok-bricks.field-0 c.in_ok-records.records c.in_ok-port.field-0 c.in_ok-groups.groups.items in
     layout_is (table_view c.args.table.now) said (grind (arith, common_steps))
+
+pub returns-in_err-block : goal.returns-in_err-block
+returns-in_err-block c = search rules
+
+pub returns-in_err-bricks : goal.returns-in_err-bricks
+returns-in_err-bricks c = search rules
+
+pub returns-in_err-records : goal.returns-in_err-records
+returns-in_err-records c = search rules
+
+pub returns-in_err-port : goal.returns-in_err-port
+returns-in_err-port c = search rules
+
+pub returns-in_err-tables : goal.returns-in_err-tables
+returns-in_err-tables c = search rules
+
+pub returns-in_err-groups : goal.returns-in_err-groups
+returns-in_err-groups c = search rules
+
+pub returns-in_err-refuse_other : goal.returns-in_err-refuse_other
+returns-in_err-refuse_other c = search rules

@@ -1,4 +1,4 @@
-use Rattle.std.proofs.Common.{◌≡◌, ℕ, List, length, take, Ok, Err, sym, ap, ◌∙◌, subst, arith}
+use Rattle.std.proofs.Common.{rules, ◌≡◌, ℕ, List, length, take, Ok, Err, sym, ap, ◌∙◌, subst, arith}
 use Rattle.std.specs.List.{position}
 use Rattle.std.proofs.KnownBytes.{Keeps-trans}
 use Rattle.lines.specs.Lines.{is_line_feed}
@@ -37,18 +37,6 @@ returns-in_err-fill-clause-reads g c =
     reads_err _ _ _ _ _ _ _ _ c.from_residual-in_err-fill.ensures.0 read
     (subst (IsBegun c.args.limit) (sym c.in_err-fill.ensures.err) here)
 
-pub returns-in_err-take_last-clause-reads : goal.returns-in_err-take_last-clause-reads
-returns-in_err-take_last-clause-reads g c =
-    let here = begun_of _ _ _ _ (sym c.first_line_feed.ensures.value ∙ c.in_default.is) c.without_return.ensures c.as_slice.ensures.value
-    c.if-without_return-limit.false in
-    let same = c.in_err-take_last.ensures.err in
-    let ended = c.in_ok-fill.ensures.end c.if-branch-eq0.true in
-    let read = HasRead-filled _ _ _ _ _ _ _ _ _ _ _ c.loop-at.invariant.reads here c.fill.ensures.reads in
-    reads_err _ _ _ _ _ _ _ _ c.from_residual-in_err-take_last.ensures.0
-    (subst (λ (l : List ℕ). HasRead c.args.limit c.args.self.now l (g.S.Source.told c.args.source.now) (g.S.Source.told c.fill.new.source)
-    (g.S.Source.came c.fill.new.source) (c.fill.new.source ≡ c.args.source.now)) (sym same) read)
-    (subst (IsBegun c.args.limit) (sym (same ∙ ended.0)) here)
-
 pub returns-then-branch-eq0-clause-reads : goal.returns-then-branch-eq0-clause-reads
 returns-then-branch-eq0-clause-reads g c =
     let here = begun_of _ _ _ _ (sym c.first_line_feed.ensures.value ∙ c.in_default.is) c.without_return.ensures c.as_slice.ensures.value
@@ -71,3 +59,21 @@ loop-at-preserved g c =
       reads = HasRead-filled _ _ _ _ _ _ _ _ _ _ _ c.loop-at.invariant.reads here c.fill.ensures.reads;
       held = omega (arith, here.1, stripped c.loop-at.self, c.in_ok-fill.ensures.grows, c.in_ok-fill.ensures.within);
     }
+
+pub returns-in_err-take_last : goal.returns-in_err-take_last
+returns-in_err-take_last g c =
+    let reads = (
+    let here = begun_of _ _ _ _ (sym c.first_line_feed.ensures.value ∙ c.in_default.is) c.without_return.ensures c.as_slice.ensures.value
+    c.if-without_return-limit.false in
+    let same = c.in_err-take_last.ensures.err in
+    let ended = c.in_ok-fill.ensures.end c.if-branch-eq0.true in
+    let read = HasRead-filled _ _ _ _ _ _ _ _ _ _ _ c.loop-at.invariant.reads here c.fill.ensures.reads in
+    reads_err _ _ _ _ _ _ _ _ c.from_residual-in_err-take_last.ensures.0
+    (subst (λ (l : List ℕ). HasRead c.args.limit c.args.self.now l (g.S.Source.told c.args.source.now) (g.S.Source.told c.fill.new.source)
+    (g.S.Source.came c.fill.new.source) (c.fill.new.source ≡ c.args.source.now)) (sym same) read)
+    (subst (IsBegun c.args.limit) (sym (same ∙ ended.0)) here)
+    ) in
+    search (rules, reads)
+
+pub returns-in_err-take : goal.returns-in_err-take
+returns-in_err-take g c = search rules
