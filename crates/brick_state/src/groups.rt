@@ -6,7 +6,7 @@ ghost use Rattle.brick_state.specs.States.{with_view, with_ballots};
 use fab_base::{Ballot, Members, View};
 
 /// What is kept of a group.
-#[derive(Debug, Drop)]
+#[derive(Drop)]
 pub struct Group {
     /// The greatest view learnt, above 1, and whether all its stripes are known to be in it.
     pub known: Option<(View, bool)>,

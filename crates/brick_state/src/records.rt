@@ -3,7 +3,7 @@
 use stamp_store::{Kept, Logged};
 
 /// A record of a brick's store.
-#[derive(Debug, Drop)]
+#[derive(Drop)]
 pub enum Record {
     /// A boot count, a view, ballots or an order stamp.
     Kept(Kept),

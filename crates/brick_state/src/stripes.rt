@@ -26,7 +26,7 @@ pub const FIRST_ENTRY: Entry = Version {
 };
 
 /// The order stamp and the log of a stripe in a view.
-#[derive(Debug, Drop)]
+#[derive(Drop)]
 pub struct Stripe {
     /// The order stamp: the greatest stamp promised.
     pub order: Stamp,

@@ -149,7 +149,7 @@ pub trait Disk {
 }
 
 /// What is to befall one of the coming calls of `write_at` and `sync`, counted from 1.
-#[derive(Clone, Copy, Debug, PartialEq, Eq)]
+#[derive(Clone, Copy, PartialEq, Eq)]
 pub enum Plan {
     /// None of them.
     Never,

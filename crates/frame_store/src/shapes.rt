@@ -2,7 +2,7 @@
 
 ghost use Rattle.std.specs.Prelude.{◌≡◌, ◌≤◌, ◌<◌, ◌+◌};
 /// What a store is made for: a brick, the bytes of a block, how many slots there are, and where these begin.
-#[derive(Clone, Copy, Debug, PartialEq, Eq)]
+#[derive(Clone, Copy, PartialEq, Eq)]
 pub struct Shape {
     /// The brick.
     pub me: u16,
@@ -15,7 +15,7 @@ pub struct Shape {
 }
 
 /// A half of the index, with its header.
-#[derive(Clone, Copy, Debug, PartialEq, Eq)]
+#[derive(Clone, Copy, PartialEq, Eq)]
 pub enum Half {
     /// The half whose header stands first.
     A,

@@ -14,7 +14,7 @@ use std::alloc::Global;
 
 /// Versions with rising stamps, each with its block, or with what is kept of it. Look-ups take logarithmic time. Only
 /// `add` and `reserve` take memory.
-#[derive(Debug, Drop)]
+#[derive(Drop)]
 pub struct VersionLog<B> {
     versions: Vec<Version<B>>,
     ghost rising: { IsRising versions.items },

@@ -3,7 +3,7 @@
 use fab_base::Stamp;
 
 /// A version: its stamp, and its block, or what is kept of it.
-#[derive(Clone, Copy, Debug, Drop, PartialEq, Eq)]
+#[derive(Clone, Copy, Drop, PartialEq, Eq)]
 pub struct Version<B> {
     /// The stamp.
     pub stamp: Stamp,

@@ -1,5 +1,5 @@
 -- The append, after room was made for it.
-use Rattle.std.proofs.Common.{◌≡◌, ◌++◌, ◌∷◌, [], ℕ, Some, None, List, length, Ok, Err, refl, sym, ap, subst, ◌∙◌, arith}
+use Rattle.std.proofs.Common.{rules, ◌≡◌, ◌++◌, ◌∷◌, [], ℕ, Some, None, List, length, Ok, Err, refl, sym, ap, subst, ◌∙◌, arith}
 use Rattle.std.proofs.lemmas.Result.{err_from_is_err_and}
 use Rattle.frame_store.specs.declared.faults.FrameFault.{FrameFault}
 use Rattle.frame_store.specs.declared.shapes.Shape.{Shape}
@@ -82,3 +82,6 @@ returns-clause-run g c =
     run_whole d.tells d.moment d.plan d.unlisted _ old.disk c.append.new.self.disk _ _ _ _ refl refl (λ bad. absurd cc)
     (run_both d.tells d.moment d.plan d.unlisted _ 4 _ old.disk mid.disk c.append.new.self.disk _ _ _ _ sum refl (λ a b. a refl)
     c.in_ok-make_room.ensures.run c.in_ok-append.ensures.run)
+
+pub returns-in_err-make_room : goal.returns-in_err-make_room
+returns-in_err-make_room g c = search rules

@@ -1,5 +1,5 @@
 -- The frames of the live records bring the state back, and all memory is taken first.
-use Rattle.std.proofs.Common.{◌≡◌, ◌+◌, false, List, length, Err, refl, sym, ap, subst, ◌∙◌, arith}
+use Rattle.std.proofs.Common.{rules, ◌≡◌, ◌+◌, false, List, length, Err, refl, sym, ap, subst, ◌∙◌, arith}
 use Rattle.std.proofs.lemmas.Result.{err_from_is_err_and}
 use Rattle.frame_store.specs.declared.faults.FrameFault.{FrameFault}
 use Rattle.frame_store.specs.declared.frames.Frame.{Frame}
@@ -128,3 +128,9 @@ returns-clause-room g c =
     let listed = ap length call.ok.frames in
     room_less d.has_room g.met.D.Disk.room_for_less new _ _ _ _ _ _ _ _ _ _ (omega arith) (omega (arith, block new.shape mid.shape call.ok.shape))
     (omega arith) (omega (arith, listed)) (omega arith) after
+
+pub returns-in_err-live : goal.returns-in_err-live
+returns-in_err-live g c = search rules
+
+pub returns-in_err-reserve : goal.returns-in_err-reserve
+returns-in_err-reserve g c = search rules

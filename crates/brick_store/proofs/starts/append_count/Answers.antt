@@ -1,5 +1,5 @@
 -- The append of a frame for which there is room.
-use Rattle.std.proofs.Common.{◌≡◌, ◌++◌, ◌∷◌, [], ℕ, Some, None, List, length, sym, ap, subst, arith}
+use Rattle.std.proofs.Common.{rules, ◌≡◌, ◌++◌, ◌∷◌, [], ℕ, Some, None, List, length, sym, ap, subst, arith}
 use Rattle.std.proofs.lemmas.Result.{err_from_is_err_and}
 use Rattle.frame_store.specs.declared.faults.FrameFault.{FrameFault}
 use Rattle.frame_store.specs.Listed.{frame_of}
@@ -45,8 +45,9 @@ returns-in_err-append-clause-no_memory g c =
     (omega (arith, len)) (omega arith) (omega (arith, len)) c.requires.room) (ap (refused {E = FrameFault}) (memory_refused f is)) in
     rw (p.1, p.2) never
 
-pub returns-clause-step : goal.returns-clause-step
-returns-clause-step g c =
+pub returns : goal.returns
+returns g c =
+    let step = (
     let d = g.D.Disk in
     let index = c.args.index.now in
     let st = state_of index in
@@ -62,3 +63,5 @@ returns-clause-step g c =
     (frame_of frame.kind bytes) c.args.item.now st c.requires.limits may.leads read c.requires.can in
     call_made d.tells d.seen d.may_leave d.moment d.left_since None st next
     (old.frames ++ frame_of frame.kind bytes ∷ []) old new may leads call.ok call.after call.durable call.any_moment call.read call.answer.halts
+    ) in
+    search (rules, step)

@@ -1,5 +1,5 @@
 -- The opening is counted.
-use Rattle.std.proofs.Common.{◌≡◌, ◌+◌, ℕ, None, OnOk, ap, subst, ◌∙◌}
+use Rattle.std.proofs.Common.{rules, ◌≡◌, ◌+◌, ℕ, None, OnOk, ap, subst, ◌∙◌}
 use Rattle.fab_disk.specs.Disk.{LeavesOnly}
 use Rattle.stamp_store.specs.declared.kept_records.Kept.TheVariants.{Boot}
 use Rattle.frame_store.specs.declared.shapes.Shape.{Shape}
@@ -34,3 +34,9 @@ returns-clause-moments g c = λ told closed.
     counted_moments d.moment d.left_since (d.may_leave old.disk) old.shape st (booted (c.args.index.now.boot + 1) st)
     (d.seen old.disk) old.disk mid.disk new.disk (d.seen mid.disk) (c.in_ok-make_appendable.ensures.slots told) (c.make_appendable.ensures.moments told closed)
     (subst (λ (s : StateOf Entry). LeavesOnly d.moment d.left_since mid.disk new.disk (IsMoment old.shape None st s (d.seen mid.disk))) is step)
+
+pub returns-in_err-frame : goal.returns-in_err-frame
+returns-in_err-frame g c = search rules
+
+pub returns-in_err-make_appendable : goal.returns-in_err-make_appendable
+returns-in_err-make_appendable g c = search rules

@@ -1,5 +1,5 @@
 -- What was read stands, and at each moment each image opens as it or was allowed before.
-use Rattle.std.proofs.Common.{◌≡◌, ◌+◌, ℕ, List, None, sym, ap, subst, ◌∙◌, arith}
+use Rattle.std.proofs.Common.{rules, ◌≡◌, ◌+◌, ℕ, List, None, sym, ap, subst, ◌∙◌, arith}
 use Rattle.std.specs.Prelude.{replicate}
 use Rattle.std.proofs.lemmas.Grind.{common_steps}
 use Rattle.fab_disk.specs.Disk.{LeavesOnly}
@@ -76,3 +76,9 @@ returns-clause-boots g c = λ ok. omega (
   c.in_ok-loaded.ensures.loaded.boots,
   ap (λ (x : StateOf Entry). x.boot) c.in_ok-loaded.ensures.loaded.found,
 )
+
+pub returns-in_err-vec : goal.returns-in_err-vec
+returns-in_err-vec g c = search rules
+
+pub returns-in_err-loaded : goal.returns-in_err-loaded
+returns-in_err-loaded g c = search rules

@@ -1,4 +1,4 @@
-use Rattle.std.proofs.Common.{◌≡◌, ℕ, ◌+◌, ◌*◌, ◌-◌, ◌<◌, Bool, false, min, List, [], length, take, drop, reverse, refl, sym, ◌∙◌, ap, arith}
+use Rattle.std.proofs.Common.{rules, ◌≡◌, ℕ, ◌+◌, ◌*◌, ◌-◌, ◌<◌, Bool, false, min, List, [], length, take, drop, reverse, refl, sym, ◌∙◌, ap, arith}
 use Rattle.std.proofs.lemmas.List.{length-append, length-take, length-drop, length-set}
 use Rattle.rand_pcg.specs.Lcg.{Lcg}
 use Rattle.fab_disk.specs.Pages.{page_bytes, spread, is_held, held_at}
@@ -99,8 +99,9 @@ loop-page-preserved c =
           record { for_pages = room.for_pages; for_end = room.for_end };
     }
 
-pub returns-clause-bytes : goal.returns-clause-bytes
-returns-clause-bytes c =
+pub returns : goal.returns
+returns c =
+    let bytes = (
     let old = c.args.content.now in
     let now = c.loop-page.content in
     let uncertain : ℕ → Bool = is_uncertain (past_of (reverse c.args.steps.now) []) old.len in
@@ -112,3 +113,5 @@ returns-clause-bytes c =
       c.saturating_sub.ensures,
     )))
     ∙ c.loop-page.invariant.bytes
+    ) in
+    search (rules, bytes)

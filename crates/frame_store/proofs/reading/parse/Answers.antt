@@ -32,3 +32,9 @@ loop-kind-preserved c =
 
 pub returns-clause-listed : goal.returns-clause-listed
 returns-clause-listed c = grind (arith, common_steps, frames_of-none)
+
+pub returns-in_err-body : goal.returns-in_err-body
+returns-in_err-body c = search rules
+
+pub returns-in_err-push : goal.returns-in_err-push
+returns-in_err-push c = search rules

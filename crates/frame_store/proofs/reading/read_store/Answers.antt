@@ -13,13 +13,6 @@ returns-in_default-clause-none g c = λ told is.
     let are = c.in_ok-headers.ensures.bytes told ∙ ap (λ (l : List ℕ). part 0 64 l) c.len.ensures.untouched.content in
     headers_none c.args.shape image c.in_ok-headers.headers whole are c.in_default.ensures.none
 
-pub returns-in_err-frames-clause-untouched : goal.returns-in_err-frames-clause-untouched
-returns-in_err-frames-clause-untouched g c =
-    let d = g.D.Disk in
-    untouched_both d.seen d.may_leave d.moment d.left_since g.met.D.Disk.counts_now c.args.disk.now c.read_headers.new.disk c.read_half.new.disk
-    (untouched_both d.seen d.may_leave d.moment d.left_since g.met.D.Disk.counts_now c.args.disk.now c.len.new.disk c.read_headers.new.disk c.len.ensures.untouched c.read_headers.ensures.untouched)
-    c.read_half.ensures.untouched
-
 pub returns-clause-untouched : goal.returns-clause-untouched
 returns-clause-untouched g c =
     let d = g.D.Disk in
@@ -50,3 +43,25 @@ returns-clause-laid g c = λ told.
     × (get_or l c.size_of-used.result 0 ≢ 165))) c.deref-3.ensures.value c.is_shut.ensures in
     read_laid c.args.shape image c.in_ok-headers.headers whole are half c.in-Some.generation c.in_ok-frames.frames.items c.in_ok-bytes.bytes.items c.size_of-used.result _ c.is_shut.result
     found.0 found.1 bytes listed stands within used shut iff.0 iff.1
+
+pub returns-in_err-frames : goal.returns-in_err-frames
+returns-in_err-frames g c =
+    let untouched = (
+    let d = g.D.Disk in
+    untouched_both d.seen d.may_leave d.moment d.left_since g.met.D.Disk.counts_now c.args.disk.now c.read_headers.new.disk c.read_half.new.disk
+    (untouched_both d.seen d.may_leave d.moment d.left_since g.met.D.Disk.counts_now c.args.disk.now c.len.new.disk c.read_headers.new.disk c.len.ensures.untouched c.read_headers.ensures.untouched)
+    c.read_half.ensures.untouched
+    ) in
+    search (rules, untouched)
+
+pub returns-in_err-size : goal.returns-in_err-size
+returns-in_err-size g c = search rules
+
+pub returns-then-size-lt64 : goal.returns-then-size-lt64
+returns-then-size-lt64 g c = search rules
+
+pub returns-in_err-headers : goal.returns-in_err-headers
+returns-in_err-headers g c = search rules
+
+pub returns-in_err-bytes : goal.returns-in_err-bytes
+returns-in_err-bytes g c = search rules

@@ -1,4 +1,4 @@
-use Rattle.std.proofs.Common.{◌≡◌, ◌+◌, length, Err, arith, refl}
+use Rattle.std.proofs.Common.{rules, ◌≡◌, ◌+◌, length, Err, arith, refl}
 use Rattle.fab_disk.proofs.Moments.{kept_both}
 use Rattle.frame_store.specs.declared.faults.FrameFault.TheVariants.{Disk}
 use Rattle.fab_disk.proofs.Plans.{run_both}
@@ -14,16 +14,21 @@ write_synced-requires-clause-room g c =
     g.met.D.Disk.room_for_less c.write_both_synced.new.disk 2 1 end 2 1 (c.args.gate + 1) (omega arith) (omega arith) (omega (arith, c.requires.gate))
     (c.in_ok-write_both_synced.ensures.left 2 1 end (omega arith) had)
 
-pub returns-clause-cause : goal.returns-clause-cause
-returns-clause-cause g c =
+pub returns : goal.returns
+returns g c =
+    let run = (
+    let d = g.D.Disk in
+    run_both d.tells d.moment d.plan d.unlisted 3 2 5 c.args.disk.now c.write_both_synced.new.disk c.write_synced.new.disk _ _ _ _ refl refl
+    (made_or_cut c.write_synced.result c.write_synced.ensures.only) c.in_ok-write_both_synced.ensures.run c.write_synced.ensures.run
+    ) in
+    let cause = (
     kept_both (g.D.Disk.faults c.args.disk.now) (g.D.Disk.faults c.write_both_synced.new.disk) (g.D.Disk.faults c.write_synced.new.disk)
     (g.D.Disk.sound c.args.disk.now)
     (g.D.Disk.sound c.write_both_synced.new.disk) (g.D.Disk.sound c.write_synced.new.disk) (c.write_both_synced.result ≡ Err Disk)
     (c.write_synced.result ≡ Err Disk)
     c.write_both_synced.ensures.cause c.write_synced.ensures.cause
+    ) in
+    search (rules, run, cause)
 
-pub returns-clause-run : goal.returns-clause-run
-returns-clause-run g c =
-    let d = g.D.Disk in
-    run_both d.tells d.moment d.plan d.unlisted 3 2 5 c.args.disk.now c.write_both_synced.new.disk c.write_synced.new.disk _ _ _ _ refl refl
-    (made_or_cut c.write_synced.result c.write_synced.ensures.only) c.in_ok-write_both_synced.ensures.run c.write_synced.ensures.run
+pub returns-in_err-write_both_synced : goal.returns-in_err-write_both_synced
+returns-in_err-write_both_synced g c = search rules

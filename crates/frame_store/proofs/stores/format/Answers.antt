@@ -1,4 +1,4 @@
-use Rattle.std.proofs.Common.{ℕ, ◌∷◌, [], List, Result, Ok, Err, OnOk, length, ◌<◌, true, sym, ◌∙◌, ap, subst, arith}
+use Rattle.std.proofs.Common.{rules, ℕ, ◌∷◌, [], List, Result, Ok, Err, OnOk, length, ◌<◌, true, sym, ◌∙◌, ap, subst, arith}
 use Rattle.fab_disk.specs.Disk.{written}
 use Rattle.frame_store.specs.declared.faults.FrameFault.{FrameFault}
 use Rattle.frame_store.specs.Layouts.{IsShape, shape_of}
@@ -36,3 +36,6 @@ returns-clause-slots g c = λ told.
     on_ok c.write_both_gated.result
     (λ is. subst (λ (l : List ℕ). (slot : ℕ) → slot < c.args.records → HasSlot shape (length l) slot) (sym (is ∙ same))
     (formatted_slots shape limits content)) (c.write_both_gated.ensures.written told)
+
+pub returns-in_err-reserve : goal.returns-in_err-reserve
+returns-in_err-reserve g c = search rules

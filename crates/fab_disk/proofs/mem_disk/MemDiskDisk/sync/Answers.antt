@@ -1,4 +1,4 @@
-use Rattle.std.proofs.Common.{◌≡◌, ◌+◌, List, sym, ◌∙◌, ap, subst}
+use Rattle.std.proofs.Common.{rules, ◌≡◌, ◌+◌, List, sym, ◌∙◌, ap, subst}
 use Rattle.fab_disk.specs.Past.{Past, IsImage}
 use Rattle.fab_disk.specs.PastLaws.{content_is_image}
 use Rattle.fab_disk.specs.Stored.{shown}
@@ -31,3 +31,6 @@ returns-in-Stops-clause-room c = record {
       (room_less c.reserve.new.self calls bytes 0 limit (c.reserve.ensures.room (calls + 1) (bytes + 0) limit had));
   enough = λ calls bytes limit le had refused. cc;
 }
+
+pub returns-in_err-reserve : goal.returns-in_err-reserve
+returns-in_err-reserve c = search rules

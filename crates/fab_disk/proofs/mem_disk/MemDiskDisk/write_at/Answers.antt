@@ -1,4 +1,4 @@
-use Rattle.std.proofs.Common.{◌+◌, List, ℕ, length, sym, subst}
+use Rattle.std.proofs.Common.{rules, ◌+◌, List, ℕ, length, sym, subst}
 use Rattle.fab_disk.specs.Past.{Past}
 use Rattle.fab_disk.specs.Stored.{shown}
 use Rattle.fab_disk.specs.Medium.{past, HasRoom, IsWrittenOver}
@@ -68,3 +68,6 @@ returns-in-Goes-clause-whole c = λ fails. absurd (cc (c.in-Goes.ensures.whole f
 
 pub returns-in-Stops-clause-whole : goal.returns-in-Stops-clause-whole
 returns-in-Stops-clause-whole c = λ fails. absurd (cc (c.in-Stops.ensures.whole fails))
+
+pub returns-in_err-reserve : goal.returns-in_err-reserve
+returns-in_err-reserve c = search rules

@@ -14,3 +14,6 @@ returns c =
       held = ap is_held c.replace.ensures.after;
       spare = search rules;
     }
+
+pub returns-in-Held : goal.returns-in-Held
+returns-in-Held c = search rules

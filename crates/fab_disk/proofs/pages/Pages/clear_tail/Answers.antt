@@ -1,11 +1,12 @@
-use Rattle.std.proofs.Common.{◌≡◌, ℕ, ◌+◌, ◌-◌, ◌/◌, ◌%◌, List, ◌++◌, length, take, replicate, get_or, set, sym, ◌∙◌, ap, subst, arith}
+use Rattle.std.proofs.Common.{rules, ◌≡◌, ℕ, ◌+◌, ◌-◌, ◌/◌, ◌%◌, List, ◌++◌, length, take, replicate, get_or, set, sym, ◌∙◌, ap, subst, arith}
 use Rattle.fab_disk.specs.Pages.{page_bytes, spread}
 use Rattle.fab_disk.specs.declared.pages.Page.{Page}
 use Rattle.fab_disk.proofs.Spreads.{tail_cut, tail_cleared}
 use Rattle.fab_disk.proofs.pages.Pages.clear_tail.Goals as goal
 
-pub returns-then-place-gt0-clause-bytes : goal.returns-then-place-gt0-clause-bytes
-returns-then-place-gt0-clause-bytes c =
+pub returns-then-place-gt0 : goal.returns-then-place-gt0
+returns-then-place-gt0 c =
+    let bytes = (
     let front : List ℕ = c.args.self.now.front.items in
     let pages : List Page = c.args.self.now.pages.items in
     let len : ℕ = c.args.self.now.len in
@@ -26,9 +27,12 @@ returns-then-place-gt0-clause-bytes c =
     ≡ take len (front ++ spread pages) ++ replicate (length (front ++ spread (set (set l k held) k cleared)) - len) 0) (sym short)
     (tail_cleared front pages k (place % 4096) len c.index_mut.result.now other held cleared (omega (arith, c.args.self.now.within)) (omega arith)
     (omega arith) same zeros)
+    ) in
+    search (rules, bytes)
 
-pub returns-else-place-gt0-clause-bytes : goal.returns-else-place-gt0-clause-bytes
-returns-else-place-gt0-clause-bytes c =
+pub returns-else-place-gt0 : goal.returns-else-place-gt0
+returns-else-place-gt0 c =
+    let bytes = (
     let front : List ℕ = c.args.self.now.front.items in
     let pages : List Page = c.args.self.now.pages.items in
     let len : ℕ = c.args.self.now.len in
@@ -37,3 +41,5 @@ returns-else-place-gt0-clause-bytes c =
     let short : c.truncate.new.self.items ≡ take k pages = c.truncate.ensures.items ∙ ap (λ (n : ℕ). take n pages) down in
     subst (λ (l : List Page). front ++ spread l ≡ take len (front ++ spread pages) ++ replicate (length (front ++ spread l) - len) 0) (sym short)
     (tail_cut front pages k len (omega (arith, c.if-place-gt0.false)) (omega (arith, c.args.self.now.within)))
+    ) in
+    search (rules, bytes)

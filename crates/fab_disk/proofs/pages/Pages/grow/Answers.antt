@@ -9,11 +9,6 @@ use Rattle.fab_disk.proofs.Writes.{padded_enough}
 use Rattle.fab_disk.proofs.Spreads.{length-spread, length-shown, spread_push, zeros_more, held_push, grown, shown_cleared}
 use Rattle.fab_disk.proofs.pages.Pages.grow.Goals as goal
 
-pub returns-then-end-self-clause-bytes : goal.returns-then-end-self-clause-bytes
-returns-then-end-self-clause-bytes c =
-    let self = c.args.self.now in
-    sym (padded_enough c.args.end (shown self) (omega (arith, length-shown self.front.items self.pages.items self.len self.within)))
-
 pub loop-self-preserved : goal.loop-self-preserved
 loop-self-preserved c =
     let front : List ℕ = c.loop-self.self.front.items in
@@ -39,8 +34,17 @@ loop-self-preserved c =
       spare = c.loop-self.invariant.spare;
     }
 
-pub returns-clause-bytes : goal.returns-clause-bytes
-returns-clause-bytes c =
+pub returns-then-end-self : goal.returns-then-end-self
+returns-then-end-self c =
+    let bytes = (
+    let self = c.args.self.now in
+    sym (padded_enough c.args.end (shown self) (omega (arith, length-shown self.front.items self.pages.items self.len self.within)))
+    ) in
+    search (rules, bytes)
+
+pub returns : goal.returns
+returns c =
+    let bytes = (
     let self = c.args.self.now in
     let now = c.loop-self.self in
     let old : List ℕ = shown c.clear_tail.new.self in
@@ -51,3 +55,5 @@ returns-clause-bytes c =
     (omega (arith, length-append now.front.items (spread now.pages.items), length-spread now.pages.items, c.loop-self.invariant.front, c.div_ceil-pages.ensures, c.saturating_sub.ensures))
     (omega (arith, ap length same, size))
     ∙ ap (padded c.args.end) same
+    ) in
+    search (rules, bytes)

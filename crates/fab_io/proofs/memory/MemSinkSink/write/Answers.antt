@@ -1,4 +1,4 @@
-use Rattle.std.proofs.Common.{◌≡◌, ℕ, ◌++◌, List, take, ap, ◌∙◌, subst, true}
+use Rattle.std.proofs.Common.{rules, ◌≡◌, ℕ, ◌++◌, List, take, ap, ◌∙◌, subst, true}
 use Rattle.std.proofs.lemmas.List.{take_min}
 use Rattle.std.proofs.lemmas.Result.{IfErr-at_err}
 use Rattle.fab_io.specs.Calls.{FailsNext}
@@ -24,3 +24,6 @@ returns-clause-failed c = λ failed.
       | else-fails_next w ↦
           let listed : c.fails_next.result ≡ true = c.fails_next.ensures.1 (c.count.ensures.fails.0 failed) in cc (listed, w.if-fails_next.false)
     ]
+
+pub returns-in_err-extend_from_slice : goal.returns-in_err-extend_from_slice
+returns-in_err-extend_from_slice c = search rules

@@ -1,4 +1,4 @@
-use Rattle.std.proofs.Common.{◌≡◌, ◌-◌, ℕ, List, arith, length, take, drop, ap, ◌∙◌, length-append, length-drop}
+use Rattle.std.proofs.Common.{rules, ◌≡◌, ◌-◌, ℕ, List, arith, length, take, drop, ap, ◌∙◌, length-append, length-drop}
 use Rattle.std.proofs.lemmas.List.{take_rest}
 use Rattle.fab_io.specs.Memory.{SourceInMemory}
 use Rattle.fab_io.proofs.Copies.{Consumes-copied}
@@ -15,3 +15,6 @@ returns-clause-content c =
     let n = c.min-n.result in
     Consumes-copied _ _ _ _ at n from (c.copy_from_slice.ensures.after ∙ ap (take n) left) (omega arith)
     (λ zero more. omega (arith, length-append c.copy_from_slice.new.self (drop n c.args.into.now), length-drop n c.args.into.now))
+
+pub returns-in_err-count : goal.returns-in_err-count
+returns-in_err-count c = search rules

@@ -1,3 +1,4 @@
+use Rattle.std.proofs.lemmas.Grind.{common_steps}
 use Rattle.std.proofs.Common.{◌≡◌, ◌++◌, ◌∷◌, [], ◌+◌, max, length, ℕ, List, true, None, sym, subst, rules, arith, ◌∙◌}
 use Rattle.frame_store.specs.declared.frames.Frame.{Frame}
 use Rattle.frame_store.specs.Layouts.{half_at}
@@ -7,27 +8,6 @@ use Rattle.frame_store.specs.Stores.{Held}
 use Rattle.frame_store.proofs.Changes.{laid_opens}
 use Rattle.frame_store.proofs.Exits.{Ready, Moments, moments_untouched, append_moments, append_done, append_laid, append_counted}
 use Rattle.frame_store.proofs.stores.FrameStore.append_frame.Goals as goal
-
-pub returns-in_err-stage-clause-any_moment : goal.returns-in_err-stage-clause-any_moment
-returns-in_err-stage-clause-any_moment g c =
-    let x = c.self.inside in
-    let d = g.D.Disk in
-    subst (λ (s : Held g.row.D.Denot). Moments d.tells d.seen d.may_leave d.moment d.left_since
-    (λ fs. fs ++ c.args.frame ∷ []) None c.stage.new.disk s) c.self.view_is
-    (moments_untouched d.tells d.seen d.may_leave d.moment d.left_since g.met.D.Disk.only_now _ x.half x.generation x.other_shut
-    (λ fs. fs ++ c.args.frame ∷ []) None c.stage.new.disk c.self.invariant.1 c.stage.ensures.untouched)
-
-pub returns-in-Err-clause-any_moment : goal.returns-in-Err-clause-any_moment
-returns-in-Err-clause-any_moment g c =
-    let x = c.self.inside in
-    let d = g.D.Disk in
-    let p = c.half_at.result + x.used in
-    let place : p ≡ half_at x.shape x.half + x.used = omega (arith, c.half_at.ensures) in
-    let line_is : c.deref.result.now ≡ line_of c.args.frame = c.deref.ensures.value ∙ c.in_ok-stage.ensures.line in
-    let ready = subst (λ (s : Held g.row.D.Denot). Ready d.tells d.seen d.may_leave d.moment d.left_since x.half x.generation x.other_shut x.used c.stage.new.disk p s) c.self.view_is
-    (record { counted = c.self.invariant.0; invariant = c.self.invariant.1; untouched = c.stage.ensures.untouched; place = place }) in
-    append_moments d.tells d.seen d.may_leave d.moment d.left_since c.args.self.now x.half x.generation x.other_shut x.used c.stage.new.disk c.write_gated.new.disk p c.args.frame c.deref.result.now
-    ready c.requires.fits line_is g.met.D.Disk.only_now c.write_gated.ensures.moments
 
 pub returns-in-Ok-clause-any_moment : goal.returns-in-Ok-clause-any_moment
 returns-in-Ok-clause-any_moment g c =
@@ -93,3 +73,36 @@ returns-in-Ok-clause-read g c = λ told runs.
           (g.D.Disk.seen c.write_gated.new.disk) now.0;
       size = now.1;
     }
+
+pub returns-in_err-stage : goal.returns-in_err-stage
+returns-in_err-stage g c =
+    let any_moment = (
+    let x = c.self.inside in
+    let d = g.D.Disk in
+    subst (λ (s : Held g.row.D.Denot). Moments d.tells d.seen d.may_leave d.moment d.left_since
+    (λ fs. fs ++ c.args.frame ∷ []) None c.stage.new.disk s) c.self.view_is
+    (moments_untouched d.tells d.seen d.may_leave d.moment d.left_since g.met.D.Disk.only_now _ x.half x.generation x.other_shut
+    (λ fs. fs ++ c.args.frame ∷ []) None c.stage.new.disk c.self.invariant.1 c.stage.ensures.untouched)
+    ) in
+    search (rules, any_moment)
+
+pub returns-in-Err : goal.returns-in-Err
+returns-in-Err g c =
+    let any_moment = (
+    let x = c.self.inside in
+    let d = g.D.Disk in
+    let p = c.half_at.result + x.used in
+    let place : p ≡ half_at x.shape x.half + x.used = omega (arith, c.half_at.ensures) in
+    let line_is : c.deref.result.now ≡ line_of c.args.frame = c.deref.ensures.value ∙ c.in_ok-stage.ensures.line in
+    let ready = subst (λ (s : Held g.row.D.Denot). Ready d.tells d.seen d.may_leave d.moment d.left_since x.half x.generation x.other_shut x.used c.stage.new.disk p s) c.self.view_is
+    (record { counted = c.self.invariant.0; invariant = c.self.invariant.1; untouched = c.stage.ensures.untouched; place = place }) in
+    append_moments d.tells d.seen d.may_leave d.moment d.left_since c.args.self.now x.half x.generation x.other_shut x.used c.stage.new.disk c.write_gated.new.disk p c.args.frame c.deref.result.now
+    ready c.requires.fits line_is g.met.D.Disk.only_now c.write_gated.ensures.moments
+    ) in
+    search (rules, any_moment)
+
+pub write_gated-requires-clause-reach : goal.write_gated-requires-clause-reach
+write_gated-requires-clause-reach g c = grind (arith, common_steps)
+
+pub returns-in-Ok-clause-durable : goal.returns-in-Ok-clause-durable
+returns-in-Ok-clause-durable g c = λ told. record { told = told; runs = search rules; only = c.in-Ok.ensures.durable told }

@@ -1,3 +1,4 @@
+use Rattle.std.proofs.lemmas.Grind.{common_steps}
 use Rattle.std.proofs.Common.{◌≡◌, false, ◌++◌, ◌∷◌, [], ◌+◌, max, length, ℕ, List, true, Some, sym, ap, subst, rules, arith, ◌∙◌}
 use Rattle.fab_disk.specs.Disk.{Only, LeavesOnly, written}
 use Rattle.frame_store.specs.Steps.{IsBothGated, both_written}
@@ -9,33 +10,6 @@ use Rattle.frame_store.specs.Stores.{Held}
 use Rattle.frame_store.proofs.Changes.{laid_opens}
 use Rattle.frame_store.proofs.Exits.{Ready, Moments, moments_untouched, put_moments, put_done, put_laid, append_counted}
 use Rattle.frame_store.proofs.stores.FrameStore.append_with.Goals as goal
-
-pub returns-in_err-stage-clause-any_moment : goal.returns-in_err-stage-clause-any_moment
-returns-in_err-stage-clause-any_moment g c =
-    let x = c.self.inside in
-    let d = g.D.Disk in
-    subst (λ (s : Held g.row.D.Denot). Moments d.tells d.seen d.may_leave d.moment d.left_since (λ fs. fs ++ c.args.frame ∷ [])
-    (Some (c.args.slot, c.args.block.now)) c.stage.new.disk s) c.self.view_is
-    (moments_untouched d.tells d.seen d.may_leave d.moment d.left_since g.met.D.Disk.only_now _ x.half x.generation x.other_shut
-    (λ fs. fs ++ c.args.frame ∷ []) (Some (c.args.slot, c.args.block.now)) c.stage.new.disk c.self.invariant.1 c.stage.ensures.untouched)
-
-pub returns-in-Err-clause-any_moment : goal.returns-in-Err-clause-any_moment
-returns-in-Err-clause-any_moment g c =
-    let x = c.self.inside in
-    let d = g.D.Disk in
-    let p = c.half_at.result + x.used in
-    let place : p ≡ half_at x.shape x.half + x.used = omega (arith, c.half_at.ensures) in
-    let line_is : c.deref.result.now ≡ line_of c.args.frame = c.deref.ensures.value ∙ c.in_ok-stage.ensures.line in
-    let runs = subst (λ (s : Held g.row.D.Denot). s.halted ≡ false) c.self.view_is c.if-self.false in
-    let at_is : c.slot_at-at.result ≡ slot_at c.args.self.now.shape c.args.slot = c.slot_at-at.ensures
-    ∙ ap (λ (s : Held g.row.D.Denot). slot_at s.shape c.args.slot) c.self.view_is in
-    let run = subst (λ (n : ℕ). d.tells → Only (d.seen c.stage.new.disk) (d.may_leave c.stage.new.disk)
-    → LeavesOnly d.moment d.left_since c.stage.new.disk c.write_both_gated.new.disk
-    (IsBothGated n c.args.block.now (p + 1) c.deref.result.now p (d.seen c.stage.new.disk))) at_is c.write_both_gated.ensures.moments in
-    let ready = subst (λ (s : Held g.row.D.Denot). Ready d.tells d.seen d.may_leave d.moment d.left_since x.half x.generation x.other_shut x.used c.stage.new.disk p s) c.self.view_is
-    (record { counted = c.self.invariant.0; invariant = c.self.invariant.1; untouched = c.stage.ensures.untouched; place = place }) in
-    put_moments d.tells d.seen d.may_leave d.moment d.left_since c.args.self.now x.half x.generation x.other_shut x.used c.stage.new.disk c.write_both_gated.new.disk p c.args.frame c.deref.result.now
-    ready c.requires.fits line_is c.args.slot c.args.block.now c.requires.slot c.requires.block g.met.D.Disk.only_now run
 
 pub returns-in-Ok-clause-any_moment : goal.returns-in-Ok-clause-any_moment
 returns-in-Ok-clause-any_moment g c =
@@ -121,3 +95,42 @@ returns-in-Ok-clause-read g c = λ told runs.
 
 pub returns-in-Ok-clause-durable : goal.returns-in-Ok-clause-durable
 returns-in-Ok-clause-durable g c = λ told. record { told = told; runs = c.if-self.false; only = c.in-Ok.ensures.durable told }
+
+pub returns-in_err-stage : goal.returns-in_err-stage
+returns-in_err-stage g c =
+    let any_moment = (
+    let x = c.self.inside in
+    let d = g.D.Disk in
+    subst (λ (s : Held g.row.D.Denot). Moments d.tells d.seen d.may_leave d.moment d.left_since (λ fs. fs ++ c.args.frame ∷ [])
+    (Some (c.args.slot, c.args.block.now)) c.stage.new.disk s) c.self.view_is
+    (moments_untouched d.tells d.seen d.may_leave d.moment d.left_since g.met.D.Disk.only_now _ x.half x.generation x.other_shut
+    (λ fs. fs ++ c.args.frame ∷ []) (Some (c.args.slot, c.args.block.now)) c.stage.new.disk c.self.invariant.1 c.stage.ensures.untouched)
+    ) in
+    search (rules, any_moment)
+
+pub returns-in-Err : goal.returns-in-Err
+returns-in-Err g c =
+    let any_moment = (
+    let x = c.self.inside in
+    let d = g.D.Disk in
+    let p = c.half_at.result + x.used in
+    let place : p ≡ half_at x.shape x.half + x.used = omega (arith, c.half_at.ensures) in
+    let line_is : c.deref.result.now ≡ line_of c.args.frame = c.deref.ensures.value ∙ c.in_ok-stage.ensures.line in
+    let runs = subst (λ (s : Held g.row.D.Denot). s.halted ≡ false) c.self.view_is c.if-self.false in
+    let at_is : c.slot_at-at.result ≡ slot_at c.args.self.now.shape c.args.slot = c.slot_at-at.ensures
+    ∙ ap (λ (s : Held g.row.D.Denot). slot_at s.shape c.args.slot) c.self.view_is in
+    let run = subst (λ (n : ℕ). d.tells → Only (d.seen c.stage.new.disk) (d.may_leave c.stage.new.disk)
+    → LeavesOnly d.moment d.left_since c.stage.new.disk c.write_both_gated.new.disk
+    (IsBothGated n c.args.block.now (p + 1) c.deref.result.now p (d.seen c.stage.new.disk))) at_is c.write_both_gated.ensures.moments in
+    let ready = subst (λ (s : Held g.row.D.Denot). Ready d.tells d.seen d.may_leave d.moment d.left_since x.half x.generation x.other_shut x.used c.stage.new.disk p s) c.self.view_is
+    (record { counted = c.self.invariant.0; invariant = c.self.invariant.1; untouched = c.stage.ensures.untouched; place = place }) in
+    put_moments d.tells d.seen d.may_leave d.moment d.left_since c.args.self.now x.half x.generation x.other_shut x.used c.stage.new.disk c.write_both_gated.new.disk p c.args.frame c.deref.result.now
+    ready c.requires.fits line_is c.args.slot c.args.block.now c.requires.slot c.requires.block g.met.D.Disk.only_now run
+    ) in
+    search (rules, any_moment)
+
+pub returns-then-self : goal.returns-then-self
+returns-then-self g c = search rules
+
+pub write_both_gated-requires-clause-reach : goal.write_both_gated-requires-clause-reach
+write_both_gated-requires-clause-reach g c = grind (arith, common_steps)

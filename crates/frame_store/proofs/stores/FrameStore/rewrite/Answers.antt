@@ -1,4 +1,4 @@
-use Rattle.std.proofs.Common.{◌≡◌, false, ◌+◌, ◌-◌, ◌^◌, ◌<◌, ◌≤◌, max, length, ℕ, List, true, None, sym, ap, subst, arith, ◌∙◌}
+use Rattle.std.proofs.Common.{rules, ◌≡◌, false, ◌+◌, ◌-◌, ◌^◌, ◌<◌, ◌≤◌, max, length, ℕ, List, true, None, sym, ap, subst, arith, ◌∙◌}
 use Rattle.fab_disk.specs.Disk.{IsUntouched}
 use Rattle.frame_store.specs.Steps.{next_of}
 use Rattle.frame_store.specs.declared.frames.Frame.{Frame}
@@ -12,37 +12,6 @@ use Rattle.frame_store.proofs.Changes.{laid_opens}
 use Rattle.frame_store.proofs.Headers.{renewed}
 use Rattle.frame_store.proofs.Exits.{Moments, Invariant, end_small, half_within, closing_short, moments_untouched, rewrite_moments, rewrite_done, rewrite_laid, rewrite_counted}
 use Rattle.frame_store.proofs.stores.FrameStore.rewrite.Goals as goal
-
-pub returns-in_err-stage_list-clause-any_moment : goal.returns-in_err-stage_list-clause-any_moment
-returns-in_err-stage_list-clause-any_moment g c =
-    let x = c.self.inside in
-    let d = g.D.Disk in
-    subst (λ (s : Held g.row.D.Denot). Moments d.tells d.seen d.may_leave d.moment d.left_since
-    (λ old. c.args.frames.items) None c.stage_list.new.disk s) c.self.view_is
-    (moments_untouched d.tells d.seen d.may_leave d.moment d.left_since g.met.D.Disk.only_now _ x.half x.generation x.other_shut
-    (λ old. c.args.frames.items) None c.stage_list.new.disk c.self.invariant.1 c.stage_list.ensures.untouched)
-
-pub returns-in-Err-clause-any_moment : goal.returns-in-Err-clause-any_moment
-returns-in-Err-clause-any_moment g c =
-    let x = c.self.inside in
-    let d = g.D.Disk in
-    let fs = c.args.frames.items in
-    let gate = c.header_at-gate.result in
-    let at = c.half_at-at.result in
-    let line = c.deref-2.result.now in
-    let mid = c.stage_list.new.disk in
-    let new = c.rewrite_gated.new.disk in
-    let counted = subst (λ (s : Held g.row.D.Denot). IsCounted s.shape s.frames x.used) c.self.view_is c.self.invariant.0 in
-    let inv = subst (λ (s : Held g.row.D.Denot). Invariant d.tells d.seen s x.half x.generation x.other_shut) c.self.view_is c.self.invariant.1 in
-    let untouched = subst (λ (s : Held g.row.D.Denot). IsUntouched d.seen d.may_leave d.moment d.left_since s.disk mid) c.self.view_is c.stage_list.ensures.untouched in
-    let small : x.generation < 2 ^ 64 = omega arith in
-    let gate_is : gate ≡ header_at (other x.half) = c.header_at-gate.ensures ∙ ap header_at c.other-other.ensures in
-    let at_is : at ≡ half_at c.args.self.now.shape (other x.half) = c.half_at-at.ensures ∙ ap (half_at x.shape) c.other-other.ensures
-    ∙ ap (λ (s : Held g.row.D.Denot). half_at s.shape (other x.half)) c.self.view_is in
-    let rest_is : c.header_rest-rest.result ≡ header_rest c.args.self.now.shape (next_of x.generation) = c.header_rest-rest.ensures
-    ∙ ap (λ (s : Held g.row.D.Denot). header_rest s.shape (next_of x.generation)) c.self.view_is in
-    let line_is : line ≡ closed_list fs = c.deref-2.ensures.value ∙ c.in_ok-stage_list.ensures.line ∙ ap closed_list c.deref.ensures.value in
-    rewrite_moments d.tells d.seen d.may_leave d.moment d.left_since c.args.self.now x.half x.generation x.other_shut x.used mid new fs gate at c.closing-shut.result.now c.header_rest-rest.result line counted inv untouched c.requires.fits small gate_is at_is c.closing-shut.ensures rest_is line_is g.met.D.Disk.only_now c.rewrite_gated.ensures.moments
 
 pub returns-in-Ok-clause-any_moment : goal.returns-in-Ok-clause-any_moment
 returns-in-Ok-clause-any_moment g c =
@@ -250,3 +219,43 @@ returns-in-Ok-clause-left g c = λ calls bytes written listed body had.
       listed = omega (arith, before.listed, c.stage_list.ensures.capacity, c.replace.ensures.capacity);
       spare = before.spare;
     }
+
+pub returns-in_err-stage_list : goal.returns-in_err-stage_list
+returns-in_err-stage_list g c =
+    let any_moment = (
+    let x = c.self.inside in
+    let d = g.D.Disk in
+    subst (λ (s : Held g.row.D.Denot). Moments d.tells d.seen d.may_leave d.moment d.left_since
+    (λ old. c.args.frames.items) None c.stage_list.new.disk s) c.self.view_is
+    (moments_untouched d.tells d.seen d.may_leave d.moment d.left_since g.met.D.Disk.only_now _ x.half x.generation x.other_shut
+    (λ old. c.args.frames.items) None c.stage_list.new.disk c.self.invariant.1 c.stage_list.ensures.untouched)
+    ) in
+    search (rules, any_moment)
+
+pub returns-in-Err : goal.returns-in-Err
+returns-in-Err g c =
+    let any_moment = (
+    let x = c.self.inside in
+    let d = g.D.Disk in
+    let fs = c.args.frames.items in
+    let gate = c.header_at-gate.result in
+    let at = c.half_at-at.result in
+    let line = c.deref-2.result.now in
+    let mid = c.stage_list.new.disk in
+    let new = c.rewrite_gated.new.disk in
+    let counted = subst (λ (s : Held g.row.D.Denot). IsCounted s.shape s.frames x.used) c.self.view_is c.self.invariant.0 in
+    let inv = subst (λ (s : Held g.row.D.Denot). Invariant d.tells d.seen s x.half x.generation x.other_shut) c.self.view_is c.self.invariant.1 in
+    let untouched = subst (λ (s : Held g.row.D.Denot). IsUntouched d.seen d.may_leave d.moment d.left_since s.disk mid) c.self.view_is c.stage_list.ensures.untouched in
+    let small : x.generation < 2 ^ 64 = omega arith in
+    let gate_is : gate ≡ header_at (other x.half) = c.header_at-gate.ensures ∙ ap header_at c.other-other.ensures in
+    let at_is : at ≡ half_at c.args.self.now.shape (other x.half) = c.half_at-at.ensures ∙ ap (half_at x.shape) c.other-other.ensures
+    ∙ ap (λ (s : Held g.row.D.Denot). half_at s.shape (other x.half)) c.self.view_is in
+    let rest_is : c.header_rest-rest.result ≡ header_rest c.args.self.now.shape (next_of x.generation) = c.header_rest-rest.ensures
+    ∙ ap (λ (s : Held g.row.D.Denot). header_rest s.shape (next_of x.generation)) c.self.view_is in
+    let line_is : line ≡ closed_list fs = c.deref-2.ensures.value ∙ c.in_ok-stage_list.ensures.line ∙ ap closed_list c.deref.ensures.value in
+    rewrite_moments d.tells d.seen d.may_leave d.moment d.left_since c.args.self.now x.half x.generation x.other_shut x.used mid new fs gate at c.closing-shut.result.now c.header_rest-rest.result line counted inv untouched c.requires.fits small gate_is at_is c.closing-shut.ensures rest_is line_is g.met.D.Disk.only_now c.rewrite_gated.ensures.moments
+    ) in
+    search (rules, any_moment)
+
+pub returns-then-self : goal.returns-then-self
+returns-then-self g c = search rules

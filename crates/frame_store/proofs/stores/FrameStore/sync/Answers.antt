@@ -1,4 +1,4 @@
-use Rattle.std.proofs.Common.{◌+◌, sym, subst, arith}
+use Rattle.std.proofs.Common.{rules, ◌+◌, sym, subst, arith}
 use Rattle.frame_store.specs.Layouts.{store_end}
 use Rattle.frame_store.specs.Stores.{Held, HasRoom}
 use Rattle.frame_store.proofs.stores.FrameStore.sync.Goals as goal
@@ -10,3 +10,12 @@ returns-in-Err-NoMemory-clause-room g c = λ calls bytes written listed body had
     let room = g.met.D.Disk.room_for_less x.disk (calls + 1) bytes (store_end x.shape) (calls + 1) (bytes + 0) (store_end x.shape) (omega arith)
     (omega arith) (omega arith) before.disk in
     c.sync.ensures.room.enough calls bytes (store_end x.shape) (omega arith) room (cc)
+
+pub returns-then-self : goal.returns-then-self
+returns-then-self g c = search rules
+
+pub returns-in-Ok : goal.returns-in-Ok
+returns-in-Ok g c = search rules
+
+pub returns-in-Err-Failed : goal.returns-in-Err-Failed
+returns-in-Err-Failed g c = search rules
