@@ -10,7 +10,7 @@ use std::alloc::Global;
 
 /// Why an operation was aborted. What it would have done has happened by then, or never will
 /// (Aguilera and Frølund 2003).
-#[derive(Clone, Copy, Debug, PartialEq, Eq)]
+#[derive(Clone, Copy, PartialEq, Eq)]
 pub enum Cause {
     /// This brick had promised or stored a later stamp.
     Later {
@@ -41,7 +41,7 @@ pub enum Cause {
 }
 
 /// The end of an operation.
-#[derive(Debug, Drop)]
+#[derive(Drop)]
 pub enum Answer {
     /// What a read read.
     Data(Bytes),

@@ -8,7 +8,7 @@ use crate::identities::{GroupId, StripeNo};
 use std::alloc::Global;
 
 /// An operation on a stripe of m data blocks.
-#[derive(Debug, Drop)]
+#[derive(Drop)]
 pub enum Op {
     /// Read data block j, below m.
     ReadBlock(u8),
@@ -35,7 +35,7 @@ impl Op {
 }
 
 /// An operation on one stripe of one group.
-#[derive(Debug, Drop)]
+#[derive(Drop)]
 pub struct Ask {
     /// The group.
     pub group: GroupId,

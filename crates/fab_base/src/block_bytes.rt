@@ -7,7 +7,7 @@ use std::alloc::Global;
 use std::marker::Model;
 
 /// Bytes of a block or a stripe, seen as a list of numbers below 256.
-#[derive(Drop, Debug)]
+#[derive(Drop)]
 pub struct Bytes {
     items: Vec<u8>,
 }

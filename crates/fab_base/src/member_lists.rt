@@ -6,7 +6,7 @@ use crate::identities::{BrickId, ViewNo};
 use std::marker::Model;
 
 /// At most 32 bricks in the order of their seats, in fixed room.
-#[derive(Debug, Drop)]
+#[derive(Drop)]
 pub struct Members {
     seats: [BrickId; 32],
     count: usize,
@@ -58,7 +58,7 @@ impl Members {
 }
 
 /// A numbered list of members that keep a group, with the list before it (none before view 1).
-#[derive(Debug, Drop)]
+#[derive(Drop)]
 pub struct View {
     /// The view's number, from 1.
     pub number: ViewNo,

@@ -10,7 +10,7 @@ use std::alloc::Global;
 
 /// The version of an operation, told once (Frølund et al., "A Decentralized Algorithm for Erasure-Coded Virtual Disks",
 /// DSN 2004).
-#[derive(Debug, Drop)]
+#[derive(Drop)]
 pub enum Note {
     /// The operation made a version: the step that tells it is the first to send it.
     Made {

@@ -3,7 +3,7 @@
 use crate::identities::{GroupId, StripeNo};
 
 /// Stripes of one group that follow each other: what a volume is made of.
-#[derive(Clone, Copy, Debug, PartialEq, Eq)]
+#[derive(Clone, Copy, PartialEq, Eq)]
 pub struct Segment {
     /// The group.
     pub group: GroupId,

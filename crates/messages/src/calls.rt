@@ -3,7 +3,7 @@
 use fab_base::{GroupId, StripeNo, ViewNo};
 
 /// A phase of a call of one brick: a reply carries the call of the request that it answers.
-#[derive(Clone, Copy, Debug, PartialEq, Eq)]
+#[derive(Clone, Copy, PartialEq, Eq)]
 pub struct Call {
     /// How often the coordinator's store had been opened, from 1.
     pub boot: u32,

@@ -6,7 +6,7 @@ use fab_base::{Answer, Bytes, GroupId, NoMem, Refusal, StripeNo};
 use std::alloc::Global;
 
 /// What a client's invocation does: it reads or writes one data block, or all data blocks of the stripe.
-#[derive(Clone, Copy, Debug, PartialEq, Eq)]
+#[derive(Clone, Copy, PartialEq, Eq)]
 pub enum ClientOp {
     ReadBlock,
     WriteBlock,
@@ -16,7 +16,7 @@ pub enum ClientOp {
 
 /// A client's invocation, with each field of its datagram: a read carries bytes too, and an operation on a stripe the number
 /// of a block, which are given and ignored.
-#[derive(Debug, Drop)]
+#[derive(Drop)]
 pub struct ClientAsk {
     /// The client's own number for it, which the answer carries.
     pub id: u64,
@@ -42,7 +42,7 @@ impl ClientAsk {
 }
 
 /// The answer to a client's invocation.
-#[derive(Debug, Drop)]
+#[derive(Drop)]
 pub enum ClientAnswer {
     /// The operation ended.
     Ended(Answer),

@@ -10,7 +10,7 @@ use fab_base::{BrickId, GroupId, NoMem, View, ViewNo};
 use std::alloc::Global;
 
 /// A message.
-#[derive(Debug, Drop)]
+#[derive(Drop)]
 pub enum Message {
     /// A coordinator's request.
     Request(Call, Request),
@@ -49,7 +49,7 @@ impl Message {
 }
 
 /// A message from one brick to another, or to itself.
-#[derive(Debug, Drop)]
+#[derive(Drop)]
 pub struct Packet {
     pub from: BrickId,
     pub to: BrickId,

@@ -7,7 +7,7 @@ use fab_base::{Ballot, Members, NoMem, Stamp, ViewNo};
 use std::alloc::Global;
 
 /// The members of a view, and those of the view before.
-#[derive(Debug, Drop)]
+#[derive(Drop)]
 pub struct Lineage {
     pub members: Members,
     pub prior: Members,
@@ -26,7 +26,7 @@ impl Lineage {
 }
 
 /// A list of members that was accepted as a view's successor, under this ballot.
-#[derive(Debug, Drop)]
+#[derive(Drop)]
 pub struct Choice {
     pub ballot: Ballot,
     pub members: Members,
@@ -45,7 +45,7 @@ impl Choice {
 }
 
 /// A member's reply to a request.
-#[derive(Debug, Drop)]
+#[derive(Drop)]
 pub enum Reply {
     /// To a Read: the order stamp, and the newest version if there is one.
     Found {

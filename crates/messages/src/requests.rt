@@ -6,21 +6,21 @@ use fab_base::{Ballot, Bytes, Members, NoMem, Stamp};
 use std::alloc::Global;
 
 /// Which seats are to send block bytes: the member at this seat alone, or every member.
-#[derive(Clone, Copy, Debug, PartialEq, Eq)]
+#[derive(Clone, Copy, PartialEq, Eq)]
 pub enum Want {
     Seat(u8),
     All,
 }
 
 /// Which entry of a log is looked for: the newest one below this stamp, or the one of this stamp.
-#[derive(Clone, Copy, Debug, PartialEq, Eq)]
+#[derive(Clone, Copy, PartialEq, Eq)]
 pub enum Look {
     Below(Stamp),
     At(Stamp),
 }
 
 /// A version of a stripe at one member: its stamp and the member's block, which is empty where bytes were not wanted.
-#[derive(Debug, Drop)]
+#[derive(Drop)]
 pub struct Version {
     pub stamp: Stamp,
     pub block: Bytes,
@@ -39,7 +39,7 @@ impl Version {
 }
 
 /// A request of one phase to one member.
-#[derive(Debug, Drop)]
+#[derive(Drop)]
 pub enum Request {
     /// Tell the order stamp and the newest version, and its block if you are wanted to.
     Read {

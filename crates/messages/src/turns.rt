@@ -11,7 +11,7 @@ use std::alloc::Global;
 pub type Messages = Vec<(BrickId, Message)>;
 
 /// Where the recovery of a stripe begins (Frølund 2004, recover and store-stripe).
-#[derive(Debug, Drop)]
+#[derive(Drop)]
 pub enum Turn {
     /// With the order: each member is to promise the operation's stamp, and to tell its newest version below it.
     Order,
@@ -38,7 +38,7 @@ impl Turn {
 }
 
 /// What an operation does next.
-#[derive(Debug, Drop)]
+#[derive(Drop)]
 pub enum Next {
     /// It sends these messages, with which a phase begins, or is sent again.
     Send(Messages),

@@ -5,7 +5,7 @@ use messages::Reply;
 
 /// The phase that an operation is in (Frølund 2004: a read looks, and recovers where it finds no version that
 /// all tell; a write orders, and then stores).
-#[derive(Clone, Copy, Debug, PartialEq, Eq)]
+#[derive(Clone, Copy, PartialEq, Eq)]
 pub enum Phase {
     /// A read has asked each member for its newest version.
     Looks,
@@ -21,7 +21,7 @@ pub enum Phase {
 }
 
 /// A reply that counts in the present phase.
-#[derive(Debug, Drop)]
+#[derive(Drop)]
 pub struct Counted {
     /// The seat of the member that sent it.
     pub seat: u8,
@@ -32,7 +32,7 @@ pub struct Counted {
 }
 
 /// A member that told a later stamp.
-#[derive(Clone, Copy, Debug, PartialEq, Eq)]
+#[derive(Clone, Copy, PartialEq, Eq)]
 pub struct Refuser {
     /// The member's seat.
     pub seat: u8,
@@ -43,7 +43,7 @@ pub struct Refuser {
 }
 
 /// A member whose store keeps as many live records as it may.
-#[derive(Clone, Copy, Debug, PartialEq, Eq)]
+#[derive(Clone, Copy, PartialEq, Eq)]
 pub struct FullMember {
     /// The member's seat.
     pub seat: u8,

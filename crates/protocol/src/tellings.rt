@@ -3,7 +3,7 @@
 use fab_base::{Answer, Stamp};
 
 /// What a step tells of the version of an operation of its brick.
-#[derive(Clone, Copy, Debug, PartialEq, Eq)]
+#[derive(Clone, Copy, PartialEq, Eq)]
 pub enum Told {
     /// The operation makes a version: its first write is sent by this step.
     Made {
@@ -24,7 +24,7 @@ pub enum Told {
 }
 
 /// The answer of an operation of a brick.
-#[derive(Debug, Drop)]
+#[derive(Drop)]
 pub struct Answered {
     /// The number of the call.
     pub seq: u64,

@@ -8,7 +8,7 @@ use std::marker::Model;
 /// How many seats a view has, and how many of their blocks give back a stripe (Frølund 2004, an m-quorum system).
 ///
 /// A stripe has m data blocks, 1 to 16, and n blocks in all, one for each seat, m to 32.
-#[derive(Clone, Copy, Debug, PartialEq, Eq)]
+#[derive(Clone, Copy, PartialEq, Eq)]
 pub struct Policy {
     m: u8,
     n: u8,

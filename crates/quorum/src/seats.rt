@@ -5,7 +5,7 @@ ghost use Rattle.std.specs.Prelude.{◌≡◌};
 use fab_base::Stamp;
 
 /// What a seat has said in a phase.
-#[derive(Clone, Copy, Debug)]
+#[derive(Clone, Copy)]
 pub enum Seat {
     /// No reply of this seat is counted yet.
     Silent,

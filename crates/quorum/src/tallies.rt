@@ -11,7 +11,7 @@ use fab_base::Stamp;
 use std::marker::Model;
 
 /// The first reply of each seat of one phase. No call takes memory.
-#[derive(Debug, Drop)]
+#[derive(Drop)]
 pub struct Tally {
     n: u8,
     q: u8,

@@ -6,7 +6,7 @@ use fab_base::Stamp;
 ///
 /// Entries compare by stamp, then a version's maker before its readers, then by operation: sorted, they are a walk along a
 /// stripe's versions.
-#[derive(Clone, Copy, Debug, PartialEq, Eq, PartialOrd, Ord)]
+#[derive(Clone, Copy, PartialEq, Eq, PartialOrd, Ord)]
 pub struct Entry {
     /// The version's stamp.
     pub stamp: Stamp,

@@ -9,7 +9,7 @@ use crate::marks::Mark;
 use fab_base::{Answer, Ask, BrickId};
 
 /// What becomes of an operation after its Begin.
-#[derive(Clone, Copy, Debug)]
+#[derive(Clone, Copy)]
 pub enum Ending<'a> {
     /// It is answered.
     Answered {
@@ -93,7 +93,7 @@ impl<'a> Ending<'a> {
 }
 
 /// An operation that has begun.
-#[derive(Clone, Copy, Debug)]
+#[derive(Clone, Copy)]
 pub struct Life<'a> {
     /// The position of its Begin.
     pub begin: u64,

@@ -8,7 +8,7 @@ use fab_base::{Answer, Ask, BrickId};
 /// One thing that was seen from outside: an operation begins, an operation is answered, or a brick stops.
 ///
 /// A mark carries its position, its place in the list of all marks of a run, from 0.
-#[derive(Debug, Drop)]
+#[derive(Drop)]
 pub enum Mark {
     /// An operation begins at a brick, its coordinator.
     Begin {
@@ -67,7 +67,7 @@ impl Mark {
 }
 
 /// That an operation happened, and where in the list of all marks: just after the mark of that position.
-#[derive(Clone, Copy, Debug, PartialEq, Eq)]
+#[derive(Clone, Copy, PartialEq, Eq)]
 pub struct Happening {
     /// The operation's number.
     pub operation: u64,

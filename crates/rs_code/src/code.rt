@@ -14,7 +14,7 @@ pub const MAX_DATA_BLOCKS: u8 = 16;
 pub const MAX_BLOCKS: u8 = 32;
 
 /// A code of `m` data blocks and `n` coded blocks. Seat k, for k below `n`, holds block k.
-#[derive(Clone, Copy, PartialEq, Eq, Debug)]
+#[derive(Clone, Copy, PartialEq, Eq)]
 pub struct Code {
     pub m: u8,
     pub n: u8,
