@@ -1,8 +1,9 @@
 -- The kinds of requests: the number of each, and the fields after its call.
-use Rattle.std.proofs.Common.{◌≡◌, ℕ, [], ◌∷◌, refl}
+use Rattle.std.proofs.Common.{◌≡◌, ℕ, List, [], ◌∷◌, refl}
+use Rattle.fab_base.specs.declared.stamps.Stamp.{Stamp}
 use Rattle.messages.specs.declared.requests.Request.{Request}
 use Rattle.messages.specs.declared.requests.Request.TheVariants as requests
-use Rattle.fields.specs.Codecs.{pair}
+use Rattle.fields.specs.Codecs.{Codec, pair}
 use Rattle.fields.specs.Kinds.{Row, of, Value, made_by, Tagged, Tag, made_of, IsUnion, option}
 use Rattle.fields.specs.Reading.{find_or}
 use Rattle.fields.specs.Values.{stamp_codec, ballot_codec, members_codec, block_codec}
@@ -35,13 +36,17 @@ request_number Accept = 9
 abbrev pub request_of : ℕ → RequestKind
 request_of = find_or Accept request_number (Read ∷ Order ∷ OrderRead ∷ Write ∷ Modify ∷ Collect ∷ OldRead ∷ Prepare ∷ [])
 
+-- the version that is changed, and by what
+abbrev pub change_codec : Codec (Stamp × (ℕ × List ℕ))
+change_codec = pair stamp_codec (pair data_block_codec block_codec)
+
 -- the fields of each kind, in their order
 abbrev pub request_row : RequestKind → Row Request
 request_row Read = of want_codec (λ want. requests.Read want)
 request_row Order = of stamp_codec (λ stamp. requests.Order stamp)
 request_row OrderRead = of (pair stamp_codec (pair look_codec want_codec)) (λ p. requests.OrderRead p.0 p.1.0 p.1.1)
 request_row Write = of (pair stamp_codec block_codec) (λ p. requests.Write p.0 p.1)
-request_row Modify = of (pair stamp_codec (pair stamp_codec (pair data_block_codec block_codec))) (λ p. requests.Modify p.0 p.1.0 p.1.1.0 p.1.1.1)
+request_row Modify = of (pair stamp_codec change_codec) (λ p. requests.Modify p.0 p.1.0 p.1.1.0 p.1.1.1)
 request_row Collect = of stamp_codec (λ stamp. requests.Collect stamp)
 request_row OldRead = of (option stamp_codec) (λ bound. requests.OldRead bound)
 request_row Prepare = of ballot_codec (λ ballot. requests.Prepare ballot)

@@ -18,6 +18,7 @@ use Rattle.messages.specs.declared.requests.Look.{Look}
 use Rattle.messages.specs.declared.requests.Look.TheVariants.{Below, At}
 use Rattle.messages.specs.declared.replies.Choice.{Choice}
 use Rattle.messages.specs.declared.replies.Lineage.{Lineage}
+use Rattle.fab_wire.specs.declared.values.CallField.{CallField}
 use Rattle.fields.specs.Codecs.{Codec, u32_codec, u64_codec, pair, seen, free, limited_to, byte_of}
 use Rattle.fields.specs.Kinds.{flag_codec}
 use Rattle.fields.specs.Parts.{Part, Limited, number_bytes, bytes_of, Fits, AllFit, exactly}
@@ -37,6 +38,9 @@ call_fields = seen made_call (λ c. (c.boot, (c.seq, (c.phase, (c.group, (c.view
 
 abbrev pub call_codec : Codec Call
 call_codec = free call_fields.law
+
+abbrev pub call_field_codec : Codec CallField
+call_field_codec = seen (λ (c : Call). let field : CallField = record { 0 = c } in field) (λ field. field.0) (λ field. refl) (λ c. refl) call_codec
 
 -- stamp, bytes
 abbrev pub made_version : Stamp × List ℕ → Version

@@ -1,29 +1,25 @@
 //! A client's invocation, and its answer.
 
-ghost use Rattle.std.specs.Prelude.{◌≡◌, ◌≢◌};
 ghost use Rattle.fields.specs.Parts.{Adds};
 ghost use Rattle.fields.specs.Reading.{GivesOrNoMemory};
-ghost use Rattle.fab_wire.specs.Clients.{Refuse, client_codec, answer_codec, status_number};
+ghost use Rattle.fab_wire.specs.Clients.{client_codec, answer_codec};
 
-use crate::values::{put_op, take_op};
+use crate::values::take_op;
 use fab_base::{Answer, Cause, NoMem, Refusal};
-use fields::{Field, ReadFault, Reader, put_content, take_content};
+use fields::{Field, ReadFault, Reader, put_content, take_content, take_fields};
 use messages::{ClientAnswer, ClientAsk};
 use std::alloc::Global;
 
-/// Adds a client's invocation.
 #[tactic(auto, using(fields::proofs::Writings::joined), unfolding(crate::specs::Clients::client_fields))]
 pub fn put_client(out: &mut Vec<u8>, ask: &ClientAsk) -> Result<(), NoMem>
     requires { client_codec.Limits ask.now }
     ensures { Adds result out.old.items out.new.items (client_codec.parts ask.now) }
 {
-    (ask.id, (ask.group, ask.stripe)).put(out)?;
-    put_op(out, ask.op)?;
-    ask.block.put(out)?;
+    // The number of an operation is its place in `ClientOp`.
+    (ask.id, (ask.group, (ask.stripe, (ask.op as u8, ask.block)))).put(out)?;
     put_content(out, &ask.bytes)
 }
 
-/// Reads a client's invocation.
 #[tactic(auto, unfolding(crate::specs::Clients::client_fields))]
 pub fn take_client(alloc: Global, from: &mut Reader<'_>) -> Result<ClientAsk, ReadFault>
     ensures { GivesOrNoMemory result from.new.rest.now (client_codec.read from.old.rest.now) }
@@ -37,21 +33,6 @@ pub fn take_client(alloc: Global, from: &mut Reader<'_>) -> Result<ClientAsk, Re
         block: from.take()?,
         bytes: take_content(alloc, from)?,
     })
-}
-
-// The status of a refusal that is sent.
-fn number_of_refusal(refusal: Refusal) -> u8
-    requires { refusal ≢ Refusal.Down }
-    ensures { result ≡ status_number (Refuse refusal) }
-{
-    match refusal {
-        Refusal::NoStripe => 16,
-        Refusal::NoBlock => 17,
-        Refusal::Length => 18,
-        Refusal::Busy => 19,
-        Refusal::Spent => 20,
-        Refusal::Down => unreachable!(),
-    }
 }
 
 /// Adds the answer to a client's invocation: its status, and what goes with it.
@@ -72,11 +53,15 @@ pub fn put_answer(out: &mut Vec<u8>, answer: &ClientAnswer) -> Result<(), NoMem>
             Cause::Full { brick, live } => (4u8, (brick, live)).put(out),
             Cause::Moved { brick, view } => (5u8, (brick, view)).put(out),
         },
-        ClientAnswer::Refused(refusal) => number_of_refusal(*refusal).put(out),
+        ClientAnswer::Refused(Refusal::NoStripe) => 16u8.put(out),
+        ClientAnswer::Refused(Refusal::NoBlock) => 17u8.put(out),
+        ClientAnswer::Refused(Refusal::Length) => 18u8.put(out),
+        ClientAnswer::Refused(Refusal::Busy) => 19u8.put(out),
+        ClientAnswer::Refused(Refusal::Spent) => 20u8.put(out),
+        ClientAnswer::Refused(Refusal::Down) => unreachable!(),
     }
 }
 
-/// Reads the answer to a client's invocation.
 pub fn take_answer(alloc: Global, from: &mut Reader<'_>) -> Result<ClientAnswer, ReadFault>
     ensures { GivesOrNoMemory result from.new.rest.now (answer_codec.read from.old.rest.now) }
 {
@@ -84,21 +69,10 @@ pub fn take_answer(alloc: Global, from: &mut Reader<'_>) -> Result<ClientAnswer,
     let answer = match from.take()? {
         0u8 => Answer::Data(take_content(alloc, from)?),
         1 => Answer::Done,
-        2 => {
-            let (brick, stamp) = from.take()?;
-            Answer::Aborted(Cause::Later { brick, stamp })
-        }
-        3 => Answer::Aborted(Cause::Gone {
-            brick: from.take()?,
-        }),
-        4 => {
-            let (brick, live) = from.take()?;
-            Answer::Aborted(Cause::Full { brick, live })
-        }
-        5 => {
-            let (brick, view) = from.take()?;
-            Answer::Aborted(Cause::Moved { brick, view })
-        }
+        2 => Answer::Aborted(take_fields!(from; Cause::Later { brick, stamp })),
+        3 => Answer::Aborted(take_fields!(from; Cause::Gone { brick })),
+        4 => Answer::Aborted(take_fields!(from; Cause::Full { brick, live })),
+        5 => Answer::Aborted(take_fields!(from; Cause::Moved { brick, view })),
         16 => return Ok(ClientAnswer::Refused(Refusal::NoStripe)),
         17 => return Ok(ClientAnswer::Refused(Refusal::NoBlock)),
         18 => return Ok(ClientAnswer::Refused(Refusal::Length)),

@@ -10,12 +10,10 @@ ghost use Rattle.fab_wire.specs.Values.{call_codec};
 ghost use Rattle.fab_wire.specs.Spelling.{HasSpelling, fields_of, message_codec, datagram_of, kind_number, kind_value, message_kind, body_parts, body_at, Spells, MalformedIs, IsAt};
 
 use crate::clients::{put_answer, put_client, take_answer, take_client};
-use crate::phases::{
-    number_of_reply, number_of_request, put_reply, put_request, take_reply, take_request,
-};
-use crate::values::{put_call, take_call};
+use crate::phases::{put_reply, put_request, take_reply, take_request};
+use crate::values::{CallField, take_call};
 use fab_base::{Ballot, Bytes, NoMem, Stamp};
-use fields::{Field, Malformed, ReadFault, Reader};
+use fields::{Field, ReadFault, Reader, take_fields};
 use messages::{Call, Message};
 use std::alloc::Global;
 use thiserror::Error;
@@ -43,6 +41,7 @@ pub enum WireFault {
 
 /// The one spelling of a message. Asks that it has one: a list of members has at least one, a block at most 4,096 bytes, a
 /// client's bytes are at most 32,768, a seat is below 32, a data block below 16, and `Refusal::Down` is not sent.
+#[tactic(auto, using(fields::proofs::Writings::joined), unfolding(crate::specs::Spelling::message_fields))]
 pub fn encode(alloc: Global, message: &Message) -> Result<Bytes, NoMem>
     requires { HasSpelling message.now }
     ensures spelling { IfOk result (λ made. Spells made message.now) }
@@ -50,7 +49,8 @@ pub fn encode(alloc: Global, message: &Message) -> Result<Bytes, NoMem>
     ensures one { IfOk result (λ made. (bytes : List ℕ) → Spells bytes message.now → bytes ≡ made) }
 {
     let mut out = Vec::new(alloc);
-    put_message(&mut out, message)?;
+    (FABW, VERSION).put(&mut out)?;
+    put_body(&mut out, message)?;
     Ok(Bytes::from_vec(out))
 }
 
@@ -78,8 +78,7 @@ pub fn decode(alloc: Global, bytes: &[u8]) -> Result<Message, WireFault>
 
 /// The call at this place. None exactly where it does not end within the bytes.
 pub fn read_call(bytes: &[u8], at: usize) -> Option<Call>
-    ensures found { IfSome result (λ call. IsAt bytes.now at (call_codec.parts call)) }
-    ensures none { IsNone result ↔ (length bytes.now < at + 28) }
+    ensures { IfSome result (λ call. IsAt bytes.now at (call_codec.parts call)) × (IsNone result ↔ (length bytes.now < at + 28)) }
 {
     let rest = bytes.get(at..)?;
     take_call(&mut Reader { rest }).ok()
@@ -87,8 +86,7 @@ pub fn read_call(bytes: &[u8], at: usize) -> Option<Call>
 
 /// The stamp at this place. None exactly where it does not end within the bytes.
 pub fn read_stamp(bytes: &[u8], at: usize) -> Option<Stamp>
-    ensures found { IfSome result (λ stamp. IsAt bytes.now at (stamp_codec.parts stamp)) }
-    ensures none { IsNone result ↔ (length bytes.now < at + 18) }
+    ensures { IfSome result (λ stamp. IsAt bytes.now at (stamp_codec.parts stamp)) × (IsNone result ↔ (length bytes.now < at + 18)) }
 {
     let rest = bytes.get(at..)?;
     Stamp::take(&mut Reader { rest }).ok()
@@ -96,8 +94,7 @@ pub fn read_stamp(bytes: &[u8], at: usize) -> Option<Stamp>
 
 /// The ballot at this place. None exactly where it does not end within the bytes.
 pub fn read_ballot(bytes: &[u8], at: usize) -> Option<Ballot>
-    ensures found { IfSome result (λ ballot. IsAt bytes.now at (ballot_codec.parts ballot)) }
-    ensures none { IsNone result ↔ (length bytes.now < at + 10) }
+    ensures { IfSome result (λ ballot. IsAt bytes.now at (ballot_codec.parts ballot)) × (IsNone result ↔ (length bytes.now < at + 10)) }
 {
     let rest = bytes.get(at..)?;
     Ballot::take(&mut Reader { rest }).ok()
@@ -110,16 +107,8 @@ fn put_body(out: &mut Vec<u8>, message: &Message) -> Result<(), NoMem>
     ensures { Adds result out.old.items out.new.items (exactly (kind_number (message_kind message.now)) ∷ body_parts message.now) }
 {
     match message {
-        Message::Request(call, request) => {
-            number_of_request(request).put(out)?;
-            put_call(out, *call)?;
-            put_request(out, request)
-        }
-        Message::Reply(call, reply) => {
-            number_of_reply(reply).put(out)?;
-            put_call(out, *call)?;
-            put_reply(out, reply)
-        }
+        Message::Request(call, request) => { put_request(out, CallField(*call), request) }
+        Message::Reply(call, reply) => { put_reply(out, CallField(*call), reply) }
         Message::Learn { group, view } => {
             (10u8, *group).put(out)?;
             view.put(out)
@@ -136,23 +125,19 @@ fn put_body(out: &mut Vec<u8>, message: &Message) -> Result<(), NoMem>
     }
 }
 
-/// Adds the message's bytes.
-#[tactic(auto, using(fields::proofs::Writings::joined), unfolding(crate::specs::Spelling::message_fields))]
-fn put_message(out: &mut Vec<u8>, message: &Message) -> Result<(), NoMem>
-    requires { HasSpelling message.now }
-    ensures { Adds result out.old.items out.new.items (fields_of message.now) }
-{
-    (FABW, VERSION).put(out)?;
-    put_body(out, message)
-}
-
 /// The message that is all of the bytes.
 #[tactic(auto, unfolding(crate::specs::Spelling::datagram_of, crate::specs::Spelling::message_fields))]
 fn take_datagram(alloc: Global, bytes: &[u8]) -> Result<Message, ReadFault>
     ensures { GivesAll result (datagram_of bytes.now) }
 {
     let mut from = Reader { rest: bytes };
-    take_start(&mut from)?;
+    if from.take::<u32>()? != FABW {
+        return Err(ReadFault::Malformed(bytes.len()));
+    }
+    let left = from.rest.len();
+    if from.take::<u8>()? != VERSION {
+        return Err(ReadFault::Malformed(left));
+    }
     let message = take_body(alloc, &mut from)?;
     if from.rest.is_empty() {
         Ok(message)
@@ -161,22 +146,6 @@ fn take_datagram(alloc: Global, bytes: &[u8]) -> Result<Message, ReadFault>
     }
 }
 
-/// Reads the four bytes FABW and the version.
-fn take_start(from: &mut Reader<'_>) -> Result<(), Malformed>
-    ensures { Gives result from.new.rest.now (as_at (λ p. p.0) (then_at (exactly_at 4 1178681943) (exactly_at 1 1)) from.old.rest.now) }
-{
-    let left = from.rest.len();
-    if from.take::<u32>()? != FABW {
-        return Err(Malformed { left });
-    }
-    let left = from.rest.len();
-    if from.take::<u8>()? != VERSION {
-        return Err(Malformed { left });
-    }
-    Ok(())
-}
-
-/// Reads the kind of a message, and the fields of that kind.
 fn take_body(alloc: Global, from: &mut Reader<'_>) -> Result<Message, ReadFault>
     ensures { GivesOrNoMemory result from.new.rest.now (kinds_at kind_value body_at from.old.rest.now) }
 {
@@ -185,14 +154,8 @@ fn take_body(alloc: Global, from: &mut Reader<'_>) -> Result<Message, ReadFault>
     Ok(match number {
         1..=9 => { Message::Request(take_call(from)?, take_request(alloc, from, number)?) }
         32..=45 => Message::Reply(take_call(from)?, take_reply(alloc, from, number)?),
-        10 => {
-            let (group, view) = from.take()?;
-            Message::Learn { group, view }
-        }
-        11 => {
-            let (group, view) = from.take()?;
-            Message::Synced { group, view }
-        }
+        10 => take_fields!(from; Message::Learn { group, view }),
+        11 => take_fields!(from; Message::Synced { group, view }),
         64 => Message::Client(take_client(alloc, from)?),
         65 => Message::ClientReply {
             id: from.take()?,

@@ -3,36 +3,37 @@
 ghost use Rattle.fields.specs.Kinds.{option};
 ghost use Rattle.fields.specs.Parts.{Adds};
 ghost use Rattle.fields.specs.Reading.{Gives, GivesOrNoMemory};
-ghost use Rattle.fab_wire.specs.Values.{call_codec, want_codec, look_codec, op_codec, data_block_codec, version_codec};
+ghost use Rattle.fab_wire.specs.Values.{call_codec, call_field_codec, want_codec, look_codec, op_codec, data_block_codec, version_codec};
 
 use fab_base::NoMem;
-use fields::{Field, Malformed, ReadFault, Reader, put_block, take_block};
+use fields::{Field, Malformed, ReadFault, Reader, put_block, take_block, take_fields};
 use messages::{Call, ClientOp, Look, Version, Want};
 use std::alloc::Global;
 
-/// Adds a call.
+/// A call as a field.
+#[derive(Clone, Copy)]
+pub struct CallField(pub Call);
+
 #[tactic(auto, unfolding(crate::specs::Values::call_fields))]
-pub fn put_call(out: &mut Vec<u8>, call: Call) -> Result<(), NoMem>
-    ensures { Adds result out.old.items out.new.items (call_codec.parts call) }
-{
-    let place = (call.group, (call.view, call.stripe));
-    (call.boot, (call.seq, (call.phase, place))).put(out)
+impl Field for CallField {
+    ghost codec = { call_field_codec };
+
+    fn put(&self, out: &mut Vec<u8>) -> Result<(), NoMem> {
+        let CallField(call) = *self;
+        let place = (call.group, (call.view, call.stripe));
+        (call.boot, (call.seq, (call.phase, place))).put(out)
+    }
+
+    fn take(from: &mut Reader<'_>) -> Result<CallField, Malformed> {
+        Ok(CallField(take_call(from)?))
+    }
 }
 
-/// Reads a call.
 #[tactic(auto, unfolding(crate::specs::Values::call_fields))]
 pub fn take_call(from: &mut Reader<'_>) -> Result<Call, Malformed>
     ensures { Gives result from.new.rest.now (call_codec.read from.old.rest.now) }
 {
-    let (boot, (seq, (phase, (group, (view, stripe))))) = from.take()?;
-    Ok(Call {
-        boot,
-        seq,
-        phase,
-        group,
-        view,
-        stripe,
-    })
+    Ok(take_fields!(from; Call { boot, seq, phase, group, view, stripe }))
 }
 
 /// Adds which seats are to send bytes: one from 0 to 31, or all.
@@ -47,7 +48,6 @@ pub fn put_want(out: &mut Vec<u8>, want: Want) -> Result<(), NoMem>
     }
 }
 
-/// Reads which seats are to send bytes.
 pub fn take_want(from: &mut Reader<'_>) -> Result<Want, Malformed>
     ensures { Gives result from.new.rest.now (want_codec.read from.old.rest.now) }
 {
@@ -70,7 +70,6 @@ pub fn put_look(out: &mut Vec<u8>, look: Look) -> Result<(), NoMem>
     }
 }
 
-/// Reads which entry of a log is looked for.
 pub fn take_look(from: &mut Reader<'_>) -> Result<Look, Malformed>
     ensures { Gives result from.new.rest.now (look_codec.read from.old.rest.now) }
 {
@@ -80,20 +79,6 @@ pub fn take_look(from: &mut Reader<'_>) -> Result<Look, Malformed>
     })
 }
 
-/// Adds what an invocation does.
-#[tactic(auto, using(fields::proofs::Writings::joined))]
-pub fn put_op(out: &mut Vec<u8>, op: ClientOp) -> Result<(), NoMem>
-    ensures { Adds result out.old.items out.new.items (op_codec.parts op) }
-{
-    match op {
-        ClientOp::ReadBlock => 0u8.put(out),
-        ClientOp::WriteBlock => 1u8.put(out),
-        ClientOp::ReadStripe => 2u8.put(out),
-        ClientOp::WriteStripe => 3u8.put(out),
-    }
-}
-
-/// Reads what an invocation does.
 pub fn take_op(from: &mut Reader<'_>) -> Result<ClientOp, Malformed>
     ensures { Gives result from.new.rest.now (op_codec.read from.old.rest.now) }
 {
@@ -133,7 +118,6 @@ pub fn put_version(out: &mut Vec<u8>, version: &Option<Version>) -> Result<(), N
     }
 }
 
-/// Reads a version, if there is one.
 #[tactic(auto, unfolding(crate::specs::Values::version_fields))]
 pub fn take_version(alloc: Global, from: &mut Reader<'_>) -> Result<Option<Version>, ReadFault>
     ensures { GivesOrNoMemory result from.new.rest.now ((option version_codec).read from.old.rest.now) }

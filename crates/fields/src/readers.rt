@@ -46,6 +46,12 @@ pub struct Reader<'b> {
     pub rest: &'b [u8],
 }
 
+/// Reads each named field of a value, in this order, and makes the value of them.
+#[macro_export]
+macro_rules! take_fields {
+    ($from:expr; $($made:ident)::+ { $($field:ident),+ }) => { $($made)::+ { $($field: $from.take()?),+ } };
+}
+
 impl<'b> Reader<'b> {
     /// The field that the bytes begin with. `Malformed` exactly where they begin with none.
     pub fn take<T: Field>(&mut self) -> Result<T, Malformed>

@@ -2,11 +2,11 @@
 
 ghost use Rattle.std.specs.Prelude.{◌≡◌, ◌≤◌};
 ghost use Rattle.fields.specs.Reading.{Gives, times_at};
-ghost use Rattle.fields.specs.Values.{brick_codec, group_codec, stripe_codec, view_number_codec, stamp_codec, ballot_codec};
-ghost use Rattle.fields.specs.Values.{members_codec, view_codec};
+ghost use Rattle.fields.specs.Values.{brick_codec, group_codec, stripe_codec, view_number_codec, stamp_codec, ballot_codec, members_codec, view_codec};
 
 use crate::codecs::Field;
 use crate::readers::{Malformed, Reader};
+use crate::take_fields;
 use fab_base::{Ballot, BrickId, GroupId, Members, NoMem, Stamp, StripeNo, View, ViewNo};
 
 impl Field for BrickId {
@@ -66,12 +66,7 @@ impl Field for Stamp {
     }
 
     fn take(from: &mut Reader<'_>) -> Result<Stamp, Malformed> {
-        Ok(Stamp {
-            view: from.take()?,
-            time: from.take()?,
-            brick: from.take()?,
-            boot: from.take()?,
-        })
+        Ok(take_fields!(from; Stamp { view, time, brick, boot }))
     }
 }
 
@@ -84,11 +79,7 @@ impl Field for Ballot {
     }
 
     fn take(from: &mut Reader<'_>) -> Result<Ballot, Malformed> {
-        Ok(Ballot {
-            round: from.take()?,
-            brick: from.take()?,
-            boot: from.take()?,
-        })
+        Ok(take_fields!(from; Ballot { round, brick, boot }))
     }
 }
 
@@ -141,10 +132,6 @@ impl Field for View {
     }
 
     fn take(from: &mut Reader<'_>) -> Result<View, Malformed> {
-        Ok(View {
-            number: from.take()?,
-            members: from.take()?,
-            prior: from.take()?,
-        })
+        Ok(take_fields!(from; View { number, members, prior }))
     }
 }

@@ -34,10 +34,8 @@ impl ClientAsk {
     pub fn copy(&self, alloc: Global) -> Result<ClientAsk, NoMem>
         ensures { IfOk result (λ made. made ≡ self.now) }
     {
-        Ok(ClientAsk {
-            bytes: self.bytes.copy(alloc)?,
-            ..*self
-        })
+        let bytes = self.bytes.copy(alloc)?;
+        Ok(ClientAsk { bytes, ..*self })
     }
 }
 

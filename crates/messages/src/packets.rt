@@ -61,9 +61,7 @@ impl Packet {
     pub fn copy(&self, alloc: Global) -> Result<Packet, NoMem>
         ensures { IfOk result (λ made. made ≡ self.now) }
     {
-        Ok(Packet {
-            message: self.message.copy(alloc)?,
-            ..*self
-        })
+        let message = self.message.copy(alloc)?;
+        Ok(Packet { message, ..*self })
     }
 }

@@ -18,10 +18,8 @@ impl Lineage {
     pub fn copy(&self) -> Lineage
         ensures { result ≡ self.now }
     {
-        Lineage {
-            members: self.members.copy(),
-            prior: self.prior.copy(),
-        }
+        let (members, prior) = (self.members.copy(), self.prior.copy());
+        Lineage { members, prior }
     }
 }
 
@@ -37,10 +35,8 @@ impl Choice {
     pub fn copy(&self) -> Choice
         ensures { result ≡ self.now }
     {
-        Choice {
-            ballot: self.ballot,
-            members: self.members.copy(),
-        }
+        let members = self.members.copy();
+        Choice { members, ..*self }
     }
 }
 

@@ -31,10 +31,8 @@ impl Version {
     pub fn copy(&self, alloc: Global) -> Result<Version, NoMem>
         ensures { IfOk result (λ made. made ≡ self.now) }
     {
-        Ok(Version {
-            stamp: self.stamp,
-            block: self.block.copy(alloc)?,
-        })
+        let block = self.block.copy(alloc)?;
+        Ok(Version { block, ..*self })
     }
 }
 
