@@ -9,9 +9,9 @@ use Rattle.rand_pcg.specs.Pcg.{pcg32}
 use Rattle.fab_disk.specs.declared.medium.Step.{Step}
 use Rattle.fab_disk.proofs.Uncertain.{same_places}
 use Rattle.fab_disk.specs.Past.{Past, Fits, IsImage, past_of}
-use Rattle.fab_disk.specs.PastLaws.{content_is_image}
+use Rattle.fab_disk.specs.PastLaws.{rolled_back_is_image, content_is_image}
 use Rattle.fab_disk.specs.Settled.{filled, rolled_back, is_uncertain, seeded, settled_at}
-use Rattle.fab_disk.proofs.Images.{IsSameWhereCertain, rolled_back_is_image, drawn_is_image}
+use Rattle.fab_disk.proofs.Images.{IsSameWhereCertain, drawn_is_image}
 
 -- one place that is drawn
 pub filled_drawn : (uncertain : ℕ → Bool) (random : Lcg) (i byte : ℕ) (rest : List ℕ) → uncertain i ≡ true

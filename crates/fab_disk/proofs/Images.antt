@@ -1,10 +1,10 @@
 -- What a crash may leave after each call.
-use Rattle.std.proofs.Common.{◌≡◌, ◌⊎◌, inl, inr, ℕ, ◌+◌, ◌<◌, ◌≤◌, Bool, false, ◌||◌, ◌&&◌, List, [], ◌∷◌, length, get_or, refl, sym, ◌∙◌, ap, subst, arith, nat_lt}
+use Rattle.std.proofs.Common.{◌≡◌, ◌⊎◌, inl, inr, ℕ, ◌+◌, ◌<◌, ◌≤◌, Bool, false, ◌||◌, ◌&&◌, List, [], ◌∷◌, length, get_or, sym, ◌∙◌, ap, subst, arith, nat_lt}
 use Rattle.std.specs.Prelude.{nat_le}
 use Rattle.std.proofs.lemmas.Bool.{cases_lt}
 use Rattle.std.proofs.lemmas.Bool.Decides.{nat_tests}
 use Rattle.std.proofs.lemmas.Grind.{same_number_lists}
-use Rattle.fab_disk.specs.Disk.{Torn}
+use Rattle.fab_disk.specs.Disk.{Torn, IsOutside}
 use Rattle.fab_disk.specs.Past.{Change, Past, wrote, synced, undone, IsImage, IsPlaced, Fits}
 use Rattle.fab_disk.specs.PastLaws.{length-undone, undone_below, undone_within, undone_above, torn_undone}
 use Rattle.fab_disk.specs.Settled.{rolled_back, is_uncertain}
@@ -18,15 +18,20 @@ write_crash at n old new content after over image left =
     let torn : IsImage (wrote over.change ∷ old) after image = subst (λ (p : List Past). IsImage p after image) over.remembered left in
     (torn.0, subst (λ (c : List ℕ). IsImage old c torn.0) over.comes_back torn.1, over.torn torn.0 image torn.2)
 
--- what the last sync left may be left
-pub rolled_back_is_image : (past : List Past) (content : List ℕ) → IsImage past content (rolled_back past content)
-rolled_back_is_image [] content = refl
-rolled_back_is_image (synced ∷ older) content = refl
-rolled_back_is_image (wrote w ∷ older) content = (
-  rolled_back older (undone w content),
-  rolled_back_is_image older (undone w content),
-  record { kept = λ i lt out. refl; no_shorter = omega arith; no_longer = omega arith },
-)
+-- a write of no bytes tears nothing
+pub torn_none : (at : ℕ) (old new : List ℕ) → Torn at 0 old new → at ≤ length old → new ≡ old
+torn_none at old new torn within =
+    same_number_lists new old (omega (arith, torn.no_shorter, torn.no_longer)) (λ i lt. torn.kept i (omega (arith, torn.no_longer)) (outside i (cases_lt i at)))
+  where
+    outside : (i : ℕ) → (i < at) ⊎ (at ≤ i) → IsOutside at 0 i
+    outside i (inl below) = inl below
+    outside i (inr above) = inr (omega arith)
+
+-- a write leaves what the last sync left
+pub certain_wrote : (at n : ℕ) (old new : List Past) (content after : List ℕ) → IsWrittenOver at n old new content after
+    → rolled_back new after ≡ rolled_back old content
+certain_wrote at n old new content after over =
+    ap (λ (p : List Past). rolled_back p after) over.remembered ∙ ap (rolled_back old) over.comes_back
 
 -- the bytes are those of the content at each place that is certain
 pub record IsSameWhereCertain (past : List Past) (content image : List ℕ) : Type 0 where

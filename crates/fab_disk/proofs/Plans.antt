@@ -4,8 +4,8 @@ use Rattle.std.proofs.lemmas.Bool.{cases_lt}
 use Rattle.std.proofs.lemmas.Bool.Decides.{nat_tests}
 use Rattle.fab_disk.specs.declared.disk.Plan.{Plan}
 use Rattle.fab_disk.specs.declared.disk.Plan.TheVariants.{Never, Stop, Fail}
-use Rattle.fab_disk.specs.declared.disk.Fate.TheVariants.{Goes}
-use Rattle.fab_disk.specs.Plan.{call_of, sooner, IsWithin, IsRun, KeepsPlan, next_fate, plan_after}
+use Rattle.fab_disk.specs.declared.disk.Fate.TheVariants.{Goes, Stops, Fails}
+use Rattle.fab_disk.specs.Plan.{call_of, calls_made, sooner, IsWithin, IsRun, KeepsPlan, next_fate, plan_after}
 
 -- the plan names the next call, or it does not
 pub goes_spared : (plan : Plan) → next_fate plan ≡ Goes → IsWithin 1 plan → ⊥
@@ -22,6 +22,16 @@ pub struck_call : (plan : Plan) → next_fate plan ≢ Goes → call_of plan ≡
 struck_call Never other = absurd (other refl)
 struck_call (Stop number) other = grind (arith, nat_tests)
 struck_call (Fail number) other = grind (arith, nat_tests)
+
+pub stopped_calls : (plan : Plan) → next_fate plan ≡ Stops → calls_made plan ≡ 1
+stopped_calls Never is = absurd cc
+stopped_calls (Stop number) is = grind (arith, nat_tests)
+stopped_calls (Fail number) is = grind (arith, nat_tests)
+
+pub failed_calls : (plan : Plan) → next_fate plan ≡ Fails → calls_made plan ≡ 0
+failed_calls Never is = refl
+failed_calls (Stop number) is = grind (arith, nat_tests)
+failed_calls (Fail number) is = grind (arith, nat_tests)
 
 pub struck_after : (plan : Plan) → next_fate plan ≢ Goes → plan_after plan ≡ Never
 struck_after Never other = refl
@@ -44,6 +54,12 @@ call_sooner calls Never = omega arith
 call_sooner calls (Stop number) = refl
 call_sooner calls (Fail number) = refl
 
+-- how many calls are made, from those that were made before
+pub made_sooner : (calls : ℕ) (plan : Plan) → 1 ≤ call_of (sooner calls plan) → calls + calls_made (sooner calls plan) ≡ calls_made plan
+made_sooner calls Never named = absurd (omega (arith, named))
+made_sooner calls (Stop number) named = omega (arith, named)
+made_sooner calls (Fail number) named = omega (arith, named)
+
 -- two calls, the second made where the first did not fail
 pub keeps_both : {D : Type 0} (plan : D → Plan) (unlisted : D → Type 0) (old mid new : D) (F G : Type 0) → KeepsPlan plan unlisted old mid F
     → KeepsPlan plan unlisted mid new G → KeepsPlan plan unlisted old new G
@@ -65,8 +81,7 @@ module _ {D : Type 0} (tells : Type 0) (moment : D → ℕ) (plan : D → Plan) 
     spared = λ is. run.spared (whole is);
     later = λ is. run.later (whole is);
     named = λ free is. run.named free (cut is);
-    reached = λ told free is. run.reached told free (cut is);
-    no_more = λ told free is. run.no_more told free (cut is);
+    stopped = λ told free is. run.stopped told free (cut is);
     used_up = λ free is. run.used_up free (cut is);
     waits = waits;
     stays = run.stays;
@@ -83,8 +98,7 @@ module _ {D : Type 0} (tells : Type 0) (moment : D → ℕ) (plan : D → Plan) 
     spared = λ is. absurd (not_whole is);
     later = λ is. absurd (not_whole is);
     named = λ free is. absurd (kept.never free is);
-    reached = λ told free is. absurd (kept.never free is);
-    no_more = λ told free is. absurd (kept.never free is);
+    stopped = λ told free is. absurd (kept.never free is);
     used_up = λ free is. absurd (kept.never free is);
     waits = λ a b. kept.same;
     stays = kept.stays;
@@ -100,8 +114,7 @@ module _ {D : Type 0} (tells : Type 0) (moment : D → ℕ) (plan : D → Plan) 
         spared = λ is within. run.spared is (subst (IsWithin calls) (sym same) within);
         later = λ is. run.later is ∙ ap (sooner calls) same;
         named = λ free is. subst (IsWithin calls) same (run.named (kept.stays free) is);
-        reached = λ told free is. omega (arith, run.reached told (kept.stays free) is, clock, ap call_of same);
-        no_more = λ told free is. omega (arith, run.no_more told (kept.stays free) is, clock, ap call_of same);
+        stopped = λ told free is. omega (arith, run.stopped told (kept.stays free) is, clock, ap calls_made same);
         used_up = λ free is. run.used_up (kept.stays free) is;
         waits = λ a b. run.waits a b ∙ same;
         stays = λ free. run.stays (kept.stays free);
@@ -115,8 +128,7 @@ module _ {D : Type 0} (tells : Type 0) (moment : D → ℕ) (plan : D → Plan) 
     spared = λ is. absurd (not_whole is);
     later = λ is. absurd (not_whole is);
     named = λ free is. record { some = (run.named free is).some; reached = omega (arith, le, (run.named free is).reached) };
-    reached = run.reached;
-    no_more = run.no_more;
+    stopped = run.stopped;
     used_up = run.used_up;
     waits = λ a b. waits b;
     stays = run.stays;
@@ -137,19 +149,12 @@ module _ {D : Type 0} (tells : Type 0) (moment : D → ℕ) (plan : D → Plan) 
           some = omega (arith, call, (two.named (one.stays free) is).some);
           reached = omega (arith, call, sum, (two.named (one.stays free) is).reached, (two.named (one.stays free) is).some);
         };
-        reached = λ told free is. omega (
+        stopped = λ told free is. omega (
           arith,
-          call,
-          (two.named (one.stays free) is).some,
           one.counted told made,
-          two.reached told (one.stays free) is,
-        );
-        no_more = λ told free is. omega (
-          arith,
-          call,
-          (two.named (one.stays free) is).some,
-          one.counted told made,
-          two.no_more told (one.stays free) is,
+          two.stopped told (one.stays free) is,
+          ap calls_made moved,
+          made_sooner first (plan old) (subst (λ (p : Plan). 1 ≤ call_of p) moved (two.named (one.stays free) is).some),
         );
         used_up = λ free is. two.used_up (one.stays free) is;
         waits = λ a b. absurd (ends a b);

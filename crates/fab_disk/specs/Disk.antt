@@ -53,6 +53,18 @@ pub record LeavesOnly {D : Type 0} (moment : D → ℕ) (left_since : D → ℕ 
   -- for a run that began earlier
   pub before : (t : ℕ) (image : List ℕ) → t ≤ moment old → left_since new t image → left_since old t image ⊎ P image
 
+-- A run of so many calls, the last but one of which makes a change, was cut short: what the last sync left is as it may be before the change; what a
+-- read gives is so too, until the last call but one was made, and from then on it is what the change makes.
+pub record StopsEarly {D : Type 0} (seen certain : D → List ℕ) (moment : D → ℕ) (calls : ℕ) (old new : D) (Before After : List ℕ → Type 0) : Type 0 where
+  pub clock : moment new ≤ moment old + calls
+  pub settled : Before (certain new)
+  pub early : moment new + 2 ≤ moment old + calls → Before (seen new)
+  pub late : moment old + calls < moment new + 2 → After (seen new)
+
+-- a write that was cut short counts and was made, or it does not and nothing was written
+abbrev pub IsWrittenOrNot : ℕ → ℕ → List ℕ → List ℕ → List ℕ → Type 0
+IsWrittenOrNot before now old new changed = ((now ≡ before) × (new ≡ old)) ⊎ ((now ≡ before + 1) × (new ≡ changed))
+
 -- a count of faults rose; one that stands at the greatest number counts as risen
 abbrev pub Rose : ℕ → ℕ → Type 0
 Rose before now = (before < now) ⊎ (2 ^ 64 - 1 ≤ now)

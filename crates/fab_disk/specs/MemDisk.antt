@@ -1,6 +1,7 @@
 -- What a clause sees of a disk in memory.
 use Rattle.std.specs.Prelude.{◌≡◌, ◌⊎◌, ◌<◌, ◌-◌, ◌^◌, ℕ, List, length}
 use Rattle.fab_disk.specs.Past.{Past, IsImage, HadImage}
+use Rattle.fab_disk.specs.Settled.{rolled_back}
 use Rattle.fab_disk.specs.Medium.{past, HasRoom}
 use Rattle.fab_disk.specs.Stored.{shown}
 use Rattle.fab_disk.specs.FailingCalls.{NoneLeft, FailsNext}
@@ -22,6 +23,10 @@ past_of_disk disk = past disk.medium
 -- what a crash at this moment may leave
 abbrev pub may_be_left : MemDisk → List ℕ → Type 0
 may_be_left disk image = IsImage (past_of_disk disk) (content_of disk) image
+
+-- what the last sync left
+abbrev pub certain_of : MemDisk → List ℕ
+certain_of disk = rolled_back (past_of_disk disk) (content_of disk)
 
 -- and what one at that moment or a later one might have left
 abbrev pub was_left_since : MemDisk → ℕ → List ℕ → Type 0

@@ -2,6 +2,7 @@
 use Rattle.std.proofs.Common.{◌≡◌, inl, inr, ℕ, ◌+◌, ◌-◌, ◌<◌, ◌≤◌, List, [], ◌∷◌, length, get_or, refl, sym, subst, arith}
 use Rattle.std.proofs.lemmas.List.{places}
 use Rattle.fab_disk.specs.Disk.{Torn, IsOutside}
+use Rattle.fab_disk.specs.Settled.{rolled_back}
 use Rattle.fab_disk.specs.Past.{Change, Past, wrote, synced, undone, IsImage, HadImage, IsPlaced, Fits}
 
 -- what undoing a write gives, at each place
@@ -42,6 +43,16 @@ content_is_image (synced ∷ older) content fits = refl
 content_is_image (wrote w ∷ older) content fits =
     let size = length-undone w content fits.0.within fits.0.no_shorter in
     (undone w content, content_is_image older (undone w content) (subst (Fits older) (sym size) fits.1), torn_undone w content fits.0)
+
+-- what the last sync left may be left
+pub rolled_back_is_image : (past : List Past) (content : List ℕ) → IsImage past content (rolled_back past content)
+rolled_back_is_image [] content = refl
+rolled_back_is_image (synced ∷ older) content = refl
+rolled_back_is_image (wrote w ∷ older) content = (
+  rolled_back older (undone w content),
+  rolled_back_is_image older (undone w content),
+  record { kept = λ i lt out. refl; no_shorter = omega arith; no_longer = omega arith },
+)
 
 -- what may be left now is left at this moment, and so at one since an earlier one
 pub image_had : (past : List Past) (content : List ℕ) (t : ℕ) (image : List ℕ) → IsImage past content image → HadImage past content t image

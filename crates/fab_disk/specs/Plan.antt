@@ -17,6 +17,12 @@ sooner calls Never = Never
 sooner calls (Stop number) = Stop (number - calls)
 sooner calls (Fail number) = Fail (number - calls)
 
+-- how many calls are made until it befalls one: a call that stops counts, and one that fails does nothing
+abbrev pub calls_made : Plan → ℕ
+calls_made Never = 0
+calls_made (Stop number) = number
+calls_made (Fail number) = number - 1
+
 -- the plan names one of the next calls, so many
 pub record IsWithin (calls : ℕ) (plan : Plan) : Type 0 where
   pub some : 1 ≤ call_of plan
@@ -29,10 +35,9 @@ pub record IsRun {D : Type 0} (tells : Type 0) (moment : D → ℕ) (plan : D �
   pub counted : tells → whole → moment new ≡ moment old + calls
   pub spared : whole → IsWithin calls (plan old) → ⊥
   pub later : whole → plan new ≡ sooner calls (plan old)
-  -- where no call is listed, it is cut short only by the plan, at the call that this names: all before it were made
+  -- where no call is listed, it is cut short only by the plan, at the call that this names: all before it were made, and none after it
   pub named : unlisted old → cut → IsWithin calls (plan old)
-  pub reached : tells → unlisted old → cut → moment old + call_of (plan old) ≤ moment new + 1
-  pub no_more : tells → unlisted old → cut → moment new ≤ moment old + call_of (plan old)
+  pub stopped : tells → unlisted old → cut → moment new ≡ moment old + calls_made (plan old)
   pub used_up : unlisted old → cut → plan new ≡ Never
   -- not begun, it leaves the plan as it is
   pub waits : (whole → ⊥) → (cut → ⊥) → plan new ≡ plan old

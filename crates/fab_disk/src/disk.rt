@@ -1,8 +1,8 @@
 // What a store asks of a disk.
-ghost use Rattle.std.specs.Prelude.{◌≡◌, ◌+◌, ◌≤◌, ◌^◌, List, ℕ, length, slice_range, IfOk, IsOk, OnOk, IsOkUnless};
+ghost use Rattle.std.specs.Prelude.{◌≡◌, ◌+◌, ◌≤◌, ◌^◌, List, ℕ, length, slice_range, IfOk, IsOk, OnOk, OnErr, IsOkUnless};
 ghost use Rattle.fab_disk.specs.declared.disk.Plan.{Plan};
 ghost use Rattle.fab_disk.specs.declared.disk.IoFault.TheVariants.{NoMemory};
-ghost use Rattle.fab_disk.specs.Disk.{written, Torn, Follows, Only, Elapses, IsUntouched, Kept, KeepsRoom, TakesRoom};
+ghost use Rattle.fab_disk.specs.Disk.{written, Torn, Follows, Only, Elapses, IsUntouched, IsWrittenOrNot, Kept, KeepsRoom, TakesRoom};
 ghost use Rattle.fab_disk.specs.Plan.{IsRun, KeepsPlan, next_fate, plan_after};
 
 use std::alloc::{AllocError, AllocFailed};
@@ -52,6 +52,9 @@ pub trait Disk {
     /// The clock: how many calls of `write_at` and `sync` were made.
     ghost moment: { Self → ℕ };
 
+    /// What the last sync that succeeded left. A crash at any moment since may have left it.
+    ghost certain: { Self → List ℕ };
+
     /// What a crash at that moment or a later one might have left, during a call or between two.
     ghost left_since: { Self → ℕ → List ℕ → Type 0 };
 
@@ -74,6 +77,7 @@ pub trait Disk {
     fn len(&mut self) -> Result<u64, IoFault>
         ensures length { tells → IfOk result (λ n. n ≡ length (seen self.old)) }
         ensures untouched { IsUntouched seen may_leave moment left_since self.old self.new }
+        ensures certain { certain self.new ≡ certain self.old }
         ensures room { KeepsRoom (has_room self.old) (has_room self.new) }
         ensures plan { KeepsPlan plan unlisted self.old self.new (result ≡ Err IoFault.Failed) }
         ensures cause { Kept (faults self.old) (faults self.new) (sound self.old) (sound self.new) (result ≡ Err IoFault.Failed) };
@@ -84,6 +88,7 @@ pub trait Disk {
         requires reach { at + length into.old ≤ 2 ^ 48 }
         ensures bytes { tells → OnOk result (into.new ≡ slice_range (seen self.old) at (at + length into.old)) }
         ensures untouched { IsUntouched seen may_leave moment left_since self.old self.new }
+        ensures certain { certain self.new ≡ certain self.old }
         ensures room { KeepsRoom (has_room self.old) (has_room self.new) }
         ensures plan { KeepsPlan plan unlisted self.old self.new (result ≡ Err IoFault.Failed) }
         ensures cause { Kept (faults self.old) (faults self.new) (sound self.old) (sound self.new) (result ≡ Err IoFault.Failed) };
@@ -96,6 +101,7 @@ pub trait Disk {
         ensures enough { has_room self.old calls bytes end → IsOk result }
         ensures only_memory { IsOkUnless result IoFault.NoMemory }
         ensures untouched { IsUntouched seen may_leave moment left_since self.old self.new }
+        ensures certain { certain self.new ≡ certain self.old }
         ensures room { KeepsRoom (has_room self.old) (has_room self.new) }
         ensures plan { KeepsPlan plan unlisted self.old self.new (result ≡ Err IoFault.Failed) }
         ensures cause { Kept (faults self.old) (faults self.new) (sound self.old) (sound self.new) (result ≡ Err IoFault.Failed) };
@@ -111,12 +117,17 @@ pub trait Disk {
         ensures room { TakesRoom (length from.now) (at + length from.now) (has_room self.old) (has_room self.new) (result ≡ Err IoFault.NoMemory) }
         ensures plan { IsRun tells moment plan unlisted 1 self.old self.new (IsOk result) (result ≡ Err IoFault.Failed) }
         ensures fails { plan self.old ≡ Plan.Fail 1 → IsUntouched seen may_leave moment left_since self.old self.new }
+        ensures certain { certain self.new ≡ certain self.old }
+        ensures cut { tells → result ≡ Err IoFault.Failed → IsWrittenOrNot (moment self.old) (moment self.new) (seen self.old) (seen self.new)
+            (written at from.now (seen self.old)) }
         ensures cause { Kept (faults self.old) (faults self.new) (sound self.old) (sound self.new) (result ≡ Err IoFault.Failed) };
 
     /// After it, a crash leaves what a read gives. A call that stops, or fails by the plan, makes nothing certain.
     fn sync(&mut self) -> Result<(), IoFault>
         ensures durable { tells → OnOk result (Only (seen self.old) (may_leave self.new)) }
         ensures content { seen self.new ≡ seen self.old }
+        ensures certain { OnErr result (certain self.new ≡ certain self.old) }
+        ensures cut { OnErr result (moment self.new ≤ moment self.old + 1) }
         ensures crash { (image : List ℕ) → may_leave self.new image → may_leave self.old image }
         ensures time { Elapses (moment self.old) (moment self.new) (left_since self.old) (left_since self.new) (may_leave self.new) }
         ensures no_memory { result ≡ Err IoFault.NoMemory → IsUntouched seen may_leave moment left_since self.old self.new }
@@ -131,6 +142,9 @@ pub trait Disk {
 
     /// What a read gives is among what a crash may leave.
     ghost seen_is_left: { (disk : Self) → may_leave disk (seen disk) };
+
+    /// And so is what the last sync left.
+    ghost certain_is_left: { (disk : Self) → may_leave disk (certain disk) };
 
     /// This moment is one of those since an earlier one.
     ghost counts_now: { (disk : Self) (t : ℕ) (image : List ℕ) → t ≤ moment disk → may_leave disk image → left_since disk t image };
@@ -189,6 +203,7 @@ pub trait Armed: Disk {
     /// told from now on. By `Never` a disk with no listed call is sound again.
     fn arm(&mut self, plan: Plan)
         ensures content { Self.seen self.new ≡ Self.seen self.old }
+        ensures certain { Self.certain self.new ≡ Self.certain self.old }
         ensures crash { (image : List ℕ) → Self.may_leave self.new image → Self.may_leave self.old image }
         ensures planned { Self.plan self.new ≡ plan }
         ensures listed { Self.unlisted self.old → Self.unlisted self.new }

@@ -57,6 +57,8 @@ impl Disk for FileDisk {
 
     ghost moment = { λ _. 0 };
 
+    ghost certain = { λ _. [] };
+
     ghost left_since = { λ _ _ _. Unit {0} };
 
     ghost faults = { λ disk. disk.faults };
@@ -72,6 +74,8 @@ impl Disk for FileDisk {
     ghost room_for_less = { λ _ _ _ _ _ _ _ _ _ _ _. tt };
 
     ghost seen_is_left = { λ _. tt };
+
+    ghost certain_is_left = { λ _. tt };
 
     ghost counts_now = { λ _ _ _ _ _. tt };
 

@@ -113,6 +113,7 @@ impl Medium {
         ensures crash { (image : List ℕ) → IsImage (past self.new) (shown self.new.content) image
             → IsImage (past self.old) (shown self.old.content) image }
         ensures settled { IsSettled (past self.old) → past self.new ≡ [] }
+        ensures certain { rolled_back (past self.new) (shown self.new.content) ≡ rolled_back (past self.old) (shown self.old.content) }
         ensures room { KeepsRoom (HasRoom self.old) (HasRoom self.new) }
     {
         if let Some((Step::Wrote(_), _)) = self.steps.split_last() {

@@ -1,6 +1,6 @@
 // A disk in memory, which can be made to fail or to stop.
-ghost use Rattle.std.specs.Prelude.{◌≡◌, ◌≢◌, ◌+◌, ◌≤◌, ◌^◌, [], List, ℕ, length, slice_range, IsTrue, IfOk, IsOk, OnOk, IsOkUnless};
-ghost use Rattle.fab_disk.specs.Disk.{written, Torn, Follows, Only, Elapses, IsUntouched, Kept, KeepsRoom, TakesRoom};
+ghost use Rattle.std.specs.Prelude.{◌≡◌, ◌≢◌, ◌+◌, ◌≤◌, ◌^◌, [], List, ℕ, length, slice_range, IsTrue, IfOk, IsOk, OnOk, OnErr, IsOkUnless};
+ghost use Rattle.fab_disk.specs.Disk.{written, Torn, Follows, Only, Elapses, IsUntouched, IsWrittenOrNot, Kept, KeepsRoom, TakesRoom};
 ghost use Rattle.fab_disk.specs.Plan.{IsRun};
 
 use crate::disk::Fate;
@@ -136,9 +136,9 @@ impl MemDisk {
 }
 
 impl Disk for MemDisk {
-    ghost use Rattle.fab_disk.specs.PastLaws.{content_is_image, image_had, had_now};
+    ghost use Rattle.fab_disk.specs.PastLaws.{content_is_image, rolled_back_is_image, image_had, had_now};
     ghost use Rattle.fab_disk.specs.MediumLaws.{room_for_less, fits_shown};
-    ghost use Rattle.fab_disk.specs.MemDisk.{content_of, past_of_disk, may_be_left, was_left_since, moment_of, plan_of, is_unlisted, room_of, FailsWhole, GoesOn, HoldsAsBefore, IsSound};
+    ghost use Rattle.fab_disk.specs.MemDisk.{content_of, past_of_disk, may_be_left, certain_of, was_left_since, moment_of, plan_of, is_unlisted, room_of, FailsWhole, GoesOn, HoldsAsBefore, IsSound};
     ghost use Rattle.fab_disk.specs.Plan.{plan_after};
 
     ghost tells = { Unit {0} };
@@ -148,6 +148,8 @@ impl Disk for MemDisk {
     ghost may_leave = { may_be_left };
 
     ghost moment = { moment_of };
+
+    ghost certain = { certain_of };
 
     ghost left_since = { was_left_since };
 
@@ -164,6 +166,8 @@ impl Disk for MemDisk {
     ghost room_for_less = { λ disk calls bytes end fewer less nearer c b e room. room_for_less disk.medium calls bytes end fewer less nearer c b e room };
 
     ghost seen_is_left = { λ disk. content_is_image (past_of_disk disk) (content_of disk) (fits_shown disk.medium) };
+
+    ghost certain_is_left = { λ disk. rolled_back_is_image (past_of_disk disk) (content_of disk) };
 
     ghost counts_now = { λ disk t image le now. image_had (past_of_disk disk) (content_of disk) t image now };
 
@@ -201,6 +205,9 @@ impl Disk for MemDisk {
         ensures room { TakesRoom (length from.now) (at + length from.now) (room_of self.old) (room_of self.new) (result ≡ Err IoFault.NoMemory) }
         ensures plan { IsRun (Unit {0}) moment_of plan_of is_unlisted 1 self.old self.new (IsOk result) (result ≡ Err IoFault.Failed) }
         ensures fails { plan_of self.old ≡ Plan.Fail 1 → IsUntouched content_of may_be_left moment_of was_left_since self.old self.new }
+        ensures certain { certain_of self.new ≡ certain_of self.old }
+        ensures cut { result ≡ Err IoFault.Failed → IsWrittenOrNot (moment_of self.old) (moment_of self.new) (content_of self.old) (content_of self.new)
+            (written at from.now (content_of self.old)) }
         ensures cause { Kept self.old.faults self.new.faults (IsSound self.old) (IsSound self.new) (result ≡ Err IoFault.Failed) }
         ensures whole { FailsWhole self.old.plan self.old.failing → HoldsAsBefore self.old self.new }
         // A call before the plan's number is made as if there were no plan.
@@ -225,6 +232,8 @@ impl Disk for MemDisk {
     fn sync(&mut self) -> Result<(), IoFault>
         ensures durable { OnOk result (Only (content_of self.old) (may_be_left self.new)) }
         ensures content { content_of self.new ≡ content_of self.old }
+        ensures certain { OnErr result (certain_of self.new ≡ certain_of self.old) }
+        ensures cut { OnErr result (moment_of self.new ≤ moment_of self.old + 1) }
         ensures crash { (image : List ℕ) → may_be_left self.new image → may_be_left self.old image }
         ensures time { Elapses (moment_of self.old) (moment_of self.new) (was_left_since self.old) (was_left_since self.new) (may_be_left self.new) }
         ensures no_memory { result ≡ Err IoFault.NoMemory → IsUntouched content_of may_be_left moment_of was_left_since self.old self.new }
@@ -243,16 +252,22 @@ impl Disk for MemDisk {
                 self.medium.commit();
                 Ok(())
             }
-            Fate::Stops | Fate::Fails => Err(IoFault::Failed),
+            Fate::Stops => {
+                // It was begun, and so it counts: as a write of no bytes.
+                self.medium.overwrite(0, &[]);
+                Err(IoFault::Failed)
+            }
+            Fate::Fails => Err(IoFault::Failed),
         }
     }
 }
 
 impl Armed for MemDisk {
-    ghost use Rattle.fab_disk.specs.MemDisk.{content_of, may_be_left, plan_of, is_unlisted, room_of, IsSound};
+    ghost use Rattle.fab_disk.specs.MemDisk.{content_of, may_be_left, certain_of, plan_of, is_unlisted, room_of, IsSound};
 
     fn arm(&mut self, plan: Plan)
         ensures content { content_of self.new ≡ content_of self.old }
+        ensures certain { certain_of self.new ≡ certain_of self.old }
         ensures crash { (image : List ℕ) → may_be_left self.new image → may_be_left self.old image }
         ensures planned { plan_of self.new ≡ plan }
         ensures listed { is_unlisted self.old → is_unlisted self.new }

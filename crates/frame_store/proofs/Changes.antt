@@ -8,8 +8,8 @@ use Rattle.frame_store.specs.declared.shapes.Half.{Half}
 use Rattle.frame_store.specs.Layouts.{IsShape, half_at, slot_at}
 use Rattle.frame_store.specs.Listed.{size_of, line_of, Fits}
 use Rattle.frame_store.specs.Laid.{Laid}
-use Rattle.frame_store.specs.Images.{part, StandsIn, KeepsSlots, OpensAs, IsAfter, IsBeforeOrAfter}
-use Rattle.frame_store.specs.Steps.{IsGated, IsBothGated}
+use Rattle.frame_store.specs.Images.{part, StandsIn, KeepsSlots, OpensAs, IsBefore, IsAfter, IsBeforeOrAfter}
+use Rattle.frame_store.specs.Steps.{IsStaged, IsGated, IsBothGated}
 use Rattle.frame_store.proofs.Parts.{above, part_written, length-written}
 use Rattle.frame_store.proofs.Indexes.{Index, index_opens, index_kept}
 use Rattle.frame_store.proofs.Slots.{slots_kept, clear_behind, clear_slot, slot_before_half, stands_behind}
@@ -26,13 +26,19 @@ module _ (shape : Shape) (half : Half) (frames : List Frame) (frame : Frame) (p 
     (place : p ≡ half_at shape half + size_of frames)
     (fits : Fits shape frames (length frame.body)) (put : Option (ℕ × List ℕ)) (content : List ℕ) where
   -- before the gate is opened
-  pub moment_before : (d image : List ℕ) → Index shape half frames d → KeepsSlots shape put content d → Torn (p + 1) (length (line_of frame)) d image
-      → IsBeforeOrAfter shape frames (frames ++ frame ∷ []) put content image
-  moment_before d image index slots torn = record {
-    opens = inl (index_opens shape half frames image limits (index_staged shape half frames frame p limits place fits d image index torn));
+  pub still_before : (d image : List ℕ) → Index shape half frames d → KeepsSlots shape put content d → Torn (p + 1) (length (line_of frame)) d image
+      → IsBefore shape frames put content image
+  still_before d image index slots torn = record {
+    opens = index_opens shape half frames image limits (index_staged shape half frames frame p limits place fits d image index torn);
     slots = slots_kept shape put content d image (p + 1) (length (line_of frame)) torn
         (λ slot is other. clear_behind shape half (p + 1) (length (line_of frame)) slot (omega (arith, place)) is) slots;
   }
+
+  pub moment_before : (d image : List ℕ) → Index shape half frames d → KeepsSlots shape put content d → Torn (p + 1) (length (line_of frame)) d image
+      → IsBeforeOrAfter shape frames (frames ++ frame ∷ []) put content image
+  moment_before d image index slots torn =
+      let before = still_before d image index slots torn in
+      record { opens = inl before.opens; slots = before.slots }
 
   -- while it is opened
   pub moment_gated : (staged image : List ℕ) → Index shape half frames staged → KeepsSlots shape put content staged → StandsIn shape put staged
@@ -77,6 +83,11 @@ module _ (shape : Shape) (half : Half) (frames : List Frame) (frame : Frame) (p 
 module _ (shape : Shape) (half : Half) (frames : List Frame) (frame : Frame) (p : ℕ) (limits : IsShape shape)
     (place : p ≡ half_at shape half + size_of frames)
     (fits : Fits shape frames (length frame.body)) (content : List ℕ) where
+  pub append_before : (image : List ℕ) → Index shape half frames content → Torn (p + 1) (length (line_of frame)) content image
+      → IsBefore shape frames None content image
+  append_before image index torn =
+      still_before shape half frames frame p limits place fits None content content image index (slots_same shape None content) torn
+
   pub append_moment : (image : List ℕ) → Index shape half frames content → IsGated (p + 1) (line_of frame) p content image
       → IsBeforeOrAfter shape frames (frames ++ frame ∷ []) None content image
   append_moment image index (inl torn) = moment_before shape half frames frame p limits place fits None content content image index
@@ -119,6 +130,12 @@ module _ (shape : Shape) (half : Half) (frames : List Frame) (frame : Frame) (p 
         subst (λ (n : ℕ). part (slot_at shape slot) n (written (slot_at shape slot) block content) ≡ block) whole
             (part_written (slot_at shape slot) block content),
       )
+
+  pub put_before : (image : List ℕ) → Index shape half frames content
+      → IsStaged (slot_at shape slot) (length block) (p + 1) (length (line_of frame)) content image → IsBefore shape frames put content image
+  put_before image index staged =
+      still_before shape half frames frame p limits place fits put content staged.between image (index_put staged.between index staged.first)
+      (slots_put staged.between staged.first) staged.second
 
   pub put_moment : (image : List ℕ) → Index shape half frames content → IsBothGated (slot_at shape slot) block (p + 1) (line_of frame) p content image
       → IsBeforeOrAfter shape frames (frames ++ frame ∷ []) put content image

@@ -1,7 +1,7 @@
 -- What the calls of a store leave at each of their exits.
 use Rattle.std.proofs.Common.{◌≡◌, inl, inr, ℕ, ◌+◌, ◌-◌, ◌*◌, ◌^◌, ◌<◌, ◌≤◌, max, Bool, true, false, List, [], ◌∷◌, ◌++◌, length, Option, Some, None, refl, sym, ◌∙◌, ap, subst, arith}
 use Rattle.std.proofs.Math.Nat.{mul-le-mul_left}
-use Rattle.fab_disk.specs.Disk.{written, Only, IsUntouched, LeavesOnly}
+use Rattle.fab_disk.specs.Disk.{written, Torn, Only, IsUntouched, LeavesOnly, StopsEarly}
 use Rattle.fab_disk.proofs.Moments.{started, goes_on, joined, widened}
 use Rattle.frame_store.specs.declared.frames.Frame.{Frame}
 use Rattle.frame_store.specs.declared.shapes.Shape.{Shape}
@@ -10,9 +10,10 @@ use Rattle.frame_store.specs.declared.shapes.Half.TheVariants.{A, B}
 use Rattle.frame_store.specs.Layouts.{IsShape, header_at, header_rest, half_at, half_size, slot_at, store_end}
 use Rattle.frame_store.specs.Listed.{size_of, line_of, closed_list, Fits}
 use Rattle.frame_store.specs.Laid.{other, Laid, IsCounted}
-use Rattle.frame_store.specs.Images.{OpensAs, IsAfter, IsBeforeOrAfter}
-use Rattle.frame_store.specs.Steps.{IsGated, IsBothGated, IsRewritten, both_written, closing, next_of}
+use Rattle.frame_store.specs.Images.{OpensAs, IsBefore, IsAfter, IsBeforeOrAfter}
+use Rattle.frame_store.specs.Steps.{IsStaged, IsShutFirst, IsGated, IsBothGated, IsRewritten, both_written, closing, next_of}
 use Rattle.frame_store.specs.Stores.{Held, IsDurable}
+use Rattle.frame_store.proofs.Stopping.{stops_second}
 use Rattle.frame_store.proofs.Parts.{length-written}
 use Rattle.frame_store.proofs.Standing.{before_is}
 use Rattle.frame_store.proofs.Listing.{size_of-append}
@@ -20,8 +21,8 @@ use Rattle.frame_store.proofs.Slots.{slot_before_half}
 use Rattle.frame_store.proofs.Indexes.{Index}
 use Rattle.frame_store.proofs.Appending.{Rooted, length-line, index_of, rooted_of, appended_laid}
 use Rattle.frame_store.proofs.Headers.{header_within}
-use Rattle.frame_store.proofs.Rewriting.{length-closed_list, rewrite_first, rewrite_then, rewritten_laid, rewrite_after}
-use Rattle.frame_store.proofs.Changes.{laid_opens, append_moment, append_after, put_moment, put_after, rooted_put}
+use Rattle.frame_store.proofs.Rewriting.{length-closed_list, rewrite_first, rewrite_before, rewrite_then, rewritten_laid, rewrite_after}
+use Rattle.frame_store.proofs.Changes.{laid_opens, append_before, append_moment, append_after, put_before, put_moment, put_after, rooted_put}
 
 -- the whole store lies below 2^48
 pub end_small : (shape : Shape) → IsShape shape → store_end shape ≤ 2 ^ 40
@@ -55,6 +56,26 @@ module _ {D : Type 0} (tells : Type 0) (seen : D → List ℕ) (may_leave : D �
   -- and of the content after it
   abbrev pub After : (List Frame → List Frame) → Option (ℕ × List ℕ) → D → Held D → Type 0
   After after put new s = tells → IsAfter s.shape (after s.frames) put (seen s.disk) (seen new)
+
+  -- and of a call that is cut short
+  abbrev pub Cut : (D → List ℕ) → ℕ → (List Frame → List Frame) → Option (ℕ × List ℕ) → D → Held D → Type 0 → Type 0
+  Cut certain calls after put new s failed =
+      IsDurable tells seen may_leave s → s.closed ≡ true → failed → StopsEarly seen certain moment calls s.disk new
+      (IsBefore s.shape s.frames put (seen s.disk)) (IsAfter s.shape (after s.frames) put (seen s.disk))
+
+  -- a run that began once room was made, and was cut short
+  pub cut_run : (certain : D → List ℕ) (calls : ℕ) (s : Held D) (after : List Frame → List Frame) (put : Option (ℕ × List ℕ)) (mid new : D)
+      (failed : Type 0) (Q R : List ℕ → List ℕ → Type 0) → IsUntouched seen may_leave moment left_since s.disk mid
+      → (tells → Only (seen mid) (may_leave mid) → failed → StopsEarly seen certain moment calls mid new (Q (seen mid)) (R (seen mid)))
+      → (tells → s.halted ≡ false → s.closed ≡ true → (image : List ℕ) → Q (seen s.disk) image → IsBefore s.shape s.frames put (seen s.disk) image)
+      → (tells → s.halted ≡ false → (image : List ℕ) → R (seen s.disk) image → IsAfter s.shape (after s.frames) put (seen s.disk) image)
+      → Cut certain calls after put new s failed
+  cut_run certain calls s after put mid new failed Q R untouched run before then durable closed is =
+      let only : Only (seen mid) (may_leave mid) = λ image left. durable.only image (untouched.crash image left) ∙ sym untouched.content in
+      stops_second seen certain moment 0 calls calls s.disk mid new (Q (seen mid)) (R (seen mid)) (IsBefore s.shape s.frames put (seen s.disk))
+      (IsAfter s.shape (after s.frames) put (seen s.disk)) (omega arith) (omega (arith, untouched.clock))
+      (λ image q. before durable.told durable.runs closed image (subst (λ (c : List ℕ). Q c image) untouched.content q))
+      (λ image a. then durable.told durable.runs image (subst (λ (c : List ℕ). R c image) untouched.content a)) (run durable.told only is)
 
   module _ (only_now : (disk : D) (image : List ℕ) → left_since disk (moment disk) image → may_leave disk image) where
     -- a call that left the disk alone
@@ -152,6 +173,23 @@ module _ {D : Type 0} (tells : Type 0) (seen : D → List ℕ) (may_leave : D �
         (append_after s.shape half s.frames frame p ready.counted.limits gate_is fits (seen s.disk) number other_shut
         (rooted_of s.shape half number other_shut s.frames s.closed (seen s.disk) (ready.invariant told runs).0))
 
+    pub append_cut : (certain : D → List ℕ) (failed : Type 0)
+        → (tells → Only (seen mid) (may_leave mid) → failed → StopsEarly seen certain moment 4 mid new (Torn (p + 1) (length line) (seen mid))
+        (λ image. image ≡ written p (165 ∷ []) (written (p + 1) line (seen mid))))
+        → Cut tells seen may_leave moment left_since certain 4 (λ fs. fs ++ frame ∷ []) None new s failed
+    append_cut certain failed run =
+        cut_run tells seen may_leave moment left_since certain 4 s (λ fs. fs ++ frame ∷ []) None mid new failed
+        (λ c. Torn (p + 1) (length line) c) (λ c image. image ≡ written p (165 ∷ []) (written (p + 1) line c)) ready.untouched run
+        (λ told runs closed image torn.
+        append_before s.shape half s.frames frame p ready.counted.limits gate_is fits (seen s.disk) image
+        (index_now s.shape half number other_shut s.frames s.closed (seen s.disk) (ready.invariant told runs).0 closed)
+        (subst (λ (l : List ℕ). Torn (p + 1) (length l) (seen s.disk) image) line_is torn))
+        (λ told runs image is.
+        subst (IsAfter s.shape (s.frames ++ frame ∷ []) None (seen s.disk))
+        (sym (is ∙ ap (λ (l : List ℕ). written p (165 ∷ []) (written (p + 1) l (seen s.disk))) line_is))
+        (append_after s.shape half s.frames frame p ready.counted.limits gate_is fits (seen s.disk) number other_shut
+        (rooted_of s.shape half number other_shut s.frames s.closed (seen s.disk) (ready.invariant told runs).0)))
+
     pub append_laid : s.halted ≡ false → (tells → seen new ≡ written p (165 ∷ []) (written (p + 1) line (seen mid))) → tells
         → Laid s.shape half number other_shut (s.frames ++ frame ∷ []) true (seen new) × (length (seen new) ≡ max s.size (p + 1 + length line))
     append_laid runs is told =
@@ -200,6 +238,25 @@ module _ {D : Type 0} (tells : Type 0) (seen : D → List ℕ) (may_leave : D �
           subst (λ (c : List ℕ). IsAfter s.shape (s.frames ++ frame ∷ []) (Some (slot, block)) (seen s.disk) c) (sym (put_is told (is told)))
           (put_after s.shape half s.frames frame p ready.counted.limits gate_is fits (seen s.disk) slot block is_slot whole number other_shut
           (rooted_of s.shape half number other_shut s.frames s.closed (seen s.disk) (ready.invariant told runs).0))
+
+      pub put_cut : (certain : D → List ℕ) (failed : Type 0)
+          → (tells → Only (seen mid) (may_leave mid) → failed → StopsEarly seen certain moment 5 mid new
+          (IsStaged (slot_at s.shape slot) (length block) (p + 1) (length line) (seen mid))
+          (λ image. image ≡ written p (165 ∷ []) (both_written (slot_at s.shape slot) block (p + 1) line (seen mid))))
+          → Cut tells seen may_leave moment left_since certain 5 (λ fs. fs ++ frame ∷ []) (Some (slot, block)) new s failed
+      put_cut certain failed run =
+          cut_run tells seen may_leave moment left_since certain 5 s (λ fs. fs ++ frame ∷ []) (Some (slot, block)) mid new failed
+          (λ c. IsStaged (slot_at s.shape slot) (length block) (p + 1) (length line) c)
+          (λ c image. image ≡ written p (165 ∷ []) (both_written (slot_at s.shape slot) block (p + 1) line c)) ready.untouched run
+          (λ told runs closed image staged.
+          put_before s.shape half s.frames frame p ready.counted.limits gate_is fits (seen s.disk) slot block is_slot whole image
+          (index_now s.shape half number other_shut s.frames s.closed (seen s.disk) (ready.invariant told runs).0 closed)
+          (subst (λ (l : List ℕ). IsStaged (slot_at s.shape slot) (length block) (p + 1) (length l) (seen s.disk) image) line_is staged))
+          (λ told runs image is.
+          subst (IsAfter s.shape (s.frames ++ frame ∷ []) (Some (slot, block)) (seen s.disk))
+          (sym (is ∙ ap (λ (l : List ℕ). written p (165 ∷ []) (written (p + 1) l (written (slot_at s.shape slot) block (seen s.disk)))) line_is))
+          (put_after s.shape half s.frames frame p ready.counted.limits gate_is fits (seen s.disk) slot block is_slot whole number other_shut
+          (rooted_of s.shape half number other_shut s.frames s.closed (seen s.disk) (ready.invariant told runs).0)))
 
       pub put_laid : s.halted ≡ false → (tells → seen new ≡ written p (165 ∷ []) (both_written (slot_at s.shape slot) block (p + 1) line (seen mid)))
           → tells
@@ -272,11 +329,9 @@ module _ {D : Type 0} (tells : Type 0) (seen : D → List ℕ) (may_leave : D �
         (both_written (header_at (other half) + 1) (header_rest s.shape (next_of number)) (half_at s.shape (other half)) (closed_list fs)
         (written (header_at (other half)) (closing other_shut) content))
 
-    is_content : seen new ≡ written gate (165 ∷ []) (both_written (gate + 1) rest at line (written gate shut (seen mid)))
-        → seen new ≡ content_after (seen s.disk)
-    is_content is =
-        is ∙ ap (λ (c : List ℕ). written gate (165 ∷ []) (both_written (gate + 1) rest at line (written gate shut c))) untouched.content
-        ∙ ap (λ (x : ℕ). written x (165 ∷ []) (both_written (x + 1) rest at line (written x shut (seen s.disk)))) gate_is
+    same_content : written gate (165 ∷ []) (both_written (gate + 1) rest at line (written gate shut (seen s.disk))) ≡ content_after (seen s.disk)
+    same_content =
+        ap (λ (x : ℕ). written x (165 ∷ []) (both_written (x + 1) rest at line (written x shut (seen s.disk)))) gate_is
         ∙ ap (λ (x : List ℕ). written (header_at (other half)) (165 ∷ [])
         (both_written (header_at (other half) + 1) rest at line (written (header_at (other half)) x (seen s.disk)))) shut_is
         ∙ ap (λ (x : List ℕ). written (header_at (other half)) (165 ∷ [])
@@ -287,6 +342,37 @@ module _ {D : Type 0} (tells : Type 0) (seen : D → List ℕ) (may_leave : D �
         ∙ ap (λ (x : List ℕ). written (header_at (other half)) (165 ∷ [])
         (both_written (header_at (other half) + 1) (header_rest s.shape (next_of number)) (half_at s.shape (other half)) x
         (written (header_at (other half)) (closing other_shut) (seen s.disk)))) line_is
+
+    is_content : seen new ≡ written gate (165 ∷ []) (both_written (gate + 1) rest at line (written gate shut (seen mid)))
+        → seen new ≡ content_after (seen s.disk)
+    is_content is =
+        is ∙ ap (λ (c : List ℕ). written gate (165 ∷ []) (both_written (gate + 1) rest at line (written gate shut c))) untouched.content ∙ same_content
+
+    as_shut : (content image : List ℕ) → IsShutFirst gate shut rest at line content image
+        → IsShutFirst (header_at (other half)) (closing other_shut) (header_rest s.shape (next_of number)) (half_at s.shape (other half))
+        (closed_list fs) content image
+    as_shut content image q =
+        subst (λ (x : List ℕ). IsShutFirst (header_at (other half)) (closing other_shut) (header_rest s.shape (next_of number))
+        (half_at s.shape (other half)) x content image) line_is
+        (subst (λ (x : ℕ). IsShutFirst (header_at (other half)) (closing other_shut)
+        (header_rest s.shape (next_of number)) x line content image) at_is
+        (subst (λ (x : List ℕ). IsShutFirst (header_at (other half)) (closing other_shut) x at line content image) rest_is
+        (subst (λ (x : List ℕ). IsShutFirst (header_at (other half)) x rest at line content image) shut_is
+        (subst (λ (x : ℕ). IsShutFirst x shut rest at line content image) gate_is q))))
+
+    pub rewrite_cut : (certain : D → List ℕ) (failed : Type 0)
+        → (tells → Only (seen mid) (may_leave mid) → failed → StopsEarly seen certain moment 7 mid new (IsShutFirst gate shut rest at line (seen mid))
+        (λ image. image ≡ written gate (165 ∷ []) (both_written (gate + 1) rest at line (written gate shut (seen mid)))))
+        → Cut tells seen may_leave moment left_since certain 7 (λ old. fs) None new s failed
+    rewrite_cut certain failed run =
+        cut_run tells seen may_leave moment left_since certain 7 s (λ old. fs) None mid new failed (λ c. IsShutFirst gate shut rest at line c)
+        (λ c image. image ≡ written gate (165 ∷ []) (both_written (gate + 1) rest at line (written gate shut c))) untouched run
+        (λ told runs closed image q.
+        rewrite_before s.shape half number other_shut s.frames fs (seen s.disk) counted.limits small fits (rooted_now told runs)
+        (index_now s.shape half number other_shut s.frames s.closed (seen s.disk) (inv told runs).0 closed) image (as_shut (seen s.disk) image q))
+        (λ told runs image is.
+        subst (IsAfter s.shape fs None (seen s.disk)) (sym (is ∙ same_content))
+        (rewrite_after s.shape half number other_shut s.frames fs (seen s.disk) counted.limits small fits (rooted_now told runs)))
 
     pub rewrite_done : s.halted ≡ false → (tells → seen new ≡ written gate (165 ∷ [])
         (both_written (gate + 1) rest at line (written gate shut (seen mid))))

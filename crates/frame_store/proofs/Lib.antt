@@ -2,6 +2,7 @@ pub mod Standing
 pub mod Parts
 pub mod Listing
 pub mod Runs
+pub mod Stopping
 pub mod Headers
 pub mod Indexes
 pub mod Slots

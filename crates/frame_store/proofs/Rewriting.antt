@@ -12,8 +12,8 @@ use Rattle.frame_store.specs.declared.shapes.Half.TheVariants.{A, B}
 use Rattle.frame_store.specs.Layouts.{IsShape, header_at, half_at, half_size, header_rest}
 use Rattle.frame_store.specs.Listed.{spelled, size_of, closed_list}
 use Rattle.frame_store.specs.Laid.{other, Laid}
-use Rattle.frame_store.specs.Images.{part, IsOpen, InForce, IsLater, IsShut, EndsClosed, IsAfter, IsBeforeOrAfter, KeepsSlots, generation_at}
-use Rattle.frame_store.specs.Steps.{IsStaged, IsBothGated, both_written, closing, next_of}
+use Rattle.frame_store.specs.Images.{part, IsOpen, InForce, IsLater, IsShut, EndsClosed, IsBefore, IsAfter, IsBeforeOrAfter, KeepsSlots, generation_at}
+use Rattle.frame_store.specs.Steps.{IsStaged, IsShutFirst, IsBothGated, both_written, closing, next_of}
 use Rattle.frame_store.proofs.Parts.{IsClear, below, above, unwritten, part_get, part_kept, same_part, byte_kept, part_of_part, part_written, written_get, length-written}
 use Rattle.frame_store.proofs.Listing.{length-spelled}
 use Rattle.frame_store.proofs.Headers.{header_within, gate_of_open, shut_is_not_open, generation_kept, header_is_open, header_generation, next_is_later, not_later_than_next}
@@ -292,6 +292,17 @@ module _ (shape : Shape) (half : Half) (number : ℕ) (other_shut : Bool) (frame
     opens = inl
         (index_opens shape half frames image limits (index_closing image index torn));
     slots = slots_shut image torn;
+  }
+
+  -- before it is opened again
+  pub rewrite_before : Index shape half frames content → (image : List ℕ)
+      → IsShutFirst gate_at (closing other_shut) (header_rest shape (next_of number)) list_at (closed_list new) content image
+      → IsBefore shape frames None content image
+  rewrite_before index image (inl torn) =
+      record { opens = index_opens shape half frames image limits (index_closing image index torn); slots = slots_shut image torn }
+  rewrite_before index image (inr staged) = record {
+    opens = index_opens shape half frames image limits (index_written image (index_closing shut_content index torn_shut) staged);
+    slots = slots_list staged.between image (slots_header shut_content staged.between (slots_shut shut_content torn_shut) staged.first) staged.second;
   }
 
   pub rewrite_then : Index shape half frames content → (image : List ℕ) → IsBothGated (gate_at + 1) (header_rest shape (next_of number)) list_at

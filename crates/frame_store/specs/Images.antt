@@ -92,6 +92,12 @@ pub record IsAfter (shape : Shape) (frames : List Frame) (put : Option (ℕ × L
   pub stands : StandsIn shape put image
   pub slots : KeepsSlots shape put content image
 
+-- The image is that of a store before a change of this content: it opens as these frames, with a closed gate after them, and no slot differs but
+-- the one that the block is put in.
+pub record IsBefore (shape : Shape) (frames : List Frame) (put : Option (ℕ × List ℕ)) (content image : List ℕ) : Type 0 where
+  pub opens : OpensAs shape frames true image
+  pub slots : KeepsSlots shape put content image
+
 -- The image is that of a store at a moment of a change of this content: it opens as the frames before the change or as those
 -- after it, with a closed gate after them, and then with the block put in its slot. No other slot differs.
 pub record IsBeforeOrAfter (shape : Shape) (before after : List Frame) (put : Option (ℕ × List ℕ)) (content image : List ℕ) : Type 0 where

@@ -30,6 +30,11 @@ closing false = 0 ∷ []
 abbrev pub next_of : ℕ → ℕ
 next_of number = (number + 1) % 2 ^ 64
 
+-- a crash while a gate is shut, then the rest of its header and a list are written
+abbrev pub IsShutFirst : ℕ → List ℕ → List ℕ → ℕ → List ℕ → List ℕ → List ℕ → Type 0
+IsShutFirst gate shut rest at list content image =
+    Torn gate (length shut) content image ⊎ IsStaged (gate + 1) (length rest) at (length list) (written gate shut content) image
+
 -- A crash while a gate is shut, then the rest of its header and a list are written, and then it is opened.
 abbrev pub IsRewritten : ℕ → List ℕ → List ℕ → ℕ → List ℕ → List ℕ → List ℕ → Type 0
 IsRewritten gate shut rest at list content image =

@@ -1,9 +1,9 @@
 //! Runs of calls of a disk, for which room in memory was made before.
 
-ghost use Rattle.std.specs.Prelude.{◌≡◌, ◌+◌, ◌≤◌, ◌^◌, ◌∷◌, [], List, ℕ, length, OnOk, IsOk, IsOkUnless};
-ghost use Rattle.fab_disk.specs.Disk.{written, Torn, Follows, Only, Elapses, IsUntouched, LeavesOnly, Kept, KeepsRoom};
+ghost use Rattle.std.specs.Prelude.{◌≡◌, ◌+◌, ◌≤◌, ◌^◌, ◌∷◌, [], List, ℕ, length, OnOk, OnErr, IsOk, IsOkUnless};
+ghost use Rattle.fab_disk.specs.Disk.{written, Torn, Follows, Only, Elapses, IsUntouched, LeavesOnly, StopsEarly, IsWrittenOrNot, Kept, KeepsRoom};
 ghost use Rattle.fab_disk.specs.Plan.{IsRun, KeepsPlan};
-ghost use Rattle.frame_store.specs.Steps.{IsStaged, IsGated, IsBothGated, IsRewritten, both_written};
+ghost use Rattle.frame_store.specs.Steps.{IsStaged, IsShutFirst, IsGated, IsBothGated, IsRewritten, both_written};
 
 use crate::faults::FrameFault;
 use fab_disk::Disk;
@@ -40,6 +40,9 @@ fn write<D: Disk>(disk: &mut D, at: u64, bytes: &[u8]) -> Result<(), FrameFault>
     ensures left { OnOk result ((calls room end : ℕ) → at + length bytes.now ≤ end → D.has_room disk.old (calls + 1) (room + length bytes.now) end
         → D.has_room disk.new calls room end) }
     ensures run { IsRun D.tells D.moment D.plan D.unlisted 1 disk.old disk.new (IsOk result) (result ≡ Err FrameFault.Disk) }
+    ensures certain { D.certain disk.new ≡ D.certain disk.old }
+    ensures cut { D.tells → result ≡ Err FrameFault.Disk → IsWrittenOrNot (D.moment disk.old) (D.moment disk.new) (D.seen disk.old) (D.seen disk.new)
+        (written at bytes.now (D.seen disk.old)) }
     ensures only { IsOkUnless result FrameFault.Disk }
     ensures cause { Kept (D.faults disk.old) (D.faults disk.new) (D.sound disk.old) (D.sound disk.new) (result ≡ Err FrameFault.Disk) }
 {
@@ -58,6 +61,8 @@ fn sync<D: Disk>(disk: &mut D) -> Result<(), FrameFault>
     ensures time { Elapses (D.moment disk.old) (D.moment disk.new) (D.left_since disk.old) (D.left_since disk.new) (D.may_leave disk.new) }
     ensures left { OnOk result ((calls room end : ℕ) → D.has_room disk.old (calls + 1) room end → D.has_room disk.new calls room end) }
     ensures run { IsRun D.tells D.moment D.plan D.unlisted 1 disk.old disk.new (IsOk result) (result ≡ Err FrameFault.Disk) }
+    ensures certain { result ≡ Err FrameFault.Disk → D.certain disk.new ≡ D.certain disk.old }
+    ensures cut { result ≡ Err FrameFault.Disk → D.moment disk.new ≤ D.moment disk.old + 1 }
     ensures only { IsOkUnless result FrameFault.Disk }
     ensures cause { Kept (D.faults disk.old) (D.faults disk.new) (D.sound disk.old) (D.sound disk.new) (result ≡ Err FrameFault.Disk) }
 {
@@ -78,6 +83,8 @@ pub(crate) fn write_synced<D: Disk>(disk: &mut D, at: u64, bytes: &[u8]) -> Resu
     ensures left { OnOk result ((calls room end : ℕ) → at + length bytes.now ≤ end → D.has_room disk.old (calls + 2) (room + length bytes.now) end
         → D.has_room disk.new calls room end) }
     ensures run { IsRun D.tells D.moment D.plan D.unlisted 2 disk.old disk.new (IsOk result) (result ≡ Err FrameFault.Disk) }
+    ensures cut { D.tells → Only (D.seen disk.old) (D.may_leave disk.old) → result ≡ Err FrameFault.Disk → StopsEarly D.seen D.certain D.moment 2 disk.old disk.new
+        (λ image. image ≡ D.seen disk.old) (λ image. image ≡ written at bytes.now (D.seen disk.old)) }
     ensures only { IsOkUnless result FrameFault.Disk }
     ensures cause { Kept (D.faults disk.old) (D.faults disk.new) (D.sound disk.old) (D.sound disk.new) (result ≡ Err FrameFault.Disk) }
 {
@@ -102,6 +109,8 @@ pub(crate) fn write_gated<D: Disk>(
     ensures left { OnOk result ((calls room end : ℕ) → at + length bytes.now ≤ end → D.has_room disk.old (calls + 4)
         (room + (length bytes.now + 1)) end → D.has_room disk.new calls room end) }
     ensures run { IsRun D.tells D.moment D.plan D.unlisted 4 disk.old disk.new (IsOk result) (result ≡ Err FrameFault.Disk) }
+    ensures cut { D.tells → Only (D.seen disk.old) (D.may_leave disk.old) → result ≡ Err FrameFault.Disk → StopsEarly D.seen D.certain D.moment 4 disk.old disk.new
+        (Torn at (length bytes.now) (D.seen disk.old)) (λ image. image ≡ written gate (165 ∷ []) (written at bytes.now (D.seen disk.old))) }
     ensures only { IsOkUnless result FrameFault.Disk }
     ensures cause { Kept (D.faults disk.old) (D.faults disk.new) (D.sound disk.old) (D.sound disk.new) (result ≡ Err FrameFault.Disk) }
 {
@@ -127,6 +136,8 @@ fn write_both_synced<D: Disk>(
     ensures left { OnOk result ((calls room end : ℕ) → at + length second.now ≤ end → D.has_room disk.old (calls + 3)
         (room + (length first.now + length second.now)) end → D.has_room disk.new calls room end) }
     ensures run { IsRun D.tells D.moment D.plan D.unlisted 3 disk.old disk.new (IsOk result) (result ≡ Err FrameFault.Disk) }
+    ensures cut { D.tells → Only (D.seen disk.old) (D.may_leave disk.old) → result ≡ Err FrameFault.Disk → StopsEarly D.seen D.certain D.moment 3 disk.old disk.new
+        (IsStaged from (length first.now) at (length second.now) (D.seen disk.old)) (λ image. image ≡ both_written from first.now at second.now (D.seen disk.old)) }
     ensures only { IsOkUnless result FrameFault.Disk }
     ensures cause { Kept (D.faults disk.old) (D.faults disk.new) (D.sound disk.old) (D.sound disk.new) (result ≡ Err FrameFault.Disk) }
 {
@@ -156,6 +167,8 @@ pub(crate) fn write_both_gated<D: Disk>(
     ensures left { OnOk result ((calls room end : ℕ) → at + length second.now ≤ end → D.has_room disk.old (calls + 5)
         (room + (length first.now + length second.now + 1)) end → D.has_room disk.new calls room end) }
     ensures run { IsRun D.tells D.moment D.plan D.unlisted 5 disk.old disk.new (IsOk result) (result ≡ Err FrameFault.Disk) }
+    ensures cut { D.tells → Only (D.seen disk.old) (D.may_leave disk.old) → result ≡ Err FrameFault.Disk → StopsEarly D.seen D.certain D.moment 5 disk.old disk.new
+        (IsStaged from (length first.now) at (length second.now) (D.seen disk.old)) (λ image. image ≡ written gate (165 ∷ []) (both_written from first.now at second.now (D.seen disk.old))) }
     ensures only { IsOkUnless result FrameFault.Disk }
     ensures cause { Kept (D.faults disk.old) (D.faults disk.new) (D.sound disk.old) (D.sound disk.new) (result ≡ Err FrameFault.Disk) }
 {
@@ -184,6 +197,9 @@ pub(crate) fn rewrite_gated<D: Disk>(
     ensures left { OnOk result ((calls room end : ℕ) → at + length list.now ≤ end → D.has_room disk.old (calls + 7)
         (room + (length shut.now + (length rest.now + length list.now + 1))) end → D.has_room disk.new calls room end) }
     ensures run { IsRun D.tells D.moment D.plan D.unlisted 7 disk.old disk.new (IsOk result) (result ≡ Err FrameFault.Disk) }
+    ensures cut { D.tells → Only (D.seen disk.old) (D.may_leave disk.old) → result ≡ Err FrameFault.Disk → StopsEarly D.seen D.certain D.moment 7 disk.old disk.new
+        (IsShutFirst gate shut.now rest.now at list.now (D.seen disk.old)) (λ image. image ≡ written gate (165 ∷ [])
+        (both_written (gate + 1) rest.now at list.now (written gate shut.now (D.seen disk.old)))) }
     ensures only { IsOkUnless result FrameFault.Disk }
     ensures cause { Kept (D.faults disk.old) (D.faults disk.new) (D.sound disk.old) (D.sound disk.new) (result ≡ Err FrameFault.Disk) }
 {

@@ -1,11 +1,11 @@
 //! The store.
 
 ghost use Rattle.std.specs.Prelude.{max, ◌≡◌, ◌≢◌, ◌⊎◌, ◌↔◌, ◌+◌, ◌≤◌, ◌<◌, ◌^◌, ◌++◌, ◌∷◌, [], ℕ, List, true, false, length, IsTrue, IsOk, IfOk, IfErr, OnOk, OnErr, Some, None};
-ghost use Rattle.fab_disk.specs.Disk.{Only, Elapses, IsUntouched, LeavesOnly, Kept, KeepsRoom};
+ghost use Rattle.fab_disk.specs.Disk.{Only, Elapses, IsUntouched, LeavesOnly, StopsEarly, Kept, KeepsRoom};
 ghost use Rattle.fab_disk.specs.Plan.{IsRun, KeepsPlan};
 ghost use Rattle.frame_store.specs.Layouts.{shape_of, half_size};
 ghost use Rattle.frame_store.specs.Listed.{Fits, size_of, frame_of};
-ghost use Rattle.frame_store.specs.Images.{OpensAs, IsNoStore, HasSlot, block_in, IsAfter, IsBeforeOrAfter};
+ghost use Rattle.frame_store.specs.Images.{OpensAs, IsNoStore, HasSlot, block_in, IsBefore, IsAfter, IsBeforeOrAfter};
 ghost use Rattle.frame_store.specs.Stores.{Shows, IsRead, IsDurable, IsSame, HasNow, IsAnswer, HasRoom};
 
 use crate::buffers::{closing, copied, header_rest, shut_headers, size_of};
@@ -236,6 +236,10 @@ impl<D: Disk> FrameStore<D> {
         ensures any_moment { IsDurable D.tells D.seen D.may_leave self.old → self.old.closed ≡ true
             → LeavesOnly D.moment D.left_since self.old.disk self.new.disk
             (IsBeforeOrAfter self.old.shape self.old.frames (self.old.frames ++ frame_of kind body.now ∷ []) None (D.seen self.old.disk)) }
+        // Where it is cut short, what the last sync left opens as the list before it, and so does what a read gives until its last call but one was made.
+        ensures cut { IsDurable D.tells D.seen D.may_leave self.old → self.old.closed ≡ true → result ≡ Err FrameFault.Disk
+            → StopsEarly D.seen D.certain D.moment 4 self.old.disk self.new.disk (IsBefore self.old.shape self.old.frames None (D.seen self.old.disk))
+            (IsAfter self.old.shape (self.old.frames ++ frame_of kind body.now ∷ []) None (D.seen self.old.disk)) }
         ensures ok { OnOk result (HasNow (self.old.frames ++ frame_of kind body.now ∷ []) self.old self.new) }
         ensures run { IsRun D.tells D.moment D.plan D.unlisted 4 self.old.disk self.new.disk (IsOk result) (result ≡ Err FrameFault.Disk) }
         ensures answer { IsAnswer self.old.halted self.new.halted result }
@@ -268,6 +272,10 @@ impl<D: Disk> FrameStore<D> {
         ensures any_moment { IsDurable D.tells D.seen D.may_leave self.old → self.old.closed ≡ true
             → LeavesOnly D.moment D.left_since self.old.disk self.new.disk
             (IsBeforeOrAfter self.old.shape self.old.frames (self.old.frames ++ frame ∷ []) None (D.seen self.old.disk)) }
+        // Where it is cut short, what the last sync left opens as the list before it, and so does what a read gives until its last call but one was made.
+        ensures cut { IsDurable D.tells D.seen D.may_leave self.old → self.old.closed ≡ true → result ≡ Err FrameFault.Disk
+            → StopsEarly D.seen D.certain D.moment 4 self.old.disk self.new.disk (IsBefore self.old.shape self.old.frames None (D.seen self.old.disk))
+            (IsAfter self.old.shape (self.old.frames ++ frame ∷ []) None (D.seen self.old.disk)) }
         ensures ok { OnOk result (HasNow (self.old.frames ++ frame ∷ []) self.old self.new) }
         ensures run { IsRun D.tells D.moment D.plan D.unlisted 4 self.old.disk self.new.disk (IsOk result) (result ≡ Err FrameFault.Disk) }
         ensures answer { IsAnswer self.old.halted self.new.halted result }
@@ -324,6 +332,10 @@ impl<D: Disk> FrameStore<D> {
         ensures any_moment { IsDurable D.tells D.seen D.may_leave self.old → self.old.closed ≡ true
             → LeavesOnly D.moment D.left_since self.old.disk self.new.disk
             (IsBeforeOrAfter self.old.shape self.old.frames (self.old.frames ++ frame ∷ []) (Some (slot, block.now)) (D.seen self.old.disk)) }
+        // Where it is cut short, what the last sync left opens as the list before it, and so does what a read gives until its last call but one was made.
+        ensures cut { IsDurable D.tells D.seen D.may_leave self.old → self.old.closed ≡ true → result ≡ Err FrameFault.Disk
+            → StopsEarly D.seen D.certain D.moment 5 self.old.disk self.new.disk (IsBefore self.old.shape self.old.frames (Some (slot, block.now)) (D.seen self.old.disk))
+            (IsAfter self.old.shape (self.old.frames ++ frame ∷ []) (Some (slot, block.now)) (D.seen self.old.disk)) }
         ensures ok { OnOk result (HasNow (self.old.frames ++ frame ∷ []) self.old self.new) }
         ensures run { IsRun D.tells D.moment D.plan D.unlisted 5 self.old.disk self.new.disk (IsOk result) (result ≡ Err FrameFault.Disk) }
         ensures answer { IsAnswer self.old.halted self.new.halted result }
@@ -383,6 +395,10 @@ impl<D: Disk> FrameStore<D> {
         ensures any_moment { IsDurable D.tells D.seen D.may_leave self.old → self.old.closed ≡ true
             → LeavesOnly D.moment D.left_since self.old.disk self.new.disk (IsBeforeOrAfter self.old.shape self.old.frames (frames.items) None
             (D.seen self.old.disk)) }
+        // Where it is cut short, what the last sync left opens as the list before it, and so does what a read gives until its last call but one was made.
+        ensures cut { IsDurable D.tells D.seen D.may_leave self.old → self.old.closed ≡ true → result ≡ Err FrameFault.Disk
+            → StopsEarly D.seen D.certain D.moment 7 self.old.disk self.new.disk (IsBefore self.old.shape self.old.frames None (D.seen self.old.disk))
+            (IsAfter self.old.shape frames.items None (D.seen self.old.disk)) }
         ensures ok { OnOk result (HasNow (frames.items) self.old self.new) }
         ensures run { IsRun D.tells D.moment D.plan D.unlisted 7 self.old.disk self.new.disk (IsOk result) (result ≡ Err FrameFault.Disk) }
         ensures answer { IsAnswer self.old.halted self.new.halted result }

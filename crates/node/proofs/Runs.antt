@@ -63,13 +63,13 @@ module _ {D : Type 0} (tells : Type 0) (moment : D → ℕ) (plan : D → Plan) 
   pub run_shown : (layout : Layout) (calls : OpenCalls) (from : BrickId) (message : Message) (old new : Brick D) (node : Running D) (W C : Type 0)
       → running layout calls old ≡ node → IsBrickOf layout old.shape old.state calls
       → ((machine : Node) → IsPartsOf layout old.state machine
-      → IsRun tells moment plan unlisted (message_calls layout (me_of old) from old machine message) old.disk new.disk W C)
-      → IsRun tells moment plan unlisted (message_calls node.layout node.me from node.brick (state_of node) message) node.brick.disk new.disk W C
+      → IsRun tells moment plan unlisted (message_calls layout (me_of old) from old.shape old.listed machine message) old.disk new.disk W C)
+      → IsRun tells moment plan unlisted (message_calls node.layout node.me from node.brick.shape node.brick.listed (state_of node) message) node.brick.disk new.disk W C
   run_shown layout calls from message old new node W C is brick run =
       let shown = running layout calls old in
       let made = run (state_of shown) (kept_so layout calls old brick).parts in
       subst
-      (λ (n : Running D). IsRun tells moment plan unlisted (message_calls n.layout n.me from n.brick (state_of n) message) n.brick.disk new.disk W C)
+      (λ (n : Running D). IsRun tells moment plan unlisted (message_calls n.layout n.me from n.brick.shape n.brick.listed (state_of n) message) n.brick.disk new.disk W C)
       is
-      (subst (λ (me : BrickId). IsRun tells moment plan unlisted (message_calls layout me from old (state_of shown) message) old.disk new.disk W C)
+      (subst (λ (me : BrickId). IsRun tells moment plan unlisted (message_calls layout me from old.shape old.listed (state_of shown) message) old.disk new.disk W C)
       (is_me layout calls old from message brick.shape_is) made)

@@ -13,7 +13,7 @@ use Rattle.node.specs.Running.{Running, state_of}
 
 -- so many calls keep what a packet makes a brick change: those of its store for a request that it serves, and none for any other message
 abbrev pub packet_calls : {D : Type 0} → Running D → Packet → ℕ
-packet_calls node packet = message_calls node.layout node.me packet.from node.brick (state_of node) packet.message
+packet_calls node packet = message_calls node.layout node.me packet.from node.brick.shape node.brick.listed (state_of node) packet.message
 
 -- The opening of the store that a disk holds is a run of five calls, or of twelve where its list of frames can't be appended to.
 abbrev pub RunsAsOpening : {D : Type 0} → Type 0 → (D → List ℕ) → (D → ℕ) → (D → Plan) → (D → Type 0) → Shape → D → D → Type 0 → Type 0 → Type 0

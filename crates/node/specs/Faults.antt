@@ -18,8 +18,9 @@ halted_after halted (Err Disk) = true
 halted_after halted (Err other) = halted
 halted_after halted (Ok value) = halted
 
--- a refusal is the machine's, and there is none where the operation begins
+-- a refusal is the machine's, and there is none where the operation begins, or memory is refused
 abbrev pub RefusesAs : {T : Type 0} → Result T NodeFault → Option Refusal → Type 0
 RefusesAs (Ok begun) refusal = refusal ≡ None
 RefusesAs (Err (Refused reason)) refusal = refusal ≡ Some reason
+RefusesAs (Err NoMemory) refusal = refusal ≡ None
 RefusesAs (Err other) refusal = Unit {0}

@@ -249,7 +249,7 @@ impl<D: Disk> Node<D> {
             (ShowsEither self.old.layout self.old.me (state_of self.old)
             (member_step self.old.layout self.old.me from (state_of self.old) message.now).node) }
         ensures run { IsRun D.tells D.moment D.plan D.unlisted
-            (message_calls self.old.layout self.old.me from self.old.brick (state_of self.old) message.now)
+            (message_calls self.old.layout self.old.me from self.old.brick.shape self.old.brick.listed (state_of self.old) message.now)
             self.old.brick.disk self.new.brick.disk (IsOk result) (result ≡ Err NodeFault.Disk) }
         ensures not_halted { result ≢ Err NodeFault.Halted }
         ensures halts { self.new.brick.halted ≡ halted_after false result }
@@ -365,6 +365,8 @@ impl<D: Armed> Node<D> {
     pub fn arm(&mut self, plan: Plan)
         ensures same { IsSameBrick self.old self.new }
         ensures state { state_of self.new ≡ state_of self.old }
+        // All that the store keeps is as it was, also what the machine does not see.
+        ensures kept { self.new.brick.state ≡ self.old.brick.state }
         ensures halted { self.new.brick.halted ≡ self.old.brick.halted }
         ensures content { D.seen self.new.brick.disk ≡ D.seen self.old.brick.disk }
         ensures crash { (image : List ℕ) → D.may_leave self.new.brick.disk image → D.may_leave self.old.brick.disk image }

@@ -44,8 +44,7 @@ module _ {D : Type 0} (tells : Type 0) (moment : D → ℕ) (plan : D → Plan) 
     spared = λ is. never_within;
     later = λ is. planned ∙ sym (sooner_none (plan old));
     named = λ free is. absurd (not_cut is);
-    reached = λ told free is. absurd (not_cut is);
-    no_more = λ told free is. absurd (not_cut is);
+    stopped = λ told free is. absurd (not_cut is);
     used_up = λ free is. absurd (not_cut is);
     waits = λ a b. planned;
     stays = listed;
@@ -58,8 +57,7 @@ module _ {D : Type 0} (tells : Type 0) (moment : D → ℕ) (plan : D → Plan) 
     spared = λ is. absurd (not_whole is);
     later = λ is. absurd (not_whole is);
     named = λ free is. absurd (not_cut is);
-    reached = λ told free is. absurd (not_cut is);
-    no_more = λ told free is. absurd (not_cut is);
+    stopped = λ told free is. absurd (not_cut is);
     used_up = λ free is. absurd (not_cut is);
     waits = λ a b. planned;
     stays = listed;
@@ -68,7 +66,7 @@ module _ {D : Type 0} (tells : Type 0) (moment : D → ℕ) (plan : D → Plan) 
 -- ---- how many calls a change takes
 
 module _ {D : Type 0} (store : Brick D) (part : Replica) where
-  pub calls_kept : part_calls store part part ≡ 0
+  pub calls_kept : part_calls store.shape store.listed part part ≡ 0
   calls_kept =
       let longer : nat_lt (length part.log) (length part.log) ≡ false = grind (arith, nat_tests) in
       ap (λ (b : Bool). cond b (calls_of store 35 5) (cond (stamp_same part.order part.order) 0 (calls_of store 30 4))) longer
@@ -82,13 +80,13 @@ module _ {D : Type 0} (store : Brick D) (part : Replica) where
       by true is = differ (sym (stamp_below_irrefl part.order) ∙ ap (stamp_below part.order) (stamp_same_true part.order t is) ∙ later)
 
   pub calls_ordered : (t : Stamp) → stamp_below part.order t ≡ true
-      → part_calls store part (record { order = t; log = part.log }) ≡ calls_of store 30 4
+      → part_calls store.shape store.listed part (record { order = t; log = part.log }) ≡ calls_of store 30 4
   calls_ordered t later =
       let longer : nat_lt (length part.log) (length part.log) ≡ false = grind (arith, nat_tests) in
       ap (λ (b : Bool). cond b (calls_of store 35 5) (cond (stamp_same part.order t) 0 (calls_of store 30 4))) longer
       ∙ ap (λ (b : Bool). cond b 0 (calls_of store 30 4)) (other_stamp t later)
 
-  pub calls_stored : (v : Version) → part_calls store part (record { order = part.order; log = part.log ++ (v ∷ []) }) ≡ calls_of store 35 5
+  pub calls_stored : (v : Version) → part_calls store.shape store.listed part (record { order = part.order; log = part.log ++ (v ∷ []) }) ≡ calls_of store 35 5
   calls_stored v =
       let sum : length (part.log ++ (v ∷ [])) ≡ length part.log + 1 = length-append part.log (v ∷ []) in
       let longer : nat_lt (length part.log) (length (part.log ++ (v ∷ []))) ≡ true = grind (arith, nat_tests, sum) in

@@ -147,15 +147,15 @@ module _ (layout : Layout) (me from : BrickId) (call : Call) (request : Request)
   -- how many calls that makes
   module _ {D : Type 0} (store : Brick D) (node : Node) (parts : IsPartsOf layout before node) where
     abbrev changed_by : NodeStep → ℕ
-    changed_by step = part_calls store (replica_at node call) (replica_at step.node call)
+    changed_by step = part_calls store.shape store.listed (replica_at node call) (replica_at step.node call)
 
     pub calls_served : (seat : ℕ) → Serves (Some seat)
-        → message_calls layout me from store node (Message.Request call request)
-        ≡ part_calls store (part_at layout.block before call) (reaction_at seat).replica
+        → message_calls layout me from store.shape store.listed node (Message.Request call request)
+        ≡ part_calls store.shape store.listed (part_at layout.block before call) (reaction_at seat).replica
     calls_served seat served =
         ap changed_by (served_step seat served node parts)
-        ∙ ap (part_calls store (replica_at node call)) (replica_after node call (reaction_at seat))
-        ∙ ap (λ (r : Replica). part_calls store r (reaction_at seat).replica) (parts.replicas call.group.0 call.view.0 call.stripe.0)
+        ∙ ap (part_calls store.shape store.listed (replica_at node call)) (replica_after node call (reaction_at seat))
+        ∙ ap (λ (r : Replica). part_calls store.shape store.listed r (reaction_at seat).replica) (parts.replicas call.group.0 call.view.0 call.stripe.0)
 
-    pub calls_void : Serves None → message_calls layout me from store node (Message.Request call request) ≡ 0
+    pub calls_void : Serves None → message_calls layout me from store.shape store.listed node (Message.Request call request) ≡ 0
     calls_void void = ap changed_by (void_step void node parts) ∙ calls_kept store (replica_at node call)

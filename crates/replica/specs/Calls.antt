@@ -3,31 +3,32 @@ use Rattle.std.specs.Prelude.{ℕ, nat_lt, if◌then◌else◌, Option, length, 
 use Rattle.fab_base.specs.declared.identities.BrickId.{BrickId}
 use Rattle.fab_base.specs.Stamps.{stamp_same}
 use Rattle.fab_base.specs.Layouts.{Layout}
+use Rattle.frame_store.specs.declared.shapes.Shape.{Shape}
 use Rattle.fab_disk.specs.declared.disk.Plan.{Plan}
 use Rattle.fab_disk.specs.Plan.{IsRun}
 use Rattle.messages.specs.declared.packets.Message.{Message}
 use Rattle.messages.specs.declared.packets.Message.TheVariants.{Request}
 use Rattle.brick_store.specs.Bricks.{Brick}
-use Rattle.brick_store.specs.Calls.{calls_of}
+use Rattle.brick_store.specs.Calls.{calls_with}
 use Rattle.protocol.specs.Replicas.{Replica}
 use Rattle.protocol.specs.Nodes.{Node, replica_at}
 use Rattle.replica.specs.declared.faults.ReplicaFault.{ReplicaFault}
 use Rattle.replica.specs.declared.faults.ReplicaFault.TheVariants.{Disk}
 use Rattle.replica.specs.Reactions.{member_step}
 
--- So many calls keep what changed of a part: none, a record of an order stamp, or a record of a version and its block. The bodies of the
--- two records have 30 and 35 bytes.
-abbrev pub part_calls : {D : Type 0} → Brick D → Replica → Replica → ℕ
-part_calls store before after =
-    if nat_lt (length before.log) (length after.log) then calls_of store 35 5
+-- So many calls keep what changed of a part, over a list of frames of so many bytes: none, a record of an order stamp, or a record of a version
+-- and its block. The bodies of the two records have 30 and 35 bytes.
+abbrev pub part_calls : Shape → ℕ → Replica → Replica → ℕ
+part_calls shape listed before after =
+    if nat_lt (length before.log) (length after.log) then calls_with shape listed 35 5
     else if stamp_same before.order after.order then 0
-    else calls_of store 30 4
+    else calls_with shape listed 30 4
 
 -- so many calls keep what a message makes a brick of the machine change
-abbrev pub message_calls : {D : Type 0} → Layout → BrickId → BrickId → Brick D → Node → Message → ℕ
-message_calls layout me from store node (Request call request) =
-    part_calls store (replica_at node call) (replica_at (member_step layout me from node (Request call request)).node call)
-message_calls layout me from store node message = 0
+abbrev pub message_calls : Layout → BrickId → BrickId → Shape → ℕ → Node → Message → ℕ
+message_calls layout me from shape listed node (Request call request) =
+    part_calls shape listed (replica_at node call) (replica_at (member_step layout me from node (Request call request)).node call)
+message_calls layout me from shape listed node message = 0
 
 -- the message makes just this run of calls: it is cut short where it answers Disk
 abbrev pub RunsAs : {D A : Type 0} → Type 0 → (D → ℕ) → (D → Plan) → (D → Type 0) → ℕ → Brick D → Brick D → Result (Option A) ReplicaFault → Type 0

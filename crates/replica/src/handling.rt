@@ -70,7 +70,7 @@ fn carry_out<D: Disk>(
         (planned (full_at store.old.shape.records (live store.old.state))
         (part_at store.old.shape.block store.old.state call) plan)) store.old store.new result }
     ensures run { RunsAs D.tells D.moment D.plan D.unlisted
-        (part_calls store.old (part_at store.old.shape.block store.old.state call)
+        (part_calls store.old.shape store.old.listed (part_at store.old.shape.block store.old.state call)
         (planned (full_at store.old.shape.records (live store.old.state)) (part_at store.old.shape.block store.old.state call) plan).replica)
         store.old store.new result }
 {
@@ -172,7 +172,7 @@ pub fn handle<D: Disk>(
         (IsStep layout.now (me_of store.old) from message.now store.old.state) store.old store.new result }
     // Under a plan, the call that it names is reached exactly where the message makes so many.
     ensures run { (node : Node) → IsPartsOf layout.now store.old.state node → RunsAs D.tells D.moment D.plan D.unlisted
-        (message_calls layout.now (me_of store.old) from store.old node message.now) store.old store.new result }
+        (message_calls layout.now (me_of store.old) from store.old.shape store.old.listed node message.now) store.old store.new result }
 {
     // A member answers whoever asks.
     let _ = from;

@@ -1,6 +1,9 @@
-use Rattle.std.proofs.Common.{◌+◌, length, arith, refl}
-use Rattle.frame_store.specs.Steps.{IsStaged}
+use Rattle.std.proofs.Common.{◌≡◌, ◌+◌, length, ℕ, List, arith, refl, sym, subst, ap, ◌∙◌, Err, rules}
+use Rattle.fab_disk.specs.Disk.{written}
+use Rattle.frame_store.specs.Steps.{IsStaged, both_written}
+use Rattle.frame_store.proofs.Stopping.{stops_early, stops_write, stops_sync, staged_none, staged_one, Stops}
 use Rattle.fab_disk.proofs.Plans.{run_both}
+use Rattle.frame_store.specs.declared.faults.FrameFault.TheVariants.{Disk}
 use Rattle.frame_store.proofs.Runs.{made_or_cut, write_first, write_twice, staged_now, then_sync}
 use Rattle.frame_store.proofs.steps.write_both_synced.Goals as goal
 
@@ -48,3 +51,42 @@ returns-clause-run g c =
     (λ not_whole not_cut. not_whole refl) c.in_ok-write.ensures.run c.in_ok-write-2.ensures.run in
     run_both d.tells d.moment d.plan d.unlisted 2 1 3 c.args.disk.now c.write-2.new.disk c.sync.new.disk _ _ _ _ refl refl
     (made_or_cut c.sync.result c.sync.ensures.only) both c.sync.ensures.run
+
+pub returns-in_err-write-clause-cut : goal.returns-in_err-write-clause-cut
+returns-in_err-write-clause-cut g c = λ told only failed.
+    let d = g.D.Disk in
+    let old = c.args.disk.now in
+    let n = length c.args.first.now in
+    let k = length c.args.second.now in
+    stops_early d.seen d.certain d.moment d.may_leave g.met.D.Disk.certain_is_left 3 old c.write.new.disk
+    (written c.args.from c.args.first.now (d.seen old)) (IsStaged c.args.from n c.args.at k (d.seen old)) _ (omega arith) only
+    (staged_none c.args.from n c.args.at k (d.seen old)) (staged_one c.args.from c.args.at k c.args.first.now (d.seen old)) c.write.ensures.certain
+    (c.write.ensures.cut told (let is : c.write.result ≡ Err Disk = search (rules, failed) in is))
+
+pub returns-in_err-write-2-clause-cut : goal.returns-in_err-write-2-clause-cut
+returns-in_err-write-2-clause-cut g c = λ told only failed.
+    let d = g.D.Disk in
+    let old = c.args.disk.now in
+    let n = length c.args.first.now in
+    let k = length c.args.second.now in
+    let first : d.seen c.write.new.disk ≡ written c.args.from c.args.first.now (d.seen old) = c.in_ok-write.ensures.written told in
+    let cut = stops_write d.seen d.certain d.moment d.may_leave g.met.D.Disk.certain_is_left 3 old c.write.new.disk c.write-2.new.disk
+    (written c.args.at c.args.second.now (d.seen c.write.new.disk)) (IsStaged c.args.from n c.args.at k (d.seen old)) only
+    (staged_none c.args.from n c.args.at k (d.seen old))
+    (subst (IsStaged c.args.from n c.args.at k (d.seen old)) (sym first) (staged_one c.args.from c.args.at k c.args.first.now (d.seen old)))
+    c.write.ensures.certain (omega (arith, c.in_ok-write.ensures.run.counted told refl)) c.write-2.ensures.certain (c.write-2.ensures.cut told (let is : c.write-2.result ≡ Err Disk = search (rules, failed) in is)) in
+    subst (λ (x : List ℕ). Stops d.seen d.certain d.moment 3 old c.write-2.new.disk (IsStaged c.args.from n c.args.at k (d.seen old))
+    (λ (image : List ℕ). image ≡ written c.args.at c.args.second.now x)) first cut
+
+pub returns-clause-cut : goal.returns-clause-cut
+returns-clause-cut g c = λ told only failed.
+    let d = g.D.Disk in
+    let old = c.args.disk.now in
+    let n = length c.args.first.now in
+    let k = length c.args.second.now in
+    stops_sync d.seen d.certain d.moment d.may_leave g.met.D.Disk.certain_is_left 3 old c.write-2.new.disk c.sync.new.disk
+    (both_written c.args.from c.args.first.now c.args.at c.args.second.now (d.seen old)) (IsStaged c.args.from n c.args.at k (d.seen old)) only
+    (staged_none c.args.from n c.args.at k (d.seen old)) (c.write-2.ensures.certain ∙ c.write.ensures.certain)
+    (c.in_ok-write-2.ensures.written told ∙ ap (written c.args.at c.args.second.now) (c.in_ok-write.ensures.written told))
+    (omega (arith, c.in_ok-write.ensures.run.counted told refl, c.in_ok-write-2.ensures.run.counted told refl)) (c.sync.ensures.certain failed)
+    c.sync.ensures.content c.sync.ensures.time.later (c.sync.ensures.cut failed)

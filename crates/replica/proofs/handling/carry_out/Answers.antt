@@ -98,8 +98,8 @@ returns-in-Ignore-clause-run g c =
     let old = c.args.store.now in
     let part = part_at old.shape.block old.state c.args.call in
     let full = full_at old.shape.records (live old.state) in
-    let none : part_calls old part (planned full part c.args.plan).replica ≡ 0 =
-    ap (λ (p : Plan). part_calls old part (planned full part p).replica) c.in-Ignore.is ∙ calls_kept old part in
+    let none : part_calls old.shape old.listed part (planned full part c.args.plan).replica ≡ 0 =
+    ap (λ (p : Plan). part_calls old.shape old.listed part (planned full part p).replica) c.in-Ignore.is ∙ calls_kept old part in
     subst (λ (n : ℕ). RunsAs d.tells d.moment d.plan d.unlisted n old old (told silent)) (sym none)
     (runs_told d.tells d.moment d.plan d.unlisted old silent)
 
@@ -109,8 +109,8 @@ returns-in-Tell-clause-run g c =
     let old = c.args.store.now in
     let part = part_at old.shape.block old.state c.args.call in
     let full = full_at old.shape.records (live old.state) in
-    let none : part_calls old part (planned full part c.args.plan).replica ≡ 0 =
-    ap (λ (p : Plan). part_calls old part (planned full part p).replica) c.in-Tell.is ∙ calls_kept old part in
+    let none : part_calls old.shape old.listed part (planned full part c.args.plan).replica ≡ 0 =
+    ap (λ (p : Plan). part_calls old.shape old.listed part (planned full part p).replica) c.in-Tell.is ∙ calls_kept old part in
     subst (λ (n : ℕ). RunsAs d.tells d.moment d.plan d.unlisted n old old (told (Some c.in-Tell.reply))) (sym none)
     (runs_told d.tells d.moment d.plan d.unlisted old (Some c.in-Tell.reply))
 
@@ -128,7 +128,7 @@ returns-in-Promise-clause-run g c =
     let part = part_at block st call in
     let full = full_at records (live st) in
     let sorted = c.requires.runs.ordered.sorted in
-    let calls = λ (r : Reaction). part_calls old part r.replica in
+    let calls = λ (r : Reaction). part_calls old.shape old.listed part r.replica in
     let reaction = promised part t reply in
     let is : planned full part c.args.plan ≡ unless_full full part reaction = ap (planned full part) c.in-Promise.is in
     let later : stamp_below part.order t ≡ true = subst (λ (p : Plan). IsChange block part p) c.in-Promise.is c.requires.change in
@@ -156,7 +156,7 @@ returns-in-Store-clause-run g c =
     let part = part_at block st call in
     let full = full_at records (live st) in
     let sorted = c.requires.runs.ordered.sorted in
-    let calls = λ (r : Reaction). part_calls old part r.replica in
+    let calls = λ (r : Reaction). part_calls old.shape old.listed part r.replica in
     let reaction = stored part t bytes in
     let is : planned full part c.args.plan ≡ unless_full full part reaction = ap (planned full part) c.in-Store.is in
     subst (λ (r : Result (Option Reply) ReplicaFault). RunsAs d.tells d.moment d.plan d.unlisted (calls (planned full part c.args.plan)) old new r)

@@ -76,8 +76,8 @@ returns-in_default-seat_served-clause-run g c node parts =
     let old = c.args.store.now in
     let layout = c.args.layout.now in
     let call = c.in-Request.call in
-    let none : message_calls layout (me_of old) c.args.from old node c.args.message.now ≡ 0 =
-    ap (message_calls layout (me_of old) c.args.from old node) c.in-Request.is
+    let none : message_calls layout (me_of old) c.args.from old.shape old.listed node c.args.message.now ≡ 0 =
+    ap (message_calls layout (me_of old) c.args.from old.shape old.listed node) c.in-Request.is
     ∙ calls_void layout (me_of old) c.args.from call c.in-Request.request old.state old node parts
     (λ (other : Node) (kept : IsPartsOf layout old.state other). sym c.in_default-seat_served.is ∙ c.seat_served.ensures.seat other kept) in
     subst (λ (n : ℕ). RunsAs d.tells d.moment d.plan d.unlisted n old old (answers no_message)) (sym none)
@@ -102,18 +102,18 @@ returns-clause-run g c node parts =
     (log_at old.shape.block st (place_of call)) c.state-part.ensures.order c.state-part.ensures.log in
     let reaction : planned full part c.in_ok-plan.plan ≡ handle full seat part request = subst
     (λ (r : Replica). planned full r c.in_ok-plan.plan ≡ handle full seat r request) shown (c.in_ok-plan.ensures.plan full) in
-    let made : part_calls old part (planned full part c.in_ok-plan.plan).replica
-    ≡ part_calls old (part_at layout.block st call) (handle (full_at layout.records (live st)) seat (part_at layout.block st call) request).replica =
-    ap (λ (r : Reaction). part_calls old part r.replica) reaction
-    ∙ ap (λ (b : ℕ). part_calls old (part_at b st call) (handle full seat (part_at b st call) request).replica) block
-    ∙ ap (λ (k : ℕ). part_calls old (part_at layout.block st call) (handle (full_at k (live st)) seat (part_at layout.block st call) request).replica) records in
-    let calls : message_calls layout (me_of old) c.args.from old node c.args.message.now ≡ part_calls old part (planned full part c.in_ok-plan.plan).replica =
-    ap (message_calls layout (me_of old) c.args.from old node) c.in-Request.is
+    let made : part_calls old.shape old.listed part (planned full part c.in_ok-plan.plan).replica
+    ≡ part_calls old.shape old.listed (part_at layout.block st call) (handle (full_at layout.records (live st)) seat (part_at layout.block st call) request).replica =
+    ap (λ (r : Reaction). part_calls old.shape old.listed part r.replica) reaction
+    ∙ ap (λ (b : ℕ). part_calls old.shape old.listed (part_at b st call) (handle full seat (part_at b st call) request).replica) block
+    ∙ ap (λ (k : ℕ). part_calls old.shape old.listed (part_at layout.block st call) (handle (full_at k (live st)) seat (part_at layout.block st call) request).replica) records in
+    let calls : message_calls layout (me_of old) c.args.from old.shape old.listed node c.args.message.now ≡ part_calls old.shape old.listed part (planned full part c.in_ok-plan.plan).replica =
+    ap (message_calls layout (me_of old) c.args.from old.shape old.listed node) c.in-Request.is
     ∙ calls_served layout (me_of old) c.args.from call request st old node parts seat
     (λ (other : Node) (kept : IsPartsOf layout st other). sym c.in-Some.is ∙ c.seat_served.ensures.seat other kept) ∙ sym made in
     subst (λ (n : ℕ). RunsAs d.tells d.moment d.plan d.unlisted n old new c.answer.result) (sym calls)
     (subst (λ (r : Result (Option Message) ReplicaFault). RunsAs d.tells d.moment d.plan d.unlisted
-    (part_calls old part (planned full part c.in_ok-plan.plan).replica) old new r) (sym c.answer.ensures)
+    (part_calls old.shape old.listed part (planned full part c.in_ok-plan.plan).replica) old new r) (sym c.answer.ensures)
     (runs_seen d.tells d.moment d.plan d.unlisted (λ (r : Reply). Message.Reply call r) _ old new c.carry_out.result c.carry_out.ensures.run))
 
 -- ---- where the store is left as it is

@@ -3,7 +3,7 @@ use Rattle.fab_disk.specs.Past.{Past}
 use Rattle.fab_disk.specs.Stored.{shown}
 use Rattle.fab_disk.specs.Medium.{past, HasRoom, IsWrittenOver}
 use Rattle.fab_disk.specs.declared.medium.Medium.{Medium}
-use Rattle.fab_disk.proofs.Images.{write_crash}
+use Rattle.fab_disk.proofs.Images.{write_crash, certain_wrote}
 use Rattle.fab_disk.proofs.Rooms.{room_less}
 use Rattle.fab_disk.proofs.mem_disk.MemDiskDisk.write_at.Goals as goal
 
@@ -71,3 +71,27 @@ returns-in-Stops-clause-whole c = λ fails. absurd (cc (c.in-Stops.ensures.whole
 
 pub returns-in_err-reserve : goal.returns-in_err-reserve
 returns-in_err-reserve c = search rules
+
+pub returns-in-Goes-clause-certain : goal.returns-in-Goes-clause-certain
+returns-in-Goes-clause-certain c =
+    let old = c.args.self.now.medium in
+    let over = subst (λ (m : Medium). IsWrittenOver c.args.at (length c.args.from.now) (past m)
+    (past c.overwrite.new.self) (shown m.content) (shown c.overwrite.new.self.content)) c.next_fate.ensures.medium c.overwrite.ensures.past in
+    let over_past = subst (λ (p : List Past). IsWrittenOver c.args.at (length c.args.from.now) p
+    (past c.overwrite.new.self) (shown c.reserve.new.self.content) (shown c.overwrite.new.self.content)) c.reserve.ensures.past over in
+    let over_old = subst (λ (b : List ℕ). IsWrittenOver c.args.at (length c.args.from.now) (past old)
+    (past c.overwrite.new.self) b (shown c.overwrite.new.self.content)) c.reserve.ensures.content over_past in
+    certain_wrote c.args.at (length c.args.from.now) (past old)
+    (past c.overwrite.new.self) (shown old.content) (shown c.overwrite.new.self.content) over_old
+
+pub returns-in-Stops-clause-certain : goal.returns-in-Stops-clause-certain
+returns-in-Stops-clause-certain c =
+    let old = c.args.self.now.medium in
+    let over = subst (λ (m : Medium). IsWrittenOver c.args.at (length c.args.from.now) (past m)
+    (past c.overwrite-in-Stops.new.self) (shown m.content) (shown c.overwrite-in-Stops.new.self.content)) c.next_fate.ensures.medium c.overwrite-in-Stops.ensures.past in
+    let over_past = subst (λ (p : List Past). IsWrittenOver c.args.at (length c.args.from.now) p
+    (past c.overwrite-in-Stops.new.self) (shown c.reserve.new.self.content) (shown c.overwrite-in-Stops.new.self.content)) c.reserve.ensures.past over in
+    let over_old = subst (λ (b : List ℕ). IsWrittenOver c.args.at (length c.args.from.now) (past old)
+    (past c.overwrite-in-Stops.new.self) b (shown c.overwrite-in-Stops.new.self.content)) c.reserve.ensures.content over_past in
+    certain_wrote c.args.at (length c.args.from.now) (past old)
+    (past c.overwrite-in-Stops.new.self) (shown old.content) (shown c.overwrite-in-Stops.new.self.content) over_old

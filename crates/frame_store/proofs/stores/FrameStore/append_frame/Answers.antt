@@ -1,12 +1,13 @@
 use Rattle.std.proofs.lemmas.Grind.{common_steps}
-use Rattle.std.proofs.Common.{◌≡◌, ◌++◌, ◌∷◌, [], ◌+◌, max, length, ℕ, List, true, None, sym, subst, rules, arith, ◌∙◌}
+use Rattle.std.proofs.Common.{Err, ◌≡◌, ◌++◌, ◌∷◌, [], ◌+◌, max, length, ℕ, List, true, None, sym, subst, rules, arith, ◌∙◌}
+use Rattle.frame_store.specs.declared.faults.FrameFault.TheVariants.{Disk}
 use Rattle.frame_store.specs.declared.frames.Frame.{Frame}
 use Rattle.frame_store.specs.Layouts.{half_at}
 use Rattle.frame_store.specs.Listed.{line_of}
 use Rattle.frame_store.specs.Laid.{Laid, IsCounted}
 use Rattle.frame_store.specs.Stores.{Held}
 use Rattle.frame_store.proofs.Changes.{laid_opens}
-use Rattle.frame_store.proofs.Exits.{Ready, Moments, moments_untouched, append_moments, append_done, append_laid, append_counted}
+use Rattle.frame_store.proofs.Exits.{Ready, Moments, moments_untouched, append_moments, append_cut, append_done, append_laid, append_counted}
 use Rattle.frame_store.proofs.stores.FrameStore.append_frame.Goals as goal
 
 pub returns-in-Ok-clause-any_moment : goal.returns-in-Ok-clause-any_moment
@@ -99,7 +100,18 @@ returns-in-Err g c =
     append_moments d.tells d.seen d.may_leave d.moment d.left_since c.args.self.now x.half x.generation x.other_shut x.used c.stage.new.disk c.write_gated.new.disk p c.args.frame c.deref.result.now
     ready c.requires.fits line_is g.met.D.Disk.only_now c.write_gated.ensures.moments
     ) in
-    search (rules, any_moment)
+    let cut = (
+    let x = c.self.inside in
+    let d = g.D.Disk in
+    let p = c.half_at.result + x.used in
+    let place : p ≡ half_at x.shape x.half + x.used = omega (arith, c.half_at.ensures) in
+    let line_is : c.deref.result.now ≡ line_of c.args.frame = c.deref.ensures.value ∙ c.in_ok-stage.ensures.line in
+    let ready = subst (λ (s : Held g.row.D.Denot). Ready d.tells d.seen d.may_leave d.moment d.left_since x.half x.generation x.other_shut x.used c.stage.new.disk p s) c.self.view_is
+    (record { counted = c.self.invariant.0; invariant = c.self.invariant.1; untouched = c.stage.ensures.untouched; place = place }) in
+    append_cut d.tells d.seen d.may_leave d.moment d.left_since c.args.self.now x.half x.generation x.other_shut x.used c.stage.new.disk c.write_gated.new.disk p c.args.frame c.deref.result.now
+    ready c.requires.fits line_is d.certain (c.write_gated.result ≡ Err Disk) c.write_gated.ensures.cut
+    ) in
+    search (rules, any_moment, cut)
 
 pub write_gated-requires-clause-reach : goal.write_gated-requires-clause-reach
 write_gated-requires-clause-reach g c = grind (arith, common_steps)

@@ -1,14 +1,15 @@
 use Rattle.std.proofs.lemmas.Grind.{common_steps}
-use Rattle.std.proofs.Common.{◌≡◌, false, ◌++◌, ◌∷◌, [], ◌+◌, max, length, ℕ, List, true, Some, sym, ap, subst, rules, arith, ◌∙◌}
-use Rattle.fab_disk.specs.Disk.{Only, LeavesOnly, written}
-use Rattle.frame_store.specs.Steps.{IsBothGated, both_written}
+use Rattle.std.proofs.Common.{Err, ◌≡◌, false, ◌++◌, ◌∷◌, [], ◌+◌, max, length, ℕ, List, true, Some, sym, ap, subst, rules, arith, ◌∙◌}
+use Rattle.fab_disk.specs.Disk.{Only, LeavesOnly, StopsEarly, written}
+use Rattle.frame_store.specs.Steps.{IsStaged, IsBothGated, both_written}
+use Rattle.frame_store.specs.declared.faults.FrameFault.TheVariants.{Disk}
 use Rattle.frame_store.specs.declared.frames.Frame.{Frame}
 use Rattle.frame_store.specs.Layouts.{half_at, slot_at}
 use Rattle.frame_store.specs.Listed.{line_of}
 use Rattle.frame_store.specs.Laid.{Laid, IsCounted}
 use Rattle.frame_store.specs.Stores.{Held}
 use Rattle.frame_store.proofs.Changes.{laid_opens}
-use Rattle.frame_store.proofs.Exits.{Ready, Moments, moments_untouched, put_moments, put_done, put_laid, append_counted}
+use Rattle.frame_store.proofs.Exits.{Ready, Moments, moments_untouched, put_moments, put_cut, put_done, put_laid, append_counted}
 use Rattle.frame_store.proofs.stores.FrameStore.append_with.Goals as goal
 
 pub returns-in-Ok-clause-any_moment : goal.returns-in-Ok-clause-any_moment
@@ -127,7 +128,26 @@ returns-in-Err g c =
     put_moments d.tells d.seen d.may_leave d.moment d.left_since c.args.self.now x.half x.generation x.other_shut x.used c.stage.new.disk c.write_both_gated.new.disk p c.args.frame c.deref.result.now
     ready c.requires.fits line_is c.args.slot c.args.block.now c.requires.slot c.requires.block g.met.D.Disk.only_now run
     ) in
-    search (rules, any_moment)
+    let cut = (
+    let x = c.self.inside in
+    let d = g.D.Disk in
+    let p = c.half_at.result + x.used in
+    let place : p ≡ half_at x.shape x.half + x.used = omega (arith, c.half_at.ensures) in
+    let line_is : c.deref.result.now ≡ line_of c.args.frame = c.deref.ensures.value ∙ c.in_ok-stage.ensures.line in
+    let runs = subst (λ (s : Held g.row.D.Denot). s.halted ≡ false) c.self.view_is c.if-self.false in
+    let at_is : c.slot_at-at.result ≡ slot_at c.args.self.now.shape c.args.slot = c.slot_at-at.ensures
+    ∙ ap (λ (s : Held g.row.D.Denot). slot_at s.shape c.args.slot) c.self.view_is in
+    let run = subst (λ (n : ℕ). d.tells → Only (d.seen c.stage.new.disk) (d.may_leave c.stage.new.disk)
+    → c.write_both_gated.result ≡ Err Disk → StopsEarly d.seen d.certain d.moment 5 c.stage.new.disk c.write_both_gated.new.disk
+    (IsStaged n (length c.args.block.now) (p + 1) (length c.deref.result.now) (d.seen c.stage.new.disk))
+    (λ (image : List ℕ). image ≡ written p (165 ∷ []) (both_written n c.args.block.now (p + 1) c.deref.result.now (d.seen c.stage.new.disk))))
+    at_is c.write_both_gated.ensures.cut in
+    let ready = subst (λ (s : Held g.row.D.Denot). Ready d.tells d.seen d.may_leave d.moment d.left_since x.half x.generation x.other_shut x.used c.stage.new.disk p s) c.self.view_is
+    (record { counted = c.self.invariant.0; invariant = c.self.invariant.1; untouched = c.stage.ensures.untouched; place = place }) in
+    put_cut d.tells d.seen d.may_leave d.moment d.left_since c.args.self.now x.half x.generation x.other_shut x.used c.stage.new.disk c.write_both_gated.new.disk p c.args.frame c.deref.result.now
+    ready c.requires.fits line_is c.args.slot c.args.block.now c.requires.slot c.requires.block d.certain (c.write_both_gated.result ≡ Err Disk) run
+    ) in
+    search (rules, any_moment, cut)
 
 pub returns-then-self : goal.returns-then-self
 returns-then-self g c = search rules

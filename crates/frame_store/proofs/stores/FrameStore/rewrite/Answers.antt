@@ -1,6 +1,7 @@
-use Rattle.std.proofs.Common.{rules, ◌≡◌, false, ◌+◌, ◌-◌, ◌^◌, ◌<◌, ◌≤◌, max, length, ℕ, List, true, None, sym, ap, subst, arith, ◌∙◌}
+use Rattle.std.proofs.Common.{Err, rules, ◌≡◌, false, ◌+◌, ◌-◌, ◌^◌, ◌<◌, ◌≤◌, max, length, ℕ, List, true, None, sym, ap, subst, arith, ◌∙◌}
 use Rattle.fab_disk.specs.Disk.{IsUntouched}
 use Rattle.frame_store.specs.Steps.{next_of}
+use Rattle.frame_store.specs.declared.faults.FrameFault.TheVariants.{Disk}
 use Rattle.frame_store.specs.declared.frames.Frame.{Frame}
 use Rattle.frame_store.specs.declared.shapes.Half.{Half}
 use Rattle.frame_store.specs.Layouts.{half_at, half_size, header_at, header_rest, store_end}
@@ -10,7 +11,7 @@ use Rattle.frame_store.specs.Stores.{Held, HasRoom}
 use Rattle.frame_store.proofs.Rewriting.{length-closed_list}
 use Rattle.frame_store.proofs.Changes.{laid_opens}
 use Rattle.frame_store.proofs.Headers.{renewed}
-use Rattle.frame_store.proofs.Exits.{Moments, Invariant, end_small, half_within, closing_short, moments_untouched, rewrite_moments, rewrite_done, rewrite_laid, rewrite_counted}
+use Rattle.frame_store.proofs.Exits.{Moments, Invariant, end_small, half_within, closing_short, moments_untouched, rewrite_moments, rewrite_cut, rewrite_done, rewrite_laid, rewrite_counted}
 use Rattle.frame_store.proofs.stores.FrameStore.rewrite.Goals as goal
 
 pub returns-in-Ok-clause-any_moment : goal.returns-in-Ok-clause-any_moment
@@ -255,7 +256,28 @@ returns-in-Err g c =
     let line_is : line ≡ closed_list fs = c.deref-2.ensures.value ∙ c.in_ok-stage_list.ensures.line ∙ ap closed_list c.deref.ensures.value in
     rewrite_moments d.tells d.seen d.may_leave d.moment d.left_since c.args.self.now x.half x.generation x.other_shut x.used mid new fs gate at c.closing-shut.result.now c.header_rest-rest.result line counted inv untouched c.requires.fits small gate_is at_is c.closing-shut.ensures rest_is line_is g.met.D.Disk.only_now c.rewrite_gated.ensures.moments
     ) in
-    search (rules, any_moment)
+    let cut = (
+    let x = c.self.inside in
+    let d = g.D.Disk in
+    let fs = c.args.frames.items in
+    let gate = c.header_at-gate.result in
+    let at = c.half_at-at.result in
+    let line = c.deref-2.result.now in
+    let mid = c.stage_list.new.disk in
+    let new = c.rewrite_gated.new.disk in
+    let counted = subst (λ (s : Held g.row.D.Denot). IsCounted s.shape s.frames x.used) c.self.view_is c.self.invariant.0 in
+    let inv = subst (λ (s : Held g.row.D.Denot). Invariant d.tells d.seen s x.half x.generation x.other_shut) c.self.view_is c.self.invariant.1 in
+    let untouched = subst (λ (s : Held g.row.D.Denot). IsUntouched d.seen d.may_leave d.moment d.left_since s.disk mid) c.self.view_is c.stage_list.ensures.untouched in
+    let small : x.generation < 2 ^ 64 = omega arith in
+    let gate_is : gate ≡ header_at (other x.half) = c.header_at-gate.ensures ∙ ap header_at c.other-other.ensures in
+    let at_is : at ≡ half_at c.args.self.now.shape (other x.half) = c.half_at-at.ensures ∙ ap (half_at x.shape) c.other-other.ensures
+    ∙ ap (λ (s : Held g.row.D.Denot). half_at s.shape (other x.half)) c.self.view_is in
+    let rest_is : c.header_rest-rest.result ≡ header_rest c.args.self.now.shape (next_of x.generation) = c.header_rest-rest.ensures
+    ∙ ap (λ (s : Held g.row.D.Denot). header_rest s.shape (next_of x.generation)) c.self.view_is in
+    let line_is : line ≡ closed_list fs = c.deref-2.ensures.value ∙ c.in_ok-stage_list.ensures.line ∙ ap closed_list c.deref.ensures.value in
+    rewrite_cut d.tells d.seen d.may_leave d.moment d.left_since c.args.self.now x.half x.generation x.other_shut x.used mid new fs gate at c.closing-shut.result.now c.header_rest-rest.result line counted inv untouched c.requires.fits small gate_is at_is c.closing-shut.ensures rest_is line_is d.certain (c.rewrite_gated.result ≡ Err Disk) c.rewrite_gated.ensures.cut
+    ) in
+    search (rules, any_moment, cut)
 
 pub returns-then-self : goal.returns-then-self
 returns-then-self g c = search rules

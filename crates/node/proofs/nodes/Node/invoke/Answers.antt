@@ -38,6 +38,14 @@ returns-in_err-begin-clause-err g c =
     (stays_so x.layout x.calls c.begin.new.self x.store c.self.invariant.boot c.in_err-begin.ensures.boot c.in_err-begin.ensures.err
     ∙ ap (λ (n : Running g.row.D.Denot). state_of n) c.self.view_is)
 
+pub returns-in_err-begin-clause-refused : goal.returns-in_err-begin-clause-refused
+returns-in_err-begin-clause-refused g c =
+    let x = c.self.inside in
+    let none = subst (λ (n : Running g.row.D.Denot). refusal_of n.layout (state_of n) c.args.ask.now ≡ None) c.self.view_is
+    (ap (λ (s : Node). refusal_of x.layout s c.args.ask.now) (seen_so x.layout x.calls x.store c.self.invariant.boot)
+    ∙ sym (c.in-Ok.ensures.refused (parts_in x.layout x.store.state))) in
+    search (rules, none)
+
 pub returns-clause-refused : goal.returns-clause-refused
 returns-clause-refused g c =
     let x = c.self.inside in

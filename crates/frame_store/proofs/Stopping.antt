@@ -1,0 +1,105 @@
+-- What runs of writes and syncs leave where they are cut short.
+use Rattle.std.proofs.Common.{◌≡◌, inl, inr, ℕ, ◌+◌, ◌≤◌, List, length, ◌∙◌, sym, subst, arith}
+use Rattle.std.proofs.lemmas.Bool.{cases_lt}
+use Rattle.fab_disk.specs.Disk.{written, Only, StopsEarly, IsWrittenOrNot}
+use Rattle.fab_disk.proofs.Writes.{written_torn}
+use Rattle.frame_store.specs.Steps.{IsStaged, both_written}
+use Rattle.frame_store.proofs.Runs.{torn_same}
+
+module _ {D : Type 0} (seen certain : D → List ℕ) (moment : D → ℕ) where
+  abbrev pub Stops : ℕ → D → D → (List ℕ → Type 0) → (List ℕ → Type 0) → Type 0
+  Stops calls old new Before After = StopsEarly seen certain moment calls old new Before After
+
+  -- the first part of a run was cut short, long before its change
+  pub stops_first : (first calls : ℕ) (old new : D) (B A Before After : List ℕ → Type 0) → first + 2 ≤ calls → ((image : List ℕ) → B image → Before image)
+      → ((image : List ℕ) → A image → Before image) → Stops first old new B A → Stops calls old new Before After
+  stops_first first calls old new B A Before After long so so_too cut = record {
+    clock = omega (arith, cut.clock);
+    settled = so (certain new) cut.settled;
+    early = λ is. elim (cases_lt (moment old + first) (moment new + 2)) [
+      | inl late ↦ so_too (seen new) (cut.late late)
+      | inr early ↦ so (seen new) (cut.early (omega arith))
+    ];
+    late = λ is. absurd (omega (arith, cut.clock));
+  }
+
+  -- the second part was cut short
+  pub stops_second : (first second calls : ℕ) (old mid new : D) (B A Before After : List ℕ → Type 0) → calls ≡ first + second
+      → moment mid ≡ moment old + first → ((image : List ℕ) → B image → Before image) → ((image : List ℕ) → A image → After image)
+      → Stops second mid new B A → Stops calls old new Before After
+  stops_second first second calls old mid new B A Before After sum made so then cut = record {
+    clock = omega (arith, cut.clock);
+    settled = so (certain new) cut.settled;
+    early = λ is. so (seen new) (cut.early (omega arith));
+    late = λ is. then (seen new) (cut.late (omega arith));
+  }
+
+  module _ (may_leave : D → List ℕ → Type 0) (certain_is_left : (disk : D) → may_leave disk (certain disk)) where
+    -- what is certain, where a crash leaves what a read gives
+    pub certain_seen : (disk : D) → Only (seen disk) (may_leave disk) → certain disk ≡ seen disk
+    certain_seen disk only = only (certain disk) (certain_is_left disk)
+
+    -- a write that is not the last
+    pub stops_early : (calls : ℕ) (old new : D) (changed : List ℕ) (Before After : List ℕ → Type 0) → 3 ≤ calls → Only (seen old) (may_leave old)
+        → Before (seen old) → Before changed → certain new ≡ certain old
+        → IsWrittenOrNot (moment old) (moment new) (seen old) (seen new) changed → Stops calls old new Before After
+    stops_early calls old new changed Before After long only here there same (inl not_made) = record {
+      clock = omega (arith, not_made.0);
+      settled = subst Before (sym (same ∙ certain_seen old only)) here;
+      early = λ is. subst Before (sym not_made.1) here;
+      late = λ is. absurd (omega (arith, not_made.0));
+    }
+    stops_early calls old new changed Before After long only here there same (inr made) = record {
+      clock = omega (arith, made.0);
+      settled = subst Before (sym (same ∙ certain_seen old only)) here;
+      early = λ is. subst Before (sym made.1) there;
+      late = λ is. absurd (omega (arith, made.0));
+    }
+
+    -- the last write before the sync
+    pub stops_write : (calls : ℕ) (old mid new : D) (changed : List ℕ) (Before : List ℕ → Type 0) → Only (seen old) (may_leave old) → Before (seen old)
+        → Before (seen mid) → certain mid ≡ certain old → moment mid + 2 ≡ moment old + calls → certain new ≡ certain mid
+        → IsWrittenOrNot (moment mid) (moment new) (seen mid) (seen new) changed → Stops calls old new Before (λ image. image ≡ changed)
+    stops_write calls old mid new changed Before only here there kept counted same (inl not_made) = record {
+      clock = omega (arith, counted, not_made.0);
+      settled = subst Before (sym (same ∙ kept ∙ certain_seen old only)) here;
+      early = λ is. subst Before (sym not_made.1) there;
+      late = λ is. absurd (omega (arith, counted, not_made.0));
+    }
+    stops_write calls old mid new changed Before only here there kept counted same (inr made) = record {
+      clock = omega (arith, counted, made.0);
+      settled = subst Before (sym (same ∙ kept ∙ certain_seen old only)) here;
+      early = λ is. absurd (omega (arith, counted, made.0));
+      late = λ is. made.1;
+    }
+
+    -- the sync behind the writes of a run, which make a change
+    pub stops_sync : (calls : ℕ) (old mid new : D) (changed : List ℕ) (Before : List ℕ → Type 0) → Only (seen old) (may_leave old) → Before (seen old)
+        → certain mid ≡ certain old → seen mid ≡ changed → moment mid + 1 ≡ moment old + calls
+        → certain new ≡ certain mid → seen new ≡ seen mid → moment mid ≤ moment new → moment new ≤ moment mid + 1
+        → Stops calls old new Before (λ image. image ≡ changed)
+    stops_sync calls old mid new changed Before only here kept made counted same still later clock = record {
+      clock = omega (arith, counted, clock);
+      settled = subst Before (sym (same ∙ kept ∙ certain_seen old only)) here;
+      early = λ is. absurd (omega (arith, counted, later));
+      late = λ is. still ∙ made;
+    }
+
+-- nothing written, and the first of two writes
+pub staged_none : (from n at k : ℕ) (content : List ℕ) → IsStaged from n at k content content
+staged_none from n at k content = record { between = content; first = torn_same from n content; second = torn_same at k content }
+
+pub staged_one : (from at k : ℕ) (first content : List ℕ) → IsStaged from (length first) at k content (written from first content)
+staged_one from at k first content = record {
+  between = written from first content;
+  first = written_torn from first content;
+  second = torn_same at k (written from first content);
+}
+
+pub staged_both : (from at : ℕ) (first second content : List ℕ) → IsStaged from (length first) at (length second) content
+    (both_written from first at second content)
+staged_both from at first second content = record {
+  between = written from first content;
+  first = written_torn from first content;
+  second = written_torn at second (written from first content);
+}
