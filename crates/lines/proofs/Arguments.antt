@@ -1,6 +1,6 @@
 -- What stands behind a line's first word, where there are so many words of it.
-use Rattle.std.proofs.Common.{◌≡◌, ◌≢◌, ℕ, List, [], ◌∷◌, length, map, get_or, Bor, None, refl, arith}
-use Rattle.lines.specs.Grammar.{write_all, read_all, deliver, clock, one_brick}
+use Rattle.std.proofs.Common.{◌≡◌, ◌≢◌, ◌-◌, ◌<◌, ◌≤◌, ℕ, List, [], ◌∷◌, length, map, take, drop, take_all, get_or, Bor, Some, None, refl, arith}
+use Rattle.lines.specs.Grammar.{write_all, read_all, fault, deliver, start, clock, one_brick}
 
 -- the words that stand in a slice
 abbrev pub words : List (Bor (List ℕ)) → List (List ℕ)
@@ -40,11 +40,38 @@ four_words (x ∷ y ∷ z ∷ w ∷ []) count = refl
 four_words (x ∷ y ∷ z ∷ w ∷ v ∷ more) count = absurd (omega arith)
 
 -- with another count of words a form is none
-pub deliver_count : (found : List (Bor (List ℕ))) → length found ≢ 1 → None ≡ deliver (words found)
+pub deliver_none : (found : List (Bor (List ℕ))) → length found < 1 → None ≡ deliver (words found)
 unfolding deliver
-deliver_count [] other = refl
-deliver_count (k ∷ []) other = absurd (other refl)
-deliver_count (k ∷ a ∷ more) other = refl
+deliver_none [] none = refl
+deliver_none (k ∷ behind) none = absurd (omega arith)
+
+pub start_none : (found : List (Bor (List ℕ))) → length found < 1 → None ≡ start (words found)
+unfolding start
+start_none [] none = refl
+start_none (b ∷ behind) none = absurd (omega arith)
+
+-- the first word, and those behind it
+pub first_and_rest : (found : List (Bor (List ℕ))) → 1 ≤ length found
+    → words found ≡ word_at found 0 ∷ words (take (length found - 1) (drop 1 found))
+first_and_rest [] some = absurd (omega arith)
+first_and_rest (word ∷ rest) some =
+    let behind : take (length (word ∷ rest) - 1) rest ≡ rest = take_all _ _ (omega arith) in
+    rw behind refl
+
+-- no word befalls nothing, and any count but 0, 2 and 4 is none
+pub fault_nothing : (found : List (Bor (List ℕ))) → length found ≡ 0 → Some None ≡ fault (words found)
+unfolding fault
+fault_nothing [] none = refl
+fault_nothing (word ∷ more) none = absurd (omega arith)
+
+pub fault_count : (found : List (Bor (List ℕ))) → length found ≢ 0 → length found ≢ 2 → length found ≢ 4 → None ≡ fault (words found)
+unfolding fault
+fault_count [] none two four = absurd (none refl)
+fault_count (a ∷ []) none two four = refl
+fault_count (a ∷ b ∷ []) none two four = absurd (two refl)
+fault_count (a ∷ b ∷ c ∷ []) none two four = refl
+fault_count (a ∷ b ∷ c ∷ d ∷ []) none two four = absurd (four refl)
+fault_count (a ∷ b ∷ c ∷ d ∷ e ∷ more) none two four = refl
 
 pub one_brick_count : (found : List (Bor (List ℕ))) → length found ≢ 1 → None ≡ one_brick (words found)
 unfolding one_brick

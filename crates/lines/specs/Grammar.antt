@@ -8,6 +8,8 @@ use Rattle.lines.specs.declared.forms.Line.{Line}
 use Rattle.lines.specs.declared.forms.Line.TheVariants.{Nothing, Invoke, Deliver, SetClock, Tick, Crash, Start}
 use Rattle.lines.specs.declared.forms.Access.{Access}
 use Rattle.lines.specs.declared.forms.Access.TheVariants.{WriteStripe, ReadStripe}
+use Rattle.lines.specs.declared.forms.Fault.{Fault}
+use Rattle.lines.specs.declared.forms.Fault.TheVariants.{Cut, Fail}
 
 -- the second step, if the first found a value
 infixl 10 ◌>>=◌
@@ -34,12 +36,53 @@ unfoldable pub read_all : List (List ℕ) → Option Line
 read_all (b ∷ g ∷ s ∷ []) = invoke b g s ReadStripe
 read_all _ = None
 
--- `deliver K`, behind its first word
+-- the number of a call, from 1
+unfoldable pub call_number : List ℕ → Option ℕ
+call_number c = do
+  call ← number c
+  if nat_eq call 0 then None else Some call
+
+-- `fail C`
+unfoldable pub fail : List ℕ → List ℕ → Option Fault
+fail word c =
+    if bytes_eq word (codes "fail") then (do
+      call ← call_number c
+      Some (Fail call)) else None
+
+-- `cut C pick P`
+unfoldable pub cut : List ℕ → List ℕ → List ℕ → List ℕ → Option Fault
+cut word c second p =
+    if bytes_eq word (codes "cut") then (if bytes_eq second (codes "pick") then (do
+      call ← call_number c
+      pick ← number p
+      Some (Cut call pick)) else None) else None
+
+-- what is to befall a call of the disk, behind `deliver K` or `start B`: nothing where no word is left
+unfoldable pub fault : List (List ℕ) → Option (Option Fault)
+fault [] = Some None
+fault (word ∷ c ∷ []) = do
+  befalls ← fail word c
+  Some (Some befalls)
+fault (word ∷ c ∷ second ∷ p ∷ []) = do
+  befalls ← cut word c second p
+  Some (Some befalls)
+fault _ = None
+
+-- `deliver K`, behind its first word, with what is to befall a call
 unfoldable pub deliver : List (List ℕ) → Option Line
-deliver (k ∷ []) = do
+deliver (k ∷ behind) = do
   message ← number k
-  Some (Deliver message)
+  befalls ← fault behind
+  Some (Deliver message befalls)
 deliver _ = None
+
+-- `start B`, behind its first word, with what is to befall a call
+unfoldable pub start : List (List ℕ) → Option Line
+start (b ∷ behind) = do
+  brick ← number b
+  befalls ← fault behind
+  Some (Start brick befalls)
+start _ = None
 
 -- `clock B V`, behind its first word
 unfoldable pub clock : List (List ℕ) → Option Line
@@ -49,7 +92,7 @@ clock (b ∷ v ∷ []) = do
   Some (SetClock brick time)
 clock _ = None
 
--- the brick of `tick B`, `crash B` and `start B`, behind the first word
+-- the brick of `tick B` and `crash B`, behind the first word
 unfoldable pub one_brick : List (List ℕ) → Option ℕ
 one_brick (b ∷ []) = number b
 one_brick _ = None
@@ -63,7 +106,7 @@ form word arguments =
     else if bytes_eq word (codes "clock") then clock arguments
     else if bytes_eq word (codes "tick") then option_map Tick (one_brick arguments)
     else if bytes_eq word (codes "crash") then option_map Crash (one_brick arguments)
-    else if bytes_eq word (codes "start") then option_map Start (one_brick arguments)
+    else if bytes_eq word (codes "start") then start arguments
     else None
 
 -- what the tokens of a line say: nothing where there is none or the first begins with `#`

@@ -1,6 +1,6 @@
 // The forms of a line.
 ghost use Rattle.std.specs.Prelude.{◌≡◌, map, IfOk};
-ghost use Rattle.lines.specs.Grammar.{line_of, line_of_tokens, form, write_all, read_all, invoke, deliver, clock, one_brick};
+ghost use Rattle.lines.specs.Grammar.{line_of, line_of_tokens, form, write_all, read_all, invoke, call_number, fail, cut, fault, deliver, start, clock, one_brick};
 
 use crate::tokens::{parse_hex, parse_number, split};
 use fab_base::{Bytes, NoMem};
@@ -16,6 +16,23 @@ pub enum Access {
     ReadStripe,
     /// To write all data blocks: these bytes.
     WriteStripe(Bytes),
+}
+
+/// What is to befall one of the calls of `write_at` and `sync` that an event makes of a brick's disk. Calls are counted from 1.
+#[derive(Clone, Copy)]
+pub enum Fault {
+    /// The brick stops inside that call: `cut C pick P`.
+    Cut {
+        /// The number of the call.
+        call: u64,
+        /// Which of the images that a crash may leave its disk is to hold.
+        pick: u64,
+    },
+    /// That call does nothing, and the brick halts: `fail C`.
+    Fail {
+        /// The number of the call.
+        call: u64,
+    },
 }
 
 /// What a line of a schedule says. Its numbers are any below 2^64: whether there is such a brick, group, stripe or
@@ -39,6 +56,8 @@ pub enum Line {
     Deliver {
         /// The number of the message, in the order of sending.
         message: u64,
+        /// What is to befall a call of that.
+        fault: Option<Fault>,
     },
     /// A brick's clock is to read another time from now on: `clock B V`.
     SetClock {
@@ -61,6 +80,8 @@ pub enum Line {
     Start {
         /// The brick.
         brick: u64,
+        /// What is to befall a call of that.
+        fault: Option<Fault>,
     },
 }
 
@@ -111,7 +132,7 @@ fn parse_form(alloc: Global, word: &[u8], arguments: &[&[u8]]) -> Result<Option<
     } else if word == b"crash".as_slice() {
         Ok(parse_brick(arguments).map(|brick| Line::Crash { brick }))
     } else if word == b"start".as_slice() {
-        Ok(parse_brick(arguments).map(|brick| Line::Start { brick }))
+        Ok(parse_start(arguments))
     } else {
         Ok(None)
     }
@@ -158,16 +179,88 @@ fn parse_invoke(brick: &[u8], group: &[u8], stripe: &[u8], access: Access) -> Op
     })
 }
 
-/// `deliver K`, behind its first word.
+/// `deliver K`, behind its first word, with what is to befall a call.
 fn parse_deliver(arguments: &[&[u8]]) -> Option<Line>
     ensures { result ≡ deliver (map (λ token. token.now) arguments.now) }
 {
-    if arguments.len() != 1 {
+    let [message, behind @ ..] = arguments else {
+        return None;
+    };
+    Some(Line::Deliver {
+        message: parse_number(message)?,
+        fault: parse_fault(behind)?,
+    })
+}
+
+/// `start B`, behind its first word, with what is to befall a call.
+fn parse_start(arguments: &[&[u8]]) -> Option<Line>
+    ensures { result ≡ start (map (λ token. token.now) arguments.now) }
+{
+    let [brick, behind @ ..] = arguments else {
+        return None;
+    };
+    Some(Line::Start {
+        brick: parse_number(brick)?,
+        fault: parse_fault(behind)?,
+    })
+}
+
+/// What is to befall a call: nothing where no word is left.
+fn parse_fault(words: &[&[u8]]) -> Option<Option<Fault>>
+    ensures { result ≡ fault (map (λ token. token.now) words.now) }
+{
+    if words.len() == 2 {
+        return Some(Some(parse_fail(words[0], words[1])?));
+    }
+    if words.len() == 4 {
+        return Some(Some(parse_cut(words[0], words[1], words[2], words[3])?));
+    }
+    if words.len() == 0 { Some(None) } else { None }
+}
+
+/// `fail C`.
+#[tactic(auto, unfolding(crate::specs::Grammar::fail))]
+fn parse_fail(word: &[u8], call: &[u8]) -> Option<Fault>
+    ensures { result ≡ fail word.now call.now }
+{
+    if word == b"fail".as_slice() {
+        Some(Fault::Fail {
+            call: parse_call(call)?,
+        })
+    } else {
+        None
+    }
+}
+
+/// `cut C pick P`.
+#[tactic(auto, unfolding(crate::specs::Grammar::cut))]
+fn parse_cut(word: &[u8], call: &[u8], second: &[u8], pick: &[u8]) -> Option<Fault>
+    ensures { result ≡ cut word.now call.now second.now pick.now }
+{
+    if word == b"cut".as_slice() {
+        if second == b"pick".as_slice() {
+            Some(Fault::Cut {
+                call: parse_call(call)?,
+                pick: parse_number(pick)?,
+            })
+        } else {
+            None
+        }
+    } else {
+        None
+    }
+}
+
+/// The number of a call, from 1.
+#[tactic(auto, unfolding(crate::specs::Grammar::call_number))]
+fn parse_call(token: &[u8]) -> Option<u64>
+    ensures { result ≡ call_number token.now }
+{
+    let call = parse_number(token)?;
+    if call == 0 {
         return None;
     }
-    Some(Line::Deliver {
-        message: parse_number(arguments[0])?,
-    })
+    Some(call)
 }
 
 /// `clock B V`, behind its first word.
@@ -183,7 +276,7 @@ fn parse_clock(arguments: &[&[u8]]) -> Option<Line>
     })
 }
 
-/// The brick of `tick B`, `crash B` and `start B`, behind the first word.
+/// The brick of `tick B` and `crash B`, behind the first word.
 fn parse_brick(arguments: &[&[u8]]) -> Option<u64>
     ensures { result ≡ one_brick (map (λ token. token.now) arguments.now) }
 {

@@ -7,5 +7,5 @@ mod reader;
 mod tokens;
 
 pub use contents::{content_of, is_layout_end};
-pub use forms::{Access, LINE_LIMIT, Line, parse};
+pub use forms::{Access, Fault, LINE_LIMIT, Line, parse};
 pub use reader::{Piece, READ_LEN, Unread};

@@ -1,5 +1,5 @@
 -- What a run printed of an input, from what was read of its layout and printed of its schedule.
-use Rattle.std.proofs.Common.{◌≡◌, ℕ, ◌≤◌, List, [], ◌∷◌, length, codes, Option, Some, None, Result, Ok, Err, refl, ap, ◌∙◌, subst}
+use Rattle.std.proofs.Common.{◌≡◌, ℕ, ◌≤◌, List, [], ◌∷◌, length, codes, Option, Some, None, Result, Ok, Err, refl, sym, ap, ◌∙◌, subst}
 use Rattle.std.specs.Io.KnownBytes.{IsAtEnd, prepend_known}
 use Rattle.std.proofs.KnownBytes.{prepend_known-nil}
 use Rattle.lines.specs.Lines.{parts}
@@ -7,28 +7,34 @@ use Rattle.lines.specs.Reading.{ReadsSchedule}
 use Rattle.layout.specs.declared.faults.LayoutFault.{LayoutFault}
 use Rattle.layout.specs.Texts.{layout_of}
 use Rattle.fab_base.specs.Layouts.{Layout}
-use Rattle.protocol.specs.Worlds.{first_world}
-use Rattle.world.specs.Runs.{Run}
+use Rattle.world.specs.Runs.{Run, Step, world_of}
+use Rattle.world.specs.Disks.{ShowsDisks}
 use Rattle.replay.specs.declared.endings.Verdict.{Verdict}
+use Rattle.replay.specs.declared.endings.Verdict.TheVariants as verdict
 use Rattle.replay.specs.declared.endings.Halt.{Halt}
 use Rattle.replay.specs.Inputs.{Input, Parted, TooLong, Endless, most_layout_bytes, input_of, IsInput}
-use Rattle.replay.specs.Outputs.{Output, output_of, output_with, output_from, bad_layout}
+use Rattle.replay.specs.Outputs.{output_of, output_with, output_from, bad_layout}
 use Rattle.replay.specs.Turns.{Prints, AreLinesOf, PrintsRest, PrintsHeaded, PrintsInput}
 use Rattle.replay.proofs.LayoutTexts.{within}
 use Rattle.replay.proofs.LeftLines.{some_lines}
-use Rattle.replay.proofs.Printing.{Prints-nothing, Prints-same}
+use Rattle.replay.proofs.Printing.{Prints-nothing, Prints-same, stops_not}
+
+-- an input without a layout does not end as whole
+refused_not : (old new : Option (List ℕ)) (why : List ℕ) (r : Result Verdict Halt) → Prints old new (bad_layout why) r → r ≡ Ok verdict.Whole → ⊥
+refused_not old new why (Ok one) p e = (let bad : verdict.BadLayout ≡ one = p.0 in let same : one ≡ verdict.Whole = cc in cc)
+refused_not old new why (Err halt) p e = stops_not halt e
 
 -- the output of a head whose layout is this, or which has this fault
-pub output_of-text : (head : List ℕ) (schedule : List (List ℕ)) (r : Result Layout LayoutFault) → layout_of head ≡ r
-    → output_of (Parted head schedule) ≡ output_with r schedule
+pub output_of-text : (head : List ℕ) (steps : List Step) (schedule : List (List ℕ)) (r : Result Layout LayoutFault) → layout_of head ≡ r
+    → output_of steps (Parted head schedule) ≡ output_with r steps schedule
 unfolding output_of
-output_of-text head schedule r is = ap (λ x. output_with x schedule) is
+output_of-text head steps schedule r is = ap (λ x. output_with x steps schedule) is
 
-pub output_of-long : output_of TooLong ≡ bad_layout (codes "limit layout")
+pub output_of-long : output_of [] TooLong ≡ bad_layout (codes "limit layout")
 unfolding output_of
 output_of-long = refl
 
-pub output_of-endless : output_of Endless ≡ bad_layout (codes "end")
+pub output_of-endless : output_of [] Endless ≡ bad_layout (codes "end")
 unfolding output_of
 output_of-endless = refl
 
@@ -36,27 +42,42 @@ output_of-endless = refl
 pub PrintsHeaded-stopped : (head : List ℕ) (left old : Option (List ℕ)) (halt : Halt) → PrintsHeaded head left old old (Err halt)
 PrintsHeaded-stopped head left old halt =
     let some = some_lines left in
-    record { schedule = some.0; are_lines = some.1; printed = Prints-nothing old (output_of (Parted head some.0)) halt }
+    record {
+      schedule = some.0;
+      are_lines = some.1;
+      steps = [];
+      printed = Prints-nothing old (output_of [] (Parted head some.0)) halt;
+      whole = λ e. absurd (stops_not halt e);
+    }
 
 -- the text has this output, whatever stands behind it
-pub PrintsHeaded-refused : (head : List ℕ) (left old new : Option (List ℕ)) (r : Result Verdict Halt) (output : Output)
-    → ((schedule : List (List ℕ)) → output_of (Parted head schedule) ≡ output) → Prints old new output r → PrintsHeaded head left old new r
-PrintsHeaded-refused head left old new r output is p =
+pub PrintsHeaded-refused : (head : List ℕ) (left old new : Option (List ℕ)) (r : Result Verdict Halt) (why : List ℕ)
+    → ((schedule : List (List ℕ)) → output_of [] (Parted head schedule) ≡ bad_layout why) → Prints old new (bad_layout why) r
+    → PrintsHeaded head left old new r
+PrintsHeaded-refused head left old new r why is p =
     let some = some_lines left in
-    record { schedule = some.0; are_lines = some.1; printed = Prints-same old new r (output_of (Parted head some.0)) output (is some.0) p }
+    record {
+      schedule = some.0;
+      are_lines = some.1;
+      steps = [];
+      printed = Prints-same old new r (output_of [] (Parted head some.0)) (bad_layout why) (is some.0) p;
+      whole = λ e. absurd (refused_not old new why r p e);
+    }
 
 -- the layout was read, and the lines behind it were run
 pub PrintsHeaded-lines : (head : List ℕ) (layout : Layout) (run : Run) (left old new : Option (List ℕ)) (r : Result Verdict Halt)
     → layout_of head ≡ Ok layout
-    → run ≡ record { layout = layout; steps = []; disks = run.disks } → PrintsRest run 0 left old new r
+    → run ≡ record { layout = layout; steps = []; disks = run.disks } → ShowsDisks run → PrintsRest run 0 left old new r
     → PrintsHeaded head left old new r
-PrintsHeaded-lines head layout run left old new r is first p =
-    let rest = subst (λ (u : Run). PrintsRest u 0 left old new r) first p in
+PrintsHeaded-lines head layout run left old new r is first fresh p =
     record {
-      schedule = rest.contents;
-      are_lines = rest.are_lines;
-      printed = Prints-same old new r (output_of (Parted head rest.contents)) (output_from layout (first_world layout) 0 rest.contents)
-          (output_of-text head rest.contents (Ok layout) is) rest.printed;
+      schedule = p.contents;
+      are_lines = p.are_lines;
+      steps = p.steps;
+      printed = Prints-same old new r (output_of p.steps (Parted head p.contents)) (output_from run.layout (world_of run) 0 p.steps p.contents)
+          (output_of-text head p.steps p.contents (Ok layout) is
+          ∙ ap (λ (u : Run). output_from u.layout (world_of u) 0 p.steps p.contents) (sym first)) p.printed;
+      whole = λ e. (layout, is, record { lines = p.whole e; first = run; last = p.last; first_is = first; fresh = fresh; leads = p.leads });
     }
 
 -- the output of an equal layout's text
@@ -66,18 +87,29 @@ pub PrintsHeaded-head : (head other : List ℕ) (left old new : Option (List ℕ
 PrintsHeaded-head head other left old new r e p = subst (λ (l : List ℕ). PrintsHeaded l left old new r) e p
 
 -- the run was stopped before the input was read
+stopped_input : (input : Input) (source old : Option (List ℕ)) (halt : Halt) → IsInput source input → PrintsInput source old old (Err halt)
+stopped_input input source old halt is_input = record {
+  input = input;
+  is_input = is_input;
+  steps = [];
+  printed = Prints-nothing old (output_of [] input) halt;
+  whole = λ e. absurd (stops_not halt e);
+}
+
 pub PrintsInput-stopped : (source old : Option (List ℕ)) (halt : Halt) → PrintsInput source old old (Err halt)
-PrintsInput-stopped source old halt = of_bytes source
-  where
-    of_bytes : (source : Option (List ℕ)) → PrintsInput source old old (Err halt)
-    of_bytes None = record { input = Endless; is_input = tt; printed = Prints-nothing old (output_of Endless) halt }
-    of_bytes (Some bytes) = record { input = input_of bytes; is_input = refl; printed = Prints-nothing old (output_of (input_of bytes)) halt }
+PrintsInput-stopped None old halt = stopped_input Endless None old halt tt
+PrintsInput-stopped (Some bytes) old halt = stopped_input (input_of bytes) (Some bytes) old halt refl
 
 -- the input has no layout
-pub PrintsInput-refused : (source old new : Option (List ℕ)) (input : Input) (output : Output) (r : Result Verdict Halt) → IsInput source input
-    → output_of input ≡ output → Prints old new output r → PrintsInput source old new r
-PrintsInput-refused source old new input output r is_input is p =
-    record { input = input; is_input = is_input; printed = Prints-same old new r (output_of input) output is p }
+pub PrintsInput-refused : (source old new : Option (List ℕ)) (input : Input) (why : List ℕ) (r : Result Verdict Halt) → IsInput source input
+    → output_of [] input ≡ bad_layout why → Prints old new (bad_layout why) r → PrintsInput source old new r
+PrintsInput-refused source old new input why r is_input is p = record {
+  input = input;
+  is_input = is_input;
+  steps = [];
+  printed = Prints-same old new r (output_of [] input) (bad_layout why) is p;
+  whole = λ e. absurd (refused_not old new why r p e);
+}
 
 -- an input of these parts, whose layout's text is within the limit
 pub input_of-parts : (bytes head : List ℕ) (schedule : List (List ℕ)) → length head ≤ most_layout_bytes
@@ -89,7 +121,15 @@ input_of-parts bytes head schedule under is = rw is (within head (Parted head sc
 pub PrintsInput-headed : (source left old new : Option (List ℕ)) (head : List ℕ) (r : Result Verdict Halt) → ReadsSchedule source left head []
     → length head ≤ most_layout_bytes → PrintsHeaded head left old new r → PrintsInput source old new r
 PrintsInput-headed source left old new head r reads under p =
-    record { input = Parted head p.schedule; is_input = is_input source left reads p.are_lines; printed = p.printed }
+    record {
+      input = Parted head p.schedule;
+      is_input = is_input source left reads p.are_lines;
+      steps = p.steps;
+      printed = p.printed;
+      whole = λ e.
+          let all = p.whole e in
+          record { head = head; layout = all.0; schedule = p.schedule; input_is = refl; layout_is = all.1; steps_are = all.2 };
+    }
   where
     is_input : (source left : Option (List ℕ)) → ReadsSchedule source left head [] → AreLinesOf left p.schedule
         → IsInput source (Parted head p.schedule)

@@ -11,3 +11,4 @@ pub mod Successions
 pub mod PrintedMarks
 pub mod Linearity
 pub mod Statuses
+pub mod Steppings

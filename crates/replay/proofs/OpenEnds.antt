@@ -6,7 +6,10 @@ use Rattle.std.specs.Io.KnownBytes.{Consumes, Appends}
 use Rattle.std.proofs.KnownBytes.{Consumes-nil, Consumes-trans}
 use Rattle.fab_base.specs.Layouts.{Layout}
 use Rattle.layout.specs.Texts.{layout_of}
-use Rattle.world.specs.Runs.{Run}
+use Rattle.stripe_code.specs.Codes.{coding}
+use Rattle.world.specs.Runs.{Run, world_of}
+use Rattle.world.specs.Disks.{ShowsDisks}
+use Rattle.replay.specs.Outputs.{steps_text}
 use Rattle.lines.specs.Lines.{is_line_feed, raw_lines, content, ends_layout, parts, parts_of_lines, whole_lines}
 use Rattle.lines.specs.Reading.{AreWhole, IsNeeded}
 use Rattle.lines.proofs.WholeLines.{AreWhole-both, whole_firsts, lines_of}
@@ -53,7 +56,8 @@ head_open bytes h =
 -- the schedule goes on
 schedule_open : (head bytes new before text : List ℕ) → TakesHead head bytes new → ScheduleSoFar head (new ++ before) text
     → LeavesOpen (bytes ++ before) text
-schedule_open head bytes new before text t (layout, is_layout, s) =
+schedule_open head bytes new before text t so_far =
+    let s = so_far.lines in
     let lines : List (List ℕ) = t.lines ++ (t.end ∷ s.raw) in
     let whole : AreWhole lines = AreWhole-both t.lines (t.end ∷ s.raw) t.are_whole (t.is_whole, s.are_whole) in
     let joined : concat lines ≡ concat t.lines ++ (t.end ++ concat s.raw) = concat-append t.lines (t.end ∷ s.raw) in
@@ -69,7 +73,21 @@ schedule_open head bytes new before text t (layout, is_layout, s) =
     open_of lines s.begun (bytes ++ before) text (Parted head (map content s.raw)) whole s.is_begun.0 is
     (input_of-parts (concat lines) head (map content s.raw) t.within found) (
       s.is_begun,
-      record { layout = layout; lines = s.lines; layout_is = is_layout; lines_are = s.lines_are; within = s.within; text_is = s.text_is },
+      record {
+        layout = so_far.layout;
+        steps = s.steps;
+        layout_is = so_far.layout_is;
+        steps_are = record {
+          lines = s.lines_are;
+          first = so_far.first;
+          last = s.last;
+          first_is = so_far.first_is;
+          fresh = so_far.fresh;
+          leads = s.leads;
+        };
+        within = s.within;
+        text_is = s.text_is ∙ ap (λ (r : Run). steps_text (coding r.layout) (world_of r) s.steps) so_far.first_is;
+      },
     )
 
 -- before the first read
@@ -97,29 +115,14 @@ ReadsPart-none open_after unread told old new came untouched failed same other =
   printed = λ e. absurd (other e);
 }
 
--- what lines print is told of no disk
-undisked_run : (layout : Layout) (first : Run) (bytes text : List ℕ) → LinesSoFar (record { layout = layout; steps = []; disks = first.disks }) bytes text
-    → LinesSoFar (record { layout = layout; steps = []; disks = [] }) bytes text
-undisked_run layout first bytes text s = record {
-  raw = s.raw;
-  begun = s.begun;
-  lines = s.lines;
-  are_whole = s.are_whole;
-  is_begun = s.is_begun;
-  bytes_are = s.bytes_are;
-  lines_are = s.lines_are;
-  within = s.within;
-  text_is = s.text_is;
-}
-
 -- lines were read behind the text of a layout
 pub ReadsPart-schedule : (head unread : List ℕ) (first : Run) (layout : Layout) (told told_after old new : Option (List ℕ)) (came : ℕ) (untouched failed : Type 0)
-    → layout_of head ≡ Ok layout → first ≡ record { layout = layout; steps = []; disks = first.disks }
+    → layout_of head ≡ Ok layout → first ≡ record { layout = layout; steps = []; disks = first.disks } → ShowsDisks first
     → ReadsPart (LinesSoFar first) unread told told_after old new came untouched failed
     → ReadsPart (ScheduleSoFar head) unread told told_after old new came untouched failed
-ReadsPart-schedule head unread first layout told told_after old new came untouched failed is start p =
+ReadsPart-schedule head unread first layout told told_after old new came untouched failed is start fresh p =
     let to : (bytes text : List ℕ) → LinesSoFar first bytes text → ScheduleSoFar head bytes text =
-    λ bytes text s. (layout, is, undisked_run layout first bytes text (subst (λ (u : Run). LinesSoFar u bytes text) start s)) in
+    λ bytes text s. record { layout = layout; layout_is = is; first = first; first_is = start; fresh = fresh; lines = s } in
     record {
       read = p.read;
       consumes = p.consumes;

@@ -18,7 +18,7 @@ use Rattle.world.specs.Texts.{mark_text, marks_text, new_marks, is_deliverable, 
 use Rattle.world.specs.declared.simulations.Outcome.{Outcome}
 use Rattle.world.specs.declared.simulations.Outcome.TheVariants.{Marks, Refused, Idle}
 use Rattle.replay.specs.Printed.{Printed, OfMark, OfRefusal, OfNothing, printed_text, printed_texts, marks_in, printed_marks}
-use Rattle.replay.specs.Replays.{steps_text}
+use Rattle.replay.specs.Outputs.{steps_text}
 
 -- the lines that an outcome prints, with the marks that were made
 abbrev lines_of : Outcome → List Mark → List Printed

@@ -10,13 +10,13 @@ use Rattle.lines.specs.declared.forms.Line.{Line}
 use Rattle.lines.specs.Grammar.{line_of}
 use Rattle.fab_base.specs.Layouts.{Layout, Group, group_of}
 use Rattle.protocol.specs.Settings.{Setting}
-use Rattle.protocol.specs.Worlds.{World, first_world, run}
+use Rattle.protocol.specs.Worlds.{World, Event, first_world, run}
 use Rattle.protocol.specs.Happenings.{happenings_of}
 use Rattle.stripe_code.specs.Codes.{coding}
 use Rattle.layout.specs.declared.faults.LayoutFault.{LayoutFault}
 use Rattle.layout.specs.Names.{fault_text}
 use Rattle.layout.specs.Texts.{layout_of}
-use Rattle.world.specs.Runs.{events_of}
+use Rattle.world.specs.Runs.{Step}
 use Rattle.replay.specs.declared.endings.Verdict.{Verdict}
 use Rattle.replay.specs.declared.endings.Verdict.TheVariants.{Whole, BadLayout, BadLine, TooManyLines}
 use Rattle.world.specs.Texts.{text_of, newline}
@@ -95,17 +95,19 @@ count_text lines marks =
 abbrev pub closing_text : Layout → World → ℕ → List ℕ
 closing_text layout w lines = groups_text layout w most_groups ++ count_text lines w.marks
 
--- what a line prints, and the world after it
-abbrev pub line_prints : Setting → World → Line → List ℕ
-line_prints setting w line = text_of setting w (events_of line)
+-- the events of the first of some steps, and the steps behind it
+abbrev pub first_events : List Step → List Event
+first_events [] = []
+first_events (step ∷ steps) = step.events
 
-abbrev pub after_line : Setting → World → Line → World
-after_line setting w line = run setting (events_of line) w
+abbrev pub behind_first : List Step → List Step
+behind_first [] = []
+behind_first (step ∷ steps) = steps
 
--- the texts of lines, one after another
-abbrev pub lines_text : Setting → World → List Line → List ℕ
-lines_text setting w [] = []
-lines_text setting w (line ∷ lines) = line_prints setting w line ++ lines_text setting (after_line setting w line) lines
+-- the texts of steps, one after another
+abbrev pub steps_text : Setting → World → List Step → List ℕ
+steps_text setting w [] = []
+steps_text setting w (step ∷ steps) = text_of setting w step.events ++ steps_text setting (run setting step.events w) steps
 
 -- what is printed, and how the input ends that
 pub record Output : Type 0 where
@@ -129,29 +131,31 @@ abbrev pub too_many_lines : Output
 too_many_lines = record { text = codes "too many lines" ++ newline; verdict = TooManyLines }
 
 -- a line of the schedule that is numbered n + 1: too many, or no line, or one that is run
-abbrev pub output_line : ℕ → Bool → Option Line → (Line → Output) → Output
+abbrev pub output_line : ℕ → Bool → Option Line → Output → Output
 output_line n false line ran = too_many_lines
 output_line n true None ran = bad_line (n + 1)
-output_line n true (Some line) ran = ran line
+output_line n true (Some line) ran = ran
 
--- the rest of a schedule, from a world that n of its lines have left; each line is given without its line end
-unfoldable pub output_from : Layout → World → ℕ → List (List ℕ) → Output
-output_from layout w n [] = finished layout w n
-output_from layout w n (content ∷ contents) =
+-- The rest of a schedule, from a world that n of its lines have left; each line is given without its line end. These are the steps of its lines:
+-- what a line prints is the text of its step.
+unfoldable pub output_from : Layout → World → ℕ → List Step → List (List ℕ) → Output
+output_from layout w n steps [] = finished layout w n
+output_from layout w n steps (content ∷ contents) =
     output_line n (nat_lt n most_lines) (line_of content)
-    (λ line. onto (line_prints (coding layout) w line) (output_from layout (after_line (coding layout) w line) (n + 1) contents))
+    (onto (text_of (coding layout) w (first_events steps))
+    (output_from layout (run (coding layout) (first_events steps) w) (n + 1) (behind_first steps) contents))
 
 -- the output of an input without a layout, and why it has none
 abbrev pub bad_layout : List ℕ → Output
 bad_layout why = record { text = codes "bad layout: " ++ (why ++ newline); verdict = BadLayout }
 
--- what is printed for a layout and a schedule
-abbrev pub output_with : Result Layout LayoutFault → List (List ℕ) → Output
-output_with (Err fault) schedule = bad_layout (fault_text fault)
-output_with (Ok layout) schedule = output_from layout (first_world layout) 0 schedule
+-- what is printed for a layout and a schedule, of which these are the steps
+abbrev pub output_with : Result Layout LayoutFault → List Step → List (List ℕ) → Output
+output_with (Err fault) steps schedule = bad_layout (fault_text fault)
+output_with (Ok layout) steps schedule = output_from layout (first_world layout) 0 steps schedule
 
--- what is printed for an input
-unfoldable pub output_of : Input → Output
-output_of (Parted text schedule) = output_with (layout_of text) schedule
-output_of TooLong = bad_layout (codes "limit layout")
-output_of Endless = bad_layout (codes "end")
+-- what is printed for an input, of whose schedule these are the steps
+unfoldable pub output_of : List Step → Input → Output
+output_of steps (Parted text schedule) = output_with (layout_of text) steps schedule
+output_of steps TooLong = bad_layout (codes "limit layout")
+output_of steps Endless = bad_layout (codes "end")

@@ -1,21 +1,21 @@
 -- What a part of a run read, no more than it took to know how the run ends.
-use Rattle.std.specs.Prelude.{◌≡◌, ℕ, ◌≤◌, true, false, List, [], ◌++◌, length, map, ⊤, Option, Some, Result, Ok, Err}
+use Rattle.std.specs.Prelude.{◌≡◌, ℕ, ◌≤◌, true, false, List, [], ◌++◌, length, map, ⊤, Option, Result, Ok, Err}
 use Rattle.std.specs.List.{list_any, concat}
 use Rattle.std.specs.Io.KnownBytes.{Appends, Consumes}
-use Rattle.lines.specs.declared.forms.Line.{Line}
-use Rattle.lines.specs.Grammar.{line_of}
 use Rattle.lines.specs.Lines.{content, ends_layout}
 use Rattle.lines.specs.Reading.{AreWhole, IsWhole, IsBegun, IsNeeded}
 use Rattle.fab_base.specs.Layouts.{Layout}
 use Rattle.layout.specs.Texts.{layout_of}
 use Rattle.stripe_code.specs.Codes.{coding}
-use Rattle.world.specs.Runs.{Run, world_of}
+use Rattle.world.specs.Runs.{Run, Step, world_of}
+use Rattle.world.specs.Disks.{ShowsDisks}
 use Rattle.replay.specs.declared.endings.Halt.{Halt}
 use Rattle.replay.specs.declared.endings.Halt.TheVariants.{Source}
 use Rattle.replay.specs.declared.heads.Head.{Head}
 use Rattle.replay.specs.declared.heads.Head.TheVariants.{Text, Alone, TooLong, Endless}
 use Rattle.replay.specs.Inputs.{most_layout_bytes}
-use Rattle.replay.specs.Outputs.{most_lines, lines_text}
+use Rattle.replay.specs.Outputs.{most_lines, steps_text}
+use Rattle.replay.specs.Turns.{LeadsTo, AreLinesOfSteps}
 
 -- What a part of a run read, behind the bytes that were unread: no more than left it open how the run ends. Where the source
 -- failed it is open still, and the sink took the text of what was read.
@@ -35,22 +35,28 @@ pub record HeadSoFar (bytes : List ℕ) : Type 0 where
   pub none_ends : list_any ends_layout lines ≡ false
   pub within : length (concat lines) ≤ most_layout_bytes
 
--- bytes are whole lines that a schedule may have, and a line that was begun; and this is what the lines print behind a run
+-- bytes are whole lines that a schedule may have, and a line that was begun; these steps of the lines were taken behind a run, and this is their text
 pub record LinesSoFar (run : Run) (bytes text : List ℕ) : Type 0 where
   pub raw : List (List ℕ)
   pub begun : List ℕ
-  pub lines : List Line
+  pub steps : List Step
+  pub last : Run
+  pub leads : LeadsTo run steps last
   pub are_whole : AreWhole raw
   pub is_begun : IsBegun 70000 begun
   pub bytes_are : bytes ≡ concat raw ++ begun
-  pub lines_are : map line_of (map content raw) ≡ map Some lines
-  pub within : length lines ≤ most_lines
-  pub text_is : text ≡ lines_text (coding run.layout) (world_of run) lines
+  pub lines_are : AreLinesOfSteps (map content raw) steps
+  pub within : length steps ≤ most_lines
+  pub text_is : text ≡ steps_text (coding run.layout) (world_of run) steps
 
--- the same, behind the text of a layout
-abbrev pub ScheduleSoFar : List ℕ → List ℕ → List ℕ → Type 0
-ScheduleSoFar head bytes text =
-    (layout : Layout) × (layout_of head ≡ Ok layout) × LinesSoFar (record { layout = layout; steps = []; disks = [] }) bytes text
+-- the same, behind the text of a layout: no step was taken before
+pub record ScheduleSoFar (head bytes text : List ℕ) : Type 0 where
+  pub layout : Layout
+  pub layout_is : layout_of head ≡ Ok layout
+  pub first : Run
+  pub first_is : first ≡ record { layout = layout; steps = []; disks = first.disks }
+  pub fresh : ShowsDisks first
+  pub lines : LinesSoFar first bytes text
 
 -- the bytes that were taken are a layout's text and the line that ends it
 pub record TakesHead (text bytes new : List ℕ) : Type 0 where

@@ -1,34 +1,31 @@
 -- What the program `replay` promises: how it answers its words, what it prints of an input, and that what it
 -- prints is strict.
-use Rattle.std.specs.Prelude.{◌≡◌, ℕ, ◌⊎◌, Bool, false, List, [], ◌∷◌, ◌++◌, ◌≤◌, length, ⊤, map, codes, Option, Some, None, Result, Ok, Err}
-use Rattle.std.specs.List.{concat, AllByRecursion}
+use Rattle.std.specs.Prelude.{◌≡◌, ℕ, ◌⊎◌, Bool, false, List, [], ◌∷◌, ◌++◌, ◌≤◌, length, ⊤, codes, Option, Some, None, Result, Ok, Err}
+use Rattle.std.specs.List.{concat}
 use Rattle.std.specs.Str.{bytes_eq}
 use Rattle.std.specs.Io.KnownBytes.{Appends, Consumes, IsAtEnd}
 use Rattle.fab_io.specs.Ends.{AppendsFront}
 use Rattle.reg_model.specs.Marks.{stripe_marks, IsWellFormed}
 use Rattle.reg_model.specs.Strict.{IsStrict}
-use Rattle.lines.specs.declared.forms.Line.{Line}
-use Rattle.lines.specs.Grammar.{line_of}
 use Rattle.lines.specs.Lines.{whole_lines, begun_line}
 use Rattle.lines.specs.Reading.{IsBegun}
 use Rattle.fab_base.specs.Layouts.{Layout, Group, group_of}
-use Rattle.protocol.specs.Settings.{Setting}
 use Rattle.protocol.specs.Views.{layout_views}
 use Rattle.protocol.specs.Worlds.{World, first_world, run}
 use Rattle.protocol.specs.Happenings.{happenings_of}
 use Rattle.protocol_laws.specs.Laws.{AbortsShow, Laws}
 use Rattle.stripe_code.specs.Codes.{coding}
 use Rattle.layout.specs.Texts.{layout_of}
-use Rattle.world.specs.Runs.{Step, IsEventsOf, all_events}
-use Rattle.world.specs.Texts.{newline, text_of}
+use Rattle.world.specs.Runs.{Step, all_events}
+use Rattle.world.specs.Texts.{newline}
 use Rattle.replay.specs.declared.endings.Verdict.{Verdict}
 use Rattle.replay.specs.declared.endings.Verdict.TheVariants.{Whole, BadLayout, BadLine, TooManyLines}
 use Rattle.replay.specs.declared.endings.Halt.{Halt}
 use Rattle.replay.specs.declared.endings.Halt.TheVariants.{Source, Sink, Memory}
 use Rattle.replay.specs.Inputs.{Input, Parted, TooLong, Endless, most_layout_bytes, input_of, IsInput}
-use Rattle.replay.specs.Outputs.{output_of, closing_text, lines_text, most_lines}
+use Rattle.replay.specs.Outputs.{output_of, closing_text, steps_text, most_lines}
 use Rattle.replay.specs.Printed.{Printed, printed_texts, printed_marks}
-use Rattle.replay.specs.Turns.{Prints}
+use Rattle.replay.specs.Turns.{Prints, AreStepsOf}
 use Rattle.replay.specs.Histories.{Succeeds}
 
 -- the words are the one word `run`
@@ -61,16 +58,6 @@ Refuses old new status =
 abbrev pub left_by : Layout → List Step → World
 left_by layout steps = run (coding layout) (all_events steps) (first_world layout)
 
--- the texts of steps, one after another
-abbrev pub steps_text : Setting → World → List Step → List ℕ
-steps_text setting w [] = []
-steps_text setting w (step ∷ steps) = text_of setting w step.events ++ steps_text setting (run setting step.events w) steps
-
--- Each of these steps is of its line of the schedule: its events are such as that line may be.
-pub record AreStepsOf (schedule : List (List ℕ)) (steps : List Step) : Type 0 where
-  pub lines : map line_of schedule ≡ map (λ step. Some step.line) steps
-  pub events : AllByRecursion (λ step. IsEventsOf step.line step.events) steps
-
 -- What lines left is strict: the marks are well formed, the happenings of each stripe are strict for its
 -- marks, and every abort shows its evidence. Beside these all laws of the disk hold of it.
 pub record IsStrictWorld (layout : Layout) (world : World) : Type 0 where
@@ -91,7 +78,7 @@ pub record IsLinearizable (input : Input) (text : List ℕ) : Type 0 where
   pub world : World
   pub input_is : input ≡ Parted head schedule
   pub layout_is : layout_of head ≡ Ok layout
-  pub steps_are : AreStepsOf schedule steps
+  pub steps_are : AreStepsOf layout schedule steps
   pub world_is : world ≡ left_by layout steps
   pub printed : List Printed
   pub text_is : text ≡ steps_text (coding layout) (first_world layout) steps ++ closing_text layout world (length steps)
@@ -106,7 +93,7 @@ pub record BeginsWith (input : Input) (layout : Layout) (steps : List Step) : Ty
   pub rest : List (List ℕ)
   pub input_is : input ≡ Parted head (schedule ++ rest)
   pub layout_is : layout_of head ≡ Ok layout
-  pub steps_are : AreStepsOf schedule steps
+  pub steps_are : AreStepsOf layout schedule steps
 
 -- However far a run comes, what its steps left by then is strict, and what further steps leave follows it: no
 -- brick takes anything below what it took nothing below, and no version that was lost has surfaced.
@@ -115,14 +102,14 @@ pub record StaysStrict (input : Input) : Type 0 where
   pub follows : (layout : Layout) (steps more : List Step) → BeginsWith input layout (steps ++ more)
       → Succeeds layout (left_by layout steps) (left_by layout (steps ++ more))
 
--- The whole lines of a schedule are all lines, and no more than there may be, over a layout; and this is their text.
+-- The whole lines of a schedule are all lines, and no more than there may be, over a layout; and this is the text of their steps.
 pub record IsRunSoFar (head : List ℕ) (schedule : List (List ℕ)) (text : List ℕ) : Type 0 where
   pub layout : Layout
-  pub lines : List Line
+  pub steps : List Step
   pub layout_is : layout_of head ≡ Ok layout
-  pub lines_are : map line_of schedule ≡ map Some lines
-  pub within : length lines ≤ most_lines
-  pub text_is : text ≡ lines_text (coding layout) (first_world layout) lines
+  pub steps_are : AreStepsOf layout schedule steps
+  pub within : length steps ≤ most_lines
+  pub text_is : text ≡ steps_text (coding layout) (first_world layout) steps
 
 -- A run may go on behind an input as far as its last line feed, and the line that was begun: the text of its layout goes
 -- on, or its schedule does; and this is the text of its lines.
@@ -154,24 +141,25 @@ pub record FailedSource (source source_after sink sink_after : Option (List ℕ)
   pub printed : Appends sink sink_after text
 
 -- A run. There is an input, of which what the source tells is the bytes, and an end, of which the status
--- tells. The sink took the whole output of the input, which ends so, or, where the run was stopped from
+-- tells, and there are the steps that its lines were. The sink took the whole output of the input, which ends so, or, where the run was stopped from
 -- outside, some of the output, from its front. The source was read no further than it took. Where it failed, the
 -- sink took the text of the lines that were whole. Where all was run, the source is at its end, and what was
 -- printed is strict; and however far it came, what its lines left is strict, and what further lines leave
 -- follows it.
 pub record RunEnds (source source_after : Option (List ℕ)) (came : ℕ) (sink sink_after : Option (List ℕ)) (status : ℕ) : Type 0 where
   pub input : Input
+  pub steps : List Step
   pub ending : Result Verdict Halt
   pub is_input : IsInput source input
   pub status_is : status ≡ status_of ending
-  pub printed : Prints sink sink_after (output_of input) ending
+  pub printed : Prints sink sink_after (output_of steps input) ending
   pub reads_as_needed : ReadsAsNeeded source source_after came
   pub failed_source : ending ≡ Err Source → FailedSource source source_after sink sink_after
   pub read : ending ≡ Ok Whole → IsAtEnd source_after
-  pub linearizable : ending ≡ Ok Whole → IsLinearizable input (output_of input).text
+  pub linearizable : ending ≡ Ok Whole → IsLinearizable input (output_of steps input).text
   pub stays_strict : StaysStrict input
 
--- the status is the one that the input alone calls for, or memory was lacking
+-- the status is the one that the input alone calls for, whatever the steps of its lines are, or memory was lacking
 abbrev pub IsDecided : Option (List ℕ) → ℕ → Type 0
 IsDecided None status = ⊤
-IsDecided (Some bytes) status = (status ≡ status_of (Ok (output_of (input_of bytes)).verdict)) ⊎ (status ≡ 7)
+IsDecided (Some bytes) status = (status ≡ status_of (Ok (output_of [] (input_of bytes)).verdict)) ⊎ (status ≡ 7)

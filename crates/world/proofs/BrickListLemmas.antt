@@ -1,5 +1,5 @@
 -- What the bricks show, after a step of one of them.
-use Rattle.std.proofs.Common.{◌≡◌, ◌≢◌, ℕ, ◌+◌, ◌^◌, ◌<◌, ◌≤◌, ◌&&◌, Bool, true, false, not, ⊎_elim, List, [], ◌∷◌, ◌++◌, length, set, get_or, Option, Some, None, refl, sym, ap, ◌∙◌, subst, arith, length-append}
+use Rattle.std.proofs.Common.{◌≡◌, ◌≢◌, ℕ, ◌+◌, ◌^◌, ◌<◌, ◌≤◌, ◌&&◌, Bool, true, false, ⊎_elim, List, [], ◌∷◌, ◌++◌, length, set, get_or, Option, Some, None, refl, sym, ap, ◌∙◌, subst, arith, length-append}
 use Rattle.std.specs.Prelude.{slice_get, Result, Ok, Err, IfOk, OnErr}
 use Rattle.std.specs.Option.{ForSome, SomeIff}
 use Rattle.std.proofs.lemmas.Bool.Decides.{nat_tests}
@@ -20,151 +20,123 @@ use Rattle.node.specs.Outcomes.{Outcome}
 use Rattle.node.specs.declared.faults.NodeFault.{NodeFault}
 use Rattle.stripe_code.specs.Codes.{coding}
 use Rattle.node.specs.Faults.{RefusesAs}
-use Rattle.node.specs.Running.{Running, state_of, LeavesBrick, IsSameBrick}
-use Rattle.node.specs.States.{BeginsAs, StepsAs}
-use Rattle.protocol.specs.Worlds.{World, first_world, is_brick, is_up, may_start}
+use Rattle.node.specs.Running.{Running, state_of, IsSameBrick}
+use Rattle.node.specs.States.{BeginsAs}
+use Rattle.protocol.specs.Worlds.{World, first_world, is_brick, is_up}
 use Rattle.fab_base.specs.Layouts.{Layout}
 use Rattle.protocol.specs.Nodes as machine
 use Rattle.world.specs.Runs.{brick_of}
-use Rattle.world.specs.Shown.{IsRunning, Rests, ShowsPower, ShowsBrick, ShowsBricks, ShowsStarted, IsNodeOf, IsOn, IsUp, FindsUp, AreNodesOf, TurnsOn}
+use Rattle.world.specs.Faults.{IsReached, IsLeft, plan_of}
+use Rattle.world.specs.Shown.{IsRunning, Rests, ShowsPower, ShowsBrick, ShowsBricks, Takes, HandledAs, IsNodeOf, IsOn, IsUp, FindsUp, AreNodesOf, disk_in, disks_of}
+use Rattle.lines.specs.declared.forms.Fault.{Fault}
+use Rattle.world.proofs.DiskLemmas.{disk_at, disk_set}
 use Rattle.world.specs.declared.bricks.Brick.{Brick}
 use Rattle.world.specs.declared.bricks.Power.{Power}
 use Rattle.world.specs.declared.bricks.Power.TheVariants.{Up, Down}
-use Rattle.world.proofs.BrickLemmas.{kept_as, kept_same, kept_still, still_runs}
+use Rattle.world.proofs.BrickLemmas.{kept_same, kept_still, still_runs}
 use Rattle.world.proofs.Places.{grown, replaced, value_here, value_elsewhere}
 
 -- one brick changed, and no other
-shows_after : (layout : Layout) (bricks : List Brick) (b : ℕ) (brick : Brick) (w v : World) → ShowsBrick layout b brick (v.nodes b) (v.up b)
-    (v.clocks b)
-    → ((i : ℕ) → i ≢ b → (v.nodes i ≡ w.nodes i) × (v.up i ≡ w.up i) × (v.clocks i ≡ w.clocks i))
-    → ShowsBricks layout bricks w.nodes w.up w.clocks → ShowsBricks layout (set bricks b brick) v.nodes v.up v.clocks
+pub shows_after : (layout : Layout) (bricks : List Brick) (b : ℕ) (brick : Brick) (w v : World) → ShowsBrick layout b brick (v.nodes b) (v.after b)
+    (v.up b) (v.clocks b)
+    → ((i : ℕ) → i ≢ b → (v.nodes i ≡ w.nodes i) × (v.after i ≡ w.after i) × (v.up i ≡ w.up i) × (v.clocks i ≡ w.clocks i))
+    → ShowsBricks layout bricks w.nodes w.after w.up w.clocks → ShowsBricks layout (set bricks b brick) v.nodes v.after v.up v.clocks
 shows_after layout bricks b brick w v is stay shows = record {
   count = length-set bricks b brick ∙ shows.count;
   each = λ i x at.
       ⊎_elim
       (λ (here : (i ≡ b) × (brick ≡ x)).
-      subst (λ (y : Brick). ShowsBrick layout i y (v.nodes i) (v.up i) (v.clocks i)) here.1
-      (subst (λ (k : ℕ). ShowsBrick layout k brick (v.nodes k) (v.up k) (v.clocks k)) (sym here.0) is))
+      subst (λ (y : Brick). ShowsBrick layout i y (v.nodes i) (v.after i) (v.up i) (v.clocks i)) here.1
+      (subst (λ (k : ℕ). ShowsBrick layout k brick (v.nodes k) (v.after k) (v.up k) (v.clocks k)) (sym here.0) is))
       (λ (there : (i ≢ b) × (slice_get bricks i ≡ Some x)).
       let kept = stay i there.0 in
-      subst (λ (node : machine.Node). ShowsBrick layout i x node (v.up i) (v.clocks i)) (sym kept.0)
-      (subst (λ (up : Bool). ShowsBrick layout i x (w.nodes i) up (v.clocks i)) (sym kept.1)
-      (subst (λ (time : ℕ). ShowsBrick layout i x (w.nodes i) (w.up i) time) (sym kept.2) (shows.each i x there.1))))
+      subst (λ (node : machine.Node). ShowsBrick layout i x node (v.after i) (v.up i) (v.clocks i)) (sym kept.0)
+      (subst (λ (node : machine.Node). ShowsBrick layout i x (w.nodes i) node (v.up i) (v.clocks i)) (sym kept.1)
+      (subst (λ (up : Bool). ShowsBrick layout i x (w.nodes i) (w.after i) up (v.clocks i)) (sym kept.2)
+      (subst (λ (time : ℕ). ShowsBrick layout i x (w.nodes i) (w.after i) (w.up i) time) (sym kept.3) (shows.each i x there.1)))))
       (replaced bricks b brick i x at);
 }
 
 -- what the brick of a number is
-brick_at : (layout : Layout) (bricks : List Brick) (w : World) (b : ℕ) (brick : Brick) → b < length bricks
-    → brick ≡ get_or bricks b brick → ShowsBricks layout bricks w.nodes w.up w.clocks → ShowsBrick layout b brick (w.nodes b) (w.up b) (w.clocks b)
+pub brick_at : (layout : Layout) (bricks : List Brick) (w : World) (b : ℕ) (brick : Brick) → b < length bricks
+    → brick ≡ get_or bricks b brick → ShowsBricks layout bricks w.nodes w.after w.up w.clocks
+    → ShowsBrick layout b brick (w.nodes b) (w.after b) (w.up b) (w.clocks b)
 brick_at layout bricks w b brick within is shows = shows.each b brick (slice_get_read bricks (length bricks) b brick refl within is)
 
 -- what a brick is that runs
-runs_at : (layout : Layout) (bricks : List Brick) (w : World) (b : ℕ) (brick : Brick) (node : Running MemDisk) → b < length bricks
-    → brick ≡ get_or bricks b brick → brick.power ≡ Up node → ShowsBricks layout bricks w.nodes w.up w.clocks
+pub runs_at : (layout : Layout) (bricks : List Brick) (w : World) (b : ℕ) (brick : Brick) (node : Running MemDisk) → b < length bricks
+    → brick ≡ get_or bricks b brick → brick.power ≡ Up node → ShowsBricks layout bricks w.nodes w.after w.up w.clocks
     → (w.up b ≡ true) × IsRunning layout (brick_of b) (w.nodes b) node
 runs_at layout bricks w b brick node within is on shows =
-    subst (λ (power : Power). ShowsPower layout (brick_of b) (w.nodes b) (w.up b) power) on (brick_at layout bricks w b brick within is shows).power
+    subst (λ (power : Power). ShowsPower layout (brick_of b) (w.nodes b) (w.after b) (w.up b) power) on (brick_at layout bricks w b brick within is shows).power
 
 -- what a brick is that is down
-rests_at : (layout : Layout) (bricks : List Brick) (w : World) (b : ℕ) (brick : Brick) (disk : MemDisk) → b < length bricks
-    → brick ≡ get_or bricks b brick → brick.power ≡ Down disk → ShowsBricks layout bricks w.nodes w.up w.clocks
-    → (w.up b ≡ false) × Rests layout (brick_of b) (w.nodes b) disk
+pub rests_at : (layout : Layout) (bricks : List Brick) (w : World) (b : ℕ) (brick : Brick) (disk : MemDisk) → b < length bricks
+    → brick ≡ get_or bricks b brick → brick.power ≡ Down disk → ShowsBricks layout bricks w.nodes w.after w.up w.clocks
+    → (w.up b ≡ false) × Rests layout (brick_of b) (w.nodes b) (w.after b) disk
 rests_at layout bricks w b brick disk within is off shows =
-    subst (λ (power : Power). ShowsPower layout (brick_of b) (w.nodes b) (w.up b) power) off (brick_at layout bricks w b brick within is shows).power
+    subst (λ (power : Power). ShowsPower layout (brick_of b) (w.nodes b) (w.after b) (w.up b) power) off (brick_at layout bricks w b brick within is shows).power
 
 -- the brick with this power
-abbrev with_power : Brick → Power → Brick
+abbrev pub with_power : Brick → Power → Brick
 with_power brick power = record { power = power; clock = brick.clock }
 
 -- a brick that took a step
-shows_step : (layout : Layout) (bricks : List Brick) (b : ℕ) (old : Brick) (new : Running MemDisk) (w : World) (next : machine.Node)
-    → old.clock ≡ w.clocks b → w.up b ≡ true → IsRunning layout (brick_of b) next new
-    → ShowsBricks layout bricks w.nodes w.up w.clocks → ShowsBricks layout (set bricks b (with_power old (Up new)))
-    (machine.put w.nodes b next) w.up w.clocks
-shows_step layout bricks b old new w next clock up runs shows =
-    shows_after layout bricks b (with_power old (Up new)) w (record w { nodes = machine.put w.nodes b next })
+pub shows_step : (layout : Layout) (bricks : List Brick) (b : ℕ) (old : Brick) (power : Power) (w : World) (next : machine.Node)
+    → old.clock ≡ w.clocks b → ShowsPower layout (brick_of b) next (w.after b) (w.up b) power
+    → ShowsBricks layout bricks w.nodes w.after w.up w.clocks → ShowsBricks layout (set bricks b (with_power old power))
+    (machine.put w.nodes b next) w.after w.up w.clocks
+shows_step layout bricks b old power w next clock runs shows =
+    shows_after layout bricks b (with_power old power) w (record w { nodes = machine.put w.nodes b next })
     (record {
-      power = (up, subst (λ (state : machine.Node). IsRunning layout (brick_of b) state new) (sym (value_here w.nodes b b next refl)) runs);
+      power = subst (λ (state : machine.Node). ShowsPower layout (brick_of b) state (w.after b) (w.up b) power) (sym (value_here w.nodes b b next refl)) runs;
       clock = clock;
     })
-    (λ i other. (value_elsewhere w.nodes b i next other, refl, refl)) shows
+    (λ i other. (value_elsewhere w.nodes b i next other, refl, refl, refl)) shows
 
--- a brick that is up or down now
-shows_turned : (layout : Layout) (bricks : List Brick) (b : ℕ) (old : Brick) (power : Power) (up : Bool) (w : World) (next : machine.Node)
-    → old.clock ≡ w.clocks b → ShowsPower layout (brick_of b) next up power → ShowsBricks layout bricks w.nodes w.up w.clocks
-    → ShowsBricks layout (set bricks b (with_power old power)) (machine.put w.nodes b next) (machine.put w.up b up) w.clocks
-shows_turned layout bricks b old power up w next clock is shows =
-    shows_after layout bricks b (with_power old power) w (record w { nodes = machine.put w.nodes b next; up = machine.put w.up b up })
+-- a brick that is down now
+pub shows_down : (layout : Layout) (bricks : List Brick) (b : ℕ) (old : Brick) (power : Power) (w : World) (next other : machine.Node)
+    → old.clock ≡ w.clocks b → ShowsPower layout (brick_of b) next other false power → ShowsBricks layout bricks w.nodes w.after w.up w.clocks
+    → ShowsBricks layout (set bricks b (with_power old power)) (machine.put w.nodes b next) (machine.put w.after b other) (machine.put w.up b false) w.clocks
+shows_down layout bricks b old power w next other clock is shows =
+    shows_after layout bricks b (with_power old power) w
+    (record w { nodes = machine.put w.nodes b next; after = machine.put w.after b other; up = machine.put w.up b false })
     (record {
-      power = subst (λ (state : machine.Node). ShowsPower layout (brick_of b) state (machine.put w.up b up b) power)
+      power = subst (λ (state : machine.Node). ShowsPower layout (brick_of b) state (machine.put w.after b other b) (machine.put w.up b false b) power)
           (sym (value_here w.nodes b b next refl))
-          (subst (λ (on : Bool). ShowsPower layout (brick_of b) next on power) (sym (value_here w.up b b up refl)) is);
+          (subst (λ (state : machine.Node). ShowsPower layout (brick_of b) next state (machine.put w.up b false b) power)
+          (sym (value_here w.after b b other refl))
+          (subst (λ (on : Bool). ShowsPower layout (brick_of b) next other on power) (sym (value_here w.up b b false refl)) is));
       clock = clock;
     })
-    (λ i other. (value_elsewhere w.nodes b i next other, value_elsewhere w.up b i up other, refl)) shows
+    (λ i elsewhere. (value_elsewhere w.nodes b i next elsewhere, value_elsewhere w.after b i other elsewhere, value_elsewhere w.up b i false elsewhere, refl)) shows
 
 -- a brick stopped
 pub shows_stopped : (layout : Layout) (bricks : List Brick) (b : ℕ) (old : Brick) (power : Power) (w : World) → b < length bricks
     → old ≡ get_or bricks b old
-    → ((me : BrickId) (state : machine.Node) (up : Bool) → ShowsPower layout me state up old.power
-    → ShowsPower layout me (machine.stopped state) false power)
-    → ShowsBricks layout bricks w.nodes w.up w.clocks
+    → ((me : BrickId) (state after : machine.Node) → ShowsPower layout me state after true old.power
+    → ShowsPower layout me (machine.stopped state) (machine.stopped state) false power)
+    → ShowsBricks layout bricks w.nodes w.after w.up w.clocks → w.up b ≡ true
     → ShowsBricks layout (set bricks b (with_power old power)) (machine.put w.nodes b (machine.stopped (w.nodes b)))
-    (machine.put w.up b false) w.clocks
-shows_stopped layout bricks b old power w within is off shows =
+    (machine.put w.after b (machine.stopped (w.nodes b))) (machine.put w.up b false) w.clocks
+shows_stopped layout bricks b old power w within is off shows up =
     let was = brick_at layout bricks w b old within is shows in
-    shows_turned layout bricks b old power false w (machine.stopped (w.nodes b)) was.clock (off (brick_of b) (w.nodes b) (w.up b) was.power) shows
-
--- whether a brick of the layout may start
-may_start_is : (layout : Layout) (bricks : List Brick) (b : ℕ) (w : World) → b < length bricks → ShowsBricks layout bricks w.nodes w.up w.clocks
-    → may_start layout w (brick_of b) 1 ≡ not (w.up b) && machine.may_open 1 (w.nodes b)
-may_start_is layout bricks b w within shows =
-    let here : is_brick layout (brick_of b) ≡ true = (let count = shows.count in grind (arith, nat_tests)) in
-    ap (λ (x : Bool). x && (not (w.up b) && machine.may_open 1 (w.nodes b))) here
+    shows_down layout bricks b old power w (machine.stopped (w.nodes b)) (machine.stopped (w.nodes b)) was.clock
+    (off (brick_of b) (w.nodes b) (w.after b)
+    (subst (λ (on : Bool). ShowsPower layout (brick_of b) (w.nodes b) (w.after b) on old.power) up was.power)) shows
 
 -- a brick that is as it was
-shows_kept : (layout : Layout) (bricks : List Brick) (b : ℕ) (old : Brick) (power : Power) (w : World) → b < length bricks → old ≡ get_or bricks b old
-    → ShowsPower layout (brick_of b) (w.nodes b) (w.up b) power → ShowsBricks layout bricks w.nodes w.up w.clocks
-    → ShowsBricks layout (set bricks b (with_power old power)) w.nodes w.up w.clocks
+pub shows_kept : (layout : Layout) (bricks : List Brick) (b : ℕ) (old : Brick) (power : Power) (w : World) → b < length bricks → old ≡ get_or bricks b old
+    → ShowsPower layout (brick_of b) (w.nodes b) (w.after b) (w.up b) power → ShowsBricks layout bricks w.nodes w.after w.up w.clocks
+    → ShowsBricks layout (set bricks b (with_power old power)) w.nodes w.after w.up w.clocks
 shows_kept layout bricks b old power w within is power_shows shows =
     let was = brick_at layout bricks w b old within is shows in
-    shows_after layout bricks b (with_power old power) w w (record { power = power_shows; clock = was.clock }) (λ i other. (refl, refl, refl)) shows
-
--- a brick that was to start
-module _ (layout : Layout) (bricks : List Brick) (b : ℕ) (old : Brick) (power : Power) (within : b < length bricks)
-    (is : old ≡ get_or bricks b old) where
-  pub shows_turned_on : (result : Result Bool NoMem) → ((state : machine.Node) (up : Bool) → ShowsPower layout (brick_of b) state up old.power
-      → TurnsOn layout (brick_of b) state up power result)
-      → IfOk result (λ started. (w : World) → ShowsBricks layout bricks w.nodes w.up w.clocks → ShowsStarted layout (brick_of b) w
-      (set bricks b (with_power old power)) started)
-  shows_turned_on (Ok true) turns = λ w shows.
-      let was = brick_at layout bricks w b old within is shows in
-      let runs = turns (w.nodes b) (w.up b) was.power in
-      record {
-        may = sym (may_start_is layout bricks b w within shows ∙ runs.0);
-        after = shows_turned layout bricks b old power true w (machine.restarted 1 (w.nodes b)) was.clock runs.1 shows;
-      }
-  shows_turned_on (Ok false) turns = λ w shows.
-      let was = brick_at layout bricks w b old within is shows in
-      let kept = turns (w.nodes b) (w.up b) was.power in
-      record {
-        may = sym (may_start_is layout bricks b w within shows ∙ kept.0);
-        after = shows_kept layout bricks b old power w within is kept.1 shows;
-      }
-  shows_turned_on (Err refused) turns = tt
-
-  pub shows_not_on : (result : Result Bool NoMem) → ((state : machine.Node) (up : Bool) → ShowsPower layout (brick_of b) state up old.power
-      → TurnsOn layout (brick_of b) state up power result)
-      → OnErr result ((w : World) → ShowsBricks layout bricks w.nodes w.up w.clocks
-      → ShowsBricks layout (set bricks b (with_power old power)) w.nodes w.up w.clocks)
-  shows_not_on (Ok started) turns = tt
-  shows_not_on (Err refused) turns = λ w shows.
-      shows_kept layout bricks b old power w within is (turns (w.nodes b) (w.up b) (brick_at layout bricks w b old within is shows).power) shows
+    shows_after layout bricks b (with_power old power) w w (record { power = power_shows; clock = was.clock }) (λ i other. (refl, refl, refl, refl)) shows
 
 -- what a brick sends at a tick is what the machine's sends
 pub ticks_as : (layout : Layout) (bricks : List Brick) (b : ℕ) (brick : Brick) (node : Running MemDisk) (messages : List (BrickId × Message)) → b < length bricks
     → brick ≡ get_or bricks b brick → brick.power ≡ Up node → packets_from node.me messages ≡ machine.ticked (coding node.layout) node.me (state_of node)
-    → (w : World) → ShowsBricks layout bricks w.nodes w.up w.clocks → packets_from (brick_of b) messages ≡ machine.ticked (coding layout) (brick_of b) (w.nodes b)
+    → (w : World) → ShowsBricks layout bricks w.nodes w.after w.up w.clocks → packets_from (brick_of b) messages ≡ machine.ticked (coding layout) (brick_of b) (w.nodes b)
 ticks_as layout bricks b brick node messages within is on sent w shows =
     let runs = (runs_at layout bricks w b brick node within is on shows).1 in
     ap (λ (x : BrickId). packets_from x messages) (sym runs.me_is) ∙ sent ∙ ap (λ (l : Layout). machine.ticked (coding l) node.me (state_of node)) runs.layout_is
@@ -173,20 +145,20 @@ ticks_as layout bricks b brick node messages within is on sent w shows =
 
 -- a brick's clock was set
 pub shows_clock : (layout : Layout) (bricks : List Brick) (b : ℕ) (old : Brick) (time : ℕ) (w : World) → b < length bricks → old ≡ get_or bricks b old
-    → ShowsBricks layout bricks w.nodes w.up w.clocks
-    → ShowsBricks layout (set bricks b (record { power = old.power; clock = time })) w.nodes w.up (machine.put w.clocks b time)
+    → ShowsBricks layout bricks w.nodes w.after w.up w.clocks
+    → ShowsBricks layout (set bricks b (record { power = old.power; clock = time })) w.nodes w.after w.up (machine.put w.clocks b time)
 shows_clock layout bricks b old time w within is shows =
     let was = brick_at layout bricks w b old within is shows in
     shows_after layout bricks b (record { power = old.power; clock = time }) w (record w { clocks = machine.put w.clocks b time })
     (record { power = was.power; clock = sym (value_here w.clocks b b time refl) })
-    (λ i other. (refl, refl, value_elsewhere w.clocks b i time other)) shows
+    (λ i other. (refl, refl, refl, value_elsewhere w.clocks b i time other)) shows
 
 -- a brick refuses as the machine's does
 pub asked_refused : (layout : Layout) (bricks : List Brick) (b : ℕ) (brick : Brick) (node : Running MemDisk) (ask : Ask)
     (result : Result Begun NodeFault)
     → b < length bricks → brick ≡ get_or bricks b brick → brick.power ≡ Up node
     → RefusesAs result (machine.refusal_of node.layout (state_of node) ask)
-    → (w : World) → ShowsBricks layout bricks w.nodes w.up w.clocks → RefusesAs result (machine.refusal_of layout (w.nodes b) ask)
+    → (w : World) → ShowsBricks layout bricks w.nodes w.after w.up w.clocks → RefusesAs result (machine.refusal_of layout (w.nodes b) ask)
 asked_refused layout bricks b brick node ask result within is on refuses w shows =
     let runs = (runs_at layout bricks w b brick node within is on shows).1 in
     subst (λ (x : machine.Node). RefusesAs result (machine.refusal_of layout x ask)) runs.state_is
@@ -196,10 +168,10 @@ asked_refused layout bricks b brick node ask result within is on refuses w shows
 pub asked_begun : (bricks : List Brick) (b : ℕ) (old : Brick) (node new : Running MemDisk) (ask : Ask) (result : Result Begun NodeFault)
     → b < length bricks → old ≡ get_or bricks b old → old.power ≡ Up node → IsSameBrick node new → new.brick ≡ node.brick
     → IfOk result (BeginsAs node.me (state_of new) (machine.invoked (coding node.layout) node.me old.clock (state_of node) ask))
-    → IfOk result (λ begun. (layout : Layout) (w : World) → ShowsBricks layout bricks w.nodes w.up w.clocks
+    → IfOk result (λ begun. (layout : Layout) (w : World) → ShowsBricks layout bricks w.nodes w.after w.up w.clocks
     → (let step = machine.invoked (coding layout) (brick_of b) (w.clocks b) (w.nodes b) ask in
     (packets_from (brick_of b) begun.messages.items ≡ step.packets) × (begun.seq ≡ step.node.seq)
-    × ShowsBricks layout (set bricks b (with_power old (Up new))) (machine.put w.nodes b step.node) w.up w.clocks))
+    × ShowsBricks layout (set bricks b (with_power old (Up new))) (machine.put w.nodes b step.node) w.after w.up w.clocks))
 asked_begun bricks b old node new ask result within is on same store begins =
     IfOk-weaker result (BeginsAs node.me (state_of new) (machine.invoked (coding node.layout) node.me old.clock (state_of node) ask)) _
     (λ begun as_machine layout w shows.
@@ -216,10 +188,12 @@ asked_begun bricks b old node new ask result within is on same store begins =
     let next : machine.Node = (machine.invoked (coding layout) (brick_of b) (w.clocks b) (w.nodes b) ask).node in (
       ap (λ (x : BrickId). packets_from x begun.messages.items) (sym runs.me_is) ∙ as_machine.packets ∙ ap (λ (x : machine.NodeStep). x.packets) alike,
       as_machine.seq ∙ ap (λ (x : machine.NodeStep). x.node.seq) alike,
-      shows_step layout bricks b old new w next at.clock up.0
-          (still_runs layout (brick_of b) (w.nodes b) next node new runs same (as_machine.state_is ∙ ap (λ (x : machine.NodeStep). x.node) alike)
-          (kept_same layout (brick_of b) (w.nodes b) next node new runs same.layout store (as_machine.state_is ∙ ap (λ (x : machine.NodeStep). x.node) alike))
-          (ap (λ (x : Store MemDisk). x.halted) store ∙ runs.runs) (subst (λ (x : Store MemDisk). IsSound x.disk) (sym store) runs.sound))
+      shows_step layout bricks b old (Up new) w next at.clock (
+        up.0,
+        still_runs layout (brick_of b) (w.nodes b) next node new runs same (as_machine.state_is ∙ ap (λ (x : machine.NodeStep). x.node) alike)
+            (kept_same layout (brick_of b) (w.nodes b) next node new runs same.layout store (as_machine.state_is ∙ ap (λ (x : machine.NodeStep). x.node) alike))
+            (ap (λ (x : Store MemDisk). x.halted) store ∙ runs.runs) (subst (λ (x : Store MemDisk). IsSound x.disk) (sym store) runs.sound),
+      )
           shows,
     ))
     begins
@@ -228,8 +202,8 @@ asked_begun bricks b old node new ask result within is on same store begins =
 pub same_shown : (bricks : List Brick) (b : ℕ) (old : Brick) (node new : Running MemDisk)
     → b < length bricks → old ≡ get_or bricks b old → old.power ≡ Up node → IsSameBrick node new → new.brick.halted ≡ false → IsSound new.brick.disk
     → ((image : List ℕ) → may_be_left new.brick.disk image → may_be_left node.brick.disk image) → state_of new ≡ state_of node
-    → (layout : Layout) (w : World) → ShowsBricks layout bricks w.nodes w.up w.clocks
-    → ShowsBricks layout (set bricks b (with_power old (Up new))) w.nodes w.up w.clocks
+    → (layout : Layout) (w : World) → ShowsBricks layout bricks w.nodes w.after w.up w.clocks
+    → ShowsBricks layout (set bricks b (with_power old (Up new))) w.nodes w.after w.up w.clocks
 same_shown bricks b old node new within is on same halted sound crash state layout w shows =
     let at = brick_at layout bricks w b old within is shows in
     let up = runs_at layout bricks w b old node within is on shows in
@@ -242,53 +216,74 @@ same_shown bricks b old node new within is on same halted sound crash state layo
       );
       clock = at.clock;
     })
-    (λ i other. (refl, refl, refl)) shows
+    (λ i other. (refl, refl, refl, refl)) shows
 
 pub asked_same : {T E : Type 0} (bricks : List Brick) (b : ℕ) (old : Brick) (node new : Running MemDisk) (result : Result T E)
     → b < length bricks → old ≡ get_or bricks b old → old.power ≡ Up node → IsSameBrick node new → new.brick.halted ≡ false → IsSound new.brick.disk
     → ((image : List ℕ) → may_be_left new.brick.disk image → may_be_left node.brick.disk image)
     → OnErr result (state_of new ≡ state_of node)
-    → OnErr result ((layout : Layout) (w : World) → ShowsBricks layout bricks w.nodes w.up w.clocks
-    → ShowsBricks layout (set bricks b (with_power old (Up new))) w.nodes w.up w.clocks)
+    → OnErr result ((layout : Layout) (w : World) → ShowsBricks layout bricks w.nodes w.after w.up w.clocks
+    → ShowsBricks layout (set bricks b (with_power old (Up new))) w.nodes w.after w.up w.clocks)
 asked_same bricks b old node new result within is on same halted sound crash err =
     on_err_weaker result (same_shown bricks b old node new within is on same halted sound crash) err
 
--- a brick handles a message as the machine's does
-pub handed_over : (bricks : List Brick) (b : ℕ) (old : Brick) (node new : Running MemDisk) (packet : Packet) (outs : Outcome)
-    → b < length bricks → old ≡ get_or bricks b old → old.power ≡ Up node → IsSameBrick node new → new.brick.halted ≡ false → IsSound new.brick.disk
-    → LeavesBrick node.layout node.me (state_of new) (may_be_left new.brick.disk)
-    → StepsAs node.me (state_of new) (machine.received (coding node.layout) node.me old.clock (state_of node) packet) outs
-    → (layout : Layout) (w : World) → ShowsBricks layout bricks w.nodes w.up w.clocks
-    → (let step = machine.received (coding layout) (brick_of b) (w.clocks b) (w.nodes b) packet in
-    (packets_from (brick_of b) outs.messages ≡ step.packets) × (outs.told ≡ step.told) × (outs.answers ≡ step.answers)
-    × ShowsBricks layout (set bricks b (with_power old (Up new))) (machine.put w.nodes b step.node) w.up w.clocks)
-handed_over bricks b old node new packet outs within is on same halted sound durable as_machine layout w shows =
-    let at = brick_at layout bricks w b old within is shows in
-    let up = runs_at layout bricks w b old node within is on shows in
-    let runs = up.1 in
-    let alike : machine.received (coding node.layout) node.me old.clock (state_of node) packet
-    ≡ machine.received (coding layout) (brick_of b) (w.clocks b) (w.nodes b) packet =
-    ap (λ (l : Layout). machine.received (coding l) node.me old.clock (state_of node) packet) runs.layout_is
-    ∙ ap (λ (x : BrickId). machine.received (coding layout) x old.clock (state_of node) packet) runs.me_is
-    ∙ ap (λ (t : ℕ). machine.received (coding layout) (brick_of b) t (state_of node) packet) at.clock
-    ∙ ap (λ (x : machine.Node). machine.received (coding layout) (brick_of b) (w.clocks b) x packet) runs.state_is
-    in
-    let next : machine.Node = (machine.received (coding layout) (brick_of b) (w.clocks b) (w.nodes b) packet).node in (
-      ap (λ (x : BrickId). packets_from x outs.messages) (sym runs.me_is) ∙ as_machine.packets ∙ ap (λ (x : machine.NodeStep). x.packets) alike,
-      as_machine.told ∙ ap (λ (x : machine.NodeStep). x.told) alike,
-      as_machine.answers ∙ ap (λ (x : machine.NodeStep). x.answers) alike,
-      shows_step layout bricks b old new w next at.clock up.0
-          (still_runs layout (brick_of b) (w.nodes b) next node new runs same
-          (as_machine.state_is ∙ ap (λ (x : machine.NodeStep). x.node) alike)
-          (kept_as layout (brick_of b) next node new runs.layout_is runs.me_is (as_machine.state_is ∙ ap (λ (x : machine.NodeStep). x.node) alike) durable)
-          halted sound)
-          shows,
-    )
+-- a brick took a message
+module _ (layout : Layout) (bricks : List Brick) (number : BrickId) (old : Brick) (node : Running MemDisk) (power : Power) (packet : Packet)
+    (fault : Option Fault) (w : World) (within : number.0 < length bricks) (is : old ≡ get_or bricks number.0 old) (on : old.power ≡ Up node)
+    (shows : ShowsBricks layout bricks w.nodes w.after w.up w.clocks) where
+  at_number : ShowsBrick layout number.0 old (w.nodes number.0) (w.after number.0) (w.up number.0) (w.clocks number.0)
+  at_number = brick_at layout bricks w number.0 old within is shows
+
+  disk_here : slice_get (disks_of bricks) number.0 ≡ Some node.brick.disk
+  disk_here = disk_at bricks number.0 old within is ∙ ap (λ (p : Power). Some (disk_in p)) on
+
+  power_now : (next after : machine.Node) → ((other : machine.Node) → ShowsPower layout number next other true power)
+      → ShowsPower layout number next after (w.up number.0) power
+  power_now next after shown =
+      subst (λ (up : Bool). ShowsPower layout number next after up power) (sym (runs_at layout bricks w number.0 old node within is on shows).0) (shown after)
+
+  took_as : (result : Result (Option Outcome) NoMem)
+      → Takes layout number (w.nodes number.0) (w.clocks number.0) packet node.brick.disk fault power result
+      → HandledAs layout w number packet fault bricks (set bricks number.0 (with_power old power)) result
+  took_as (Ok (Some outs)) took = record {
+    packets = took.packets;
+    told = took.told;
+    answers = took.answers;
+    bricks = shows_step layout bricks number.0 old power w
+        (machine.received (coding layout) number (w.clocks number.0) (w.nodes number.0) packet).node at_number.clock
+        (power_now (machine.received (coding layout) number (w.clocks number.0) (w.nodes number.0) packet).node (w.after number.0) took.on) shows;
+    spared = λ disk disk_is reached.
+        let same : node.brick.disk ≡ disk = (let e : Some node.brick.disk ≡ Some disk = sym disk_here ∙ disk_is in cc) in
+        took.spared (subst (λ (d : MemDisk). IsReached layout number (w.nodes number.0) packet d (plan_of fault)) (sym same) reached);
+  }
+  took_as (Ok None) took = record {
+    disk = node.brick.disk;
+    disk_is = disk_here;
+    reached = took.reached;
+    bricks = shows_down layout bricks number.0 old power w (machine.stopped (w.nodes number.0))
+        (machine.stopped (machine.absorbed (coding layout) number (w.nodes number.0) packet)) at_number.clock took.off shows;
+    left = λ one one_is.
+        let same : disk_in power ≡ one =
+        (let e : Some (disk_in power) ≡ Some one = sym (disk_set bricks number.0 (with_power old power) within) ∙ one_is in cc)
+        in
+        subst (λ (d : MemDisk). IsLeft layout number (machine.stopped (w.nodes number.0))
+        (machine.stopped (machine.absorbed (coding layout) number (w.nodes number.0) packet)) fault d) same took.left;
+  }
+  took_as (Err refused) took =
+      shows_kept layout bricks number.0 old power w within is (power_now (w.nodes number.0) (w.after number.0) took) shows
+
+  pub handled_as : (result : Result (Option Outcome) NoMem)
+      → ((state : machine.Node) → IsRunning layout number state node → Takes layout number state old.clock packet node.brick.disk fault power result)
+      → HandledAs layout w number packet fault bricks (set bricks number.0 (with_power old power)) result
+  handled_as result takes =
+      took_as result
+      (subst (λ (time : ℕ). Takes layout number (w.nodes number.0) time packet node.brick.disk fault power result) at_number.clock
+      (takes (w.nodes number.0) (runs_at layout bricks w number.0 old node within is on shows).1))
 
 -- the number of a brick's next call, by what the brick says
 pub next_shown : (layout : Layout) (bricks : List Brick) (b : ℕ) (brick : Brick) (node : Running MemDisk) (next : Option ℕ) → b < length bricks
     → brick ≡ get_or bricks b brick → brick.power ≡ Up node → SomeIff next ((state_of node).seq + 1 < 2 ^ 64) ((state_of node).seq + 1)
-    → (w : World) → ShowsBricks layout bricks w.nodes w.up w.clocks → SomeIff next ((w.nodes b).seq + 1 < 2 ^ 64) ((w.nodes b).seq + 1)
+    → (w : World) → ShowsBricks layout bricks w.nodes w.after w.up w.clocks → SomeIff next ((w.nodes b).seq + 1 < 2 ^ 64) ((w.nodes b).seq + 1)
 next_shown layout bricks b brick node next within is on gives w shows =
     subst (λ (x : machine.Node). SomeIff next (x.seq + 1 < 2 ^ 64) (x.seq + 1))
     (runs_at layout bricks w b brick node within is on shows).1.state_is gives
@@ -309,7 +304,7 @@ next_is seq (Some next) gives left = ap (λ n. Some n) gives.1
 -- bricks of the first world
 pub record AreFresh (layout : Layout) (bricks : List Brick) (n : ℕ) : Type 0 where
   pub count : length bricks ≡ n
-  pub each : (i : ℕ) (brick : Brick) → slice_get bricks i ≡ Some brick → ShowsBrick layout i brick (machine.first_node layout) true 0
+  pub each : (i : ℕ) (brick : Brick) → slice_get bricks i ≡ Some brick → ShowsBrick layout i brick (machine.first_node layout) (machine.first_node layout) true 0
 
 -- no brick yet
 pub fresh_none : (layout : Layout) → AreFresh layout [] 0
@@ -317,28 +312,29 @@ fresh_none layout = record { count = refl; each = λ i brick is. let e : None �
 
 -- one more
 pub fresh_more : (layout : Layout) (bricks : List Brick) (n : ℕ) (brick : Brick) → AreFresh layout bricks n
-    → ShowsBrick layout n brick (machine.first_node layout) true 0 → AreFresh layout (bricks ++ brick ∷ []) (n + 1)
+    → ShowsBrick layout n brick (machine.first_node layout) (machine.first_node layout) true 0 → AreFresh layout (bricks ++ brick ∷ []) (n + 1)
 fresh_more layout bricks n brick fresh one = record {
   count = length-append bricks _ ∙ ap (λ k. k + 1) fresh.count;
   each = λ i x is.
       ⊎_elim
       (λ (old : slice_get bricks i ≡ Some x). fresh.each i x old)
       (λ (new : (i ≡ length bricks) × (brick ≡ x)).
-      subst (λ (y : Brick). ShowsBrick layout i y (machine.first_node layout) true 0) new.1
-      (subst (λ (k : ℕ). ShowsBrick layout k brick (machine.first_node layout) true 0) (sym (new.0 ∙ fresh.count)) one))
+      subst (λ (y : Brick). ShowsBrick layout i y (machine.first_node layout) (machine.first_node layout) true 0) new.1
+      (subst (λ (k : ℕ). ShowsBrick layout k brick (machine.first_node layout) (machine.first_node layout) true 0) (sym (new.0 ∙ fresh.count)) one))
       (grown bricks brick i x is);
 }
 
 -- fresh bricks are those of the first world
 pub shows_fresh : (layout : Layout) (bricks : List Brick) (n : ℕ) → n ≡ layout.bricks → AreFresh layout bricks n
-    → ShowsBricks layout bricks (first_world layout).nodes (first_world layout).up (first_world layout).clocks
+    → ShowsBricks layout bricks (first_world layout).nodes (first_world layout).after (first_world layout).up (first_world layout).clocks
 shows_fresh layout bricks n all fresh = record { count = fresh.count ∙ all; each = fresh.each }
 
 -- each brick that is shown is one of the layout
-pub nodes_of : (layout : Layout) (bricks : List Brick) (nodes : ℕ → machine.Node) (up : ℕ → Bool) (clocks : ℕ → ℕ)
-    → ShowsBricks layout bricks nodes up clocks
+pub nodes_of : (layout : Layout) (bricks : List Brick) (nodes after : ℕ → machine.Node) (up : ℕ → Bool) (clocks : ℕ → ℕ)
+    → ShowsBricks layout bricks nodes after up clocks
     → AreNodesOf layout bricks
-nodes_of layout bricks nodes up clocks shows = λ i brick at. record { state = nodes i; up = up i; shows = (shows.each i brick at).power }
+nodes_of layout bricks nodes after up clocks shows =
+    λ i brick at. record { state = nodes i; after = after i; up = up i; shows = (shows.each i brick at).power }
 
 -- the brick of a number is one of the layout
 pub node_at : (layout : Layout) (bricks : List Brick) (b : ℕ) (brick : Brick) → b < length bricks → brick ≡ get_or bricks b brick
@@ -354,7 +350,7 @@ on_at layout bricks number brick power is same up =
 
 -- a brick is up in each world that is shown, or down
 up_is : (layout : Layout) (bricks : List Brick) (b : ℕ) (brick : Brick) (w : World) → b < length bricks → brick ≡ get_or bricks b brick
-    → ShowsBricks layout bricks w.nodes w.up w.clocks → is_up layout w (brick_of b) ≡ w.up b
+    → ShowsBricks layout bricks w.nodes w.after w.up w.clocks → is_up layout w (brick_of b) ≡ w.up b
 up_is layout bricks b brick w within is shows =
     let here : is_brick layout (brick_of b) ≡ true = (let count = shows.count in grind (arith, nat_tests)) in
     ap (λ (x : Bool). x && w.up b) here
@@ -364,7 +360,7 @@ pub found_up : (layout : Layout) (bricks : List Brick) (b : ℕ) (brick : Brick)
 found_up layout bricks b brick node within is on of =
     let at : slice_get bricks b ≡ Some brick = slice_get_read bricks (length bricks) b brick refl within is in
     let one = node_at layout bricks b brick within is of in
-    let runs = (subst (λ (power : Power). ShowsPower layout (brick_of b) one.state one.up power) on one.shows).1 in (
+    let runs = (subst (λ (power : Power). ShowsPower layout (brick_of b) one.state one.after one.up power) on one.shows).1 in (
       refl,
       record {
         within = within;
@@ -387,10 +383,10 @@ found_none layout bricks b past = λ w shows. let there : is_brick layout (brick
 
 -- what was found of the bricks behind a slice
 pub down_at : (layout : Layout) (slice bricks : List Brick) (b : ℕ) (brick : BrickId) → slice ≡ bricks → b ≡ brick.0 → FindsUp layout slice b None
-    → (w : World) → ShowsBricks layout bricks w.nodes w.up w.clocks → is_up layout w brick ≡ false
+    → (w : World) → ShowsBricks layout bricks w.nodes w.after w.up w.clocks → is_up layout w brick ≡ false
 down_at layout slice bricks b brick same here found w shows =
     ap (λ (k : ℕ). is_up layout w (brick_of k)) (sym here)
-    ∙ found w (subst (λ (xs : List Brick). ShowsBricks layout xs w.nodes w.up w.clocks) (sym same) shows)
+    ∙ found w (subst (λ (xs : List Brick). ShowsBricks layout xs w.nodes w.after w.up w.clocks) (sym same) shows)
 
 pub up_at : (layout : Layout) (slice bricks : List Brick) (b : ℕ) (brick found : BrickId) → slice ≡ bricks → b ≡ brick.0
     → FindsUp layout slice b (Some found) → (found ≡ brick) × IsUp layout bricks found

@@ -1,7 +1,8 @@
 -- What becomes of the disks where one brick changes.
-use Rattle.std.proofs.Common.{◌≡◌, ℕ, zero, suc, List, [], ◌∷◌, set, get_or, map, Option, Some, None, refl, sym, ap, ◌∙◌}
+use Rattle.std.proofs.Common.{◌≡◌, ℕ, zero, suc, ◌<◌, List, [], ◌∷◌, length, set, get_or, map, Option, Some, None, refl, sym, ap, ◌∙◌}
 use Rattle.std.specs.Option.{option_map}
-use Rattle.std.proofs.lemmas.Option.{slice_get-map}
+use Rattle.std.specs.Prelude.{slice_get}
+use Rattle.std.proofs.lemmas.Option.{slice_get-map, slice_get_read}
 use Rattle.fab_base.specs.declared.identities.BrickId.{BrickId}
 use Rattle.fab_disk.specs.MemDisk.{content_of}
 use Rattle.fab_disk.specs.declared.mem_disk.MemDisk.{MemDisk}
@@ -10,7 +11,7 @@ use Rattle.protocol.specs.Worlds.{World, Event}
 use Rattle.world.specs.Disks.{KeepsOthers, KeepsDisks, changes_disk_of}
 use Rattle.world.specs.Shown.{disk_in, disks_of}
 use Rattle.world.specs.declared.bricks.Brick.{Brick}
-use Rattle.world.proofs.Places.{set_elsewhere}
+use Rattle.world.proofs.Places.{set_here, set_elsewhere}
 
 -- what of each element is as it was where one of them changes, of which it is as it was
 map_same : {A B : Type 0} (f : A → B) (xs : List A) (k : ℕ) (old new : A) → old ≡ get_or xs k old → f new ≡ f old → map f (set xs k new) ≡ map f xs
@@ -22,6 +23,19 @@ map_same f (x ∷ xs) (suc k) old new is same = ap (λ ys. f x ∷ ys) (map_same
 pub disks_same : (bricks : List Brick) (b : ℕ) (old new : Brick) → old ≡ get_or bricks b old → disk_in new.power ≡ disk_in old.power
     → disks_of (set bricks b new) ≡ disks_of bricks
 disks_same bricks b old new is same = map_same (λ (brick : Brick). disk_in brick.power) bricks b old new is same
+
+-- the disk of a brick
+pub disk_at : (bricks : List Brick) (b : ℕ) (brick : Brick) → b < length bricks → brick ≡ get_or bricks b brick
+    → slice_get (disks_of bricks) b ≡ Some (disk_in brick.power)
+disk_at bricks b brick within is =
+    slice_get-map (λ (x : Brick). disk_in x.power) bricks b
+    ∙ ap (option_map (λ (x : Brick). disk_in x.power)) (slice_get_read bricks (length bricks) b brick refl within is)
+
+pub disk_set : (bricks : List Brick) (b : ℕ) (brick : Brick) → b < length bricks
+    → slice_get (disks_of (set bricks b brick)) b ≡ Some (disk_in brick.power)
+disk_set bricks b brick within =
+    slice_get-map (λ (x : Brick). disk_in x.power) (set bricks b brick) b
+    ∙ ap (option_map (λ (x : Brick). disk_in x.power)) (set_here bricks b brick within)
 
 -- the other disks, where a brick has changed
 pub others_kept : (bricks : List Brick) (b : BrickId) (new : Brick) → KeepsOthers (Some b) (disks_of bricks) (disks_of (set bricks b.0 new))
@@ -47,3 +61,8 @@ all_kept (Some brick) disks = λ i other. refl
 pub one_kept : (setting : Setting) (w : World) (event : Event) (old new : List MemDisk) → KeepsOthers (changes_disk_of w event) old new
     → KeepsDisks setting w (event ∷ []) old new
 one_kept setting w event old new kept = (new, kept, refl)
+
+-- where no disk has changed
+pub same_kept : (brick : Option BrickId) (old new : List MemDisk) → new ≡ old → KeepsOthers brick old new
+same_kept None old new same = same
+same_kept (Some brick) old new same = λ i other. ap (λ (disks : List MemDisk). slice_get disks i) same

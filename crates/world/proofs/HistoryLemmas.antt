@@ -17,7 +17,7 @@ use Rattle.protocol.specs.declared.tellings.Answered.{Answered}
 use Rattle.protocol.specs.declared.tellings.Told.{Told}
 use Rattle.protocol.specs.declared.tellings.Told.TheVariants.{Made, Seen}
 use Rattle.protocol.specs.Settings.{Setting}
-use Rattle.protocol.specs.Worlds.{World, Operation, number_of, with_number, world_began, world_stepped, world_stopped, world_started, world_told, world_tells, world_answered, world_answers, with_made, with_seen, with_answer, is_answer}
+use Rattle.protocol.specs.Worlds.{World, Operation, Found, Before, After, number_of, with_number, world_began, world_stepped, world_stopped, world_found, world_started, world_told, world_tells, world_answered, world_answers, with_made, with_seen, with_answer, is_answer}
 use Rattle.protocol.specs.Happenings.{writes}
 use Rattle.world.specs.declared.histories.History.{History}
 use Rattle.world.specs.declared.histories.KeptOperation.{KeptOperation}
@@ -382,24 +382,25 @@ tells_contents history w contents tells =
 -- What is told and answered changes operations, contents and marks alone.
 pub record KeepsRest (w v : World) : Type 0 where
   pub nodes : v.nodes ≡ w.nodes
+  pub after : v.after ≡ w.after
   pub up : v.up ≡ w.up
   pub clocks : v.clocks ≡ w.clocks
   pub packets : v.packets ≡ w.packets
 
 told_keeps : (setting : Setting) (w : World) (brick : BrickId) (told : List Told) → KeepsRest w (world_tells setting w brick told)
-told_keeps setting w brick [] = record { nodes = refl; up = refl; clocks = refl; packets = refl }
+told_keeps setting w brick [] = record { nodes = refl; after = refl; up = refl; clocks = refl; packets = refl }
 told_keeps setting w brick (Made seq stamp base ∷ more) =
     let k = told_keeps setting (world_told setting w brick (Made seq stamp base)) brick more in
-    record { nodes = k.nodes; up = k.up; clocks = k.clocks; packets = k.packets }
+    record { nodes = k.nodes; after = k.after; up = k.up; clocks = k.clocks; packets = k.packets }
 told_keeps setting w brick (Seen seq stamp ∷ more) =
     let k = told_keeps setting (world_told setting w brick (Seen seq stamp)) brick more in
-    record { nodes = k.nodes; up = k.up; clocks = k.clocks; packets = k.packets }
+    record { nodes = k.nodes; after = k.after; up = k.up; clocks = k.clocks; packets = k.packets }
 
 answers_keep : (w : World) (brick : BrickId) (answers : List Answered) → KeepsRest w (world_answers w brick answers)
-answers_keep w brick [] = record { nodes = refl; up = refl; clocks = refl; packets = refl }
+answers_keep w brick [] = record { nodes = refl; after = refl; up = refl; clocks = refl; packets = refl }
 answers_keep w brick (one ∷ more) =
     let k = answers_keep (world_answered w brick one) brick more in
-    record { nodes = k.nodes; up = k.up; clocks = k.clocks; packets = k.packets }
+    record { nodes = k.nodes; after = k.after; up = k.up; clocks = k.clocks; packets = k.packets }
 
 -- the world once a step told and answered what it did
 abbrev pub world_heard : Setting → World → BrickId → NodeStep → World
@@ -414,6 +415,7 @@ heard_keeps setting w brick step =
     let answered = answers_keep (world_tells setting w brick step.told) brick step.answers in
     record {
       nodes = answered.nodes ∙ told.nodes;
+      after = answered.after ∙ told.after;
       up = answered.up ∙ told.up;
       clocks = answered.clocks ∙ told.clocks;
       packets = answered.packets ∙ told.packets;
@@ -467,3 +469,29 @@ pub tells_started : (history : History) (w : World) (brick : BrickId) (openings 
     → Tells history (world_started w brick openings)
 tells_started history w brick openings tells =
     tells_other history w (world_started w brick openings) refl refl refl refl (started_calls w brick openings) tells
+
+-- so does one whose store is found to hold what the handling that its stop cut short would have kept
+found_calls : (w : World) (brick : BrickId) (openings : ℕ) → KeepsCalls w (world_started (world_found w brick After) brick openings)
+found_calls w brick openings =
+    let was : ℕ → Node = put w.nodes brick.0 (w.after brick.0) in
+    let kept : (j : ℕ) (x : Node) (k : ℕ) → Type 0 =
+    λ j x k. k ≤ x.seq → (k ≤ (w.nodes j).seq) × (w.numbers j x.boot k ≡ number_of w j k)
+    in
+    record {
+      each = λ i k low. each_value (λ j x. kept j x k) was brick.0 (restarted openings (was brick.0))
+          (λ high. absurd (let none : (restarted openings (was brick.0)).seq ≡ 0 = restarted_seq openings (was brick.0) in omega arith))
+          (λ j other. subst (λ (x : Node). kept j x k) (sym (value_elsewhere w.nodes brick.0 j (w.after brick.0) other)) (λ high. (high, refl))) i;
+    }
+
+pub tells_found_started : (history : History) (w : World) (brick : BrickId) (openings : ℕ) (found : Found) → Tells history w
+    → Tells history (world_started (world_found w brick found) brick openings)
+tells_found_started history w brick openings Before tells = tells_started history w brick openings tells
+tells_found_started history w brick openings After tells =
+    tells_other history w (world_started (world_found w brick After) brick openings) refl refl refl refl (found_calls w brick openings) tells
+
+-- what a brick that is down would have kept is told by no history
+pub tells_during : (setting : Setting) (history : History) (w : World) (brick : BrickId) (during : Option ℕ)
+    → Tells history (world_stopped setting w brick None) → Tells history (world_stopped setting w brick during)
+tells_during setting history w brick during tells =
+    tells_other history (world_stopped setting w brick None) (world_stopped setting w brick during) refl refl refl refl
+    (calls_same (world_stopped setting w brick None) (world_stopped setting w brick during) (λ i. refl) (λ i. refl) refl) tells

@@ -1,4 +1,6 @@
 pub mod BrickLemmas
+pub mod DownLemmas
+pub mod FreshLemmas
 pub mod DiskLemmas
 pub mod EntryMaps
 pub mod HistoryLemmas
@@ -6,8 +8,10 @@ pub mod KeptOperations
 pub mod MachineBegins
 pub mod MachineSteps
 pub mod BrickListLemmas
+pub mod StartLemmas
 pub mod Orders
 pub mod Places
 pub mod RunLaws
 pub mod RunLemmas
 pub mod SimulationLemmas
+pub mod DeliveryLemmas

@@ -12,7 +12,7 @@ use Rattle.fab_base.specs.Layouts.{Layout, Group, group_of}
 use Rattle.protocol.specs.Settings.{Setting}
 use Rattle.protocol.specs.Views.{kept_by}
 use Rattle.protocol.specs.Nodes.{Node, group_at, put, is_stripe_op, has_block, has_length, is_spent, most_open, refusal_in, refusal_of, began, invoked, received}
-use Rattle.protocol.specs.Worlds.{World, Invokes, Delivers, Sets, Ticks, Stops, Starts, Before, is_up, may_start, world_began, world_stepped, world_ticked, world_stopped, world_started, replies_with, delivered, packet_of, happens}
+use Rattle.protocol.specs.Worlds.{World, Invokes, Delivers, Sets, Ticks, Stops, Starts, Found, is_up, may_start, world_began, world_stepped, world_ticked, world_stopped, world_found, world_started, replies_with, delivered, packet_of, happens}
 use Rattle.world.specs.Runs.{ask_of, refusal_at}
 
 -- where there is no such group there is no such stripe
@@ -177,13 +177,19 @@ pub happens_unstopped : (setting : Setting) (w : World) (brick : BrickId) → is
 unfolding happens
 happens_unstopped setting w brick down = ap (λ b. cond b (world_stopped setting w brick None) w) down
 
--- a brick that may start does
-pub happens_started : (setting : Setting) (w : World) (brick : BrickId) → may_start setting.layout w brick 1 ≡ true
-    → happens setting w (Starts brick 1 Before) ≡ world_started w brick 1
+-- a brick stops during the handling of a message
+pub happens_stopped_during : (setting : Setting) (w : World) (brick : BrickId) (during : Option ℕ) → is_up setting.layout w brick ≡ true
+    → happens setting w (Stops brick during) ≡ world_stopped setting w brick during
 unfolding happens
-happens_started setting w brick may = ap (λ b. cond b (world_started w brick 1) w) may
+happens_stopped_during setting w brick during up = ap (λ b. cond b (world_stopped setting w brick during) w) up
 
-pub happens_unstarted : (setting : Setting) (w : World) (brick : BrickId) → may_start setting.layout w brick 1 ≡ false
-    → happens setting w (Starts brick 1 Before) ≡ w
+-- a brick that may start does
+pub happens_started : (setting : Setting) (w : World) (brick : BrickId) (openings : ℕ) (found : Found) → may_start setting.layout w brick openings ≡ true
+    → happens setting w (Starts brick openings found) ≡ world_started (world_found w brick found) brick openings
 unfolding happens
-happens_unstarted setting w brick may_not = ap (λ b. cond b (world_started w brick 1) w) may_not
+happens_started setting w brick openings found may = ap (λ b. cond b (world_started (world_found w brick found) brick openings) w) may
+
+pub happens_unstarted : (setting : Setting) (w : World) (brick : BrickId) (openings : ℕ) (found : Found) → may_start setting.layout w brick openings ≡ false
+    → happens setting w (Starts brick openings found) ≡ w
+unfolding happens
+happens_unstarted setting w brick openings found may_not = ap (λ b. cond b (world_started (world_found w brick found) brick openings) w) may_not

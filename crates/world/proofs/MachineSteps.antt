@@ -10,7 +10,7 @@ use Rattle.messages.specs.declared.replies.Reply.{Reply}
 use Rattle.fab_base.specs.Layouts.{Layout, Group}
 use Rattle.protocol.specs.Settings.{Setting}
 use Rattle.protocol.specs.Coordinators.{Coordinator, Next, Ignores, Waits, Sends, Makes, Ends, on_reply}
-use Rattle.protocol.specs.Nodes.{Node, NodeStep, group_at, known_after, fresh_stamp, seat_served, requested_at, requested_in, requested, seen_told, carried_out, replied_at, replied, received}
+use Rattle.protocol.specs.Nodes.{Node, NodeStep, group_at, known_after, fresh_stamp, seat_served, requested_at, requested_in, requested, seen_told, carried_out, replied_at, replied, received, absorbed}
 use Rattle.world.specs.Shown.{AreTold, AreAnswered}
 
 -- each open call knows its number, and is one of the brick's calls so far
@@ -85,3 +85,13 @@ pub received_opens_none : (setting : Setting) (me : BrickId) (now : ℕ) (node :
     → OpensNone node (received setting me now node packet)
 received_opens_none setting me now node packet numbered =
     received_as_opens_none setting me now packet.from packet.to node packet.message numbered
+
+-- what a handling would have kept is of the same boot
+absorbed_as_boot : (setting : Setting) (me from to : BrickId) (node : Node) (message : Message)
+    → (absorbed setting me node (record { from = from; to = to; message = message })).boot ≡ node.boot
+unfolding absorbed
+absorbed_as_boot setting me from to node (Message.Request call request) = (requested_opens_none setting me from node call request).boot
+absorbed_as_boot setting me from to node message = refl
+
+pub absorbed_boot : (setting : Setting) (me : BrickId) (node : Node) (packet : Packet) → (absorbed setting me node packet).boot ≡ node.boot
+absorbed_boot setting me node packet = absorbed_as_boot setting me packet.from packet.to node packet.message

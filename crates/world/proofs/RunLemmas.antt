@@ -1,5 +1,5 @@
 -- The world that a run leaves, and what its disks keep.
-use Rattle.std.proofs.Common.{◌≡◌, ℕ, ◌+◌, ◌<◌, ◌≤◌, ◌-◌, Bool, true, false, cond, nat_lt, ◌&&◌, List, [], ◌∷◌, ◌++◌, length, length-append, take, drop, take_all, length-drop, append-nil, append_assoc, Option, Some, None, refl, sym, ap, ◌∙◌, subst, arith}
+use Rattle.std.proofs.Common.{◌≡◌, ℕ, ◌+◌, ◌<◌, ◌≤◌, ◌-◌, ◌⊎◌, inl, inr, ⊎_elim, Bool, true, false, cond, nat_lt, ◌&&◌, List, [], ◌∷◌, ◌++◌, length, length-append, take, drop, take_all, length-drop, append-nil, append_assoc, Option, Some, None, refl, sym, ap, ◌∙◌, subst, arith}
 use Rattle.std.specs.Prelude.{slice_get}
 use Rattle.std.specs.Option.{option_map}
 use Rattle.std.proofs.lemmas.Bool.{cond_both}
@@ -23,10 +23,11 @@ use Rattle.protocol.specs.declared.tellings.Told.TheVariants as told
 use Rattle.protocol.specs.Settings.{Setting}
 use Rattle.protocol.specs.Worlds.{World, Event, Found, Invokes, Delivers, Sets, Ticks, Stops, Starts, Before, After, first_world, is_brick, is_up, may_begin, may_start, number_of, packet_of, replies_with, delivered, world_began, world_told, world_tells, world_answered, world_answers, world_stepped, world_ticked, world_stopped, world_found, world_started, happens, run}
 use Rattle.protocol_laws.proofs.Books.{Books}
-use Rattle.world.specs.Runs.{Run, Step, world_of, all_events, events_of, brick_of, ask_of, op_of}
-use Rattle.world.specs.Disks.{ShowsDisk, ShowsDisks}
-use Rattle.world.specs.Shown.{IsNumbered, Shows, ShowsBricks, ShowsPower, disk_in, disks_of, came_to}
-use Rattle.world.specs.Steps.{Runs, with_step, is_stripe, log_at}
+use Rattle.world.specs.Runs.{Run, Step, world_of, all_events, brick_of, ask_of, op_of}
+use Rattle.world.specs.Faults.{IsEventsOf, StopsMidway, IsDelivered, StaysDown, IsStarted, IsNoStart}
+use Rattle.world.specs.Disks.{ShowsDiskOf, ShowsDisks, KeepsDisks}
+use Rattle.world.specs.Shown.{IsNumbered, Shows, ShowsBricks, ShowsPower, ComesTo, disk_in, disks_of, came_to}
+use Rattle.world.specs.Steps.{Runs, RunsTo, with_step, is_stripe, log_at}
 use Rattle.world.specs.Texts.{text_of, event_text, marks_text, outcome_text, new_marks}
 use Rattle.world.specs.declared.bricks.Brick.{Brick}
 use Rattle.world.specs.declared.bricks.Power.{Power}
@@ -61,20 +62,22 @@ shows_step layout state old new step before disks grown shows =
     (sym (ap (λ (steps : List Step). world_of (record { layout = layout; steps = steps; disks = disks })) grown
     ∙ world_of-with_step (record { layout = layout; steps = old; disks = before }) step disks)) shows
 
--- the disk of a brick that is shown keeps what the machine's brick keeps
-disk_kept : (layout : Layout) (me : BrickId) (node : Node) (up : Bool) (power : Power) → ShowsPower layout me node up power
-    → ShowsDisk layout me node (disk_in power)
-disk_kept layout me node up (Up running) is = is.1.kept
-disk_kept layout me node up (Down disk) is = is.1.kept
+-- the disk of a brick that is shown keeps what the machine's brick keeps, or one of the two that its stop left possible
+disk_kept : (layout : Layout) (me : BrickId) (node after : Node) (up : Bool) (power : Power) → ShowsPower layout me node after up power
+    → ShowsDiskOf up layout me node after (disk_in power)
+disk_kept layout me node after up (Up running) is =
+    subst (λ (b : Bool). ShowsDiskOf b layout me node after running.brick.disk) (sym is.0) is.1.kept
+disk_kept layout me node after up (Down disk) is = subst (λ (b : Bool). ShowsDiskOf b layout me node after disk) (sym is.0) is.1.holds
 
 -- so do the disks of all
-disks_kept : (layout : Layout) (bricks : List Brick) (nodes : ℕ → Node) (up : ℕ → Bool) (clocks : ℕ → ℕ) → ShowsBricks layout bricks nodes up clocks
+disks_kept : (layout : Layout) (bricks : List Brick) (nodes after : ℕ → Node) (up : ℕ → Bool) (clocks : ℕ → ℕ)
+    → ShowsBricks layout bricks nodes after up clocks
     → (i : ℕ) (found : Option Brick) (disk : MemDisk) → slice_get bricks i ≡ found → option_map (λ (brick : Brick). disk_in brick.power) found ≡ Some disk
-    → ShowsDisk layout (brick_of i) (nodes i) disk
-disks_kept layout bricks nodes up clocks shows i None disk at is = absurd (let e : None ≡ Some disk = is in cc)
-disks_kept layout bricks nodes up clocks shows i (Some brick) disk at is =
-    subst (λ (d : MemDisk). ShowsDisk layout (brick_of i) (nodes i) d) (let e : Some (disk_in brick.power) ≡ Some disk = is in cc)
-    (disk_kept layout (brick_of i) (nodes i) (up i) brick.power (shows.each i brick at).power)
+    → ShowsDiskOf (up i) layout (brick_of i) (nodes i) (after i) disk
+disks_kept layout bricks nodes after up clocks shows i None disk at is = absurd (let e : None ≡ Some disk = is in cc)
+disks_kept layout bricks nodes after up clocks shows i (Some brick) disk at is =
+    subst (λ (d : MemDisk). ShowsDiskOf (up i) layout (brick_of i) (nodes i) (after i) d) (let e : Some (disk_in brick.power) ≡ Some disk = is in cc)
+    (disk_kept layout (brick_of i) (nodes i) (after i) (up i) brick.power (shows.each i brick at).power)
 
 -- the disks of a run whose world is shown
 pub disks_shown : (layout : Layout) (state : Simulation) (steps : List Step)
@@ -83,7 +86,7 @@ pub disks_shown : (layout : Layout) (state : Simulation) (steps : List Step)
 disks_shown layout state steps shows = record {
   count = length-map state.bricks.items (λ (brick : Brick). disk_in brick.power) ∙ shows.bricks.count;
   each = λ i disk at.
-      disks_kept layout state.bricks.items _ _ _ shows.bricks i (slice_get state.bricks.items i) disk refl
+      disks_kept layout state.bricks.items _ _ _ _ shows.bricks i (slice_get state.bricks.items i) disk refl
       (sym (slice_get-map (λ (brick : Brick). disk_in brick.power) state.bricks.items i) ∙ at);
 }
 
@@ -188,33 +191,79 @@ numbered_from_books setting w books i k c is =
     let seq : (w.nodes call.operation.brick.0).seq ≡ (w.nodes i).seq = ap (λ j. (w.nodes j).seq) call.brick in
     (call.call_seq, omega (arith, operation.called.0, call.seq), omega (arith, operation.called.1 boot, call.seq, seq))
 
--- what events that are none or one came to, with the marks behind those before, is what they print
-came_text : (setting : Setting) (w : World) (line : Line)
-    → outcome_text (came_to setting w (events_of line)) (new_marks w (run setting (events_of line) w)) ≡ text_of setting w (events_of line)
-came_text setting w Nothing = ap marks_text (drop_all (length w.marks) w.marks (omega arith))
-came_text setting w (Invoke b g s access) = sym (append-nil (event_text setting w (Invokes (brick_of b) (ask_of g s (op_of access)))))
-came_text setting w (Deliver k) = sym (append-nil (event_text setting w (Delivers k)))
-came_text setting w (SetClock b v) = sym (append-nil (event_text setting w (Sets (brick_of b) v)))
-came_text setting w (Tick b) = sym (append-nil (event_text setting w (Ticks (brick_of b))))
-came_text setting w (Crash b) = sym (append-nil (event_text setting w (Stops (brick_of b) None)))
-came_text setting w (Start b) = sym (append-nil (event_text setting w (Starts (brick_of b) 1 Before)))
+-- a line is one event at most
+few_events : (layout : Layout) (w : World) (old new : List MemDisk) (line : Line) (events : List Event) → IsEventsOf layout w old new line events
+    → (events ≡ []) ⊎ ((event : Event) × (events ≡ event ∷ []))
+few_events layout w old new Nothing events are = inl are
+few_events layout w old new (Invoke b g s access) events are = inr (Invokes (brick_of b) (ask_of g s (op_of access)), are)
+few_events layout w old new (Deliver k fault) events are = ⊎_elim
+    (λ (stops : StopsMidway layout w old new k fault events). inr (Stops stops.struck.packet.to (Some k), stops.events_are))
+    (λ (whole : IsDelivered layout w old k fault events). inr (Delivers k, whole.events_are)) are
+few_events layout w old new (SetClock b v) events are = inr (Sets (brick_of b) v, are)
+few_events layout w old new (Tick b) events are = inr (Ticks (brick_of b), are)
+few_events layout w old new (Crash b) events are = inr (Stops (brick_of b) None, are.0)
+few_events layout w old new (Start b fault) events are = ⊎_elim
+    (λ (stays : StaysDown layout w old new (brick_of b) fault events). inr (Stops (brick_of b) None, stays.events_are))
+    (λ (other : IsStarted layout w old (brick_of b) fault events ⊎ IsNoStart layout w (brick_of b) events). ⊎_elim
+    (λ (is : IsStarted layout w old (brick_of b) fault events).
+    inr (Starts (brick_of b) (is.start.finds.openings + 1) is.start.finds.found, is.events_are))
+    (λ (is : IsNoStart layout w (brick_of b) events). inr (Starts (brick_of b) 1 Before, is.events_are)) other) are
 
-pub text_is : (old new : Run) (line : Line) (outcome : Outcome) (marks : List Mark) (before : ℕ) (text : List ℕ)
-    → Runs old new line (record { line = line; events = events_of line })
-    → outcome ≡ came_to (coding old.layout) (world_of old) (events_of line) → marks ≡ (world_of new).marks
+-- what such events came to, with the marks behind those before, is what they print
+came_text : (setting : Setting) (w : World) (events : List Event) → (events ≡ []) ⊎ ((event : Event) × (events ≡ event ∷ []))
+    → outcome_text (came_to setting w events) (new_marks w (run setting events w)) ≡ text_of setting w events
+came_text setting w events few = ⊎_elim
+    (λ (none : events ≡ []).
+    subst (λ (e : List Event). outcome_text (came_to setting w e) (new_marks w (run setting e w)) ≡ text_of setting w e) (sym none)
+    (ap marks_text (drop_all (length w.marks) w.marks (omega arith))))
+    (λ (one : (event : Event) × (events ≡ event ∷ [])).
+    subst (λ (e : List Event). outcome_text (came_to setting w e) (new_marks w (run setting e w)) ≡ text_of setting w e) (sym one.1)
+    (sym (append-nil (event_text setting w one.0))))
+    few
+
+pub text_is : (old new : Run) (line : Line) (step : Step) (outcome : Outcome) (marks : List Mark) (before : ℕ) (text : List ℕ)
+    → Runs old new line step
+    → outcome ≡ came_to (coding old.layout) (world_of old) step.events → marks ≡ (world_of new).marks
     → before ≡ length (world_of old).marks → text ≡ outcome_text outcome (take (length marks - before) (drop before marks))
-    → text ≡ text_of (coding old.layout) (world_of old) (events_of line)
-text_is old new line outcome marks before text runs came are count is =
-    let step : Step = record { line = line; events = events_of line } in
+    → text ≡ text_of (coding old.layout) (world_of old) step.events
+text_is old new line step outcome marks before text runs came are count is =
     let rest : take (length marks - before) (drop before marks) ≡ drop before marks =
     take_all (length marks - before) (drop before marks) (omega (arith, length-drop before marks))
     in
-    let after : marks ≡ (run (coding old.layout) (events_of line) (world_of old)).marks =
+    let after : marks ≡ (run (coding old.layout) step.events (world_of old)).marks =
     are ∙ ap (λ (r : Run). (world_of r).marks) runs.run ∙ ap (λ (w : World). w.marks) (world_of-with_step old step new.disks)
     in
-    let made : drop before marks ≡ new_marks (world_of old) (run (coding old.layout) (events_of line) (world_of old)) =
+    let made : drop before marks ≡ new_marks (world_of old) (run (coding old.layout) step.events (world_of old)) =
     ap (λ n. drop n marks) count ∙ ap (λ (xs : List Mark). drop (length (world_of old).marks) xs) after
     in
     is ∙ ap (λ (xs : List Mark). outcome_text outcome xs) (rest ∙ made)
-    ∙ ap (λ (x : Outcome). outcome_text x (new_marks (world_of old) (run (coding old.layout) (events_of line) (world_of old)))) came
-    ∙ came_text (coding old.layout) (world_of old) line
+    ∙ ap (λ (x : Outcome). outcome_text x (new_marks (world_of old) (run (coding old.layout) step.events (world_of old)))) came
+    ∙ came_text (coding old.layout) (world_of old) step.events
+    (few_events old.layout (world_of old) old.disks new.disks line step.events runs.events_are)
+
+-- a step that a trail took is one that was run
+pub runs_to : (layout : Layout) (old new : List Step) (before disks : List MemDisk) (state : Simulation) (line : Line) (outcome : Outcome)
+    → disks ≡ disks_of state.bricks.items
+    → (events : List Event) × ComesTo layout (world_of (record { layout = layout; steps = old; disks = before })) before state line outcome events
+    × (new ≡ old ++ record { line = line; events = events } ∷ [])
+    → RunsTo (record { layout = layout; steps = old; disks = before }) (record { layout = layout; steps = new; disks = disks }) line outcome
+runs_to layout old new before disks state line outcome same (events, comes, grown) =
+    let r : Run = record { layout = layout; steps = old; disks = before } in
+    record {
+      step = record { line = line; events = events };
+      runs = record {
+        line_is = refl;
+        events_are = subst (λ (d : List MemDisk). IsEventsOf layout (world_of r) before d line events) (sym same) comes.are;
+        run = ap (λ (steps : List Step). record { layout = layout; steps = steps; disks = disks }) grown;
+        disks = subst (λ (d : List MemDisk). KeepsDisks (coding layout) (world_of r) events before d) (sym same) comes.kept;
+      };
+      comes = comes.comes;
+    }
+
+-- and the state shows the world behind it
+pub shows_run : (layout : Layout) (old new : List Step) (before disks : List MemDisk) (state : Simulation) (line : Line) (outcome : Outcome)
+    → (events : List Event) × ComesTo layout (world_of (record { layout = layout; steps = old; disks = before })) before state line outcome events
+    × (new ≡ old ++ record { line = line; events = events } ∷ [])
+    → Shows layout state (world_of (record { layout = layout; steps = new; disks = disks }))
+shows_run layout old new before disks state line outcome (events, comes, grown) =
+    shows_step layout state old new (record { line = line; events = events }) before disks grown comes.shows

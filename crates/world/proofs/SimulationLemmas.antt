@@ -1,5 +1,5 @@
 -- What a state shows, line by line.
-use Rattle.std.proofs.Common.{◌≡◌, ℕ, ◌<◌, ◌≤◌, Bool, true, false, not, ◌&&◌, cond, nat_lt, List, ◌++◌, Option, Some, None, refl, sym, ap, ◌∙◌, subst, arith}
+use Rattle.std.proofs.Common.{◌≡◌, ℕ, ◌<◌, ◌≤◌, Bool, true, false, ◌&&◌, cond, nat_lt, ◌++◌, Option, Some, None, refl, sym, ap, ◌∙◌, subst, arith}
 use Rattle.std.specs.Prelude.{Result, Ok, Err, IfNone, OnErr, slice_get}
 use Rattle.std.proofs.lemmas.Bool.Decides.{nat_tests}
 use Rattle.fab_base.specs.declared.asks.Ask.{Ask}
@@ -9,10 +9,10 @@ use Rattle.messages.specs.declared.packets.Packet.{Packet}
 use Rattle.stripe_code.specs.Codes.{coding}
 use Rattle.node.specs.Running.{Running, state_of}
 use Rattle.fab_base.specs.Layouts.{Layout}
-use Rattle.protocol.specs.Nodes.{NodeStep, put, is_stripe_op, refusal_of, invoked, received, ticked, stopped, may_open}
-use Rattle.protocol.specs.Worlds.{World, Invokes, Delivers, Sets, Ticks, Stops, Starts, Before, is_brick, is_up, may_start, packet_of, replies_with, world_began, world_stepped, world_stopped, world_started, happens}
+use Rattle.protocol.specs.Nodes.{Node, NodeStep, put, is_stripe_op, refusal_of, invoked, received, ticked, stopped}
+use Rattle.protocol.specs.Worlds.{World, Invokes, Delivers, Sets, Ticks, Stops, is_brick, is_up, packet_of, replies_with, world_began, world_stopped, happens}
 use Rattle.world.specs.Runs.{ask_of, brick_of}
-use Rattle.world.specs.Shown.{Shows, ShowsPower, ShowsBricks, ShowsStarted, Tells}
+use Rattle.world.specs.Shown.{Shows, ShowsPower, ShowsBricks, Tells}
 use Rattle.world.specs.Texts.{marks_if, is_deliverable}
 use Rattle.world.specs.declared.simulations.Outcome.TheVariants.{Marks, Idle}
 use Rattle.world.specs.declared.histories.History.{History}
@@ -21,8 +21,8 @@ use Rattle.world.specs.declared.bricks.Power.{Power}
 use Rattle.world.specs.declared.bricks.Power.TheVariants.{Up, Down}
 use Rattle.fab_disk.specs.declared.mem_disk.MemDisk.{MemDisk}
 use Rattle.world.specs.declared.simulations.Simulation.{Simulation}
-use Rattle.world.proofs.MachineBegins.{happens_begun, happens_handled, happens_set, happens_ticked, happens_stopped, happens_started, happens_unstarted, after_message}
-use Rattle.world.proofs.HistoryLemmas.{tells_other, calls_same, heard_keeps, tells_started}
+use Rattle.world.proofs.MachineBegins.{happens_begun, happens_handled, happens_set, happens_ticked, happens_stopped, after_message}
+use Rattle.world.proofs.HistoryLemmas.{tells_other, calls_same, heard_keeps}
 
 -- what holds anyway holds where there is an error
 pub on_err_always : {T E P : Type 0} (r : Result T E) → P → OnErr r P
@@ -44,7 +44,7 @@ pub up_shown : (layout : Layout) (state : Simulation) (w : World) (b : ℕ) (bri
     → slice_get state.bricks.items b ≡ Some brick → brick.power ≡ Up node → b < layout.bricks
     → (is_up layout w (brick_of b) ≡ true) × (state_of node ≡ w.nodes b)
 up_shown layout state w b brick node shows at on within =
-    let is = subst (λ (power : Power). ShowsPower layout (brick_of b) (w.nodes b) (w.up b) power) on (shows.bricks.each b brick at).power in (
+    let is = subst (λ (power : Power). ShowsPower layout (brick_of b) (w.nodes b) (w.after b) (w.up b) power) on (shows.bricks.each b brick at).power in (
       ap (λ (x : Bool). x && w.up b) (let e : nat_lt b layout.bricks ≡ true = grind (arith, nat_tests) in e) ∙ is.0,
       is.1.state_is,
     )
@@ -53,7 +53,7 @@ up_shown layout state w b brick node shows at on within =
 pub down_shown : (layout : Layout) (state : Simulation) (w : World) (b : ℕ) (brick : Brick) (disk : MemDisk) → Shows layout state w
     → slice_get state.bricks.items b ≡ Some brick → brick.power ≡ Down disk → b < layout.bricks → is_up layout w (brick_of b) ≡ false
 down_shown layout state w b brick disk shows at off within =
-    let is = subst (λ (power : Power). ShowsPower layout (brick_of b) (w.nodes b) (w.up b) power) off (shows.bricks.each b brick at).power in
+    let is = subst (λ (power : Power). ShowsPower layout (brick_of b) (w.nodes b) (w.after b) (w.up b) power) off (shows.bricks.each b brick at).power in
     ap (λ (x : Bool). x && w.up b) (let e : nat_lt b layout.bricks ≡ true = grind (arith, nat_tests) in e) ∙ is.0
 
 -- an operation that began
@@ -61,7 +61,7 @@ pub shows_begun : (layout : Layout) (state : Simulation) (w : World) (brick : Br
     → is_stripe_op ask.op ≡ true
     → refusal_of layout (w.nodes brick.0) ask ≡ None
     → ShowsBricks layout state.bricks.items (put w.nodes brick.0
-    (invoked (coding layout) brick (w.clocks brick.0) (w.nodes brick.0) ask).node) w.up w.clocks
+    (invoked (coding layout) brick (w.clocks brick.0) (w.nodes brick.0) ask).node) w.after w.up w.clocks
     → Tells state.history (world_began w brick ask (invoked (coding layout) brick (w.clocks brick.0) (w.nodes brick.0) ask))
     → Shows layout state (happens (coding layout) w (Invokes brick ask))
 shows_begun layout state w brick ask up stripe none bricks history =
@@ -83,7 +83,7 @@ tells_replies layout history w packet tells =
 pub shows_handled : (layout : Layout) (state : Simulation) (w : World) (number : ℕ) (packet : Packet) → packet_of w.packets number ≡ Some packet
     → is_up layout w packet.to ≡ true
     → ShowsBricks layout state.bricks.items
-    (put w.nodes packet.to.0 (received (coding layout) packet.to (w.clocks packet.to.0) (w.nodes packet.to.0) packet).node) w.up w.clocks
+    (put w.nodes packet.to.0 (received (coding layout) packet.to (w.clocks packet.to.0) (w.nodes packet.to.0) packet).node) w.after w.up w.clocks
     → Tells state.history (after_message (coding layout) w packet)
     → Shows layout state (happens (coding layout) w (Delivers number))
 shows_handled layout state w number packet sent up bricks history =
@@ -92,31 +92,20 @@ shows_handled layout state w number packet sent up bricks history =
     subst (λ (x : World). Shows layout state x) (sym (happens_handled (coding layout) w number packet sent up))
     (record {
       bricks = subst (λ (f : ℕ → ℕ). ShowsBricks layout state.bricks.items (after_message (coding layout) w packet).nodes
-          (after_message (coding layout) w packet).up f)
+          (after_message (coding layout) w packet).after (after_message (coding layout) w packet).up f)
           (sym (heard_keeps (coding layout) v packet.to step).clocks)
-          (subst (λ (f : ℕ → Bool). ShowsBricks layout state.bricks.items (after_message (coding layout) w packet).nodes f w.clocks)
+          (subst (λ (f : ℕ → Bool). ShowsBricks layout state.bricks.items (after_message (coding layout) w packet).nodes
+          (after_message (coding layout) w packet).after f w.clocks)
           (sym (heard_keeps (coding layout) v packet.to step).up)
-          bricks);
+          (subst (λ (f : ℕ → Node). ShowsBricks layout state.bricks.items (after_message (coding layout) w packet).nodes f w.up w.clocks)
+          (sym (heard_keeps (coding layout) v packet.to step).after)
+          bricks));
       history = history;
     })
 
--- a message that was handled by the brick that it was sent to
-pub shows_delivered : (layout : Layout) (state : Simulation) (w : World) (number : ℕ) (packet : Packet) (to : BrickId) → to ≡ packet.to
-    → packet_of w.packets number ≡ Some packet → is_up layout w to ≡ true
-    → (let step = received (coding layout) to (w.clocks to.0) (w.nodes to.0) packet in
-    ShowsBricks layout state.bricks.items (put w.nodes to.0 step.node) w.up w.clocks
-    → Tells state.history (world_stepped (coding layout) (record w { replies = replies_with (coding layout) w packet }) to step)
-    → Shows layout state (happens (coding layout) w (Delivers number)))
-shows_delivered layout state w number packet to same sent up bricks history =
-    shows_handled layout state w number packet sent (subst (λ (b : BrickId). is_up layout w b ≡ true) same up)
-    (subst (λ (b : BrickId). ShowsBricks layout state.bricks.items
-    (put w.nodes b.0 (received (coding layout) b (w.clocks b.0) (w.nodes b.0) packet).node) w.up w.clocks) same bricks)
-    (subst (λ (b : BrickId). let step = received (coding layout) b (w.clocks b.0) (w.nodes b.0) packet in
-    Tells state.history (world_stepped (coding layout) (record w { replies = replies_with (coding layout) w packet }) b step)) same history)
-
 -- a clock that was set
 pub shows_set : (layout : Layout) (old new : Simulation) (w : World) (brick : BrickId) (time : ℕ) → brick.0 < layout.bricks
-    → ShowsBricks layout new.bricks.items w.nodes w.up (put w.clocks brick.0 time) → new.history ≡ old.history
+    → ShowsBricks layout new.bricks.items w.nodes w.after w.up (put w.clocks brick.0 time) → new.history ≡ old.history
     → Shows layout old w → Shows layout new (happens (coding layout) w (Sets brick time))
 shows_set layout old new w brick time within bricks same shows =
     subst (λ (v : World). Shows layout new v) (sym (happens_set (coding layout) w brick time within))
@@ -126,12 +115,6 @@ shows_set layout old new w brick time within bricks same shows =
           (tells_other old.history w (record w { clocks = put w.clocks brick.0 time }) refl refl refl refl
           (calls_same w (record w { clocks = put w.clocks brick.0 time }) (λ i. refl) (λ i. refl) refl) shows.history);
     })
-
--- no brick starts that there is not
-pub started_nowhere : (layout : Layout) (w : World) (brick : BrickId) → layout.bricks ≤ brick.0 → may_start layout w brick 1 ≡ false
-started_nowhere layout w brick past =
-    ap (λ b. b && (not (w.up brick.0) && may_open 1 (w.nodes brick.0)))
-    (let e : nat_lt brick.0 layout.bricks ≡ false = grind (arith, nat_tests) in e)
 
 -- what setting a clock comes to
 pub set_here : (layout : Layout) (brick : BrickId) → brick.0 < layout.bricks → Marks ≡ marks_if (is_brick layout brick)
@@ -154,7 +137,7 @@ handled_here layout w packet found is up = sym (ap (λ p. marks_if (is_deliverab
 
 -- a brick that ticked
 pub shows_ticked : (layout : Layout) (state : Simulation) (w : World) (brick : BrickId) → is_up layout w brick ≡ true
-    → ShowsBricks layout state.bricks.items w.nodes w.up w.clocks
+    → ShowsBricks layout state.bricks.items w.nodes w.after w.up w.clocks
     → Tells state.history (record w { packets = w.packets ++ ticked (coding layout) brick (w.nodes brick.0) })
     → Shows layout state (happens (coding layout) w (Ticks brick))
 shows_ticked layout state w brick up bricks history =
@@ -162,26 +145,12 @@ shows_ticked layout state w brick up bricks history =
 
 -- a brick that stopped
 pub shows_crashed : (layout : Layout) (state : Simulation) (w : World) (brick : BrickId) → is_up layout w brick ≡ true
-    → ShowsBricks layout state.bricks.items (put w.nodes brick.0 (stopped (w.nodes brick.0))) (put w.up brick.0 false) w.clocks
+    → ShowsBricks layout state.bricks.items (put w.nodes brick.0 (stopped (w.nodes brick.0))) (put w.after brick.0 (stopped (w.nodes brick.0)))
+    (put w.up brick.0 false) w.clocks
     → Tells state.history (world_stopped (coding layout) w brick None)
     → Shows layout state (happens (coding layout) w (Stops brick None))
 shows_crashed layout state w brick up bricks history =
     subst (λ (v : World). Shows layout state v) (sym (happens_stopped (coding layout) w brick up)) (record { bricks = bricks; history = history })
-
--- a brick that was to start
-pub shows_start : (layout : Layout) (old new : Simulation) (w : World) (brick : BrickId) (started : Bool)
-    → ShowsStarted layout brick w new.bricks.items started → new.history ≡ old.history → Shows layout old w
-    → Shows layout new (happens (coding layout) w (Starts brick 1 Before))
-shows_start layout old new w brick true is same shows =
-    subst (λ (v : World). Shows layout new v) (sym (happens_started (coding layout) w brick (sym is.may)))
-    (record {
-      bricks = is.after;
-      history = subst (λ (h : History). Tells h (world_started w brick 1)) (sym same)
-          (tells_started old.history w brick 1 shows.history);
-    })
-shows_start layout old new w brick false is same shows =
-    subst (λ (v : World). Shows layout new v) (sym (happens_unstarted (coding layout) w brick (sym is.may)))
-    (record { bricks = is.after; history = subst (λ (h : History). Tells h w) (sym same) shows.history })
 
 -- what a tick and a crash come to
 pub done_here : (layout : Layout) (w : World) (brick : BrickId) → is_up layout w brick ≡ true → Marks ≡ marks_if (is_up layout w brick)
@@ -189,11 +158,3 @@ done_here layout w brick up = sym (ap (λ b. cond b Marks Idle) up)
 
 pub done_nowhere : (layout : Layout) (w : World) (brick : BrickId) → is_up layout w brick ≡ false → Idle ≡ marks_if (is_up layout w brick)
 done_nowhere layout w brick down = sym (ap (λ b. cond b Marks Idle) down)
-
--- what a start comes to
-pub start_came : (layout : Layout) (w : World) (brick : BrickId) (bricks : List Brick) (started : Bool) → ShowsStarted layout brick w bricks started
-    → cond started Marks Idle ≡ marks_if (may_start layout w brick 1)
-start_came layout w brick bricks started is = ap (λ b. cond b Marks Idle) is.may
-
-pub start_nowhere : (layout : Layout) (w : World) (brick : BrickId) → layout.bricks ≤ brick.0 → Idle ≡ marks_if (may_start layout w brick 1)
-start_nowhere layout w brick past = sym (ap (λ b. cond b Marks Idle) (started_nowhere layout w brick past))

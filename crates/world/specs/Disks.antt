@@ -1,5 +1,5 @@
 -- What the disks of a run hold, and which of them an event may change.
-use Rattle.std.specs.Prelude.{◌≡◌, ◌≢◌, ℕ, List, [], ◌∷◌, length, slice_get, Option, Some, None}
+use Rattle.std.specs.Prelude.{◌≡◌, ◌≢◌, ℕ, Bool, true, false, if◌then◌else◌, List, [], ◌∷◌, length, slice_get, Option, Some, None}
 use Rattle.std.specs.Option.{option_map}
 use Rattle.fab_base.specs.declared.identities.BrickId.{BrickId}
 use Rattle.fab_base.specs.Layouts.{Layout}
@@ -10,24 +10,31 @@ use Rattle.protocol.specs.Nodes.{Node}
 use Rattle.protocol.specs.Settings.{Setting}
 use Rattle.protocol.specs.Worlds.{World, Event, Invokes, Delivers, Sets, Ticks, Stops, Starts, packet_of, happens}
 use Rattle.world.specs.Runs.{Run, world_of, brick_of}
+use Rattle.world.specs.Faults.{HoldsOne}
 
 -- a disk keeps just what this brick of the layout keeps: so says what a read gives, and whatever a crash may leave
 pub record ShowsDisk (layout : Layout) (me : BrickId) (node : Node) (disk : MemDisk) : Type 0 where
   pub seen : ImageShows layout me node (content_of disk)
   pub durable : LeavesBrick layout me node (may_be_left disk)
 
+-- so it does while the brick is up; while it is down, its disk holds one of the two that its stop left possible
+abbrev pub ShowsDiskOf : Bool → Layout → BrickId → Node → Node → MemDisk → Type 0
+ShowsDiskOf true layout me node after disk = ShowsDisk layout me node disk
+ShowsDiskOf false layout me node after disk = HoldsOne layout me node after disk
+
 -- there is a disk for each brick of the layout, and it keeps what the machine's brick keeps after the steps
 pub record ShowsDisks (r : Run) : Type 0 where
   pub count : length r.disks ≡ r.layout.bricks
-  pub each : (i : ℕ) (disk : MemDisk) → slice_get r.disks i ≡ Some disk → ShowsDisk r.layout (brick_of i) ((world_of r).nodes i) disk
+  pub each : (i : ℕ) (disk : MemDisk) → slice_get r.disks i ≡ Some disk
+      → ShowsDiskOf ((world_of r).up i) r.layout (brick_of i) ((world_of r).nodes i) ((world_of r).after i) disk
 
--- the brick whose disk an event may change: the one that handles a message, or stops in the midst of that, or starts
+-- the brick whose disk an event may change: the one that handles a message, or stops in the midst of that, or starts, or was to start
 abbrev pub changes_disk_of : World → Event → Option BrickId
 changes_disk_of w (Invokes brick ask) = None
 changes_disk_of w (Delivers number) = option_map (λ packet. packet.to) (packet_of w.packets number)
 changes_disk_of w (Sets brick time) = None
 changes_disk_of w (Ticks brick) = None
-changes_disk_of w (Stops brick None) = None
+changes_disk_of w (Stops brick None) = if w.up brick.0 then None else Some brick
 changes_disk_of w (Stops brick (Some number)) = Some brick
 changes_disk_of w (Starts brick openings found) = Some brick
 

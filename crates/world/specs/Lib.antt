@@ -1,4 +1,5 @@
 pub mod Runs
+pub mod Faults
 pub mod Disks
 pub mod Texts
 pub mod Shown

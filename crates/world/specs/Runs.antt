@@ -1,5 +1,5 @@
 -- A run: the steps of a schedule, one after another, over the disk of a layout.
-use Rattle.std.specs.Prelude.{◌≡◌, ℕ, if◌then◌else◌, List, [], ◌∷◌, ◌++◌, Option, Some, None}
+use Rattle.std.specs.Prelude.{ℕ, if◌then◌else◌, List, [], ◌∷◌, ◌++◌, Option, Some, None}
 use Rattle.fab_base.specs.declared.identities.BrickId.{BrickId}
 use Rattle.fab_base.specs.declared.asks.Ask.{Ask}
 use Rattle.fab_base.specs.declared.asks.Op.{Op}
@@ -41,19 +41,15 @@ abbrev pub op_of : Access → Op
 op_of ReadStripe = op.ReadStripe
 op_of (WriteStripe bytes) = op.WriteStripe bytes
 
--- the events of a line: a brick stops during no handling, and one that starts opens its store once, and finds what it kept
+-- the events of a line of which no disk decides: a brick stops during no handling, and one that is not down does not start
 abbrev pub events_of : Line → List Event
 events_of Nothing = []
 events_of (Invoke b g s access) = Invokes (brick_of b) (ask_of g s (op_of access)) ∷ []
-events_of (Deliver k) = Delivers k ∷ []
+events_of (Deliver k fault) = Delivers k ∷ []
 events_of (SetClock b v) = Sets (brick_of b) v ∷ []
 events_of (Tick b) = Ticks (brick_of b) ∷ []
 events_of (Crash b) = Stops (brick_of b) None ∷ []
-events_of (Start b) = Starts (brick_of b) 1 Before ∷ []
-
--- a line may be these events: each line that there is has just its own
-abbrev pub IsEventsOf : Line → List Event → Type 0
-IsEventsOf line events = events ≡ events_of line
+events_of (Start b fault) = Starts (brick_of b) 1 Before ∷ []
 
 -- the events of steps, in order
 abbrev pub all_events : List Step → List Event

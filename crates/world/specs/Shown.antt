@@ -1,5 +1,5 @@
 -- What a world keeps, and the machine's world that it shows.
-use Rattle.std.specs.Prelude.{◌≡◌, ℕ, ◌+◌, ◌<◌, ◌≤◌, Bool, true, false, not, ◌&&◌, nat_eq, if◌then◌else◌, List, [], ◌∷◌, length, map, Option, Some, None, Result, Ok, Err, slice_get, vec_len, vec_capacity}
+use Rattle.std.specs.Prelude.{◌≡◌, ◌⊎◌, ℕ, ◌+◌, ◌<◌, ◌≤◌, Bool, true, false, nat_eq, if◌then◌else◌, List, [], ◌∷◌, length, map, Option, Some, None, Result, Ok, Err, slice_get, vec_len, vec_capacity}
 use Rattle.std.specs.declared.cmp.Ordering.{Ordering}
 use Rattle.std.specs.Ordering.{nat_cmp, ordering_then}
 use Rattle.std.specs.BTreeMap.{get}
@@ -17,15 +17,22 @@ use Rattle.protocol.specs.Nodes as machine
 use Rattle.protocol.specs.declared.tellings.Answered.{Answered}
 use Rattle.protocol.specs.declared.tellings.Told.{Told}
 use Rattle.protocol.specs.declared.tellings.Told.TheVariants as told
-use Rattle.protocol.specs.Worlds.{World, Operation, is_up, may_start, number_of}
+use Rattle.protocol.specs.Worlds.{World, Operation, is_up, number_of, run}
 use Rattle.protocol.specs.Happenings.{writes}
 use Rattle.protocol.specs.Settings.{Setting}
 use Rattle.protocol.specs.Worlds.{Event}
 use Rattle.world.specs.Runs.{brick_of}
-use Rattle.world.specs.Disks.{ShowsDisk}
+use Rattle.world.specs.Faults.{HoldsOne, IsEventsOf, IsStartOf, IsLeft, IsReached, IsReachedOpening, Finds, plan_of, found_of}
+use Rattle.world.specs.Disks.{ShowsDisk, KeepsOthers, KeepsDisks}
+use Rattle.lines.specs.declared.forms.Fault.{Fault}
+use Rattle.lines.specs.declared.forms.Line.{Line}
+use Rattle.messages.specs.declared.packets.Packet.{Packet}
+use Rattle.coord_phase.specs.Messages.{packets_from}
+use Rattle.node.specs.Outcomes.{Outcome as Sent}
+use Rattle.stripe_code.specs.Codes.{coding}
 use Rattle.world.specs.Texts.{outcome_of}
 use Rattle.world.specs.declared.simulations.Outcome.{Outcome}
-use Rattle.world.specs.declared.simulations.Outcome.TheVariants.{Marks}
+use Rattle.world.specs.declared.simulations.Outcome.TheVariants.{Marks, Idle}
 use Rattle.world.specs.declared.histories.History.{History}
 use Rattle.world.specs.declared.histories.KeptOperation.{KeptOperation}
 use Rattle.world.specs.declared.bricks.Brick.{Brick}
@@ -81,9 +88,10 @@ pub record IsRunning (layout : Layout) (me : BrickId) (state : machine.Node) (no
   pub runs : node.brick.halted ≡ false
   pub sound : IsSound node.brick.disk
 
--- a disk at rest: it keeps this brick, and is sound
-pub record Rests (layout : Layout) (me : BrickId) (state : machine.Node) (disk : MemDisk) : Type 0 where
-  pub kept : ShowsDisk layout me state disk
+-- a disk at rest: it holds one of the two that the stop of its brick left possible, of as many openings, and is sound
+pub record Rests (layout : Layout) (me : BrickId) (state after : machine.Node) (disk : MemDisk) : Type 0 where
+  pub holds : HoldsOne layout me state after disk
+  pub boots : after.boot ≡ state.boot
   pub sound : IsSound disk
 
 -- a brick whose store was made, and not opened yet
@@ -91,9 +99,9 @@ abbrev pub unopened : Layout → machine.Node
 unopened layout = record (machine.first_node layout) { boot = 0 }
 
 -- the brick is up and runs, or it is down and its disk is at rest
-abbrev pub ShowsPower : Layout → BrickId → machine.Node → Bool → Power → Type 0
-ShowsPower layout me state up (Up node) = (up ≡ true) × IsRunning layout me state node
-ShowsPower layout me state up (Down disk) = (up ≡ false) × Rests layout me state disk
+abbrev pub ShowsPower : Layout → BrickId → machine.Node → machine.Node → Bool → Power → Type 0
+ShowsPower layout me state after up (Up node) = (up ≡ true) × IsRunning layout me state node
+ShowsPower layout me state after up (Down disk) = (up ≡ false) × Rests layout me state after disk
 
 -- the disk of a brick
 abbrev pub disk_in : Power → MemDisk
@@ -105,21 +113,22 @@ abbrev pub disks_of : List Brick → List MemDisk
 disks_of bricks = map (λ brick. disk_in brick.power) bricks
 
 -- The brick of a number is the machine's, it is up or not, and its clock reads this time.
-pub record ShowsBrick (layout : Layout) (i : ℕ) (brick : Brick) (node : machine.Node) (up : Bool) (time : ℕ) : Type 0 where
-  pub power : ShowsPower layout (brick_of i) node up brick.power
+pub record ShowsBrick (layout : Layout) (i : ℕ) (brick : Brick) (node after : machine.Node) (up : Bool) (time : ℕ) : Type 0 where
+  pub power : ShowsPower layout (brick_of i) node after up brick.power
   pub clock : brick.clock ≡ time
 
 -- The bricks, which of them are up, and their clocks show the machine's: there is one for each number of the
 -- layout.
-pub record ShowsBricks (layout : Layout) (bricks : List Brick) (nodes : ℕ → machine.Node) (up : ℕ → Bool) (clocks : ℕ → ℕ) : Type 0 where
+pub record ShowsBricks (layout : Layout) (bricks : List Brick) (nodes after : ℕ → machine.Node) (up : ℕ → Bool) (clocks : ℕ → ℕ) : Type 0 where
   pub count : length bricks ≡ layout.bricks
-  pub each : (i : ℕ) (brick : Brick) → slice_get bricks i ≡ Some brick → ShowsBrick layout i brick (nodes i) (up i) (clocks i)
+  pub each : (i : ℕ) (brick : Brick) → slice_get bricks i ≡ Some brick → ShowsBrick layout i brick (nodes i) (after i) (up i) (clocks i)
 
 -- the power of a brick shows one of the machine's
 pub record IsNodeOf (layout : Layout) (i : ℕ) (power : Power) : Type 0 where
   pub state : machine.Node
+  pub after : machine.Node
   pub up : Bool
-  pub shows : ShowsPower layout (brick_of i) state up power
+  pub shows : ShowsPower layout (brick_of i) state after up power
 
 -- each brick is one of this layout
 abbrev pub AreNodesOf : Layout → List Brick → Type 0
@@ -134,33 +143,88 @@ IsOn (Down disk) = ⊥
 pub record IsUp (layout : Layout) (bricks : List Brick) (brick : BrickId) : Type 0 where
   pub within : brick.0 < length bricks
   pub on : (x : Brick) → slice_get bricks brick.0 ≡ Some x → IsOn x.power
-  pub up : (w : World) → ShowsBricks layout bricks w.nodes w.up w.clocks → is_up layout w brick ≡ true
+  pub up : (w : World) → ShowsBricks layout bricks w.nodes w.after w.up w.clocks → is_up layout w brick ≡ true
 
 -- the brick of a number was found up, or there is none that is
 abbrev pub FindsUp : Layout → List Brick → ℕ → Option BrickId → Type 0
 FindsUp layout bricks number None =
-    (w : World) → ShowsBricks layout bricks w.nodes w.up w.clocks → is_up layout w (brick_of number) ≡ false
+    (w : World) → ShowsBricks layout bricks w.nodes w.after w.up w.clocks → is_up layout w (brick_of number) ≡ false
 FindsUp layout bricks number (Some brick) = (brick ≡ brick_of number) × IsUp layout bricks brick
 
--- A brick that was to start: it did exactly where it was down and its store may be opened once more, and
--- else, or where memory was refused, it shows what it showed.
-abbrev pub TurnsOn : Layout → BrickId → machine.Node → Bool → Power → Result Bool NoMem → Type 0
-TurnsOn layout me state up power (Ok true) =
-    (not up && machine.may_open 1 state ≡ true) × ShowsPower layout me (machine.restarted 1 state) true power
-TurnsOn layout me state up power (Ok false) = (not up && machine.may_open 1 state ≡ false) × ShowsPower layout me state up power
-TurnsOn layout me state up power (Err refused) = ShowsPower layout me state up power
+-- A brick that runs took a message whole: what it answered is the machine's, and it runs on.
+pub record TookWhole (layout : Layout) (me : BrickId) (state : machine.Node) (time : ℕ) (packet : Packet) (disk : MemDisk) (fault : Option Fault)
+    (power : Power) (outs : Sent) : Type 0 where
+  pub packets : packets_from me outs.messages ≡ (machine.received (coding layout) me time state packet).packets
+  pub told : outs.told ≡ (machine.received (coding layout) me time state packet).told
+  pub answers : outs.answers ≡ (machine.received (coding layout) me time state packet).answers
+  pub on : (after : machine.Node) → ShowsPower layout me (machine.received (coding layout) me time state packet).node after true power
+  pub spared : IsReached layout me state packet disk (plan_of fault) → ⊥
 
--- the bricks after one of them was to start: it did, or no brick has changed
-abbrev pub ShowsAfterStart : Layout → BrickId → World → List Brick → Bool → Type 0
-ShowsAfterStart layout brick w bricks true =
-    ShowsBricks layout bricks (machine.put w.nodes brick.0 (machine.restarted 1 (w.nodes brick.0)))
-    (machine.put w.up brick.0 true) w.clocks
-ShowsAfterStart layout brick w bricks false = ShowsBricks layout bricks w.nodes w.up w.clocks
+-- or a call was befallen in the midst of that, and the brick is down
+pub record TookPart (layout : Layout) (me : BrickId) (state : machine.Node) (packet : Packet) (disk : MemDisk) (fault : Option Fault)
+    (power : Power) : Type 0 where
+  pub reached : IsReached layout me state packet disk (plan_of fault)
+  pub off : ShowsPower layout me (machine.stopped state) (machine.stopped (machine.absorbed (coding layout) me state packet)) false power
+  pub left : IsLeft layout me (machine.stopped state) (machine.stopped (machine.absorbed (coding layout) me state packet)) fault (disk_in power)
 
--- a brick started exactly where it may
-pub record ShowsStarted (layout : Layout) (brick : BrickId) (w : World) (bricks : List Brick) (started : Bool) : Type 0 where
-  pub may : started ≡ may_start layout w brick 1
-  pub after : ShowsAfterStart layout brick w bricks started
+-- or memory was refused, and nothing has changed
+abbrev pub Takes : Layout → BrickId → machine.Node → ℕ → Packet → MemDisk → Option Fault → Power → Result (Option Sent) NoMem → Type 0
+Takes layout me state time packet disk fault power (Ok (Some outs)) = TookWhole layout me state time packet disk fault power outs
+Takes layout me state time packet disk fault power (Ok None) = TookPart layout me state packet disk fault power
+Takes layout me state time packet disk fault power (Err refused) = (after : machine.Node) → ShowsPower layout me state after true power
+
+-- A brick that was down was started, with what its disk was found to hold.
+pub record WasStarted (layout : Layout) (me : BrickId) (state after : machine.Node) (disk : MemDisk) (fault : Option Fault) (power : Power) : Type 0 where
+  pub finds : Finds layout me state after disk
+  pub may : machine.may_open (finds.openings + 1) state ≡ true
+  pub spared : IsReachedOpening layout me disk (plan_of fault) → ⊥
+  pub on : (other : machine.Node) → ShowsPower layout me (machine.restarted (finds.openings + 1) (found_of state after finds.found)) other true power
+
+-- or its store can't be opened once more
+pub record IsWorn (layout : Layout) (me : BrickId) (state after : machine.Node) (disk : MemDisk) (power : Power) : Type 0 where
+  pub finds : Finds layout me state after disk
+  pub may : machine.may_open (finds.openings + 1) state ≡ false
+  pub off : ShowsPower layout me state after false power
+
+-- or a call was befallen in the midst of that
+pub record WasCutShort (layout : Layout) (me : BrickId) (state after : machine.Node) (disk : MemDisk) (fault : Option Fault) (power : Power) : Type 0 where
+  pub finds : Finds layout me state after disk
+  pub reached : IsReachedOpening layout me disk (plan_of fault)
+  pub off : ShowsPower layout me state after false power
+  pub left : IsLeft layout me state after fault (disk_in power)
+
+-- or memory was refused
+abbrev pub TurnsOn : Layout → BrickId → machine.Node → machine.Node → MemDisk → Option Fault → Power → Result Bool NoMem → Type 0
+TurnsOn layout me state after disk fault power (Ok true) = WasStarted layout me state after disk fault power
+TurnsOn layout me state after disk fault power (Ok false) =
+    IsWorn layout me state after disk power ⊎ WasCutShort layout me state after disk fault power
+TurnsOn layout me state after disk fault power (Err refused) = ShowsPower layout me state after false power
+
+-- The bricks after one that is up was handed a message: it took it whole, or a call was befallen in the midst of that and it is down, or
+-- memory was refused.
+pub record HandledWhole (layout : Layout) (w : World) (number : BrickId) (packet : Packet) (fault : Option Fault) (old new : List Brick) (outs : Sent) : Type 0 where
+  pub packets : packets_from number outs.messages ≡ (machine.received (coding layout) number (w.clocks number.0) (w.nodes number.0) packet).packets
+  pub told : outs.told ≡ (machine.received (coding layout) number (w.clocks number.0) (w.nodes number.0) packet).told
+  pub answers : outs.answers ≡ (machine.received (coding layout) number (w.clocks number.0) (w.nodes number.0) packet).answers
+  pub bricks : ShowsBricks layout new
+      (machine.put w.nodes number.0 (machine.received (coding layout) number (w.clocks number.0) (w.nodes number.0) packet).node) w.after w.up w.clocks
+  pub spared : (disk : MemDisk) → slice_get (disks_of old) number.0 ≡ Some disk
+      → IsReached layout number (w.nodes number.0) packet disk (plan_of fault) → ⊥
+
+pub record HandledPart (layout : Layout) (w : World) (number : BrickId) (packet : Packet) (fault : Option Fault) (old new : List Brick) : Type 0 where
+  pub disk : MemDisk
+  pub disk_is : slice_get (disks_of old) number.0 ≡ Some disk
+  pub reached : IsReached layout number (w.nodes number.0) packet disk (plan_of fault)
+  pub bricks : ShowsBricks layout new (machine.put w.nodes number.0 (machine.stopped (w.nodes number.0)))
+      (machine.put w.after number.0 (machine.stopped (machine.absorbed (coding layout) number (w.nodes number.0) packet)))
+      (machine.put w.up number.0 false) w.clocks
+  pub left : (one : MemDisk) → slice_get (disks_of new) number.0 ≡ Some one → IsLeft layout number (machine.stopped (w.nodes number.0))
+      (machine.stopped (machine.absorbed (coding layout) number (w.nodes number.0) packet)) fault one
+
+abbrev pub HandledAs : Layout → World → BrickId → Packet → Option Fault → List Brick → List Brick → Result (Option Sent) NoMem → Type 0
+HandledAs layout w number packet fault old new (Ok (Some outs)) = HandledWhole layout w number packet fault old new outs
+HandledAs layout w number packet fault old new (Ok None) = HandledPart layout w number packet fault old new
+HandledAs layout w number packet fault old new (Err refused) = ShowsBricks layout new w.nodes w.after w.up w.clocks
 
 -- The history tells the machine's world: every message, every mark, each operation, and the numbers of the
 -- calls so far of each brick's present boot.
@@ -173,7 +237,7 @@ pub record Tells (history : History) (w : World) : Type 0 where
 
 -- The state shows the machine's world.
 pub record Shows (layout : Layout) (state : Simulation) (w : World) : Type 0 where
-  pub bricks : ShowsBricks layout state.bricks.items w.nodes w.up w.clocks
+  pub bricks : ShowsBricks layout state.bricks.items w.nodes w.after w.up w.clocks
   pub history : Tells state.history w
 
 -- there is room for what one step of a brick adds
@@ -206,3 +270,22 @@ AreAnswered node answers = AllByRecursion (λ one. IsOfCall node one.seq) answer
 abbrev pub came_to : Setting → World → List Event → Outcome
 came_to setting w [] = Marks
 came_to setting w (event ∷ events) = outcome_of setting w event
+
+-- The start of a brick is these events, after which the bricks show the machine's; and whether it started is what they come to. The history
+-- tells of none of it.
+pub record StartsAs (layout : Layout) (w : World) (brick : BrickId) (fault : Option Fault) (old new : List Brick) (started : Bool)
+    (events : List Event) : Type 0 where
+  pub are : IsStartOf layout w (disks_of old) (disks_of new) brick fault events
+  pub bricks : ShowsBricks layout new (run (coding layout) events w).nodes (run (coding layout) events w).after (run (coding layout) events w).up
+      (run (coding layout) events w).clocks
+  pub comes : (if started then Marks else Idle) ≡ came_to (coding layout) w events
+  pub tells : (history : History) → Tells history w → Tells history (run (coding layout) events w)
+  pub kept : (next : List MemDisk) → KeepsOthers (Some brick) (disks_of old) next → KeepsDisks (coding layout) w events (disks_of old) next
+
+-- A line came to this outcome, and is these events: the state shows the world after them, and no disk has changed but theirs.
+pub record ComesTo (layout : Layout) (w : World) (disks : List MemDisk) (state : Simulation) (line : Line) (outcome : Outcome)
+    (events : List Event) : Type 0 where
+  pub are : IsEventsOf layout w disks (disks_of state.bricks.items) line events
+  pub shows : Shows layout state (run (coding layout) events w)
+  pub comes : outcome ≡ came_to (coding layout) w events
+  pub kept : KeepsDisks (coding layout) w events disks (disks_of state.bricks.items)

@@ -9,9 +9,12 @@ use Rattle.stripe_code.specs.Codes.{coding}
 use Rattle.fab_base.specs.Layouts.{Group, group_of}
 use Rattle.protocol.specs.Nodes.{view_at}
 use Rattle.protocol.specs.Worlds.{is_up}
-use Rattle.world.specs.Runs.{Run, Step, IsEventsOf, world_of, brick_of}
+use Rattle.world.specs.Runs.{Run, Step, world_of, brick_of}
+use Rattle.world.specs.Faults.{IsEventsOf}
 use Rattle.world.specs.Disks.{KeepsDisks}
 use Rattle.world.specs.Texts.{text_of}
+use Rattle.world.specs.Shown.{came_to}
+use Rattle.world.specs.declared.simulations.Outcome.{Outcome}
 use Rattle.world.specs.declared.worlds.StepFault.{StepFault}
 use Rattle.world.specs.declared.worlds.StepFault.TheVariants.{BadLine, NoMemory}
 
@@ -19,12 +22,18 @@ use Rattle.world.specs.declared.worlds.StepFault.TheVariants.{BadLine, NoMemory}
 abbrev pub with_step : Run → Step → List MemDisk → Run
 with_step r step disks = record { layout = r.layout; steps = r.steps ++ step ∷ []; disks = disks }
 
--- A step of this line was run: its events are the line's, and no disk has changed but those of the bricks that they are events of.
+-- A step of this line was run: its events are such as the line is over these disks, and no disk has changed but those of the bricks that they are events of.
 pub record Runs (old new : Run) (line : Line) (step : Step) : Type 0 where
   pub line_is : step.line ≡ line
-  pub events_are : IsEventsOf line step.events
+  pub events_are : IsEventsOf old.layout (world_of old) old.disks new.disks line step.events
   pub run : new ≡ with_step old step new.disks
   pub disks : KeepsDisks (coding old.layout) (world_of old) step.events old.disks new.disks
+
+-- a step of this line was run, and came to this
+pub record RunsTo (old new : Run) (line : Line) (outcome : Outcome) : Type 0 where
+  pub step : Step
+  pub runs : Runs old new line step
+  pub comes : outcome ≡ came_to (coding old.layout) (world_of old) step.events
 
 -- the line that the content says was run, and the text is what it prints
 pub record Ran (old new : Run) (content text : List ℕ) : Type 0 where

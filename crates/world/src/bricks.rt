@@ -1,22 +1,26 @@
 //! The bricks of a world: each is a disk in memory, and the brick that runs over it while it is up.
 
-ghost use Rattle.std.specs.Prelude.{◌≡◌, ◌≢◌, ◌+◌, ◌^◌, ◌<◌, ◌≤◌, ◌⊎◌, true, false, Some, Ok, Err, IfOk, OnErr, vec_len, length, map};
+ghost use Rattle.std.specs.Prelude.{◌≡◌, ◌≢◌, ◌+◌, ◌^◌, ◌<◌, ◌≤◌, true, false, List, Some, Err, IfOk, IfSome, OnErr, vec_len, length, map};
 ghost use Rattle.std.specs.Option.{SomeIff};
 ghost use Rattle.protocol.specs.Nodes as machine;
-ghost use Rattle.protocol.specs.Nodes.{first_node, is_stripe_op, refusal_of, invoked, received, ticked, stopped};
+ghost use Rattle.protocol.specs.Nodes.{first_node, is_stripe_op, refusal_of, invoked, ticked, stopped};
 ghost use Rattle.protocol.specs.Nodes.{put as changed};
-ghost use Rattle.protocol.specs.Worlds.{World, first_world};
+ghost use Rattle.protocol.specs.Worlds.{World, Event, first_world};
 ghost use Rattle.stripe_code.specs.Codes.{coding};
 ghost use Rattle.coord_phase.specs.Messages.{packets_from};
-ghost use Rattle.fab_disk.specs.MemDisk.{content_of};
+ghost use Rattle.fab_disk.specs.MemDisk.{content_of, may_be_left, IsSound};
+ghost use Rattle.brick_store.specs.Images.{IsListed};
 ghost use Rattle.node.specs.Faults.{RefusesAs};
-ghost use Rattle.world.specs.Disks.{KeepsOthers};
-ghost use Rattle.world.specs.Shown.{Rests, ShowsBrick, ShowsBricks, ShowsStarted, TurnsOn, FindsUp, IsUp, AreNodesOf, disk_in, disks_of, unopened};
+ghost use Rattle.node.specs.Running.{shape_at};
+ghost use Rattle.world.specs.Faults.{LeftBy, plan_of};
+ghost use Rattle.world.specs.Disks.{ShowsDisk, KeepsOthers};
+ghost use Rattle.world.specs.Shown.{Rests, IsRunning, ShowsBrick, ShowsBricks, StartsAs, Takes, HandledAs, TurnsOn, FindsUp, IsUp, AreNodesOf, disk_in, disks_of, unopened};
 
 use brick_store::StoreFault;
 use fab_base::{Ask, BrickId, NoMem};
-use fab_disk::{MemDisk, Plan};
+use fab_disk::{Armed, MemDisk, Plan};
 use layout::Layout;
+use lines::Fault;
 use messages::{Messages, Packet};
 use node::{Begun, Node, NodeFault, Outs};
 use std::alloc::Global;
@@ -38,16 +42,80 @@ pub struct Brick {
     pub clock: u64,
 }
 
-impl Power {
-    ghost use Rattle.std.specs.Prelude.{◌≡◌, false, OnErr};
-    ghost use Rattle.fab_disk.specs.MemDisk.{content_of};
-    ghost use Rattle.protocol.specs.Nodes.{stopped};
-    ghost use Rattle.world.specs.Shown.{ShowsPower, IsNodeOf, TurnsOn, disk_in};
+/// What is to befall a call of a disk.
+fn plan_of(fault: Option<Fault>) -> Plan
+    ensures { result ≡ plan_of fault }
+{
+    match fault {
+        None => Plan::Never,
+        Some(Fault::Cut { call, pick: _ }) => Plan::Stop(call),
+        Some(Fault::Fail { call }) => Plan::Fail(call),
+    }
+}
 
-    /// What is left where the brick stops.
+/// What is left of a disk whose call this befell.
+fn left_by(disk: MemDisk, fault: Option<Fault>) -> MemDisk
+    ensures left { LeftBy fault disk result }
+    ensures crash { (image : _) → may_be_left result image → may_be_left disk image }
+    ensures sound { IsSound disk → IsSound result }
+{
+    let mut disk = disk;
+    if let Some(Fault::Cut { call: _, pick }) = fault {
+        disk.settle(pick);
+    }
+    disk
+}
+
+/// Looks at a brick that runs: how much its store lists is told by what its disk holds.
+fn look(node: &Node<MemDisk>)
+    ensures shape { node.now.brick.shape ≡ shape_at node.now.layout node.now.me }
+    ensures listed { node.now.brick.halted ≡ false → IsListed node.now.brick.shape node.now.brick.listed (content_of node.now.brick.disk) }
+{
+    let _ = node.is_halted();
+    let _ = node.store().is_halted();
+}
+
+/// A brick that runs is handed a message, and this is to befall a call of its disk in the midst of that. Answers what the brick is then, and
+/// what it sends where it took the message whole.
+fn take_message(
+    node: Node<MemDisk>,
+    time: u64,
+    packet: &Packet,
+    fault: Option<Fault>,
+) -> (Power, Result<Option<Outs>, NoMem>)
+    requires { node.brick.halted ≡ false }
+    ensures takes { (layout : _) (me : _) (state : machine.Node) → IsRunning layout me state node
+        → Takes layout me state time packet.now node.brick.disk fault result.0 result.1 }
+    ensures few { IfOk result.1 (λ outs. IfSome outs (λ sent. length sent.messages ≤ 32)) }
+    ensures content { OnErr result.1 (content_of (disk_in result.0) ≡ content_of node.brick.disk) }
+{
+    let mut node = node;
+    node.arm(plan_of(fault));
+    look(&node);
+    match node.on_message(time, packet) {
+        Ok(outs) => {
+            // What was synced need not be undone any more: the disk lets go of it.
+            node.arm(Plan::Never);
+            (Power::Up(node), Ok(Some(outs)))
+        }
+        Err(NodeFault::Disk) => (Power::Down(left_by(node.into_disk(), fault)), Ok(None)),
+        Err(NodeFault::NoMemory) => {
+            node.arm(Plan::Never);
+            (Power::Up(node), Err(NoMem::NoMemory))
+        }
+        Err(NodeFault::Halted | NodeFault::Refused(_)) => unreachable!(),
+    }
+}
+
+impl Power {
+    ghost use Rattle.std.specs.Prelude.{◌≡◌, true, false};
+    ghost use Rattle.protocol.specs.Nodes.{stopped};
+    ghost use Rattle.world.specs.Shown.{ShowsPower, disk_in};
+
+    /// What is left where a brick that is up stops.
     pub fn off(self) -> Power
-        ensures shows { (layout : _) (me : _) (state : _) (up : _) → ShowsPower layout me state up self
-            → ShowsPower layout me (stopped state) false result }
+        ensures shows { (layout : _) (me : _) (state : _) (after : _) → ShowsPower layout me state after true self
+            → ShowsPower layout me (stopped state) (stopped state) false result }
         ensures disk { disk_in result ≡ disk_in self }
     {
         match self {
@@ -55,58 +123,65 @@ impl Power {
             Power::Down(disk) => Power::Down(disk),
         }
     }
-
-    /// Starts the brick over its disk, where it is down and its store can be opened once more. Answers
-    /// whether it did. The brick shows what it showed where it did not, and where memory is refused.
-    pub fn on(self, alloc: Global, layout: &Layout, me: BrickId) -> (Power, Result<bool, NoMem>)
-        requires { IsNodeOf layout.now me.0 self }
-        ensures turns { (state : _) (up : _) → ShowsPower layout.now me state up self → TurnsOn layout.now me state up result.0 result.1 }
-        ensures content { OnErr result.1 (content_of (disk_in result.0) ≡ content_of (disk_in self)) }
-    {
-        match self {
-            Power::Up(node) => (Power::Up(node), Ok(false)),
-            Power::Down(disk) => start_over(alloc, layout, me, disk),
-        }
-    }
 }
 
-// Starts a brick that is down over its disk.
+/// Starts a brick that is down over its disk, where its store can be opened once more, and this is to befall a call of its disk in the midst of
+/// that. Answers whether it did.
 fn start_over(
     alloc: Global,
     layout: &Layout,
     me: BrickId,
     disk: MemDisk,
+    fault: Option<Fault>,
 ) -> (Power, Result<bool, NoMem>)
-    requires { (state : machine.Node) × Rests layout.now me state disk }
-    ensures turns { (state : machine.Node) → Rests layout.now me state disk → TurnsOn layout.now me state false result.0 result.1 }
+    requires { (state : machine.Node) × (after : machine.Node) × Rests layout.now me state after disk }
+    ensures turns { (state after : machine.Node) → Rests layout.now me state after disk
+        → TurnsOn layout.now me state after disk fault result.0 result.1 }
     ensures content { OnErr result.1 (content_of (disk_in result.0) ≡ content_of disk) }
 {
-    let layout = match layout.copy(alloc) {
-        Ok(layout) => layout,
-        Err(refused) => return (Power::Down(disk), Err(refused)),
-    };
-    match Node::start(alloc, layout, me, disk) {
-        Ok(node) => (Power::Up(node), Ok(true)),
-        Err((fault, disk)) => (Power::Down(disk), refused(fault)),
+    match layout.copy(alloc) {
+        Ok(layout) => open_over(alloc, layout, me, disk, fault),
+        Err(refused) => (Power::Down(disk), Err(refused)),
     }
 }
 
-// What the start of a brick answers whose store was not opened.
-fn refused(fault: StoreFault) -> Result<bool, NoMem>
-    requires { (fault ≡ StoreFault.Worn) ⊎ (fault ≡ StoreFault.NoMemory) }
-    ensures { ((fault ≡ StoreFault.Worn) × (result ≡ Ok false)) ⊎ ((fault ≡ StoreFault.NoMemory) × (result ≡ Err NoMem.NoMemory)) }
+// The same, with a layout of its own.
+fn open_over(
+    alloc: Global,
+    layout: Layout,
+    me: BrickId,
+    disk: MemDisk,
+    fault: Option<Fault>,
+) -> (Power, Result<bool, NoMem>)
+    requires { (state : machine.Node) × (after : machine.Node) × Rests layout me state after disk }
+    ensures turns { (state after : machine.Node) → Rests layout me state after disk → TurnsOn layout me state after disk fault result.0 result.1 }
+    ensures content { OnErr result.1 (content_of (disk_in result.0) ≡ content_of disk) }
 {
-    match fault {
-        StoreFault::Worn => Ok(false),
-        StoreFault::NoMemory => Err(NoMem::NoMemory),
-        StoreFault::Disk | StoreFault::NotAStore | StoreFault::Halted | StoreFault::Full { .. } =>
-            unreachable!(),
+    let mut disk = disk;
+    disk.arm(plan_of(fault));
+    match Node::start(alloc, layout, me, disk) {
+        Ok(mut node) => {
+            node.arm(Plan::Never);
+            (Power::Up(node), Ok(true))
+        }
+        Err((StoreFault::Disk, left)) => (Power::Down(left_by(left, fault)), Ok(false)),
+        Err((StoreFault::Worn, mut left)) => {
+            left.arm(Plan::Never);
+            (Power::Down(left), Ok(false))
+        }
+        Err((StoreFault::NoMemory, mut left)) => {
+            left.arm(Plan::Never);
+            (Power::Down(left), Err(NoMem::NoMemory))
+        }
+        Err((StoreFault::NotAStore | StoreFault::Halted | StoreFault::Full { .. }, _)) => {
+            unreachable!()
+        }
     }
 }
 
 /// A disk with a store that was made for a brick, and not opened yet.
 fn fresh_disk(alloc: Global, layout: &Layout, me: BrickId) -> Result<MemDisk, NoMem>
-    ensures { IfOk result (λ disk. Rests layout.now me (unopened layout.now) disk) }
+    ensures { IfOk result (λ disk. ShowsDisk layout.now me (unopened layout.now) disk × IsSound disk) }
 {
     let mut disk = MemDisk::new(alloc, Vec::new(alloc));
     match brick_store::format(alloc, &mut disk, me, layout.block(), layout.records()) {
@@ -124,10 +199,10 @@ fn fresh_disk(alloc: Global, layout: &Layout, me: BrickId) -> Result<MemDisk, No
 
 /// A brick that is up, its store fresh and its clock at 0.
 fn fresh_brick(alloc: Global, layout: &Layout, me: BrickId) -> Result<Brick, NoMem>
-    ensures { IfOk result (λ brick. ShowsBrick layout.now me.0 brick (first_node layout.now) true 0) }
+    ensures { IfOk result (λ brick. ShowsBrick layout.now me.0 brick (first_node layout.now) (first_node layout.now) true 0) }
 {
     let disk = fresh_disk(alloc, layout, me)?;
-    let (power, started) = start_over(alloc, layout, me, disk);
+    let (power, started) = start_over(alloc, layout, me, disk, None);
     with_clock(power, started)
 }
 
@@ -143,7 +218,7 @@ fn with_clock(power: Power, started: Result<bool, NoMem>) -> Result<Brick, NoMem
 
 /// All bricks of a layout, their stores fresh, their clocks at 0.
 pub fn fresh_bricks(alloc: Global, layout: &Layout) -> Result<Vec<Brick>, NoMem>
-    ensures { IfOk result (λ bricks. ShowsBricks layout.now bricks.items (first_world layout.now).nodes (first_world layout.now).up
+    ensures { IfOk result (λ bricks. ShowsBricks layout.now bricks.items (first_world layout.now).nodes (first_world layout.now).after (first_world layout.now).up
         (first_world layout.now).clocks) }
 {
     let mut bricks = Vec::new(alloc);
@@ -171,7 +246,7 @@ pub fn find_up(bricks: &[Brick], layout: &Layout, number: u64) -> Option<BrickId
 /// The number of the next call of a brick that is up. None where no number is left.
 pub fn next_of(bricks: &[Brick], number: BrickId) -> Option<u64>
     requires { (layout : _) × IsUp layout bricks.now number }
-    ensures { (layout : _) (w : World) → ShowsBricks layout bricks.now w.nodes w.up w.clocks
+    ensures { (layout : _) (w : World) → ShowsBricks layout bricks.now w.nodes w.after w.up w.clocks
         → SomeIff result ((w.nodes number.0).seq + 1 < 2 ^ 64) ((w.nodes number.0).seq + 1) }
 {
     match &bricks[number.0 as usize].power {
@@ -184,15 +259,15 @@ pub fn next_of(bricks: &[Brick], number: BrickId) -> Option<u64>
 pub fn ask_brick(bricks: &mut Vec<Brick>, number: BrickId, ask: &Ask) -> Result<Begun, NodeFault>
     requires brick { (layout : _) × IsUp layout bricks.old.items number }
     requires stripes { is_stripe_op ask.now.op ≡ true }
-    ensures refused { (layout : _) (w : World) → ShowsBricks layout bricks.old.items w.nodes w.up w.clocks
+    ensures refused { (layout : _) (w : World) → ShowsBricks layout bricks.old.items w.nodes w.after w.up w.clocks
         → RefusesAs result (refusal_of layout (w.nodes number.0) ask.now) }
-    ensures begun { IfOk result (λ begun. (layout : _) (w : World) → ShowsBricks layout bricks.old.items w.nodes w.up w.clocks
+    ensures begun { IfOk result (λ begun. (layout : _) (w : World) → ShowsBricks layout bricks.old.items w.nodes w.after w.up w.clocks
         → (let step = invoked (coding layout) number (w.clocks number.0) (w.nodes number.0) ask.now in
         (packets_from number begun.messages.items ≡ step.packets) × (begun.seq ≡ step.node.seq)
-        × ShowsBricks layout bricks.new.items (changed w.nodes number.0 step.node) w.up w.clocks)) }
+        × ShowsBricks layout bricks.new.items (changed w.nodes number.0 step.node) w.after w.up w.clocks)) }
     ensures few { IfOk result (λ begun. vec_len begun.messages ≤ 32) }
-    ensures err { OnErr result ((layout : _) (w : World) → ShowsBricks layout bricks.old.items w.nodes w.up w.clocks
-        → ShowsBricks layout bricks.new.items w.nodes w.up w.clocks) }
+    ensures err { OnErr result ((layout : _) (w : World) → ShowsBricks layout bricks.old.items w.nodes w.after w.up w.clocks
+        → ShowsBricks layout bricks.new.items w.nodes w.after w.up w.clocks) }
     ensures disks { disks_of bricks.new.items ≡ disks_of bricks.old.items }
     ensures not_halted { result ≢ Err NodeFault.Halted }
     ensures not_disk { result ≢ Err NodeFault.Disk }
@@ -204,29 +279,30 @@ pub fn ask_brick(bricks: &mut Vec<Brick>, number: BrickId, ask: &Ask) -> Result<
     }
 }
 
-/// A brick that is up is handed a message. After a refusal for want of memory no brick has changed.
-pub fn hand_over(bricks: &mut Vec<Brick>, number: BrickId, packet: &Packet) -> Result<Outs, NoMem>
+/// A brick that is up is handed a message, and this is to befall a call of its disk in the midst of that. None where it did: the brick is down.
+/// After a refusal for want of memory no brick has changed.
+pub fn hand_over(
+    bricks: &mut Vec<Brick>,
+    alloc: Global,
+    number: BrickId,
+    packet: &Packet,
+    fault: Option<Fault>,
+) -> Result<Option<Outs>, NoMem>
     requires { (layout : _) × IsUp layout bricks.old.items number }
-    ensures stepped { IfOk result (λ outs. (layout : _) (w : World) → ShowsBricks layout bricks.old.items w.nodes w.up w.clocks
-        → (let step = received (coding layout) number (w.clocks number.0) (w.nodes number.0) packet.now in
-        (packets_from number outs.messages ≡ step.packets) × (outs.told ≡ step.told) × (outs.answers ≡ step.answers)
-        × ShowsBricks layout bricks.new.items (changed w.nodes number.0 step.node) w.up w.clocks)) }
-    ensures few { IfOk result (λ outs. length outs.messages ≤ 32) }
-    ensures err { OnErr result ((layout : _) (w : World) → ShowsBricks layout bricks.old.items w.nodes w.up w.clocks
-        → ShowsBricks layout bricks.new.items w.nodes w.up w.clocks) }
+    ensures handled { (layout : _) (w : World) → ShowsBricks layout bricks.old.items w.nodes w.after w.up w.clocks
+        → HandledAs layout w number packet.now fault bricks.old.items bricks.new.items result }
+    ensures few { IfOk result (λ outs. IfSome outs (λ sent. length sent.messages ≤ 32)) }
     ensures others { KeepsOthers (Some number) (disks_of bricks.old.items) (disks_of bricks.new.items) }
     ensures contents { OnErr result (map content_of (disks_of bricks.new.items) ≡ map content_of (disks_of bricks.old.items)) }
 {
     let brick = &mut bricks[number.0 as usize];
-    match &mut brick.power {
-        Power::Up(node) => match node.on_message(brick.clock, packet) {
-            Ok(outs) => {
-                // What was synced need not be undone any more: the disk lets go of it.
-                node.arm(Plan::Never);
-                Ok(outs)
-            }
-            Err(fault) => Err(memory_refused(fault)),
-        },
+    let nothing = Power::Down(MemDisk::new(alloc, Vec::new(alloc)));
+    match mem::replace(&mut brick.power, nothing) {
+        Power::Up(node) => {
+            let (power, taken) = take_message(node, brick.clock, packet, fault);
+            brick.power = power;
+            taken
+        }
         Power::Down(_) => unreachable!(),
     }
 }
@@ -244,7 +320,7 @@ fn memory_refused(fault: NodeFault) -> NoMem
 /// What a brick that is up sends at a tick of its clock.
 pub fn tick_brick(bricks: &[Brick], number: BrickId) -> Result<Messages, NoMem>
     requires { (layout : _) × IsUp layout bricks.now number }
-    ensures { IfOk result (λ messages. (layout : _) (w : World) → ShowsBricks layout bricks.now w.nodes w.up w.clocks
+    ensures { IfOk result (λ messages. (layout : _) (w : World) → ShowsBricks layout bricks.now w.nodes w.after w.up w.clocks
         → packets_from number messages.items ≡ ticked (coding layout) number (w.nodes number.0)) }
 {
     match &bricks[number.0 as usize].power {
@@ -259,8 +335,9 @@ pub fn tick_brick(bricks: &[Brick], number: BrickId) -> Result<Messages, NoMem>
 /// A brick stops: its disk is all that is left of it.
 pub fn stop_brick(bricks: &mut Vec<Brick>, alloc: Global, number: BrickId)
     requires { number.0 < vec_len bricks.old }
-    ensures shows { (layout : _) (w : World) → ShowsBricks layout bricks.old.items w.nodes w.up w.clocks
-        → ShowsBricks layout bricks.new.items (changed w.nodes number.0 (stopped (w.nodes number.0))) (changed w.up number.0 false) w.clocks }
+    ensures shows { (layout : _) (w : World) → ShowsBricks layout bricks.old.items w.nodes w.after w.up w.clocks
+        → w.up number.0 ≡ true → ShowsBricks layout bricks.new.items (changed w.nodes number.0 (stopped (w.nodes number.0)))
+        (changed w.after number.0 (stopped (w.nodes number.0))) (changed w.up number.0 false) w.clocks }
     ensures disks { disks_of bricks.new.items ≡ disks_of bricks.old.items }
 {
     let brick = &mut bricks[number.0 as usize];
@@ -269,26 +346,35 @@ pub fn stop_brick(bricks: &mut Vec<Brick>, alloc: Global, number: BrickId)
     brick.power = power.off();
 }
 
-/// Starts a brick, where it is down and its store can be opened once more. Answers whether it did; the bricks
-/// show what they showed where it did not, and where memory is refused.
+/// Starts a brick, where it is down and its store can be opened once more, and this is to befall a call of its disk in the midst of that. Answers
+/// whether it did. Where memory is refused no brick has changed.
 pub fn start_brick(
     bricks: &mut Vec<Brick>,
     alloc: Global,
     layout: &Layout,
     number: BrickId,
+    fault: Option<Fault>,
 ) -> Result<bool, NoMem>
     requires nodes { AreNodesOf layout.now bricks.old.items }
     requires brick { number.0 < vec_len bricks.old }
-    ensures started { IfOk result (λ started. (w : World) → ShowsBricks layout.now bricks.old.items w.nodes w.up w.clocks
-        → ShowsStarted layout.now number w bricks.new.items started) }
-    ensures err { OnErr result ((w : World) → ShowsBricks layout.now bricks.old.items w.nodes w.up w.clocks
-        → ShowsBricks layout.now bricks.new.items w.nodes w.up w.clocks) }
+    ensures started { IfOk result (λ started. (w : World) → ShowsBricks layout.now bricks.old.items w.nodes w.after w.up w.clocks
+        → (events : List Event) × StartsAs layout.now w number fault bricks.old.items bricks.new.items started events) }
+    ensures err { OnErr result ((w : World) → ShowsBricks layout.now bricks.old.items w.nodes w.after w.up w.clocks
+        → ShowsBricks layout.now bricks.new.items w.nodes w.after w.up w.clocks) }
     ensures others { KeepsOthers (Some number) (disks_of bricks.old.items) (disks_of bricks.new.items) }
     ensures contents { OnErr result (map content_of (disks_of bricks.new.items) ≡ map content_of (disks_of bricks.old.items)) }
 {
     let brick = &mut bricks[number.0 as usize];
     let nothing = Power::Down(MemDisk::new(alloc, Vec::new(alloc)));
-    let (power, started) = mem::replace(&mut brick.power, nothing).on(alloc, layout, number);
-    brick.power = power;
-    started
+    match mem::replace(&mut brick.power, nothing) {
+        Power::Up(node) => {
+            brick.power = Power::Up(node);
+            Ok(false)
+        }
+        Power::Down(disk) => {
+            let (power, started) = start_over(alloc, layout, number, disk, fault);
+            brick.power = power;
+            started
+        }
+    }
 }

@@ -12,7 +12,7 @@ use crate::bricks::{
 use crate::histories::{History, packet_at};
 use fab_base::{Ask, BrickId, GroupId, NoMem, Op, Refusal, StripeNo};
 use layout::Layout;
-use lines::{Access, Line};
+use lines::{Access, Fault, Line};
 use node::NodeFault;
 use std::alloc::Global;
 
@@ -63,17 +63,16 @@ fn op_of(alloc: Global, access: &Access) -> Result<Op, NoMem>
 }
 
 impl Simulation {
-    ghost use Rattle.std.specs.Prelude.{◌≡◌, ◌<◌, ◌≤◌, true, Some, None, map, vec_len, IfOk, OnOk, OnErr};
+    ghost use Rattle.std.specs.Prelude.{◌≡◌, true, List, None, map, vec_len, IfOk, OnOk, OnErr};
     ghost use Rattle.fab_disk.specs.MemDisk.{content_of};
     ghost use Rattle.protocol.specs.Nodes.{is_stripe_op};
-    ghost use Rattle.protocol.specs.Worlds.{World, first_world, happens, is_brick, is_up, may_start, packet_of, run};
-    ghost use Rattle.protocol.specs.Worlds.Event.{Invokes, Delivers, Sets, Ticks, Stops, Starts};
-    ghost use Rattle.protocol.specs.Worlds.Found.{Before};
+    ghost use Rattle.protocol.specs.Worlds.{World, Event, first_world, happens, is_brick, is_up};
+    ghost use Rattle.protocol.specs.Worlds.Event.{Invokes, Sets, Ticks, Stops};
+    ghost use Rattle.lines.specs.declared.forms.Line.TheVariants.{Deliver, Start};
     ghost use Rattle.stripe_code.specs.Codes.{coding};
-    ghost use Rattle.world.specs.Runs.{brick_of, ask_of, op_of, refusal_at, events_of};
-    ghost use Rattle.world.specs.Disks.{KeepsDisks, KeepsOthers, changes_disk_of};
-    ghost use Rattle.world.specs.Shown.{AreNodesOf, Shows, IsUp, IsNumbered, disks_of, came_to};
-    ghost use Rattle.world.specs.Texts.{refused_or_begun, marks_if, is_deliverable};
+    ghost use Rattle.world.specs.Runs.{brick_of, ask_of, op_of, refusal_at};
+    ghost use Rattle.world.specs.Shown.{AreNodesOf, Shows, ComesTo, IsUp, IsNumbered, disks_of};
+    ghost use Rattle.world.specs.Texts.{refused_or_begun, marks_if};
 
     /// All bricks up, their stores fresh, their clocks at 0, and nothing sent.
     pub fn new(alloc: Global, layout: &Layout) -> Result<Simulation, NoMem>
@@ -89,12 +88,8 @@ impl Simulation {
     pub fn run(&mut self, alloc: Global, layout: &Layout, line: &Line) -> Result<Outcome, NoMem>
         requires nodes { AreNodesOf layout.now self.old.bricks.items }
         requires bricks { vec_len self.old.bricks ≡ layout.now.bricks }
-        ensures shows { OnOk result ((w : World) → IsNumbered w → Shows layout.now self.old w
-            → Shows layout.now self.new (run (coding layout.now) (events_of line.now) w)) }
-        ensures outcome { IfOk result (λ outcome. (w : World) → Shows layout.now self.old w
-            → outcome ≡ came_to (coding layout.now) w (events_of line.now)) }
-        ensures disks { OnOk result ((w : World) → Shows layout.now self.old w
-            → KeepsDisks (coding layout.now) w (events_of line.now) (disks_of self.old.bricks.items) (disks_of self.new.bricks.items)) }
+        ensures comes { IfOk result (λ outcome. (w : World) → IsNumbered w → Shows layout.now self.old w → (events : List Event)
+            × ComesTo layout.now w (disks_of self.old.bricks.items) self.new line.now outcome events) }
         ensures contents { OnErr result (map content_of (disks_of self.new.bricks.items) ≡ map content_of (disks_of self.old.bricks.items)) }
         ensures err { OnErr result ((w : World) → Shows layout.now self.old w → Shows layout.now self.new w) }
     {
@@ -106,11 +101,11 @@ impl Simulation {
                 stripe,
                 access,
             } => self.invoke(alloc, layout, *brick, *group, *stripe, access),
-            Line::Deliver { message } => self.deliver(layout, *message),
+            Line::Deliver { message, fault } => self.deliver(alloc, layout, *message, *fault),
             Line::SetClock { brick, time } => Ok(self.set_clock(layout, *brick, *time)),
             Line::Tick { brick } => self.tick(layout, *brick),
             Line::Crash { brick } => self.crash(alloc, layout, *brick),
-            Line::Start { brick } => self.start(alloc, layout, *brick),
+            Line::Start { brick, fault } => self.start(alloc, layout, *brick, *fault),
         }
     }
 
@@ -169,18 +164,20 @@ impl Simulation {
         }
     }
 
-    /// Delivers the message of a number.
-    fn deliver(&mut self, layout: &Layout, message: u64) -> Result<Outcome, NoMem>
+    /// Delivers the message of a number, and this is to befall a call of its receiver's disk in the midst of that.
+    fn deliver(
+        &mut self,
+        alloc: Global,
+        layout: &Layout,
+        message: u64,
+        fault: Option<Fault>,
+    ) -> Result<Outcome, NoMem>
         requires nodes { AreNodesOf layout.now self.old.bricks.items }
         requires bricks { vec_len self.old.bricks ≡ layout.now.bricks }
-        ensures shows { OnOk result ((w : World) → IsNumbered w → Shows layout.now self.old w
-            → Shows layout.now self.new (happens (coding layout.now) w (Delivers message))) }
-        ensures outcome { IfOk result (λ outcome. (w : World) → Shows layout.now self.old w
-            → outcome ≡ marks_if (is_deliverable (coding layout.now) w (packet_of w.packets message))) }
-        ensures err { OnErr result ((w : World) → Shows layout.now self.old w → Shows layout.now self.new w) }
-        ensures disks { OnOk result ((w : World) → Shows layout.now self.old w
-            → KeepsOthers (changes_disk_of w (Delivers message)) (disks_of self.old.bricks.items) (disks_of self.new.bricks.items)) }
+        ensures comes { IfOk result (λ outcome. (w : World) → IsNumbered w → Shows layout.now self.old w → (events : List Event)
+            × ComesTo layout.now w (disks_of self.old.bricks.items) self.new (Deliver message fault) outcome events) }
         ensures contents { OnErr result (map content_of (disks_of self.new.bricks.items) ≡ map content_of (disks_of self.old.bricks.items)) }
+        ensures err { OnErr result ((w : World) → Shows layout.now self.old w → Shows layout.now self.new w) }
     {
         self.history.make_room()?;
         let packet = match packet_at(&self.history.sent, message) {
@@ -191,9 +188,16 @@ impl Simulation {
             Some(to) => to,
             None => return Ok(Outcome::Idle),
         };
-        let outs = hand_over(&mut self.bricks, to, packet)?;
-        self.history.step(to, outs);
-        Ok(Outcome::Marks)
+        match hand_over(&mut self.bricks, alloc, to, packet, fault)? {
+            Some(outs) => {
+                self.history.step(to, outs);
+                Ok(Outcome::Marks)
+            }
+            None => {
+                self.history.crash(to);
+                Ok(Outcome::Marks)
+            }
+        }
     }
 
     /// Sets a brick's clock.
@@ -254,23 +258,31 @@ impl Simulation {
         Ok(Outcome::Marks)
     }
 
-    /// A brick that stopped starts again, over its disk.
-    fn start(&mut self, alloc: Global, layout: &Layout, brick: u64) -> Result<Outcome, NoMem>
+    /// A brick that stopped starts again, over its disk, and this is to befall a call of that in the midst of it.
+    fn start(
+        &mut self,
+        alloc: Global,
+        layout: &Layout,
+        brick: u64,
+        fault: Option<Fault>,
+    ) -> Result<Outcome, NoMem>
         requires nodes { AreNodesOf layout.now self.old.bricks.items }
         requires bricks { vec_len self.old.bricks ≡ layout.now.bricks }
-        ensures shows { OnOk result ((w : World) → Shows layout.now self.old w
-            → Shows layout.now self.new (happens (coding layout.now) w (Starts (brick_of brick) 1 Before))) }
-        ensures outcome { IfOk result (λ outcome. (w : World) → Shows layout.now self.old w
-            → outcome ≡ marks_if (may_start layout.now w (brick_of brick) 1)) }
-        ensures err { OnErr result ((w : World) → Shows layout.now self.old w → Shows layout.now self.new w) }
-        ensures history { self.new.history ≡ self.old.history }
-        ensures disks { KeepsOthers (Some (brick_of brick)) (disks_of self.old.bricks.items) (disks_of self.new.bricks.items) }
+        ensures comes { IfOk result (λ outcome. (w : World) → Shows layout.now self.old w → (events : List Event)
+            × ComesTo layout.now w (disks_of self.old.bricks.items) self.new (Start brick fault) outcome events) }
         ensures contents { OnErr result (map content_of (disks_of self.new.bricks.items) ≡ map content_of (disks_of self.old.bricks.items)) }
+        ensures err { OnErr result ((w : World) → Shows layout.now self.old w → Shows layout.now self.new w) }
     {
         if brick >= u64::from(layout.bricks()) {
             return Ok(Outcome::Idle);
         }
-        if start_brick(&mut self.bricks, alloc, layout, BrickId(brick as u16))? {
+        if start_brick(
+            &mut self.bricks,
+            alloc,
+            layout,
+            BrickId(brick as u16),
+            fault,
+        )? {
             Ok(Outcome::Marks)
         } else {
             Ok(Outcome::Idle)

@@ -7,7 +7,7 @@ use crate::bricks::Power;
 use crate::simulations::{Outcome, Simulation};
 use crate::stripe_entries::StripeEntries;
 use crate::texts::{idle_text, marks_text, refusal_text};
-use crate::trails::Trail;
+use crate::trails::{Shelf, Trail};
 use crate::walks;
 use fab_base::{BrickId, Bytes, GroupId, NoMem, StripeNo};
 use layout::Layout;
@@ -85,10 +85,9 @@ impl World {
     ghost use Rattle.lines.specs.Grammar.{line_of};
     ghost use Rattle.stripe_code.specs.Codes.{coding};
     ghost use Rattle.protocol.specs.Happenings.{happenings_of};
-    ghost use Rattle.world.specs.Runs.{world_of, events_of};
+    ghost use Rattle.world.specs.Runs.{world_of};
     ghost use Rattle.world.specs.Disks.{ShowsDisks};
-    ghost use Rattle.world.specs.Shown.{came_to};
-    ghost use Rattle.world.specs.Steps.{Ran, Runs, IsAsBefore, Stands, log_at};
+    ghost use Rattle.world.specs.Steps.{Ran, RunsTo, IsAsBefore, Stands, log_at};
     ghost use Rattle.world.specs.Walks.{AreEntriesOf};
 
     /// All bricks up, their stores fresh, their clocks at 0, and nothing sent.
@@ -133,14 +132,21 @@ impl World {
 
     /// Runs a line.
     fn run(&mut self, line: &Line) -> Result<Outcome, NoMem>
-        ensures ok { OnOk result (Runs self.old self.new line.now (record { line = line.now; events = events_of line.now })) }
-        ensures outcome { IfOk result (λ outcome. outcome ≡ came_to (coding self.old.layout) (world_of self.old) (events_of line.now)) }
+        ensures ok { IfOk result (λ outcome. RunsTo self.old self.new line.now outcome) }
         ensures marks { OnOk result (length (world_of self.old).marks ≤ length (world_of self.new).marks) }
         ensures err { OnErr result (IsAsBefore self.old self.new) }
         ensures disks { ShowsDisks self.new }
     {
+        let shelf = Shelf::of(&self.simulation);
         let outcome = self.simulation.run(self.alloc, &self.layout, line)?;
-        self.trail = Trail::with(&self.trail, line);
+        self.trail = Trail::with(
+            &self.trail,
+            &shelf,
+            &self.layout,
+            line,
+            &outcome,
+            &self.simulation,
+        );
         Ok(outcome)
     }
 

@@ -1,17 +1,32 @@
 use Rattle.std.proofs.Common.{◌∙◌, sym, refl}
 use Rattle.lines.specs.Grammar.{deliver}
-use Rattle.lines.proofs.Arguments.{one_word, deliver_count}
+use Rattle.lines.proofs.Arguments.{deliver_none, first_and_rest}
 use Rattle.lines.proofs.forms.parse_deliver.Goals as goal
 
-pub returns-then-arguments-ne1 : goal.returns-then-arguments-ne1
-returns-then-arguments-ne1 c = deliver_count _ c.if-arguments-ne1.true
+pub returns-in_default : goal.returns-in_default
+returns-in_default c = deliver_none _ c.in_default.len_below
 
 pub returns-in_err-parse_number : goal.returns-in_err-parse_number
 unfolding deliver
 returns-in_err-parse_number c =
-    rw (one_word _ c.if-arguments-ne1.false, sym c.parse_number.ensures ∙ c.in_err-parse_number.was) c.from_residual.ensures
+    rw (first_and_rest _ c.in-len1-up.len_at_least, sym c.parse_number.ensures ∙ c.in_err-parse_number.was) c.from_residual.ensures
+
+pub returns-in_err-parse_fault : goal.returns-in_err-parse_fault
+unfolding deliver
+returns-in_err-parse_fault c =
+    rw (
+      first_and_rest _ c.in-len1-up.len_at_least,
+      sym c.parse_number.ensures ∙ c.in_ok-parse_number.was,
+      sym c.parse_fault.ensures ∙ c.in_err-parse_fault.was,
+    )
+    c.from_residual-in_err-parse_fault.ensures
 
 pub returns : goal.returns
 unfolding deliver
 returns c =
-    rw (one_word _ c.if-arguments-ne1.false, sym c.parse_number.ensures ∙ c.in_ok-parse_number.was) refl
+    rw (
+      first_and_rest _ c.in-len1-up.len_at_least,
+      sym c.parse_number.ensures ∙ c.in_ok-parse_number.was,
+      sym c.parse_fault.ensures ∙ c.in_ok-parse_fault.was,
+    )
+    refl

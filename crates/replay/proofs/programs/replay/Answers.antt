@@ -5,9 +5,10 @@ use Rattle.replay.specs.declared.endings.Verdict.{Verdict}
 use Rattle.replay.specs.declared.endings.Halt.{Halt}
 use Rattle.replay.specs.Outputs.{output_of}
 use Rattle.replay.specs.Turns.{Prints}
+use Rattle.replay.specs.Replays.{IsDecided}
 use Rattle.replay.proofs.Linearity.{linearizable, stays_strict}
 use Rattle.replay.proofs.OpenEnds.{reads_as_needed, failed_source}
-use Rattle.replay.proofs.Statuses.{of_write}
+use Rattle.replay.proofs.Statuses.{decided, of_write}
 use Rattle.replay.proofs.programs.replay.Goals as goal
 
 pub returns-then-is_run-clause-run : goal.returns-then-is_run-clause-run
@@ -15,6 +16,7 @@ returns-then-is_run-clause-run g c = λ _.
     let run = c.run.ensures.output in
     record {
       input = run.input;
+      steps = run.steps;
       ending = c.run.result;
       is_input = run.is_input;
       status_is = c.status_of.ensures;
@@ -22,11 +24,18 @@ returns-then-is_run-clause-run g c = λ _.
       reads_as_needed = reads_as_needed _ _ _ _ _ _ _ c.run.ensures.reads;
       failed_source = λ failed. failed_source _ _ _ _ _ _ _ c.run.ensures.reads failed;
       read = c.run.ensures.read;
-      linearizable = λ whole. linearizable run.input
+      linearizable = λ whole. linearizable run.input run.steps
           (subst (λ (r : Result Verdict Halt). Prints (g.K.Sink.told c.args.sink.now) (g.K.Sink.told c.run.new.sink)
-          (output_of run.input) r) whole run.printed).0;
+          (output_of run.steps run.input) r) whole run.printed).0 (run.whole whole);
       stays_strict = stays_strict run.input;
     }
+
+pub returns-then-is_run-clause-decided : goal.returns-then-is_run-clause-decided
+returns-then-is_run-clause-decided g c = λ asks source sink.
+    let run = c.run.ensures.output in
+    subst (λ (s : ℕ). IsDecided (g.S.Source.told c.args.source.now) s) (sym c.status_of.ensures)
+    (decided _ _ _ run.input run.steps c.run.result run.is_input run.printed (λ e. c.run.ensures.source.never source e)
+    (λ e. c.run.ensures.sink.never sink e))
 
 pub returns-in-Ok-clause-words : goal.returns-in-Ok-clause-words
 returns-in-Ok-clause-words g c = λ _.

@@ -1,4 +1,4 @@
-use Rattle.std.proofs.Common.{List, ℕ, Err, refl, sym, ap, ◌∙◌, subst}
+use Rattle.std.proofs.Common.{List, ℕ, codes, Err, refl, sym, ap, ◌∙◌, subst}
 use Rattle.std.proofs.KnownBytes.{Appends-nil}
 use Rattle.std.proofs.lemmas.Result.{err_from_is_err_and}
 use Rattle.replay.specs.declared.endings.Halt.{Halt}
@@ -27,13 +27,13 @@ pub returns-in-TooLong-clause-output : goal.returns-in-TooLong-clause-output
 returns-in-TooLong-clause-output g c =
     let head = rw c.in-TooLong.is at c.in_ok-text.ensures.head in
     PrintsInput-unread _ _ _ _ _ c.new-unread.ensures
-    (PrintsInput-refused _ _ _ _ _ _ head output_of-long (Prints-text _ _ _ _ _ _ c.as_slice-in-TooLong.ensures c.close.ensures.content))
+    (PrintsInput-refused _ _ _ _ (codes "limit layout") _ head output_of-long (Prints-text _ _ _ _ _ _ c.as_slice-in-TooLong.ensures c.close.ensures.content))
 
 pub returns-clause-output : goal.returns-clause-output
 returns-clause-output g c =
     let head = rw c.in-Endless.is at c.in_ok-text.ensures.head in
     PrintsInput-unread _ _ _ _ _ c.new-unread.ensures
-    (PrintsInput-refused _ _ _ _ _ _ head output_of-endless
+    (PrintsInput-refused _ _ _ _ (codes "end") _ head output_of-endless
     (Prints-text _ _ _ _ _ _ c.as_slice-in-Endless.ensures c.close-in-Endless.ensures.content))
 
 pub returns-in-Alone-clause-output : goal.returns-in-Alone-clause-output

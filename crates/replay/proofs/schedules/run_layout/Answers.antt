@@ -1,9 +1,8 @@
-use Rattle.std.proofs.Common.{◌≡◌, true, false, Err, refl, sym, ◌∙◌}
+use Rattle.std.proofs.Common.{◌≡◌, true, false, [], Err, refl, sym, ◌∙◌}
 use Rattle.std.proofs.lemmas.Result.{err_from_is_err_and}
 use Rattle.replay.proofs.OpenEnds.{ReadsPart-none, ReadsPart-schedule}
 use Rattle.replay.proofs.Rests.{PrintsRest-ended}
 use Rattle.layout.specs.Names.{fault_text}
-use Rattle.replay.specs.Outputs.{bad_layout}
 use Rattle.replay.specs.Turns.{PrintsHeaded}
 use Rattle.replay.proofs.Printing.{at_err, same_error, memory_alone}
 use Rattle.replay.proofs.Inputs.{output_of-text, PrintsHeaded-stopped, PrintsHeaded-refused, PrintsHeaded-lines}
@@ -15,20 +14,20 @@ returns-in_err-world-in-Ok-clause-output g c =
 
 pub returns-else-is_alone-clause-output : goal.returns-else-is_alone-clause-output
 returns-else-is_alone-clause-output g c =
-    PrintsHeaded-lines _ _ _ _ _ _ _ c.in-Ok.ensures.read c.in_ok-world-in-Ok.ensures.first c.run_lines.ensures.rest
+    PrintsHeaded-lines _ _ _ _ _ _ _ c.in-Ok.ensures.read c.in_ok-world-in-Ok.ensures.first c.in_ok-world-in-Ok.ensures.disks c.run_lines.ensures.rest
 
 pub returns-then-is_memory-clause-output : goal.returns-then-is_memory-clause-output
 returns-then-is_memory-clause-output g c = PrintsHeaded-stopped _ _ _ _
 
 pub returns-else-is_memory-clause-output : goal.returns-else-is_memory-clause-output
 returns-else-is_memory-clause-output g c =
-    PrintsHeaded-refused _ _ _ _ _ (bad_layout (fault_text c.in-Err.fault))
-    (λ schedule. output_of-text c.args.head.now schedule (Err c.in-Err.fault) (c.in-Err.ensures.refused (c.is_memory.ensures c.if-is_memory.false)))
+    PrintsHeaded-refused _ _ _ _ _ (fault_text c.in-Err.fault)
+    (λ schedule. output_of-text c.args.head.now [] schedule (Err c.in-Err.fault) (c.in-Err.ensures.refused (c.is_memory.ensures c.if-is_memory.false)))
     c.refuse_layout.ensures.content
 
 pub returns-then-is_alone-clause-output : goal.returns-then-is_alone-clause-output
 returns-then-is_alone-clause-output g c =
-    PrintsHeaded-lines _ _ _ _ _ _ _ c.in-Ok.ensures.read c.in_ok-world-in-Ok.ensures.first
+    PrintsHeaded-lines _ _ _ _ _ _ _ c.in-Ok.ensures.read c.in_ok-world-in-Ok.ensures.first c.in_ok-world-in-Ok.ensures.disks
     (PrintsRest-ended _ _ _ _ _ _ (c.requires c.if-is_alone.true) c.finish.ensures.content)
 
 pub returns-in_err-world-in-Ok-clause-reads : goal.returns-in_err-world-in-Ok-clause-reads
@@ -52,7 +51,7 @@ returns-then-is_alone-clause-read g c = λ _. c.requires c.if-is_alone.true
 
 pub returns-else-is_alone-clause-reads : goal.returns-else-is_alone-clause-reads
 returns-else-is_alone-clause-reads g c =
-    ReadsPart-schedule _ _ _ _ _ _ _ _ _ _ _ c.in-Ok.ensures.read c.in_ok-world-in-Ok.ensures.first c.run_lines.ensures.reads
+    ReadsPart-schedule _ _ _ _ _ _ _ _ _ _ _ c.in-Ok.ensures.read c.in_ok-world-in-Ok.ensures.first c.in_ok-world-in-Ok.ensures.disks c.run_lines.ensures.reads
 
 pub returns-else-is_alone-clause-alone : goal.returns-else-is_alone-clause-alone
 returns-else-is_alone-clause-alone g c = λ t. absurd (let never : false ≡ true = sym c.if-is_alone.false ∙ t in cc)

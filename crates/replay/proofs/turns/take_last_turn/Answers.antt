@@ -1,4 +1,4 @@
-use Rattle.replay.proofs.Printing.{Prints-text}
+use Rattle.replay.proofs.Printing.{Prints-text, many_not}
 use Rattle.replay.proofs.Rests.{PrintsRest-ended, PrintsRest-many}
 use Rattle.replay.proofs.turns.take_last_turn.Goals as goal
 
@@ -9,5 +9,5 @@ returns-in-Ended-clause-rest g c = λ left rest given.
 
 pub returns-clause-rest : goal.returns-clause-rest
 returns-clause-rest g c = λ left rest says.
-    PrintsRest-many _ _ _ _ _ _ _ says c.in_default.not-Ended
+    PrintsRest-many _ _ _ _ _ _ _ says (λ e. many_not _ _ _ _ c.close.ensures.content e) c.in_default.not-Ended
     (Prints-text _ _ _ _ _ _ c.as_slice.ensures c.close.ensures.content)

@@ -1,19 +1,20 @@
--- The brick runs over its disk.
-use Rattle.std.proofs.Common.{refl}
-use Rattle.world.proofs.BrickLemmas.{runs_over, not_started, rests_untouched}
+-- The copy of the layout is the layout.
+use Rattle.std.proofs.Common.{refl, sym, subst}
+use Rattle.fab_base.specs.Layouts.{Layout}
+use Rattle.world.specs.Shown.{Rests, TurnsOn}
 use Rattle.world.proofs.bricks.start_over.Goals as goal
 
-pub returns-in-Ok-start-clause-turns : goal.returns-in-Ok-start-clause-turns
-returns-in-Ok-start-clause-turns c state rests =
-    let made = c.in-Ok-start.ensures in
-    let run =
-    runs_over c.args.layout.now c.in-Ok.layout c.args.me c.args.disk c.in-Ok-start.node state c.in-Ok.ensures rests made.layout made.me made.runs
-    (made.state tt) (made.found tt) (made.durable tt) made.cause.stays in
-    (run.0, (refl, run.1))
+pub open_over-requires : goal.open_over-requires
+open_over-requires c = (
+  c.requires.0,
+  c.requires.1,
+  subst (λ (l : Layout). Rests l c.args.me c.requires.0 c.requires.1 c.args.disk) (sym c.in-Ok.ensures) c.requires.2,
+)
 
-pub returns-in-Err-start-clause-turns : goal.returns-in-Err-start-clause-turns
-returns-in-Err-start-clause-turns c state rests =
-    let made = c.in-Err-start.ensures in
-    not_started c.args.layout.now c.in-Ok.layout c.args.me c.args.disk c.in-Err-start.disk state c.in-Err-start.fault c.refused.result c.in-Ok.ensures
-    rests c.refused.ensures (λ is. made.worn is tt)
-    (λ known. rests_untouched c.args.layout.now c.args.me state c.args.disk c.in-Err-start.disk (made.unchanged known) made.cause_err.stays rests)
+pub returns-in-Ok-clause-turns : goal.returns-in-Ok-clause-turns
+returns-in-Ok-clause-turns c state after rests =
+    subst (λ (l : Layout). TurnsOn l c.args.me state after c.args.disk c.args.fault c.open_over.result.0 c.open_over.result.1) c.in-Ok.ensures
+    (c.open_over.ensures.turns state after (subst (λ (l : Layout). Rests l c.args.me state after c.args.disk) (sym c.in-Ok.ensures) rests))
+
+pub returns-in-Err-clause-turns : goal.returns-in-Err-clause-turns
+returns-in-Err-clause-turns c state after rests = (refl, rests)

@@ -28,7 +28,7 @@ returns-in_err-expect_call-clause-err c =
     on_err_always c.from_residual.result
     (λ w shows.
     let next = c.next_of-next.ensures c.args.layout.now w
-    (subst (λ (bricks : List Brick). ShowsBricks c.args.layout.now bricks w.nodes w.up w.clocks) (sym c.deref.ensures.value) shows.bricks)
+    (subst (λ (bricks : List Brick). ShowsBricks c.args.layout.now bricks w.nodes w.after w.up w.clocks) (sym c.deref.ensures.value) shows.bricks)
     in
     record {
       bricks = shows.bricks;
@@ -45,7 +45,7 @@ returns-in-Ok-clause-shows c w shows =
     (w.nodes c.args.brick.0) c.args.ask none in
     let left : (w.nodes c.args.brick.0).seq + 1 < 2 ^ 64 = (let h = rw c.in-Ok.is at c.ask_brick.type_inv in let same = begun.1 in omega arith) in
     let gives = c.next_of-next.ensures c.args.layout.now w
-    (subst (λ (bricks : List Brick). ShowsBricks c.args.layout.now bricks w.nodes w.up w.clocks) (sym c.deref.ensures.value) shows.bricks)
+    (subst (λ (bricks : List Brick). ShowsBricks c.args.layout.now bricks w.nodes w.after w.up w.clocks) (sym c.deref.ensures.value) shows.bricks)
     in
     let is = next_is (w.nodes c.args.brick.0).seq c.next_of-next.result gives left in
     shows_begun c.args.layout.now _ w c.args.brick c.args.ask (c.requires.brick.up w shows.bricks) c.requires.stripes none begun.2
@@ -57,7 +57,7 @@ returns-in-Ok-clause-shows c w shows =
 pub returns-in-Err-Refused-clause-shows : goal.returns-in-Err-Refused-clause-shows
 returns-in-Err-Refused-clause-shows c w shows =
     let next = c.next_of-next.ensures c.args.layout.now w
-    (subst (λ (bricks : List Brick). ShowsBricks c.args.layout.now bricks w.nodes w.up w.clocks) (sym c.deref.ensures.value) shows.bricks)
+    (subst (λ (bricks : List Brick). ShowsBricks c.args.layout.now bricks w.nodes w.after w.up w.clocks) (sym c.deref.ensures.value) shows.bricks)
     in
     shows_still c.args.layout.now _ w _ (happens_refused (coding c.args.layout.now) w c.args.brick c.args.ask c.in-Err-Refused.refusal
     (subst (λ (fault : NodeFault). RefusesAs {T = Begun} (Err fault)
@@ -71,7 +71,7 @@ returns-in-Err-Refused-clause-shows c w shows =
 pub returns-in-Err-NoMemory-clause-err : goal.returns-in-Err-NoMemory-clause-err
 returns-in-Err-NoMemory-clause-err c w shows =
     let next = c.next_of-next.ensures c.args.layout.now w
-    (subst (λ (bricks : List Brick). ShowsBricks c.args.layout.now bricks w.nodes w.up w.clocks) (sym c.deref.ensures.value) shows.bricks)
+    (subst (λ (bricks : List Brick). ShowsBricks c.args.layout.now bricks w.nodes w.after w.up w.clocks) (sym c.deref.ensures.value) shows.bricks)
     in
     record {
       bricks = c.in-Err-NoMemory.ensures.err c.args.layout.now w shows.bricks;

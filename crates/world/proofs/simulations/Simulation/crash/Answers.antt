@@ -2,7 +2,8 @@
 use Rattle.std.proofs.Common.{◌≡◌, true, None, arith, refl, subst}
 use Rattle.fab_base.specs.declared.identities.BrickId.{BrickId}
 use Rattle.stripe_code.specs.Codes.{coding}
-use Rattle.protocol.specs.Worlds.{Stops, is_up, happens}
+use Rattle.std.proofs.lemmas.Bool.{and_parts}
+use Rattle.protocol.specs.Worlds.{Stops, is_brick, is_up, happens}
 use Rattle.world.specs.Runs.{brick_of}
 use Rattle.world.specs.Shown.{Shows}
 use Rattle.world.specs.declared.simulations.Simulation.{Simulation}
@@ -40,7 +41,8 @@ returns-clause-shows c w shows =
     in
     let state : Simulation = record { bricks = c.stop_brick.new.bricks; history = c.crash.new.self } in
     subst (λ (brick : BrickId). Shows c.args.layout.now state (happens (coding c.args.layout.now) w (Stops brick None))) found.0
-    (shows_crashed c.args.layout.now state w c.in-Some.brick (found.1.up w shows.bricks) (c.stop_brick.ensures.shows c.args.layout.now w shows.bricks)
+    (shows_crashed c.args.layout.now state w c.in-Some.brick (found.1.up w shows.bricks) (c.stop_brick.ensures.shows c.args.layout.now w shows.bricks
+    (and_parts (is_brick c.args.layout.now c.in-Some.brick) (w.up c.in-Some.brick.0) (found.1.up w shows.bricks)).1)
     (c.crash.ensures (coding c.args.layout.now) w (c.make_room.ensures.same w shows.history)))
 
 pub returns-clause-outcome : goal.returns-clause-outcome

@@ -1,34 +1,33 @@
 -- The brick of the number starts where the machine's may.
-use Rattle.std.proofs.Common.{Bool, true, false, Result, Ok, Err, arith, refl, subst}
+use Rattle.std.proofs.Common.{Bool, true, false, List, Result, Ok, Err, arith, refl, subst}
 use Rattle.std.specs.Result.{OnErr}
 use Rattle.fab_base.specs.declared.faults.NoMem.{NoMem}
-use Rattle.stripe_code.specs.Codes.{coding}
+use Rattle.protocol.specs.Worlds.{Event}
 use Rattle.world.specs.Runs.{brick_of}
-use Rattle.world.specs.Shown.{ShowsStarted}
+use Rattle.world.specs.Shown.{StartsAs}
 use Rattle.world.specs.declared.simulations.Outcome.{Outcome}
-use Rattle.world.proofs.MachineBegins.{happens_unstarted}
-use Rattle.world.proofs.SimulationLemmas.{shows_still, started_nowhere, shows_start}
+use Rattle.world.proofs.DeliveryLemmas.{start_comes}
+use Rattle.world.proofs.StartLemmas.{starts_nowhere}
 use Rattle.world.proofs.simulations.Simulation.start.Goals as goal
 
-pub returns-then-brick-from-clause-shows : goal.returns-then-brick-from-clause-shows
-returns-then-brick-from-clause-shows c w shows =
-    shows_still c.args.layout.now c.args.self.now w _
-    (happens_unstarted (coding c.args.layout.now) w (brick_of c.args.brick)
-    (started_nowhere c.args.layout.now w (brick_of c.args.brick) (omega arith))) shows
+pub returns-then-brick-from-clause-comes : goal.returns-then-brick-from-clause-comes
+returns-then-brick-from-clause-comes c w shows =
+    start_comes c.args.layout.now w c.args.self.now c.args.self.now (brick_of c.args.brick) c.args.fault false (λ i other. refl) refl shows
+    (starts_nowhere c.args.layout.now c.args.self.now.bricks.items (brick_of c.args.brick) c.args.fault w (omega arith) shows.bricks)
 
-pub returns-then-branch-clause-shows : goal.returns-then-branch-clause-shows
-returns-then-branch-clause-shows c w shows =
-    shows_start c.args.layout.now c.args.self.now (record { bricks = c.start_brick.new.bricks; history = c.args.self.now.history }) w
-    (brick_of c.args.brick)
-    true (subst (λ (b : Bool). ShowsStarted c.args.layout.now (brick_of c.args.brick) w c.start_brick.new.bricks.items b) c.if-branch.true
-    (c.in_ok-start_brick.ensures.started w shows.bricks)) refl shows
+pub returns-then-branch-clause-comes : goal.returns-then-branch-clause-comes
+returns-then-branch-clause-comes c w shows =
+    start_comes c.args.layout.now w c.args.self.now (record { bricks = c.start_brick.new.bricks; history = c.args.self.now.history })
+    (brick_of c.args.brick) c.args.fault true c.start_brick.ensures.others refl shows
+    (subst (λ (b : Bool). (events : List Event) × StartsAs c.args.layout.now w (brick_of c.args.brick) c.args.fault c.args.self.now.bricks.items
+    c.start_brick.new.bricks.items b events) c.if-branch.true (c.in_ok-start_brick.ensures.started w shows.bricks))
 
-pub returns-else-branch-clause-shows : goal.returns-else-branch-clause-shows
-returns-else-branch-clause-shows c w shows =
-    shows_start c.args.layout.now c.args.self.now (record { bricks = c.start_brick.new.bricks; history = c.args.self.now.history }) w
-    (brick_of c.args.brick)
-    false (subst (λ (b : Bool). ShowsStarted c.args.layout.now (brick_of c.args.brick) w c.start_brick.new.bricks.items b) c.if-branch.false
-    (c.in_ok-start_brick.ensures.started w shows.bricks)) refl shows
+pub returns-else-branch-clause-comes : goal.returns-else-branch-clause-comes
+returns-else-branch-clause-comes c w shows =
+    start_comes c.args.layout.now w c.args.self.now (record { bricks = c.start_brick.new.bricks; history = c.args.self.now.history })
+    (brick_of c.args.brick) c.args.fault false c.start_brick.ensures.others refl shows
+    (subst (λ (b : Bool). (events : List Event) × StartsAs c.args.layout.now w (brick_of c.args.brick) c.args.fault c.args.self.now.bricks.items
+    c.start_brick.new.bricks.items b events) c.if-branch.false (c.in_ok-start_brick.ensures.started w shows.bricks))
 
 -- what holds, holds of an error
 of_err : (result : Result Outcome NoMem) (P : Type 0) → P → OnErr result P
@@ -38,9 +37,6 @@ of_err (Err refused) P holds = holds
 pub returns-in_err-start_brick-clause-err : goal.returns-in_err-start_brick-clause-err
 returns-in_err-start_brick-clause-err c =
     of_err c.from_residual.result _ (λ w shows. record { bricks = c.in_err-start_brick.ensures.err w shows.bricks; history = shows.history })
-
-pub returns-then-brick-from-clause-disks : goal.returns-then-brick-from-clause-disks
-returns-then-brick-from-clause-disks c i other = refl
 
 pub returns-in_err-start_brick-clause-contents : goal.returns-in_err-start_brick-clause-contents
 returns-in_err-start_brick-clause-contents c = of_err c.from_residual.result _ c.in_err-start_brick.ensures.contents

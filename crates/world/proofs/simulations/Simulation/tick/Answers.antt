@@ -45,7 +45,7 @@ returns-clause-shows c w shows =
     (shows_ticked c.args.layout.now state w c.in-Some.brick (found.1.up w shows.bricks) shows.bricks
     (subst (λ (sent : List Packet). Tells c.send_more.new.self (record w { packets = w.packets ++ sent }))
     (c.in_ok-messages.ensures c.args.layout.now w
-    (subst (λ (bricks : List Brick). ShowsBricks c.args.layout.now bricks w.nodes w.up w.clocks) (sym c.deref-2.ensures.value) shows.bricks))
+    (subst (λ (bricks : List Brick). ShowsBricks c.args.layout.now bricks w.nodes w.after w.up w.clocks) (sym c.deref-2.ensures.value) shows.bricks))
     (c.in_ok-send_more.ensures.sent w shows.history)))
 
 pub returns-clause-outcome : goal.returns-clause-outcome

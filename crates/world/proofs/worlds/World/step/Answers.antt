@@ -1,23 +1,25 @@
 -- The line was run, and the text is what it prints.
 use Rattle.std.proofs.Common.{length, sym, ap, ◌∙◌, subst}
-use Rattle.world.specs.Runs.{Run, world_of, events_of}
+use Rattle.world.specs.Runs.{Run, world_of}
 use Rattle.world.specs.Disks.{ShowsDisks}
 use Rattle.world.proofs.RunLemmas.{text_is, disks_shown}
 use Rattle.world.proofs.worlds.World.step.Goals as goal
 
 pub returns-clause-ok : goal.returns-clause-ok
-returns-clause-ok c = record {
-  line = c.in-Some.line;
-  is_line = sym c.in_ok-line.ensures ∙ c.in-Some.is;
-  step = record { line = c.in-Some.line; events = events_of c.in-Some.line };
-  runs = c.in_ok-outcome.ensures.ok;
-  text_is = text_is c.args.self.now c.run.new.self c.in-Some.line c.in_ok-outcome.outcome c.deref.result.now c.len-before.result c.in_ok-print.field-0
-      c.in_ok-outcome.ensures.ok c.in_ok-outcome.ensures.outcome
-      (c.deref.ensures.value ∙ c.self-2.invariant.shows.history.marks ∙ ap (λ (r : Run). (world_of r).marks) c.self-2.view_is)
-      (c.len-before.ensures ∙ c.self.inside.simulation.history.marks.ok.0
-      ∙ ap length (c.self.invariant.shows.history.marks ∙ ap (λ (r : Run). (world_of r).marks) c.self.view_is))
-      c.in_ok-print.ensures;
-}
+returns-clause-ok c =
+    let ran = c.in_ok-outcome.ensures.ok in
+    record {
+      line = c.in-Some.line;
+      is_line = sym c.in_ok-line.ensures ∙ c.in-Some.is;
+      step = ran.step;
+      runs = ran.runs;
+      text_is = text_is c.args.self.now c.run.new.self c.in-Some.line ran.step c.in_ok-outcome.outcome c.deref.result.now c.len-before.result
+          c.in_ok-print.field-0 ran.runs ran.comes
+          (c.deref.ensures.value ∙ c.self-2.invariant.shows.history.marks ∙ ap (λ (r : Run). (world_of r).marks) c.self-2.view_is)
+          (c.len-before.ensures ∙ c.self.inside.simulation.history.marks.ok.0
+          ∙ ap length (c.self.invariant.shows.history.marks ∙ ap (λ (r : Run). (world_of r).marks) c.self.view_is))
+          c.in_ok-print.ensures;
+    }
 
 -- what is not changed shows what it showed
 pub returns-in_err-line-clause-disks : goal.returns-in_err-line-clause-disks

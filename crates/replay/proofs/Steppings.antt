@@ -1,0 +1,67 @@
+-- Steps that were taken one after another.
+use Rattle.std.proofs.Common.{◌≡◌, ℕ, List, [], ◌∷◌, ◌++◌, map, Option, Some, refl, sym, ap, ◌∙◌, subst, append_assoc}
+use Rattle.std.proofs.lemmas.List.{map-append}
+use Rattle.lines.specs.Grammar.{line_of}
+use Rattle.lines.specs.declared.forms.Line.{Line}
+use Rattle.stripe_code.specs.Codes.{coding}
+use Rattle.protocol.specs.Settings.{Setting}
+use Rattle.protocol.specs.Worlds.{World, run}
+use Rattle.world.specs.Runs.{Run, Step, world_of, all_events}
+use Rattle.world.specs.Steps.{Runs}
+use Rattle.world.specs.Texts.{text_of}
+use Rattle.world.proofs.RunLemmas.{run-append, world_of-with_step}
+use Rattle.replay.specs.Outputs.{steps_text}
+use Rattle.replay.specs.Turns.{LeadsTo, AreLinesOfSteps}
+
+-- the world that steps leave
+abbrev pub after_steps : Setting → World → List Step → World
+after_steps setting w [] = w
+after_steps setting w (step ∷ steps) = after_steps setting (run setting step.events w) steps
+
+pub after_steps-all : (setting : Setting) (w : World) (steps : List Step) → run setting (all_events steps) w ≡ after_steps setting w steps
+after_steps-all setting w [] = refl
+after_steps-all setting w (step ∷ steps) =
+    run-append setting w step.events (all_events steps) ∙ after_steps-all setting (run setting step.events w) steps
+
+-- the world that a step leaves
+pub after_step : (before after : Run) (line : Line) (step : Step) → Runs before after line step
+    → world_of after ≡ run (coding before.layout) step.events (world_of before)
+after_step before after line step runs = ap world_of runs.run ∙ world_of-with_step before step after.disks
+
+pub same_layout_step : (before after : Run) (line : Line) (step : Step) → Runs before after line step → after.layout ≡ before.layout
+same_layout_step before after line step runs = ap (λ (r : Run). r.layout) runs.run
+
+-- no step, one, one more, and more
+pub leads_none : (r : Run) → LeadsTo r [] r
+leads_none r = refl
+
+pub leads_one : (before after : Run) (step : Step) → Runs before after step.line step → LeadsTo before (step ∷ []) after
+leads_one before after step runs = (after, runs, refl)
+
+pub leads_both : (first mid last : Run) (steps more : List Step) → LeadsTo first steps mid → LeadsTo mid more last → LeadsTo first (steps ++ more) last
+leads_both first mid last [] more same then = subst (λ (r : Run). LeadsTo r more last) same then
+leads_both first mid last (step ∷ steps) more leads then = (leads.0, leads.1, leads_both leads.0 mid last steps more leads.2 then)
+
+-- the layout and the world that they leave
+pub leads_layout : (first last : Run) (steps : List Step) → LeadsTo first steps last → last.layout ≡ first.layout
+leads_layout first last [] same = ap (λ (r : Run). r.layout) same
+leads_layout first last (step ∷ steps) leads =
+    leads_layout leads.0 last steps leads.2 ∙ same_layout_step first leads.0 step.line step leads.1
+
+-- the lines of steps, and of more
+pub lines_both : (contents rest : List (List ℕ)) (steps more : List Step) → AreLinesOfSteps contents steps → AreLinesOfSteps rest more
+    → AreLinesOfSteps (contents ++ rest) (steps ++ more)
+lines_both contents rest steps more first then =
+    map-append line_of contents rest ∙ ap (λ (l : List (Option Line)). l ++ map line_of rest) first
+    ∙ ap (λ (l : List (Option Line)). map (λ (step : Step). Some step.line) steps ++ l) then
+    ∙ sym (map-append (λ (step : Step). Some step.line) steps more)
+
+-- the text of steps, and then of one more
+pub steps_text-push : (setting : Setting) (w : World) (steps : List Step) (step : Step)
+    → steps_text setting w (steps ++ step ∷ []) ≡ steps_text setting w steps ++ steps_text setting (after_steps setting w steps) (step ∷ [])
+steps_text-push setting w [] step = refl
+steps_text-push setting w (first ∷ steps) step =
+    let v : World = run setting first.events w in
+    let text : List ℕ = text_of setting w first.events in
+    ap (λ (t : List ℕ). text ++ t) (steps_text-push setting v steps step)
+    ∙ sym (append_assoc text (steps_text setting v steps) (steps_text setting (after_steps setting v steps) (step ∷ [])))

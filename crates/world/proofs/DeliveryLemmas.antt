@@ -1,0 +1,140 @@
+-- What a line that delivers a message, or another line, comes to.
+use Rattle.std.proofs.Common.{◌≡◌, inl, inr, ℕ, Bool, true, false, cond, List, [], ◌∷◌, Option, Some, None, Result, Ok, Err, refl, sym, ap, ◌∙◌, subst}
+use Rattle.std.specs.Prelude.{slice_get, IfOk, OnOk}
+use Rattle.std.specs.Option.{option_map}
+use Rattle.std.proofs.lemmas.Bool.{eq-eqb}
+use Rattle.fab_base.specs.declared.identities.BrickId.{BrickId}
+use Rattle.fab_base.specs.Layouts.{Layout}
+use Rattle.fab_disk.specs.declared.mem_disk.MemDisk.{MemDisk}
+use Rattle.lines.specs.declared.forms.Fault.{Fault}
+use Rattle.lines.specs.declared.forms.Line.{Line}
+use Rattle.lines.specs.declared.forms.Line.TheVariants.{Deliver, Start}
+use Rattle.messages.specs.declared.packets.Packet.{Packet}
+use Rattle.node.specs.Outcomes.{Outcome as Sent}
+use Rattle.stripe_code.specs.Codes.{coding}
+use Rattle.protocol.specs.Nodes.{Node, put, received, absorbed, stopped}
+use Rattle.protocol.specs.Worlds.{World, Event, Delivers, Stops, is_up, packet_of, left_after, replies_with, world_stepped, world_stopped, happens}
+use Rattle.world.specs.Faults.{IsEventsOf, IsReached, plan_of}
+use Rattle.world.specs.Disks.{KeepsOthers, changes_disk_of}
+use Rattle.world.specs.Shown.{Shows, ShowsBricks, StartsAs, Tells, ComesTo, HandledWhole, HandledPart, disks_of}
+use Rattle.world.specs.Texts.{marks_if, is_deliverable, outcome_of}
+use Rattle.world.specs.declared.simulations.Outcome.{Outcome}
+use Rattle.world.specs.declared.simulations.Outcome.TheVariants.{Marks, Idle}
+use Rattle.world.specs.declared.simulations.Simulation.{Simulation}
+use Rattle.world.specs.declared.histories.History.{History}
+use Rattle.world.proofs.DiskLemmas.{all_kept, one_kept}
+use Rattle.world.proofs.HistoryLemmas.{tells_during}
+use Rattle.world.proofs.MachineBegins.{happens_stopped_during, happens_unsent, happens_astray}
+use Rattle.world.proofs.SimulationLemmas.{shows_still, shows_handled, handled_here, handled_astray}
+
+-- two things that are known of a result
+pub ok_both : {T E P : Type 0} (r : Result T E) (Q R : T → Type 0) → ((x : T) → P → Q x → R x) → OnOk r P → IfOk r Q → IfOk r R
+ok_both (Ok x) Q R both p q = both x p q
+ok_both (Err e) Q R both p q = tt
+
+-- a line that is one event
+pub one_event : (layout : Layout) (w : World) (disks : List MemDisk) (state : Simulation) (line : Line) (outcome : Outcome) (event : Event)
+    → IsEventsOf layout w disks (disks_of state.bricks.items) line (event ∷ [])
+    → Shows layout state (happens (coding layout) w event) → outcome ≡ outcome_of (coding layout) w event
+    → KeepsOthers (changes_disk_of w event) disks (disks_of state.bricks.items)
+    → (events : List Event) × ComesTo layout w disks state line outcome events
+one_event layout w disks state line outcome event are shows comes kept =
+    (event ∷ [], record { are = are; shows = shows; comes = comes; kept = one_kept (coding layout) w event disks (disks_of state.bricks.items) kept })
+
+-- a message that was not sent
+pub unsent_comes : (layout : Layout) (w : World) (state : Simulation) (number : ℕ) (fault : Option Fault) → packet_of w.packets number ≡ None
+    → Shows layout state w
+    → (events : List Event) × ComesTo layout w (disks_of state.bricks.items) state (Deliver number fault) Idle events
+unsent_comes layout w state number fault none shows =
+    one_event layout w (disks_of state.bricks.items) state (Deliver number fault) Idle (Delivers number)
+    (inr (record { spared = λ struck. (let never : Some struck.packet ≡ None = sym struck.sent ∙ none in cc); events_are = refl }))
+    (shows_still layout state w (happens (coding layout) w (Delivers number)) (happens_unsent (coding layout) w number none) shows)
+    (sym (ap (λ p. marks_if (is_deliverable (coding layout) w p)) none))
+    (all_kept (changes_disk_of w (Delivers number)) (disks_of state.bricks.items))
+
+-- a message to a brick that is not up
+pub astray_comes : (layout : Layout) (w : World) (state : Simulation) (number : ℕ) (fault : Option Fault) (packet : Packet)
+    → packet_of w.packets number ≡ Some packet → is_up layout w packet.to ≡ false → Shows layout state w
+    → (events : List Event) × ComesTo layout w (disks_of state.bricks.items) state (Deliver number fault) Idle events
+astray_comes layout w state number fault packet sent down shows =
+    one_event layout w (disks_of state.bricks.items) state (Deliver number fault) Idle (Delivers number)
+    (inr (record { spared = λ struck. not_struck struck.packet struck.sent struck.up; events_are = refl }))
+    (shows_still layout state w (happens (coding layout) w (Delivers number)) (happens_astray (coding layout) w number packet sent down) shows)
+    (handled_astray layout w packet (packet_of w.packets number) sent down)
+    (all_kept (changes_disk_of w (Delivers number)) (disks_of state.bricks.items))
+  where
+    not_struck : (other : Packet) → packet_of w.packets number ≡ Some other → is_up layout w other.to ≡ true → ⊥
+    not_struck other is up =
+        let same : other ≡ packet = (let e : Some other ≡ Some packet = sym is ∙ sent in cc) in
+        let never : true ≡ false = sym up ∙ ap (λ (p : Packet). is_up layout w p.to) same ∙ down in
+        cc
+
+-- A message to a brick that is up.
+module _ (layout : Layout) (w : World) (old new : Simulation) (number : ℕ) (fault : Option Fault) (packet : Packet)
+    (sent : packet_of w.packets number ≡ Some packet) (up : is_up layout w packet.to ≡ true)
+    (others : KeepsOthers (Some packet.to) (disks_of old.bricks.items) (disks_of new.bricks.items)) where
+  changes_here : changes_disk_of w (Delivers number) ≡ Some packet.to
+  changes_here = ap (option_map (λ (p : Packet). p.to)) sent
+
+  pub whole_comes : (outs : Sent) → HandledWhole layout w packet.to packet fault old.bricks.items new.bricks.items outs
+      → Tells new.history (world_stepped (coding layout) (record w { replies = replies_with (coding layout) w packet }) packet.to
+      (received (coding layout) packet.to (w.clocks packet.to.0) (w.nodes packet.to.0) packet))
+      → (events : List Event) × ComesTo layout w (disks_of old.bricks.items) new (Deliver number fault) Marks events
+  whole_comes outs handled history =
+      one_event layout w (disks_of old.bricks.items) new (Deliver number fault) Marks (Delivers number)
+      (inr (record { spared = λ struck. not_struck struck.packet struck.sent struck.disk struck.disk_is struck.reached; events_are = refl }))
+      (shows_handled layout new w number packet sent up handled.bricks history)
+      (handled_here layout w packet (packet_of w.packets number) sent up)
+      (subst (λ (b : Option BrickId). KeepsOthers b (disks_of old.bricks.items) (disks_of new.bricks.items)) (sym changes_here) others)
+    where
+      not_struck : (other : Packet) → packet_of w.packets number ≡ Some other → (disk : MemDisk)
+          → slice_get (disks_of old.bricks.items) other.to.0 ≡ Some disk
+          → IsReached layout other.to (w.nodes other.to.0) other disk (plan_of fault) → ⊥
+      not_struck other is disk disk_is reached =
+          let same : other ≡ packet = (let e : Some other ≡ Some packet = sym is ∙ sent in cc) in
+          handled.spared disk (subst (λ (p : Packet). slice_get (disks_of old.bricks.items) p.to.0 ≡ Some disk) same disk_is)
+          (subst (λ (p : Packet). IsReached layout p.to (w.nodes p.to.0) p disk (plan_of fault)) same reached)
+
+  left_is : left_after (coding layout) packet.to (w.nodes packet.to.0) (packet_of w.packets number)
+      ≡ stopped (absorbed (coding layout) packet.to (w.nodes packet.to.0) packet)
+  left_is =
+      ap (left_after (coding layout) packet.to (w.nodes packet.to.0)) sent
+      ∙ ap (λ (b : Bool). cond b (stopped (absorbed (coding layout) packet.to (w.nodes packet.to.0) packet)) (stopped (w.nodes packet.to.0)))
+      (eq-eqb packet.to.0 packet.to.0 refl)
+
+  pub part_comes : HandledPart layout w packet.to packet fault old.bricks.items new.bricks.items
+      → Tells new.history (world_stopped (coding layout) w packet.to None)
+      → (events : List Event) × ComesTo layout w (disks_of old.bricks.items) new (Deliver number fault) Marks events
+  part_comes handled history =
+      let v : World = world_stopped (coding layout) w packet.to (Some number) in
+      one_event layout w (disks_of old.bricks.items) new (Deliver number fault) Marks (Stops packet.to (Some number))
+      (inl (record {
+        struck = record { packet = packet; sent = sent; up = up; disk = handled.disk; disk_is = handled.disk_is; reached = handled.reached };
+        events_are = refl;
+        left = handled.left;
+      }))
+      (subst (λ (x : World). Shows layout new x) (sym (happens_stopped_during (coding layout) w packet.to (Some number) up))
+      (record {
+        bricks = subst (λ (node : Node). ShowsBricks layout new.bricks.items v.nodes (put w.after packet.to.0 node) v.up v.clocks) (sym left_is) handled.bricks;
+        history = tells_during (coding layout) new.history w packet.to (Some number) history;
+      }))
+      (sym (ap marks_if up))
+      others
+
+-- the start of a brick
+pub start_comes : (layout : Layout) (w : World) (old new : Simulation) (brick : BrickId) (fault : Option Fault) (started : Bool)
+    → KeepsOthers (Some brick) (disks_of old.bricks.items) (disks_of new.bricks.items) → new.history ≡ old.history → Shows layout old w
+    → (events : List Event) × StartsAs layout w brick fault old.bricks.items new.bricks.items started events
+    → (events : List Event) × ComesTo layout w (disks_of old.bricks.items) new (Start brick.0 fault) (cond started Marks Idle) events
+start_comes layout w old new brick fault started others same shows (events, starts) = (
+  events,
+  record {
+    are = starts.are;
+    shows = record {
+      bricks = starts.bricks;
+      history = starts.tells new.history (subst (λ (h : History). Tells h w) (sym same) shows.history);
+    };
+    comes = starts.comes;
+    kept = starts.kept (disks_of new.bricks.items) others;
+  },
+)

@@ -1,0 +1,287 @@
+-- What the bricks show after one of them was to start.
+use Rattle.std.proofs.Common.{◌≡◌, ◌≢◌, inl, inr, ⊎_elim, ℕ, ◌+◌, ◌<◌, ◌≤◌, ◌&&◌, Bool, true, false, not, cond, List, [], ◌∷◌, length, set, get_or, Option, Some, None, Result, Ok, Err, refl, sym, ap, ◌∙◌, subst, arith}
+use Rattle.std.specs.Prelude.{slice_get, IfOk, OnErr}
+use Rattle.std.proofs.lemmas.Bool.Decides.{nat_tests}
+use Rattle.fab_base.specs.declared.faults.NoMem.{NoMem}
+use Rattle.fab_base.specs.declared.identities.BrickId.{BrickId}
+use Rattle.fab_base.specs.Layouts.{Layout}
+use Rattle.fab_disk.specs.declared.mem_disk.MemDisk.{MemDisk}
+use Rattle.lines.specs.declared.forms.Fault.{Fault}
+use Rattle.node.specs.Running.{Running}
+use Rattle.stripe_code.specs.Codes.{coding}
+use Rattle.protocol.specs.Nodes as machine
+use Rattle.protocol.specs.Worlds.{World, Event, Starts, Stops, Found, Before, After, is_brick, is_up, may_start, world_found, world_started, happens}
+use Rattle.world.specs.Faults.{IsLeft, StartsDown, Finds, found_of, is_down}
+use Rattle.world.specs.Disks.{KeepsOthers}
+use Rattle.world.specs.Shown.{Rests, ShowsPower, ShowsBricks, StartsAs, TurnsOn, WasStarted, IsWorn, WasCutShort, Tells, disk_in, disks_of}
+use Rattle.world.specs.Texts.{marks_if}
+use Rattle.world.specs.declared.bricks.Brick.{Brick}
+use Rattle.world.specs.declared.bricks.Power.{Power}
+use Rattle.world.specs.declared.bricks.Power.TheVariants.{Up, Down}
+use Rattle.world.specs.declared.histories.History.{History}
+use Rattle.world.proofs.Places.{value_here, value_elsewhere}
+use Rattle.world.proofs.DiskLemmas.{disk_at, disk_set, one_kept}
+use Rattle.world.proofs.HistoryLemmas.{tells_found_started}
+use Rattle.world.proofs.MachineBegins.{happens_started, happens_unstarted, happens_unstopped}
+use Rattle.world.proofs.BrickListLemmas.{shows_after, brick_at, runs_at, rests_at, with_power, shows_kept}
+
+-- an event that changes nothing
+unchanged_tells : (history : History) (w v : World) → v ≡ w → Tells history w → Tells history v
+unchanged_tells history w v same tells = subst (λ (x : World). Tells history x) (sym same) tells
+
+unchanged_bricks : (layout : Layout) (bricks : List Brick) (w v : World) → v ≡ w → ShowsBricks layout bricks w.nodes w.after w.up w.clocks
+    → ShowsBricks layout bricks v.nodes v.after v.up v.clocks
+unchanged_bricks layout bricks w v same shows = subst (λ (x : World). ShowsBricks layout bricks x.nodes x.after x.up x.clocks) (sym same) shows
+
+-- a brick of the layout
+pub is_there : (layout : Layout) (bricks : List Brick) (number : BrickId) → number.0 < length bricks → length bricks ≡ layout.bricks → is_brick layout number ≡ true
+is_there layout bricks number within count = grind (arith, nat_tests)
+
+-- the brick that started, and those beside it
+started_here : (w : World) (brick : BrickId) (openings : ℕ) (found : Found)
+    → (world_started (world_found w brick found) brick openings).nodes brick.0
+    ≡ machine.restarted openings (found_of (w.nodes brick.0) (w.after brick.0) found)
+started_here w brick openings Before = value_here w.nodes brick.0 brick.0 (machine.restarted openings (w.nodes brick.0)) refl
+started_here w brick openings After =
+    value_here (machine.put w.nodes brick.0 (w.after brick.0)) brick.0 brick.0
+    (machine.restarted openings (machine.put w.nodes brick.0 (w.after brick.0) brick.0)) refl
+    ∙ ap (machine.restarted openings) (value_here w.nodes brick.0 brick.0 (w.after brick.0) refl)
+
+started_elsewhere : (w : World) (brick : BrickId) (openings : ℕ) (found : Found) (i : ℕ) → i ≢ brick.0
+    → (world_started (world_found w brick found) brick openings).nodes i ≡ w.nodes i
+started_elsewhere w brick openings Before i other = value_elsewhere w.nodes brick.0 i (machine.restarted openings (w.nodes brick.0)) other
+started_elsewhere w brick openings After i other =
+    value_elsewhere (machine.put w.nodes brick.0 (w.after brick.0)) brick.0 i
+    (machine.restarted openings (machine.put w.nodes brick.0 (w.after brick.0) brick.0)) other
+    ∙ value_elsewhere w.nodes brick.0 i (w.after brick.0) other
+
+started_after : (w : World) (brick : BrickId) (openings : ℕ) (found : Found) → (world_started (world_found w brick found) brick openings).after ≡ w.after
+started_after w brick openings Before = refl
+started_after w brick openings After = refl
+
+started_up : (w : World) (brick : BrickId) (openings : ℕ) (found : Found)
+    → (world_started (world_found w brick found) brick openings).up ≡ machine.put w.up brick.0 true
+started_up w brick openings Before = refl
+started_up w brick openings After = refl
+
+started_clocks : (w : World) (brick : BrickId) (openings : ℕ) (found : Found) → (world_started (world_found w brick found) brick openings).clocks ≡ w.clocks
+started_clocks w brick openings Before = refl
+started_clocks w brick openings After = refl
+
+both_are : (x y z : Bool) → x ≡ true → y ≡ false → z ≡ true → x && (not y && z) ≡ true
+both_are true false z here down may = may
+both_are true true z here down may = let never : true ≡ false = down in cc
+both_are false y z here down may = let never : false ≡ true = here in cc
+
+last_not : (x y z : Bool) → z ≡ false → x && (y && z) ≡ false
+last_not true true z may = may
+last_not true false z may = refl
+last_not false y z may = refl
+
+down_both : (x y : Bool) → x ≡ true → y ≡ false → x && not y ≡ true
+down_both true false here down = refl
+down_both true true here down = let never : true ≡ false = down in cc
+down_both false y here down = let never : false ≡ true = here in cc
+
+up_not : (x y : Bool) → y ≡ true → x && not y ≡ false
+up_not true true up = refl
+up_not true false up = let never : false ≡ true = up in cc
+up_not false y up = refl
+
+up_never : (x y z : Bool) → y ≡ true → x && (not y && z) ≡ false
+up_never true true z up = refl
+up_never true false z up = let never : false ≡ true = up in cc
+up_never false y z up = refl
+
+down_never : (x y : Bool) → y ≡ false → x && y ≡ false
+down_never true y down = down
+down_never false y down = refl
+
+-- A brick that is down was to start.
+module _ (layout : Layout) (bricks : List Brick) (number : BrickId) (old : Brick) (disk : MemDisk) (power : Power) (fault : Option Fault) (w : World)
+    (within : number.0 < length bricks) (is : old ≡ get_or bricks number.0 old) (off : old.power ≡ Down disk)
+    (shows : ShowsBricks layout bricks w.nodes w.after w.up w.clocks) where
+  down_here : w.up number.0 ≡ false
+  down_here = (rests_at layout bricks w number.0 old disk within is off shows).0
+
+  abbrev new_bricks : List Brick
+  new_bricks = set bricks number.0 (with_power old power)
+
+  abbrev start_here : (finds : Finds layout number (w.nodes number.0) (w.after number.0) disk) → StartsDown layout w (disks_of bricks) number
+  start_here finds = record {
+    down = down_both (is_brick layout number) (w.up number.0) (is_there layout bricks number within shows.count) down_here;
+    disk = disk;
+    disk_is = disk_at bricks number.0 old within is ∙ ap (λ (p : Power). Some (disk_in p)) off;
+    finds = finds;
+  }
+
+  left_here : IsLeft layout number (w.nodes number.0) (w.after number.0) fault (disk_in power) → (one : MemDisk)
+      → slice_get (disks_of new_bricks) number.0 ≡ Some one → IsLeft layout number (w.nodes number.0) (w.after number.0) fault one
+  left_here left one one_is =
+      let same : disk_in power ≡ one =
+      (let e : Some (disk_in power) ≡ Some one = sym (disk_set bricks number.0 (with_power old power) within) ∙ one_is in cc)
+      in
+      subst (λ (d : MemDisk). IsLeft layout number (w.nodes number.0) (w.after number.0) fault d) same left
+
+  kept_here : ShowsPower layout number (w.nodes number.0) (w.after number.0) false power → ShowsBricks layout new_bricks w.nodes w.after w.up w.clocks
+  kept_here shown =
+      shows_kept layout bricks number.0 old power w within is
+      (subst (λ (up : Bool). ShowsPower layout number (w.nodes number.0) (w.after number.0) up power) (sym down_here) shown) shows
+
+  comes_started : WasStarted layout number (w.nodes number.0) (w.after number.0) disk fault power
+      → (events : List Event) × StartsAs layout w number fault bricks new_bricks true events
+  comes_started was =
+      let openings : ℕ = was.finds.openings + 1 in
+      let event : Event = Starts number openings was.finds.found in
+      let v : World = world_started (world_found w number was.finds.found) number openings in
+      let may : may_start layout w number openings ≡ true =
+      both_are (is_brick layout number) (w.up number.0) (machine.may_open openings (w.nodes number.0)) (is_there layout bricks number within shows.count) down_here was.may
+      in
+      let happened : happens (coding layout) w event ≡ v = happens_started (coding layout) w number openings was.finds.found may in
+      let shown : ShowsBricks layout new_bricks v.nodes v.after v.up v.clocks =
+      shows_after layout bricks number.0 (with_power old power) w v
+      (record {
+        power = subst (λ (state : machine.Node). ShowsPower layout number state (v.after number.0) (v.up number.0) power)
+            (sym (started_here w number openings was.finds.found))
+            (subst (λ (up : Bool). ShowsPower layout number (machine.restarted openings (found_of (w.nodes number.0) (w.after number.0) was.finds.found))
+            (v.after number.0) up power)
+            (sym (ap (λ (f : ℕ → Bool). f number.0) (started_up w number openings was.finds.found) ∙ value_here w.up number.0 number.0 true refl))
+            (was.on (v.after number.0)));
+        clock = (brick_at layout bricks w number.0 old within is shows).clock
+            ∙ sym (ap (λ (f : ℕ → ℕ). f number.0) (started_clocks w number openings was.finds.found));
+      })
+      (λ i other. (
+        started_elsewhere w number openings was.finds.found i other,
+        ap (λ (f : ℕ → machine.Node). f i) (started_after w number openings was.finds.found),
+        ap (λ (f : ℕ → Bool). f i) (started_up w number openings was.finds.found) ∙ value_elsewhere w.up number.0 i true other,
+        ap (λ (f : ℕ → ℕ). f i) (started_clocks w number openings was.finds.found),
+      ))
+      shows
+      in (
+        event ∷ [],
+        record {
+          are = inr (inl (record { start = start_here was.finds; spared = inl was.spared; events_are = refl }));
+          bricks = subst (λ (x : World). ShowsBricks layout new_bricks x.nodes x.after x.up x.clocks) (sym happened) shown;
+          comes = sym (ap marks_if may);
+          tells = λ history tells. subst (λ (x : World). Tells history x) (sym happened) (tells_found_started history w number openings was.finds.found tells);
+          kept = λ next kept. one_kept (coding layout) w event (disks_of bricks) next kept;
+        },
+      )
+
+  comes_worn : IsWorn layout number (w.nodes number.0) (w.after number.0) disk power
+      → (events : List Event) × StartsAs layout w number fault bricks new_bricks false events
+  comes_worn was =
+      let openings : ℕ = was.finds.openings + 1 in
+      let event : Event = Starts number openings was.finds.found in
+      let may : may_start layout w number openings ≡ false =
+      last_not (is_brick layout number) (not (w.up number.0)) (machine.may_open openings (w.nodes number.0)) was.may
+      in
+      let happened : happens (coding layout) w event ≡ w = happens_unstarted (coding layout) w number openings was.finds.found may in (
+        event ∷ [],
+        record {
+          are = inr (inl (record { start = start_here was.finds; spared = inr was.may; events_are = refl }));
+          bricks = unchanged_bricks layout new_bricks w (happens (coding layout) w event) happened (kept_here was.off);
+          comes = sym (ap marks_if may);
+          tells = λ history tells. unchanged_tells history w (happens (coding layout) w event) happened tells;
+          kept = λ next kept. one_kept (coding layout) w event (disks_of bricks) next kept;
+        },
+      )
+
+  comes_cut : WasCutShort layout number (w.nodes number.0) (w.after number.0) disk fault power
+      → (events : List Event) × StartsAs layout w number fault bricks new_bricks false events
+  comes_cut was =
+      let event : Event = Stops number None in
+      let down : is_up layout w number ≡ false = down_never (is_brick layout number) (w.up number.0) down_here in
+      let happened : happens (coding layout) w event ≡ w = happens_unstopped (coding layout) w number down in (
+        event ∷ [],
+        record {
+          are = inl (record { start = start_here was.finds; reached = was.reached; events_are = refl; left = left_here was.left });
+          bricks = unchanged_bricks layout new_bricks w (happens (coding layout) w event) happened (kept_here was.off);
+          comes = sym (ap marks_if down);
+          tells = λ history tells. unchanged_tells history w (happens (coding layout) w event) happened tells;
+          kept = λ next kept. one_kept (coding layout) w event (disks_of bricks) next
+              (subst (λ (up : Bool). KeepsOthers (cond up None (Some number)) (disks_of bricks) next) (sym down_here) kept);
+        },
+      )
+
+  turned_as : (started : Bool) → TurnsOn layout number (w.nodes number.0) (w.after number.0) disk fault power (Ok started)
+      → (events : List Event) × StartsAs layout w number fault bricks new_bricks started events
+  turned_as true was = comes_started was
+  turned_as false was = ⊎_elim
+      (λ (worn : IsWorn layout number (w.nodes number.0) (w.after number.0) disk power). comes_worn worn)
+      (λ (cut : WasCutShort layout number (w.nodes number.0) (w.after number.0) disk fault power). comes_cut cut) was
+
+  pub turns_here : (result : Result Bool NoMem)
+      → ((state after : machine.Node) → Rests layout number state after disk → TurnsOn layout number state after disk fault power result)
+      → TurnsOn layout number (w.nodes number.0) (w.after number.0) disk fault power result
+  turns_here result turns =
+      turns (w.nodes number.0) (w.after number.0) (rests_at layout bricks w number.0 old disk within is off shows).1
+
+  pub starts_as : (started : Bool)
+      → ((state after : machine.Node) → Rests layout number state after disk → TurnsOn layout number state after disk fault power (Ok started))
+      → (events : List Event) × StartsAs layout w number fault bricks new_bricks started events
+  starts_as started turns = turned_as started (turns_here (Ok started) turns)
+
+  pub starts_refused : (refused : NoMem)
+      → ((state after : machine.Node) → Rests layout number state after disk → TurnsOn layout number state after disk fault power (Err refused))
+      → ShowsBricks layout new_bricks w.nodes w.after w.up w.clocks
+  starts_refused refused turns = kept_here (turns_here (Err refused) turns)
+
+-- the start of a brick that is up, or that there is not, comes to nothing
+pub starts_not : (layout : Layout) (bricks new : List Brick) (number : BrickId) (fault : Option Fault) (w : World) → is_down layout w number ≡ false
+    → may_start layout w number 1 ≡ false → ShowsBricks layout new w.nodes w.after w.up w.clocks
+    → (events : List Event) × StartsAs layout w number fault bricks new false events
+starts_not layout bricks new number fault w not_down may shows =
+    let event : Event = Starts number 1 Before in
+    let happened : happens (coding layout) w event ≡ w = happens_unstarted (coding layout) w number 1 Before may in (
+      event ∷ [],
+      record {
+        are = inr (inr (record { not_down = not_down; events_are = refl }));
+        bricks = unchanged_bricks layout new w (happens (coding layout) w event) happened shows;
+        comes = sym (ap marks_if may);
+        tells = λ history tells. unchanged_tells history w (happens (coding layout) w event) happened tells;
+        kept = λ next kept. one_kept (coding layout) w event (disks_of bricks) next kept;
+      },
+    )
+
+-- one that is up
+pub starts_up : (layout : Layout) (bricks : List Brick) (number : BrickId) (old : Brick) (node : Running MemDisk) (fault : Option Fault) (w : World)
+    → number.0 < length bricks → old ≡ get_or bricks number.0 old → old.power ≡ Up node → ShowsBricks layout bricks w.nodes w.after w.up w.clocks
+    → (events : List Event) × StartsAs layout w number fault bricks (set bricks number.0 (with_power old (Up node))) false events
+starts_up layout bricks number old node fault w within is on shows =
+    let up = (runs_at layout bricks w number.0 old node within is on shows).0 in
+    starts_not layout bricks (set bricks number.0 (with_power old (Up node))) number fault w
+    (up_not (is_brick layout number) (w.up number.0) up)
+    (up_never (is_brick layout number) (w.up number.0) (machine.may_open 1 (w.nodes number.0)) up)
+    (shows_kept layout bricks number.0 old (Up node) w within is
+    (subst (λ (power : Power). ShowsPower layout number (w.nodes number.0) (w.after number.0) (w.up number.0) power) on
+    (brick_at layout bricks w number.0 old within is shows).power) shows)
+
+first_not : (x y : Bool) → x ≡ false → x && y ≡ false
+first_not false y is = refl
+first_not true y is = let never : true ≡ false = is in cc
+
+-- and one that there is not
+pub starts_nowhere : (layout : Layout) (bricks : List Brick) (number : BrickId) (fault : Option Fault) (w : World) → layout.bricks ≤ number.0
+    → ShowsBricks layout bricks w.nodes w.after w.up w.clocks → (events : List Event) × StartsAs layout w number fault bricks bricks false events
+starts_nowhere layout bricks number fault w past shows =
+    let none : is_brick layout number ≡ false = grind (arith, nat_tests) in
+    starts_not layout bricks bricks number fault w (first_not (is_brick layout number) (not (w.up number.0)) none)
+    (first_not (is_brick layout number) (not (w.up number.0) && machine.may_open 1 (w.nodes number.0)) none) shows
+
+-- what a start of a brick that is down answered
+module _ (layout : Layout) (bricks : List Brick) (number : BrickId) (old : Brick) (disk : MemDisk) (power : Power) (fault : Option Fault)
+    (within : number.0 < length bricks) (is : old ≡ get_or bricks number.0 old) (off : old.power ≡ Down disk) where
+  pub started_result : (result : Result Bool NoMem)
+      → ((state after : machine.Node) → Rests layout number state after disk → TurnsOn layout number state after disk fault power result)
+      → IfOk result (λ started. (w : World) → ShowsBricks layout bricks w.nodes w.after w.up w.clocks
+      → (events : List Event) × StartsAs layout w number fault bricks (set bricks number.0 (with_power old power)) started events)
+  started_result (Ok started) turns = λ w shows. starts_as layout bricks number old disk power fault w within is off shows started turns
+  started_result (Err refused) turns = tt
+
+  pub refused_result : (result : Result Bool NoMem)
+      → ((state after : machine.Node) → Rests layout number state after disk → TurnsOn layout number state after disk fault power result)
+      → OnErr result ((w : World) → ShowsBricks layout bricks w.nodes w.after w.up w.clocks
+      → ShowsBricks layout (set bricks number.0 (with_power old power)) w.nodes w.after w.up w.clocks)
+  refused_result (Ok started) turns = tt
+  refused_result (Err refused) turns = λ w shows. starts_refused layout bricks number old disk power fault w within is off shows refused turns

@@ -1,0 +1,158 @@
+-- Which events of the machine a line of a schedule is, where a call of a disk may be cut short or fail in the midst of it.
+use Rattle.std.specs.Prelude.{◌≡◌, ◌⊎◌, ℕ, ◌+◌, ◌&&◌, Bool, true, false, not, List, [], ◌∷◌, Option, Some, None, slice_get}
+use Rattle.fab_base.specs.declared.identities.BrickId.{BrickId}
+use Rattle.fab_base.specs.Layouts.{Layout}
+use Rattle.fab_disk.specs.declared.disk.Plan.{Plan}
+use Rattle.fab_disk.specs.declared.disk.Plan.TheVariants.{Never, Stop}
+use Rattle.fab_disk.specs.declared.disk.Plan.TheVariants as plan
+use Rattle.fab_disk.specs.Disk.{Only}
+use Rattle.fab_disk.specs.Plan.{IsWithin}
+use Rattle.fab_disk.specs.Settled.{settled_at}
+use Rattle.fab_disk.specs.MemDisk.{content_of, past_of_disk, may_be_left}
+use Rattle.fab_disk.specs.declared.mem_disk.MemDisk.{MemDisk}
+use Rattle.frame_store.specs.declared.frames.Frame.{Frame}
+use Rattle.frame_store.specs.Images.{OpensAs}
+use Rattle.messages.specs.declared.packets.Packet.{Packet}
+use Rattle.brick_store.specs.Images.{IsListed}
+use Rattle.brick_store.specs.Calls.{opening_calls}
+use Rattle.brick_store.specs.Openings.{opens_appendable}
+use Rattle.replica.specs.Calls.{message_calls}
+use Rattle.node.specs.Running.{shape_at, ImageShows, ShowsEither}
+use Rattle.lines.specs.declared.forms.Fault.{Fault}
+use Rattle.lines.specs.declared.forms.Fault.TheVariants.{Cut, Fail}
+use Rattle.lines.specs.declared.forms.Line.{Line}
+use Rattle.lines.specs.declared.forms.Line.TheVariants.{Deliver, Crash, Start}
+use Rattle.stripe_code.specs.Codes.{coding}
+use Rattle.protocol.specs.Nodes.{Node, absorbed, stopped, may_open}
+use Rattle.protocol.specs.Worlds.{World, Event, Delivers, Stops, Starts, Found, Before, After, is_brick, is_up, packet_of}
+use Rattle.world.specs.Runs.{brick_of, events_of}
+
+-- what is to befall a call of the disk
+abbrev pub plan_of : Option Fault → Plan
+plan_of None = Never
+plan_of (Some (Cut call pick)) = Stop call
+plan_of (Some (Fail call)) = plan.Fail call
+
+-- the brick, with its store opened so many times more
+abbrev pub opened_more : ℕ → Node → Node
+opened_more openings node = record node { boot = node.boot + openings }
+
+-- Of a brick that is down: its store keeps what it kept before the handling that its stop cut short, or what that would have kept, and was
+-- opened any number of times since.
+pub record ShowsOne (layout : Layout) (me : BrickId) (before after : Node) (image : List ℕ) : Type 0 where
+  pub openings : ℕ
+  pub either : ShowsEither layout me (opened_more openings before) (opened_more openings after) image
+
+-- so says what a read gives, and whatever a crash may leave
+pub record HoldsOne (layout : Layout) (me : BrickId) (before after : Node) (disk : MemDisk) : Type 0 where
+  pub seen : ShowsOne layout me before after (content_of disk)
+  pub durable : (image : List ℕ) → may_be_left disk image → ShowsOne layout me before after image
+
+-- A disk that was cut holds what this pick makes of it as it was, and nothing else may be left. One that failed is as it was.
+pub record IsCut (pick : ℕ) (was disk : MemDisk) : Type 0 where
+  pub content : content_of disk ≡ settled_at pick (past_of_disk was) (content_of was)
+  pub only : Only (content_of disk) (may_be_left disk)
+
+abbrev pub LeftBy : Option Fault → MemDisk → MemDisk → Type 0
+LeftBy (Some (Cut call pick)) was disk = IsCut pick was disk
+LeftBy (Some (Fail call)) was disk = disk ≡ was
+LeftBy None was disk = disk ≡ was
+
+-- What is left of the disk of a brick that this befell in the midst of an event: at the call whatever a crash might have left shows one of the two.
+pub record IsLeft (layout : Layout) (me : BrickId) (before after : Node) (fault : Option Fault) (disk : MemDisk) : Type 0 where
+  pub was : MemDisk
+  pub holds : HoldsOne layout me before after was
+  pub left : LeftBy fault was disk
+
+-- the handling of a packet by the brick that this disk keeps makes the call that the plan names
+pub record IsReached (layout : Layout) (me : BrickId) (node : Node) (packet : Packet) (disk : MemDisk) (plan : Plan) : Type 0 where
+  pub listed : ℕ
+  pub is_listed : IsListed (shape_at layout me) listed (content_of disk)
+  pub within : IsWithin (message_calls layout me packet.from (shape_at layout me) listed node packet.message) plan
+
+-- so does the opening of this disk
+pub record IsReachedOpening (layout : Layout) (me : BrickId) (disk : MemDisk) (plan : Plan) : Type 0 where
+  pub frames : List Frame
+  pub closed : Bool
+  pub opens : OpensAs (shape_at layout me) frames closed (content_of disk)
+  pub within : IsWithin (opening_calls (opens_appendable (shape_at layout me) frames closed)) plan
+
+-- the message of a number, where its handling makes the call that the plan names
+pub record IsStruck (layout : Layout) (w : World) (disks : List MemDisk) (number : ℕ) (plan : Plan) : Type 0 where
+  pub packet : Packet
+  pub sent : packet_of w.packets number ≡ Some packet
+  pub up : is_up layout w packet.to ≡ true
+  pub disk : MemDisk
+  pub disk_is : slice_get disks packet.to.0 ≡ Some disk
+  pub reached : IsReached layout packet.to (w.nodes packet.to.0) packet disk plan
+
+-- A delivery in whose midst its brick stops.
+pub record StopsMidway (layout : Layout) (w : World) (old new : List MemDisk) (number : ℕ) (fault : Option Fault) (events : List Event) : Type 0 where
+  pub struck : IsStruck layout w old number (plan_of fault)
+  pub events_are : events ≡ Stops struck.packet.to (Some number) ∷ []
+  pub left : (disk : MemDisk) → slice_get new struck.packet.to.0 ≡ Some disk
+      → IsLeft layout struck.packet.to (stopped (w.nodes struck.packet.to.0))
+      (stopped (absorbed (coding layout) struck.packet.to (w.nodes struck.packet.to.0) struck.packet)) fault disk
+
+-- a delivery that makes no such call
+pub record IsDelivered (layout : Layout) (w : World) (old : List MemDisk) (number : ℕ) (fault : Option Fault) (events : List Event) : Type 0 where
+  pub spared : IsStruck layout w old number (plan_of fault) → ⊥
+  pub events_are : events ≡ Delivers number ∷ []
+
+-- which of the two was found
+abbrev pub found_of : Node → Node → Found → Node
+found_of before after Before = before
+found_of before after After = after
+
+-- what a disk opens as: one of the two, its store opened so many times since
+pub record Finds (layout : Layout) (me : BrickId) (before after : Node) (disk : MemDisk) : Type 0 where
+  pub openings : ℕ
+  pub found : Found
+  pub shows : ImageShows layout me (opened_more openings (found_of before after found)) (content_of disk)
+
+-- a brick of the layout that is down
+abbrev pub is_down : Layout → World → BrickId → Bool
+is_down layout w brick = is_brick layout brick && not (w.up brick.0)
+
+-- A start of a brick that is down: its disk opens as what it is found to hold, and this opening is one more. It is cut short where it makes the
+-- call that the plan names, and the brick stays down, as does one whose store can't be opened once more.
+pub record StartsDown (layout : Layout) (w : World) (old : List MemDisk) (brick : BrickId) : Type 0 where
+  pub down : is_down layout w brick ≡ true
+  pub disk : MemDisk
+  pub disk_is : slice_get old brick.0 ≡ Some disk
+  pub finds : Finds layout brick (w.nodes brick.0) (w.after brick.0) disk
+
+pub record StaysDown (layout : Layout) (w : World) (old new : List MemDisk) (brick : BrickId) (fault : Option Fault) (events : List Event) : Type 0 where
+  pub start : StartsDown layout w old brick
+  pub reached : IsReachedOpening layout brick start.disk (plan_of fault)
+  pub events_are : events ≡ Stops brick None ∷ []
+  pub left : (disk : MemDisk) → slice_get new brick.0 ≡ Some disk
+      → IsLeft layout brick (w.nodes brick.0) (w.after brick.0) fault disk
+
+pub record IsStarted (layout : Layout) (w : World) (old : List MemDisk) (brick : BrickId) (fault : Option Fault) (events : List Event) : Type 0 where
+  pub start : StartsDown layout w old brick
+  pub spared : (IsReachedOpening layout brick start.disk (plan_of fault) → ⊥)
+      ⊎ (may_open (start.finds.openings + 1) (w.nodes brick.0) ≡ false)
+  pub events_are : events ≡ Starts brick (start.finds.openings + 1) start.finds.found ∷ []
+
+-- a start of a brick that is up, or that there is not
+pub record IsNoStart (layout : Layout) (w : World) (brick : BrickId) (events : List Event) : Type 0 where
+  pub not_down : is_down layout w brick ≡ false
+  pub events_are : events ≡ Starts brick 1 Before ∷ []
+
+-- the start of a brick is these events
+abbrev pub IsStartOf : Layout → World → List MemDisk → List MemDisk → BrickId → Option Fault → List Event → Type 0
+IsStartOf layout w old new brick fault events =
+    StaysDown layout w old new brick fault events ⊎ IsStarted layout w old brick fault events ⊎ IsNoStart layout w brick events
+
+-- the delivery of a message is these events
+abbrev pub IsDeliveryOf : Layout → World → List MemDisk → List MemDisk → ℕ → Option Fault → List Event → Type 0
+IsDeliveryOf layout w old new number fault events =
+    StopsMidway layout w old new number fault events ⊎ IsDelivered layout w old number fault events
+
+-- A line is these events, in a run over these disks that leaves these.
+abbrev pub IsEventsOf : Layout → World → List MemDisk → List MemDisk → Line → List Event → Type 0
+IsEventsOf layout w old new (Deliver k fault) events = IsDeliveryOf layout w old new k fault events
+IsEventsOf layout w old new (Crash b) events = (events ≡ Stops (brick_of b) None ∷ []) × (new ≡ old)
+IsEventsOf layout w old new (Start b fault) events = IsStartOf layout w old new (brick_of b) fault events
+IsEventsOf layout w old new line events = events ≡ events_of line
