@@ -1,7 +1,7 @@
 #!/usr/bin/env python3
 """How much processor time `replay run` takes a line, and how much memory.
 
-    bench/replay/run.py [PROGRAM] [--beside COMMAND].. [--lines N].. [--seconds S]
+    bench/replay/run.py [PROGRAM] [--beside COMMAND].. [--lines N].. [--stops N] [--seconds S]
 
 It makes schedules of 20,000, 100,000 and 1,000,000 lines (or of those that --lines names), runs the built program on each, and prints a
 row: the processor time of the run, user and system, divided by the number of lines, and the most memory that it held at one time.
@@ -13,6 +13,9 @@ Each COMMAND, split at its spaces, is run beside it on the same input, as anothe
 
 The row of a COMMAND also says whether it printed what the program printed. A run is ended after S seconds (300 where none are named).
 Its row then says so, and a longer schedule is not tried with that command. Let nothing else run on the machine meanwhile.
+
+With --stops a schedule is run in their place that stops a brick so many times and starts it again: each time it crashes, its start is cut
+short at one of the calls of its disk, with one of three picks, and then it starts. Every start opens its store.
 
 The schedule: four bricks keep 64 stripes of two data blocks of 64 bytes (any two of a stripe's four blocks give its data back, and three
 bricks are a quorum). Stripe after stripe, in turn, is written whole and then read, each time by one brick and over bricks 0, 1 and 2, and
@@ -64,6 +67,21 @@ def schedule(lines):
     return LAYOUT + "".join(row + "\n" for row in rows[:lines])
 
 
+def stops(count):
+    """The input that cuts a brick's start short and starts it again, so many times."""
+    rows = []
+    for number in range(count):
+        rows += ["crash 1", f"start 1 cut {1 + number % 6} pick {number % 3}", "start 1"]
+    return LAYOUT + "".join(row + "\n" for row in rows)
+
+
+def inputs(asked):
+    """What is run, each with its number of lines."""
+    if asked.stops:
+        return [(3 * asked.stops, stops(asked.stops))]
+    return [(lines, schedule(lines)) for lines in asked.lines or [20_000, 100_000, 1_000_000]]
+
+
 def run(command, given, printed, seconds):
     """Runs a command; gives its status (None where it was ended), processor seconds and kilobytes."""
     with open(given, "rb") as source, open(printed, "wb") as sink:
@@ -87,14 +105,15 @@ def main():
     words.add_argument("program", nargs="?", default=str(ROOT / "crates/replay_main/out/replay_main"))
     words.add_argument("--beside", action="append", default=[], metavar="COMMAND")
     words.add_argument("--lines", action="append", type=int, metavar="N")
+    words.add_argument("--stops", type=int, metavar="N")
     words.add_argument("--seconds", type=float, default=300)
     asked = words.parse_args()
     commands = [[asked.program, "run"]] + [command.split() for command in asked.beside]
     slow = set()
     with tempfile.TemporaryDirectory() as folder:
-        for lines in asked.lines or [20_000, 100_000, 1_000_000]:
+        for lines, text in inputs(asked):
             given = pathlib.Path(folder, "given")
-            given.write_text(schedule(lines))
+            given.write_text(text)
             wanted = None
             for place, command in enumerate(commands):
                 if place in slow:
