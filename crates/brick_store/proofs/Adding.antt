@@ -31,8 +31,7 @@ use Rattle.brick_store.specs.Blocks.{resolved, cached}
 use Rattle.brick_store.specs.Bricks.{Brick, IsAnswer}
 use Rattle.brick_store.specs.Images.{limits_of, StandsFor}
 use Rattle.brick_store.specs.Standing.{AllSlots, IsCached, IsStored, GroupHasMembers, Standing}
-use Rattle.brick_store.specs.Steps.{changed, Step}
-use Rattle.brick_store.specs.Calls.{MakesCalls}
+use Rattle.brick_store.specs.Steps.{changed, CutsShort, Step}
 use Rattle.brick_store.specs.Changes.{Changes}
 use Rattle.brick_store.proofs.Changed.{changed_to, not_full}
 use Rattle.brick_store.proofs.Changing.{brick_of, stands_for, stored_still, changes_tried, standing_after}
@@ -120,8 +119,8 @@ brick_same {D} blocks now frames st same =
     with_state : StateOf Version → Brick D
     with_state s = record { disk = frames.disk; shape = frames.shape; state = s; listed = size_of frames.frames; halted = frames.halted }
 
-module _ {D : Type 0} (tells : Type 0) (seen : D → List ℕ) (may_leave : D → List ℕ → Type 0) (moment : D → ℕ) (left_since : D → ℕ → List ℕ → Type 0)
-    (faults : D → ℕ) (sound : D → Type 0) where
+module _ {D : Type 0} (tells : Type 0) (seen certain : D → List ℕ) (may_leave : D → List ℕ → Type 0) (moment : D → ℕ)
+    (left_since : D → ℕ → List ℕ → Type 0) (faults : D → ℕ) (sound : D → Type 0) where
   -- and the store stands with it
   pub standing_same : (blocks now : BTreeMap ℕ (List ℕ)) (zero_block : List ℕ) (frames : Held D) (index : Index) → AllSlots (SameUnder blocks now)
       (state_of index)
@@ -168,7 +167,7 @@ module _ {D : Type 0} (tells : Type 0) (seen : D → List ℕ) (may_leave : D �
       inr (put.0, put.1 ∙ sym (cached_is shape.block blocks slot bytes small held))
 
   -- what the record of a version with a block of its own says of the whole call
-  pub changes_put : (slot : ℕ) (bytes : List ℕ) (blocks : BTreeMap ℕ (List ℕ)) (zero_block : List ℕ) (old new : Held D) (index : Index)
+  pub changes_put : {calls : ℕ} (slot : ℕ) (bytes : List ℕ) (blocks : BTreeMap ℕ (List ℕ)) (zero_block : List ℕ) (old new : Held D) (index : Index)
       (item : Record) (st_now next : StateOf Entry) (result : Result (Unit {0}) StoreFault)
       → Standing tells seen may_leave old index blocks zero_block → old.halted ≡ false → is_full (indexes.limits_of index) (state_of index) ≡ false
       → applied (indexes.limits_of index) item (state_of index) ≡ Some next
@@ -178,21 +177,23 @@ module _ {D : Type 0} (tells : Type 0) (seen : D → List ℕ) (may_leave : D �
       (changed (indexes.limits_of index) item (state_of index)) old new result
       → OnOk result (st_now ≡ changed (indexes.limits_of index) item (state_of index)) → OnErr result (st_now ≡ state_of index)
       → Kept (faults old.disk) (faults new.disk) (sound old.disk) (sound new.disk) (result ≡ Err Disk)
-      → (tells → OnOk result (MakesCalls 5 (moment old.disk) (moment new.disk)))
-      → Changes tells seen may_leave moment left_since faults sound (brick_of blocks old (state_of index)) (brick_of blocks new st_now)
-      (resolved (cached old.shape.block blocks) next) true 5 result
-  changes_put slot bytes blocks zero_block old new index item st_now next result standing runs free is slots small held unnamed step made not_made cause counted =
+      → CutsShort tells seen certain moment calls (Some (slot, bytes)) (state_of index)
+      (changed (indexes.limits_of index) item (state_of index)) old new result
+      → Changes tells seen certain may_leave moment left_since faults sound (brick_of blocks old (state_of index)) (brick_of blocks new st_now)
+      (resolved (cached old.shape.block blocks) next) true calls result
+  changes_put {calls} slot bytes blocks zero_block old new index item st_now next result standing runs free is slots small held unnamed step made not_made cause cut =
       let st = state_of index in
       let limits = indexes.limits_of index in
       let to = changed_to limits item st next is in
       let step_next = subst (λ (n : StateOf Entry). Step tells seen may_leave moment left_since (Some (slot, bytes)) st n old new result) to step in
       let made_next = subst (λ (n : StateOf Entry). OnOk result (st_now ≡ n)) to made in
+      let cut_next = subst (λ (n : StateOf Entry). CutsShort tells seen certain moment calls (Some (slot, bytes)) st n old new result) to cut in
       let records : limits.records ≡ old.shape.records = ap (λ (l : Limits). l.records) standing.indexed.limits_are in
       let before = stored_before slot bytes blocks zero_block old index standing runs unnamed in
-      changes_tried tells seen may_leave moment left_since faults sound (Some (slot, bytes)) blocks st next old new st_now true 5 result runs
+      changes_tried tells seen certain may_leave moment left_since faults sound (Some (slot, bytes)) blocks st next old new st_now true calls result runs
       (λ add at. not_full limits st free (at ∙ sym records))
       before (λ told content kept put. slots (IsStored old.shape blocks content) (stored_here slot bytes blocks old.shape content small held put)
-      (before told content kept)) step_next made_next not_made cause counted
+      (before told content kept)) step_next made_next not_made cause cut_next
 
   -- and that the store stands after it
   pub standing_put : (slot : ℕ) (bytes : List ℕ) (blocks : BTreeMap ℕ (List ℕ)) (zero_block : List ℕ) (old new : Held D) (index index_now : Index)
@@ -215,7 +216,7 @@ module _ {D : Type 0} (tells : Type 0) (seen : D → List ℕ) (may_leave : D �
       let shaped = subst (λ (l : Limits). applied l item st ≡ Some next) standing.indexed.limits_are is in
       let kept = applied_keeps (limits_of old.shape) item st next standing.indexed.kept shaped in
       let before = stored_before slot bytes blocks zero_block old index standing runs unnamed in
-      standing_after tells seen may_leave moment left_since faults sound
+      standing_after tells seen certain may_leave moment left_since faults sound
       (Some (slot, bytes)) blocks zero_block next old new index index_now result standing runs limits step_next made_next not_made kept members
       (slots (IsCached old.shape.block blocks) (inr (bytes, held, len)) standing.cached_all)
       (λ told content kept_slots put. slots (IsStored old.shape blocks content) (stored_here slot bytes blocks old.shape content small held put)
@@ -225,7 +226,7 @@ module _ {D : Type 0} (tells : Type 0) (seen : D → List ℕ) (may_leave : D �
   pub changes_stopped : (only_now : (disk : D) (image : List ℕ) → left_since disk (moment disk) image → may_leave disk image)
       (blocks : BTreeMap ℕ (List ℕ)) (zero_block : List ℕ) (old : Held D) (index : Index) (after : StateOf Version) (calls : ℕ)
       → Standing tells seen may_leave old index blocks zero_block → old.halted ≡ false → is_full (indexes.limits_of index) (state_of index) ≡ false
-      → Changes tells seen may_leave moment left_since faults sound (brick_of blocks old (state_of index))
+      → Changes tells seen certain may_leave moment left_since faults sound (brick_of blocks old (state_of index))
       (brick_of blocks old (state_of index)) after true calls (Err NoMemory)
   changes_stopped only_now blocks zero_block old index after calls standing running free = record {
     ok = tt;
@@ -244,7 +245,7 @@ module _ {D : Type 0} (tells : Type 0) (seen : D → List ℕ) (may_leave : D �
         (sym (live-resolved (cached old.shape.block blocks) (state_of index))) memory;
     no_call = λ other. record { content = refl; crash = λ image left. left; clock = refl; time = record { later = omega arith; nothing_else = λ t image le left. inl left; keeps = λ t image le past. past } };
     cause = record { later = omega arith; rose = λ bad. absurd cc; stays = λ here. here; never = λ here bad. absurd cc };
-    counted = λ told. tt;
+    cut = λ told bad. absurd cc;
   }
     where
       differ : true ≡ false → ⊥
@@ -268,10 +269,10 @@ module _ {D : Type 0} (tells : Type 0) (seen : D → List ℕ) (may_leave : D �
       (fault : StoreFault)
       → brick_of blocks old (state_of index) ≡ b → fault ≡ NoMemory → Standing tells seen may_leave old index blocks zero_block → old.halted ≡ false
       → is_full (indexes.limits_of index) (state_of index) ≡ false
-      → Changes tells seen may_leave moment left_since faults sound b (brick_of blocks old (state_of index)) after true calls (Err fault)
+      → Changes tells seen certain may_leave moment left_since faults sound b (brick_of blocks old (state_of index)) after true calls (Err fault)
   told_stopped only_now blocks zero_block old index b after calls fault view memory standing runs free =
-      subst (λ (e : StoreFault). Changes tells seen may_leave moment left_since faults sound b (brick_of blocks old (state_of index)) after true calls
+      subst (λ (e : StoreFault). Changes tells seen certain may_leave moment left_since faults sound b (brick_of blocks old (state_of index)) after true calls
       (Err e)) (sym memory)
-      (subst (λ (x : Brick D). Changes tells seen may_leave moment left_since faults sound x (brick_of blocks old (state_of index)) after true calls
+      (subst (λ (x : Brick D). Changes tells seen certain may_leave moment left_since faults sound x (brick_of blocks old (state_of index)) after true calls
       (Err NoMemory)) view
       (changes_stopped only_now blocks zero_block old index after calls standing runs free))

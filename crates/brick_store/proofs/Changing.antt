@@ -33,12 +33,13 @@ use Rattle.brick_store.specs.Blocks.{resolved, cached}
 use Rattle.brick_store.specs.Bricks.{Brick, Keeps, IsAnswer, halted_after}
 use Rattle.brick_store.specs.Images.{records_of, limits_of, block_at, StandsFor, StandsForEither, LeavesState}
 use Rattle.brick_store.specs.Standing.{Leads, AllSlots, IsCached, IsStored, GroupHasMembers, IsIndexed, IsOnDisk, Standing}
-use Rattle.brick_store.specs.Steps.{changed, LeadsTo, IsMoment, IsSettled, IsMade, Step, IsRefused}
-use Rattle.brick_store.specs.Calls.{MakesCalls, calls_with, calls_of}
+use Rattle.brick_store.specs.Steps.{changed, LeadsTo, IsMoment, IsUnchanged, IsChanged, CutsShort, IsSettled, IsMade, Step, IsRefused}
+use Rattle.brick_store.specs.Calls.{calls_with, calls_of}
 use Rattle.brick_store.specs.Sizes.{view_size, known_size}
 use Rattle.brick_store.specs.Changes.{Changes}
 use Rattle.brick_state.proofs.Keeping.{applied_keeps}
 use Rattle.brick_store.proofs.Stepping.{refused}
+use Rattle.brick_store.proofs.Cutting.{stops_as}
 use Rattle.brick_store.proofs.Changed.{changed_to, not_full}
 use Rattle.brick_store.proofs.Resolving.{resolved_same, slots_imply, live-resolved}
 
@@ -196,8 +197,8 @@ not_disk : (halted adds : Bool) (records live : ℕ) (fault : StoreFault) → Is
 not_disk halted adds records live fault (inl is) bad = absurd cc
 not_disk halted adds records live fault (inr is) bad = absurd cc
 
-module _ {D : Type 0} (tells : Type 0) (seen : D → List ℕ) (may_leave : D → List ℕ → Type 0) (moment : D → ℕ) (left_since : D → ℕ → List ℕ → Type 0)
-    (faults : D → ℕ) (sound : D → Type 0) where
+module _ {D : Type 0} (tells : Type 0) (seen certain : D → List ℕ) (may_leave : D → List ℕ → Type 0) (moment : D → ℕ)
+    (left_since : D → ℕ → List ℕ → Type 0) (faults : D → ℕ) (sound : D → Type 0) where
   -- at a moment of a step each image stands for the state before it or for the one after it
   pub either_stands : (put : Option (ℕ × List ℕ)) (blocks : BTreeMap ℕ (List ℕ)) (st next : StateOf Entry) (old : Held D) (image : List ℕ)
       → ((content : List ℕ) → KeepsSlots old.shape put (seen old.disk) content → AllSlots (IsStored old.shape blocks content) st)
@@ -219,10 +220,10 @@ module _ {D : Type 0} (tells : Type 0) (seen : D → List ℕ) (may_leave : D �
       → Step tells seen may_leave moment left_since put st next old new result
       → OnOk result (st_now ≡ next) → OnErr result (st_now ≡ st)
       → Kept (faults old.disk) (faults new.disk) (sound old.disk) (sound new.disk) (result ≡ Err Disk)
-      → (tells → OnOk result (MakesCalls calls (moment old.disk) (moment new.disk)))
-      → Changes tells seen may_leave moment left_since faults sound (brick_of blocks old st) (brick_of blocks new st_now)
+      → CutsShort tells seen certain moment calls put st next old new result
+      → Changes tells seen certain may_leave moment left_since faults sound (brick_of blocks old st) (brick_of blocks new st_now)
       (resolved (cached old.shape.block blocks) next) adds calls result
-  changes_tried put blocks st next old new st_now adds calls result runs free before after step made not_made cause counted = record {
+  changes_tried put blocks st next old new st_now adds calls result runs free before after step made not_made cause cut = record {
     ok = keeps_ok result made;
     refused = keeps_err result not_made;
     durable = λ told. leaves result made step.made step.stands told;
@@ -233,7 +234,10 @@ module _ {D : Type 0} (tells : Type 0) (seen : D → List ℕ) (may_leave : D �
         (tried_answer old.shape.records (live st) adds new.halted result free step.only step.halts));
     no_call = untouched result step.only step.no_memory;
     cause = cause;
-    counted = counted;
+    cut = λ told is. stops_as seen certain moment calls old.disk new.disk (IsUnchanged old.shape put st (seen old.disk))
+        (IsChanged old.shape put next (seen old.disk)) _ _
+        (λ image at. stands_for old.shape blocks st image at.opens (before told image at.slots))
+        (λ image at. stands_for old.shape blocks next image at.opens (after told image at.slots at.stands)) (cut told is);
   }
     where
       now_is : (s : StateOf Entry) → st_now ≡ s → resolved (cached new.shape.block blocks) st_now ≡ resolved (cached old.shape.block blocks) s
@@ -359,7 +363,7 @@ module _ {D : Type 0} (tells : Type 0) (seen : D → List ℕ) (may_leave : D �
       (fault : StoreFault)
       → Standing tells seen may_leave old index blocks zero_block → IsRefused old.halted adds (indexes.limits_of index).records
       (live (state_of index)) (Err fault)
-      → Changes tells seen may_leave moment left_since faults sound (brick_of blocks old (state_of index))
+      → Changes tells seen certain may_leave moment left_since faults sound (brick_of blocks old (state_of index))
       (brick_of blocks old (state_of index)) after adds calls (Err fault)
   changes_refused only_now blocks zero_block old index after adds calls fault standing is = record {
     ok = tt;
@@ -386,11 +390,11 @@ module _ {D : Type 0} (tells : Type 0) (seen : D → List ℕ) (may_leave : D �
       stays = λ here. here;
       never = λ here bad. not_disk old.halted adds _ _ fault is bad;
     };
-    counted = λ told. tt;
+    cut = λ told bad. absurd (not_disk old.halted adds _ _ fault is bad);
   }
 
   -- what the record of a change that adds no block of its own says of the whole call
-  pub changes_plain : (blocks : BTreeMap ℕ (List ℕ)) (zero_block : List ℕ) (old new : Held D) (index : Index) (item : Record)
+  pub changes_plain : {calls : ℕ} (blocks : BTreeMap ℕ (List ℕ)) (zero_block : List ℕ) (old new : Held D) (index : Index) (item : Record)
       (st_now next : StateOf Entry) (adds : Bool) (result : Result (Unit {0}) StoreFault)
       → Standing tells seen may_leave old index blocks zero_block → old.halted ≡ false
       → (adds ≡ true → is_full (indexes.limits_of index) (state_of index) ≡ false)
@@ -399,20 +403,21 @@ module _ {D : Type 0} (tells : Type 0) (seen : D → List ℕ) (may_leave : D �
       → Step tells seen may_leave moment left_since None (state_of index) (changed (indexes.limits_of index) item (state_of index)) old new result
       → OnOk result (st_now ≡ changed (indexes.limits_of index) item (state_of index)) → OnErr result (st_now ≡ state_of index)
       → Kept (faults old.disk) (faults new.disk) (sound old.disk) (sound new.disk) (result ≡ Err Disk)
-      → (tells → OnOk result (MakesCalls 4 (moment old.disk) (moment new.disk)))
-      → Changes tells seen may_leave moment left_since faults sound (brick_of blocks old (state_of index)) (brick_of blocks new st_now)
-      (resolved (cached old.shape.block blocks) next) adds 4 result
-  changes_plain blocks zero_block old new index item st_now next adds result standing runs free is slots step made not_made cause counted =
+      → CutsShort tells seen certain moment calls None (state_of index) (changed (indexes.limits_of index) item (state_of index)) old new result
+      → Changes tells seen certain may_leave moment left_since faults sound (brick_of blocks old (state_of index)) (brick_of blocks new st_now)
+      (resolved (cached old.shape.block blocks) next) adds calls result
+  changes_plain {calls} blocks zero_block old new index item st_now next adds result standing runs free is slots step made not_made cause cut =
       let st = state_of index in
       let limits = indexes.limits_of index in
       let to = changed_to limits item st next is in
       let step_next = subst (λ (n : StateOf Entry). Step tells seen may_leave moment left_since None st n old new result) to step in
       let made_next = subst (λ (n : StateOf Entry). OnOk result (st_now ≡ n)) to made in
+      let cut_next = subst (λ (n : StateOf Entry). CutsShort tells seen certain moment calls None st n old new result) to cut in
       let records : limits.records ≡ old.shape.records = ap (λ (l : Limits). l.records) standing.indexed.limits_are in
       let stored = stored_plain blocks zero_block old index standing runs in
-      changes_tried None blocks st next old new st_now adds 4 result runs (λ add at. not_full limits st (free add) (at ∙ sym records))
+      changes_tried None blocks st next old new st_now adds calls result runs (λ add at. not_full limits st (free add) (at ∙ sym records))
       stored (λ told content kept put. slots (IsStored old.shape blocks content) (inl refl)
-      (stored told content kept)) step_next made_next not_made cause counted
+      (stored told content kept)) step_next made_next not_made cause cut_next
     where
       stored_plain : (bs : BTreeMap ℕ (List ℕ)) (z : List ℕ) (s : Held D) (ix : Index) → Standing tells seen may_leave s ix bs z → s.halted ≡ false
           → tells → (content : List ℕ) → KeepsSlots s.shape None (seen s.disk) content → AllSlots (IsStored s.shape bs content) (state_of ix)
@@ -446,19 +451,22 @@ module _ {D : Type 0} (tells : Type 0) (seen : D → List ℕ) (may_leave : D �
 
   -- in the words of what a clause sees of the store
   pub told_of : (blocks : BTreeMap ℕ (List ℕ)) (old new : Held D) (st st_now next : StateOf Entry) (b : Brick D)
-      (F : StateOf Version → StateOf Version) (A : StateOf Version → Bool) (adds : Bool) (calls : ℕ) (result : Result (Unit {0}) StoreFault)
+      (F : StateOf Version → StateOf Version) (A : StateOf Version → Bool) (C : Brick D → ℕ) (adds : Bool) (calls : ℕ)
+      (result : Result (Unit {0}) StoreFault)
       → brick_of blocks old st ≡ b → resolved (cached old.shape.block blocks) next ≡ F (resolved (cached old.shape.block blocks) st)
-      → adds ≡ A (resolved (cached old.shape.block blocks) st)
-      → Changes tells seen may_leave moment left_since faults sound (brick_of blocks old st) (brick_of blocks new st_now)
+      → adds ≡ A (resolved (cached old.shape.block blocks) st) → calls ≡ C (brick_of blocks old st)
+      → Changes tells seen certain may_leave moment left_since faults sound (brick_of blocks old st) (brick_of blocks new st_now)
       (resolved (cached old.shape.block blocks) next) adds calls result
-      → Changes tells seen may_leave moment left_since faults sound b (brick_of blocks new st_now) (F b.state) (A b.state) calls result
-  told_of blocks old new st st_now next b F A adds calls result view after add tried =
-      subst (λ (x : Brick D). Changes tells seen may_leave moment left_since faults sound x (brick_of blocks new st_now) (F x.state)
-      (A x.state) calls result) view
-      (subst (λ (a : StateOf Version). Changes tells seen may_leave moment left_since faults sound (brick_of blocks old st)
+      → Changes tells seen certain may_leave moment left_since faults sound b (brick_of blocks new st_now) (F b.state) (A b.state) (C b) result
+  told_of blocks old new st st_now next b F A C adds calls result view after add number tried =
+      subst (λ (x : Brick D). Changes tells seen certain may_leave moment left_since faults sound x (brick_of blocks new st_now) (F x.state)
+      (A x.state) (C x) result) view
+      (subst (λ (n : ℕ). Changes tells seen certain may_leave moment left_since faults sound (brick_of blocks old st) (brick_of blocks new st_now)
+      (F (resolved (cached old.shape.block blocks) st)) (A (resolved (cached old.shape.block blocks) st)) n result) number
+      (subst (λ (a : StateOf Version). Changes tells seen certain may_leave moment left_since faults sound (brick_of blocks old st)
       (brick_of blocks new st_now) a (A (resolved (cached old.shape.block blocks) st)) calls result) after
-      (subst (λ (x : Bool). Changes tells seen may_leave moment left_since faults sound (brick_of blocks old st) (brick_of blocks new st_now)
-      (resolved (cached old.shape.block blocks) next) x calls result) add tried))
+      (subst (λ (x : Bool). Changes tells seen certain may_leave moment left_since faults sound (brick_of blocks old st) (brick_of blocks new st_now)
+      (resolved (cached old.shape.block blocks) next) x calls result) add tried)))
 
   pub told_refused : (only_now : (disk : D) (image : List ℕ) → left_since disk (moment disk) image → may_leave disk image)
       (blocks : BTreeMap ℕ (List ℕ)) (zero_block : List ℕ) (old : Held D) (index : Index) (b : Brick D) (F : StateOf Version → StateOf Version)
@@ -466,10 +474,10 @@ module _ {D : Type 0} (tells : Type 0) (seen : D → List ℕ) (may_leave : D �
       → brick_of blocks old (state_of index) ≡ b → adds ≡ A (resolved (cached old.shape.block blocks) (state_of index))
       → Standing tells seen may_leave old index blocks zero_block
       → IsRefused old.halted adds (indexes.limits_of index).records (live (state_of index)) (Err fault)
-      → Changes tells seen may_leave moment left_since faults sound b b (F b.state) (A b.state) calls (Err fault)
+      → Changes tells seen certain may_leave moment left_since faults sound b b (F b.state) (A b.state) calls (Err fault)
   told_refused only_now blocks zero_block old index b F A adds calls fault view add standing is =
       let st = state_of index in
-      subst (λ (x : Brick D). Changes tells seen may_leave moment left_since faults sound x x (F x.state) (A x.state) calls (Err fault)) view
-      (subst (λ (x : Bool). Changes tells seen may_leave moment left_since faults sound (brick_of blocks old st) (brick_of blocks old st)
+      subst (λ (x : Brick D). Changes tells seen certain may_leave moment left_since faults sound x x (F x.state) (A x.state) calls (Err fault)) view
+      (subst (λ (x : Bool). Changes tells seen certain may_leave moment left_since faults sound (brick_of blocks old st) (brick_of blocks old st)
       (F (resolved (cached old.shape.block blocks) st)) x calls (Err fault)) add
       (changes_refused only_now blocks zero_block old index (F (resolved (cached old.shape.block blocks) st)) adds calls fault standing is))

@@ -1,15 +1,11 @@
 -- How many calls of the disk are made.
-use Rattle.std.proofs.Common.{◌≡◌, inl, inr, ℕ, ◌+◌, ◌≤◌, Bool, true, false, if◌then◌else◌, Result, Ok, Err, refl, arith, ◌&&◌, List, sym, ap, ◌∙◌}
-use Rattle.std.specs.Result.{OnOk, IsOk}
+use Rattle.std.proofs.Common.{◌≡◌, inl, inr, ℕ, ◌+◌, ◌≤◌, Bool, true, false, if◌then◌else◌, Result, Err, refl, arith, ◌&&◌, List, sym, ap, ◌∙◌}
 use Rattle.std.proofs.lemmas.Bool.{cases_lt}
 use Rattle.std.proofs.lemmas.Bool.Decides.{nat_tests}
 use Rattle.stamp_store.specs.declared.kept_records.Kept.TheVariants.{Boot, Ballots, Order}
 use Rattle.stamp_store.specs.declared.kept_records.Kept.TheVariants as kinds
 use Rattle.brick_state.specs.declared.records.Record.{Record}
 use Rattle.brick_state.specs.declared.records.Record.TheVariants as forms
-use Rattle.brick_store.specs.declared.faults.StoreFault.{StoreFault}
-use Rattle.fab_disk.specs.declared.disk.Plan.{Plan}
-use Rattle.fab_disk.specs.Plan.{IsRun}
 use Rattle.frame_store.specs.declared.shapes.Shape.{Shape}
 use Rattle.frame_store.specs.declared.faults.FrameFault.{FrameFault}
 use Rattle.frame_store.specs.declared.faults.FrameFault.TheVariants as frames
@@ -17,7 +13,7 @@ use Rattle.frame_store.specs.declared.frames.Frame.{Frame}
 use Rattle.frame_store.specs.Layouts.{half_size}
 use Rattle.frame_store.specs.Listed.{size_of}
 use Rattle.frame_store.specs.Stores.{Held}
-use Rattle.brick_store.specs.Calls.{MakesCalls, calls_with, has_room_for, is_appendable, opening_calls}
+use Rattle.brick_store.specs.Calls.{calls_with, has_room_for, is_appendable, opening_calls}
 use Rattle.brick_store.specs.Sizes.{most}
 
 -- no frame of a record is longer
@@ -42,18 +38,6 @@ room_then shape listed body calls = by (has_room_for shape listed body)
     by : (b : Bool) → (if b then calls else (7 + calls)) ≡ (if b then 0 else (7 + 0)) + calls
     by true = omega arith
     by false = omega arith
-
--- seven calls more, or none
-pub run_counted : {D tells : Type 0} {moment : D → ℕ} {plan : D → Plan} {unlisted : D → Type 0} (room : Bool) (calls : ℕ) {old new : D}
-    (r : Result (Unit {0}) StoreFault) {cut : Type 0}
-    → IsRun tells moment plan unlisted (if room then calls else (7 + calls)) old new (IsOk r) cut → tells
-    → OnOk r (MakesCalls calls (moment old) (moment new))
-run_counted room calls (Err e) run told = tt
-run_counted {D} {tells} {moment} room calls {old} {new} (Ok u) run told = by room (run.counted told refl)
-  where
-    by : (b : Bool) → moment new ≡ moment old + (if b then calls else (7 + calls)) → MakesCalls calls (moment old) (moment new)
-    by true is = inl is
-    by false is = inr is
 
 -- the list was made ready for the count, and then the opening was counted
 pub start_sum : (b : Bool) → opening_calls b ≡ (if b then 1 else 8) + 4

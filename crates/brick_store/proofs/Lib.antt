@@ -7,6 +7,7 @@ pub mod LiveSizes
 pub mod HeldBlocks
 pub mod FreshLists
 pub mod Stepping
+pub mod Cutting
 pub mod Changing
 pub mod Loads
 pub mod Changed
@@ -15,6 +16,7 @@ pub mod Seen
 pub mod Versions
 pub mod Adding
 pub mod Opened
+pub mod CutOpenings
 pub mod HeldLogs
 pub mod Counting
 pub mod KeptLogs

@@ -129,25 +129,41 @@ module _ {D : Type 0} (seen : D → List ℕ) (held : Held D) (shows : Shows see
   worn_there content content_is worn = (found, is_found content content_is, found_boot ∙ worn)
 
   -- the list did not end early where the disk held a store
-  closed_there : (st : StateOf Version) → StandsFor held.shape st (seen held.disk) → held.closed ≡ true
+  pub closed_there : (st : StateOf Version) → StandsFor held.shape st (seen held.disk) → held.closed ≡ true
   closed_there st stands = (finds held.shape st (seen held.disk) held.frames held.closed shows.opens stands).0
 
-  -- an image of a moment of the opening stands for the state, counted or not
+  -- with this count of openings where the disk held a store of this state
+  pub boot_there : (content : List ℕ) → seen held.disk ≡ content → (st : StateOf Version) → StandsFor held.shape st content
+      → st.boot ≡ (found_in held.shape held.frames).boot
+  boot_there content content_is st stands =
+      let here : StandsFor held.shape st (seen held.disk) = subst (λ (x : List ℕ). StandsFor held.shape st x) (sym content_is) stands in
+      sym (ap (λ (x : StateOf Version). x.boot) (finds held.shape st (seen held.disk) held.frames held.closed shows.opens here).1) ∙ found_boot
+
+  -- An image of a moment of the opening stands for the state before the opening was counted, or afterwards.
+  pub before_stands : (st : StateOf Version) → StandsFor held.shape st (seen held.disk) → (image : List ℕ)
+      → IsKeptIn held.shape (found_in held.shape held.frames) (seen held.disk) image → StandsFor held.shape st image
+  before_stands st stands image before =
+      subst (λ (x : StateOf Version). StandsFor held.shape x image)
+      (finds held.shape st (seen held.disk) held.frames held.closed shows.opens stands).1
+      (kept_stands held.shape (found_in held.shape held.frames) (seen held.disk) image all_inside_file before)
+
+  pub after_stands : (st : StateOf Version) → StandsFor held.shape st (seen held.disk) → (image : List ℕ)
+      → IsKeptIn held.shape (booted ((found_in held.shape held.frames).boot + 1) (found_in held.shape held.frames)) (seen held.disk) image
+      → StandsFor held.shape (booted (st.boot + 1) st) image
+  after_stands st stands image after =
+      let old = found_in held.shape held.frames in
+      let here : StandsFor held.shape (resolved (block_at held.shape (seen held.disk)) (booted (old.boot + 1) old)) image = kept_stands held.shape
+      (booted (old.boot + 1) old) (seen held.disk) image all_inside_file after in
+      subst (λ (x : StateOf Version). StandsFor held.shape x image)
+      (counted_seen (block_at held.shape (seen held.disk)) old ∙ ap (λ (x : StateOf Version). booted (x.boot + 1) x)
+      (finds held.shape st (seen held.disk) held.frames held.closed shows.opens stands).1) here
+
   either_stands : (st : StateOf Version) → StandsFor held.shape st (seen held.disk) → (image : List ℕ)
       → IsKeptInEither held.shape (found_in held.shape held.frames)
       (booted ((found_in held.shape held.frames).boot + 1) (found_in held.shape held.frames)) (seen held.disk) image
       → StandsForEither held.shape st (booted (st.boot + 1) st) image
-  either_stands st stands image (inl before) =
-      inl (subst (λ (x : StateOf Version). StandsFor held.shape x image)
-      (finds held.shape st (seen held.disk) held.frames held.closed shows.opens stands).1
-      (kept_stands held.shape (found_in held.shape held.frames) (seen held.disk) image all_inside_file before))
-  either_stands st stands image (inr after) =
-      let old = found_in held.shape held.frames in
-      let here : StandsFor held.shape (resolved (block_at held.shape (seen held.disk)) (booted (old.boot + 1) old)) image = kept_stands held.shape
-      (booted (old.boot + 1) old) (seen held.disk) image all_inside_file after in
-      inr (subst (λ (x : StateOf Version). StandsFor held.shape x image)
-      (counted_seen (block_at held.shape (seen held.disk)) old ∙ ap (λ (x : StateOf Version). booted (x.boot + 1) x)
-      (finds held.shape st (seen held.disk) held.frames held.closed shows.opens stands).1) here)
+  either_stands st stands image (inl before) = inl (before_stands st stands image before)
+  either_stands st stands image (inr after) = inr (after_stands st stands image after)
 
 -- ---- moments
 

@@ -38,7 +38,7 @@ unfolding applied changed
 counted limits n st = refl
 
 -- frames that lead to a state are its
-kept_leads : (shape : Shape) (st : StateOf Entry) (a b image : List ℕ) → KeepsSlots shape None a b → KeepsSlots shape None b image
+pub kept_leads : (shape : Shape) (st : StateOf Entry) (a b image : List ℕ) → KeepsSlots shape None a b → KeepsSlots shape None b image
     → LeadsTo shape st image → IsKeptIn shape st a image
 kept_leads shape st a b image first second leads = record {
   frames = leads.frames;

@@ -1,14 +1,10 @@
 -- How many calls of the disk's `write_at` and `sync` a call of a brick's store makes.
-use Rattle.std.specs.Prelude.{◌≡◌, ◌⊎◌, ℕ, ◌+◌, Bool, ◌&&◌, nat_le, if◌then◌else◌, Option, Some, None, List}
+use Rattle.std.specs.Prelude.{ℕ, ◌+◌, Bool, ◌&&◌, nat_le, if◌then◌else◌, Option, Some, None, List}
 use Rattle.frame_store.specs.declared.shapes.Shape.{Shape}
 use Rattle.frame_store.specs.Layouts.{half_size}
 use Rattle.frame_store.specs.Listed.{size_of}
 use Rattle.frame_store.specs.Stores.{Held}
 use Rattle.brick_store.specs.Bricks.{Brick}
-
--- so many, or seven more where the list of frames was rewritten first
-abbrev pub MakesCalls : ℕ → ℕ → ℕ → Type 0
-MakesCalls calls before after = (after ≡ before + calls) ⊎ (after ≡ before + (7 + calls))
 
 -- The half has room behind so many bytes of frames: for a frame with a body of this length, and the next gate.
 abbrev pub has_room_for : Shape → ℕ → ℕ → Bool

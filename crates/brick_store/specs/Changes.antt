@@ -1,17 +1,16 @@
 -- What each change of a brick's store promises.
 use Rattle.std.specs.Prelude.{◌≡◌, ◌≢◌, ℕ, Bool, false, List, Result, Err, OnOk, OnErr}
-use Rattle.fab_disk.specs.Disk.{IsUntouched, LeavesOnly, Kept}
+use Rattle.fab_disk.specs.Disk.{IsUntouched, LeavesOnly, StopsEarly, Kept}
 use Rattle.version_log.specs.Versions.{Version}
 use Rattle.brick_state.specs.States.{StateOf, live}
 use Rattle.brick_store.specs.declared.faults.StoreFault.{StoreFault}
 use Rattle.brick_store.specs.declared.faults.StoreFault.TheVariants.{Disk}
 use Rattle.brick_store.specs.Bricks.{Brick, Keeps, IsAnswer}
-use Rattle.brick_store.specs.Calls.{MakesCalls}
-use Rattle.brick_store.specs.Images.{StandsForEither, LeavesState}
+use Rattle.brick_store.specs.Images.{StandsFor, StandsForEither, LeavesState}
 
 -- The call makes a change to this state, or refuses; `adds` says whether the change adds a live record, and `calls` how many
 -- calls of `write_at` and `sync` it makes.
-pub record Changes {D : Type 0} (tells : Type 0) (seen : D → List ℕ) (may_leave : D → List ℕ → Type 0) (moment : D → ℕ)
+pub record Changes {D : Type 0} (tells : Type 0) (seen certain : D → List ℕ) (may_leave : D → List ℕ → Type 0) (moment : D → ℕ)
     (left_since : D → ℕ → List ℕ → Type 0) (faults : D → ℕ) (sound : D → Type 0)
     (old new : Brick D) (after : StateOf Version) (adds : Bool) (calls : ℕ) (result : Result (Unit {0}) StoreFault) : Type 0 where
   pub ok : OnOk result (Keeps after old new)
@@ -23,5 +22,7 @@ pub record Changes {D : Type 0} (tells : Type 0) (seen : D → List ℕ) (may_le
   pub answer : IsAnswer old.shape.records (live old.state) adds old.halted new.halted result
   pub no_call : OnErr result (result ≢ Err Disk → IsUntouched seen may_leave moment left_since old.disk new.disk)
   pub cause : Kept (faults old.disk) (faults new.disk) (sound old.disk) (sound new.disk) (result ≡ Err Disk)
-  -- after Ok, or seven more where the list of frames was rewritten first
-  pub counted : tells → OnOk result (MakesCalls calls (moment old.disk) (moment new.disk))
+  -- Cut short, what the last sync left opens as the state before it, and so does what a read gives, until the last call but one was made;
+  -- from then on that opens as the state after it.
+  pub cut : tells → result ≡ Err Disk
+      → StopsEarly seen certain moment calls old.disk new.disk (StandsFor old.shape old.state) (StandsFor old.shape after)

@@ -1,5 +1,5 @@
 -- What an opening reads.
-use Rattle.std.specs.Prelude.{◌≡◌, ◌⊎◌, ℕ, ◌-◌, ◌<◌, ◌^◌, ◌==◌, Bool, ◌&&◌, true, false, Option, Some, None, IsSome, option_and_then, List, [], ◌∷◌, length}
+use Rattle.std.specs.Prelude.{◌≡◌, ◌⊎◌, ℕ, ◌+◌, ◌-◌, ◌<◌, ◌≤◌, ◌^◌, ◌==◌, Bool, ◌&&◌, true, false, Option, Some, None, IsSome, option_and_then, List, [], ◌∷◌, length}
 use Rattle.std.specs.Ordering.{nat_cmp}
 use Rattle.std.specs.BTreeMap.{BTreeMap, get}
 use Rattle.frame_store.specs.declared.shapes.Shape.{Shape}
@@ -69,6 +69,22 @@ pub record IsKeptIn (shape : Shape) (st : StateOf Entry) (content image : List �
 -- the disk allowed the image before, or it has P
 abbrev pub IsAllowedOr : (List ℕ → Type 0) → (List ℕ → Type 0) → List ℕ → Type 0
 IsAllowedOr allowed P image = allowed image ⊎ P image
+
+-- An opening of so many calls was cut short: what the last sync left is what the disk allowed before, or the store as it was. What a read gives is
+-- the store as it was, until the last call but one was made, and from then on the store with the opening counted.
+pub record StopsOpening {D : Type 0} (seen certain : D → List ℕ) (may_leave : D → List ℕ → Type 0) (moment : D → ℕ) (calls : ℕ) (old new : D)
+    (Before After : List ℕ → Type 0) : Type 0 where
+  pub clock : moment new ≤ moment old + calls
+  pub settled : IsAllowedOr (may_leave old) Before (certain new)
+  pub early : moment new + 2 ≤ moment old + calls → Before (seen new)
+  pub late : moment old + calls < moment new + 2 → After (seen new)
+
+-- The list was being made ready for the count, by so many calls, when that was cut short.
+pub record StopsReadying {D : Type 0} (seen certain : D → List ℕ) (may_leave : D → List ℕ → Type 0) (moment : D → ℕ) (calls : ℕ) (old new : D)
+    (Before : List ℕ → Type 0) : Type 0 where
+  pub clock : moment new ≤ moment old + calls
+  pub settled : IsAllowedOr (may_leave old) Before (certain new)
+  pub same : Before (seen new)
 
 -- What an opening read: the index is what is made of the frames, and the blocks of its versions are in memory.
 pub record IsLoaded (tells : Type 0) (shape : Shape) (frames : List Frame) (content : List ℕ) (limits : Limits) (st : StateOf Entry) (whole : Bool)

@@ -1,6 +1,6 @@
 -- One change of a store's list of frames.
 use Rattle.std.specs.Prelude.{◌≡◌, ◌⊎◌, ◌+◌, ℕ, Bool, true, false, Option, unwrap_or, List, length, Result, Err, OnOk, OnErr}
-use Rattle.fab_disk.specs.Disk.{IsUntouched, LeavesOnly}
+use Rattle.fab_disk.specs.Disk.{IsUntouched, LeavesOnly, StopsEarly}
 use Rattle.frame_store.specs.declared.frames.Frame.{Frame}
 use Rattle.frame_store.specs.declared.shapes.Shape.{Shape}
 use Rattle.frame_store.specs.Images.{OpensAs, StandsIn, KeepsSlots}
@@ -37,6 +37,24 @@ pub record LeadsTo (shape : Shape) (st : StateOf Entry) (image : List ℕ) : Typ
 pub record IsMoment (shape : Shape) (put : Option (ℕ × List ℕ)) (before after : StateOf Entry) (content image : List ℕ) : Type 0 where
   pub opens : LeadsTo shape before image ⊎ (LeadsTo shape after image × StandsIn shape put image)
   pub slots : KeepsSlots shape put content image
+
+-- The image is that of a store before a change: it opens as this state, and no slot differs but the one that the block is put in.
+pub record IsUnchanged (shape : Shape) (put : Option (ℕ × List ℕ)) (st : StateOf Entry) (content image : List ℕ) : Type 0 where
+  pub opens : LeadsTo shape st image
+  pub slots : KeepsSlots shape put content image
+
+-- after it: and the block stands in its slot
+pub record IsChanged (shape : Shape) (put : Option (ℕ × List ℕ)) (st : StateOf Entry) (content image : List ℕ) : Type 0 where
+  pub opens : LeadsTo shape st image
+  pub stands : StandsIn shape put image
+  pub slots : KeepsSlots shape put content image
+
+-- A change of so many calls that answers Disk was cut short at one of them.
+abbrev pub CutsShort : {D : Type 0} → Type 0 → (D → List ℕ) → (D → List ℕ) → (D → ℕ) → ℕ → Option (ℕ × List ℕ) → StateOf Entry → StateOf Entry
+    → Held D → Held D → Result (Unit {0}) StoreFault → Type 0
+CutsShort tells seen certain moment calls put before after old new result =
+    tells → result ≡ Err Disk → StopsEarly seen certain moment calls old.disk new.disk
+    (IsUnchanged old.shape put before (seen old.disk)) (IsChanged old.shape put after (seen old.disk))
 
 module _ {D : Type 0} (tells : Type 0) (seen : D → List ℕ) (may_leave : D → List ℕ → Type 0) (moment : D → ℕ)
     (left_since : D → ℕ → List ℕ → Type 0) where

@@ -13,7 +13,7 @@ ghost use Rattle.brick_state.specs.KeptStates.{IsKeptState};
 ghost use Rattle.brick_store.specs.Calls.{calls_with};
 ghost use Rattle.brick_store.specs.Sizes.{body_size};
 ghost use Rattle.brick_store.specs.Standing.{GroupHasMembers, IsIndexed};
-ghost use Rattle.brick_store.specs.Steps.{RecordHasMembers, Step, MayStep, changed, HasAppendRoom, IsRefused};
+ghost use Rattle.brick_store.specs.Steps.{RecordHasMembers, Step, MayStep, CutsShort, changed, HasAppendRoom, IsRefused};
 
 use crate::faults::StoreFault;
 use crate::index_steps::apply;
@@ -37,6 +37,7 @@ fn rewrite<D: Disk>(
     ensures step { Step D.tells D.seen D.may_leave D.moment D.left_since None (state_of index.now) (state_of index.now) frames.old frames.new result }
     ensures fits { OnOk result (Fits frames.new.shape frames.new.frames body) }
     ensures room { OnOk result (HasAppendRoom D.has_room frames.new body) }
+    ensures cut { CutsShort D.tells D.seen D.certain D.moment 7 None (state_of index.now) (state_of index.now) frames.old frames.new result }
     ensures run { IsRun D.tells D.moment D.plan D.unlisted 7 frames.old.disk frames.new.disk
         (IsOk result) (result ≡ Err StoreFault.Disk) }
     ensures cause { Kept (D.faults frames.old.disk) (D.faults frames.new.disk) (D.sound frames.old.disk) (D.sound frames.new.disk)
@@ -62,6 +63,7 @@ fn make_room<D: Disk>(
     ensures step { Step D.tells D.seen D.may_leave D.moment D.left_since None (state_of index.now) (state_of index.now) frames.old frames.new result }
     ensures fits { OnOk result (Fits frames.new.shape frames.new.frames body) }
     ensures room { OnOk result ((frames.new ≡ frames.old) ⊎ HasAppendRoom D.has_room frames.new body) }
+    ensures cut { CutsShort D.tells D.seen D.certain D.moment (calls_with frames.old.shape (size_of frames.old.frames) body 0) None (state_of index.now) (state_of index.now) frames.old frames.new result }
     ensures run { IsRun D.tells D.moment D.plan D.unlisted (calls_with frames.old.shape (size_of frames.old.frames) body 0) frames.old.disk frames.new.disk
         (IsOk result) (result ≡ Err StoreFault.Disk) }
     ensures cause { Kept (D.faults frames.old.disk) (D.faults frames.new.disk) (D.sound frames.old.disk) (D.sound frames.new.disk)
@@ -86,6 +88,8 @@ fn append_record<D: Disk>(
     requires members { RecordHasMembers item.now }
     requires can { IsSome (applied (limits_of index.now) item.now (state_of index.now)) }
     ensures step { Step D.tells D.seen D.may_leave D.moment D.left_since None (state_of index.now)
+        (changed (limits_of index.now) item.now (state_of index.now)) frames.old frames.new result }
+    ensures cut { CutsShort D.tells D.seen D.certain D.moment (calls_with frames.old.shape (size_of frames.old.frames) (body_size item.now) 4) None (state_of index.now)
         (changed (limits_of index.now) item.now (state_of index.now)) frames.old frames.new result }
     ensures run { IsRun D.tells D.moment D.plan D.unlisted (calls_with frames.old.shape (size_of frames.old.frames) (body_size item.now) 4) frames.old.disk frames.new.disk
         (IsOk result) (result ≡ Err StoreFault.Disk) }
@@ -136,6 +140,8 @@ fn append_version<D: Disk>(
     requires block { length block.now ≡ frames.old.shape.block }
     ensures step { Step D.tells D.seen D.may_leave D.moment D.left_since (Some (slot, block.now)) (state_of index.now)
         (changed (limits_of index.now) item.now (state_of index.now)) frames.old frames.new result }
+    ensures cut { CutsShort D.tells D.seen D.certain D.moment (calls_with frames.old.shape (size_of frames.old.frames) (body_size item.now) 5) (Some (slot, block.now)) (state_of index.now)
+        (changed (limits_of index.now) item.now (state_of index.now)) frames.old frames.new result }
     ensures run { IsRun D.tells D.moment D.plan D.unlisted (calls_with frames.old.shape (size_of frames.old.frames) (body_size item.now) 5) frames.old.disk frames.new.disk
         (IsOk result) (result ≡ Err StoreFault.Disk) }
     ensures cause { Kept (D.faults frames.old.disk) (D.faults frames.new.disk) (D.sound frames.old.disk) (D.sound frames.new.disk)
@@ -168,6 +174,8 @@ pub fn commit<D: Disk>(
     ensures made { OnOk result (state_of index.new ≡ changed (limits_of index.old) item.now (state_of index.old)) }
     ensures not_made { OnErr result (state_of index.new ≡ state_of index.old) }
     ensures limits { limits_of index.new ≡ limits_of index.old }
+    ensures cut { CutsShort D.tells D.seen D.certain D.moment (calls_with frames.old.shape (size_of frames.old.frames) (body_size item.now) 4) None (state_of index.old)
+        (changed (limits_of index.old) item.now (state_of index.old)) frames.old frames.new result }
     ensures run { IsRun D.tells D.moment D.plan D.unlisted (calls_with frames.old.shape (size_of frames.old.frames) (body_size item.now) 4) frames.old.disk frames.new.disk
         (IsOk result) (result ≡ Err StoreFault.Disk) }
     ensures cause { Kept (D.faults frames.old.disk) (D.faults frames.new.disk) (D.sound frames.old.disk) (D.sound frames.new.disk)
@@ -204,6 +212,8 @@ pub fn commit_with<D: Disk>(
     ensures made { OnOk result (state_of index.new ≡ changed (limits_of index.old) item.now (state_of index.old)) }
     ensures not_made { OnErr result (state_of index.new ≡ state_of index.old) }
     ensures limits { limits_of index.new ≡ limits_of index.old }
+    ensures cut { CutsShort D.tells D.seen D.certain D.moment (calls_with frames.old.shape (size_of frames.old.frames) (body_size item.now) 5) (Some (slot, block.now)) (state_of index.old)
+        (changed (limits_of index.old) item.now (state_of index.old)) frames.old frames.new result }
     ensures run { IsRun D.tells D.moment D.plan D.unlisted (calls_with frames.old.shape (size_of frames.old.frames) (body_size item.now) 5) frames.old.disk frames.new.disk
         (IsOk result) (result ≡ Err StoreFault.Disk) }
     ensures cause { Kept (D.faults frames.old.disk) (D.faults frames.new.disk) (D.sound frames.old.disk) (D.sound frames.new.disk)

@@ -18,7 +18,7 @@ ghost use Rattle.brick_store.specs.Images.{records_of, limits_of};
 ghost use Rattle.brick_store.specs.Standing.{GroupHasMembers, Leads};
 ghost use Rattle.brick_store.specs.Calls.{is_appendable};
 ghost use Rattle.brick_store.specs.Steps.{MayStep, HasAppendRoom};
-ghost use Rattle.brick_store.specs.Openings.{IsKeptIn, IsAllowedOr};
+ghost use Rattle.brick_store.specs.Openings.{IsKeptIn, IsAllowedOr, StopsReadying};
 
 use crate::faults::StoreFault;
 use crate::rewrites::live_frames;
@@ -52,6 +52,9 @@ fn renew<D: Disk>(
     ensures no_memory { result ≡ Err StoreFault.NoMemory → IsUntouched D.seen D.may_leave D.moment D.left_since frames.old.disk frames.new.disk }
     ensures fits { OnOk result (Fits frames.new.shape frames.new.frames body) }
     ensures room { OnOk result (HasAppendRoom D.has_room frames.new body) }
+    ensures cut { D.tells → D.unlisted frames.old.disk → frames.old.closed ≡ true → result ≡ Err StoreFault.Disk
+        → StopsReadying D.seen D.certain D.may_leave D.moment 8 frames.old.disk frames.new.disk
+        (IsKeptIn frames.old.shape (state_of index.now) (D.seen frames.old.disk)) }
     ensures run { IsRun D.tells D.moment D.plan D.unlisted 8 frames.old.disk frames.new.disk (IsOk result) (result ≡ Err StoreFault.Disk) }
     ensures cause { Kept (D.faults frames.old.disk) (D.faults frames.new.disk) (D.sound frames.old.disk) (D.sound frames.new.disk)
         (result ≡ Err StoreFault.Disk) }
@@ -101,6 +104,9 @@ pub fn make_appendable<D: Disk>(
     ensures no_memory { result ≡ Err StoreFault.NoMemory → IsUntouched D.seen D.may_leave D.moment D.left_since frames.old.disk frames.new.disk }
     ensures fits { OnOk result (Fits frames.new.shape frames.new.frames body) }
     ensures room { OnOk result (HasAppendRoom D.has_room frames.new body) }
+    ensures cut { D.tells → D.unlisted frames.old.disk → frames.old.closed ≡ true → result ≡ Err StoreFault.Disk
+        → StopsReadying D.seen D.certain D.may_leave D.moment (if is_appendable whole frames.old body then 1 else 8) frames.old.disk frames.new.disk
+        (IsKeptIn frames.old.shape (state_of index.now) (D.seen frames.old.disk)) }
     ensures run { IsRun D.tells D.moment D.plan D.unlisted (if is_appendable whole frames.old body then 1 else 8) frames.old.disk frames.new.disk
         (IsOk result) (result ≡ Err StoreFault.Disk) }
     ensures cause { Kept (D.faults frames.old.disk) (D.faults frames.new.disk) (D.sound frames.old.disk) (D.sound frames.new.disk)

@@ -10,7 +10,7 @@ ghost use Rattle.brick_state.specs.States.{StateOf, booted};
 ghost use Rattle.brick_store.specs.Calls.{opening_calls};
 ghost use Rattle.frame_store.specs.declared.frames.Frame.{Frame};
 ghost use Rattle.brick_store.specs.Images.{IsFound, StandsFor, StandsForEither, LeavesState};
-ghost use Rattle.brick_store.specs.Openings.{IsAllowedOr, opens_appendable};
+ghost use Rattle.brick_store.specs.Openings.{IsAllowedOr, opens_appendable, StopsOpening};
 
 use crate::faults::StoreFault;
 use crate::stores::BrickStore;
@@ -62,6 +62,15 @@ pub fn open_store<D: Disk>(
     ensures run_err { IfErr result (λ e. D.tells → (frames : List Frame) (closed : Bool)
         → OpensAs (shape_of me.0 block records) frames closed (D.seen disk) → IsRun D.tells D.moment D.plan D.unlisted
         (opening_calls (opens_appendable (shape_of me.0 block records) frames closed)) disk e.1 ⊥ (e.0 ≡ StoreFault.Disk)) }
+    // Cut short where no fault is listed, there was a store that was not worn.
+    ensures not_worn { IfErr result (λ e. e.0 ≡ StoreFault.Disk → D.tells → D.unlisted disk → (st : StateOf Version)
+        → StandsFor (shape_of me.0 block records) st (D.seen disk) → st.boot < 2 ^ 32 - 1) }
+    // What a read gives is as it was until the last call but one, and then the store with the opening counted.
+    ensures cut { IfErr result (λ e. e.0 ≡ StoreFault.Disk → D.tells → D.unlisted disk → (frames : List Frame) (closed : Bool)
+        → OpensAs (shape_of me.0 block records) frames closed (D.seen disk)
+        → (st : StateOf Version) → StandsFor (shape_of me.0 block records) st (D.seen disk)
+        → StopsOpening D.seen D.certain D.may_leave D.moment (opening_calls (opens_appendable (shape_of me.0 block records) frames closed)) disk e.1
+        (StandsFor (shape_of me.0 block records) st) (StandsFor (shape_of me.0 block records) (booted (st.boot + 1) st))) }
     ensures not_a_store { IfErr result (λ e. e.0 ≡ StoreFault.NotAStore → D.tells → IsNoStore (shape_of me.0 block records) (D.seen disk)) }
     // There was a store, and it was opened as often as it can be.
     ensures worn { IfErr result (λ e. e.0 ≡ StoreFault.Worn → D.tells → (st : StateOf Version) × IsFound (shape_of me.0 block records) st

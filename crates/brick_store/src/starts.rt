@@ -17,8 +17,8 @@ ghost use Rattle.brick_state.specs.KeptStates.{IsKeptState};
 ghost use Rattle.brick_store.specs.Images.{record_of, records_of, limits_of};
 ghost use Rattle.brick_store.specs.Standing.{GroupHasMembers, Leads};
 ghost use Rattle.brick_store.specs.Calls.{is_appendable, opening_calls};
-ghost use Rattle.brick_store.specs.Steps.{IsSettled, Step, MayStep, changed, HasAppendRoom};
-ghost use Rattle.brick_store.specs.Openings.{IsAllowedOr, IsKeptInEither};
+ghost use Rattle.brick_store.specs.Steps.{IsSettled, Step, MayStep, CutsShort, changed, HasAppendRoom};
+ghost use Rattle.brick_store.specs.Openings.{IsAllowedOr, IsKeptIn, IsKeptInEither, StopsOpening};
 
 use crate::faults::StoreFault;
 use crate::fresh_lists::make_appendable;
@@ -45,6 +45,8 @@ fn append_count<D: Disk>(
     requires fits { Fits frames.old.shape frames.old.frames (length frame.now.body) }
     requires room { HasAppendRoom D.has_room frames.old (length frame.now.body) }
     ensures step { Step D.tells D.seen D.may_leave D.moment D.left_since None (state_of index.old)
+        (changed (indexes.limits_of index.old) item.now (state_of index.old)) frames.old frames.new result }
+    ensures cut { CutsShort D.tells D.seen D.certain D.moment 4 None (state_of index.old)
         (changed (indexes.limits_of index.old) item.now (state_of index.old)) frames.old frames.new result }
     ensures made { OnOk result (state_of index.new ≡ changed (indexes.limits_of index.old) item.now (state_of index.old)) }
     ensures limits { indexes.limits_of index.new ≡ indexes.limits_of index.old }
@@ -88,6 +90,10 @@ pub fn start<D: Disk>(
         (booted ((state_of index.old).boot + 1) (state_of index.old)) (D.seen frames.old.disk))) }
     ensures only { OnErr result ((result ≡ Err StoreFault.Disk) ⊎ (result ≡ Err StoreFault.NoMemory)) }
     ensures no_memory { result ≡ Err StoreFault.NoMemory → IsUntouched D.seen D.may_leave D.moment D.left_since frames.old.disk frames.new.disk }
+    ensures cut { D.tells → D.unlisted frames.old.disk → frames.old.closed ≡ true → result ≡ Err StoreFault.Disk
+        → StopsOpening D.seen D.certain D.may_leave D.moment (opening_calls (is_appendable whole frames.old 4)) frames.old.disk frames.new.disk
+        (IsKeptIn frames.old.shape (state_of index.old) (D.seen frames.old.disk))
+        (IsKeptIn frames.old.shape (booted ((state_of index.old).boot + 1) (state_of index.old)) (D.seen frames.old.disk)) }
     ensures run { IsRun D.tells D.moment D.plan D.unlisted (opening_calls (is_appendable whole frames.old 4)) frames.old.disk frames.new.disk
         (IsOk result) (result ≡ Err StoreFault.Disk) }
     ensures cause { disks.Kept (D.faults frames.old.disk) (D.faults frames.new.disk) (D.sound frames.old.disk) (D.sound frames.new.disk)

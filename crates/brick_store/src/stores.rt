@@ -74,9 +74,9 @@ impl<D: Disk> BrickStore<D> {
     ) -> Result<(), StoreFault>
         requires group { group.0 < 64 }
         requires view { IsServed (group_at self.old.state group.0) view.0 }
-        ensures change { Changes D.tells D.seen D.may_leave D.moment D.left_since D.faults D.sound self.old self.new
+        ensures change { Changes D.tells D.seen D.certain D.may_leave D.moment D.left_since D.faults D.sound self.old self.new
             (ordered (place group view stripe) stamp self.old.state)
-            (adds_stamp stamp (stripe_at self.old.state (place group view stripe)).order) 4 result }
+            (adds_stamp stamp (stripe_at self.old.state (place group view stripe)).order) (calls_of self.old 30 4) result }
         ensures run { IsRun D.tells D.moment D.plan D.unlisted (calls_of self.old 30 4) self.old.disk self.new.disk (IsOk result)
             (result ≡ Err StoreFault.Disk) }
     {
@@ -104,8 +104,8 @@ impl<D: Disk> BrickStore<D> {
     ) -> Result<(), StoreFault>
         requires group { group.0 < 64 }
         requires view { view.0 ≡ learnt_of (group_at self.old.state group.0) }
-        ensures change { Changes D.tells D.seen D.may_leave D.moment D.left_since D.faults D.sound self.old self.new
-            (balloted group.0 promised (accepted_of (group_at self.old.state group.0)) self.old.state) false 4 result }
+        ensures change { Changes D.tells D.seen D.certain D.may_leave D.moment D.left_since D.faults D.sound self.old self.new
+            (balloted group.0 promised (accepted_of (group_at self.old.state group.0)) self.old.state) false (calls_of self.old (ballots_size (accepted_of (group_at self.old.state group.0))) 4) result }
         ensures run { IsRun D.tells D.moment D.plan D.unlisted (calls_of self.old (ballots_size (accepted_of (group_at self.old.state group.0))) 4) self.old.disk self.new.disk (IsOk result)
             (result ≡ Err StoreFault.Disk) }
     {
@@ -134,8 +134,8 @@ impl<D: Disk> BrickStore<D> {
         requires group { group.0 < 64 }
         requires view { view.0 ≡ learnt_of (group_at self.old.state group.0) }
         requires members { 1 ≤ length members }
-        ensures change { Changes D.tells D.seen D.may_leave D.moment D.left_since D.faults D.sound self.old self.new
-            (balloted group.0 ballot (Some (ballot, members)) self.old.state) false 4 result }
+        ensures change { Changes D.tells D.seen D.certain D.may_leave D.moment D.left_since D.faults D.sound self.old self.new
+            (balloted group.0 ballot (Some (ballot, members)) self.old.state) false (calls_of self.old (ballots_size (Some (ballot, members))) 4) result }
         ensures run { IsRun D.tells D.moment D.plan D.unlisted (calls_of self.old (ballots_size (Some (ballot, members))) 4) self.old.disk self.new.disk (IsOk result)
             (result ≡ Err StoreFault.Disk) }
     {
@@ -158,8 +158,8 @@ impl<D: Disk> BrickStore<D> {
         requires group { group.0 < 64 }
         requires above { learnt_of (group_at self.old.state group.0) < view.number.0 }
         requires members { (1 ≤ length view.members) × (1 ≤ length view.prior) }
-        ensures change { Changes D.tells D.seen D.may_leave D.moment D.left_since D.faults D.sound self.old self.new
-            (viewed group.0 view false self.old.state) false 4 result }
+        ensures change { Changes D.tells D.seen D.certain D.may_leave D.moment D.left_since D.faults D.sound self.old self.new
+            (viewed group.0 view false self.old.state) false (calls_of self.old (view_size view) 4) result }
         ensures run { IsRun D.tells D.moment D.plan D.unlisted (calls_of self.old (view_size view) 4) self.old.disk self.new.disk (IsOk result)
             (result ≡ Err StoreFault.Disk) }
     {
@@ -180,8 +180,8 @@ impl<D: Disk> BrickStore<D> {
         requires group { group.0 < 64 }
         requires view { view.0 ≡ learnt_of (group_at self.old.state group.0) }
         requires learnt { IsSome (group_at self.old.state group.0).known }
-        ensures change { Changes D.tells D.seen D.may_leave D.moment D.left_since D.faults D.sound self.old self.new
-            (all_synced group.0 self.old.state) false 4 result }
+        ensures change { Changes D.tells D.seen D.certain D.may_leave D.moment D.left_since D.faults D.sound self.old self.new
+            (all_synced group.0 self.old.state) false (calls_of self.old (known_size (group_at self.old.state group.0).known) 4) result }
         ensures run { IsRun D.tells D.moment D.plan D.unlisted (calls_of self.old (known_size (group_at self.old.state group.0).known) 4) self.old.disk self.new.disk (IsOk result)
             (result ≡ Err StoreFault.Disk) }
     {
@@ -209,8 +209,8 @@ impl<D: Disk> BrickStore<D> {
         requires group { group.0 < 64 }
         requires view { IsServed (group_at self.old.state group.0) view.0 }
         requires held { HasStamp stamp (log_at self.old.shape.block self.old.state (place group view stripe)) }
-        ensures change { Changes D.tells D.seen D.may_leave D.moment D.left_since D.faults D.sound self.old self.new
-            (collected version_stamp (place group view stripe) stamp self.old.state) false 4 result }
+        ensures change { Changes D.tells D.seen D.certain D.may_leave D.moment D.left_since D.faults D.sound self.old self.new
+            (collected version_stamp (place group view stripe) stamp self.old.state) false (calls_of self.old 30 4) result }
         ensures run { IsRun D.tells D.moment D.plan D.unlisted (calls_of self.old 30 4) self.old.disk self.new.disk (IsOk result)
             (result ≡ Err StoreFault.Disk) }
     {
@@ -241,8 +241,8 @@ impl<D: Disk> BrickStore<D> {
         requires view { IsServed (group_at self.old.state group.0) view.0 }
         requires above { IsNext stamp (log_at self.old.shape.block self.old.state (place group view stripe)) block }
         requires block { ForSome block (λ bytes. length bytes ≡ self.old.shape.block) }
-        ensures change { Changes D.tells D.seen D.may_leave D.moment D.left_since D.faults D.sound self.old self.new
-            (with_version self.old.shape.block (place group view stripe) stamp block self.old.state) true (version_calls block) result }
+        ensures change { Changes D.tells D.seen D.certain D.may_leave D.moment D.left_since D.faults D.sound self.old self.new
+            (with_version self.old.shape.block (place group view stripe) stamp block self.old.state) true (calls_of self.old (version_size block) (version_calls block)) result }
         ensures run { IsRun D.tells D.moment D.plan D.unlisted (calls_of self.old (version_size block) (version_calls block)) self.old.disk self.new.disk (IsOk result)
             (result ≡ Err StoreFault.Disk) }
     {
@@ -262,8 +262,8 @@ impl<D: Disk> BrickStore<D> {
     ) -> Result<(), StoreFault>
         requires group { group.0 < 64 }
         requires above { IsNext stamp (log_at self.old.shape.block self.old.state (place group view stripe)) None }
-        ensures change { Changes D.tells D.seen D.may_leave D.moment D.left_since D.faults D.sound self.old self.new
-            (with_version self.old.shape.block (place group view stripe) stamp None self.old.state) true 4 result }
+        ensures change { Changes D.tells D.seen D.certain D.may_leave D.moment D.left_since D.faults D.sound self.old self.new
+            (with_version self.old.shape.block (place group view stripe) stamp None self.old.state) true (calls_of self.old 30 4) result }
         ensures run { IsRun D.tells D.moment D.plan D.unlisted (calls_of self.old 30 4) self.old.disk self.new.disk (IsOk result)
             (result ≡ Err StoreFault.Disk) }
     {
@@ -290,8 +290,8 @@ impl<D: Disk> BrickStore<D> {
         requires group { group.0 < 64 }
         requires above { IsNext stamp (log_at self.old.shape.block self.old.state (place group view stripe)) (Some block) }
         requires block { length block ≡ self.old.shape.block }
-        ensures change { Changes D.tells D.seen D.may_leave D.moment D.left_since D.faults D.sound self.old self.new
-            (with_version self.old.shape.block (place group view stripe) stamp (Some block) self.old.state) true 5 result }
+        ensures change { Changes D.tells D.seen D.certain D.may_leave D.moment D.left_since D.faults D.sound self.old self.new
+            (with_version self.old.shape.block (place group view stripe) stamp (Some block) self.old.state) true (calls_of self.old 35 5) result }
         ensures run { IsRun D.tells D.moment D.plan D.unlisted (calls_of self.old 35 5) self.old.disk self.new.disk (IsOk result)
             (result ≡ Err StoreFault.Disk) }
     {

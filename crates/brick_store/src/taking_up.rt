@@ -10,7 +10,7 @@ ghost use Rattle.brick_state.specs.Indexes.{state_of};
 ghost use Rattle.brick_store.specs.Calls.{is_appendable, opening_calls};
 ghost use Rattle.brick_store.specs.Images.{limits_of};
 ghost use Rattle.brick_store.specs.Standing.{AllSlots, IsStored, Standing};
-ghost use Rattle.brick_store.specs.Openings.{is_whole, found_in, IsAllowedOr, IsKeptInEither};
+ghost use Rattle.brick_store.specs.Openings.{is_whole, found_in, IsAllowedOr, IsKeptIn, IsKeptInEither, StopsOpening};
 
 use crate::faults::StoreFault;
 use crate::loading::load;
@@ -60,6 +60,14 @@ pub(crate) fn take_up<D: Disk>(
     ensures not_halted { result ≢ Err StoreFault.Halted }
     ensures not_full { (n : ℕ) → result ≢ Err (StoreFault.Full n) }
     ensures a_store { D.tells → result ≢ Err StoreFault.NotAStore }
+    // An opening that was cut short is one of a store that was not worn.
+    ensures counted { D.unlisted frames.old.disk → result ≡ Err StoreFault.Disk → (found_in frames.old.shape frames.old.frames).boot < 2 ^ 32 - 1 }
+    ensures cut { D.tells → D.unlisted frames.old.disk → frames.old.closed ≡ true → result ≡ Err StoreFault.Disk
+        → StopsOpening D.seen D.certain D.may_leave D.moment
+        (opening_calls (is_appendable (is_whole (limits_of frames.old.shape) frames.old.frames empty) frames.old 4)) frames.old.disk frames.new.disk
+        (IsKeptIn frames.old.shape (found_in frames.old.shape frames.old.frames) (D.seen frames.old.disk))
+        (IsKeptIn frames.old.shape (booted ((found_in frames.old.shape frames.old.frames).boot + 1) (found_in frames.old.shape frames.old.frames))
+        (D.seen frames.old.disk)) }
     ensures run { IsRun D.tells D.moment D.plan D.unlisted
         (opening_calls (is_appendable (is_whole (limits_of frames.old.shape) frames.old.frames empty) frames.old 4))
         frames.old.disk frames.new.disk (IsOk result) (result ≡ Err StoreFault.Disk) }

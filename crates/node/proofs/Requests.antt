@@ -16,9 +16,9 @@ use Rattle.protocol.specs.Nodes.{Node, NodeStep, no_step, requested_in, requeste
 use Rattle.protocol.specs.Nodes as machine
 use Rattle.replica.specs.Parts.{IsPartsOf, IsFirstView}
 use Rattle.replica.specs.Reactions.{IsStep, member_step, answer_packets}
-use Rattle.replica.specs.Handling.{me_of, OpensAsEither}
+use Rattle.replica.specs.Handling.{me_of, OpensAsEither, OpensAsNext}
 use Rattle.node.specs.declared.open_calls.OpenCalls.{OpenCalls}
-use Rattle.node.specs.Running.{running, state_of, shape_at, IsKept, ShowsEither}
+use Rattle.node.specs.Running.{running, state_of, shape_at, IsKept, ShowsEither, ImageShows}
 use Rattle.node.proofs.States.{same_states}
 use Rattle.node.proofs.Views.{shows_so}
 
@@ -103,16 +103,24 @@ module _ {D : Type 0} (layout : Layout) (calls : OpenCalls) (old : Brick D) (fro
   follows_told = let keeps = serves_calls layout calls.me from (state_of (running layout calls old)) message in (sym keeps.told, sym keeps.answers)
 
   -- an image that opens as what follows shows the brick after the message
-  pub follows_shown : old.shape ≡ shape_at layout calls.me → IsKept layout old.state (state_of (running layout calls old)) → (image : List ℕ)
-      → OpensAsEither old.shape old.state Follows image
-      → ShowsEither layout calls.me (state_of (running layout calls old)) after.node image
-  follows_shown shape kept image (inl stands) = inl (shows_so layout calls.me (state_of (running layout calls old)) old image shape kept stands)
-  follows_shown shape kept image (inr follows) =
+  pub shown_before : old.shape ≡ shape_at layout calls.me → IsKept layout old.state (state_of (running layout calls old)) → (image : List ℕ)
+      → StandsFor old.shape old.state image → ImageShows layout calls.me (state_of (running layout calls old)) image
+  shown_before shape kept image stands = shows_so layout calls.me (state_of (running layout calls old)) old image shape kept stands
+
+  pub shown_after : old.shape ≡ shape_at layout calls.me → IsKept layout old.state (state_of (running layout calls old)) → (image : List ℕ)
+      → OpensAsNext old.shape Follows image → ImageShows layout calls.me after.node image
+  shown_after shape kept image follows =
       let st = follows.0 in
       let is = follows.3 in
-      inr (record {
+      record {
         st = st;
         stands = subst (λ (s : Shape). StandsFor s st image) shape follows.2;
         parts = is.parts (state_of (running layout calls old)) seen_parts;
         first = first_view_after old.state st is.groups kept.first;
-      })
+      }
+
+  pub follows_shown : old.shape ≡ shape_at layout calls.me → IsKept layout old.state (state_of (running layout calls old)) → (image : List ℕ)
+      → OpensAsEither old.shape old.state Follows image
+      → ShowsEither layout calls.me (state_of (running layout calls old)) after.node image
+  follows_shown shape kept image (inl stands) = inl (shown_before shape kept image stands)
+  follows_shown shape kept image (inr follows) = inr (shown_after shape kept image follows)

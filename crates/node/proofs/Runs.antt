@@ -1,5 +1,5 @@
 -- How many calls of the disk a step of a brick makes, from those of its store.
-use Rattle.std.proofs.Common.{◌≡◌, ℕ, List, Bool, Result, Err, refl, sym, subst}
+use Rattle.std.proofs.Common.{◌≡◌, ℕ, List, Bool, Result, Err, refl, sym, ap, subst, ◌∙◌}
 use Rattle.std.specs.Prelude.{IsOk}
 use Rattle.fab_base.specs.declared.identities.BrickId.{BrickId}
 use Rattle.fab_base.specs.Layouts.{Layout}
@@ -15,17 +15,21 @@ use Rattle.messages.specs.declared.packets.Message.{Message}
 use Rattle.brick_store.specs.Bricks.{Brick}
 use Rattle.replica.specs.declared.faults.ReplicaFault.{ReplicaFault}
 use Rattle.replica.specs.declared.faults.ReplicaFault.TheVariants as replica
-use Rattle.replica.specs.Calls.{message_calls}
+use Rattle.replica.specs.Calls.{message_calls, StopsAs}
+use Rattle.replica.specs.Reactions.{IsStep, member_step}
+use Rattle.fab_disk.specs.Disk.{StopsEarly}
+use Rattle.brick_store.specs.Images.{StandsFor}
+use Rattle.brick_store.proofs.Cutting.{stops_as}
 use Rattle.replica.specs.Parts.{IsPartsOf}
-use Rattle.replica.specs.Handling.{me_of}
+use Rattle.replica.specs.Handling.{me_of, OpensAsNext}
 use Rattle.protocol.specs.Nodes.{Node}
 use Rattle.node.specs.declared.faults.NodeFault.{NodeFault}
 use Rattle.node.specs.declared.faults.NodeFault.TheVariants.{Disk}
 use Rattle.node.specs.declared.open_calls.OpenCalls.{OpenCalls}
 use Rattle.node.specs.Faults.{fault_of}
-use Rattle.node.specs.Running.{Running, running, state_of, IsBrickOf}
+use Rattle.node.specs.Running.{Running, running, state_of, ImageShows, IsBrickOf}
 use Rattle.node.proofs.Views.{kept_so}
-use Rattle.node.proofs.Requests.{is_me}
+use Rattle.node.proofs.Requests.{is_me, shown_before, shown_after}
 
 -- where an image opens, there is a store
 pub opens_some : (shape : Shape) (frames : List Frame) (closed : Bool) (image : List ℕ) → OpensAs shape frames closed image
@@ -73,3 +77,34 @@ module _ {D : Type 0} (tells : Type 0) (moment : D → ℕ) (plan : D → Plan) 
       is
       (subst (λ (me : BrickId). IsRun tells moment plan unlisted (message_calls layout me from old.shape old.listed (state_of shown) message) old.disk new.disk W C)
       (is_me layout calls old from message brick.shape_is) made)
+
+-- a fault of the store that is seen as a failed disk is one
+disk_meant : (T : Type 0) (fault : ReplicaFault) → failed T (fault_of fault) ≡ failed T Disk → fault ≡ replica.Disk
+disk_meant T replica.Disk is = refl
+disk_meant T replica.Halted is = absurd cc
+disk_meant T replica.NoMemory is = absurd cc
+
+-- the store was cut short, and so was the brick
+pub cut_shown : {D T tells : Type 0} {seen certain : D → List ℕ} {moment : D → ℕ} (layout : Layout) (calls : OpenCalls) (from : BrickId)
+    (message : Message) (old new : Brick D) (node : Running D) (fault : ReplicaFault) (result : Result T NodeFault)
+    → running layout calls old ≡ node → IsBrickOf layout old.shape old.state calls → result ≡ failed T (fault_of fault)
+    → ((machine : Node) → IsPartsOf layout old.state machine
+    → StopsAs {A = Message} tells seen certain moment (message_calls layout (me_of old) from old.shape old.listed machine message)
+    (IsStep layout (me_of old) from message old.state) old new (Err fault))
+    → tells → result ≡ Err Disk
+    → StopsEarly seen certain moment (message_calls node.layout node.me from node.brick.shape node.brick.listed (state_of node) message)
+    node.brick.disk new.disk (ImageShows node.layout node.me (state_of node))
+    (ImageShows node.layout node.me (member_step node.layout node.me from (state_of node) message).node)
+cut_shown {D} {T} {tells} {seen} {certain} {moment} layout calls from message old new node fault result view brick is cut told failed_so =
+    let shown = running layout calls old in
+    let kept = kept_so layout calls old brick in
+    let stops = cut (state_of shown) kept.parts told (ap (λ (e : ReplicaFault). Err e) (disk_meant T fault (sym is ∙ failed_so))) in
+    let moved = subst (λ (me : BrickId). StopsEarly seen certain moment (message_calls layout me from old.shape old.listed (state_of shown) message)
+    old.disk new.disk (StandsFor old.shape old.state) (OpensAsNext old.shape (IsStep layout me from message old.state)))
+    (is_me layout calls old from message brick.shape_is) stops in
+    subst (λ (n : Running D). StopsEarly seen certain moment
+    (message_calls n.layout n.me from n.brick.shape n.brick.listed (state_of n) message) n.brick.disk new.disk (ImageShows n.layout n.me (state_of n))
+    (ImageShows n.layout n.me (member_step n.layout n.me from (state_of n) message).node)) view
+    (stops_as seen certain moment _ old.disk new.disk (StandsFor old.shape old.state)
+    (OpensAsNext old.shape (IsStep layout calls.me from message old.state)) _ _
+    (shown_before layout calls old from message brick.shape_is kept) (shown_after layout calls old from message brick.shape_is kept) moved)

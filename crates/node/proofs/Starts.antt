@@ -1,12 +1,12 @@
 -- What a brick shows as it starts.
-use Rattle.std.proofs.Common.{◌≡◌, ℕ, ◌+◌, List, inl, inr, refl, sym, ◌∙◌, ap}
+use Rattle.std.proofs.Common.{◌≡◌, ℕ, ◌+◌, List, inl, inr, ⊎_elim, refl, sym, ◌∙◌, ap}
 use Rattle.fab_base.specs.declared.identities.BrickId.{BrickId}
 use Rattle.fab_disk.specs.Disk.{LeavesOnly, Kept}
 use Rattle.version_log.specs.Versions.{Version}
 use Rattle.brick_state.specs.States.{StateOf, booted, live}
 use Rattle.brick_store.specs.Bricks.{Brick}
-use Rattle.brick_store.specs.Images.{StandsForEither}
-use Rattle.brick_store.specs.Openings.{IsAllowedOr}
+use Rattle.brick_store.specs.Images.{StandsFor, StandsForEither}
+use Rattle.brick_store.specs.Openings.{IsAllowedOr, StopsOpening}
 use Rattle.fab_base.specs.Layouts.{Layout}
 use Rattle.protocol.specs.Nodes.{Node, restarted, no_calls}
 use Rattle.replica.specs.Parts.{part_in, learnt_in, accepted_in}
@@ -37,23 +37,29 @@ restarts_so layout me calls store boot node image own same fresh shows is =
     (λ g e s. ap (λ (st : StateOf Version). part_in layout.block st g e s) is ∙ sym (shows.parts.replicas g e s)) (λ k. refl)
 
 module _ (layout : Layout) (me : BrickId) (node : Node) (first : List ℕ) (shows : ImageShows layout me node first) where
+  before_shows : (image : List ℕ) → StandsFor (shape_at layout me) shows.st image → ImageShows layout me node image
+  before_shows image stands = record { st = shows.st; stands = stands; parts = shows.parts; first = shows.first }
+
+  after_shows : (image : List ℕ) → StandsFor (shape_at layout me) (booted (shows.st.boot + 1) shows.st) image
+      → ImageShows layout me (reopened node) image
+  after_shows image stands = record {
+    st = booted (shows.st.boot + 1) shows.st;
+    stands = stands;
+    parts = record {
+      boot = ap (λ b. b + 1) shows.parts.boot;
+      live = shows.parts.live;
+      learnt = shows.parts.learnt;
+      accepted = shows.parts.accepted;
+      replicas = shows.parts.replicas;
+    };
+    first = shows.first;
+  }
+
   -- an image that opens as the state before or after an opening shows the brick before or after it
   opened_shows : (image : List ℕ) → StandsForEither (shape_at layout me) shows.st (booted (shows.st.boot + 1) shows.st) image
       → ShowsEither layout me node (reopened node) image
-  opened_shows image (inl stands) = inl (record { st = shows.st; stands = stands; parts = shows.parts; first = shows.first })
-  opened_shows image (inr stands) =
-      inr (record {
-        st = booted (shows.st.boot + 1) shows.st;
-        stands = stands;
-        parts = record {
-          boot = ap (λ b. b + 1) shows.parts.boot;
-          live = shows.parts.live;
-          learnt = shows.parts.learnt;
-          accepted = shows.parts.accepted;
-          replicas = shows.parts.replicas;
-        };
-        first = shows.first;
-      })
+  opened_shows image (inl stands) = inl (before_shows image stands)
+  opened_shows image (inr stands) = inr (after_shows image stands)
 
   allowed_shows : (allowed : List ℕ → Type 0) (image : List ℕ)
       → IsAllowedOr allowed (StandsForEither (shape_at layout me) shows.st (booted (shows.st.boot + 1) shows.st)) image
@@ -67,6 +73,18 @@ module _ (layout : Layout) (me : BrickId) (node : Node) (first : List ℕ) (show
       (StandsForEither (shape_at layout me) shows.st (booted (shows.st.boot + 1) shows.st)))
       → LeavesOnly moment left_since old new (IsAllowedOr allowed (ShowsEither layout me node (reopened node)))
   opening_shows moment left_since allowed old new is = leaves_more moment left_since old new _ _ (allowed_shows allowed) is
+
+  -- so where an opening was cut short
+  pub cut_shows : {D : Type 0} (seen certain : D → List ℕ) (may_leave : D → List ℕ → Type 0) (moment : D → ℕ) (calls : ℕ) (old new : D)
+      → StopsOpening seen certain may_leave moment calls old new (StandsFor (shape_at layout me) shows.st)
+      (StandsFor (shape_at layout me) (booted (shows.st.boot + 1) shows.st))
+      → StopsOpening seen certain may_leave moment calls old new (ImageShows layout me node) (ImageShows layout me (reopened node))
+  cut_shows seen certain may_leave moment calls old new stops = record {
+    clock = stops.clock;
+    settled = ⊎_elim (λ had. inl had) (λ now. inr (before_shows (certain new) now)) stops.settled;
+    early = λ at. before_shows (seen new) (stops.early at);
+    late = λ at. after_shows (seen new) (stops.late at);
+  }
 
 -- what was allowed shows the brick
 or_shown : (layout : Layout) (me : BrickId) (before after : Node) (allowed : List ℕ → Type 0) → LeavesBrick layout me before allowed

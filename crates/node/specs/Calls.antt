@@ -7,9 +7,12 @@ use Rattle.frame_store.specs.declared.frames.Frame.{Frame}
 use Rattle.frame_store.specs.declared.shapes.Shape.{Shape}
 use Rattle.frame_store.specs.Images.{OpensAs}
 use Rattle.brick_store.specs.Calls.{opening_calls}
-use Rattle.brick_store.specs.Openings.{opens_appendable}
+use Rattle.brick_store.specs.Openings.{opens_appendable, StopsOpening}
 use Rattle.replica.specs.Calls.{message_calls}
-use Rattle.node.specs.Running.{Running, state_of}
+use Rattle.fab_base.specs.declared.identities.BrickId.{BrickId}
+use Rattle.fab_base.specs.Layouts.{Layout}
+use Rattle.protocol.specs.Nodes.{Node}
+use Rattle.node.specs.Running.{Running, state_of, shape_at, ImageShows, reopened}
 
 -- so many calls keep what a packet makes a brick change: those of its store for a request that it serves, and none for any other message
 abbrev pub packet_calls : {D : Type 0} → Running D → Packet → ℕ
@@ -20,3 +23,13 @@ abbrev pub RunsAsOpening : {D : Type 0} → Type 0 → (D → List ℕ) → (D �
 RunsAsOpening tells seen moment plan unlisted shape old new whole cut =
     tells → (frames : List Frame) (closed : Bool) → OpensAs shape frames closed (seen old)
     → IsRun tells moment plan unlisted (opening_calls (opens_appendable shape frames closed)) old new whole cut
+
+-- An opening of the store that a disk holds was cut short where no fault is listed. What the last sync left is what the disk allowed before, or shows
+-- the brick as it was. So does what a read gives, until the last call but one was made; from then on that shows the brick with its store opened once more.
+abbrev pub StopsAsOpening : {D : Type 0} → Type 0 → (D → List ℕ) → (D → List ℕ) → (D → List ℕ → Type 0) → (D → ℕ) → (D → Type 0) → Layout → BrickId → D → D
+    → Type 0
+StopsAsOpening tells seen certain may_leave moment unlisted layout me old new =
+    tells → unlisted old → (frames : List Frame) (closed : Bool) → OpensAs (shape_at layout me) frames closed (seen old)
+    → (before : Node) → ImageShows layout me before (seen old)
+    → StopsOpening seen certain may_leave moment (opening_calls (opens_appendable (shape_at layout me) frames closed)) old new
+    (ImageShows layout me before) (ImageShows layout me (reopened before))

@@ -2,7 +2,7 @@
 
 ghost use Rattle.std.specs.Prelude.{◌≡◌, ◌≢◌, ◌⊎◌, ◌+◌, ◌-◌, ◌^◌, ◌<◌, ◌≤◌, ℕ, List, true, false, Some, None, Ok, Err, IsOk, IfOk, IfErr, OnOk, OnErr, length, vec_len};
 ghost use Rattle.std.specs.Option.{SomeIff};
-ghost use Rattle.fab_disk.specs.Disk.{IsUntouched, LeavesOnly, Kept, KeepsRoom};
+ghost use Rattle.fab_disk.specs.Disk.{IsUntouched, LeavesOnly, StopsEarly, Kept, KeepsRoom};
 ghost use Rattle.fab_disk.specs.Plan.{IsRun};
 ghost use Rattle.frame_store.specs.Images.{IsNoStore};
 ghost use Rattle.version_log.specs.Versions.{Version};
@@ -19,7 +19,7 @@ ghost use Rattle.replica.specs.Reactions.{member_step};
 ghost use Rattle.replica.specs.Handling.{KeepsParts};
 ghost use Rattle.replica.specs.Calls.{message_calls};
 ghost use Rattle.coord_phase.specs.Messages.{packets_from};
-ghost use Rattle.node.specs.Calls.{packet_calls, RunsAsOpening};
+ghost use Rattle.node.specs.Calls.{packet_calls, RunsAsOpening, StopsAsOpening};
 ghost use Rattle.node.specs.Faults.{halted_after, RefusesAs};
 ghost use Rattle.node.specs.States.{BeginsAs, StepsAs};
 ghost use Rattle.node.specs.Running.{shape_at, state_of, IsKept, ImageShows, ShowsEither, LeavesBrick, KeepsUnseen, IsSameBrick, reopened};
@@ -98,6 +98,11 @@ impl<D: Disk> Node<D> {
         // A store that was there is opened whole before it is found to have learnt a later view.
         ensures run_err { IfErr result (λ e. RunsAsOpening D.tells D.seen D.moment D.plan D.unlisted (shape_at layout me) disk e.1
             (e.0 ≡ StoreFault.NotAStore) (e.0 ≡ StoreFault.Disk)) }
+        // Cut short where no fault is listed, its store was not worn.
+        ensures not_worn { IfErr result (λ e. e.0 ≡ StoreFault.Disk → D.tells → D.unlisted disk → (before : machine.Node)
+            → ImageShows layout me before (D.seen disk) → before.boot < 2 ^ 32 - 1) }
+        ensures cut { IfErr result (λ e. e.0 ≡ StoreFault.Disk
+            → StopsAsOpening D.tells D.seen D.certain D.may_leave D.moment D.unlisted layout me disk e.1) }
         // There is no store, and nothing has changed; or its store has learnt a later view.
         ensures not_a_store { IfErr result (λ e. e.0 ≡ StoreFault.NotAStore → D.tells
             → (IsNoStore (shape_at layout me) (D.seen disk) × IsUntouched D.seen D.may_leave D.moment D.left_since disk e.1)
@@ -206,6 +211,11 @@ impl<D: Disk> Node<D> {
         ensures moments { D.tells → self.old.brick.halted ≡ false → LeavesOnly D.moment D.left_since self.old.brick.disk self.new.brick.disk
             (ShowsEither self.old.layout self.old.me (state_of self.old)
             (absorbed (coding self.old.layout) self.old.me (state_of self.old) packet.now)) }
+        // Where the disk failed, what the last sync left shows the brick as it was. So does what a read gives, until the last call but one was made;
+        // from then on that shows the brick with what the request makes it keep.
+        ensures cut { D.tells → result ≡ Err NodeFault.Disk → StopsEarly D.seen D.certain D.moment (packet_calls self.old packet.now)
+            self.old.brick.disk self.new.brick.disk (ImageShows self.old.layout self.old.me (state_of self.old))
+            (ImageShows self.old.layout self.old.me (absorbed (coding self.old.layout) self.old.me (state_of self.old) packet.now)) }
         // Under a plan, the call that it names is reached exactly where the message makes so many.
         ensures run { IsRun D.tells D.moment D.plan D.unlisted (packet_calls self.old packet.now) self.old.brick.disk self.new.brick.disk
             (IsOk result) (result ≡ Err NodeFault.Disk) }
@@ -248,6 +258,10 @@ impl<D: Disk> Node<D> {
         ensures moments { D.tells → LeavesOnly D.moment D.left_since self.old.brick.disk self.new.brick.disk
             (ShowsEither self.old.layout self.old.me (state_of self.old)
             (member_step self.old.layout self.old.me from (state_of self.old) message.now).node) }
+        ensures cut { D.tells → result ≡ Err NodeFault.Disk → StopsEarly D.seen D.certain D.moment
+            (message_calls self.old.layout self.old.me from self.old.brick.shape self.old.brick.listed (state_of self.old) message.now)
+            self.old.brick.disk self.new.brick.disk (ImageShows self.old.layout self.old.me (state_of self.old))
+            (ImageShows self.old.layout self.old.me (member_step self.old.layout self.old.me from (state_of self.old) message.now).node) }
         ensures run { IsRun D.tells D.moment D.plan D.unlisted
             (message_calls self.old.layout self.old.me from self.old.brick.shape self.old.brick.listed (state_of self.old) message.now)
             self.old.brick.disk self.new.brick.disk (IsOk result) (result ≡ Err NodeFault.Disk) }

@@ -51,8 +51,8 @@ kept_as before now S T F G back kept =
           (back failed);
     }
 
-module _ {D : Type 0} (tells : Type 0) (seen : D → List ℕ) (may_leave : D → List ℕ → Type 0) (moment : D → ℕ) (left_since : D → ℕ → List ℕ → Type 0)
-    (faults_of : D → ℕ) (sound : D → Type 0)
+module _ {D : Type 0} (tells : Type 0) (seen certain : D → List ℕ) (may_leave : D → List ℕ → Type 0) (moment : D → ℕ)
+    (left_since : D → ℕ → List ℕ → Type 0) (faults_of : D → ℕ) (sound : D → Type 0)
     (only_now : (disk : D) (image : List ℕ) → left_since disk (moment disk) image → may_leave disk image)
     (Follows : Option Reply → StateOf Version → Type 0) where
   abbrev Answer : Type 0
@@ -106,7 +106,7 @@ module _ {D : Type 0} (tells : Type 0) (seen : D → List ℕ) (may_leave : D �
       (none : adds ≡ true → live old.state ≡ old.shape.records → Follows (Some (Full (live old.state))) old.state)
       (moves : part_in old.shape.block after g e s ≡ part_in old.shape.block old.state g e s → ⊥) where
     abbrev Changed : Result (Unit {0}) StoreFault → Type 0
-    Changed answer = Changes tells seen may_leave moment left_since faults_of sound old new after adds calls answer
+    Changed answer = Changes tells seen certain may_leave moment left_since faults_of sound old new after adds calls answer
 
     -- where there was room, each image opens as the state before or after
     moments : (answer : Result (Unit {0}) StoreFault) → Changed answer → Follows (Some reply) after → tells → old.halted ≡ false

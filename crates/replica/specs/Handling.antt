@@ -26,10 +26,13 @@ halted_after halted (Err Disk) = true
 halted_after halted (Err other) = halted
 halted_after halted (Ok answer) = halted
 
--- the image opens as the state before the call, or as one that may follow it
+-- the image opens as a state that may follow
+abbrev pub OpensAsNext : {A : Type 0} → Shape → (Option A → StateOf Version → Type 0) → List ℕ → Type 0
+OpensAsNext {A} shape Follows image = (st : StateOf Version) × (answer : Option A) × StandsFor shape st image × Follows answer st
+
+-- as the state before the call, or as one that may follow it
 abbrev pub OpensAsEither : {A : Type 0} → Shape → StateOf Version → (Option A → StateOf Version → Type 0) → List ℕ → Type 0
-OpensAsEither {A} shape before Follows image =
-    StandsFor shape before image ⊎ ((st : StateOf Version) × (answer : Option A) × StandsFor shape st image × Follows answer st)
+OpensAsEither shape before Follows image = StandsFor shape before image ⊎ OpensAsNext shape Follows image
 
 -- The store runs, and a crash leaves only what opens as its state.
 pub record Runs {D : Type 0} (tells : Type 0) (may_leave : D → List ℕ → Type 0) (store : Brick D) : Type 0 where

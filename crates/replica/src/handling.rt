@@ -12,7 +12,7 @@ ghost use Rattle.replica.specs.Parts.{IsPartsOf, IsFirstView};
 ghost use Rattle.replica.specs.Plans.{planned, IsChange};
 ghost use Rattle.replica.specs.Reactions.{part_at, IsReacted, IsStep};
 ghost use Rattle.replica.specs.Handling.{Handles, Runs, answered, me_of, seen_as};
-ghost use Rattle.replica.specs.Calls.{part_calls, message_calls, RunsAs};
+ghost use Rattle.replica.specs.Calls.{part_calls, message_calls, RunsAs, StopsAs};
 
 use crate::faults::ReplicaFault;
 use crate::members::decide;
@@ -69,6 +69,12 @@ fn carry_out<D: Disk>(
         (IsReacted store.old.shape.block call store.old.state
         (planned (full_at store.old.shape.records (live store.old.state))
         (part_at store.old.shape.block store.old.state call) plan)) store.old store.new result }
+    ensures cut { StopsAs D.tells D.seen D.certain D.moment
+        (part_calls store.old.shape store.old.listed (part_at store.old.shape.block store.old.state call)
+        (planned (full_at store.old.shape.records (live store.old.state)) (part_at store.old.shape.block store.old.state call) plan).replica)
+        (IsReacted store.old.shape.block call store.old.state
+        (planned (full_at store.old.shape.records (live store.old.state)) (part_at store.old.shape.block store.old.state call) plan))
+        store.old store.new result }
     ensures run { RunsAs D.tells D.moment D.plan D.unlisted
         (part_calls store.old.shape store.old.listed (part_at store.old.shape.block store.old.state call)
         (planned (full_at store.old.shape.records (live store.old.state)) (part_at store.old.shape.block store.old.state call) plan).replica)
@@ -169,6 +175,10 @@ pub fn handle<D: Disk>(
     requires shape { store.old.shape ≡ shape_of store.old.shape.me layout.now.block layout.now.records }
     requires view { IsFirstView store.old.state }
     ensures handles { Handles D.tells D.seen D.may_leave D.moment D.left_since D.faults D.sound
+        (IsStep layout.now (me_of store.old) from message.now store.old.state) store.old store.new result }
+    // Where the disk failed, what it holds is what it held before, or what the message makes it keep, by how many calls were made.
+    ensures cut { (node : Node) → IsPartsOf layout.now store.old.state node → StopsAs D.tells D.seen D.certain D.moment
+        (message_calls layout.now (me_of store.old) from store.old.shape store.old.listed node message.now)
         (IsStep layout.now (me_of store.old) from message.now store.old.state) store.old store.new result }
     // Under a plan, the call that it names is reached exactly where the message makes so many.
     ensures run { (node : Node) → IsPartsOf layout.now store.old.state node → RunsAs D.tells D.moment D.plan D.unlisted

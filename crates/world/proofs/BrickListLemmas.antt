@@ -26,7 +26,7 @@ use Rattle.protocol.specs.Worlds.{World, first_world, is_brick, is_up}
 use Rattle.fab_base.specs.Layouts.{Layout}
 use Rattle.protocol.specs.Nodes as machine
 use Rattle.world.specs.Runs.{brick_of}
-use Rattle.world.specs.Faults.{IsReached, IsLeft, plan_of}
+use Rattle.world.specs.Faults.{IsReached, IsLeft, plan_of, delivery_calls}
 use Rattle.world.specs.Shown.{IsRunning, Rests, ShowsPower, ShowsBrick, ShowsBricks, Takes, HandledAs, IsNodeOf, IsOn, IsUp, FindsUp, AreNodesOf, disk_in, disks_of}
 use Rattle.lines.specs.declared.forms.Fault.{Fault}
 use Rattle.world.proofs.DiskLemmas.{disk_at, disk_set}
@@ -267,7 +267,8 @@ module _ (layout : Layout) (bricks : List Brick) (number : BrickId) (old : Brick
         (let e : Some (disk_in power) ≡ Some one = sym (disk_set bricks number.0 (with_power old power) within) ∙ one_is in cc)
         in
         subst (λ (d : MemDisk). IsLeft layout number (machine.stopped (w.nodes number.0))
-        (machine.stopped (machine.absorbed (coding layout) number (w.nodes number.0) packet)) fault d) same took.left;
+        (machine.stopped (machine.absorbed (coding layout) number (w.nodes number.0) packet))
+        (delivery_calls layout number (w.nodes number.0) packet took.reached.listed) fault d) same took.left;
   }
   took_as (Err refused) took =
       shows_kept layout bricks number.0 old power w within is (power_now (w.nodes number.0) (w.after number.0) took) shows

@@ -4,11 +4,11 @@ use Rattle.std.specs.Prelude.{nat_lt}
 use Rattle.std.proofs.lemmas.Bool.Decides.{nat_tests}
 use Rattle.fab_base.specs.declared.identities.BrickId.{BrickId}
 use Rattle.fab_base.specs.Layouts.{Layout}
-use Rattle.fab_disk.specs.Disk.{LeavesOnly}
+use Rattle.fab_disk.specs.Disk.{LeavesOnly, StopsEarly}
 use Rattle.fab_disk.specs.MediumLaws.{fits_shown}
 use Rattle.fab_disk.specs.PastLaws.{content_is_image, image_had}
-use Rattle.fab_disk.specs.Plan.{IsWithin, IsRun}
-use Rattle.fab_disk.specs.MemDisk.{content_of, past_of_disk, may_be_left, moment_of, was_left_since, is_unlisted, IsSound}
+use Rattle.fab_disk.specs.Plan.{IsWithin, IsRun, calls_made}
+use Rattle.fab_disk.specs.MemDisk.{content_of, past_of_disk, may_be_left, certain_of, moment_of, was_left_since, is_unlisted, IsSound}
 use Rattle.fab_disk.specs.MemDisk.{plan_of as plan_in}
 use Rattle.fab_disk.specs.declared.disk.Plan.{Plan}
 use Rattle.fab_disk.specs.declared.mem_disk.MemDisk.{MemDisk}
@@ -29,7 +29,7 @@ use Rattle.brick_store.specs.declared.faults.StoreFault.TheVariants.{NotAStore, 
 use Rattle.replica.specs.Parts.{IsFirstView}
 use Rattle.replica.specs.Calls.{message_calls}
 use Rattle.coord_phase.specs.Messages.{packets_from}
-use Rattle.node.specs.Calls.{packet_calls, RunsAsOpening}
+use Rattle.node.specs.Calls.{packet_calls, RunsAsOpening, StopsAsOpening}
 use Rattle.node.specs.Outcomes.{Outcome}
 use Rattle.node.specs.Running.{Running, state_of, shape_at, ImageShows, ShowsEither, LeavesBrick, IsSameBrick, reopened}
 use Rattle.node.specs.States.{StepsAs}
@@ -41,7 +41,7 @@ use Rattle.lines.specs.declared.forms.Fault.{Fault}
 use Rattle.protocol.specs.Nodes as machine
 use Rattle.protocol.specs.Worlds.{Found, Before, After}
 use Rattle.world.specs.Disks.{ShowsDisk}
-use Rattle.world.specs.Faults.{plan_of, opened_more, ShowsOne, HoldsOne, LeftBy, Finds, found_of}
+use Rattle.world.specs.Faults.{plan_of, opened_more, ShowsOne, HoldsOne, ReadsAs, LeftBy, Finds, found_of, delivery_calls}
 use Rattle.world.specs.Shown.{IsRunning, Rests, TookWhole, TookPart, WasStarted, IsWorn, WasCutShort}
 use Rattle.world.specs.declared.bricks.Power.TheVariants.{Up, Down}
 use Rattle.world.proofs.BrickLemmas.{found_boot, found_first, stopped_shows, kept_by}
@@ -259,10 +259,17 @@ module _ (layout : Layout) (me : BrickId) (state after : machine.Node) (fault : 
       → ((before : machine.Node) → ImageShows layout me before (content_of armed)
       → LeavesOnly moment_of was_left_since armed left (IsAllowedOr (may_be_left armed) (ShowsEither layout me before (reopened before))))
       → RunsAsOpening (Unit {0}) content_of moment_of plan_in is_unlisted (shape_at layout me) armed left (store ≡ NotAStore) (store ≡ Disk)
+      → StopsAsOpening (Unit {0}) content_of certain_of may_be_left moment_of is_unlisted layout me armed left
+      → ((before : machine.Node) → ImageShows layout me before (content_of armed) → before.boot < 2 ^ 32 - 1)
       → LeftBy fault left last → ((image : List ℕ) → may_be_left last image → may_be_left left image) → (IsSound left → IsSound last)
       → WasCutShort layout me state after disk fault (Down last)
-  cut_short left last store is moments opening befallen crash sound =
+  cut_short left last store is moments opening cut few befallen crash sound =
       let run = run_there left (store ≡ NotAStore) (store ≡ Disk) opening in
+      let stops = cut tt unlisted_there found_there.shows.stands.frames true
+      (subst (λ (image : List ℕ). OpensAs (shape_at layout me) found_there.shows.stands.frames true image) (sym arms.content)
+      found_there.shows.stands.opens) node_there shows_there in
+      let made : moment_of left ≡ moment_of armed + calls_made (plan_of fault) =
+      run.stopped tt unlisted_there is ∙ ap (λ (p : Plan). moment_of armed + calls_made p) arms.planned in
       let each = moments node_there shows_there in
       let holds : HoldsOne layout me state after left =
       holds_by layout me state after left
@@ -274,6 +281,8 @@ module _ (layout : Layout) (me : BrickId) (state after : machine.Node) (fault : 
       in
       record {
         finds = found_there;
+        may = may_open_once state found_there.openings node_there.boot
+            (ap (λ (k : ℕ). k + found_there.openings) (sym (found_boots state after found_there.found rests.boots))) (few node_there shows_there);
         reached = record {
           frames = found_there.shows.stands.frames;
           closed = true;
@@ -291,7 +300,16 @@ module _ (layout : Layout) (me : BrickId) (state after : machine.Node) (fault : 
             sound = sound (record { unplanned = run.used_up unlisted_there is; unlisted = run.stays unlisted_there });
           },
         );
-        left = record { was = left; holds = holds; left = befallen };
+        left = record {
+          was = left;
+          holds = holds;
+          synced = ⊎_elim (λ had. inl (arms.crash (certain_of left) had)) (λ now. inr now) stops.settled;
+          reads = record {
+            early = λ soon. stops.early (omega (arith, soon, made));
+            late = λ late. stops.late (omega (arith, late, made));
+          };
+          left = befallen;
+        };
       }
 
 -- a stopped brick's store was opened as often
@@ -395,10 +413,13 @@ module _ (layout : Layout) (me : BrickId) (state : machine.Node) (time : ℕ) (p
       → LeavesOnly moment_of was_left_since armed.brick.disk new.brick.disk (ShowsEither armed.layout armed.me (state_of armed)
       (machine.absorbed (coding armed.layout) armed.me (state_of armed) packet))
       → (whole cut : Type 0) → IsRun (Unit {0}) moment_of plan_in is_unlisted (packet_calls armed packet) armed.brick.disk new.brick.disk whole cut → cut
+      → StopsEarly content_of certain_of moment_of (packet_calls armed packet) armed.brick.disk new.brick.disk
+      (ImageShows armed.layout armed.me (state_of armed))
+      (ImageShows armed.layout armed.me (machine.absorbed (coding armed.layout) armed.me (state_of armed) packet))
       → LeftBy fault left last → ((image : List ℕ) → may_be_left last image → may_be_left left image) → (IsSound left → IsSound last)
       → (machine.absorbed (coding layout) me state packet).boot ≡ state.boot
       → TookPart layout me state packet node.brick.disk fault (Down last)
-  took_part new left last same_disk halted moments whole cut run done befallen crash sound boots =
+  took_part new left last same_disk halted moments whole cut run done stops befallen crash sound boots =
       let before : machine.Node = machine.stopped state in
       let after : machine.Node = machine.stopped (machine.absorbed (coding layout) me state packet) in
       let moved : (s : machine.Node) (t : machine.Node) (image : List ℕ) → s ≡ t → ImageShows armed.layout armed.me s image → ImageShows layout me t image =
@@ -406,15 +427,22 @@ module _ (layout : Layout) (me : BrickId) (state : machine.Node) (time : ℕ) (p
       subst (λ (x : machine.Node). ImageShows layout me x image) is
       (subst (λ (b : BrickId). ImageShows layout b s image) me_there (subst (λ (l : Layout). ImageShows l armed.me s image) layout_there shows))
       in
+      let as_before : (image : List ℕ) → ImageShows armed.layout armed.me (state_of armed) image → ImageShows layout me before image =
+      λ image is. stopped_shows layout me state image (moved (state_of armed) state image state_there is)
+      in
+      let as_after : (image : List ℕ) → ImageShows armed.layout armed.me (machine.absorbed (coding armed.layout) armed.me (state_of armed) packet) image
+      → ImageShows layout me after image =
+      λ image is. stopped_shows layout me (machine.absorbed (coding layout) me state packet) image
+      (moved (machine.absorbed (coding armed.layout) armed.me (state_of armed) packet) (machine.absorbed (coding layout) me state packet) image absorbs_there is)
+      in
+      let made : moment_of new.brick.disk ≡ moment_of armed.brick.disk + calls_made (plan_of fault) =
+      run.stopped tt unlisted_here done ∙ ap (λ (p : Plan). moment_of armed.brick.disk + calls_made p) arms.planned in
       let holds_new : HoldsOne layout me before after new.brick.disk =
       holds_by layout me before after new.brick.disk
       (λ image now. ⊎_elim
-      (λ (is : ImageShows armed.layout armed.me (state_of armed) image).
-      shows_before layout me before after image (stopped_shows layout me state image (moved (state_of armed) state image state_there is)))
+      (λ (is : ImageShows armed.layout armed.me (state_of armed) image). shows_before layout me before after image (as_before image is))
       (λ (is : ImageShows armed.layout armed.me (machine.absorbed (coding armed.layout) armed.me (state_of armed) packet) image).
-      shows_after layout me before after image
-      (stopped_shows layout me (machine.absorbed (coding layout) me state packet) image
-      (moved (machine.absorbed (coding armed.layout) armed.me (state_of armed) packet) (machine.absorbed (coding layout) me state packet) image absorbs_there is)))
+      shows_after layout me before after image (as_after image is))
       (moments.each image (image_had (past_of_disk new.brick.disk) (content_of new.brick.disk) (moment_of armed.brick.disk) image now)))
       in
       let holds : HoldsOne layout me before after left = subst (λ (d : MemDisk). HoldsOne layout me before after d) (sym same_disk) holds_new in
@@ -427,7 +455,17 @@ module _ (layout : Layout) (me : BrickId) (state : machine.Node) (time : ℕ) (p
               (subst (λ (k : ℕ). IsWithin k armed.brick.disk.plan) (calls_there armed.brick.listed refl) (run.named unlisted_here done));
         };
         off = (refl, record { holds = holds_less layout me before after left last crash holds; boots = stopped_boots state (machine.absorbed (coding layout) me state packet) boots; sound = sound quiet });
-        left = record { was = left; holds = holds; left = befallen };
+        left = record {
+          was = left;
+          holds = holds;
+          synced = subst (λ (d : MemDisk). ImageShows layout me before (certain_of d)) (sym same_disk) (as_before (certain_of new.brick.disk) stops.settled);
+          reads = subst (λ (d : MemDisk). ReadsAs layout me before after (delivery_calls layout me state packet armed.brick.listed) fault d) (sym same_disk)
+              (record {
+                early = λ soon. as_before (content_of new.brick.disk) (stops.early (omega (arith, soon, made, calls_there armed.brick.listed refl)));
+                late = λ late. as_after (content_of new.brick.disk) (stops.late (omega (arith, late, made, calls_there armed.brick.listed refl)));
+              });
+          left = befallen;
+        };
       }
 
   pub took_nothing : (new up : Running MemDisk) → IsSameBrick armed new → IsSameBrick new up → state_of new ≡ state_of armed → state_of up ≡ state_of new

@@ -11,7 +11,7 @@ use Rattle.node.specs.Running.{Running}
 use Rattle.stripe_code.specs.Codes.{coding}
 use Rattle.protocol.specs.Nodes as machine
 use Rattle.protocol.specs.Worlds.{World, Event, Starts, Stops, Found, Before, After, is_brick, is_up, may_start, world_found, world_started, happens}
-use Rattle.world.specs.Faults.{IsLeft, StartsDown, Finds, found_of, is_down}
+use Rattle.world.specs.Faults.{IsLeftOpening, StartsDown, Finds, found_of, is_down}
 use Rattle.world.specs.Disks.{KeepsOthers}
 use Rattle.world.specs.Shown.{Rests, ShowsPower, ShowsBricks, StartsAs, TurnsOn, WasStarted, IsWorn, WasCutShort, Tells, disk_in, disks_of}
 use Rattle.world.specs.Texts.{marks_if}
@@ -115,13 +115,15 @@ module _ (layout : Layout) (bricks : List Brick) (number : BrickId) (old : Brick
     finds = finds;
   }
 
-  left_here : IsLeft layout number (w.nodes number.0) (w.after number.0) fault (disk_in power) → (one : MemDisk)
-      → slice_get (disks_of new_bricks) number.0 ≡ Some one → IsLeft layout number (w.nodes number.0) (w.after number.0) fault one
-  left_here left one one_is =
+  left_here : (finds : Finds layout number (w.nodes number.0) (w.after number.0) disk) (calls : ℕ)
+      → IsLeftOpening layout number (w.nodes number.0) (w.after number.0) disk finds calls fault (disk_in power) → (one : MemDisk)
+      → slice_get (disks_of new_bricks) number.0 ≡ Some one
+      → IsLeftOpening layout number (w.nodes number.0) (w.after number.0) disk finds calls fault one
+  left_here finds calls left one one_is =
       let same : disk_in power ≡ one =
       (let e : Some (disk_in power) ≡ Some one = sym (disk_set bricks number.0 (with_power old power) within) ∙ one_is in cc)
       in
-      subst (λ (d : MemDisk). IsLeft layout number (w.nodes number.0) (w.after number.0) fault d) same left
+      subst (λ (d : MemDisk). IsLeftOpening layout number (w.nodes number.0) (w.after number.0) disk finds calls fault d) same left
 
   kept_here : ShowsPower layout number (w.nodes number.0) (w.after number.0) false power → ShowsBricks layout new_bricks w.nodes w.after w.up w.clocks
   kept_here shown =
@@ -195,7 +197,7 @@ module _ (layout : Layout) (bricks : List Brick) (number : BrickId) (old : Brick
       let happened : happens (coding layout) w event ≡ w = happens_unstopped (coding layout) w number down in (
         event ∷ [],
         record {
-          are = inl (record { start = start_here was.finds; reached = was.reached; events_are = refl; left = left_here was.left });
+          are = inl (record { start = start_here was.finds; may = was.may; reached = was.reached; events_are = refl; left = left_here was.finds _ was.left });
           bricks = unchanged_bricks layout new_bricks w (happens (coding layout) w event) happened (kept_here was.off);
           comes = sym (ap marks_if down);
           tells = λ history tells. unchanged_tells history w (happens (coding layout) w event) happened tells;

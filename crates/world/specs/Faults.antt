@@ -1,14 +1,14 @@
 -- Which events of the machine a line of a schedule is, where a call of a disk may be cut short or fail in the midst of it.
-use Rattle.std.specs.Prelude.{◌≡◌, ◌⊎◌, ℕ, ◌+◌, ◌&&◌, Bool, true, false, not, List, [], ◌∷◌, Option, Some, None, slice_get}
+use Rattle.std.specs.Prelude.{◌≡◌, ◌⊎◌, ℕ, ◌+◌, ◌<◌, ◌≤◌, ◌&&◌, Bool, true, false, not, List, [], ◌∷◌, Option, Some, None, slice_get}
 use Rattle.fab_base.specs.declared.identities.BrickId.{BrickId}
 use Rattle.fab_base.specs.Layouts.{Layout}
 use Rattle.fab_disk.specs.declared.disk.Plan.{Plan}
 use Rattle.fab_disk.specs.declared.disk.Plan.TheVariants.{Never, Stop}
 use Rattle.fab_disk.specs.declared.disk.Plan.TheVariants as plan
 use Rattle.fab_disk.specs.Disk.{Only}
-use Rattle.fab_disk.specs.Plan.{IsWithin}
+use Rattle.fab_disk.specs.Plan.{IsWithin, calls_made}
 use Rattle.fab_disk.specs.Settled.{settled_at}
-use Rattle.fab_disk.specs.MemDisk.{content_of, past_of_disk, may_be_left}
+use Rattle.fab_disk.specs.MemDisk.{content_of, past_of_disk, may_be_left, certain_of}
 use Rattle.fab_disk.specs.declared.mem_disk.MemDisk.{MemDisk}
 use Rattle.frame_store.specs.declared.frames.Frame.{Frame}
 use Rattle.frame_store.specs.Images.{OpensAs}
@@ -17,7 +17,7 @@ use Rattle.brick_store.specs.Images.{IsListed}
 use Rattle.brick_store.specs.Calls.{opening_calls}
 use Rattle.brick_store.specs.Openings.{opens_appendable}
 use Rattle.replica.specs.Calls.{message_calls}
-use Rattle.node.specs.Running.{shape_at, ImageShows, ShowsEither}
+use Rattle.node.specs.Running.{shape_at, ImageShows, ShowsEither, reopened}
 use Rattle.lines.specs.declared.forms.Fault.{Fault}
 use Rattle.lines.specs.declared.forms.Fault.TheVariants.{Cut, Fail}
 use Rattle.lines.specs.declared.forms.Line.{Line}
@@ -58,17 +58,30 @@ LeftBy (Some (Cut call pick)) was disk = IsCut pick was disk
 LeftBy (Some (Fail call)) was disk = disk ≡ was
 LeftBy None was disk = disk ≡ was
 
--- What is left of the disk of a brick that this befell in the midst of an event: at the call whatever a crash might have left shows one of the two.
-pub record IsLeft (layout : Layout) (me : BrickId) (before after : Node) (fault : Option Fault) (disk : MemDisk) : Type 0 where
+-- What a read gives at the call that this befell, in an event of so many calls: the brick before the event, until its last call but one was made, and
+-- from then on the brick after it. A call that stops counts as made, and one that fails does not.
+pub record ReadsAs (layout : Layout) (me : BrickId) (before after : Node) (calls : ℕ) (fault : Option Fault) (disk : MemDisk) : Type 0 where
+  pub early : calls_made (plan_of fault) + 2 ≤ calls → ImageShows layout me before (content_of disk)
+  pub late : calls < calls_made (plan_of fault) + 2 → ImageShows layout me after (content_of disk)
+
+-- What is left of the disk of a brick that this befell in the midst of a delivery of so many calls. As it was at the call, whatever a crash might have
+-- left shows one of the two, and what the last sync left the brick before it.
+pub record IsLeft (layout : Layout) (me : BrickId) (before after : Node) (calls : ℕ) (fault : Option Fault) (disk : MemDisk) : Type 0 where
   pub was : MemDisk
   pub holds : HoldsOne layout me before after was
+  pub synced : ImageShows layout me before (certain_of was)
+  pub reads : ReadsAs layout me before after calls fault was
   pub left : LeftBy fault was disk
+
+-- so many calls keep what a packet makes the brick change, over a list of frames of so many bytes
+abbrev pub delivery_calls : Layout → BrickId → Node → Packet → ℕ → ℕ
+delivery_calls layout me node packet listed = message_calls layout me packet.from (shape_at layout me) listed node packet.message
 
 -- the handling of a packet by the brick that this disk keeps makes the call that the plan names
 pub record IsReached (layout : Layout) (me : BrickId) (node : Node) (packet : Packet) (disk : MemDisk) (plan : Plan) : Type 0 where
   pub listed : ℕ
   pub is_listed : IsListed (shape_at layout me) listed (content_of disk)
-  pub within : IsWithin (message_calls layout me packet.from (shape_at layout me) listed node packet.message) plan
+  pub within : IsWithin (delivery_calls layout me node packet listed) plan
 
 -- so does the opening of this disk
 pub record IsReachedOpening (layout : Layout) (me : BrickId) (disk : MemDisk) (plan : Plan) : Type 0 where
@@ -92,7 +105,8 @@ pub record StopsMidway (layout : Layout) (w : World) (old new : List MemDisk) (n
   pub events_are : events ≡ Stops struck.packet.to (Some number) ∷ []
   pub left : (disk : MemDisk) → slice_get new struck.packet.to.0 ≡ Some disk
       → IsLeft layout struck.packet.to (stopped (w.nodes struck.packet.to.0))
-      (stopped (absorbed (coding layout) struck.packet.to (w.nodes struck.packet.to.0) struck.packet)) fault disk
+      (stopped (absorbed (coding layout) struck.packet.to (w.nodes struck.packet.to.0) struck.packet))
+      (delivery_calls layout struck.packet.to (w.nodes struck.packet.to.0) struck.packet struck.reached.listed) fault disk
 
 -- a delivery that makes no such call
 pub record IsDelivered (layout : Layout) (w : World) (old : List MemDisk) (number : ℕ) (fault : Option Fault) (events : List Event) : Type 0 where
@@ -114,6 +128,20 @@ pub record Finds (layout : Layout) (me : BrickId) (before after : Node) (disk : 
 abbrev pub is_down : Layout → World → BrickId → Bool
 is_down layout w brick = is_brick layout brick && not (w.up brick.0)
 
+-- the brick that was found, its store opened as often as it was
+abbrev pub found_in : {layout : Layout} {me : BrickId} {before after : Node} {disk : MemDisk} → Finds layout me before after disk → Node
+found_in {before = before} {after = after} finds = opened_more finds.openings (found_of before after finds.found)
+
+-- What is left of the disk of a brick whose start was cut short, where its opening makes so many calls. What the last sync left is what the disk might
+-- have left before the start, or shows what was found. A read gives what was found, or that with its store opened once more.
+pub record IsLeftOpening (layout : Layout) (me : BrickId) (before after : Node) (old : MemDisk) (finds : Finds layout me before after old) (calls : ℕ)
+    (fault : Option Fault) (disk : MemDisk) : Type 0 where
+  pub was : MemDisk
+  pub holds : HoldsOne layout me before after was
+  pub synced : may_be_left old (certain_of was) ⊎ ImageShows layout me (found_in finds) (certain_of was)
+  pub reads : ReadsAs layout me (found_in finds) (reopened (found_in finds)) calls fault was
+  pub left : LeftBy fault was disk
+
 -- A start of a brick that is down: its disk opens as what it is found to hold, and this opening is one more. It is cut short where it makes the
 -- call that the plan names, and the brick stays down, as does one whose store can't be opened once more.
 pub record StartsDown (layout : Layout) (w : World) (old : List MemDisk) (brick : BrickId) : Type 0 where
@@ -124,10 +152,12 @@ pub record StartsDown (layout : Layout) (w : World) (old : List MemDisk) (brick 
 
 pub record StaysDown (layout : Layout) (w : World) (old new : List MemDisk) (brick : BrickId) (fault : Option Fault) (events : List Event) : Type 0 where
   pub start : StartsDown layout w old brick
+  pub may : may_open (start.finds.openings + 1) (w.nodes brick.0) ≡ true
   pub reached : IsReachedOpening layout brick start.disk (plan_of fault)
   pub events_are : events ≡ Stops brick None ∷ []
   pub left : (disk : MemDisk) → slice_get new brick.0 ≡ Some disk
-      → IsLeft layout brick (w.nodes brick.0) (w.after brick.0) fault disk
+      → IsLeftOpening layout brick (w.nodes brick.0) (w.after brick.0) start.disk start.finds
+      (opening_calls (opens_appendable (shape_at layout brick) reached.frames reached.closed)) fault disk
 
 pub record IsStarted (layout : Layout) (w : World) (old : List MemDisk) (brick : BrickId) (fault : Option Fault) (events : List Event) : Type 0 where
   pub start : StartsDown layout w old brick

@@ -10,7 +10,9 @@ use Rattle.fab_base.specs.declared.identities.BrickId.{BrickId}
 use Rattle.fab_base.specs.declared.stamps.Stamp.{Stamp}
 use Rattle.fab_disk.specs.MemDisk.{IsSound}
 use Rattle.fab_disk.specs.declared.mem_disk.MemDisk.{MemDisk}
-use Rattle.node.specs.Running.{Running, state_of}
+use Rattle.brick_store.specs.Calls.{opening_calls}
+use Rattle.brick_store.specs.Openings.{opens_appendable}
+use Rattle.node.specs.Running.{Running, state_of, shape_at}
 use Rattle.fab_base.specs.Layouts.{Layout}
 use Rattle.protocol.specs.Coordinators.{Coordinator}
 use Rattle.protocol.specs.Nodes as machine
@@ -22,7 +24,7 @@ use Rattle.protocol.specs.Happenings.{writes}
 use Rattle.protocol.specs.Settings.{Setting}
 use Rattle.protocol.specs.Worlds.{Event}
 use Rattle.world.specs.Runs.{brick_of}
-use Rattle.world.specs.Faults.{HoldsOne, IsEventsOf, IsStartOf, IsLeft, IsReached, IsReachedOpening, Finds, plan_of, found_of}
+use Rattle.world.specs.Faults.{HoldsOne, IsEventsOf, IsStartOf, IsLeft, IsLeftOpening, IsReached, IsReachedOpening, Finds, plan_of, found_of, delivery_calls}
 use Rattle.world.specs.Disks.{ShowsDisk, KeepsOthers, KeepsDisks}
 use Rattle.lines.specs.declared.forms.Fault.{Fault}
 use Rattle.lines.specs.declared.forms.Line.{Line}
@@ -165,7 +167,8 @@ pub record TookPart (layout : Layout) (me : BrickId) (state : machine.Node) (pac
     (power : Power) : Type 0 where
   pub reached : IsReached layout me state packet disk (plan_of fault)
   pub off : ShowsPower layout me (machine.stopped state) (machine.stopped (machine.absorbed (coding layout) me state packet)) false power
-  pub left : IsLeft layout me (machine.stopped state) (machine.stopped (machine.absorbed (coding layout) me state packet)) fault (disk_in power)
+  pub left : IsLeft layout me (machine.stopped state) (machine.stopped (machine.absorbed (coding layout) me state packet))
+      (delivery_calls layout me state packet reached.listed) fault (disk_in power)
 
 -- or memory was refused, and nothing has changed
 abbrev pub Takes : Layout → BrickId → machine.Node → ℕ → Packet → MemDisk → Option Fault → Power → Result (Option Sent) NoMem → Type 0
@@ -189,9 +192,11 @@ pub record IsWorn (layout : Layout) (me : BrickId) (state after : machine.Node) 
 -- or a call was befallen in the midst of that
 pub record WasCutShort (layout : Layout) (me : BrickId) (state after : machine.Node) (disk : MemDisk) (fault : Option Fault) (power : Power) : Type 0 where
   pub finds : Finds layout me state after disk
+  pub may : machine.may_open (finds.openings + 1) state ≡ true
   pub reached : IsReachedOpening layout me disk (plan_of fault)
   pub off : ShowsPower layout me state after false power
-  pub left : IsLeft layout me state after fault (disk_in power)
+  pub left : IsLeftOpening layout me state after disk finds (opening_calls (opens_appendable (shape_at layout me) reached.frames reached.closed)) fault
+      (disk_in power)
 
 -- or memory was refused
 abbrev pub TurnsOn : Layout → BrickId → machine.Node → machine.Node → MemDisk → Option Fault → Power → Result Bool NoMem → Type 0
@@ -219,7 +224,8 @@ pub record HandledPart (layout : Layout) (w : World) (number : BrickId) (packet 
       (machine.put w.after number.0 (machine.stopped (machine.absorbed (coding layout) number (w.nodes number.0) packet)))
       (machine.put w.up number.0 false) w.clocks
   pub left : (one : MemDisk) → slice_get (disks_of new) number.0 ≡ Some one → IsLeft layout number (machine.stopped (w.nodes number.0))
-      (machine.stopped (machine.absorbed (coding layout) number (w.nodes number.0) packet)) fault one
+      (machine.stopped (machine.absorbed (coding layout) number (w.nodes number.0) packet))
+      (delivery_calls layout number (w.nodes number.0) packet reached.listed) fault one
 
 abbrev pub HandledAs : Layout → World → BrickId → Packet → Option Fault → List Brick → List Brick → Result (Option Sent) NoMem → Type 0
 HandledAs layout w number packet fault old new (Ok (Some outs)) = HandledWhole layout w number packet fault old new outs

@@ -1,5 +1,5 @@
 -- The append, after room was made for it.
-use Rattle.std.proofs.Common.{rules, ◌≡◌, ◌++◌, ◌∷◌, [], ℕ, Some, None, List, length, Ok, Err, refl, sym, ap, subst, ◌∙◌, arith}
+use Rattle.std.proofs.Common.{◌≡◌, ◌++◌, ◌∷◌, [], ℕ, Some, None, List, length, Ok, Err, refl, sym, ap, subst, ◌∙◌, arith}
 use Rattle.std.proofs.lemmas.Result.{err_from_is_err_and}
 use Rattle.frame_store.specs.declared.faults.FrameFault.{FrameFault}
 use Rattle.frame_store.specs.declared.shapes.Shape.{Shape}
@@ -15,6 +15,7 @@ use Rattle.frame_store.specs.Listed.{size_of}
 use Rattle.brick_store.specs.Calls.{calls_with}
 use Rattle.brick_store.proofs.Counting.{room_then}
 use Rattle.brick_store.proofs.Stepping.{call_made, call_refused, call_moments, steps_both, may_go_on, nothing_changed, leads_changed, memory_refused, refused, room_less}
+use Rattle.brick_store.proofs.Cutting.{call_cut, first_cut, then_cut}
 use Rattle.brick_store.proofs.commits.append_record.Goals as goal
 
 pub returns-in_err-append-clause-step : goal.returns-in_err-append-clause-step
@@ -49,6 +50,45 @@ returns-in_err-append-clause-step g c =
     (nothing_changed d.tells d.seen d.may_leave d.moment d.left_since None st next old mid new (Err (fault_of f))
     (HasAppendRoom d.has_room mid c.len.result) second c.in_ok-make_room.ensures.room never))
 
+pub returns-in_err-append-clause-cut : goal.returns-in_err-append-clause-cut
+returns-in_err-append-clause-cut g c =
+    let d = g.D.Disk in
+    let index = c.args.index.now in
+    let st = state_of index in
+    let next = changed (limits_of index) c.args.item.now st in
+    let old = c.args.frames.now in
+    let mid = c.make_room.new.frames in
+    let new = c.append.new.self in
+    let frame = c.in_ok-frame.frame in
+    let bytes = c.as_slice.result.now in
+    let f = c.in_err-append.field-0.0 in
+    let made = c.in_ok-make_room.ensures in
+    let may = may_go_on d.tells d.seen d.may_leave d.moment d.left_since st st None old mid made.step in
+    let read = subst (λ (b : List ℕ). record_of (frame_of frame.kind b) ≡ Some c.args.item.now)
+    (sym c.as_slice.ensures.value) c.in_ok-frame.ensures.read in
+    let limits = subst (λ (s : Shape). limits_of index ≡ images.limits_of s) (sym made.step.shape) c.requires.indexed.limits_are in
+    let leads = leads_changed (limits_of index) (images.limits_of mid.shape) mid.frames
+    (frame_of frame.kind bytes) c.args.item.now st limits may.leads read c.requires.can in
+    let second = call_cut d.tells d.seen d.certain d.may_leave d.moment d.left_since 4 None st next
+    (mid.frames ++ frame_of frame.kind bytes ∷ []) mid new f may leads c.in_err-append.ensures.cut in
+    let body = c.len.ensures ∙ c.in_ok-frame.ensures.length in
+    let sum = ap (λ (n : ℕ). calls_with old.shape (size_of old.frames) n 4) (sym body) ∙ room_then old.shape (size_of old.frames) c.len.result 4 in
+    let p = err_from_is_err_and c.from_residual-in_err-append.result c.from_residual-in_err-append.ensures.1 in
+    rw (p.1, p.2) (then_cut d.tells d.seen d.certain d.may_leave d.moment d.left_since _ 4 _ None st next old mid new (Err (fault_of f)) sum
+    (λ told. made.run.counted told refl) made.step second)
+
+pub returns-in_err-make_room-clause-cut : goal.returns-in_err-make_room-clause-cut
+returns-in_err-make_room-clause-cut g c =
+    let d = g.D.Disk in
+    let index = c.args.index.now in
+    let st = state_of index in
+    let old = c.args.frames.now in
+    let body = c.len.ensures ∙ c.in_ok-frame.ensures.length in
+    let sum = ap (λ (n : ℕ). calls_with old.shape (size_of old.frames) n 4) (sym body) ∙ room_then old.shape (size_of old.frames) c.len.result 4 in
+    let p = err_from_is_err_and c.from_residual-in_err-make_room.result c.from_residual-in_err-make_room.ensures.1 in
+    rw (p.1, p.2) (first_cut d.tells d.seen d.certain d.may_leave d.moment d.left_since _ 4 _ None st (changed (limits_of index) c.args.item.now st) old
+    c.make_room.new.frames (Err c.in_err-make_room.field-0.0) sum (omega arith) c.in_err-make_room.ensures.cut)
+
 pub returns-clause-step : goal.returns-clause-step
 returns-clause-step g c =
     let d = g.D.Disk in
@@ -82,6 +122,3 @@ returns-clause-run g c =
     run_whole d.tells d.moment d.plan d.unlisted _ old.disk c.append.new.self.disk _ _ _ _ refl refl (λ bad. absurd cc)
     (run_both d.tells d.moment d.plan d.unlisted _ 4 _ old.disk mid.disk c.append.new.self.disk _ _ _ _ sum refl (λ a b. a refl)
     c.in_ok-make_room.ensures.run c.in_ok-append.ensures.run)
-
-pub returns-in_err-make_room : goal.returns-in_err-make_room
-returns-in_err-make_room g c = search rules

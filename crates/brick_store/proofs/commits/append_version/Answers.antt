@@ -4,7 +4,6 @@ use Rattle.std.proofs.lemmas.Result.{err_from_is_err_and}
 use Rattle.frame_store.specs.declared.faults.FrameFault.{FrameFault}
 use Rattle.frame_store.specs.declared.shapes.Shape.{Shape}
 use Rattle.brick_state.specs.Indexes.{state_of, limits_of}
-use Rattle.brick_store.specs.Images.{record_of}
 use Rattle.brick_store.specs.Images as images
 use Rattle.brick_store.specs.declared.faults.StoreFault.TheVariants.{NoMemory}
 use Rattle.brick_store.specs.Bricks.{fault_of}
@@ -14,6 +13,7 @@ use Rattle.frame_store.specs.Listed.{size_of}
 use Rattle.brick_store.specs.Calls.{calls_with}
 use Rattle.brick_store.proofs.Counting.{room_then}
 use Rattle.brick_store.proofs.Stepping.{call_made, call_refused, call_moments, steps_both, may_go_on, nothing_changed, leads_changed, memory_refused, refused, room_less, step_stopped}
+use Rattle.brick_store.proofs.Cutting.{call_cut, first_cut, then_cut}
 use Rattle.brick_store.proofs.commits.append_version.Goals as goal
 
 pub returns-in_err-append_with-clause-step : goal.returns-in_err-append_with-clause-step
@@ -45,6 +45,44 @@ returns-in_err-append_with-clause-step g c =
     rw (p.1, p.2) (steps_both d.tells d.seen d.may_leave d.moment d.left_since put st next old mid new (Err (fault_of f)) first second
     (nothing_changed d.tells d.seen d.may_leave d.moment d.left_since put st next old mid new (Err (fault_of f))
     (HasAppendRoom d.has_room mid c.len.result) second c.in_ok-make_room.ensures.room never))
+
+pub returns-in_err-append_with-clause-cut : goal.returns-in_err-append_with-clause-cut
+returns-in_err-append_with-clause-cut g c =
+    let d = g.D.Disk in
+    let index = c.args.index.now in
+    let st = state_of index in
+    let next = changed (limits_of index) c.args.item.now st in
+    let old = c.args.frames.now in
+    let mid = c.make_room.new.frames in
+    let new = c.append_with.new.self in
+    let frame = c.in_ok-frame.frame in
+    let put = Some (c.args.slot, c.args.block.now) in
+    let f = c.in_err-append_with.field-0.0 in
+    let made = c.in_ok-make_room.ensures in
+    let may = may_go_on d.tells d.seen d.may_leave d.moment d.left_since st st None old mid made.step in
+    let limits = subst (λ (s : Shape). limits_of index ≡ images.limits_of s) (sym made.step.shape) c.requires.indexed.limits_are in
+    let leads = leads_changed (limits_of index) (images.limits_of mid.shape) mid.frames frame c.args.item.now st limits may.leads
+    c.in_ok-frame.ensures.read c.requires.can in
+    let second = call_cut d.tells d.seen d.certain d.may_leave d.moment d.left_since 5 put st next (mid.frames ++ frame ∷ []) mid new f may leads
+    c.in_err-append_with.ensures.cut in
+    let body = c.len.ensures ∙ c.in_ok-frame.ensures.length in
+    let sum = ap (λ (n : ℕ). calls_with old.shape (size_of old.frames) n 5) (sym body) ∙ room_then old.shape (size_of old.frames) c.len.result 5 in
+    let p = err_from_is_err_and c.from_residual-in_err-append_with.result c.from_residual-in_err-append_with.ensures.1 in
+    rw (p.1, p.2) (then_cut d.tells d.seen d.certain d.may_leave d.moment d.left_since _ 5 _ put st next old mid new (Err (fault_of f)) sum
+    (λ told. made.run.counted told refl) made.step second)
+
+pub returns-in_err-make_room-clause-cut : goal.returns-in_err-make_room-clause-cut
+returns-in_err-make_room-clause-cut g c =
+    let d = g.D.Disk in
+    let index = c.args.index.now in
+    let st = state_of index in
+    let old = c.args.frames.now in
+    let body = c.len.ensures ∙ c.in_ok-frame.ensures.length in
+    let sum = ap (λ (n : ℕ). calls_with old.shape (size_of old.frames) n 5) (sym body) ∙ room_then old.shape (size_of old.frames) c.len.result 5 in
+    let p = err_from_is_err_and c.from_residual-in_err-make_room.result c.from_residual-in_err-make_room.ensures.1 in
+    rw (p.1, p.2) (first_cut d.tells d.seen d.certain d.may_leave d.moment d.left_since _ 5 _ (Some (c.args.slot, c.args.block.now)) st
+    (changed (limits_of index) c.args.item.now st) old c.make_room.new.frames (Err c.in_err-make_room.field-0.0) sum (omega arith)
+    c.in_err-make_room.ensures.cut)
 
 pub returns-clause-step : goal.returns-clause-step
 returns-clause-step g c =

@@ -1,5 +1,5 @@
 -- Room is made in memory, and then the list is rewritten.
-use Rattle.std.proofs.Common.{◌≡◌, ◌+◌, None, length, Ok, Err, sym, ap, subst, arith}
+use Rattle.std.proofs.Common.{◌≡◌, ◌+◌, None, length, Ok, Err, refl, sym, ap, subst, arith}
 use Rattle.std.proofs.lemmas.Result.{err_from_is_err_and}
 use Rattle.frame_store.specs.declared.faults.FrameFault.{FrameFault}
 use Rattle.frame_store.specs.declared.shapes.Shape.{Shape}
@@ -14,6 +14,7 @@ use Rattle.brick_store.specs.Images as images
 use Rattle.brick_store.specs.declared.faults.StoreFault.TheVariants.{NoMemory}
 use Rattle.brick_store.specs.Bricks.{fault_of}
 use Rattle.brick_store.proofs.Stepping.{call_made, call_refused, call_moments, idle_moments, idle_made, steps_both, may_go_on, leads_from_records, memory_refused, refused, room_less}
+use Rattle.brick_store.proofs.Cutting.{call_cut, idle_cut, then_cut}
 use Rattle.brick_store.proofs.commits.rewrite.Goals as goal
 
 pub returns-in_err-reserve-clause-step : goal.returns-in_err-reserve-clause-step
@@ -28,6 +29,34 @@ returns-in_err-reserve-clause-step g c =
     let p = err_from_is_err_and c.from_residual-in_err-reserve.result c.from_residual-in_err-reserve.ensures.1 in
     rw (p.1, p.2) (call_refused d.tells d.seen d.may_leave d.moment d.left_since None st st old new f c.requires.may call.same run
     (λ is. call.untouched) call.read call.answer)
+
+pub returns-in_err-reserve-clause-cut : goal.returns-in_err-reserve-clause-cut
+returns-in_err-reserve-clause-cut g c =
+    let d = g.D.Disk in
+    let st = state_of c.args.index.now in
+    let p = err_from_is_err_and c.from_residual-in_err-reserve.result c.from_residual-in_err-reserve.ensures.1 in
+    rw (p.1, p.2) (idle_cut d.tells d.seen d.certain d.may_leave d.moment d.left_since g.met.D.Disk.certain_is_left 7 None st st c.args.frames.now
+    c.reserve.new.self (Err (fault_of c.in_err-reserve.field-0.0)) c.requires.may c.in_err-reserve.ensures.untouched (omega arith))
+
+pub returns-in_err-rewrite-clause-cut : goal.returns-in_err-rewrite-clause-cut
+returns-in_err-rewrite-clause-cut g c =
+    let d = g.D.Disk in
+    let st = state_of c.args.index.now in
+    let old = c.args.frames.now in
+    let mid = c.reserve.new.self in
+    let new = c.rewrite.new.self in
+    let live = c.in_ok-live.live.items in
+    let f = c.in_err-rewrite.field-0.0 in
+    let made = c.in_ok-reserve.ensures in
+    let first = idle_made d.tells d.seen d.may_leave d.moment d.left_since g.met.D.Disk.only_now st old mid c.requires.may made.same made.untouched made.read made.answer.halts in
+    let may = may_go_on d.tells d.seen d.may_leave d.moment d.left_since st st None old mid first in
+    let kept = subst (λ (s : Shape). IsKeptState (images.limits_of s) st) (sym first.shape) c.requires.indexed.kept in
+    let leads = leads_from_records (images.limits_of mid.shape) live (live_records st) empty st c.in_ok-live.ensures.read
+    (records_lead (images.limits_of mid.shape) st kept) in
+    let second = call_cut d.tells d.seen d.certain d.may_leave d.moment d.left_since 7 None st st live mid new f may leads c.in_err-rewrite.ensures.cut in
+    let p = err_from_is_err_and c.from_residual-in_err-rewrite.result c.from_residual-in_err-rewrite.ensures.1 in
+    rw (p.1, p.2) (then_cut d.tells d.seen d.certain d.may_leave d.moment d.left_since 0 7 7 None st st old mid new (Err (fault_of f)) refl
+    (λ told. omega (arith, made.untouched.clock)) first second)
 
 pub returns-in_err-rewrite-clause-step : goal.returns-in_err-rewrite-clause-step
 returns-in_err-rewrite-clause-step g c =

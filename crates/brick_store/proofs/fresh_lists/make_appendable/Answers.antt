@@ -1,8 +1,23 @@
 -- A list that can be appended to needs nothing but room in memory and a sync.
-use Rattle.std.proofs.Common.{rules, ◌≡◌, ◌∙◌, length, ap, arith}
+use Rattle.std.proofs.Common.{rules, ◌≡◌, ◌+◌, ◌≤◌, ◌∙◌, ℕ, Bool, true, false, if◌then◌else◌, length, ap, arith}
+use Rattle.std.specs.Prelude.{IsOk}
+use Rattle.std.proofs.lemmas.Result.{err_from_is_err_and}
+use Rattle.frame_store.specs.declared.faults.FrameFault.{FrameFault}
+use Rattle.frame_store.specs.declared.faults.FrameFault.TheVariants as frames
+use Rattle.brick_state.specs.Indexes.{state_of}
+use Rattle.brick_store.specs.declared.faults.StoreFault.TheVariants.{Disk}
+use Rattle.brick_store.specs.Bricks.{fault_of}
+use Rattle.brick_store.specs.Calls.{is_appendable}
+use Rattle.brick_store.proofs.Cutting.{disk_meant}
+use Rattle.brick_store.proofs.CutOpenings.{run_clock, sync_cut}
 use Rattle.frame_store.specs.declared.shapes.Shape.{Shape}
-use Rattle.brick_store.proofs.Stepping.{room_less}
+use Rattle.brick_store.proofs.Stepping.{refused, room_less}
 use Rattle.brick_store.proofs.fresh_lists.make_appendable.Goals as goal
+
+-- one call is no more than what the opening makes first
+few : (b : Bool) (before now : ℕ) → now ≤ before + 1 → now ≤ before + (if b then 1 else 8)
+few true before now one = one
+few false before now one = omega (arith, one)
 
 pub returns-then-is_appendable-clause-room : goal.returns-then-is_appendable-clause-room
 returns-then-is_appendable-clause-room g c =
@@ -20,8 +35,19 @@ returns-then-is_appendable-clause-room g c =
 pub returns-in_err-reserve : goal.returns-in_err-reserve
 returns-in_err-reserve g c = search rules
 
-pub returns-in_err-sync : goal.returns-in_err-sync
-returns-in_err-sync g c = search rules
+pub returns-in_err-sync-clause-cut : goal.returns-in_err-sync-clause-cut
+returns-in_err-sync-clause-cut g c =
+    let d = g.D.Disk in
+    let old = c.args.frames.now in
+    let f = c.in_err-sync.field-0.0 in
+    let made = c.in_ok-reserve.ensures in
+    let call = c.in_err-sync.ensures in
+    let meant = λ (is : refused (fault_of f) ≡ refused Disk). ap (refused {E = FrameFault}) (disk_meant f is) in
+    let p = err_from_is_err_and c.from_residual-in_err-sync.result c.from_residual-in_err-sync.ensures.1 in
+    rw (p.1, p.2) (λ told free closed is. sync_cut d.seen d.certain d.may_leave d.moment d.left_since g.met.D.Disk.certain_is_left _ old
+    c.reserve.new.self.disk c.sync.new.self.disk (state_of c.args.index.now) (c.requires.read told c.requires.runs) closed c.requires.found made.untouched
+    call.content call.crash
+    (few (is_appendable c.args.whole old c.args.body) _ _ (run_clock {whole = IsOk (refused f)} {cut = refused f ≡ refused frames.Disk} call.run told (made.plan.stays free) (meant is))))
 
 pub returns : goal.returns
 returns g c = search rules

@@ -1,5 +1,6 @@
 -- The frames of the live records bring the state back, and all memory is taken first.
 use Rattle.std.proofs.Common.{rules, ◌≡◌, ◌+◌, false, List, length, Err, refl, sym, ap, subst, ◌∙◌, arith}
+use Rattle.std.specs.Prelude.{IsOk}
 use Rattle.std.proofs.lemmas.Result.{err_from_is_err_and}
 use Rattle.frame_store.specs.declared.faults.FrameFault.{FrameFault}
 use Rattle.frame_store.specs.declared.frames.Frame.{Frame}
@@ -11,14 +12,45 @@ use Rattle.brick_state.specs.Indexes.{state_of}
 use Rattle.brick_store.specs.Bricks.{fault_of}
 use Rattle.brick_store.specs.Images.{limits_of}
 use Rattle.brick_store.specs.Standing.{Leads}
-use Rattle.brick_store.specs.declared.faults.StoreFault.TheVariants.{NoMemory}
+use Rattle.brick_store.specs.declared.faults.StoreFault.TheVariants.{Disk, NoMemory}
 use Rattle.brick_store.proofs.FreshLists.{live_lead, renewed}
 use Rattle.fab_disk.proofs.Plans.{run_as, run_after, run_both}
 use Rattle.frame_store.specs.declared.faults.FrameFault.TheVariants as frames
 use Rattle.brick_store.specs.declared.faults.StoreFault.{StoreFault}
 use Rattle.brick_store.proofs.Counting.{disk_failed}
 use Rattle.brick_store.proofs.Stepping.{memory_refused, refused, room_less}
+use Rattle.brick_store.proofs.Cutting.{disk_meant}
+use Rattle.brick_store.proofs.CutOpenings.{run_clock, sync_cut, rewrite_cut}
 use Rattle.brick_store.proofs.fresh_lists.renew.Goals as goal
+
+pub returns-in_err-sync-clause-cut : goal.returns-in_err-sync-clause-cut
+returns-in_err-sync-clause-cut g c =
+    let d = g.D.Disk in
+    let old = c.args.frames.now in
+    let f = c.in_err-sync.field-0.0 in
+    let made = c.in_ok-reserve.ensures in
+    let call = c.in_err-sync.ensures in
+    let meant = λ (is : refused (fault_of f) ≡ refused Disk). ap (refused {E = FrameFault}) (disk_meant f is) in
+    let p = err_from_is_err_and c.from_residual-in_err-sync.result c.from_residual-in_err-sync.ensures.1 in
+    rw (p.1, p.2) (λ told free closed is. sync_cut d.seen d.certain d.may_leave d.moment d.left_since g.met.D.Disk.certain_is_left 8 old
+    c.reserve.new.self.disk c.sync.new.self.disk (state_of c.args.index.now) (c.requires.read told c.requires.runs) closed c.requires.found made.untouched
+    call.content call.crash (omega (arith, run_clock {whole = IsOk (refused f)} {cut = refused f ≡ refused frames.Disk} call.run told (made.plan.stays free) (meant is))))
+
+pub returns-in_err-rewrite-clause-cut : goal.returns-in_err-rewrite-clause-cut
+returns-in_err-rewrite-clause-cut g c =
+    let d = g.D.Disk in
+    let old = c.args.frames.now in
+    let st = state_of c.args.index.now in
+    let f = c.in_err-rewrite.field-0.0 in
+    let made = c.in_ok-reserve.ensures in
+    let call = c.in_ok-sync.ensures in
+    let meant = λ (is : refused (fault_of f) ≡ refused Disk). ap (refused {E = FrameFault}) (disk_meant f is) in
+    let leads = live_lead (limits_of old.shape) c.in_ok-live.live.items st c.requires.kept c.in_ok-live.ensures.read in
+    let p = err_from_is_err_and c.from_residual-in_err-rewrite.result c.from_residual-in_err-rewrite.ensures.1 in
+    rw (p.1, p.2) (λ told free closed is. rewrite_cut d.seen d.certain d.may_leave d.moment d.left_since old c.sync.new.self c.reserve.new.self.disk
+    c.rewrite.new.self.disk c.in_ok-live.live.items st made.untouched call.content (call.run.counted told refl) (call.same.shape ∙ made.same.shape)
+    (call.same.frames ∙ made.same.frames) c.requires.found leads
+    (c.in_err-rewrite.ensures.cut (call.durable told) (call.same.closed ∙ made.same.closed ∙ closed) (meant is)))
 
 pub returns-in_err-rewrite-clause-moments : goal.returns-in_err-rewrite-clause-moments
 returns-in_err-rewrite-clause-moments g c = λ told closed.

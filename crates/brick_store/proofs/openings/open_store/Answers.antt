@@ -1,5 +1,5 @@
 -- What was opened is what the disk held, counted.
-use Rattle.std.proofs.Common.{◌≡◌, ◌+◌, ◌<◌, ◌∙◌, true, List, Err, refl, sym, ap, subst}
+use Rattle.std.proofs.Common.{◌≡◌, ◌+◌, ◌<◌, ◌∙◌, ℕ, true, List, Err, refl, sym, ap, subst, arith}
 use Rattle.fab_disk.specs.Disk.{LeavesOnly}
 use Rattle.frame_store.specs.declared.shapes.Shape.{Shape}
 use Rattle.fab_disk.specs.Plan.{IsRun}
@@ -16,8 +16,9 @@ use Rattle.brick_state.specs.Indexes.{state_of}
 use Rattle.brick_state.specs.States.{StateOf, booted, empty}
 use Rattle.brick_store.specs.Blocks.{resolved, cached}
 use Rattle.brick_store.specs.Images.{limits_of, IsFound, StandsFor, StandsForEither, LeavesState}
-use Rattle.brick_store.specs.Openings.{IsAllowedOr, is_whole, opens_appendable}
-use Rattle.brick_store.proofs.Opened.{state_counted, found_there, worn_there, opening_moments, synced_moments, standing_leaves}
+use Rattle.brick_store.specs.Openings.{IsAllowedOr, IsKeptIn, StopsOpening, found_in, is_whole, opens_appendable}
+use Rattle.brick_store.proofs.CutOpenings.{opening_cut}
+use Rattle.brick_store.proofs.Opened.{boot_there, state_counted, found_there, worn_there, opening_moments, synced_moments, standing_leaves}
 use Rattle.brick_store.proofs.openings.open_store.Goals as goal
 
 pub returns-in-Ok-take_up-clause-state : goal.returns-in-Ok-take_up-clause-state
@@ -151,3 +152,39 @@ returns-in-Err-take_up-clause-run_err g c = λ told frames closed opens.
     (λ a b. made.waits (λ whole. absurd cc) (λ is. b (let same : c.in-Err-take_up.fault ≡ Disk = cc in same)) ∙ here.plan.same)
     (run_after d.tells d.moment d.plan d.unlisted _ c.args.disk held.disk new _ _ _ here.plan here.untouched.clock
     (run_calls d.tells d.moment d.plan d.unlisted _ _ held.disk new _ _ calls made)))
+
+pub returns-in-Err-take_up-clause-not_worn : goal.returns-in-Err-take_up-clause-not_worn
+returns-in-Err-take_up-clause-not_worn g c = λ is told free st stands.
+    let d = g.D.Disk in
+    let held = c.in-Ok.frames in
+    let here = c.in-Ok.ensures in
+    let there = subst (λ (s : Shape). StandsFor s st (d.seen c.args.disk)) (sym here.shape) stands in
+    omega (
+      arith,
+      c.in-Err-take_up.ensures.counted (here.plan.stays free) (ap Err is),
+      boot_there d.seen held (here.read told here.runs) (d.seen c.args.disk) here.untouched.content st there,
+    )
+
+pub returns-in-Err-take_up-clause-cut : goal.returns-in-Err-take_up-clause-cut
+returns-in-Err-take_up-clause-cut g c = λ is told free frames closed opens st stands.
+    let d = g.D.Disk in
+    let held = c.in-Ok.frames in
+    let here = c.in-Ok.ensures in
+    let new = c.take_up.new.frames.disk in
+    let shape = shape_of c.args.me.0 c.args.block c.args.records in
+    let back : new ≡ c.into_disk.result = sym c.into_disk.ensures in
+    let shows = subst (λ (s : Shape). OpensAs s held.frames held.closed (d.seen held.disk)) here.shape (here.read told here.runs).opens in
+    let once = opens_once shape (d.seen c.args.disk) held.frames frames held.closed closed
+    (subst (OpensAs shape held.frames held.closed) here.untouched.content shows) opens in
+    let calls = opening_is held (is_whole (limits_of held.shape) held.frames empty) (is_whole (limits_of shape) frames empty) shape frames closed
+    (ap (λ (s : Shape). is_whole (limits_of s) held.frames empty) here.shape
+    ∙ ap (λ (fs : List Frame). is_whole (limits_of shape) fs empty) once.0) here.shape once.0 once.1 in
+    let found = found_in held.shape held.frames in
+    let run = λ (at : held.closed ≡ true). subst (λ (n : ℕ). StopsOpening d.seen d.certain d.may_leave d.moment n held.disk new
+    (IsKeptIn held.shape found (d.seen held.disk)) (IsKeptIn held.shape (booted (found.boot + 1) found) (d.seen held.disk))) calls
+    (c.in-Err-take_up.ensures.cut told (here.plan.stays free) at (ap Err is)) in
+    subst (λ (last : g.row.D.Denot). StopsOpening d.seen d.certain d.may_leave d.moment (opening_calls (opens_appendable shape frames closed)) c.args.disk
+    last (StandsFor shape st) (StandsFor shape (booted (st.boot + 1) st))) back
+    (subst (λ (s : Shape). (x : StateOf Version) → StandsFor s x (d.seen c.args.disk) → StopsOpening d.seen d.certain d.may_leave d.moment
+    (opening_calls (opens_appendable shape frames closed)) c.args.disk new (StandsFor s x) (StandsFor s (booted (x.boot + 1) x))) here.shape
+    (opening_cut d.seen d.certain d.may_leave d.moment d.left_since _ c.args.disk new held (here.read told here.runs) here.untouched run) st stands)

@@ -10,6 +10,7 @@ use Rattle.brick_store.specs.declared.faults.StoreFault.TheVariants.{NoMemory}
 use Rattle.brick_store.specs.Bricks.{fault_of}
 use Rattle.brick_store.specs.Steps.{changed}
 use Rattle.brick_store.proofs.Stepping.{call_made, call_refused, call_moments, leads_changed, memory_refused, refused, room_less}
+use Rattle.brick_store.proofs.Cutting.{call_cut}
 use Rattle.brick_store.proofs.starts.append_count.Goals as goal
 
 pub returns-in_err-append-clause-step : goal.returns-in_err-append-clause-step
@@ -32,6 +33,22 @@ returns-in_err-append-clause-step g c =
     (old.frames ++ frame_of frame.kind bytes ∷ []) old new.disk may leads call.any_moment in
     let p = err_from_is_err_and c.from_residual.result c.from_residual.ensures.1 in
     rw (p.1, p.2) (call_refused d.tells d.seen d.may_leave d.moment d.left_since None st next old new f may call.refused run call.no_memory call.read call.answer)
+
+pub returns-in_err-append-clause-cut : goal.returns-in_err-append-clause-cut
+returns-in_err-append-clause-cut g c =
+    let d = g.D.Disk in
+    let index = c.args.index.now in
+    let st = state_of index in
+    let old = c.args.frames.now in
+    let frame = c.args.frame.now in
+    let bytes = c.as_slice.result.now in
+    let may = c.requires.may in
+    let read = subst (λ (b : List ℕ). record_of (frame_of frame.kind b) ≡ Some c.args.item.now) (sym c.as_slice.ensures.value) c.requires.read in
+    let leads = leads_changed (limits_of index) (images.limits_of old.shape) old.frames
+    (frame_of frame.kind bytes) c.args.item.now st c.requires.limits may.leads read c.requires.can in
+    let p = err_from_is_err_and c.from_residual.result c.from_residual.ensures.1 in
+    rw (p.1, p.2) (call_cut d.tells d.seen d.certain d.may_leave d.moment d.left_since 4 None st (changed (limits_of index) c.args.item.now st)
+    (old.frames ++ frame_of frame.kind bytes ∷ []) old c.append.new.self c.in_err-append.field-0.0 may leads c.in_err-append.ensures.cut)
 
 pub returns-in_err-append-clause-no_memory : goal.returns-in_err-append-clause-no_memory
 returns-in_err-append-clause-no_memory g c =

@@ -1,6 +1,7 @@
 -- The opening is counted.
-use Rattle.std.proofs.Common.{rules, ◌≡◌, ◌+◌, ℕ, None, OnOk, ap, subst, ◌∙◌}
-use Rattle.fab_disk.specs.Disk.{LeavesOnly}
+use Rattle.std.proofs.Common.{rules, ◌≡◌, ◌+◌, ℕ, None, OnOk, if◌then◌else◌, refl, sym, ap, subst, ◌∙◌}
+use Rattle.std.proofs.lemmas.Result.{err_from_is_err_and}
+use Rattle.fab_disk.specs.Disk.{LeavesOnly, StopsEarly}
 use Rattle.stamp_store.specs.declared.kept_records.Kept.TheVariants.{Boot}
 use Rattle.frame_store.specs.declared.shapes.Shape.{Shape}
 use Rattle.brick_state.specs.declared.records.Record.TheVariants as forms
@@ -8,7 +9,11 @@ use Rattle.brick_state.specs.Entries.{Entry}
 use Rattle.brick_state.specs.States.{StateOf, booted}
 use Rattle.brick_state.specs.Indexes.{state_of}
 use Rattle.brick_state.specs.Indexes as indexes
-use Rattle.brick_store.specs.Steps.{IsMoment, changed}
+use Rattle.brick_store.specs.Calls.{is_appendable}
+use Rattle.brick_store.specs.Steps.{IsMoment, IsUnchanged, IsChanged, changed}
+use Rattle.brick_store.specs.Openings.{IsKeptIn, StopsOpening}
+use Rattle.brick_store.proofs.Counting.{start_sum}
+use Rattle.brick_store.proofs.CutOpenings.{readying_cut, count_cut}
 use Rattle.brick_store.proofs.Starting.{counted, counted_moments}
 use Rattle.brick_store.proofs.starts.start.Goals as goal
 
@@ -38,5 +43,37 @@ returns-clause-moments g c = λ told closed.
 pub returns-in_err-frame : goal.returns-in_err-frame
 returns-in_err-frame g c = search rules
 
-pub returns-in_err-make_appendable : goal.returns-in_err-make_appendable
-returns-in_err-make_appendable g c = search rules
+pub returns-in_err-make_appendable-clause-cut : goal.returns-in_err-make_appendable-clause-cut
+returns-in_err-make_appendable-clause-cut g c =
+    let d = g.D.Disk in
+    let old = c.args.frames.now in
+    let st = state_of c.args.index.now in
+    let len : c.len.result ≡ 4 = c.len.ensures ∙ c.in_ok-frame.ensures.length in
+    let calls = sym (start_sum (is_appendable c.args.whole old 4) ∙ ap (λ (n : ℕ). (if is_appendable c.args.whole old n then 1 else 8) + 4) (sym len)) in
+    let p = err_from_is_err_and c.from_residual-in_err-make_appendable.result c.from_residual-in_err-make_appendable.ensures.1 in
+    rw (p.1, p.2) (λ told free closed is. subst (λ (n : ℕ). StopsOpening d.seen d.certain d.may_leave d.moment n old.disk c.make_appendable.new.frames.disk
+    (IsKeptIn old.shape st (d.seen old.disk)) (IsKeptIn old.shape (booted (st.boot + 1) st) (d.seen old.disk))) calls
+    (readying_cut d.seen d.certain d.may_leave d.moment d.left_since _ old.disk c.make_appendable.new.frames.disk _ _
+    (c.in_err-make_appendable.ensures.cut told free closed is)))
+
+pub returns-clause-cut : goal.returns-clause-cut
+returns-clause-cut g c = λ told free closed is.
+    let d = g.D.Disk in
+    let st = state_of c.args.index.now in
+    let old = c.args.frames.now in
+    let mid = c.make_appendable.new.frames in
+    let new = c.append_count.new.frames in
+    let made = c.in_ok-make_appendable.ensures in
+    let next : changed (indexes.limits_of c.args.index.now) (forms.Kept (Boot (c.boot.result + 1))) st ≡ booted (c.args.index.now.boot + 1) st =
+    counted (indexes.limits_of c.args.index.now) (c.boot.result + 1) st ∙ ap (λ (n : ℕ). booted (n + 1) st) c.boot.ensures in
+    let len : c.len.result ≡ 4 = c.len.ensures ∙ c.in_ok-frame.ensures.length in
+    let calls = sym (start_sum (is_appendable c.args.whole old 4) ∙ ap (λ (n : ℕ). (if is_appendable c.args.whole old n then 1 else 8) + 4) (sym len)) in
+    let moved = subst (λ (s : Shape). StopsEarly d.seen d.certain d.moment 4 mid.disk new.disk (IsUnchanged s None st (d.seen mid.disk))
+    (IsChanged s None (changed (indexes.limits_of c.args.index.now) (forms.Kept (Boot (c.boot.result + 1))) st) (d.seen mid.disk)))
+    c.make_appendable.ensures.shape (c.append_count.ensures.cut told is) in
+    let stops = subst (λ (s : StateOf Entry). StopsEarly d.seen d.certain d.moment 4 mid.disk new.disk (IsUnchanged old.shape None st (d.seen mid.disk))
+    (IsChanged old.shape None s (d.seen mid.disk))) next moved in
+    subst (λ (n : ℕ). StopsOpening d.seen d.certain d.may_leave d.moment n old.disk new.disk
+    (IsKeptIn old.shape st (d.seen old.disk)) (IsKeptIn old.shape (booted (st.boot + 1) st) (d.seen old.disk))) calls
+    (count_cut d.seen d.certain d.may_leave d.moment d.left_since _ old.shape st (booted (st.boot + 1) st) old.disk mid.disk new.disk
+    (made.run.counted told refl) (made.slots told) stops)

@@ -18,11 +18,11 @@ use Rattle.replica.specs.Parts.{as_version}
 use Rattle.replica.specs.Plans.{planned, IsChange}
 use Rattle.replica.specs.Reactions.{place_of, part_at, IsReacted}
 use Rattle.replica.specs.Handling.{Handles}
-use Rattle.replica.specs.Calls.{part_calls, RunsAs}
+use Rattle.replica.specs.Calls.{part_calls, RunsAs, StopsAs}
 use Rattle.replica.proofs.Answering.{handles_change}
 use Rattle.replica.proofs.Logs.{newest_seen}
 use Rattle.replica.proofs.Reacting.{promise_grows, order_made, store_made, none_made, order_moves, store_moves, unless_room, unless_none}
-use Rattle.replica.proofs.Runs.{runs_told, change_runs, calls_kept, calls_ordered, calls_stored}
+use Rattle.replica.proofs.Runs.{runs_told, change_runs, change_cut, calls_kept, calls_ordered, calls_stored}
 use Rattle.replica.proofs.handling.carry_out.Goals as goal
 
 pub add_version-answer-requires-clause-above : goal.add_version-answer-requires-clause-above
@@ -52,9 +52,9 @@ returns-in-Promise-clause-handles g c =
     (sym c.in-Promise.is)
     (subst (λ (r : Result (Option Reply) ReplicaFault). Handles d.tells d.seen d.may_leave d.moment d.left_since d.faults d.sound
     (Follows (Promise t reply)) old new r) (sym c.answered.ensures)
-    (handles_change d.tells d.seen d.may_leave d.moment d.left_since d.faults d.sound g.met.D.Disk.only_now (Follows (Promise t reply)) call.group.0 call.view.0 call.stripe.0 old new
+    (handles_change d.tells d.seen d.certain d.may_leave d.moment d.left_since d.faults d.sound g.met.D.Disk.only_now (Follows (Promise t reply)) call.group.0 call.view.0 call.stripe.0 old new
     (ordered (place_of call) t st)
-    (adds_stamp t (stripe_at st (place_of call)).order) 4 reply c.requires.runs
+    (adds_stamp t (stripe_at st (place_of call)).order) (calls_of old 30 4) reply c.requires.runs
     (order_made block call st sorted old.shape.records t reply later)
     (λ adds. none_made block call st sorted old.shape.records (promised part t reply) (promise_grows block call st sorted t reply ∙ adds))
     (order_moves block call st sorted t later) c.set_order.result c.set_order.ensures.change))
@@ -77,9 +77,9 @@ returns-in-Store-clause-handles g c =
     (sym c.in-Store.is)
     (subst (λ (r : Result (Option Reply) ReplicaFault). Handles d.tells d.seen d.may_leave d.moment d.left_since d.faults d.sound
     (Follows (Store t bytes)) old new r) (sym c.answered-in-Store.ensures)
-    (handles_change d.tells d.seen d.may_leave d.moment d.left_since d.faults d.sound g.met.D.Disk.only_now (Follows (Store t bytes)) call.group.0 call.view.0 call.stripe.0 old new
+    (handles_change d.tells d.seen d.certain d.may_leave d.moment d.left_since d.faults d.sound g.met.D.Disk.only_now (Follows (Store t bytes)) call.group.0 call.view.0 call.stripe.0 old new
     (added (place_of call) (version t bytes) st)
-    true 5 Stored c.requires.runs
+    true (calls_of old 35 5) Stored c.requires.runs
     (store_made block call st sorted old.shape.records t bytes)
     (none_made block call st sorted old.shape.records (stored part t bytes))
     (store_moves block call st sorted t bytes) c.add_version-answer.result c.add_version-answer.ensures.change))
@@ -135,8 +135,8 @@ returns-in-Promise-clause-run g c =
     let grows = promise_grows block call st sorted t reply in
     subst (λ (r : Result (Option Reply) ReplicaFault). RunsAs d.tells d.moment d.plan d.unlisted (calls (planned full part c.args.plan)) old new r)
     (sym c.answered.ensures)
-    (change_runs d.tells d.seen d.may_leave d.moment d.left_since d.faults d.sound d.plan d.unlisted old new c.requires.runs
-    (ordered (place_of call) t st) (adds_stamp t (stripe_at st (place_of call)).order) 4 (calls_of old 30 4)
+    (change_runs d.tells d.seen d.certain d.may_leave d.moment d.left_since d.faults d.sound d.plan d.unlisted old new c.requires.runs
+    (ordered (place_of call) t st) (adds_stamp t (stripe_at st (place_of call)).order) (calls_of old 30 4)
     (calls (planned full part c.args.plan)) reply c.set_order.result c.set_order.ensures.change c.set_order.ensures.run
     (λ room. ap calls is ∙ ap calls (sym (unless_room block call st sorted records part reaction (λ more. room (sym grows ∙ more))))
     ∙ calls_ordered old part t later)
@@ -161,8 +161,62 @@ returns-in-Store-clause-run g c =
     let is : planned full part c.args.plan ≡ unless_full full part reaction = ap (planned full part) c.in-Store.is in
     subst (λ (r : Result (Option Reply) ReplicaFault). RunsAs d.tells d.moment d.plan d.unlisted (calls (planned full part c.args.plan)) old new r)
     (sym c.answered-in-Store.ensures)
-    (change_runs d.tells d.seen d.may_leave d.moment d.left_since d.faults d.sound d.plan d.unlisted old new c.requires.runs
-    (added (place_of call) (version t bytes) st) true 5 (calls_of old 35 5)
+    (change_runs d.tells d.seen d.certain d.may_leave d.moment d.left_since d.faults d.sound d.plan d.unlisted old new c.requires.runs
+    (added (place_of call) (version t bytes) st) true (calls_of old 35 5)
     (calls (planned full part c.args.plan)) Stored c.add_version-answer.result c.add_version-answer.ensures.change c.add_version-answer.ensures.run
     (λ room. ap calls is ∙ ap calls (sym (unless_room block call st sorted records part reaction room)) ∙ calls_stored old part _)
     (λ adds most. ap calls is ∙ ap calls (sym (unless_none block call st sorted records part reaction adds most)) ∙ calls_kept old part))
+
+pub returns-in-Promise-clause-cut : goal.returns-in-Promise-clause-cut
+returns-in-Promise-clause-cut g c =
+    let d = g.D.Disk in
+    let old = c.args.store.now in
+    let new = c.set_order.new.self in
+    let st = old.state in
+    let block = old.shape.block in
+    let call = c.args.call in
+    let records = old.shape.records in
+    let t = c.in-Promise.stamp in
+    let reply = c.in-Promise.reply in
+    let part = part_at block st call in
+    let full = full_at records (live st) in
+    let sorted = c.requires.runs.ordered.sorted in
+    let calls = λ (r : Reaction). part_calls old.shape old.listed part r.replica in
+    let Follows = λ (p : Plan). IsReacted block call st (planned full part p) in
+    let reaction = promised part t reply in
+    let later : stamp_below part.order t ≡ true = subst (λ (p : Plan). IsChange block part p) c.in-Promise.is c.requires.change in
+    let grows = promise_grows block call st sorted t reply in
+    subst (λ (p : Plan). StopsAs d.tells d.seen d.certain d.moment (calls (planned full part p)) (Follows p) old new c.answered.result)
+    (sym c.in-Promise.is)
+    (subst (λ (r : Result (Option Reply) ReplicaFault). StopsAs d.tells d.seen d.certain d.moment (calls (planned full part (Promise t reply)))
+    (Follows (Promise t reply)) old new r) (sym c.answered.ensures)
+    (change_cut d.tells d.seen d.certain d.may_leave d.moment d.left_since d.faults d.sound d.plan d.unlisted old new c.requires.runs
+    (Follows (Promise t reply)) (ordered (place_of call) t st) (adds_stamp t (stripe_at st (place_of call)).order) (calls_of old 30 4)
+    (calls (planned full part (Promise t reply))) reply c.set_order.result c.set_order.ensures.change
+    (order_made block call st sorted records t reply later)
+    (λ room. ap calls (sym (unless_room block call st sorted records part reaction (λ more. room (sym grows ∙ more)))) ∙ calls_ordered old part t later)))
+
+pub returns-in-Store-clause-cut : goal.returns-in-Store-clause-cut
+returns-in-Store-clause-cut g c =
+    let d = g.D.Disk in
+    let old = c.args.store.now in
+    let new = c.add_version-answer.new.self in
+    let st = old.state in
+    let block = old.shape.block in
+    let call = c.args.call in
+    let records = old.shape.records in
+    let t = c.in-Store.stamp in
+    let bytes = c.in-Store.block in
+    let part = part_at block st call in
+    let full = full_at records (live st) in
+    let sorted = c.requires.runs.ordered.sorted in
+    let calls = λ (r : Reaction). part_calls old.shape old.listed part r.replica in
+    let Follows = λ (p : Plan). IsReacted block call st (planned full part p) in
+    subst (λ (p : Plan). StopsAs d.tells d.seen d.certain d.moment (calls (planned full part p)) (Follows p) old new c.answered-in-Store.result)
+    (sym c.in-Store.is)
+    (subst (λ (r : Result (Option Reply) ReplicaFault). StopsAs d.tells d.seen d.certain d.moment (calls (planned full part (Store t bytes)))
+    (Follows (Store t bytes)) old new r) (sym c.answered-in-Store.ensures)
+    (change_cut d.tells d.seen d.certain d.may_leave d.moment d.left_since d.faults d.sound d.plan d.unlisted old new c.requires.runs
+    (Follows (Store t bytes)) (added (place_of call) (version t bytes) st) true (calls_of old 35 5) (calls (planned full part (Store t bytes))) Stored
+    c.add_version-answer.result c.add_version-answer.ensures.change (store_made block call st sorted records t bytes)
+    (λ room. ap calls (sym (unless_room block call st sorted records part (stored part t bytes) room)) ∙ calls_stored old part _)))

@@ -17,8 +17,8 @@ use Rattle.replica.specs.Plans.{planned}
 use Rattle.replica.specs.Reactions.{place_of, part_at, IsReacted, IsStep}
 use Rattle.replica.specs.Handling.{me_of, Handles}
 use Rattle.replica.proofs.Answering.{handles_seen}
-use Rattle.replica.specs.Calls.{part_calls, message_calls, RunsAs}
-use Rattle.replica.proofs.Runs.{runs_told, runs_seen}
+use Rattle.replica.specs.Calls.{part_calls, message_calls, RunsAs, StopsAs}
+use Rattle.replica.proofs.Runs.{runs_told, runs_seen, cut_seen}
 use Rattle.replica.proofs.Stepping.{step_served, calls_served, calls_void}
 use Rattle.replica.proofs.handling.handle.Goals as goal
 
@@ -115,6 +115,52 @@ returns-clause-run g c node parts =
     (subst (λ (r : Result (Option Message) ReplicaFault). RunsAs d.tells d.moment d.plan d.unlisted
     (part_calls old.shape old.listed part (planned full part c.in_ok-plan.plan).replica) old new r) (sym c.answer.ensures)
     (runs_seen d.tells d.moment d.plan d.unlisted (λ (r : Reply). Message.Reply call r) _ old new c.carry_out.result c.carry_out.ensures.run))
+
+pub returns-clause-cut : goal.returns-clause-cut
+returns-clause-cut g c node parts =
+    let d = g.D.Disk in
+    let old = c.args.store.now in
+    let new = c.carry_out.new.store in
+    let layout = c.args.layout.now in
+    let from = c.args.from in
+    let call = c.in-Request.call in
+    let request = c.in-Request.request in
+    let st = old.state in
+    let seat = c.in-Some.seat in
+    let plan = c.in_ok-plan.plan in
+    let seen = c.state-part.result in
+    let full = full_at old.shape.records (live st) in
+    let part = part_at old.shape.block st call in
+    let block : old.shape.block ≡ layout.block = ap (λ (x : Shape). x.block) c.requires.shape in
+    let records : old.shape.records ≡ layout.records = ap (λ (x : Shape). x.records) c.requires.shape in
+    let shown : part_seen seen ≡ part = seen_part seen part.order
+    (log_at old.shape.block st (place_of call)) c.state-part.ensures.order c.state-part.ensures.log in
+    let reaction : planned full part plan ≡ handle full seat part request = subst
+    (λ (r : Replica). planned full r plan ≡ handle full seat r request) shown (c.in_ok-plan.ensures.plan full) in
+    let served = λ (other : Node) (kept : IsPartsOf layout st other). sym c.in-Some.is ∙ c.seat_served.ensures.seat other kept in
+    let in_first : call.view.0 ≡ 1 = c.seat_served.ensures.first (subst (λ (o : Option ℕ). IsSome o) (sym c.in-Some.is) refl) in
+    let step = λ (reply : Option Reply) (after : StateOf Version) (reacted : IsReacted old.shape.block call st (planned full part plan) reply after).
+    step_served layout (me_of old) from call request st c.requires.view in_first seat served reply after
+    (subst (λ (k : ℕ). IsReacted layout.block call st (handle (full_at k (live st)) seat (part_at layout.block st call) request) reply after) records
+    (subst (λ (b : ℕ). IsReacted b call st (handle full seat (part_at b st call) request) reply after) block
+    (subst (λ (r : Reaction). IsReacted old.shape.block call st r reply after) reaction reacted))) in
+    let made : part_calls old.shape old.listed part (planned full part plan).replica
+    ≡ part_calls old.shape old.listed (part_at layout.block st call) (handle (full_at layout.records (live st)) seat (part_at layout.block st call) request).replica =
+    ap (λ (r : Reaction). part_calls old.shape old.listed part r.replica) reaction
+    ∙ ap (λ (b : ℕ). part_calls old.shape old.listed (part_at b st call) (handle full seat (part_at b st call) request).replica) block
+    ∙ ap (λ (k : ℕ). part_calls old.shape old.listed (part_at layout.block st call) (handle (full_at k (live st)) seat (part_at layout.block st call) request).replica) records in
+    let calls : message_calls layout (me_of old) from old.shape old.listed node (Message.Request call request)
+    ≡ part_calls old.shape old.listed part (planned full part plan).replica =
+    calls_served layout (me_of old) from call request st old node parts seat served ∙ sym made in
+    subst (λ (m : Message). StopsAs d.tells d.seen d.certain d.moment (message_calls layout (me_of old) from old.shape old.listed node m)
+    (IsStep layout (me_of old) from m st) old new c.answer.result) (sym c.in-Request.is)
+    (subst (λ (n : ℕ). StopsAs d.tells d.seen d.certain d.moment n (IsStep layout (me_of old) from (Message.Request call request) st) old new
+    c.answer.result) (sym calls)
+    (subst (λ (r : Result (Option Message) ReplicaFault). StopsAs d.tells d.seen d.certain d.moment
+    (part_calls old.shape old.listed part (planned full part plan).replica)
+    (IsStep layout (me_of old) from (Message.Request call request) st) old new r) (sym c.answer.ensures)
+    (cut_seen (λ (r : Reply). Message.Reply call r) _ (IsReacted old.shape.block call st (planned full part plan))
+    (IsStep layout (me_of old) from (Message.Request call request) st) step old new c.carry_out.result c.carry_out.ensures.cut)))
 
 -- ---- where the store is left as it is
 

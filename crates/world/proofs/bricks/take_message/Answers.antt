@@ -34,6 +34,7 @@ returns-in-Err-Disk-clause-takes c layout me state runs =
     took_part layout me state c.args.time c.args.packet.now c.args.fault c.args.node c.arm.new.self runs c.arm.ensures.same c.arm.ensures.state arms
     c.look.ensures.shape (c.look.ensures.listed on) c.on_message.new.self c.into_disk.result c.left_by.result c.into_disk.ensures.disk on
     (c.on_message.ensures.moments tt on) _ _ c.in-Err-Disk.ensures.run (ap (λ (f : NodeFault). Err f) c.in-Err-Disk.field-0-is)
+    (c.in-Err-Disk.ensures.cut tt (ap (λ (f : NodeFault). Err f) c.in-Err-Disk.field-0-is))
     c.left_by.ensures.left c.left_by.ensures.crash c.left_by.ensures.sound (absorbed_boot (coding layout) me state c.args.packet.now)
 
 pub returns-in-Err-NoMemory-clause-takes : goal.returns-in-Err-NoMemory-clause-takes

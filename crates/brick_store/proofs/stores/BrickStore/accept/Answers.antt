@@ -6,7 +6,8 @@ use Rattle.brick_state.specs.declared.records.Record.TheVariants as forms
 use Rattle.brick_state.specs.States.{balloted}
 use Rattle.brick_state.specs.Indexes.{state_of, limits_of}
 use Rattle.brick_store.specs.Blocks.{cached}
-use Rattle.brick_store.proofs.Counting.{run_counted}
+use Rattle.brick_store.specs.Calls.{calls_of}
+use Rattle.brick_store.specs.Sizes.{ballots_size}
 use Rattle.brick_store.proofs.Changed.{can_from, ballots_applied, members_balloted}
 use Rattle.brick_store.proofs.Changing.{told_refused, told_of, changes_plain, standing_plain}
 use Rattle.brick_store.proofs.Resolving.{balloted-resolved}
@@ -24,7 +25,7 @@ invariant_of-self g c =
     let d = g.D.Disk in
     let x = c.self.inside in
     let st = state_of x.index in
-    standing_plain d.tells d.seen d.may_leave d.moment d.left_since d.faults d.sound x.blocks x.zero x.frames c.commit.new.frames x.index c.commit.new.index
+    standing_plain d.tells d.seen d.certain d.may_leave d.moment d.left_since d.faults d.sound x.blocks x.zero x.frames c.commit.new.frames x.index c.commit.new.index
     (forms.Kept (Ballots c.args.group c.args.view c.args.ballot (Some (c.args.ballot, c.args.members))))
     (balloted c.args.group.0 c.args.ballot (Some (c.args.ballot, c.args.members)) st) c.commit.result c.self.invariant c.in_ok-ready.ensures.runs
     (ballots_applied (limits_of x.index) c.args.group c.args.view c.args.ballot (Some (c.args.ballot, c.args.members)) st c.requires.group)
@@ -36,18 +37,18 @@ returns-clause-change g c =
     let d = g.D.Disk in
     let x = c.self.inside in
     let st = state_of x.index in
-    let tried = changes_plain d.tells d.seen d.may_leave d.moment d.left_since d.faults d.sound x.blocks x.zero x.frames c.commit.new.frames x.index
+    let tried = changes_plain d.tells d.seen d.certain d.may_leave d.moment d.left_since d.faults d.sound x.blocks x.zero x.frames c.commit.new.frames x.index
     (forms.Kept (Ballots c.args.group c.args.view c.args.ballot (Some (c.args.ballot, c.args.members)))) (state_of c.commit.new.index)
     (balloted c.args.group.0 c.args.ballot (Some (
       c.args.ballot,
       c.args.members,
     )) st) false c.commit.result c.self.invariant c.in_ok-ready.ensures.runs c.in_ok-ready.ensures.free
     (ballots_applied (limits_of x.index) c.args.group c.args.view c.args.ballot (Some (c.args.ballot, c.args.members)) st c.requires.group)
-    (λ P zero all. all) c.commit.ensures.step c.commit.ensures.made c.commit.ensures.not_made c.commit.ensures.cause (run_counted _ _ _ c.commit.ensures.run) in
-    told_of d.tells d.seen d.may_leave d.moment d.left_since d.faults d.sound x.blocks x.frames c.commit.new.frames st (state_of c.commit.new.index)
+    (λ P zero all. all) c.commit.ensures.step c.commit.ensures.made c.commit.ensures.not_made c.commit.ensures.cause c.commit.ensures.cut in
+    told_of d.tells d.seen d.certain d.may_leave d.moment d.left_since d.faults d.sound x.blocks x.frames c.commit.new.frames st (state_of c.commit.new.index)
     (balloted c.args.group.0 c.args.ballot (Some (c.args.ballot, c.args.members)) st) c.args.self.now
-    (λ s. balloted c.args.group.0 c.args.ballot (Some (c.args.ballot, c.args.members)) s) (λ s. false) false 4 c.commit.result c.self.view_is
-    (balloted-resolved (cached x.frames.shape.block x.blocks) c.args.group.0 c.args.ballot (Some (c.args.ballot, c.args.members)) st) refl tried
+    (λ s. balloted c.args.group.0 c.args.ballot (Some (c.args.ballot, c.args.members)) s) (λ s. false) (λ b. calls_of b (ballots_size (Some (c.args.ballot, c.args.members))) 4) false _ c.commit.result c.self.view_is
+    (balloted-resolved (cached x.frames.shape.block x.blocks) c.args.group.0 c.args.ballot (Some (c.args.ballot, c.args.members)) st) refl refl tried
 
 pub returns-in_err-ready-clause-change : goal.returns-in_err-ready-clause-change
 returns-in_err-ready-clause-change g c =
@@ -55,6 +56,6 @@ returns-in_err-ready-clause-change g c =
     let x = c.self.inside in
     let f = c.in_err-ready.field-0.0 in
     let q = err_from_is_err_and c.from_residual.result c.from_residual.ensures.1 in
-    rw (q.1, q.2) (told_refused d.tells d.seen d.may_leave d.moment d.left_since d.faults d.sound g.met.D.Disk.only_now x.blocks x.zero x.frames x.index c.args.self.now
+    rw (q.1, q.2) (told_refused d.tells d.seen d.certain d.may_leave d.moment d.left_since d.faults d.sound g.met.D.Disk.only_now x.blocks x.zero x.frames x.index c.args.self.now
     (λ s. balloted c.args.group.0 c.args.ballot (Some (c.args.ballot, c.args.members)) s)
-    (λ s. false) false 4 f c.self.view_is refl c.self.invariant c.in_err-ready.ensures.refused)
+    (λ s. false) false (calls_of c.args.self.now (ballots_size (Some (c.args.ballot, c.args.members))) 4) f c.self.view_is refl c.self.invariant c.in_err-ready.ensures.refused)

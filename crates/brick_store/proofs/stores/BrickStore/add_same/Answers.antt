@@ -7,7 +7,7 @@ use Rattle.brick_state.specs.States.{stripe_at, added}
 use Rattle.brick_state.specs.Folds.{place, entry}
 use Rattle.brick_state.specs.Indexes.{state_of, limits_of}
 use Rattle.brick_store.specs.Blocks.{with_version}
-use Rattle.brick_store.proofs.Counting.{run_counted}
+use Rattle.brick_store.specs.Calls.{calls_of}
 use Rattle.brick_store.proofs.Changed.{can_from}
 use Rattle.brick_store.proofs.Changing.{told_refused, told_of, changes_plain, standing_plain}
 use Rattle.brick_store.proofs.Versions.{some_newest, above_of, same_block, same_applied, slots_same, with_version_seen, next_seen}
@@ -35,7 +35,7 @@ invariant_of-self g c =
     let next = next_seen x.blocks x.frames st p c.args.stamp None c.args.self.now c.self.view_is c.requires.above in
     let u = some_newest size x.blocks (stripe_at st p) c.args.stamp next in
     let above = above_of size x.blocks (stripe_at st p) c.args.stamp None next in
-    standing_plain d.tells d.seen d.may_leave d.moment d.left_since d.faults d.sound x.blocks x.zero x.frames c.commit.new.frames x.index c.commit.new.index
+    standing_plain d.tells d.seen d.certain d.may_leave d.moment d.left_since d.faults d.sound x.blocks x.zero x.frames c.commit.new.frames x.index c.commit.new.index
     (forms.Logged (record { group = c.args.group; view = c.args.view; stripe = c.args.stripe; stamp = c.args.stamp; change = Same }))
     (added p (entry c.args.stamp u.0.block) st) c.commit.result c.self.invariant c.in_ok-ready.ensures.runs
     (same_applied (limits_of x.index) c.args.group c.args.view c.args.stripe c.args.stamp u.0 st c.requires.group
@@ -53,16 +53,16 @@ returns-clause-change g c =
     let next = next_seen x.blocks x.frames st p t None c.args.self.now c.self.view_is c.requires.above in
     let u = some_newest size x.blocks (stripe_at st p) t next in
     let above = above_of size x.blocks (stripe_at st p) t None next in
-    let tried = changes_plain d.tells d.seen d.may_leave d.moment d.left_since d.faults d.sound x.blocks x.zero x.frames c.commit.new.frames x.index
+    let tried = changes_plain d.tells d.seen d.certain d.may_leave d.moment d.left_since d.faults d.sound x.blocks x.zero x.frames c.commit.new.frames x.index
     (forms.Logged (record { group = c.args.group; view = c.args.view; stripe = c.args.stripe; stamp = t; change = Same }))
     (state_of c.commit.new.index) (added p (entry t u.0.block) st) true c.commit.result c.self.invariant c.in_ok-ready.ensures.runs c.in_ok-ready.ensures.free
     (same_applied (limits_of x.index) c.args.group c.args.view c.args.stripe t u.0 st c.requires.group (c.in_ok-ready.ensures.free refl) u.1 above)
-    (λ P zero all. slots_same P p t u.0 st u.1 zero all) c.commit.ensures.step c.commit.ensures.made c.commit.ensures.not_made c.commit.ensures.cause (run_counted _ _ _ c.commit.ensures.run) in
-    told_of d.tells d.seen d.may_leave d.moment d.left_since d.faults d.sound x.blocks x.frames c.commit.new.frames st (state_of c.commit.new.index)
+    (λ P zero all. slots_same P p t u.0 st u.1 zero all) c.commit.ensures.step c.commit.ensures.made c.commit.ensures.not_made c.commit.ensures.cause c.commit.ensures.cut in
+    told_of d.tells d.seen d.certain d.may_leave d.moment d.left_since d.faults d.sound x.blocks x.frames c.commit.new.frames st (state_of c.commit.new.index)
     (added p (entry t u.0.block) st) c.args.self.now
-    (with_version c.args.self.now.shape.block p t None) (λ s. true) true 4 c.commit.result c.self.view_is
+    (with_version c.args.self.now.shape.block p t None) (λ s. true) (λ b. calls_of b 30 4) true _ c.commit.result c.self.view_is
     (with_version_seen x.blocks x.frames st p t None u.0.block c.args.self.now c.self.view_is
-    (same_block size x.blocks (stripe_at st p) u.0 u.1)) refl tried
+    (same_block size x.blocks (stripe_at st p) u.0 u.1)) refl refl tried
 
 pub returns-in_err-ready-clause-change : goal.returns-in_err-ready-clause-change
 returns-in_err-ready-clause-change g c =
@@ -70,6 +70,6 @@ returns-in_err-ready-clause-change g c =
     let x = c.self.inside in
     let f = c.in_err-ready.field-0.0 in
     let q = err_from_is_err_and c.from_residual.result c.from_residual.ensures.1 in
-    rw (q.1, q.2) (told_refused d.tells d.seen d.may_leave d.moment d.left_since d.faults d.sound g.met.D.Disk.only_now x.blocks x.zero x.frames x.index c.args.self.now
+    rw (q.1, q.2) (told_refused d.tells d.seen d.certain d.may_leave d.moment d.left_since d.faults d.sound g.met.D.Disk.only_now x.blocks x.zero x.frames x.index c.args.self.now
     (with_version c.args.self.now.shape.block (place c.args.group c.args.view c.args.stripe) c.args.stamp None)
-    (λ s. true) true 4 f c.self.view_is refl c.self.invariant c.in_err-ready.ensures.refused)
+    (λ s. true) true (calls_of c.args.self.now 30 4) f c.self.view_is refl c.self.invariant c.in_err-ready.ensures.refused)

@@ -2,7 +2,6 @@
 use Rattle.std.proofs.Common.{◌<◌, false, List, refl, sym, subst}
 use Rattle.std.specs.List.{slice_index_or}
 use Rattle.std.proofs.lemmas.Result.{err_from_is_err_and}
-use Rattle.stamp_store.specs.declared.kept_records.Kept.TheVariants.{Ballots}
 use Rattle.stamp_store.specs.declared.kept_records.Kept.TheVariants as kinds
 use Rattle.brick_state.specs.declared.groups.Group.{Group}
 use Rattle.brick_state.specs.declared.records.Record.TheVariants as forms
@@ -12,7 +11,8 @@ use Rattle.brick_state.specs.Indexes.{state_of, limits_of}
 use Rattle.brick_store.specs.Blocks.{cached}
 use Rattle.brick_store.specs.Bricks.{Brick}
 use Rattle.brick_store.specs.Images as images
-use Rattle.brick_store.proofs.Counting.{run_counted}
+use Rattle.brick_store.specs.Calls.{calls_of}
+use Rattle.brick_store.specs.Sizes.{view_size}
 use Rattle.brick_store.proofs.Changed.{can_from, view_applied, members_viewed, slots_viewed, above_learnt}
 use Rattle.brick_store.proofs.Changing.{told_refused, told_of, changes_plain, standing_plain}
 use Rattle.brick_store.proofs.Resolving.{viewed-resolved, groups-resolved}
@@ -41,7 +41,7 @@ invariant_of-self g c =
     (subst (λ (b : Brick g.row.D.Denot). learnt_number (group_at b.state c.args.group.0).known < c.args.view.number.0)
     (sym c.self.view_is) c.requires.above) in
     let above = above_learnt (images.limits_of x.frames.shape) c.args.group.0 c.args.view.number.0 st c.self.invariant.indexed.kept known in
-    standing_plain d.tells d.seen d.may_leave d.moment d.left_since d.faults d.sound x.blocks x.zero x.frames c.commit.new.frames x.index c.commit.new.index
+    standing_plain d.tells d.seen d.certain d.may_leave d.moment d.left_since d.faults d.sound x.blocks x.zero x.frames c.commit.new.frames x.index c.commit.new.index
     (forms.Kept (kinds.View c.args.group c.args.view false))
     (viewed c.args.group.0 c.args.view false st) c.commit.result c.self.invariant c.in_ok-ready.ensures.runs
     (view_applied (limits_of x.index) c.args.group c.args.view false st c.requires.group above)
@@ -59,15 +59,15 @@ returns-clause-change g c =
     (subst (λ (b : Brick g.row.D.Denot). learnt_number (group_at b.state c.args.group.0).known < c.args.view.number.0)
     (sym c.self.view_is) c.requires.above) in
     let above = above_learnt (images.limits_of x.frames.shape) c.args.group.0 c.args.view.number.0 st c.self.invariant.indexed.kept known in
-    let tried = changes_plain d.tells d.seen d.may_leave d.moment d.left_since d.faults d.sound x.blocks x.zero x.frames c.commit.new.frames x.index
+    let tried = changes_plain d.tells d.seen d.certain d.may_leave d.moment d.left_since d.faults d.sound x.blocks x.zero x.frames c.commit.new.frames x.index
     (forms.Kept (kinds.View c.args.group c.args.view false)) (state_of c.commit.new.index)
     (viewed c.args.group.0 c.args.view false st) false c.commit.result c.self.invariant c.in_ok-ready.ensures.runs c.in_ok-ready.ensures.free
     (view_applied (limits_of x.index) c.args.group c.args.view false st c.requires.group above)
-    (λ P zero all. slots_viewed P c.args.group.0 c.args.view false st all) c.commit.ensures.step c.commit.ensures.made c.commit.ensures.not_made c.commit.ensures.cause (run_counted _ _ _ c.commit.ensures.run) in
-    told_of d.tells d.seen d.may_leave d.moment d.left_since d.faults d.sound x.blocks x.frames c.commit.new.frames st (state_of c.commit.new.index)
+    (λ P zero all. slots_viewed P c.args.group.0 c.args.view false st all) c.commit.ensures.step c.commit.ensures.made c.commit.ensures.not_made c.commit.ensures.cause c.commit.ensures.cut in
+    told_of d.tells d.seen d.certain d.may_leave d.moment d.left_since d.faults d.sound x.blocks x.frames c.commit.new.frames st (state_of c.commit.new.index)
     (viewed c.args.group.0 c.args.view false st) c.args.self.now
-    (λ s. viewed c.args.group.0 c.args.view false s) (λ s. false) false 4 c.commit.result c.self.view_is
-    (viewed-resolved (cached x.frames.shape.block x.blocks) c.args.group.0 c.args.view false st) refl tried
+    (λ s. viewed c.args.group.0 c.args.view false s) (λ s. false) (λ b. calls_of b (view_size c.args.view) 4) false _ c.commit.result c.self.view_is
+    (viewed-resolved (cached x.frames.shape.block x.blocks) c.args.group.0 c.args.view false st) refl refl tried
 
 pub returns-in_err-ready-clause-change : goal.returns-in_err-ready-clause-change
 returns-in_err-ready-clause-change g c =
@@ -75,5 +75,5 @@ returns-in_err-ready-clause-change g c =
     let x = c.self.inside in
     let f = c.in_err-ready.field-0.0 in
     let q = err_from_is_err_and c.from_residual.result c.from_residual.ensures.1 in
-    rw (q.1, q.2) (told_refused d.tells d.seen d.may_leave d.moment d.left_since d.faults d.sound g.met.D.Disk.only_now x.blocks x.zero x.frames x.index c.args.self.now
-    (λ s. viewed c.args.group.0 c.args.view false s) (λ s. false) false 4 f c.self.view_is refl c.self.invariant c.in_err-ready.ensures.refused)
+    rw (q.1, q.2) (told_refused d.tells d.seen d.certain d.may_leave d.moment d.left_since d.faults d.sound g.met.D.Disk.only_now x.blocks x.zero x.frames x.index c.args.self.now
+    (λ s. viewed c.args.group.0 c.args.view false s) (λ s. false) false (calls_of c.args.self.now (view_size c.args.view) 4) f c.self.view_is refl c.self.invariant c.in_err-ready.ensures.refused)

@@ -11,7 +11,7 @@ use Rattle.brick_state.specs.Indexes.{state_of, limits_of}
 use Rattle.brick_store.specs.Blocks.{resolved, cached, adds_stamp}
 use Rattle.brick_store.specs.Bricks.{Brick}
 use Rattle.brick_store.specs.Changes.{Changes}
-use Rattle.brick_store.proofs.Counting.{run_counted}
+use Rattle.brick_store.specs.Calls.{calls_of, calls_with}
 use Rattle.brick_store.proofs.Changed.{order_applied, can_from, slots_ordered}
 use Rattle.brick_store.proofs.Changing.{changes_refused, changes_plain, standing_plain}
 use Rattle.brick_store.proofs.Resolving.{ordered-resolved, stripe_at-resolved}
@@ -32,7 +32,7 @@ invariant_of-self g c =
     let p = place c.args.group c.args.view c.args.stripe in
     let free = λ (add : adds_order c.args.stamp (stripe_at st p) ≡ true). c.in_ok-ready.ensures.free
     (c.adds_stamp-adds.ensures ∙ ap (adds_stamp c.args.stamp) c.order.ensures ∙ add) in
-    standing_plain d.tells d.seen d.may_leave d.moment d.left_since d.faults d.sound x.blocks x.zero x.frames c.commit.new.frames x.index c.commit.new.index
+    standing_plain d.tells d.seen d.certain d.may_leave d.moment d.left_since d.faults d.sound x.blocks x.zero x.frames c.commit.new.frames x.index c.commit.new.index
     (forms.Kept (Order c.args.group c.args.view c.args.stripe c.args.stamp))
     (ordered p c.args.stamp st) c.commit.result c.self.invariant c.in_ok-ready.ensures.runs
     (order_applied (limits_of x.index) c.args.group c.args.view c.args.stripe c.args.stamp st c.requires.group free)
@@ -50,11 +50,11 @@ returns-clause-change g c =
     let adds = c.adds_stamp-adds.result in
     let free = λ (add : adds_order t (stripe_at st p) ≡ true). c.in_ok-ready.ensures.free
     (c.adds_stamp-adds.ensures ∙ ap (adds_stamp t) c.order.ensures ∙ add) in
-    let tried = changes_plain d.tells d.seen d.may_leave d.moment d.left_since d.faults d.sound x.blocks x.zero x.frames c.commit.new.frames x.index
+    let tried = changes_plain d.tells d.seen d.certain d.may_leave d.moment d.left_since d.faults d.sound x.blocks x.zero x.frames c.commit.new.frames x.index
     (forms.Kept (Order c.args.group c.args.view c.args.stripe t)) now
     (ordered p t st) adds c.commit.result c.self.invariant c.in_ok-ready.ensures.runs c.in_ok-ready.ensures.free
     (order_applied (limits_of x.index) c.args.group c.args.view c.args.stripe t st c.requires.group free)
-    (λ P zero all. slots_ordered P p t st all) c.commit.ensures.step c.commit.ensures.made c.commit.ensures.not_made c.commit.ensures.cause (run_counted _ _ _ c.commit.ensures.run) in
+    (λ P zero all. slots_ordered P p t st all) c.commit.ensures.step c.commit.ensures.made c.commit.ensures.not_made c.commit.ensures.cause c.commit.ensures.cut in
     let after : resolved block (ordered p t st) ≡ ordered p t (resolved block st) = ordered-resolved block p t st in
     let add : adds ≡ adds_stamp t (stripe_at (resolved block st) p).order = c.adds_stamp-adds.ensures
     ∙ ap (adds_stamp t) (c.order.ensures ∙ sym (ap (λ (s : StripeOf Version). s.order) (stripe_at-resolved block st p))) in
@@ -68,12 +68,12 @@ returns-clause-change g c =
       halted = c.commit.new.frames.halted;
     } in
     let old : B = record { disk = x.frames.disk; shape = x.frames.shape; state = resolved block st; listed = size_of x.frames.frames; halted = x.frames.halted } in
-    subst (λ (b : B). Changes d.tells d.seen d.may_leave d.moment d.left_since d.faults d.sound b new (ordered p t b.state)
-    (adds_stamp t (stripe_at b.state p).order) 4 c.commit.result) c.self.view_is
-    (subst (λ (a : StateOf Version). Changes d.tells d.seen d.may_leave d.moment d.left_since d.faults d.sound old new a
-    (adds_stamp t (stripe_at (resolved block st) p).order) 4 c.commit.result) after
-    (subst (λ (b : Bool). Changes d.tells d.seen d.may_leave d.moment d.left_since d.faults d.sound old new
-    (resolved block (ordered p t st)) b 4 c.commit.result) add tried))
+    subst (λ (b : B). Changes d.tells d.seen d.certain d.may_leave d.moment d.left_since d.faults d.sound b new (ordered p t b.state)
+    (adds_stamp t (stripe_at b.state p).order) (calls_of b 30 4) c.commit.result) c.self.view_is
+    (subst (λ (a : StateOf Version). Changes d.tells d.seen d.certain d.may_leave d.moment d.left_since d.faults d.sound old new a
+    (adds_stamp t (stripe_at (resolved block st) p).order) (calls_of old 30 4) c.commit.result) after
+    (subst (λ (b : Bool). Changes d.tells d.seen d.certain d.may_leave d.moment d.left_since d.faults d.sound old new
+    (resolved block (ordered p t st)) b (calls_of old 30 4) c.commit.result) add tried))
 
 pub returns-in_err-ready-clause-change : goal.returns-in_err-ready-clause-change
 returns-in_err-ready-clause-change g c =
@@ -87,11 +87,12 @@ returns-in_err-ready-clause-change g c =
     let f = c.in_err-ready.field-0.0 in
     let add : adds ≡ adds_stamp t (stripe_at (resolved block st) p).order = c.adds_stamp-adds.ensures
     ∙ ap (adds_stamp t) (c.order.ensures ∙ sym (ap (λ (s : StripeOf Version). s.order) (stripe_at-resolved block st p))) in
-    let not_tried = changes_refused d.tells d.seen d.may_leave d.moment d.left_since d.faults d.sound g.met.D.Disk.only_now x.blocks x.zero x.frames x.index (ordered p t (resolved block st)) adds 4 f c.self.invariant c.in_err-ready.ensures.refused in
+    let not_tried = changes_refused d.tells d.seen d.certain d.may_leave d.moment d.left_since d.faults d.sound g.met.D.Disk.only_now x.blocks x.zero x.frames x.index (ordered p t (resolved block st)) adds
+    (calls_with x.frames.shape (size_of x.frames.frames) 30 4) f c.self.invariant c.in_err-ready.ensures.refused in
     let B = Brick g.row.D.Denot in
     let old : B = record { disk = x.frames.disk; shape = x.frames.shape; state = resolved block st; listed = size_of x.frames.frames; halted = x.frames.halted } in
     let q = err_from_is_err_and c.from_residual.result c.from_residual.ensures.1 in
-    rw (q.1, q.2) (subst (λ (b : B). Changes d.tells d.seen d.may_leave d.moment d.left_since d.faults d.sound b b (ordered p t b.state)
-    (adds_stamp t (stripe_at b.state p).order) 4 (Err f)) c.self.view_is
-    (subst (λ (b : Bool). Changes d.tells d.seen d.may_leave d.moment d.left_since d.faults d.sound old old (ordered p t (resolved block st)) b 4
+    rw (q.1, q.2) (subst (λ (b : B). Changes d.tells d.seen d.certain d.may_leave d.moment d.left_since d.faults d.sound b b (ordered p t b.state)
+    (adds_stamp t (stripe_at b.state p).order) (calls_of b 30 4) (Err f)) c.self.view_is
+    (subst (λ (b : Bool). Changes d.tells d.seen d.certain d.may_leave d.moment d.left_since d.faults d.sound old old (ordered p t (resolved block st)) b (calls_of old 30 4)
     (Err f)) add not_tried))

@@ -1,9 +1,9 @@
 -- The record of the view that was learnt.
-use Rattle.std.proofs.Common.{◌≡◌, true, false, Some, Option, List, refl, sym, ap, subst, ◌∙◌}
+use Rattle.std.proofs.Common.{◌≡◌, ℕ, true, false, Some, Option, List, refl, sym, ap, subst, ◌∙◌}
 use Rattle.std.specs.List.{slice_index_or}
 use Rattle.std.proofs.lemmas.Result.{err_from_is_err_and}
-use Rattle.stamp_store.specs.declared.kept_records.Kept.TheVariants.{Ballots}
 use Rattle.stamp_store.specs.declared.kept_records.Kept.TheVariants as kinds
+use Rattle.frame_store.specs.Listed.{size_of}
 use Rattle.brick_state.specs.declared.groups.Group.{Group}
 use Rattle.brick_state.specs.declared.records.Record.TheVariants as forms
 use Rattle.brick_state.specs.States.{viewed, group_at, no_group}
@@ -12,7 +12,7 @@ use Rattle.brick_store.specs.Blocks.{resolved, cached}
 use Rattle.brick_store.specs.Bricks.{Brick}
 use Rattle.brick_store.specs.Sizes.{view_size, known_size}
 use Rattle.brick_store.specs.Images as images
-use Rattle.brick_store.proofs.Counting.{run_counted}
+use Rattle.brick_store.specs.Calls.{calls_of, calls_with}
 use Rattle.brick_store.proofs.Changed.{can_from, view_applied, members_viewed, slots_viewed}
 use Rattle.brick_store.proofs.Changing.{run_seen, known_is, told_refused, told_of, changes_plain, standing_plain}
 use Rattle.brick_store.proofs.Resolving.{viewed-resolved, groups-resolved}
@@ -53,7 +53,7 @@ invariant_of-self g c =
     let st = state_of x.index in
     let is : learnt_view (group_at st c.args.group.0) ≡ Some c.learnt_view.result = ap learnt_view (sym c.group.ensures) ∙ c.learnt_view.ensures in
     let sound = learnt_view_is (images.limits_of x.frames.shape) c.args.group.0 st c.learnt_view.result is c.self.invariant.indexed.kept c.self.invariant.indexed.members in
-    standing_plain d.tells d.seen d.may_leave d.moment d.left_since d.faults d.sound x.blocks x.zero x.frames c.commit.new.frames x.index c.commit.new.index
+    standing_plain d.tells d.seen d.certain d.may_leave d.moment d.left_since d.faults d.sound x.blocks x.zero x.frames c.commit.new.frames x.index c.commit.new.index
     (forms.Kept (kinds.View c.args.group c.learnt_view.result true))
     (viewed c.args.group.0 c.learnt_view.result true st) c.commit.result c.self.invariant c.in_ok-ready.ensures.runs
     (view_applied (limits_of x.index) c.args.group c.learnt_view.result true st c.requires.group sound.0)
@@ -67,18 +67,22 @@ returns-clause-change g c =
     let st = state_of x.index in
     let is : learnt_view (group_at st c.args.group.0) ≡ Some c.learnt_view.result = ap learnt_view (sym c.group.ensures) ∙ c.learnt_view.ensures in
     let sound = learnt_view_is (images.limits_of x.frames.shape) c.args.group.0 st c.learnt_view.result is c.self.invariant.indexed.kept c.self.invariant.indexed.members in
-    let tried = changes_plain d.tells d.seen d.may_leave d.moment d.left_since d.faults d.sound x.blocks x.zero x.frames c.commit.new.frames x.index
+    let tried = changes_plain d.tells d.seen d.certain d.may_leave d.moment d.left_since d.faults d.sound x.blocks x.zero x.frames c.commit.new.frames x.index
     (forms.Kept (kinds.View c.args.group c.learnt_view.result true)) (state_of c.commit.new.index)
     (viewed c.args.group.0 c.learnt_view.result true st) false c.commit.result c.self.invariant c.in_ok-ready.ensures.runs c.in_ok-ready.ensures.free
     (view_applied (limits_of x.index) c.args.group c.learnt_view.result true st c.requires.group sound.0)
-    (λ P zero all. slots_viewed P c.args.group.0 c.learnt_view.result true st all) c.commit.ensures.step c.commit.ensures.made c.commit.ensures.not_made c.commit.ensures.cause (run_counted _ _ _ c.commit.ensures.run) in
-    told_of d.tells d.seen d.may_leave d.moment d.left_since d.faults d.sound x.blocks x.frames c.commit.new.frames st (state_of c.commit.new.index)
+    (λ P zero all. slots_viewed P c.args.group.0 c.learnt_view.result true st all) c.commit.ensures.step c.commit.ensures.made c.commit.ensures.not_made c.commit.ensures.cause c.commit.ensures.cut in
+    told_of d.tells d.seen d.certain d.may_leave d.moment d.left_since d.faults d.sound x.blocks x.frames c.commit.new.frames st (state_of c.commit.new.index)
     (viewed c.args.group.0 c.learnt_view.result true st) c.args.self.now
-    (λ s. all_synced c.args.group.0 s) (λ s. false) false 4 c.commit.result c.self.view_is
+    (λ s. all_synced c.args.group.0 s) (λ s. false)
+    (λ b. calls_of b (known_size (group_at b.state c.args.group.0).known) 4) false _ c.commit.result c.self.view_is
     (viewed-resolved (cached x.frames.shape.block x.blocks) c.args.group.0 c.learnt_view.result true st
     ∙ ap (λ (o : Option View). synced_to o c.args.group.0 (resolved (cached x.frames.shape.block x.blocks) st))
     (sym (ap (λ (gs : List Group). learnt_view (slice_index_or gs c.args.group.0 no_group))
-    (groups-resolved (cached x.frames.shape.block x.blocks) st) ∙ is))) refl tried
+    (groups-resolved (cached x.frames.shape.block x.blocks) st) ∙ is))) refl
+    (ap (λ (n : ℕ). calls_with x.frames.shape (size_of x.frames.frames) n 4) (known_is _ c.learnt_view.result
+    (ap (λ (gs : List Group). learnt_view (slice_index_or gs c.args.group.0 no_group))
+    (groups-resolved (cached x.frames.shape.block x.blocks) st) ∙ is))) tried
 
 pub returns-in_err-ready-clause-change : goal.returns-in_err-ready-clause-change
 returns-in_err-ready-clause-change g c =
@@ -86,8 +90,9 @@ returns-in_err-ready-clause-change g c =
     let x = c.self.inside in
     let f = c.in_err-ready.field-0.0 in
     let q = err_from_is_err_and c.from_residual.result c.from_residual.ensures.1 in
-    rw (q.1, q.2) (told_refused d.tells d.seen d.may_leave d.moment d.left_since d.faults d.sound g.met.D.Disk.only_now x.blocks x.zero x.frames x.index c.args.self.now
-    (λ s. all_synced c.args.group.0 s) (λ s. false) false 4 f c.self.view_is refl c.self.invariant c.in_err-ready.ensures.refused)
+    rw (q.1, q.2) (told_refused d.tells d.seen d.certain d.may_leave d.moment d.left_since d.faults d.sound g.met.D.Disk.only_now x.blocks x.zero x.frames x.index c.args.self.now
+    (λ s. all_synced c.args.group.0 s) (λ s. false) false
+    (calls_of c.args.self.now (known_size (group_at c.args.self.now.state c.args.group.0).known) 4) f c.self.view_is refl c.self.invariant c.in_err-ready.ensures.refused)
 
 pub returns-clause-run : goal.returns-clause-run
 returns-clause-run g c =

@@ -1,6 +1,8 @@
 -- A reply leaves the store as it was.
-use Rattle.std.proofs.Common.{◌≡◌, false, refl, sym, subst, rules}
-use Rattle.std.specs.Result.{OnOk}
+use Rattle.std.proofs.Common.{◌≡◌, false, Result, Ok, Err, refl, sym, subst, rules}
+use Rattle.std.specs.Result.{OnOk, OnErr}
+use Rattle.node.specs.declared.faults.NodeFault.{NodeFault}
+use Rattle.node.specs.declared.faults.NodeFault.TheVariants.{Disk, NoMemory}
 use Rattle.fab_disk.specs.Disk.{IsUntouched}
 use Rattle.brick_store.specs.Bricks.{Brick}
 use Rattle.replica.specs.Handling.{KeepsParts}
@@ -47,3 +49,11 @@ returns-in-Request g c = search rules
 pub returns-in-Learn : goal.returns-in-Learn
 unfolding received requested absorbed
 returns-in-Learn g c = search rules
+
+-- a reply makes no call of the disk
+never_disk : {T : Type 0} (r : Result T NodeFault) → OnErr r (r ≡ Err NoMemory) → r ≡ Err Disk → ⊥
+never_disk (Ok outs) only is = absurd cc
+never_disk (Err fault) only is = absurd cc
+
+pub returns-in-Reply-clause-cut : goal.returns-in-Reply-clause-cut
+returns-in-Reply-clause-cut g c = λ told is. absurd (never_disk c.on_reply.result c.on_reply.ensures.only is)

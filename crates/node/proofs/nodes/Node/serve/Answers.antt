@@ -18,7 +18,7 @@ use Rattle.node.proofs.Moments.{leaves_more, leaves_still, untouched_same, kept_
 use Rattle.node.proofs.States.{on_err}
 use Rattle.node.proofs.Sent.{answered_is}
 use Rattle.node.proofs.Requests.{is_me, first_view_after, follows_state, follows_boot, follows_packets, follows_told, follows_shown}
-use Rattle.node.proofs.Runs.{run_refused, run_shown}
+use Rattle.node.proofs.Runs.{run_refused, run_shown, cut_shown}
 use Rattle.node.proofs.nodes.Node.serve.Goals as goal
 
 -- without room nothing is done
@@ -35,6 +35,7 @@ returns-in_default g c =
       still = tt;
       durable = λ told. tt;
       moments = λ told. leaves_still d.moment d.left_since d.may_leave g.met.D.Disk.only_now disk _ (λ image left. inl (c.requires.durable told image left));
+      cut = λ told is. absurd cc;
       run = not_begun d.tells d.moment d.plan d.unlisted disk disk refl (λ free. free) _ _ _ (λ whole. absurd cc) (λ cut. absurd cc);
       not_halted = λ is. absurd cc;
       halts = c.requires.runs;
@@ -167,3 +168,10 @@ returns-clause-run g c =
     run_whole d.tells d.moment d.plan d.unlisted _ c.args.self.now.brick.disk c.handle.new.store.disk _ _ _ _ refl refl (λ h. absurd cc)
     (run_shown d.tells d.moment d.plan d.unlisted x.layout x.calls c.args.from c.args.message.now x.store c.handle.new.store c.args.self.now _ _
     c.self.view_is c.self.invariant c.in_ok-answer.ensures.run)
+
+pub returns-in_err-answer-clause-cut : goal.returns-in_err-answer-clause-cut
+returns-in_err-answer-clause-cut g c =
+    let x = c.self.inside in
+    let fault = err_from_is_err_and c.from_residual.result c.from_residual.ensures.1 in
+    cut_shown x.layout x.calls c.args.from c.args.message.now x.store c.handle.new.store c.args.self.now c.in_err-answer.field-0.0 _
+    c.self.view_is c.self.invariant (fault.1 ∙ ap (λ (e : NodeFault). Err e) fault.2) c.in_err-answer.ensures.cut

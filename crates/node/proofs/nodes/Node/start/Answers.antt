@@ -1,21 +1,23 @@
 -- What was opened is what the disk showed, restarted.
-use Rattle.std.proofs.Common.{◌≡◌, ◌+◌, inr, refl, sym, ◌∙◌, ap, subst}
+use Rattle.std.proofs.Common.{◌≡◌, ◌+◌, ◌<◌, inr, Bool, List, refl, sym, ◌∙◌, ap, subst, arith}
 use Rattle.fab_base.specs.declared.identities.BrickId.{BrickId}
 use Rattle.fab_disk.specs.Disk.{LeavesOnly}
 use Rattle.fab_disk.proofs.Plans.{run_as, run_whole}
 use Rattle.frame_store.specs.declared.shapes.Shape.{Shape}
-use Rattle.frame_store.specs.Images.{IsNoStore}
+use Rattle.frame_store.specs.declared.frames.Frame.{Frame}
+use Rattle.frame_store.specs.Images.{IsNoStore, OpensAs}
 use Rattle.frame_store.specs.Layouts.{shape_of}
 use Rattle.version_log.specs.Versions.{Version}
 use Rattle.brick_state.specs.States.{StateOf, booted}
 use Rattle.brick_store.specs.declared.faults.StoreFault.{StoreFault}
 use Rattle.brick_store.specs.Images.{IsFound, StandsFor, StandsForEither}
-use Rattle.brick_store.specs.Openings.{IsAllowedOr}
+use Rattle.brick_store.specs.Calls.{opening_calls}
+use Rattle.brick_store.specs.Openings.{IsAllowedOr, StopsOpening, opens_appendable}
 use Rattle.replica.specs.Parts.{IsFirstView}
 use Rattle.node.specs.Calls.{RunsAsOpening}
 use Rattle.node.specs.Running.{running, state_of, shape_at, reopened}
 use Rattle.node.proofs.Views.{kept_so, leaves_so}
-use Rattle.node.proofs.Starts.{restarts_so, opening_shows, all_shown}
+use Rattle.node.proofs.Starts.{restarts_so, opening_shows, all_shown, cut_shows}
 use Rattle.node.proofs.Runs.{opens_some}
 use Rattle.node.proofs.nodes.Node.start.Goals as goal
 
@@ -199,3 +201,28 @@ returns-clause-run g c =
     let same : shape_of me.0 c.block.result c.records.result ≡ shape_at layout me = λ i. shape_of me.0 (c.block.ensures i)
     (c.records.ensures.value i) in
     subst (λ (s : Shape). RunsAsOpening d.tells d.seen d.moment d.plan d.unlisted s c.args.disk c.in-Ok.store.disk (Unit {0}) ⊥) same c.in-Ok.ensures.run
+
+pub returns-in-Err-clause-not_worn : goal.returns-in-Err-clause-not_worn
+returns-in-Err-clause-not_worn g c = λ is told free before shows.
+    let d = g.D.Disk in
+    let layout = c.args.layout in
+    let me = c.args.me in
+    let same : shape_of me.0 c.block.result c.records.result ≡ shape_at layout me = λ i. shape_of me.0 (c.block.ensures i)
+    (c.records.ensures.value i) in
+    let few = subst (λ (s : Shape). (st : StateOf Version) → StandsFor s st (d.seen c.args.disk) → st.boot < 4294967295) same
+    (c.in-Err.ensures.not_worn is told free) shows.st shows.stands in
+    omega (arith, few, shows.parts.boot)
+
+pub returns-in-Err-clause-cut : goal.returns-in-Err-clause-cut
+returns-in-Err-clause-cut g c = λ is told free frames closed opens before shows.
+    let d = g.D.Disk in
+    let disk = c.args.disk in
+    let layout = c.args.layout in
+    let me = c.args.me in
+    let same : shape_of me.0 c.block.result c.records.result ≡ shape_at layout me = λ i. shape_of me.0 (c.block.ensures i)
+    (c.records.ensures.value i) in
+    let last = c.in-Err.refused.1 in
+    let stops = subst (λ (s : Shape). (fs : List Frame) (gate : Bool) → OpensAs s fs gate (d.seen disk) → (st : StateOf Version)
+    → StandsFor s st (d.seen disk) → StopsOpening d.seen d.certain d.may_leave d.moment (opening_calls (opens_appendable s fs gate)) disk last
+    (StandsFor s st) (StandsFor s (booted (st.boot + 1) st))) same (c.in-Err.ensures.cut is told free) in
+    cut_shows layout me before (d.seen disk) shows d.seen d.certain d.may_leave d.moment _ disk last (stops frames closed opens shows.st shows.stands)
