@@ -291,6 +291,14 @@ module _ {D : Type 0} (tells : Type 0) (seen : D → List ℕ) (may_leave : D �
     settled = λ told. (step.stands told).settled;
   }
 
+  -- after it, the frame of a record that can be leads to what the record makes of the state
+  pub change_leads : (limits : Limits) (item : Record) (st : StateOf Entry) (old mid : Held D) (frame : Frame)
+      → Step tells seen may_leave moment left_since None st st old mid (Ok tt) → limits ≡ limits_of old.shape → record_of frame ≡ Some item
+      → IsSome (applied limits item st) → Leads (limits_of mid.shape) (mid.frames ++ frame ∷ []) empty (changed limits item st)
+  change_leads limits item st old mid frame step is read can =
+      leads_changed limits (limits_of mid.shape) mid.frames frame item st (subst (λ (s : Shape). limits ≡ limits_of s) (sym step.shape) is)
+      (may_go_on st st None old mid step).leads read can
+
   -- A step that keeps the state, and then another one. That one is refused memory only where the first did nothing.
   pub steps_both : (put : Option (ℕ × List ℕ)) (before after : StateOf Entry) (old mid new : Held D) (result : Result (Unit {0}) StoreFault)
       → Step tells seen may_leave moment left_since None before before old mid (Ok tt)

@@ -2,11 +2,9 @@
 use Rattle.std.proofs.Common.{◌≡◌, ◌++◌, ◌∷◌, [], ℕ, Some, None, List, length, Ok, Err, refl, sym, ap, subst, ◌∙◌, arith}
 use Rattle.std.proofs.lemmas.Result.{err_from_is_err_and}
 use Rattle.frame_store.specs.declared.faults.FrameFault.{FrameFault}
-use Rattle.frame_store.specs.declared.shapes.Shape.{Shape}
 use Rattle.frame_store.specs.Listed.{frame_of}
 use Rattle.brick_state.specs.Indexes.{state_of, limits_of}
 use Rattle.brick_store.specs.Images.{record_of}
-use Rattle.brick_store.specs.Images as images
 use Rattle.brick_store.specs.declared.faults.StoreFault.TheVariants.{NoMemory}
 use Rattle.brick_store.specs.Bricks.{fault_of}
 use Rattle.brick_store.specs.Steps.{changed, HasAppendRoom}
@@ -14,7 +12,7 @@ use Rattle.fab_disk.proofs.Plans.{run_both, run_whole}
 use Rattle.frame_store.specs.Listed.{size_of}
 use Rattle.brick_store.specs.Calls.{calls_with}
 use Rattle.brick_store.proofs.Counting.{room_then}
-use Rattle.brick_store.proofs.Stepping.{call_made, call_refused, call_moments, steps_both, may_go_on, nothing_changed, leads_changed, memory_refused, refused, room_less}
+use Rattle.brick_store.proofs.Stepping.{call_made, call_refused, call_moments, steps_both, may_go_on, nothing_changed, change_leads, memory_refused, refused, room_less}
 use Rattle.brick_store.proofs.Cutting.{call_cut, first_cut, then_cut}
 use Rattle.brick_store.proofs.commits.append_record.Goals as goal
 
@@ -35,9 +33,8 @@ returns-in_err-append-clause-step g c =
     let may = may_go_on d.tells d.seen d.may_leave d.moment d.left_since st st None old mid first in
     let read = subst (λ (b : List ℕ). record_of (frame_of frame.kind b) ≡ Some c.args.item.now)
     (sym c.as_slice.ensures.value) c.in_ok-frame.ensures.read in
-    let limits = subst (λ (s : Shape). limits_of index ≡ images.limits_of s) (sym first.shape) c.requires.indexed.limits_are in
-    let leads = leads_changed (limits_of index) (images.limits_of mid.shape) mid.frames
-    (frame_of frame.kind bytes) c.args.item.now st limits may.leads read c.requires.can in
+    let leads = change_leads d.tells d.seen d.may_leave d.moment d.left_since (limits_of index) c.args.item.now st old mid
+    (frame_of frame.kind bytes) first c.requires.indexed.limits_are read c.requires.can in
     let run = call_moments d.tells d.seen d.may_leave d.moment d.left_since None st next
     (mid.frames ++ frame_of frame.kind bytes ∷ []) mid new.disk may leads call.any_moment in
     let second = call_refused d.tells d.seen d.may_leave d.moment d.left_since None st next mid new f may call.refused run call.no_memory call.read call.answer in
@@ -66,9 +63,8 @@ returns-in_err-append-clause-cut g c =
     let may = may_go_on d.tells d.seen d.may_leave d.moment d.left_since st st None old mid made.step in
     let read = subst (λ (b : List ℕ). record_of (frame_of frame.kind b) ≡ Some c.args.item.now)
     (sym c.as_slice.ensures.value) c.in_ok-frame.ensures.read in
-    let limits = subst (λ (s : Shape). limits_of index ≡ images.limits_of s) (sym made.step.shape) c.requires.indexed.limits_are in
-    let leads = leads_changed (limits_of index) (images.limits_of mid.shape) mid.frames
-    (frame_of frame.kind bytes) c.args.item.now st limits may.leads read c.requires.can in
+    let leads = change_leads d.tells d.seen d.may_leave d.moment d.left_since (limits_of index) c.args.item.now st old mid
+    (frame_of frame.kind bytes) made.step c.requires.indexed.limits_are read c.requires.can in
     let second = call_cut d.tells d.seen d.certain d.may_leave d.moment d.left_since 4 None st next
     (mid.frames ++ frame_of frame.kind bytes ∷ []) mid new f may leads c.in_err-append.ensures.cut in
     let body = c.len.ensures ∙ c.in_ok-frame.ensures.length in
@@ -105,9 +101,8 @@ returns-clause-step g c =
     let may = may_go_on d.tells d.seen d.may_leave d.moment d.left_since st st None old mid first in
     let read = subst (λ (b : List ℕ). record_of (frame_of frame.kind b) ≡ Some c.args.item.now)
     (sym c.as_slice.ensures.value) c.in_ok-frame.ensures.read in
-    let limits = subst (λ (s : Shape). limits_of index ≡ images.limits_of s) (sym first.shape) c.requires.indexed.limits_are in
-    let leads = leads_changed (limits_of index) (images.limits_of mid.shape) mid.frames
-    (frame_of frame.kind bytes) c.args.item.now st limits may.leads read c.requires.can in
+    let leads = change_leads d.tells d.seen d.may_leave d.moment d.left_since (limits_of index) c.args.item.now st old mid
+    (frame_of frame.kind bytes) first c.requires.indexed.limits_are read c.requires.can in
     let second = call_made d.tells d.seen d.may_leave d.moment d.left_since None st next
     (mid.frames ++ frame_of frame.kind bytes ∷ []) mid new may leads call.ok call.after call.durable call.any_moment call.read call.answer.halts in
     steps_both d.tells d.seen d.may_leave d.moment d.left_since None st next old mid new (Ok tt) first second (λ bad. absurd cc)

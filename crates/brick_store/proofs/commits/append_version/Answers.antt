@@ -2,9 +2,7 @@
 use Rattle.std.proofs.Common.{◌≡◌, ◌++◌, ◌∷◌, [], Some, None, length, Ok, Err, refl, sym, ap, subst, arith, ℕ, ◌∙◌}
 use Rattle.std.proofs.lemmas.Result.{err_from_is_err_and}
 use Rattle.frame_store.specs.declared.faults.FrameFault.{FrameFault}
-use Rattle.frame_store.specs.declared.shapes.Shape.{Shape}
 use Rattle.brick_state.specs.Indexes.{state_of, limits_of}
-use Rattle.brick_store.specs.Images as images
 use Rattle.brick_store.specs.declared.faults.StoreFault.TheVariants.{NoMemory}
 use Rattle.brick_store.specs.Bricks.{fault_of}
 use Rattle.brick_store.specs.Steps.{changed, HasAppendRoom}
@@ -12,7 +10,7 @@ use Rattle.fab_disk.proofs.Plans.{run_both, run_whole}
 use Rattle.frame_store.specs.Listed.{size_of}
 use Rattle.brick_store.specs.Calls.{calls_with}
 use Rattle.brick_store.proofs.Counting.{room_then}
-use Rattle.brick_store.proofs.Stepping.{call_made, call_refused, call_moments, steps_both, may_go_on, nothing_changed, leads_changed, memory_refused, refused, room_less, step_stopped}
+use Rattle.brick_store.proofs.Stepping.{call_made, call_refused, call_moments, steps_both, may_go_on, nothing_changed, change_leads, memory_refused, refused, room_less, step_stopped}
 use Rattle.brick_store.proofs.Cutting.{call_cut, first_cut, then_cut}
 use Rattle.brick_store.proofs.commits.append_version.Goals as goal
 
@@ -31,9 +29,8 @@ returns-in_err-append_with-clause-step g c =
     let call = c.in_err-append_with.ensures in
     let first = c.in_ok-make_room.ensures.step in
     let may = may_go_on d.tells d.seen d.may_leave d.moment d.left_since st st None old mid first in
-    let read = c.in_ok-frame.ensures.read in
-    let limits = subst (λ (s : Shape). limits_of index ≡ images.limits_of s) (sym first.shape) c.requires.indexed.limits_are in
-    let leads = leads_changed (limits_of index) (images.limits_of mid.shape) mid.frames frame c.args.item.now st limits may.leads read c.requires.can in
+    let leads = change_leads d.tells d.seen d.may_leave d.moment d.left_since (limits_of index) c.args.item.now st old mid frame first
+    c.requires.indexed.limits_are c.in_ok-frame.ensures.read c.requires.can in
     let run = call_moments d.tells d.seen d.may_leave d.moment d.left_since put st next
     (mid.frames ++ frame ∷ []) mid new.disk may leads call.any_moment in
     let second = call_refused d.tells d.seen d.may_leave d.moment d.left_since put st next mid new f may call.refused run call.no_memory call.read call.answer in
@@ -60,9 +57,8 @@ returns-in_err-append_with-clause-cut g c =
     let f = c.in_err-append_with.field-0.0 in
     let made = c.in_ok-make_room.ensures in
     let may = may_go_on d.tells d.seen d.may_leave d.moment d.left_since st st None old mid made.step in
-    let limits = subst (λ (s : Shape). limits_of index ≡ images.limits_of s) (sym made.step.shape) c.requires.indexed.limits_are in
-    let leads = leads_changed (limits_of index) (images.limits_of mid.shape) mid.frames frame c.args.item.now st limits may.leads
-    c.in_ok-frame.ensures.read c.requires.can in
+    let leads = change_leads d.tells d.seen d.may_leave d.moment d.left_since (limits_of index) c.args.item.now st old mid frame made.step
+    c.requires.indexed.limits_are c.in_ok-frame.ensures.read c.requires.can in
     let second = call_cut d.tells d.seen d.certain d.may_leave d.moment d.left_since 5 put st next (mid.frames ++ frame ∷ []) mid new f may leads
     c.in_err-append_with.ensures.cut in
     let body = c.len.ensures ∙ c.in_ok-frame.ensures.length in
@@ -98,9 +94,8 @@ returns-clause-step g c =
     let call = c.in_ok-append_with.ensures in
     let first = c.in_ok-make_room.ensures.step in
     let may = may_go_on d.tells d.seen d.may_leave d.moment d.left_since st st None old mid first in
-    let read = c.in_ok-frame.ensures.read in
-    let limits = subst (λ (s : Shape). limits_of index ≡ images.limits_of s) (sym first.shape) c.requires.indexed.limits_are in
-    let leads = leads_changed (limits_of index) (images.limits_of mid.shape) mid.frames frame c.args.item.now st limits may.leads read c.requires.can in
+    let leads = change_leads d.tells d.seen d.may_leave d.moment d.left_since (limits_of index) c.args.item.now st old mid frame first
+    c.requires.indexed.limits_are c.in_ok-frame.ensures.read c.requires.can in
     let second = call_made d.tells d.seen d.may_leave d.moment d.left_since put st next
     (mid.frames ++ frame ∷ []) mid new may leads call.ok call.after call.durable call.any_moment call.read call.answer.halts in
     steps_both d.tells d.seen d.may_leave d.moment d.left_since put st next old mid new (Ok tt) first second (λ bad. absurd cc)

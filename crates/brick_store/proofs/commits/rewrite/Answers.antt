@@ -6,14 +6,12 @@ use Rattle.frame_store.specs.declared.shapes.Shape.{Shape}
 use Rattle.frame_store.specs.Listed.{size_of}
 use Rattle.frame_store.specs.Stores.{HasRoom}
 use Rattle.brick_state.specs.KeptStates.{IsKeptState}
-use Rattle.brick_state.specs.Rewrites.{live_records}
-use Rattle.brick_state.specs.States.{empty}
 use Rattle.brick_state.specs.Indexes.{state_of}
-use Rattle.brick_state.proofs.StateRewrites.{records_lead}
 use Rattle.brick_store.specs.Images as images
 use Rattle.brick_store.specs.declared.faults.StoreFault.TheVariants.{NoMemory}
 use Rattle.brick_store.specs.Bricks.{fault_of}
-use Rattle.brick_store.proofs.Stepping.{call_made, call_refused, call_moments, idle_moments, idle_made, steps_both, may_go_on, leads_from_records, memory_refused, refused, room_less}
+use Rattle.brick_store.proofs.Stepping.{call_made, call_refused, call_moments, idle_moments, idle_made, steps_both, may_go_on, memory_refused, refused, room_less}
+use Rattle.brick_store.proofs.FreshLists.{live_lead}
 use Rattle.brick_store.proofs.Cutting.{call_cut, idle_cut, then_cut}
 use Rattle.brick_store.proofs.commits.rewrite.Goals as goal
 
@@ -51,8 +49,7 @@ returns-in_err-rewrite-clause-cut g c =
     let first = idle_made d.tells d.seen d.may_leave d.moment d.left_since g.met.D.Disk.only_now st old mid c.requires.may made.same made.untouched made.read made.answer.halts in
     let may = may_go_on d.tells d.seen d.may_leave d.moment d.left_since st st None old mid first in
     let kept = subst (λ (s : Shape). IsKeptState (images.limits_of s) st) (sym first.shape) c.requires.indexed.kept in
-    let leads = leads_from_records (images.limits_of mid.shape) live (live_records st) empty st c.in_ok-live.ensures.read
-    (records_lead (images.limits_of mid.shape) st kept) in
+    let leads = live_lead (images.limits_of mid.shape) live st kept c.in_ok-live.ensures.read in
     let second = call_cut d.tells d.seen d.certain d.may_leave d.moment d.left_since 7 None st st live mid new f may leads c.in_err-rewrite.ensures.cut in
     let p = err_from_is_err_and c.from_residual-in_err-rewrite.result c.from_residual-in_err-rewrite.ensures.1 in
     rw (p.1, p.2) (then_cut d.tells d.seen d.certain d.may_leave d.moment d.left_since 0 7 7 None st st old mid new (Err (fault_of f)) refl
@@ -73,8 +70,7 @@ returns-in_err-rewrite-clause-step g c =
     let first = idle_made d.tells d.seen d.may_leave d.moment d.left_since g.met.D.Disk.only_now st old mid c.requires.may made.same made.untouched made.read made.answer.halts in
     let may = may_go_on d.tells d.seen d.may_leave d.moment d.left_since st st None old mid first in
     let kept = subst (λ (s : Shape). IsKeptState (images.limits_of s) st) (sym first.shape) c.requires.indexed.kept in
-    let leads = leads_from_records (images.limits_of mid.shape) live (live_records st) empty st c.in_ok-live.ensures.read
-    (records_lead (images.limits_of mid.shape) st kept) in
+    let leads = live_lead (images.limits_of mid.shape) live st kept c.in_ok-live.ensures.read in
     let run = call_moments d.tells d.seen d.may_leave d.moment d.left_since None st st live mid new.disk may leads call.any_moment in
     let second = call_refused d.tells d.seen d.may_leave d.moment d.left_since None st st mid new f may call.refused run call.no_memory call.read call.answer in
     let are : c.deref.result.now ≡ live = c.deref.ensures.value in
@@ -99,8 +95,7 @@ returns-clause-step g c =
     let first = idle_made d.tells d.seen d.may_leave d.moment d.left_since g.met.D.Disk.only_now st old mid c.requires.may made.same made.untouched made.read made.answer.halts in
     let may = may_go_on d.tells d.seen d.may_leave d.moment d.left_since st st None old mid first in
     let kept = subst (λ (s : Shape). IsKeptState (images.limits_of s) st) (sym first.shape) c.requires.indexed.kept in
-    let leads = leads_from_records (images.limits_of mid.shape) live (live_records st) empty st c.in_ok-live.ensures.read
-    (records_lead (images.limits_of mid.shape) st kept) in
+    let leads = live_lead (images.limits_of mid.shape) live st kept c.in_ok-live.ensures.read in
     let second = call_made d.tells d.seen d.may_leave d.moment d.left_since None st st live mid new may leads call.ok call.after call.durable call.any_moment call.read call.answer.halts in
     steps_both d.tells d.seen d.may_leave d.moment d.left_since None st st old mid new (Ok tt) first second (λ bad. absurd cc)
 
