@@ -1,35 +1,33 @@
 -- What a run printed of an input, from what was read of its layout and printed of its schedule.
-use Rattle.std.proofs.Common.{◌≡◌, ℕ, ◌≤◌, List, [], ◌∷◌, length, codes, Option, Some, None, Result, Ok, Err, refl, sym, ap, ◌∙◌, subst}
+use Rattle.std.proofs.Common.{◌≡◌, ℕ, ◌+◌, ◌≤◌, List, [], ◌∷◌, ◌++◌, length, codes, Option, Some, None, Result, Ok, Err, inl, inr, refl, sym, ap, ◌∙◌, subst, arith}
 use Rattle.std.specs.Io.KnownBytes.{IsAtEnd, prepend_known}
 use Rattle.std.proofs.KnownBytes.{prepend_known-nil}
 use Rattle.lines.specs.Lines.{parts}
 use Rattle.lines.specs.Reading.{ReadsSchedule}
-use Rattle.layout.specs.declared.faults.LayoutFault.{LayoutFault}
 use Rattle.layout.specs.Texts.{layout_of}
 use Rattle.fab_base.specs.Layouts.{Layout}
-use Rattle.world.specs.Runs.{Run, Step, world_of}
+use Rattle.stripe_code.specs.Codes.{coding}
+use Rattle.protocol.specs.Worlds.{World, first_world}
+use Rattle.world.specs.Runs.{Run, world_of}
 use Rattle.world.specs.Disks.{ShowsDisks}
 use Rattle.replay.specs.declared.endings.Verdict.{Verdict}
 use Rattle.replay.specs.declared.endings.Verdict.TheVariants as verdict
 use Rattle.replay.specs.declared.endings.Halt.{Halt}
 use Rattle.replay.specs.Inputs.{Input, Parted, TooLong, Endless, most_layout_bytes, input_of, IsInput}
-use Rattle.replay.specs.Outputs.{output_of, output_with, output_from, bad_layout}
+use Rattle.replay.specs.Outputs.{left_by, steps_text, onto, output_behind, output_of, bad_layout}
 use Rattle.replay.specs.Turns.{Prints, AreLinesOf, PrintsRest, PrintsHeaded, PrintsInput}
 use Rattle.replay.proofs.LayoutTexts.{within}
 use Rattle.replay.proofs.LeftLines.{some_lines}
+use Rattle.replay.proofs.OutputLines.{output_of-steps}
+use Rattle.replay.proofs.Steppings.{after_steps, after_steps-all, leads_world}
 use Rattle.replay.proofs.Printing.{Prints-nothing, Prints-same, stops_not}
 
 -- an input without a layout does not end as whole
 refused_not : (old new : Option (List ℕ)) (why : List ℕ) (r : Result Verdict Halt) → Prints old new (bad_layout why) r → r ≡ Ok verdict.Whole → ⊥
-refused_not old new why (Ok one) p e = (let bad : verdict.BadLayout ≡ one = p.0 in let same : one ≡ verdict.Whole = cc in cc)
+refused_not old new why (Ok one) p e = (let bad : Some verdict.BadLayout ≡ Some one = p.0 in let same : one ≡ verdict.Whole = cc in cc)
 refused_not old new why (Err halt) p e = stops_not halt e
 
--- the output of a head whose layout is this, or which has this fault
-pub output_of-text : (head : List ℕ) (steps : List Step) (schedule : List (List ℕ)) (r : Result Layout LayoutFault) → layout_of head ≡ r
-    → output_of steps (Parted head schedule) ≡ output_with r steps schedule
-unfolding output_of
-output_of-text head steps schedule r is = ap (λ x. output_with x steps schedule) is
-
+-- the output of an input that has no layout
 pub output_of-long : output_of [] TooLong ≡ bad_layout (codes "limit layout")
 unfolding output_of
 output_of-long = refl
@@ -46,8 +44,8 @@ PrintsHeaded-stopped head left old halt =
       schedule = some.0;
       are_lines = some.1;
       steps = [];
+      steps_are = inr (refl, stops_not halt);
       printed = Prints-nothing old (output_of [] (Parted head some.0)) halt;
-      whole = λ e. absurd (stops_not halt e);
     }
 
 -- the text has this output, whatever stands behind it
@@ -60,8 +58,8 @@ PrintsHeaded-refused head left old new r why is p =
       schedule = some.0;
       are_lines = some.1;
       steps = [];
+      steps_are = inr (refl, refused_not old new why r p);
       printed = Prints-same old new r (output_of [] (Parted head some.0)) (bad_layout why) (is some.0) p;
-      whole = λ e. absurd (refused_not old new why r p e);
     }
 
 -- the layout was read, and the lines behind it were run
@@ -70,14 +68,36 @@ pub PrintsHeaded-lines : (head : List ℕ) (layout : Layout) (run : Run) (left o
     → run ≡ record { layout = layout; steps = []; disks = run.disks } → ShowsDisks run → PrintsRest run 0 left old new r
     → PrintsHeaded head left old new r
 PrintsHeaded-lines head layout run left old new r is first fresh p =
+    let text = steps_text (coding layout) (first_world layout) p.steps in
+    let count : 0 + length p.steps ≡ length p.steps = omega arith in
+    let world : world_of p.last ≡ left_by layout p.steps =
+    leads_world run p.last p.steps p.leads
+    ∙ ap (λ (u : Run). after_steps (coding u.layout) (world_of u) p.steps) first
+    ∙ sym (after_steps-all (coding layout) (first_world layout) p.steps)
+    in
     record {
-      schedule = p.contents;
+      schedule = p.done ++ p.behind;
       are_lines = p.are_lines;
       steps = p.steps;
-      printed = Prints-same old new r (output_of p.steps (Parted head p.contents)) (output_from run.layout (world_of run) 0 p.steps p.contents)
-          (output_of-text head p.steps p.contents (Ok layout) is
-          ∙ ap (λ (u : Run). output_from u.layout (world_of u) 0 p.steps p.contents) (sym first)) p.printed;
-      whole = λ e. (layout, is, record { lines = p.whole e; first = run; last = p.last; first_is = first; fresh = fresh; leads = p.leads });
+      steps_are = inl (
+        layout,
+        record {
+          head = head;
+          schedule = p.done;
+          rest = p.behind;
+          input_is = refl;
+          layout_is = is;
+          steps_are = record { lines = p.lines; first = run; last = p.last; first_is = first; fresh = fresh; leads = p.leads };
+        },
+        omega (arith, p.within),
+      );
+      printed = Prints-same old new r (output_of p.steps (Parted head (p.done ++ p.behind)))
+          (onto (steps_text (coding run.layout) (world_of run) p.steps) (output_behind run.layout (world_of p.last) (0 + length p.steps) p.behind))
+          (output_of-steps head layout p.done p.behind p.steps is p.lines
+          ∙ ap (λ (w : World). onto text (output_behind layout w (length p.steps) p.behind)) (sym world)
+          ∙ ap (λ (u : Run). onto (steps_text (coding u.layout) (world_of u) p.steps) (output_behind u.layout (world_of p.last) (length p.steps) p.behind)) (sym first)
+          ∙ ap (λ (k : ℕ). onto (steps_text (coding run.layout) (world_of run) p.steps) (output_behind run.layout (world_of p.last) k p.behind)) (sym count))
+          p.printed;
     }
 
 -- the output of an equal layout's text
@@ -92,8 +112,8 @@ stopped_input input source old halt is_input = record {
   input = input;
   is_input = is_input;
   steps = [];
+  steps_are = inr (refl, stops_not halt);
   printed = Prints-nothing old (output_of [] input) halt;
-  whole = λ e. absurd (stops_not halt e);
 }
 
 pub PrintsInput-stopped : (source old : Option (List ℕ)) (halt : Halt) → PrintsInput source old old (Err halt)
@@ -107,8 +127,8 @@ PrintsInput-refused source old new input why r is_input is p = record {
   input = input;
   is_input = is_input;
   steps = [];
+  steps_are = inr (refl, refused_not old new why r p);
   printed = Prints-same old new r (output_of [] input) (bad_layout why) is p;
-  whole = λ e. absurd (refused_not old new why r p e);
 }
 
 -- an input of these parts, whose layout's text is within the limit
@@ -125,10 +145,8 @@ PrintsInput-headed source left old new head r reads under p =
       input = Parted head p.schedule;
       is_input = is_input source left reads p.are_lines;
       steps = p.steps;
+      steps_are = p.steps_are;
       printed = p.printed;
-      whole = λ e.
-          let all = p.whole e in
-          record { head = head; layout = all.0; schedule = p.schedule; input_is = refl; layout_is = all.1; steps_are = all.2 };
     }
   where
     is_input : (source left : Option (List ℕ)) → ReadsSchedule source left head [] → AreLinesOf left p.schedule

@@ -1,27 +1,26 @@
 -- What was printed of a whole schedule is strict.
-use Rattle.std.proofs.Common.{◌≡◌, ℕ, ◌+◌, Bool, true, false, List, [], ◌∷◌, ◌++◌, length, map, Option, Some, None, Result, Ok, refl, sym, ap, subst, ◌∙◌, arith, append_assoc}
+use Rattle.std.proofs.Common.{◌≡◌, ℕ, ◌+◌, Bool, true, false, List, [], ◌∷◌, ◌++◌, length, Option, Some, None, Result, Ok, inl, inr, refl, sym, ap, ◌∙◌, append-nil}
 use Rattle.std.specs.Prelude.{nat_lt}
 use Rattle.lines.specs.declared.forms.Line.{Line}
 use Rattle.lines.specs.Grammar.{line_of}
 use Rattle.fab_base.specs.Layouts.{Layout}
 use Rattle.protocol.specs.Views.{layout_views}
-use Rattle.protocol.specs.Worlds.{World, first_world, run}
+use Rattle.protocol.specs.Worlds.{World, first_world}
 use Rattle.protocol_laws.specs.Laws.{Laws}
 use Rattle.stripe_code.specs.Codes.{coding}
 use Rattle.stripe_code.proofs.Soundness.{coding_is_sound}
-use Rattle.layout.specs.declared.faults.LayoutFault.{LayoutFault}
 use Rattle.layout.specs.Limits.{IsLayout}
-use Rattle.layout.specs.Texts.{layout_of}
 use Rattle.layout.proofs.Accepted.{accepted_is}
 use Rattle.world.specs.Runs.{Step}
-use Rattle.world.specs.Texts.{text_of}
 use Rattle.world.proofs.RunLaws.{laws_of}
-use Rattle.replay.specs.declared.endings.Verdict.TheVariants.{Whole}
+use Rattle.replay.specs.declared.endings.Verdict.{Verdict}
+use Rattle.replay.specs.declared.endings.Verdict.TheVariants.{Whole, BadLine, TooManyLines}
+use Rattle.replay.specs.declared.endings.Halt.{Halt}
 use Rattle.replay.specs.Inputs.{Input, Parted}
-use Rattle.replay.specs.Outputs.{Output, onto, output_line, output_from, output_with, output_of, closing_text, steps_text, most_lines}
-use Rattle.replay.specs.Turns.{AreLinesOfSteps, AreStepsOf, IsStepped}
-use Rattle.replay.specs.Replays.{left_by, IsStrictWorld, IsLinearizable, StaysStrict}
-use Rattle.replay.proofs.Steppings.{after_steps, after_steps-all}
+use Rattle.replay.specs.Outputs.{Output, left_by, onto, output_line, output_behind, output_of, steps_text, most_lines}
+use Rattle.replay.specs.LineSteps.{BeginsWith, AreStepsIn}
+use Rattle.replay.specs.Replays.{IsStrictWorld, IsLinearizable, StaysStrict}
+use Rattle.replay.proofs.OutputLines.{output_behind-end, output_of-steps}
 use Rattle.replay.proofs.PrintedMarks.{steps_printed}
 use Rattle.replay.proofs.Successions.{follows_steps}
 
@@ -39,86 +38,50 @@ stays_strict input = record {
   follows = λ layout steps more begins. follows_steps layout (coding_is_sound layout (accepted_is begins.head layout begins.layout_is)) steps more;
 }
 
--- an output that ends as whole is one of steps, and then what closes it
-of_line : (n : ℕ) (within : Bool) (found : Option Line) (line : Line) (ran : Output) → found ≡ Some line → (output_line n within found ran).verdict ≡ Whole
-    → output_line n within found ran ≡ ran
-of_line n false found line ran is whole = cc
-of_line n true None line ran is whole = let never : None ≡ Some line = is in cc
-of_line n true (Some one) line ran is whole = refl
+-- behind an output that ends as whole no line is left
+line_left : (n : ℕ) (within : Bool) (line : Option Line) → (output_line n within line).verdict ≡ Some Whole → ⊥
+line_left n false line whole = let never : Some TooManyLines ≡ Some Whole = whole in cc
+line_left n true None whole = let never : Some (BadLine (n + 1)) ≡ Some Whole = whole in cc
+line_left n true (Some line) whole = let never : None ≡ Some Whole = whole in cc
 
-whole_text : (layout : Layout) (w : World) (n : ℕ) (steps : List Step) (contents : List (List ℕ)) → AreLinesOfSteps contents steps
-    → (output_from layout w n steps contents).verdict ≡ Whole
-    → (output_from layout w n steps contents).text
-    ≡ steps_text (coding layout) w steps ++ closing_text layout (after_steps (coding layout) w steps) (n + length steps)
-unfolding output_from
-whole_text layout w n [] [] are whole = ap (closing_text layout w) (omega arith)
-whole_text layout w n (step ∷ steps) [] are whole = let never : [] ≡ Some step.line ∷ map (λ (s : Step). Some s.line) steps = are in cc
-whole_text layout w n [] (content ∷ contents) are whole = let never : line_of content ∷ map line_of contents ≡ [] = are in cc
-whole_text layout w n (step ∷ steps) (content ∷ contents) are whole =
-    let first : line_of content ≡ Some step.line =
-    (let e : line_of content ∷ map line_of contents ≡ Some step.line ∷ map (λ (s : Step). Some s.line) steps = are in cc)
-    in
-    let others : AreLinesOfSteps contents steps =
-    (let e : line_of content ∷ map line_of contents ≡ Some step.line ∷ map (λ (s : Step). Some s.line) steps = are in cc)
-    in
-    let v : World = run (coding layout) step.events w in
-    let text : List ℕ = text_of (coding layout) w step.events in
-    let behind : Output = output_from layout v (n + 1) steps contents in
-    let ran : Output = onto text behind in
-    let same : output_line n (nat_lt n most_lines) (line_of content) ran ≡ ran =
-    of_line n (nat_lt n most_lines) (line_of content) step.line ran first whole
-    in
-    let ends : behind.verdict ≡ Whole = ap (λ (o : Output). o.verdict) (sym same) ∙ whole in
-    let count : (n + 1) + length steps ≡ n + length (step ∷ steps) = omega arith in
-    ap (λ (o : Output). o.text) same
-    ∙ ap (λ (t : List ℕ). text ++ t) (whole_text layout v (n + 1) steps contents others ends
-    ∙ ap (λ (k : ℕ). steps_text (coding layout) v steps ++ closing_text layout (after_steps (coding layout) v steps) k) count)
-    ∙ sym (append_assoc text (steps_text (coding layout) v steps) (closing_text layout (after_steps (coding layout) v steps) (n + length (step ∷ steps))))
-
--- what was printed over a layout is strict
-over_layout : (head : List ℕ) (layout : Layout) (schedule : List (List ℕ)) (steps : List Step) → layout_of head ≡ Ok layout
-    → AreStepsOf layout schedule steps
-    → (output_from layout (first_world layout) 0 steps schedule).verdict ≡ Whole
-    → IsLinearizable (Parted head schedule) (output_from layout (first_world layout) 0 steps schedule).text
-over_layout head layout schedule steps is are whole =
-    let world : World = left_by layout steps in
-    let text : List ℕ = steps_text (coding layout) (first_world layout) steps in
-    let shown = steps_printed (coding layout) (first_world layout) steps in
-    let count : 0 + length steps ≡ length steps = omega arith in
-    record {
-      printed = shown.printed;
-      steps_text_is = shown.text_is;
-      marks_are = sym shown.marks_are;
-      head = head;
-      layout = layout;
-      schedule = schedule;
-      steps = steps;
-      world = world;
-      input_is = refl;
-      layout_is = is;
-      steps_are = are;
-      world_is = refl;
-      text_is = whole_text layout (first_world layout) 0 steps schedule are.lines whole
-          ∙ ap (λ (w : World). text ++ closing_text layout w (0 + length steps)) (sym (after_steps-all (coding layout) (first_world layout) steps))
-          ∙ ap (λ (k : ℕ). text ++ closing_text layout world k) count;
-      is_strict = strict_world layout (accepted_is head layout is) steps;
-    }
-
--- the output of a head whose layout is this
-of_parts : (head : List ℕ) (layout : Layout) (schedule : List (List ℕ)) (steps : List Step) → layout_of head ≡ Ok layout
-    → output_of steps (Parted head schedule) ≡ output_from layout (first_world layout) 0 steps schedule
-unfolding output_of
-of_parts head layout schedule steps is = ap (λ (r : Result Layout LayoutFault). output_with r steps schedule) is
+none_left : (layout : Layout) (w : World) (n : ℕ) (rest : List (List ℕ)) → (output_behind layout w n rest).verdict ≡ Some Whole → rest ≡ []
+unfolding output_behind
+none_left layout w n [] whole = refl
+none_left layout w n (content ∷ rest) whole = absurd (line_left n (nat_lt n most_lines) (line_of content) whole)
 
 -- what was printed of an input that ends as whole is strict
-pub linearizable : (input : Input) (steps : List Step) → (output_of steps input).verdict ≡ Whole → IsStepped input steps
-    → IsLinearizable input (output_of steps input).text
-linearizable input steps whole stepped =
-    let same : output_of steps input ≡ output_from stepped.layout (first_world stepped.layout) 0 steps stepped.schedule =
-    ap (output_of steps) stepped.input_is ∙ of_parts stepped.head stepped.layout stepped.schedule steps stepped.layout_is
-    in
-    let over = over_layout stepped.head stepped.layout stepped.schedule steps stepped.layout_is stepped.steps_are
-    (ap (λ (o : Output). o.verdict) (sym same) ∙ whole)
-    in
-    subst (λ (i : Input). IsLinearizable i (output_of steps input).text) (sym stepped.input_is)
-    (subst (λ (o : Output). IsLinearizable (Parted stepped.head stepped.schedule) o.text) (sym same) over)
+pub linearizable : (input : Input) (steps : List Step) (ending : Result Verdict Halt) → ending ≡ Ok Whole → AreStepsIn input steps ending
+    → (output_of steps input).verdict ≡ Some Whole → IsLinearizable input (output_of steps input).text
+linearizable input steps ending all are whole =
+    elim are [
+      | inl some ↦ begun some.0 some.1
+      | inr none ↦ absurd (none.1 all)
+    ]
+  where
+    begun : (layout : Layout) → BeginsWith input layout steps → IsLinearizable input (output_of steps input).text
+    begun layout b =
+        let world : World = left_by layout steps in
+        let text : List ℕ = steps_text (coding layout) (first_world layout) steps in
+        let shown = steps_printed (coding layout) (first_world layout) steps in
+        let same : output_of steps input ≡ onto text (output_behind layout world (length steps) b.rest) =
+        ap (output_of steps) b.input_is ∙ output_of-steps b.head layout b.schedule b.rest steps b.layout_is b.steps_are.lines
+        in
+        let none : b.rest ≡ [] = none_left layout world (length steps) b.rest (ap (λ (o : Output). o.verdict) (sym same) ∙ whole) in
+        record {
+          printed = shown.printed;
+          steps_text_is = shown.text_is;
+          marks_are = sym shown.marks_are;
+          head = b.head;
+          layout = layout;
+          schedule = b.schedule;
+          steps = steps;
+          world = world;
+          input_is = b.input_is ∙ ap (λ (rest : List (List ℕ)). Parted b.head (b.schedule ++ rest)) none ∙ ap (Parted b.head) (append-nil b.schedule);
+          layout_is = b.layout_is;
+          steps_are = b.steps_are;
+          world_is = refl;
+          text_is = ap (λ (o : Output). o.text) same
+              ∙ ap (λ (rest : List (List ℕ)). text ++ (output_behind layout world (length steps) rest).text) none
+              ∙ ap (λ (o : Output). text ++ o.text) (output_behind-end layout world (length steps));
+          is_strict = strict_world layout (accepted_is b.head layout b.layout_is) steps;
+        }

@@ -1,14 +1,13 @@
 -- What was printed in several steps.
-use Rattle.std.proofs.Common.{◌≡◌, ℕ, List, [], ◌++◌, Option, Result, Ok, Err, IsErr, ◌∙◌, subst, sym}
+use Rattle.std.proofs.Common.{◌≡◌, ℕ, List, [], Option, Some, Result, Ok, Err, IsErr, subst, sym}
 use Rattle.std.specs.Io.KnownBytes.{Keeps, Appends}
 use Rattle.std.proofs.KnownBytes.{Appends-trans, Keeps-refl}
-use Rattle.fab_io.specs.Ends.{AppendsFront}
-use Rattle.fab_io.proofs.Content.{Appends-none, AppendsFront-none, AppendsFront-after, AppendsFront-more}
+use Rattle.fab_io.proofs.Content.{Appends-none, AppendsFront-none, AppendsFront-after}
 use Rattle.replay.specs.declared.endings.Verdict.{Verdict}
 use Rattle.replay.specs.declared.endings.Verdict.TheVariants as verdict
 use Rattle.replay.specs.declared.endings.Halt.{Halt}
 use Rattle.replay.specs.declared.endings.Halt.TheVariants.{Source, Memory}
-use Rattle.replay.specs.Outputs.{Output, onto, bad_line}
+use Rattle.replay.specs.Outputs.{Output, onto}
 use Rattle.replay.specs.Turns.{Prints}
 
 -- a text, and then the rest of the output
@@ -32,13 +31,8 @@ Prints-same a b r output other e p = subst (λ (o : Output). Prints a b o r) (sy
 
 -- the output of an equal text
 pub Prints-text : (a b : Option (List ℕ)) (r : Result Verdict Halt) (text other : List ℕ) (verdict : Verdict) → text ≡ other
-    → Prints a b (record { text = text; verdict = verdict }) r → Prints a b (record { text = other; verdict = verdict }) r
-Prints-text a b r text other verdict e p = subst (λ (t : List ℕ). Prints a b (record { text = t; verdict = verdict }) r) e p
-
--- the run was stopped within the first text of the output
-pub Prints-front : (a b : Option (List ℕ)) (output : Output) (halt : Halt) (text : List ℕ) → (more : List ℕ) × (output.text ≡ text ++ more)
-    → AppendsFront a b text → Prints a b output (Err halt)
-Prints-front a b output halt text (more, e) p = subst (AppendsFront a b) (sym e) (AppendsFront-more a b text more p)
+    → Prints a b (record { text = text; verdict = Some verdict }) r → Prints a b (record { text = other; verdict = Some verdict }) r
+Prints-text a b r text other verdict e p = subst (λ (t : List ℕ). Prints a b (record { text = t; verdict = Some verdict }) r) e p
 
 -- what holds at any error holds where there is one
 pub at_err : {T E : Type 0} (r : Result T E) (P : Result T E → Type 0) → ((e : E) → P (Err e)) → IsErr r → P r
@@ -56,20 +50,3 @@ memory_alone e = cc
 -- a run that stops is not whole
 pub stops_not : (halt : Halt) → (let r : Result Verdict Halt = Err halt in r ≡ Ok verdict.Whole → ⊥)
 stops_not halt e = cc
-
--- an output that ends otherwise is not whole
-pub other_not : (a b : Option (List ℕ)) (output : Output) (r : Result Verdict Halt) → (output.verdict ≡ verdict.Whole → ⊥) → Prints a b output r
-    → r ≡ Ok verdict.Whole → ⊥
-other_not a b output (Ok one) other p e = other (p.0 ∙ (let same : one ≡ verdict.Whole = cc in same))
-other_not a b output (Err halt) other p e = stops_not halt e
-
-bad_not : (n : ℕ) → verdict.BadLine n ≡ verdict.Whole → ⊥
-bad_not n e = cc
-
-pub bad_line_not : (a b : Option (List ℕ)) (n : ℕ) (r : Result Verdict Halt) → Prints a b (bad_line n) r → r ≡ Ok verdict.Whole → ⊥
-bad_line_not a b n r p e = other_not a b (bad_line n) r (bad_not n) p e
-
-pub many_not : (a b : Option (List ℕ)) (r : Result Verdict Halt) (text : List ℕ)
-    → Prints a b (record { text = text; verdict = verdict.TooManyLines }) r → r ≡ Ok verdict.Whole → ⊥
-many_not a b r text p e =
-    other_not a b (record { text = text; verdict = verdict.TooManyLines }) r (λ (is : verdict.TooManyLines ≡ verdict.Whole). cc) p e

@@ -22,70 +22,99 @@ use Rattle.stripe_code.specs.Codes.{coding}
 use Rattle.world.specs.Runs.{Run, Step, world_of}
 use Rattle.world.specs.Texts.{text_of}
 use Rattle.world.specs.Steps.{Ran, Runs}
-use Rattle.fab_io.proofs.Content.{AppendsFront-none}
+use Rattle.fab_io.proofs.Content.{AppendsFront-none, AppendsFront-more}
 use Rattle.replay.specs.declared.endings.Verdict.{Verdict}
 use Rattle.replay.specs.declared.endings.Verdict.TheVariants as verdict
 use Rattle.replay.specs.declared.endings.Halt.{Halt}
-use Rattle.replay.specs.Outputs.{Output, onto, output_from, finished, bad_line, too_many_lines, most_lines, steps_text}
-use Rattle.replay.specs.Turns.{Prints, AreLinesOf, LeadsTo, AreLinesOfSteps, PrintsRest, PrintsLine, line_text, LineRuns, LineStops, LineTurnMeans, PieceMeans, TurnMeans, IsTheEnd}
+use Rattle.replay.specs.Outputs.{Output, onto, output_behind, finished, bad_line, too_many_lines, most_lines, steps_text}
+use Rattle.replay.specs.LineSteps.{LeadsTo, AreLinesOfSteps}
+use Rattle.replay.specs.Turns.{Prints, AreLinesOf, PrintsRest, PrintsLine, LineRuns, LineBegins, LineTurnMeans, PieceMeans, TurnMeans, IsTheEnd}
 use Rattle.replay.specs.Readings.{LinesSoFar, ReadsPart}
 use Rattle.replay.proofs.HeadReading.{unread_more}
-use Rattle.replay.proofs.OutputLines.{output_from-end, output_from-line, output_from-bad, output_from-many, output_from-front}
-use Rattle.replay.proofs.Steppings.{after_steps, after_step, leads_none, leads_one, leads_both, lines_both, steps_text-push}
-use Rattle.replay.proofs.Printing.{stops_not, Prints-after, Prints-kept, Prints-nothing, Prints-same, Prints-front}
+use Rattle.replay.proofs.OutputLines.{output_behind-end, output_behind-bad, output_behind-many}
+use Rattle.replay.proofs.Steppings.{after_steps, after_step, leads_none, leads_one, leads_both, lines_both, steps_text-append}
+use Rattle.replay.proofs.Printing.{Prints-after, Prints-kept, Prints-nothing, Prints-same}
 use Rattle.replay.proofs.LeftLines.{some_lines, no_lines, taken_lines, first_line, long_line}
 
--- the run was stopped before the next line
-pub PrintsRest-stopped : (run : Run) (n : ℕ) (left old : Option (List ℕ)) (halt : Halt) → PrintsRest run n left old old (Err halt)
-PrintsRest-stopped run n left old halt =
-    let some = some_lines left in
+-- no line was run: what was printed is what stands behind those that were
+PrintsRest-none : (run : Run) (n : ℕ) (left old new : Option (List ℕ)) (r : Result Verdict Halt) (behind : List (List ℕ)) → n ≤ most_lines
+    → AreLinesOf left behind → Prints old new (output_behind run.layout (world_of run) n behind) r → PrintsRest run n left old new r
+PrintsRest-none run n left old new r behind within are p =
+    let none : n ≡ n + 0 = omega arith in
     record {
-      contents = some.0;
-      are_lines = some.1;
+      done = [];
+      behind = behind;
+      are_lines = are;
       steps = [];
       last = run;
       leads = leads_none run;
-      printed = Prints-nothing old (output_from run.layout (world_of run) n [] some.0) halt;
-      whole = λ e. cc;
+      lines = refl;
+      within = omega (arith, within);
+      printed = subst (λ (k : ℕ). Prints old new (onto [] (output_behind run.layout (world_of run) k behind)) r) none p;
     }
 
+-- the next line was run: what was printed is its text, and what stands behind it
+PrintsRest-one : (before after : Run) (n : ℕ) (left old new : Option (List ℕ)) (r : Result Verdict Halt) (content : List ℕ) (rest : List (List ℕ)) (step : Step)
+    → n < most_lines → AreLinesOf left (content ∷ rest) → line_of content ≡ Some step.line → Runs before after step.line step
+    → Prints old new (onto (text_of (coding before.layout) (world_of before) step.events) (output_behind before.layout (world_of after) (n + 1) rest)) r
+    → PrintsRest before n left old new r
+PrintsRest-one before after n left old new r content rest step within are is runs p =
+    let text = text_of (coding before.layout) (world_of before) step.events in
+    record {
+      done = content ∷ [];
+      behind = rest;
+      are_lines = are;
+      steps = step ∷ [];
+      last = after;
+      leads = leads_one before after step runs;
+      lines = ap (λ (x : Option Line). x ∷ []) is;
+      within = omega (arith, within);
+      printed = subst (λ (t : List ℕ). Prints old new (onto t (output_behind before.layout (world_of after) (n + 1) rest)) r) (sym (append-nil text)) p;
+    }
+
+-- the run was stopped before the next line
+pub PrintsRest-stopped : (run : Run) (n : ℕ) (left old : Option (List ℕ)) (halt : Halt) → n ≤ most_lines → PrintsRest run n left old old (Err halt)
+PrintsRest-stopped run n left old halt within =
+    let some = some_lines left in
+    PrintsRest-none run n left old old (Err halt) some.0 within some.1 (Prints-nothing old (output_behind run.layout (world_of run) n some.0) halt)
+
 -- no line is left
-pub PrintsRest-ended : (run : Run) (n : ℕ) (left old new : Option (List ℕ)) (r : Result Verdict Halt) → IsAtEnd left
+pub PrintsRest-ended : (run : Run) (n : ℕ) (left old new : Option (List ℕ)) (r : Result Verdict Halt) → n ≤ most_lines → IsAtEnd left
     → Prints old new (finished run.layout (world_of run) n) r → PrintsRest run n left old new r
-PrintsRest-ended run n left old new r end p = record {
-  contents = [];
-  are_lines = no_lines left end;
-  steps = [];
-  last = run;
-  leads = leads_none run;
-  printed = Prints-same old new r (output_from run.layout (world_of run) n [] []) (finished run.layout (world_of run) n)
-      (output_from-end run.layout (world_of run) n []) p;
-  whole = λ e. refl;
-}
+PrintsRest-ended run n left old new r within end p =
+    PrintsRest-none run n left old new r [] within (no_lines left end)
+    (Prints-same old new r (output_behind run.layout (world_of run) n []) (finished run.layout (world_of run) n)
+    (output_behind-end run.layout (world_of run) n) p)
 
 -- a line that is none, whatever stands behind it
+PrintsRest-bad : (run : Run) (n : ℕ) (left old new : Option (List ℕ)) (r : Result Verdict Halt) (line : List ℕ) (rest : List (List ℕ)) → n < most_lines
+    → AreLinesOf left (line ∷ rest) → line_of line ≡ None → Prints old new (bad_line (n + 1)) r → PrintsRest run n left old new r
+PrintsRest-bad run n left old new r line rest within are bad p =
+    PrintsRest-none run n left old new r (line ∷ rest) (omega (arith, within)) are
+    (Prints-same old new r (output_behind run.layout (world_of run) n (line ∷ rest)) (bad_line (n + 1))
+    (output_behind-bad run.layout (world_of run) n line rest within bad) p)
+
 pub line-bad : (run : Run) (n : ℕ) (old mid new : Option (List ℕ)) (line : List ℕ) (r : Result Verdict Halt) → n < most_lines
     → line_of line ≡ None → Keeps old mid → Prints mid new (bad_line (n + 1)) r → PrintsLine run n line old new r
-line-bad run n old mid new line r within bad keeps p = record {
-  steps = [];
-  last = run;
-  leads = leads_none run;
-  printed = λ rest. Prints-same old new r (output_from run.layout (world_of run) n [] (line ∷ rest)) (bad_line (n + 1))
-      (output_from-bad run.layout (world_of run) n [] line rest within bad) (Prints-kept old mid new (bad_line (n + 1)) r keeps p);
-}
+line-bad run n old mid new line r within bad keeps p = λ left rest are.
+    PrintsRest-bad run n left old new r line rest within are bad (Prints-kept old mid new (bad_line (n + 1)) r keeps p)
 
--- the run was stopped at the text of a line
-pub line-front : (run : Run) (n : ℕ) (old new : Option (List ℕ)) (line : List ℕ) (halt : Halt) → n < most_lines
-    → LineStops run line old new → PrintsLine run n line old new (Err halt)
-line-front run n old new line halt within stops = record {
-  steps = stops.steps;
-  last = stops.last;
-  leads = stops.leads;
-  printed = λ rest. Prints-front old new (output_from run.layout (world_of run) n stops.steps (line ∷ rest)) halt _
-      (output_from-front run.layout (world_of run) n stops.steps line rest within) stops.printed;
-}
+-- the run was stopped at a line, before it or within its text
+pub line-front : (run after : Run) (n : ℕ) (old new : Option (List ℕ)) (line : List ℕ) (halt : Halt) → n < most_lines
+    → Keeps old new ⊎ LineBegins run after line old new → PrintsLine run n line old new (Err halt)
+line-front run after n old new line halt within stops = λ left rest are.
+    elim stops [
+      | inl keeps ↦
+          let behind = output_behind run.layout (world_of run) n (line ∷ rest) in
+          PrintsRest-none run n left old new (Err halt) (line ∷ rest) (omega (arith, within)) are (AppendsFront-none old new behind.text keeps)
+      | inr begins ↦
+          let text = text_of (coding run.layout) (world_of run) begins.step.events in
+          let behind = output_behind run.layout (world_of after) (n + 1) rest in
+          PrintsRest-one run after n left old new (Err halt) line rest begins.step within are begins.is_line begins.runs
+          (AppendsFront-more old new text behind.text begins.printed)
+    ]
 
--- a line was run, and all of its text printed, or some; or none was run
+-- a line was run, and all of its text printed, or some
 ran_step : (before after : Run) (bytes text : List ℕ) → (ran : Ran before after bytes text) → Runs before after ran.step.line ran.step
 ran_step before after bytes text ran =
     subst (λ (line : Line). Runs before after line ran.step) (sym ran.runs.line_is) ran.runs
@@ -102,99 +131,70 @@ line_runs before after bytes text old new ran p = record {
   printed = subst (λ (t : List ℕ). Appends old new t) ran.text_is p;
 }
 
-pub line_stops : (before after : Run) (bytes text : List ℕ) (old new : Option (List ℕ)) → Ran before after bytes text → AppendsFront old new text
-    → LineStops before bytes old new
-line_stops before after bytes text old new ran p = record {
-  steps = ran.step ∷ [];
-  last = after;
-  leads = leads_one before after ran.step (ran_step before after bytes text ran);
-  printed = subst (λ (line : Option Line). AppendsFront old new (line_text (coding before.layout) (world_of before) ran.step.events line))
-      (sym (ran_line before after bytes text ran)) (subst (λ (t : List ℕ). AppendsFront old new t) ran.text_is p);
+pub line_begins : (before after : Run) (bytes text : List ℕ) (old new : Option (List ℕ)) → Ran before after bytes text → AppendsFront old new text
+    → LineBegins before after bytes old new
+line_begins before after bytes text old new ran p = record {
+  step = ran.step;
+  is_line = ran_line before after bytes text ran;
+  runs = ran_step before after bytes text ran;
+  printed = subst (λ (t : List ℕ). AppendsFront old new t) ran.text_is p;
 }
 
-pub line_waits : (before : Run) (bytes : List ℕ) (old : Option (List ℕ)) → LineStops before bytes old old
-line_waits before bytes old = record {
-  steps = [];
-  last = before;
-  leads = leads_none before;
-  printed = AppendsFront-none old old (line_text (coding before.layout) (world_of before) [] (line_of bytes)) (Keeps-refl old);
+-- it does not matter here what stopped the run
+pub PrintsRest-halt : (run : Run) (n : ℕ) (left old new : Option (List ℕ)) (halt other : Halt) → PrintsRest run n left old new (Err halt)
+    → PrintsRest run n left old new (Err other)
+PrintsRest-halt run n left old new halt other p = record {
+  done = p.done;
+  behind = p.behind;
+  are_lines = p.are_lines;
+  steps = p.steps;
+  last = p.last;
+  leads = p.leads;
+  lines = p.lines;
+  within = p.within;
+  printed = p.printed;
 }
 
--- it does not matter here what stopped the run at a line
+-- the same, at a line
 pub line_halt : (run : Run) (n : ℕ) (bytes : List ℕ) (old new : Option (List ℕ)) (halt other : Halt) → PrintsLine run n bytes old new (Err halt)
     → PrintsLine run n bytes old new (Err other)
-line_halt run n bytes old new halt other p = record { steps = p.steps; last = p.last; leads = p.leads; printed = p.printed }
+line_halt run n bytes old new halt other p = λ left rest are. PrintsRest-halt run n left old new halt other (p left rest are)
 
--- the next line, of which the output is this, whatever stands behind it: the run does not end as whole at it
+-- the next line, of which the output is this, whatever stands behind it
 pub PrintsRest-line : (run : Run) (n : ℕ) (left rest old new : Option (List ℕ)) (line : List ℕ) (r : Result Verdict Halt)
-    → (r ≡ Ok verdict.Whole → ⊥) → Passes left rest (line ∷ []) → PrintsLine run n (content line) old new r
-    → PrintsRest run n left old new r
-PrintsRest-line run n left rest old new line r other passes p =
-    let first = first_line left rest line passes in
-    record {
-      contents = content line ∷ first.0;
-      are_lines = first.1;
-      steps = p.steps;
-      last = p.last;
-      leads = p.leads;
-      printed = p.printed first.0;
-      whole = λ e. absurd (other e);
-    }
+    → Passes left rest (line ∷ []) → PrintsLine run n (content line) old new r → PrintsRest run n left old new r
+PrintsRest-line run n left rest old new line r passes p = let first = first_line left rest line passes in p left first.0 first.1
 
 -- the last line was run, and the output closed
 pub PrintsRest-last : (before after : Run) (n : ℕ) (left rest old mid new : Option (List ℕ)) (line : List ℕ) (r : Result Verdict Halt)
     → n < most_lines → Passes left rest (line ∷ []) → IsAtEnd rest → LineRuns before after (content line) old mid
     → Prints mid new (finished after.layout (world_of after) (n + 1)) r → PrintsRest before n left old new r
 PrintsRest-last before after n left rest old mid new line r within passes end l p =
-    let w = world_of before in
-    let text = text_of (coding before.layout) w l.step.events in
+    let text = text_of (coding before.layout) (world_of before) l.step.events in
     let same : after.layout ≡ before.layout = ap (λ u. u.layout) l.runs.run in
     let closed = finished before.layout (world_of after) (n + 1) in
-    let world = after_step before after l.step.line l.step l.runs in
-    record {
-      contents = content line ∷ [];
-      are_lines = taken_lines left rest (line ∷ []) [] passes (no_lines rest end);
-      steps = l.step ∷ [];
-      last = after;
-      leads = leads_one before after l.step l.runs;
-      printed = Prints-same old new r (output_from before.layout w n (l.step ∷ []) (content line ∷ [])) (onto text closed)
-          (output_from-line before.layout w n [] (content line) [] l.step within l.is_line
-          ∙ ap (onto text) (ap (λ u. output_from before.layout u (n + 1) [] []) (sym world) ∙ output_from-end before.layout (world_of after) (n + 1) []))
-          (Prints-after old mid new text closed r l.printed (subst (λ u. Prints mid new (finished u (world_of after) (n + 1)) r) same p));
-      whole = λ e. ap (λ (x : Option Line). x ∷ []) l.is_line;
-    }
+    let behind = output_behind before.layout (world_of after) (n + 1) [] in
+    PrintsRest-one before after n left old new r (content line) [] l.step within (taken_lines left rest (line ∷ []) [] passes (no_lines rest end))
+    l.is_line l.runs
+    (Prints-after old mid new text behind r l.printed
+    (Prints-same mid new r behind closed (output_behind-end before.layout (world_of after) (n + 1))
+    (subst (λ u. Prints mid new (finished u (world_of after) (n + 1)) r) same p)))
 
 -- the next line is too long
-pub PrintsRest-long : (run : Run) (n : ℕ) (left old new : Option (List ℕ)) (r : Result Verdict Halt) → (r ≡ Ok verdict.Whole → ⊥) → n < most_lines
+pub PrintsRest-long : (run : Run) (n : ℕ) (left old new : Option (List ℕ)) (r : Result Verdict Halt) → n < most_lines
     → IfSome left (BeginsLong 70000) → Prints old new (bad_line (n + 1)) r → PrintsRest run n left old new r
-PrintsRest-long run n left old new r other within long p =
+PrintsRest-long run n left old new r within long p =
     let (line, contents, are_lines, bad) = long_line left long in
-    record {
-      contents = line ∷ contents;
-      are_lines = are_lines;
-      steps = [];
-      last = run;
-      leads = leads_none run;
-      printed = Prints-same old new r (output_from run.layout (world_of run) n [] (line ∷ contents)) (bad_line (n + 1))
-          (output_from-bad run.layout (world_of run) n [] line contents within bad) p;
-      whole = λ e. absurd (other e);
-    }
+    PrintsRest-bad run n left old new r line contents within are_lines bad p
 
 -- there is a line too many
 pub PrintsRest-many : (run : Run) (left rest old new : Option (List ℕ)) (piece : Piece) (r : Result Verdict Halt) → Says 70000 left rest piece
-    → (r ≡ Ok verdict.Whole → ⊥) → (piece ≡ Ended → ⊥) → Prints old new too_many_lines r → PrintsRest run most_lines left old new r
-PrintsRest-many run left rest old new piece r says other more p =
+    → (piece ≡ Ended → ⊥) → Prints old new too_many_lines r → PrintsRest run most_lines left old new r
+PrintsRest-many run left rest old new piece r says more p =
     let (line, contents, are_lines) = a_line piece says more in
-    record {
-      contents = line ∷ contents;
-      are_lines = are_lines;
-      steps = [];
-      last = run;
-      leads = leads_none run;
-      printed = Prints-same old new r (output_from run.layout (world_of run) most_lines [] (line ∷ contents)) too_many_lines
-          (output_from-many run.layout (world_of run) [] line contents) p;
-      whole = λ e. absurd (other e);
-    }
+    PrintsRest-none run most_lines left old new r (line ∷ contents) (omega arith) are_lines
+    (Prints-same old new r (output_behind run.layout (world_of run) most_lines (line ∷ contents)) too_many_lines
+    (output_behind-many run.layout (world_of run) line contents) p)
   where
     a_line : (piece : Piece) → Says 70000 left rest piece → (piece ≡ Ended → ⊥) → (line : List ℕ) × (contents : List (List ℕ))
         × AreLinesOf left (line ∷ contents)
@@ -206,12 +206,11 @@ PrintsRest-many run left rest old new piece r says other more p =
 -- what came next is a line, of which the output is this, whatever stands behind it
 pub PieceMeans-line : (run : Run) (n : ℕ) (piece : Piece) (line : List ℕ) (old new : Option (List ℕ)) (r : Result Verdict Halt)
     → (piece ≡ Whole line) ⊎ (piece ≡ Last line)
-    → (r ≡ Ok verdict.Whole → ⊥) → PrintsLine run n (content line) old new r
-    → PieceMeans run n piece old new r
-PieceMeans-line run n piece line old new r is other p left rest says =
+    → PrintsLine run n (content line) old new r → PieceMeans run n piece old new r
+PieceMeans-line run n piece line old new r is p left rest says =
     elim is [
-      | inl whole ↦ PrintsRest-line run n left rest old new line r other (subst (Says 70000 left rest) whole says).1 p
-      | inr last ↦ PrintsRest-line run n left rest old new line r other (subst (Says 70000 left rest) last says).1 p
+      | inl whole ↦ PrintsRest-line run n left rest old new line r (subst (Says 70000 left rest) whole says).1 p
+      | inr last ↦ PrintsRest-line run n left rest old new line r (subst (Says 70000 left rest) last says).1 p
     ]
 
 -- the last line was run, and the output closed
@@ -222,20 +221,14 @@ PieceMeans-last before after n piece line old mid new r within is l p left rest 
     let says = subst (Says 70000 left rest) is given in
     PrintsRest-last before after n left rest old mid new line r within says.1 says.2 l p
 
--- a turn that ends at a line is not whole
-pub not_whole : (one : Verdict) → (let took : Result (Option Verdict) Halt = Ok (Some one) in took ≡ Ok (Some verdict.Whole) → ⊥)
-    → (let r : Result Verdict Halt = Ok one in r ≡ Ok verdict.Whole → ⊥)
-not_whole one other e = other (let same : one ≡ verdict.Whole = cc in ap (λ (v : Verdict). Ok (Some v)) same)
-
 -- the next line was run, or the run ended at it
 pub TurnMeans-line : (before after : Run) (n : ℕ) (piece : Piece) (line : List ℕ) (old new : Option (List ℕ)) (r : Result (Option Verdict) Halt)
-    → (r ≡ Ok (Some verdict.Whole) → ⊥)
     → piece ≡ Whole line → LineTurnMeans before after n (content line) old new r → TurnMeans before after n piece old new r
-TurnMeans-line before after n piece line old new (Ok None) other is means = (line, is, means)
-TurnMeans-line before after n piece line old new (Ok (Some one)) other is means =
-    PieceMeans-line before n piece line old new (Ok one) (inl is) (not_whole one other) means
-TurnMeans-line before after n piece line old new (Err halt) other is means =
-    PieceMeans-line before n piece line old new (Err halt) (inl is) (stops_not halt) means
+TurnMeans-line before after n piece line old new (Ok None) is means = (line, is, means)
+TurnMeans-line before after n piece line old new (Ok (Some one)) is means =
+    PieceMeans-line before n piece line old new (Ok one) (inl is) means
+TurnMeans-line before after n piece line old new (Err halt) is means =
+    PieceMeans-line before n piece line old new (Err halt) (inl is) means
 
 -- nothing is left behind what ends the input
 pub at_the_end : (left rest : Option (List ℕ)) (piece : Piece) → Says 70000 left rest piece → IsTheEnd piece → IsAtEnd rest
@@ -249,21 +242,7 @@ pub PrintsRest-number : (run : Run) (n k : ℕ) (left old new : Option (List ℕ
     → PrintsRest run k left old new r
 PrintsRest-number run n k left old new r e p = subst (λ (i : ℕ). PrintsRest run i left old new r) e p
 
--- it does not matter here what stopped the run
-pub PrintsRest-halt : (run : Run) (n : ℕ) (left old new : Option (List ℕ)) (halt other : Halt) → PrintsRest run n left old new (Err halt)
-    → PrintsRest run n left old new (Err other)
-PrintsRest-halt run n left old new halt other p = record {
-  contents = p.contents;
-  are_lines = p.are_lines;
-  steps = p.steps;
-  last = p.last;
-  leads = p.leads;
-  printed = p.printed;
-  whole = λ e. absurd (stops_not other e);
-}
-
--- The first n lines were run and printed: what is printed of the lines that are left is what the whole output goes on with.
--- Beside that, what was read so far, behind the bytes that were unread at first, and what is unread now.
+-- The first n lines were run and printed. Beside that, what was read so far, behind the bytes that were unread at first, and what is unread now.
 pub record HasRun (first run : Run) (n : ℕ) (unread now : List ℕ) (told told_now old new : Option (List ℕ)) (came : ℕ) (untouched : Type 0) : Type 0 where
   pub lines : List (List ℕ)
   pub steps : List Step
@@ -272,9 +251,6 @@ pub record HasRun (first run : Run) (n : ℕ) (unread now : List ℕ) (told told
   pub passes : Passes (prepend_known unread told) (prepend_known now told_now) lines
   pub printed : Appends old new text
   pub same_layout : run.layout ≡ first.layout
-  pub onward : (more : List Step) (rest : List (List ℕ))
-      → output_from first.layout (world_of first) 0 (steps ++ more) (map content lines ++ rest)
-      ≡ onto text (output_from first.layout (world_of run) n more rest)
   pub are_whole : AreWhole lines
   pub lines_are : AreLinesOfSteps (map content lines) steps
   pub count : length steps ≡ n
@@ -296,7 +272,6 @@ HasRun-start first unread told old came untouched same = record {
   passes = Passes-nil (prepend_known unread told) (prepend_known unread told) (Keeps-refl (prepend_known unread told));
   printed = Appends-nil old;
   same_layout = refl;
-  onward = λ more rest. refl;
   are_whole = tt;
   lines_are = refl;
   count = refl;
@@ -314,16 +289,6 @@ onto-onto a b output = ap (λ t. onto_verdict t) (sym (append_assoc a b output.t
   where
     onto_verdict : List ℕ → Output
     onto_verdict t = record { text = t; verdict = output.verdict }
-
--- the output of a line, over an equal layout
-line_of_layout : (layout same : Layout) (w : World) (n : ℕ) (steps : List Step) (content : List ℕ) (rest : List (List ℕ)) (step : Step) → n < most_lines
-    → layout ≡ same → line_of content ≡ Some step.line
-    → output_from same w n (step ∷ steps) (content ∷ rest) ≡ onto (text_of (coding layout) w step.events)
-    (output_from same (run (coding layout) step.events w) (n + 1) steps rest)
-line_of_layout layout same w n steps content rest step within e is =
-    subst (λ (l : Layout). output_from same w n (step ∷ steps) (content ∷ rest) ≡ onto (text_of (coding l) w step.events)
-    (output_from same (run (coding l) step.events w) (n + 1) steps rest))
-    (sym e) (output_from-line same w n steps content rest step within is)
 
 -- the world behind a step
 abbrev run_events : Setting → World → Step → World
@@ -393,15 +358,6 @@ HasRun-line first run after n unread now next told told_now told_next old mid ne
       passes = Passes-trans (prepend_known unread told) (prepend_known now told_now) (prepend_known next told_next) h.lines (bytes ∷ []) h.passes says.1;
       printed = Appends-trans old mid new h.text text h.printed l.printed;
       same_layout = layout ∙ h.same_layout;
-      onward = λ more rest.
-          ap (λ (s : List Step). output_from first.layout (world_of first) 0 s (map content (h.lines ++ bytes ∷ []) ++ rest))
-          (append_assoc h.steps (step ∷ []) more)
-          ∙ ap (output_from first.layout (world_of first) 0 (h.steps ++ step ∷ more))
-          (ap (λ l. l ++ rest) (map-append content h.lines (bytes ∷ [])) ∙ append_assoc (map content h.lines) (content bytes ∷ []) rest)
-          ∙ h.onward (step ∷ more) (content bytes ∷ rest)
-          ∙ ap (onto h.text) (line_of_layout run.layout first.layout w n more (content bytes) rest step within h.same_layout l.is_line
-          ∙ ap (λ u. onto text (output_from first.layout u (n + 1) more rest)) (sym world))
-          ∙ onto-onto h.text text (output_from first.layout (world_of after) (n + 1) more rest);
       are_whole = AreWhole-push h.lines bytes h.are_whole says.2;
       lines_are = ap (map line_of) (map-append content h.lines (bytes ∷ []))
           ∙ lines_both (map content h.lines) (content bytes ∷ []) h.steps (step ∷ []) h.lines_are (ap (λ (x : Option Line). x ∷ []) l.is_line);
@@ -414,7 +370,7 @@ HasRun-line first run after n unread now next told told_now told_next old mid ne
           (sym (append-nil text)
           ∙ ap (λ (u : Layout). steps_text (coding u) w (step ∷ [])) h.same_layout
           ∙ ap (λ (u : World). steps_text (coding first.layout) u (step ∷ [])) h.world_is)
-          ∙ sym (steps_text-push (coding first.layout) (world_of first) h.steps step);
+          ∙ sym (steps_text-append (coding first.layout) (world_of first) h.steps (step ∷ []));
       read = h.read ++ r.read;
       consumes = Consumes-trans told told_now told_next h.read r.read h.consumes r.consumes;
       bytes = unread_more unread h.read now r.read h.lines h.bytes ∙ ap (λ (l : List ℕ). concat h.lines ++ l) r.bytes
@@ -444,18 +400,37 @@ pub HasRun-rest : (first run : Run) (n : ℕ) (unread now : List ℕ) (told told
     (r : Result Verdict Halt) → HasRun first run n unread now told told_now old mid came untouched
     → PrintsRest run n (prepend_known now told_now) mid new r → PrintsRest first 0 (prepend_known unread told) old new r
 HasRun-rest first run n unread now told told_now old mid new came untouched r h p =
-    let printed = subst (λ l. Prints mid new (output_from l (world_of run) n p.steps p.contents) r) h.same_layout p.printed in
-    let whole = output_from first.layout (world_of run) n p.steps p.contents in
+    let setting = coding first.layout in
+    let text = steps_text setting (world_of run) p.steps in
+    let behind = output_behind first.layout (world_of p.last) (n + length p.steps) p.behind in
+    let printed : Prints mid new (onto text behind) r =
+    subst (λ (l : Layout). Prints mid new (onto (steps_text (coding l) (world_of run) p.steps) (output_behind l (world_of p.last) (n + length p.steps) p.behind)) r)
+    h.same_layout p.printed
+    in
+    let all : steps_text setting (world_of first) (h.steps ++ p.steps) ≡ h.text ++ text =
+    steps_text-append setting (world_of first) h.steps p.steps
+    ∙ ap (λ (w : World). steps_text setting (world_of first) h.steps ++ steps_text setting w p.steps) (sym h.world_is)
+    ∙ ap (λ (t : List ℕ). t ++ text) (sym h.text_is)
+    in
+    let count : 0 + length (h.steps ++ p.steps) ≡ n + length p.steps = omega (arith, length-append h.steps p.steps, h.count) in
+    let left = prepend_known unread told in
     record {
-      contents = map content h.lines ++ p.contents;
-      are_lines = taken_lines (prepend_known unread told) (prepend_known now told_now) h.lines p.contents h.passes p.are_lines;
+      done = map content h.lines ++ p.done;
+      behind = p.behind;
+      are_lines = subst (AreLinesOf left) (sym (append_assoc (map content h.lines) p.done p.behind))
+          (taken_lines left (prepend_known now told_now) h.lines (p.done ++ p.behind) h.passes p.are_lines);
       steps = h.steps ++ p.steps;
       last = p.last;
       leads = leads_both first run p.last h.steps p.steps h.leads p.leads;
-      printed = Prints-same old new r (output_from first.layout (world_of first) 0 (h.steps ++ p.steps) (map content h.lines ++ p.contents)) (onto h.text whole)
-          (h.onward p.steps p.contents)
-          (Prints-after old mid new h.text whole r h.printed printed);
-      whole = λ e. lines_both (map content h.lines) p.contents h.steps p.steps h.lines_are (p.whole e);
+      lines = lines_both (map content h.lines) p.done h.steps p.steps h.lines_are p.lines;
+      within = omega (arith, count, p.within);
+      printed = Prints-same old new r
+          (onto (steps_text setting (world_of first) (h.steps ++ p.steps)) (output_behind first.layout (world_of p.last) (0 + length (h.steps ++ p.steps)) p.behind))
+          (onto h.text (onto text behind))
+          (ap (λ (t : List ℕ). onto t (output_behind first.layout (world_of p.last) (0 + length (h.steps ++ p.steps)) p.behind)) all
+          ∙ ap (λ (k : ℕ). onto (h.text ++ text) (output_behind first.layout (world_of p.last) k p.behind)) count
+          ∙ sym (onto-onto h.text text behind))
+          (Prints-after old mid new h.text (onto text behind) r h.printed printed);
     }
 
 -- what was read where the run ended behind what came next, by no failure of the source

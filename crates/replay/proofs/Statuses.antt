@@ -1,10 +1,11 @@
 -- What a status says of the end of a run.
-use Rattle.std.proofs.Common.{◌≡◌, ℕ, ◌⊎◌, List, [], Option, Some, None, Result, Ok, Err, refl, sym, ap, ◌∙◌, inl, inr}
+use Rattle.std.proofs.Common.{◌≡◌, ℕ, ◌⊎◌, List, Option, Some, None, Result, Ok, Err, refl, sym, ap, ◌∙◌, inl, inr}
 use Rattle.replay.specs.declared.endings.Verdict.{Verdict}
 use Rattle.replay.specs.declared.endings.Halt.{Halt}
 use Rattle.replay.specs.declared.endings.Halt.TheVariants.{Source, Sink, Memory}
 use Rattle.world.specs.Runs.{Step}
-use Rattle.replay.specs.Outputs.{output_of}
+use Rattle.replay.specs.Outputs.{output_of, verdict_of}
+use Rattle.replay.specs.LineSteps.{AreStepsIn}
 use Rattle.replay.proofs.OutputLines.{verdict_alone}
 use Rattle.replay.specs.Inputs.{Input, IsInput}
 use Rattle.replay.specs.Turns.{Prints}
@@ -12,13 +13,14 @@ use Rattle.replay.specs.Replays.{status_of, IsDecided}
 
 -- a run that neither end stopped answers what the input calls for, or was stopped for want of memory
 pub decided : (source old new : Option (List ℕ)) (input : Input) (steps : List Step) (ending : Result Verdict Halt) → IsInput source input
-    → Prints old new (output_of steps input) ending → (ending ≡ Err Source → ⊥) → (ending ≡ Err Sink → ⊥) → IsDecided source (status_of ending)
-decided None old new input steps ending are p no_source no_sink = tt
-decided (Some bytes) old new input steps (Ok verdict) are (same, appends) no_source no_sink =
-    inl (ap (λ v. status_of (Ok v)) (sym same ∙ verdict_alone steps [] input) ∙ ap (λ i. status_of (Ok (output_of [] i).verdict)) (sym are))
-decided (Some bytes) old new input steps (Err Source) are p no_source no_sink = absurd (no_source refl)
-decided (Some bytes) old new input steps (Err Sink) are p no_source no_sink = absurd (no_sink refl)
-decided (Some bytes) old new input steps (Err Memory) are p no_source no_sink = inr refl
+    → AreStepsIn input steps ending → Prints old new (output_of steps input) ending → (ending ≡ Err Source → ⊥) → (ending ≡ Err Sink → ⊥)
+    → IsDecided source (status_of ending)
+decided None old new input steps ending is are p no_source no_sink = tt
+decided (Some bytes) old new input steps (Ok one) is are (same, appends) no_source no_sink =
+    inl (ap (λ (v : Verdict). status_of (Ok v)) (sym (verdict_alone input steps (Ok one) one are same) ∙ ap verdict_of (sym is)))
+decided (Some bytes) old new input steps (Err Source) is are p no_source no_sink = absurd (no_source refl)
+decided (Some bytes) old new input steps (Err Sink) is are p no_source no_sink = absurd (no_sink refl)
+decided (Some bytes) old new input steps (Err Memory) is are p no_source no_sink = inr refl
 
 -- the status of a refused write of the usage line
 pub of_write : (halt : Halt) → (halt ≡ Source → ⊥) → (status_of (Err halt) ≡ 6) ⊎ (status_of (Err halt) ≡ 7)

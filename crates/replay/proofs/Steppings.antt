@@ -3,6 +3,7 @@ use Rattle.std.proofs.Common.{◌≡◌, ℕ, List, [], ◌∷◌, ◌++◌, map
 use Rattle.std.proofs.lemmas.List.{map-append}
 use Rattle.lines.specs.Grammar.{line_of}
 use Rattle.lines.specs.declared.forms.Line.{Line}
+use Rattle.fab_base.specs.Layouts.{Layout}
 use Rattle.stripe_code.specs.Codes.{coding}
 use Rattle.protocol.specs.Settings.{Setting}
 use Rattle.protocol.specs.Worlds.{World, run}
@@ -11,7 +12,7 @@ use Rattle.world.specs.Steps.{Runs}
 use Rattle.world.specs.Texts.{text_of}
 use Rattle.world.proofs.RunLemmas.{run-append, world_of-with_step}
 use Rattle.replay.specs.Outputs.{steps_text}
-use Rattle.replay.specs.Turns.{LeadsTo, AreLinesOfSteps}
+use Rattle.replay.specs.LineSteps.{LeadsTo, AreLinesOfSteps}
 
 -- the world that steps leave
 abbrev pub after_steps : Setting → World → List Step → World
@@ -48,6 +49,15 @@ leads_layout first last [] same = ap (λ (r : Run). r.layout) same
 leads_layout first last (step ∷ steps) leads =
     leads_layout leads.0 last steps leads.2 ∙ same_layout_step first leads.0 step.line step leads.1
 
+pub leads_world : (first last : Run) (steps : List Step) → LeadsTo first steps last
+    → world_of last ≡ after_steps (coding first.layout) (world_of first) steps
+leads_world first last [] same = ap world_of same
+leads_world first last (step ∷ steps) leads =
+    let next : Run = leads.0 in
+    leads_world next last steps leads.2
+    ∙ ap (λ (layout : Layout). after_steps (coding layout) (world_of next) steps) (same_layout_step first next step.line step leads.1)
+    ∙ ap (λ (w : World). after_steps (coding first.layout) w steps) (after_step first next step.line step leads.1)
+
 -- the lines of steps, and of more
 pub lines_both : (contents rest : List (List ℕ)) (steps more : List Step) → AreLinesOfSteps contents steps → AreLinesOfSteps rest more
     → AreLinesOfSteps (contents ++ rest) (steps ++ more)
@@ -56,12 +66,12 @@ lines_both contents rest steps more first then =
     ∙ ap (λ (l : List (Option Line)). map (λ (step : Step). Some step.line) steps ++ l) then
     ∙ sym (map-append (λ (step : Step). Some step.line) steps more)
 
--- the text of steps, and then of one more
-pub steps_text-push : (setting : Setting) (w : World) (steps : List Step) (step : Step)
-    → steps_text setting w (steps ++ step ∷ []) ≡ steps_text setting w steps ++ steps_text setting (after_steps setting w steps) (step ∷ [])
-steps_text-push setting w [] step = refl
-steps_text-push setting w (first ∷ steps) step =
+-- the text of steps, and then of more
+pub steps_text-append : (setting : Setting) (w : World) (steps more : List Step)
+    → steps_text setting w (steps ++ more) ≡ steps_text setting w steps ++ steps_text setting (after_steps setting w steps) more
+steps_text-append setting w [] more = refl
+steps_text-append setting w (first ∷ steps) more =
     let v : World = run setting first.events w in
     let text : List ℕ = text_of setting w first.events in
-    ap (λ (t : List ℕ). text ++ t) (steps_text-push setting v steps step)
-    ∙ sym (append_assoc text (steps_text setting v steps) (steps_text setting (after_steps setting v steps) (step ∷ [])))
+    ap (λ (t : List ℕ). text ++ t) (steps_text-append setting v steps more)
+    ∙ sym (append_assoc text (steps_text setting v steps) (steps_text setting (after_steps setting v steps) more))

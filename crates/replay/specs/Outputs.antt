@@ -1,6 +1,6 @@
 -- What is printed for an input: the texts of its lines, and what closes them; or why it has no layout, or
 -- where it is no schedule.
-use Rattle.std.specs.Prelude.{ℕ, zero, suc, ◌+◌, Bool, true, false, nat_lt, List, [], ◌∷◌, ◌++◌, codes, count_by, Option, Some, None, Result, Ok, Err}
+use Rattle.std.specs.Prelude.{ℕ, zero, suc, ◌+◌, Bool, true, false, nat_lt, List, [], ◌∷◌, ◌++◌, length, drop, codes, count_by, Option, Some, None, Result, Ok, Err}
 use Rattle.std.specs.Fmt.{decimal}
 use Rattle.fab_base.specs.declared.answers.Answer.TheVariants.{Data, Done, Aborted}
 use Rattle.reg_model.specs.declared.marks.Mark.{Mark}
@@ -10,13 +10,13 @@ use Rattle.lines.specs.declared.forms.Line.{Line}
 use Rattle.lines.specs.Grammar.{line_of}
 use Rattle.fab_base.specs.Layouts.{Layout, Group, group_of}
 use Rattle.protocol.specs.Settings.{Setting}
-use Rattle.protocol.specs.Worlds.{World, Event, first_world, run}
+use Rattle.protocol.specs.Worlds.{World, first_world, run}
 use Rattle.protocol.specs.Happenings.{happenings_of}
 use Rattle.stripe_code.specs.Codes.{coding}
 use Rattle.layout.specs.declared.faults.LayoutFault.{LayoutFault}
 use Rattle.layout.specs.Names.{fault_text}
 use Rattle.layout.specs.Texts.{layout_of}
-use Rattle.world.specs.Runs.{Step}
+use Rattle.world.specs.Runs.{Step, all_events}
 use Rattle.replay.specs.declared.endings.Verdict.{Verdict}
 use Rattle.replay.specs.declared.endings.Verdict.TheVariants.{Whole, BadLayout, BadLine, TooManyLines}
 use Rattle.world.specs.Texts.{text_of, newline}
@@ -95,24 +95,19 @@ count_text lines marks =
 abbrev pub closing_text : Layout → World → ℕ → List ℕ
 closing_text layout w lines = groups_text layout w most_groups ++ count_text lines w.marks
 
--- the events of the first of some steps, and the steps behind it
-abbrev pub first_events : List Step → List Event
-first_events [] = []
-first_events (step ∷ steps) = step.events
-
-abbrev pub behind_first : List Step → List Step
-behind_first [] = []
-behind_first (step ∷ steps) = steps
+-- the world that steps leave over the disk of a layout
+abbrev pub left_by : Layout → List Step → World
+left_by layout steps = run (coding layout) (all_events steps) (first_world layout)
 
 -- the texts of steps, one after another
 abbrev pub steps_text : Setting → World → List Step → List ℕ
 steps_text setting w [] = []
 steps_text setting w (step ∷ steps) = text_of setting w step.events ++ steps_text setting (run setting step.events w) steps
 
--- what is printed, and how the input ends that
+-- what is printed, and how the input ends that; not yet, where a next line is left to be run
 pub record Output : Type 0 where
   pub text : List ℕ
-  pub verdict : Verdict
+  pub verdict : Option Verdict
 
 -- a text before the rest of an output
 abbrev pub onto : List ℕ → Output → Output
@@ -120,42 +115,63 @@ onto text output = record { text = text ++ output.text; verdict = output.verdict
 
 -- the output's end after this many lines
 abbrev pub finished : Layout → World → ℕ → Output
-finished layout w lines = record { text = closing_text layout w lines; verdict = Whole }
+finished layout w lines = record { text = closing_text layout w lines; verdict = Some Whole }
 
 -- the output's end at a line that is no line
 abbrev pub bad_line : ℕ → Output
-bad_line n = record { text = codes "bad line " ++ (decimal n ++ newline); verdict = BadLine n }
+bad_line n = record { text = codes "bad line " ++ (decimal n ++ newline); verdict = Some (BadLine n) }
 
 -- the output's end at a line too many
 abbrev pub too_many_lines : Output
-too_many_lines = record { text = codes "too many lines" ++ newline; verdict = TooManyLines }
+too_many_lines = record { text = codes "too many lines" ++ newline; verdict = Some TooManyLines }
 
--- a line of the schedule that is numbered n + 1: too many, or no line, or one that is run
-abbrev pub output_line : ℕ → Bool → Option Line → Output → Output
-output_line n false line ran = too_many_lines
-output_line n true None ran = bad_line (n + 1)
-output_line n true (Some line) ran = ran
+-- a line of the schedule that is numbered n + 1: too many, or no line, or one that is left to be run
+abbrev pub output_line : ℕ → Bool → Option Line → Output
+output_line n false line = too_many_lines
+output_line n true None = bad_line (n + 1)
+output_line n true (Some line) = record { text = []; verdict = None }
 
--- The rest of a schedule, from a world that n of its lines have left; each line is given without its line end. These are the steps of its lines:
--- what a line prints is the text of its step.
-unfoldable pub output_from : Layout → World → ℕ → List Step → List (List ℕ) → Output
-output_from layout w n steps [] = finished layout w n
-output_from layout w n steps (content ∷ contents) =
-    output_line n (nat_lt n most_lines) (line_of content)
-    (onto (text_of (coding layout) w (first_events steps))
-    (output_from layout (run (coding layout) (first_events steps) w) (n + 1) (behind_first steps) contents))
+-- What is printed behind the texts of the first n lines, which left this world, where these lines stand behind them; each is given
+-- without its line end.
+unfoldable pub output_behind : Layout → World → ℕ → List (List ℕ) → Output
+output_behind layout w n [] = finished layout w n
+output_behind layout w n (content ∷ contents) = output_line n (nat_lt n most_lines) (line_of content)
 
 -- the output of an input without a layout, and why it has none
 abbrev pub bad_layout : List ℕ → Output
-bad_layout why = record { text = codes "bad layout: " ++ (why ++ newline); verdict = BadLayout }
+bad_layout why = record { text = codes "bad layout: " ++ (why ++ newline); verdict = Some BadLayout }
 
--- what is printed for a layout and a schedule, of which these are the steps
+-- what is printed for a layout and a schedule where these steps were run: their texts, and what stands behind them
 abbrev pub output_with : Result Layout LayoutFault → List Step → List (List ℕ) → Output
 output_with (Err fault) steps schedule = bad_layout (fault_text fault)
-output_with (Ok layout) steps schedule = output_from layout (first_world layout) 0 steps schedule
+output_with (Ok layout) steps schedule =
+    onto (steps_text (coding layout) (first_world layout) steps)
+    (output_behind layout (left_by layout steps) (length steps) (drop (length steps) schedule))
 
--- what is printed for an input, of whose schedule these are the steps
+-- what is printed for an input, of whose schedule these steps were run
 unfoldable pub output_of : List Step → Input → Output
 output_of steps (Parted text schedule) = output_with (layout_of text) steps schedule
 output_of steps TooLong = bad_layout (codes "limit layout")
 output_of steps Endless = bad_layout (codes "end")
+
+-- how a line of the schedule that is numbered n + 1 ends the input, or what stands behind it does
+abbrev pub verdict_line : ℕ → Bool → Option Line → Verdict → Verdict
+verdict_line n false line behind = TooManyLines
+verdict_line n true None behind = BadLine (n + 1)
+verdict_line n true (Some line) behind = behind
+
+-- how the lines behind the first n end the input
+unfoldable pub verdict_behind : ℕ → List (List ℕ) → Verdict
+verdict_behind n [] = Whole
+verdict_behind n (content ∷ contents) = verdict_line n (nat_lt n most_lines) (line_of content) (verdict_behind (n + 1) contents)
+
+-- how a layout and a schedule end
+abbrev pub verdict_with : Result Layout LayoutFault → List (List ℕ) → Verdict
+verdict_with (Err fault) schedule = BadLayout
+verdict_with (Ok layout) schedule = verdict_behind 0 schedule
+
+-- how an input ends a run that nothing stops from outside
+unfoldable pub verdict_of : Input → Verdict
+verdict_of (Parted text schedule) = verdict_with (layout_of text) schedule
+verdict_of TooLong = BadLayout
+verdict_of Endless = BadLayout

@@ -11,21 +11,22 @@ use Rattle.lines.specs.Lines.{whole_lines, begun_line}
 use Rattle.lines.specs.Reading.{IsBegun}
 use Rattle.fab_base.specs.Layouts.{Layout, Group, group_of}
 use Rattle.protocol.specs.Views.{layout_views}
-use Rattle.protocol.specs.Worlds.{World, first_world, run}
+use Rattle.protocol.specs.Worlds.{World, first_world}
 use Rattle.protocol.specs.Happenings.{happenings_of}
 use Rattle.protocol_laws.specs.Laws.{AbortsShow, Laws}
 use Rattle.stripe_code.specs.Codes.{coding}
 use Rattle.layout.specs.Texts.{layout_of}
-use Rattle.world.specs.Runs.{Step, all_events}
+use Rattle.world.specs.Runs.{Step}
 use Rattle.world.specs.Texts.{newline}
 use Rattle.replay.specs.declared.endings.Verdict.{Verdict}
 use Rattle.replay.specs.declared.endings.Verdict.TheVariants.{Whole, BadLayout, BadLine, TooManyLines}
 use Rattle.replay.specs.declared.endings.Halt.{Halt}
 use Rattle.replay.specs.declared.endings.Halt.TheVariants.{Source, Sink, Memory}
 use Rattle.replay.specs.Inputs.{Input, Parted, TooLong, Endless, most_layout_bytes, input_of, IsInput}
-use Rattle.replay.specs.Outputs.{output_of, closing_text, steps_text, most_lines}
+use Rattle.replay.specs.Outputs.{left_by, output_of, verdict_of, closing_text, steps_text, most_lines}
+use Rattle.replay.specs.LineSteps.{AreStepsOf, BeginsWith, AreStepsIn}
 use Rattle.replay.specs.Printed.{Printed, printed_texts, printed_marks}
-use Rattle.replay.specs.Turns.{Prints, AreStepsOf}
+use Rattle.replay.specs.Turns.{Prints}
 use Rattle.replay.specs.Histories.{Succeeds}
 
 -- the words are the one word `run`
@@ -54,10 +55,6 @@ abbrev pub Refuses : Option (List ℕ) → Option (List ℕ) → ℕ → Type 0
 Refuses old new status =
     ((status ≡ 2) × Appends old new usage_text) ⊎ (((status ≡ 6) ⊎ (status ≡ 7)) × AppendsFront old new usage_text)
 
--- the world that steps leave over the disk of a layout
-abbrev pub left_by : Layout → List Step → World
-left_by layout steps = run (coding layout) (all_events steps) (first_world layout)
-
 -- What lines left is strict: the marks are well formed, the happenings of each stripe are strict for its
 -- marks, and every abort shows its evidence. Beside these all laws of the disk hold of it.
 pub record IsStrictWorld (layout : Layout) (world : World) : Type 0 where
@@ -85,15 +82,6 @@ pub record IsLinearizable (input : Input) (text : List ℕ) : Type 0 where
   pub steps_text_is : steps_text (coding layout) (first_world layout) steps ≡ printed_texts printed
   pub marks_are : printed_marks printed ≡ world.marks
   pub is_strict : IsStrictWorld layout world
-
--- these are steps of the first lines of an input's schedule, over its layout
-pub record BeginsWith (input : Input) (layout : Layout) (steps : List Step) : Type 0 where
-  pub head : List ℕ
-  pub schedule : List (List ℕ)
-  pub rest : List (List ℕ)
-  pub input_is : input ≡ Parted head (schedule ++ rest)
-  pub layout_is : layout_of head ≡ Ok layout
-  pub steps_are : AreStepsOf layout schedule steps
 
 -- However far a run comes, what its steps left by then is strict, and what further steps leave follows it: no
 -- brick takes anything below what it took nothing below, and no version that was lost has surfaced.
@@ -141,7 +129,8 @@ pub record FailedSource (source source_after sink sink_after : Option (List ℕ)
   pub printed : Appends sink sink_after text
 
 -- A run. There is an input, of which what the source tells is the bytes, and an end, of which the status
--- tells, and there are the steps that its lines were. The sink took the whole output of the input, which ends so, or, where the run was stopped from
+-- tells, and there are the steps that were run, those of the first lines of the input. The sink took the whole output of the input,
+-- the texts of these steps and what stands behind them, which ends so; or, where the run was stopped from
 -- outside, some of the output, from its front. The source was read no further than it took. Where it failed, the
 -- sink took the text of the lines that were whole. Where all was run, the source is at its end, and what was
 -- printed is strict; and however far it came, what its lines left is strict, and what further lines leave
@@ -152,6 +141,7 @@ pub record RunEnds (source source_after : Option (List ℕ)) (came : ℕ) (sink 
   pub ending : Result Verdict Halt
   pub is_input : IsInput source input
   pub status_is : status ≡ status_of ending
+  pub steps_are : AreStepsIn input steps ending
   pub printed : Prints sink sink_after (output_of steps input) ending
   pub reads_as_needed : ReadsAsNeeded source source_after came
   pub failed_source : ending ≡ Err Source → FailedSource source source_after sink sink_after
@@ -159,7 +149,7 @@ pub record RunEnds (source source_after : Option (List ℕ)) (came : ℕ) (sink 
   pub linearizable : ending ≡ Ok Whole → IsLinearizable input (output_of steps input).text
   pub stays_strict : StaysStrict input
 
--- the status is the one that the input alone calls for, whatever the steps of its lines are, or memory was lacking
+-- the status is the one that the input alone calls for, or memory was lacking
 abbrev pub IsDecided : Option (List ℕ) → ℕ → Type 0
 IsDecided None status = ⊤
-IsDecided (Some bytes) status = (status ≡ status_of (Ok (output_of [] (input_of bytes)).verdict)) ⊎ (status ≡ 7)
+IsDecided (Some bytes) status = (status ≡ status_of (Ok (verdict_of (input_of bytes)))) ⊎ (status ≡ 7)

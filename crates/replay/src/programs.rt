@@ -34,6 +34,9 @@ use std::alloc::Global;
 /// for its marks, `IsStrict` (`specs/Strict.antt` of `reg_model`). The schedules that are accepted are those
 /// that end with status 0.
 ///
+/// At every status the steps that were run are those of the first lines of the input (`AreStepsIn`, `specs/LineSteps.antt`), and
+/// what is printed is their texts and then what the lines behind them end it with.
+///
 /// What comes first in the input decides: no read is made once what was read holds a line that is none, a line past
 /// 70,000 bytes, a layout that is none, or a line too many (`ReadsAsNeeded` and `FailedSource`, `specs/Replays.antt`).
 ///

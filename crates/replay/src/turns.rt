@@ -60,7 +60,7 @@ pub(crate) fn write<K: Sink>(sink: &mut K, text: &[u8]) -> Result<(), Halt>
 
 /// Writes what closes the output of a run that ends so.
 pub(crate) fn close<K: Sink>(sink: &mut K, text: &[u8], verdict: Verdict) -> Result<Verdict, Halt>
-    ensures content { Prints (K.told sink.old) (K.told sink.new) (record { text = text.now; verdict = verdict }) result }
+    ensures content { Prints (K.told sink.old) (K.told sink.new) (record { text = text.now; verdict = Some verdict }) result }
     ensures kept { Kept (K.faults sink.old) (K.faults sink.new) (K.sound sink.old) (K.sound sink.new)
         (result ≡ Err Halt.Sink) }
     ensures cause { result ≢ Err Halt.Source }

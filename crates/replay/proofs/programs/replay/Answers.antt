@@ -20,13 +20,14 @@ returns-then-is_run-clause-run g c = λ _.
       ending = c.run.result;
       is_input = run.is_input;
       status_is = c.status_of.ensures;
+      steps_are = run.steps_are;
       printed = run.printed;
       reads_as_needed = reads_as_needed _ _ _ _ _ _ _ c.run.ensures.reads;
       failed_source = λ failed. failed_source _ _ _ _ _ _ _ c.run.ensures.reads failed;
       read = c.run.ensures.read;
-      linearizable = λ whole. linearizable run.input run.steps
+      linearizable = λ whole. linearizable run.input run.steps c.run.result whole run.steps_are
           (subst (λ (r : Result Verdict Halt). Prints (g.K.Sink.told c.args.sink.now) (g.K.Sink.told c.run.new.sink)
-          (output_of run.steps run.input) r) whole run.printed).0 (run.whole whole);
+          (output_of run.steps run.input) r) whole run.printed).0;
       stays_strict = stays_strict run.input;
     }
 
@@ -34,7 +35,7 @@ pub returns-then-is_run-clause-decided : goal.returns-then-is_run-clause-decided
 returns-then-is_run-clause-decided g c = λ asks source sink.
     let run = c.run.ensures.output in
     subst (λ (s : ℕ). IsDecided (g.S.Source.told c.args.source.now) s) (sym c.status_of.ensures)
-    (decided _ _ _ run.input run.steps c.run.result run.is_input run.printed (λ e. c.run.ensures.source.never source e)
+    (decided _ _ _ run.input run.steps c.run.result run.is_input run.steps_are run.printed (λ e. c.run.ensures.source.never source e)
     (λ e. c.run.ensures.sink.never sink e))
 
 pub returns-in-Ok-clause-words : goal.returns-in-Ok-clause-words

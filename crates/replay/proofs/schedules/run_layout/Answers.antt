@@ -1,11 +1,12 @@
-use Rattle.std.proofs.Common.{◌≡◌, true, false, [], Err, refl, sym, ◌∙◌}
+use Rattle.std.proofs.Common.{◌≡◌, true, false, [], Err, refl, sym, ◌∙◌, arith}
 use Rattle.std.proofs.lemmas.Result.{err_from_is_err_and}
 use Rattle.replay.proofs.OpenEnds.{ReadsPart-none, ReadsPart-schedule}
 use Rattle.replay.proofs.Rests.{PrintsRest-ended}
 use Rattle.layout.specs.Names.{fault_text}
 use Rattle.replay.specs.Turns.{PrintsHeaded}
 use Rattle.replay.proofs.Printing.{at_err, same_error, memory_alone}
-use Rattle.replay.proofs.Inputs.{output_of-text, PrintsHeaded-stopped, PrintsHeaded-refused, PrintsHeaded-lines}
+use Rattle.replay.proofs.OutputLines.{output_of-text}
+use Rattle.replay.proofs.Inputs.{PrintsHeaded-stopped, PrintsHeaded-refused, PrintsHeaded-lines}
 use Rattle.replay.proofs.schedules.run_layout.Goals as goal
 
 pub returns-in_err-world-in-Ok-clause-output : goal.returns-in_err-world-in-Ok-clause-output
@@ -28,7 +29,7 @@ returns-else-is_memory-clause-output g c =
 pub returns-then-is_alone-clause-output : goal.returns-then-is_alone-clause-output
 returns-then-is_alone-clause-output g c =
     PrintsHeaded-lines _ _ _ _ _ _ _ c.in-Ok.ensures.read c.in_ok-world-in-Ok.ensures.first c.in_ok-world-in-Ok.ensures.disks
-    (PrintsRest-ended _ _ _ _ _ _ (c.requires c.if-is_alone.true) c.finish.ensures.content)
+    (PrintsRest-ended _ _ _ _ _ _ (omega arith) (c.requires c.if-is_alone.true) c.finish.ensures.content)
 
 pub returns-in_err-world-in-Ok-clause-reads : goal.returns-in_err-world-in-Ok-clause-reads
 returns-in_err-world-in-Ok-clause-reads g c =

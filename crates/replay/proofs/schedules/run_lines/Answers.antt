@@ -28,7 +28,7 @@ returns-in_err-piece-clause-rest g c =
     at_err c.from_residual.result (PrintsRest c.args.world.now 0 (prepend_known c.args.unread.now (g.S.Source.told c.args.source.now)) (g.K.Sink.told c.args.sink.now)
     (g.K.Sink.told c.loop-count.sink))
     (λ halt. HasRun-rest _ _ _ _ _ _ _ _ _ _ _ _ (Err halt) c.loop-count.invariant.ran
-    (PrintsRest-stopped c.loop-count.world c.loop-count.count left (g.K.Sink.told c.loop-count.sink) halt))
+    (PrintsRest-stopped c.loop-count.world c.loop-count.count left (g.K.Sink.told c.loop-count.sink) halt (omega (arith, c.loop-count-test.true))))
     c.from_residual.ensures.0
 
 pub returns-in_err-piece-clause-reads : goal.returns-in_err-piece-clause-reads
@@ -68,10 +68,11 @@ returns-in-Some-clause-read g c = λ whole.
 pub returns-in_err-more-clause-rest : goal.returns-in_err-more-clause-rest
 returns-in_err-more-clause-rest g c =
     let left = prepend_known c.loop-count.unread (g.S.Source.told c.loop-count.source) in
+    let all : most_lines ≡ c.loop-count.count = omega arith in
     at_err c.from_residual-in_err-more.result (PrintsRest c.args.world.now 0 (prepend_known c.args.unread.now (g.S.Source.told c.args.source.now)) (g.K.Sink.told c.args.sink.now)
     (g.K.Sink.told c.loop-count.sink))
     (λ halt. HasRun-rest _ _ _ _ _ _ _ _ _ _ _ _ (Err halt) c.loop-count.invariant.ran
-    (PrintsRest-stopped c.loop-count.world c.loop-count.count left (g.K.Sink.told c.loop-count.sink) halt))
+    (PrintsRest-stopped c.loop-count.world c.loop-count.count left (g.K.Sink.told c.loop-count.sink) halt (omega (arith, all))))
     c.from_residual-in_err-more.ensures.0
 
 pub returns-in_err-more-clause-reads : goal.returns-in_err-more-clause-reads

@@ -1,7 +1,8 @@
-use Rattle.std.proofs.Common.{List, ℕ, Ok, Err, sym, ap, ◌∙◌, subst}
+use Rattle.std.proofs.Common.{◌⊎◌, List, ℕ, Ok, Err, sym, ap, ◌∙◌, subst}
+use Rattle.std.specs.Io.KnownBytes.{Keeps}
 use Rattle.lines.specs.Grammar.{line_of}
 use Rattle.lines.specs.Lines.{content}
-use Rattle.replay.specs.Turns.{LineTurnMeans, LineStops}
+use Rattle.replay.specs.Turns.{LineTurnMeans, LineBegins}
 use Rattle.replay.proofs.Printing.{at_err}
 use Rattle.replay.proofs.Rests.{line-bad, line-front}
 use Rattle.replay.proofs.turns.run_or_refuse.Goals as goal
@@ -11,9 +12,9 @@ returns-in_err-run_line-clause-means g c =
     let w = c.args.world.now in
     let old = g.K.Sink.told c.args.sink.now in
     let new = g.K.Sink.told c.run_line.new.sink in
-    let stops = subst (λ (l : List ℕ). LineStops w l old new) c.content_of.ensures c.in_err-run_line.ensures.content in
+    let stops = subst (λ (l : List ℕ). Keeps old new ⊎ LineBegins w c.run_line.new.world l old new) c.content_of.ensures c.in_err-run_line.ensures.content in
     at_err c.from_residual.result (LineTurnMeans w c.run_line.new.world c.args.count (content c.args.line.now) old new)
-    (λ halt. line-front w c.args.count old new (content c.args.line.now) halt c.requires stops) c.from_residual.ensures.0
+    (λ halt. line-front w c.run_line.new.world c.args.count old new (content c.args.line.now) halt c.requires stops) c.from_residual.ensures.0
 
 pub returns-in_err-refuse_line-clause-means : goal.returns-in_err-refuse_line-clause-means
 returns-in_err-refuse_line-clause-means g c =
