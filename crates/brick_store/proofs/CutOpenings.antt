@@ -36,17 +36,17 @@ run_clock {plan = plan} {calls = calls} {old = old} run told free is =
 
 module _ {D : Type 0} (seen certain : D → List ℕ) (may_leave : D → List ℕ → Type 0) (moment : D → ℕ) (left_since : D → ℕ → List ℕ → Type 0) where
   -- the disk was left alone, and then its sync failed
-  pub sync_cut : (certain_is_left : (disk : D) → may_leave disk (certain disk)) (calls : ℕ) (old : Held D) (mid new : D) (st : StateOf Entry)
+  pub sync_cut : (calls : ℕ) (old : Held D) (mid new : D) (st : StateOf Entry)
       → Shows seen old → old.closed ≡ true → folded (limits_of old.shape) (records_of old.frames) empty ≡ st
       → IsUntouched seen may_leave moment left_since old.disk mid → seen new ≡ seen mid
-      → ((image : List ℕ) → may_leave new image → may_leave mid image) → moment new ≤ moment mid + calls
-      → StopsReadying seen certain may_leave moment calls old.disk new (IsKeptIn old.shape st (seen old.disk))
-  sync_cut certain_is_left calls old mid new st shows closed is untouched content crash clock =
+      → certain mid ≡ certain old.disk → certain new ≡ certain mid → moment new ≤ moment mid + calls
+      → StopsReadying seen certain moment calls old.disk new (IsKeptIn old.shape st (seen old.disk))
+  sync_cut calls old mid new st shows closed is untouched content first second clock =
       let same : seen new ≡ seen old.disk = content ∙ untouched.content in
       let opens : OpensAs old.shape old.frames true (seen old.disk) = subst (λ b. OpensAs old.shape old.frames b (seen old.disk)) closed shows.opens in
       record {
         clock = omega (arith, clock, untouched.clock);
-        settled = inl (untouched.crash (certain new) (crash (certain new) (certain_is_left new)));
+        settled = inl (second ∙ first);
         same = record {
           frames = old.frames;
           opens = subst (λ (x : List ℕ). OpensAs old.shape old.frames true x) (sym same) opens;
@@ -62,7 +62,7 @@ module _ {D : Type 0} (seen certain : D → List ℕ) (may_leave : D → List �
       → Leads (limits_of old.shape) after empty st
       → StopsEarly seen certain moment 7 held.disk new (IsBefore held.shape held.frames None (seen held.disk))
       (IsAfter held.shape after None (seen held.disk))
-      → StopsReadying seen certain may_leave moment 8 old.disk new (IsKeptIn old.shape st (seen old.disk))
+      → StopsReadying seen certain moment 8 old.disk new (IsKeptIn old.shape st (seen old.disk))
   rewrite_cut old held mid new after st untouched content clock shape frames is leads stops =
       let found : folded (limits_of held.shape) (records_of held.frames) empty ≡ st =
       subst (λ (s : Shape). folded (limits_of s) (records_of held.frames) empty ≡ st) (sym shape)
@@ -83,8 +83,8 @@ module _ {D : Type 0} (seen certain : D → List ℕ) (may_leave : D → List �
       }
 
   -- the opening was cut short before its count
-  pub readying_cut : (first : ℕ) (old new : D) (P Q : List ℕ → Type 0) → StopsReadying seen certain may_leave moment first old new P
-      → StopsOpening seen certain may_leave moment (first + 4) old new P Q
+  pub readying_cut : (first : ℕ) (old new : D) (P Q : List ℕ → Type 0) → StopsReadying seen certain moment first old new P
+      → StopsOpening seen certain moment (first + 4) old new P Q
   readying_cut first old new P Q stops = record {
     clock = omega (arith, stops.clock);
     settled = stops.settled;
@@ -99,7 +99,7 @@ module _ {D : Type 0} (seen certain : D → List ℕ) (may_leave : D → List �
   pub count_cut : (first : ℕ) (shape : Shape) (st next : StateOf Entry) (old mid new : D) → moment mid ≡ moment old + first
       → KeepsSlots shape None (seen old) (seen mid)
       → StopsEarly seen certain moment 4 mid new (IsUnchanged shape None st (seen mid)) (IsChanged shape None next (seen mid))
-      → StopsOpening seen certain may_leave moment (first + 4) old new (IsKeptIn shape st (seen old)) (IsKeptIn shape next (seen old))
+      → StopsOpening seen certain moment (first + 4) old new (IsKeptIn shape st (seen old)) (IsKeptIn shape next (seen old))
   count_cut first shape st next old mid new clock slots stops =
       let before = λ (image : List ℕ) (at : IsUnchanged shape None st (seen mid) image).
       kept_leads shape st (seen old) (seen mid) image slots at.slots at.opens in
@@ -113,11 +113,12 @@ module _ {D : Type 0} (seen certain : D → List ℕ) (may_leave : D → List �
 
   -- reading comes first
   pub read_first : (calls : ℕ) (old mid new : D) (Q R : List ℕ → List ℕ → Type 0) → IsUntouched seen may_leave moment left_since old mid
-      → StopsOpening seen certain may_leave moment calls mid new (Q (seen mid)) (R (seen mid))
-      → StopsOpening seen certain may_leave moment calls old new (Q (seen old)) (R (seen old))
-  read_first calls old mid new Q R untouched stops = record {
+      → certain mid ≡ certain old
+      → StopsOpening seen certain moment calls mid new (Q (seen mid)) (R (seen mid))
+      → StopsOpening seen certain moment calls old new (Q (seen old)) (R (seen old))
+  read_first calls old mid new Q R untouched same stops = record {
     clock = omega (arith, stops.clock, untouched.clock);
-    settled = ⊎_elim (λ had. inl (untouched.crash (certain new) had))
+    settled = ⊎_elim (λ had. inl (had ∙ same))
         (λ now. inr (subst (λ (c : List ℕ). Q c (certain new)) untouched.content now)) stops.settled;
     early = λ at. subst (λ (c : List ℕ). Q c (seen new)) untouched.content (stops.early (omega (arith, at, untouched.clock)));
     late = λ at. subst (λ (c : List ℕ). R c (seen new)) untouched.content (stops.late (omega (arith, at, untouched.clock)));
@@ -125,18 +126,18 @@ module _ {D : Type 0} (seen certain : D → List ℕ) (may_leave : D → List �
 
   -- in the words of what the disk stood for
   pub opening_cut : (calls : ℕ) (disk new : D) (held : Held D) → Shows seen held → IsUntouched seen may_leave moment left_since disk held.disk
-      → (held.closed ≡ true → StopsOpening seen certain may_leave moment calls held.disk new
+      → certain held.disk ≡ certain disk
+      → (held.closed ≡ true → StopsOpening seen certain moment calls held.disk new
       (IsKeptIn held.shape (found_in held.shape held.frames) (seen held.disk))
       (IsKeptIn held.shape (booted ((found_in held.shape held.frames).boot + 1) (found_in held.shape held.frames)) (seen held.disk)))
       → (st : StateOf Version) → StandsFor held.shape st (seen disk)
-      → StopsOpening seen certain may_leave moment calls disk new (StandsFor held.shape st) (StandsFor held.shape (booted (st.boot + 1) st))
-  opening_cut calls disk new held shows untouched run st stands =
+      → StopsOpening seen certain moment calls disk new (StandsFor held.shape st) (StandsFor held.shape (booted (st.boot + 1) st))
+  opening_cut calls disk new held shows untouched same run st stands =
       let here : StandsFor held.shape st (seen held.disk) = subst (λ (x : List ℕ). StandsFor held.shape st x) (sym untouched.content) stands in
       let stops = run (closed_there seen held shows st here) in
       record {
         clock = omega (arith, stops.clock, untouched.clock);
-        settled = ⊎_elim (λ had. inl (untouched.crash (certain new) had)) (λ now. inr (before_stands seen held shows st here (certain new) now))
-            stops.settled;
+        settled = ⊎_elim (λ had. inl (had ∙ same)) (λ now. inr (before_stands seen held shows st here (certain new) now)) stops.settled;
         early = λ at. before_stands seen held shows st here (seen new) (stops.early (omega (arith, at, untouched.clock)));
         late = λ at. after_stands seen held shows st here (seen new) (stops.late (omega (arith, at, untouched.clock)));
       }

@@ -70,20 +70,19 @@ pub record IsKeptIn (shape : Shape) (st : StateOf Entry) (content image : List �
 abbrev pub IsAllowedOr : (List ℕ → Type 0) → (List ℕ → Type 0) → List ℕ → Type 0
 IsAllowedOr allowed P image = allowed image ⊎ P image
 
--- An opening of so many calls was cut short: what the last sync left is what the disk allowed before, or the store as it was. What a read gives is
--- the store as it was, until the last call but one was made, and from then on the store with the opening counted.
-pub record StopsOpening {D : Type 0} (seen certain : D → List ℕ) (may_leave : D → List ℕ → Type 0) (moment : D → ℕ) (calls : ℕ) (old new : D)
-    (Before After : List ℕ → Type 0) : Type 0 where
+-- An opening of so many calls was cut short: what the last sync left is as it was, where that was one before the opening, or it is the store that was
+-- found. What a read gives is that store until the last call but one was made, and from then on the store with the opening counted.
+pub record StopsOpening {D : Type 0} (seen certain : D → List ℕ) (moment : D → ℕ) (calls : ℕ) (old new : D) (Before After : List ℕ → Type 0)
+    : Type 0 where
   pub clock : moment new ≤ moment old + calls
-  pub settled : IsAllowedOr (may_leave old) Before (certain new)
+  pub settled : (certain new ≡ certain old) ⊎ Before (certain new)
   pub early : moment new + 2 ≤ moment old + calls → Before (seen new)
   pub late : moment old + calls < moment new + 2 → After (seen new)
 
 -- The list was being made ready for the count, by so many calls, when that was cut short.
-pub record StopsReadying {D : Type 0} (seen certain : D → List ℕ) (may_leave : D → List ℕ → Type 0) (moment : D → ℕ) (calls : ℕ) (old new : D)
-    (Before : List ℕ → Type 0) : Type 0 where
+pub record StopsReadying {D : Type 0} (seen certain : D → List ℕ) (moment : D → ℕ) (calls : ℕ) (old new : D) (Before : List ℕ → Type 0) : Type 0 where
   pub clock : moment new ≤ moment old + calls
-  pub settled : IsAllowedOr (may_leave old) Before (certain new)
+  pub settled : (certain new ≡ certain old) ⊎ Before (certain new)
   pub same : Before (seen new)
 
 -- What an opening read: the index is what is made of the frames, and the blocks of its versions are in memory.

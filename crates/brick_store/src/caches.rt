@@ -31,6 +31,7 @@ fn read_block<D: Disk>(
     ensures bytes { D.tells → IfOk result (λ bytes. bytes ≡ block_in frames.old.shape slot (D.seen frames.old.disk)) }
     ensures same { IsSame frames.old frames.new }
     ensures untouched { IsUntouched D.seen D.may_leave D.moment D.left_since frames.old.disk frames.new.disk }
+    ensures certain { D.certain frames.new.disk ≡ D.certain frames.old.disk }
     ensures still_runs { IsOk result → frames.new.halted ≡ false }
     ensures no_slot { result ≡ Err StoreFault.NotAStore → HasSlot frames.old.shape frames.old.size slot → ⊥ }
     ensures not_halted { result ≢ Err StoreFault.Halted }
@@ -64,6 +65,7 @@ fn hold_block<D: Disk>(
         → AreRead D.tells frames.old.shape frames.old.size (D.seen frames.old.disk) blocks.new) }
     ensures same { IsSame frames.old frames.new }
     ensures untouched { IsUntouched D.seen D.may_leave D.moment D.left_since frames.old.disk frames.new.disk }
+    ensures certain { D.certain frames.new.disk ≡ D.certain frames.old.disk }
     ensures still_runs { IsOk result → frames.new.halted ≡ false }
     ensures no_slot { result ≡ Err StoreFault.NotAStore → IsInside frames.old.shape frames.old.size slot → ⊥ }
     ensures not_halted { result ≢ Err StoreFault.Halted }
@@ -94,6 +96,7 @@ pub(crate) fn read_blocks<D: Disk>(
     ensures read { IfOk result (λ blocks. AreRead D.tells frames.old.shape frames.old.size (D.seen frames.old.disk) blocks) }
     ensures same { IsSame frames.old frames.new }
     ensures untouched { IsUntouched D.seen D.may_leave D.moment D.left_since frames.old.disk frames.new.disk }
+    ensures certain { D.certain frames.new.disk ≡ D.certain frames.old.disk }
     ensures still_runs { IsOk result → frames.new.halted ≡ false }
     ensures no_slot { result ≡ Err StoreFault.NotAStore → AllByRecursion (IsInside frames.old.shape frames.old.size) slots.now → ⊥ }
     ensures not_halted { result ≢ Err StoreFault.Halted }

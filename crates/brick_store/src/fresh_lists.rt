@@ -53,7 +53,7 @@ fn renew<D: Disk>(
     ensures fits { OnOk result (Fits frames.new.shape frames.new.frames body) }
     ensures room { OnOk result (HasAppendRoom D.has_room frames.new body) }
     ensures cut { D.tells → D.unlisted frames.old.disk → frames.old.closed ≡ true → result ≡ Err StoreFault.Disk
-        → StopsReadying D.seen D.certain D.may_leave D.moment 8 frames.old.disk frames.new.disk
+        → StopsReadying D.seen D.certain D.moment 8 frames.old.disk frames.new.disk
         (IsKeptIn frames.old.shape (state_of index.now) (D.seen frames.old.disk)) }
     ensures run { IsRun D.tells D.moment D.plan D.unlisted 8 frames.old.disk frames.new.disk (IsOk result) (result ≡ Err StoreFault.Disk) }
     ensures cause { Kept (D.faults frames.old.disk) (D.faults frames.new.disk) (D.sound frames.old.disk) (D.sound frames.new.disk)
@@ -105,7 +105,7 @@ pub fn make_appendable<D: Disk>(
     ensures fits { OnOk result (Fits frames.new.shape frames.new.frames body) }
     ensures room { OnOk result (HasAppendRoom D.has_room frames.new body) }
     ensures cut { D.tells → D.unlisted frames.old.disk → frames.old.closed ≡ true → result ≡ Err StoreFault.Disk
-        → StopsReadying D.seen D.certain D.may_leave D.moment (if is_appendable whole frames.old body then 1 else 8) frames.old.disk frames.new.disk
+        → StopsReadying D.seen D.certain D.moment (if is_appendable whole frames.old body then 1 else 8) frames.old.disk frames.new.disk
         (IsKeptIn frames.old.shape (state_of index.now) (D.seen frames.old.disk)) }
     ensures run { IsRun D.tells D.moment D.plan D.unlisted (if is_appendable whole frames.old body then 1 else 8) frames.old.disk frames.new.disk
         (IsOk result) (result ≡ Err StoreFault.Disk) }

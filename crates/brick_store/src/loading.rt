@@ -44,6 +44,7 @@ pub(crate) fn load<D: Disk>(
         (indexes.limits_of made.folded.index) (state_of made.folded.index) made.folded.whole made.blocks) }
     ensures same { IsSame frames.old frames.new }
     ensures untouched { IsUntouched D.seen D.may_leave D.moment D.left_since frames.old.disk frames.new.disk }
+    ensures certain { D.certain frames.new.disk ≡ D.certain frames.old.disk }
     ensures still_runs { IsOk result → frames.new.halted ≡ false }
     ensures worn { result ≡ Err StoreFault.Worn → (folded (limits_of frames.old.shape) (records_of frames.old.frames) empty).boot ≡ 2 ^ 32 - 1 }
     ensures not_halted { result ≢ Err StoreFault.Halted }

@@ -69,7 +69,7 @@ pub fn open_store<D: Disk>(
     ensures cut { IfErr result (λ e. e.0 ≡ StoreFault.Disk → D.tells → D.unlisted disk → (frames : List Frame) (closed : Bool)
         → OpensAs (shape_of me.0 block records) frames closed (D.seen disk)
         → (st : StateOf Version) → StandsFor (shape_of me.0 block records) st (D.seen disk)
-        → StopsOpening D.seen D.certain D.may_leave D.moment (opening_calls (opens_appendable (shape_of me.0 block records) frames closed)) disk e.1
+        → StopsOpening D.seen D.certain D.moment (opening_calls (opens_appendable (shape_of me.0 block records) frames closed)) disk e.1
         (StandsFor (shape_of me.0 block records) st) (StandsFor (shape_of me.0 block records) (booted (st.boot + 1) st))) }
     ensures not_a_store { IfErr result (λ e. e.0 ≡ StoreFault.NotAStore → D.tells → IsNoStore (shape_of me.0 block records) (D.seen disk)) }
     // There was a store, and it was opened as often as it can be.

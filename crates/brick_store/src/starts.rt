@@ -91,7 +91,7 @@ pub fn start<D: Disk>(
     ensures only { OnErr result ((result ≡ Err StoreFault.Disk) ⊎ (result ≡ Err StoreFault.NoMemory)) }
     ensures no_memory { result ≡ Err StoreFault.NoMemory → IsUntouched D.seen D.may_leave D.moment D.left_since frames.old.disk frames.new.disk }
     ensures cut { D.tells → D.unlisted frames.old.disk → frames.old.closed ≡ true → result ≡ Err StoreFault.Disk
-        → StopsOpening D.seen D.certain D.may_leave D.moment (opening_calls (is_appendable whole frames.old 4)) frames.old.disk frames.new.disk
+        → StopsOpening D.seen D.certain D.moment (opening_calls (is_appendable whole frames.old 4)) frames.old.disk frames.new.disk
         (IsKeptIn frames.old.shape (state_of index.old) (D.seen frames.old.disk))
         (IsKeptIn frames.old.shape (booted ((state_of index.old).boot + 1) (state_of index.old)) (D.seen frames.old.disk)) }
     ensures run { IsRun D.tells D.moment D.plan D.unlisted (opening_calls (is_appendable whole frames.old 4)) frames.old.disk frames.new.disk

@@ -63,7 +63,7 @@ pub(crate) fn take_up<D: Disk>(
     // An opening that was cut short is one of a store that was not worn.
     ensures counted { D.unlisted frames.old.disk → result ≡ Err StoreFault.Disk → (found_in frames.old.shape frames.old.frames).boot < 2 ^ 32 - 1 }
     ensures cut { D.tells → D.unlisted frames.old.disk → frames.old.closed ≡ true → result ≡ Err StoreFault.Disk
-        → StopsOpening D.seen D.certain D.may_leave D.moment
+        → StopsOpening D.seen D.certain D.moment
         (opening_calls (is_appendable (is_whole (limits_of frames.old.shape) frames.old.frames empty) frames.old 4)) frames.old.disk frames.new.disk
         (IsKeptIn frames.old.shape (found_in frames.old.shape frames.old.frames) (D.seen frames.old.disk))
         (IsKeptIn frames.old.shape (booted ((found_in frames.old.shape frames.old.frames).boot + 1) (found_in frames.old.shape frames.old.frames))

@@ -21,6 +21,7 @@ use std::alloc::Global;
 fn len<D: Disk>(disk: &mut D) -> Result<u64, FrameFault>
     ensures length { D.tells → IfOk result (λ n. n ≡ length (D.seen disk.old)) }
     ensures untouched { IsUntouched D.seen D.may_leave D.moment D.left_since disk.old disk.new }
+    ensures certain { D.certain disk.new ≡ D.certain disk.old }
     ensures plan { KeepsPlan D.plan D.unlisted disk.old disk.new (result ≡ Err FrameFault.Disk) }
     ensures cause { Kept (D.faults disk.old) (D.faults disk.new) (D.sound disk.old) (D.sound disk.new) (result ≡ Err FrameFault.Disk) }
     ensures only { IfErr result (λ e. (e ≡ FrameFault.Disk) ⊎ (e ≡ FrameFault.NoMemory)) }
@@ -38,6 +39,7 @@ fn read<D: Disk>(disk: &mut D, at: u64, into: &mut [u8]) -> Result<(), FrameFaul
     requires reach { at + length into.old ≤ 2 ^ 48 }
     ensures bytes { D.tells → OnOk result (into.new ≡ slice_range (D.seen disk.old) at (at + length into.old)) }
     ensures untouched { IsUntouched D.seen D.may_leave D.moment D.left_since disk.old disk.new }
+    ensures certain { D.certain disk.new ≡ D.certain disk.old }
     ensures plan { KeepsPlan D.plan D.unlisted disk.old disk.new (result ≡ Err FrameFault.Disk) }
     ensures cause { Kept (D.faults disk.old) (D.faults disk.new) (D.sound disk.old) (D.sound disk.new) (result ≡ Err FrameFault.Disk) }
     ensures only { IfErr result (λ e. (e ≡ FrameFault.Disk) ⊎ (e ≡ FrameFault.NoMemory)) }
@@ -168,6 +170,7 @@ fn read_headers<D: Disk>(disk: &mut D) -> Result<[u8; 64], FrameFault>
     requires whole { D.tells → 64 ≤ length (D.seen disk.old) }
     ensures bytes { D.tells → IfOk result (λ headers. headers ≡ slice_range (D.seen disk.old) 0 64) }
     ensures untouched { IsUntouched D.seen D.may_leave D.moment D.left_since disk.old disk.new }
+    ensures certain { D.certain disk.new ≡ D.certain disk.old }
     ensures plan { KeepsPlan D.plan D.unlisted disk.old disk.new (result ≡ Err FrameFault.Disk) }
     ensures cause { Kept (D.faults disk.old) (D.faults disk.new) (D.sound disk.old) (D.sound disk.new) (result ≡ Err FrameFault.Disk) }
     ensures only { IfErr result (λ e. (e ≡ FrameFault.Disk) ⊎ (e ≡ FrameFault.NoMemory)) }
@@ -190,6 +193,7 @@ fn read_half<D: Disk>(
     ensures bytes { D.tells → IfOk result (λ bytes. bytes.items ≡ half_bytes shape half (D.seen disk.old)) }
     ensures length { IfOk result (λ bytes. length bytes.items ≡ min (half_size shape) (size - half_at shape half)) }
     ensures untouched { IsUntouched D.seen D.may_leave D.moment D.left_since disk.old disk.new }
+    ensures certain { D.certain disk.new ≡ D.certain disk.old }
     ensures plan { KeepsPlan D.plan D.unlisted disk.old disk.new (result ≡ Err FrameFault.Disk) }
     ensures cause { Kept (D.faults disk.old) (D.faults disk.new) (D.sound disk.old) (D.sound disk.new) (result ≡ Err FrameFault.Disk) }
     ensures only { IfErr result (λ e. (e ≡ FrameFault.Disk) ⊎ (e ≡ FrameFault.NoMemory)) }
@@ -215,6 +219,7 @@ pub(crate) fn read_store<D: Disk>(
     ensures none { D.tells → result ≡ Err FrameFault.NotAStore → IsNoStore shape (D.seen disk.old) }
     ensures not_halted { result ≢ Err FrameFault.Halted }
     ensures untouched { IsUntouched D.seen D.may_leave D.moment D.left_since disk.old disk.new }
+    ensures certain { D.certain disk.new ≡ D.certain disk.old }
     ensures plan { KeepsPlan D.plan D.unlisted disk.old disk.new (result ≡ Err FrameFault.Disk) }
     ensures cause { Kept (D.faults disk.old) (D.faults disk.new) (D.sound disk.old) (D.sound disk.new) (result ≡ Err FrameFault.Disk) }
 {

@@ -107,6 +107,7 @@ pub(crate) fn make_room<D: Disk>(
     ensures listed { listed.new.items ≡ listed.old.items }
     ensures only { IsOkUnless result FrameFault.NoMemory }
     ensures untouched { IsUntouched D.seen D.may_leave D.moment D.left_since disk.old disk.new }
+    ensures certain { D.certain disk.new ≡ D.certain disk.old }
     ensures plan { KeepsPlan D.plan D.unlisted disk.old disk.new (result ≡ Err FrameFault.Disk) }
     ensures cause { Kept (D.faults disk.old) (D.faults disk.new) (D.sound disk.old) (D.sound disk.new) (result ≡ Err FrameFault.Disk) }
 {

@@ -20,6 +20,7 @@ pub(crate) fn reserve<D: Disk>(
     ensures enough { D.has_room disk.old calls bytes end → IsOk result }
     ensures only { IsOkUnless result FrameFault.NoMemory }
     ensures untouched { IsUntouched D.seen D.may_leave D.moment D.left_since disk.old disk.new }
+    ensures certain { D.certain disk.new ≡ D.certain disk.old }
     ensures room { KeepsRoom (D.has_room disk.old) (D.has_room disk.new) }
     ensures plan { KeepsPlan D.plan D.unlisted disk.old disk.new ⊥ }
     ensures cause { Kept (D.faults disk.old) (D.faults disk.new) (D.sound disk.old) (D.sound disk.new) ⊥ }

@@ -111,6 +111,8 @@ pub fn open_store<D: Disk>(
     ensures read { IfOk result (λ store. IsRead D.tells D.seen store) }
     ensures untouched { IfOk result (λ store. IsUntouched D.seen D.may_leave D.moment D.left_since disk store.disk) }
     ensures untouched_err { IfErr result (λ e. IsUntouched D.seen D.may_leave D.moment D.left_since disk e.1) }
+    ensures certain { IfOk result (λ store. D.certain store.disk ≡ D.certain disk) }
+    ensures certain_err { IfErr result (λ e. D.certain e.1 ≡ D.certain disk) }
     ensures not_a_store { IfErr result (λ e. e.0 ≡ FrameFault.NotAStore → D.tells → IsNoStore (shape_of me block records) (D.seen disk)) }
     ensures not_halted { IfErr result (λ e. e.0 ≢ FrameFault.Halted) }
     ensures plan { IfOk result (λ store. KeepsPlan D.plan D.unlisted disk store.disk ⊥) }
@@ -202,6 +204,7 @@ impl<D: Disk> FrameStore<D> {
         ensures bytes { D.tells → OnOk result (into.new ≡ block_in self.old.shape slot (D.seen self.old.disk)) }
         ensures same { IsSame self.old self.new }
         ensures untouched { IsUntouched D.seen D.may_leave D.moment D.left_since self.old.disk self.new.disk }
+        ensures certain { D.certain self.new.disk ≡ D.certain self.old.disk }
         ensures plan { KeepsPlan D.plan D.unlisted self.old.disk self.new.disk (result ≡ Err FrameFault.Disk) }
         ensures answer { IsAnswer self.old.halted self.new.halted result }
         ensures no_call { result ≡ Err FrameFault.Halted → self.new ≡ self.old }
@@ -460,6 +463,7 @@ impl<D: Disk> FrameStore<D> {
         requires fits { Fits self.old.shape frames.now body }
         ensures same { IsSame self.old self.new }
         ensures untouched { IsUntouched D.seen D.may_leave D.moment D.left_since self.old.disk self.new.disk }
+        ensures certain { D.certain self.new.disk ≡ D.certain self.old.disk }
         ensures plan { KeepsPlan D.plan D.unlisted self.old.disk self.new.disk (result ≡ Err FrameFault.Disk) }
         ensures answer { IsAnswer self.old.halted self.new.halted result }
         ensures no_call { result ≡ Err FrameFault.Halted → self.new ≡ self.old }
@@ -497,6 +501,8 @@ impl<D: Disk> FrameStore<D> {
         ensures durable { D.tells → OnOk result (IsDurable D.tells D.seen D.may_leave self.new) }
         ensures same { IsSame self.old self.new }
         ensures content { D.seen self.new.disk ≡ D.seen self.old.disk }
+        // A sync that did not succeed makes nothing certain.
+        ensures certain { OnErr result (D.certain self.new.disk ≡ D.certain self.old.disk) }
         ensures crash { (image : List ℕ) → D.may_leave self.new.disk image → D.may_leave self.old.disk image }
         ensures time { Elapses (D.moment self.old.disk) (D.moment self.new.disk) (D.left_since self.old.disk) (D.left_since self.new.disk)
             (D.may_leave self.new.disk) }

@@ -75,11 +75,11 @@ module _ (layout : Layout) (me : BrickId) (node : Node) (first : List ℕ) (show
   opening_shows moment left_since allowed old new is = leaves_more moment left_since old new _ _ (allowed_shows allowed) is
 
   -- so where an opening was cut short
-  pub cut_shows : {D : Type 0} (seen certain : D → List ℕ) (may_leave : D → List ℕ → Type 0) (moment : D → ℕ) (calls : ℕ) (old new : D)
-      → StopsOpening seen certain may_leave moment calls old new (StandsFor (shape_at layout me) shows.st)
+  pub cut_shows : {D : Type 0} (seen certain : D → List ℕ) (moment : D → ℕ) (calls : ℕ) (old new : D)
+      → StopsOpening seen certain moment calls old new (StandsFor (shape_at layout me) shows.st)
       (StandsFor (shape_at layout me) (booted (shows.st.boot + 1) shows.st))
-      → StopsOpening seen certain may_leave moment calls old new (ImageShows layout me node) (ImageShows layout me (reopened node))
-  cut_shows seen certain may_leave moment calls old new stops = record {
+      → StopsOpening seen certain moment calls old new (ImageShows layout me node) (ImageShows layout me (reopened node))
+  cut_shows seen certain moment calls old new stops = record {
     clock = stops.clock;
     settled = ⊎_elim (λ had. inl had) (λ now. inr (before_shows (certain new) now)) stops.settled;
     early = λ at. before_shows (seen new) (stops.early at);

@@ -24,12 +24,12 @@ RunsAsOpening tells seen moment plan unlisted shape old new whole cut =
     tells → (frames : List Frame) (closed : Bool) → OpensAs shape frames closed (seen old)
     → IsRun tells moment plan unlisted (opening_calls (opens_appendable shape frames closed)) old new whole cut
 
--- An opening of the store that a disk holds was cut short where no fault is listed. What the last sync left is what the disk allowed before, or shows
--- the brick as it was. So does what a read gives, until the last call but one was made; from then on that shows the brick with its store opened once more.
-abbrev pub StopsAsOpening : {D : Type 0} → Type 0 → (D → List ℕ) → (D → List ℕ) → (D → List ℕ → Type 0) → (D → ℕ) → (D → Type 0) → Layout → BrickId → D → D
+-- An opening of the store that a disk holds was cut short where no fault is listed. What the last sync left is as it was before, or shows the brick
+-- as it was. So does what a read gives, until the last call but one was made; from then on that shows the brick with its store opened once more.
+abbrev pub StopsAsOpening : {D : Type 0} → Type 0 → (D → List ℕ) → (D → List ℕ) → (D → ℕ) → (D → Type 0) → Layout → BrickId → D → D
     → Type 0
-StopsAsOpening tells seen certain may_leave moment unlisted layout me old new =
+StopsAsOpening tells seen certain moment unlisted layout me old new =
     tells → unlisted old → (frames : List Frame) (closed : Bool) → OpensAs (shape_at layout me) frames closed (seen old)
     → (before : Node) → ImageShows layout me before (seen old)
-    → StopsOpening seen certain may_leave moment (opening_calls (opens_appendable (shape_at layout me) frames closed)) old new
+    → StopsOpening seen certain moment (opening_calls (opens_appendable (shape_at layout me) frames closed)) old new
     (ImageShows layout me before) (ImageShows layout me (reopened before))

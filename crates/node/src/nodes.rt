@@ -102,7 +102,7 @@ impl<D: Disk> Node<D> {
         ensures not_worn { IfErr result (λ e. e.0 ≡ StoreFault.Disk → D.tells → D.unlisted disk → (before : machine.Node)
             → ImageShows layout me before (D.seen disk) → before.boot < 2 ^ 32 - 1) }
         ensures cut { IfErr result (λ e. e.0 ≡ StoreFault.Disk
-            → StopsAsOpening D.tells D.seen D.certain D.may_leave D.moment D.unlisted layout me disk e.1) }
+            → StopsAsOpening D.tells D.seen D.certain D.moment D.unlisted layout me disk e.1) }
         // There is no store, and nothing has changed; or its store has learnt a later view.
         ensures not_a_store { IfErr result (λ e. e.0 ≡ StoreFault.NotAStore → D.tells
             → (IsNoStore (shape_at layout me) (D.seen disk) × IsUntouched D.seen D.may_leave D.moment D.left_since disk e.1)

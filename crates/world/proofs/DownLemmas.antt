@@ -259,11 +259,11 @@ module _ (layout : Layout) (me : BrickId) (state after : machine.Node) (fault : 
       → ((before : machine.Node) → ImageShows layout me before (content_of armed)
       → LeavesOnly moment_of was_left_since armed left (IsAllowedOr (may_be_left armed) (ShowsEither layout me before (reopened before))))
       → RunsAsOpening (Unit {0}) content_of moment_of plan_in is_unlisted (shape_at layout me) armed left (store ≡ NotAStore) (store ≡ Disk)
-      → StopsAsOpening (Unit {0}) content_of certain_of may_be_left moment_of is_unlisted layout me armed left
-      → ((before : machine.Node) → ImageShows layout me before (content_of armed) → before.boot < 2 ^ 32 - 1)
+      → StopsAsOpening (Unit {0}) content_of certain_of moment_of is_unlisted layout me armed left
+      → certain_of armed ≡ certain_of disk → ((before : machine.Node) → ImageShows layout me before (content_of armed) → before.boot < 2 ^ 32 - 1)
       → LeftBy fault left last → ((image : List ℕ) → may_be_left last image → may_be_left left image) → (IsSound left → IsSound last)
       → WasCutShort layout me state after disk fault (Down last)
-  cut_short left last store is moments opening cut few befallen crash sound =
+  cut_short left last store is moments opening cut same few befallen crash sound =
       let run = run_there left (store ≡ NotAStore) (store ≡ Disk) opening in
       let stops = cut tt unlisted_there found_there.shows.stands.frames true
       (subst (λ (image : List ℕ). OpensAs (shape_at layout me) found_there.shows.stands.frames true image) (sym arms.content)
@@ -303,7 +303,7 @@ module _ (layout : Layout) (me : BrickId) (state after : machine.Node) (fault : 
         left = record {
           was = left;
           holds = holds;
-          synced = ⊎_elim (λ had. inl (arms.crash (certain_of left) had)) (λ now. inr now) stops.settled;
+          synced = ⊎_elim (λ had. inl (had ∙ same)) (λ now. inr now) stops.settled;
           reads = record {
             early = λ soon. stops.early (omega (arith, soon, made));
             late = λ late. stops.late (omega (arith, late, made));

@@ -132,13 +132,13 @@ is_down layout w brick = is_brick layout brick && not (w.up brick.0)
 abbrev pub found_in : {layout : Layout} {me : BrickId} {before after : Node} {disk : MemDisk} → Finds layout me before after disk → Node
 found_in {before = before} {after = after} finds = opened_more finds.openings (found_of before after finds.found)
 
--- What is left of the disk of a brick whose start was cut short, where its opening makes so many calls. What the last sync left is what the disk might
--- have left before the start, or shows what was found. A read gives what was found, or that with its store opened once more.
+-- What is left of the disk of a brick whose start was cut short, where its opening makes so many calls. What the last sync left is as it was before the
+-- start, or shows what was found. A read gives what was found, or that with its store opened once more.
 pub record IsLeftOpening (layout : Layout) (me : BrickId) (before after : Node) (old : MemDisk) (finds : Finds layout me before after old) (calls : ℕ)
     (fault : Option Fault) (disk : MemDisk) : Type 0 where
   pub was : MemDisk
   pub holds : HoldsOne layout me before after was
-  pub synced : may_be_left old (certain_of was) ⊎ ImageShows layout me (found_in finds) (certain_of was)
+  pub synced : (certain_of was ≡ certain_of old) ⊎ ImageShows layout me (found_in finds) (certain_of was)
   pub reads : ReadsAs layout me (found_in finds) (reopened (found_in finds)) calls fault was
   pub left : LeftBy fault was disk
 

@@ -1,5 +1,5 @@
 -- The blocks in the slots so far are held.
-use Rattle.std.proofs.Common.{get_or, refl}
+use Rattle.std.proofs.Common.{get_or, refl, ◌∙◌}
 use Rattle.fab_disk.proofs.Moments.{kept_both}
 use Rattle.fab_disk.proofs.Plans.{keeps_both}
 use Rattle.frame_store.proofs.Openings.{untouched_both}
@@ -21,6 +21,7 @@ loop-slot-preserved g c =
           (d.seen first.disk) c.loop-slot.blocks c.hold_block.new.blocks so_far.same.shape so_far.same.size so_far.untouched.content here.read so_far.read;
       same = same_both first now next so_far.same here.same;
       untouched = untouched_both d.seen d.may_leave d.moment d.left_since g.met.D.Disk.counts_now first.disk now.disk next.disk so_far.untouched here.untouched;
+      certain = here.certain ∙ so_far.certain;
       runs = here.still_runs refl;
       plan = keeps_both d.plan d.unlisted first.disk now.disk next.disk ⊥ ⊥ so_far.plan
           (record { same = here.plan.same; stays = here.plan.stays; never = λ free never. never });

@@ -12,6 +12,7 @@ invariant-loop-slot g l = record {
   read : AreRead g.D.Disk.tells l.fn.frames.shape l.fn.frames.size (g.D.Disk.seen l.fn.frames.disk) l.blocks;
   same : IsSame l.fn.frames l.frames;
   untouched : IsUntouched g.D.Disk.seen g.D.Disk.may_leave g.D.Disk.moment g.D.Disk.left_since l.fn.frames.disk l.frames.disk;
+  certain : g.D.Disk.certain l.frames.disk ≡ g.D.Disk.certain l.fn.frames.disk;
   runs : l.frames.halted ≡ false;
   plan : KeepsPlan g.D.Disk.plan g.D.Disk.unlisted l.fn.frames.disk l.frames.disk ⊥;
   cause : Kept (g.D.Disk.faults l.fn.frames.disk) (g.D.Disk.faults l.frames.disk) (g.D.Disk.sound l.fn.frames.disk) (g.D.Disk.sound l.frames.disk) ⊥;

@@ -32,9 +32,9 @@ returns-in_err-sync-clause-cut g c =
     let call = c.in_err-sync.ensures in
     let meant = λ (is : refused (fault_of f) ≡ refused Disk). ap (refused {E = FrameFault}) (disk_meant f is) in
     let p = err_from_is_err_and c.from_residual-in_err-sync.result c.from_residual-in_err-sync.ensures.1 in
-    rw (p.1, p.2) (λ told free closed is. sync_cut d.seen d.certain d.may_leave d.moment d.left_since g.met.D.Disk.certain_is_left 8 old
+    rw (p.1, p.2) (λ told free closed is. sync_cut d.seen d.certain d.may_leave d.moment d.left_since 8 old
     c.reserve.new.self.disk c.sync.new.self.disk (state_of c.args.index.now) (c.requires.read told c.requires.runs) closed c.requires.found made.untouched
-    call.content call.crash (omega (arith, run_clock {whole = IsOk (refused f)} {cut = refused f ≡ refused frames.Disk} call.run told (made.plan.stays free) (meant is))))
+    call.content made.certain call.certain (omega (arith, run_clock {whole = IsOk (refused f)} {cut = refused f ≡ refused frames.Disk} call.run told (made.plan.stays free) (meant is))))
 
 pub returns-in_err-rewrite-clause-cut : goal.returns-in_err-rewrite-clause-cut
 returns-in_err-rewrite-clause-cut g c =

@@ -180,11 +180,11 @@ returns-in-Err-take_up-clause-cut g c = λ is told free frames closed opens st s
     (ap (λ (s : Shape). is_whole (limits_of s) held.frames empty) here.shape
     ∙ ap (λ (fs : List Frame). is_whole (limits_of shape) fs empty) once.0) here.shape once.0 once.1 in
     let found = found_in held.shape held.frames in
-    let run = λ (at : held.closed ≡ true). subst (λ (n : ℕ). StopsOpening d.seen d.certain d.may_leave d.moment n held.disk new
+    let run = λ (at : held.closed ≡ true). subst (λ (n : ℕ). StopsOpening d.seen d.certain d.moment n held.disk new
     (IsKeptIn held.shape found (d.seen held.disk)) (IsKeptIn held.shape (booted (found.boot + 1) found) (d.seen held.disk))) calls
     (c.in-Err-take_up.ensures.cut told (here.plan.stays free) at (ap Err is)) in
-    subst (λ (last : g.row.D.Denot). StopsOpening d.seen d.certain d.may_leave d.moment (opening_calls (opens_appendable shape frames closed)) c.args.disk
+    subst (λ (last : g.row.D.Denot). StopsOpening d.seen d.certain d.moment (opening_calls (opens_appendable shape frames closed)) c.args.disk
     last (StandsFor shape st) (StandsFor shape (booted (st.boot + 1) st))) back
-    (subst (λ (s : Shape). (x : StateOf Version) → StandsFor s x (d.seen c.args.disk) → StopsOpening d.seen d.certain d.may_leave d.moment
+    (subst (λ (s : Shape). (x : StateOf Version) → StandsFor s x (d.seen c.args.disk) → StopsOpening d.seen d.certain d.moment
     (opening_calls (opens_appendable shape frames closed)) c.args.disk new (StandsFor s x) (StandsFor s (booted (x.boot + 1) x))) here.shape
-    (opening_cut d.seen d.certain d.may_leave d.moment d.left_since _ c.args.disk new held (here.read told here.runs) here.untouched run) st stands)
+    (opening_cut d.seen d.certain d.may_leave d.moment d.left_since _ c.args.disk new held (here.read told here.runs) here.untouched here.certain run) st stands)

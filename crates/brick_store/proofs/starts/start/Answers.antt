@@ -51,7 +51,7 @@ returns-in_err-make_appendable-clause-cut g c =
     let len : c.len.result ≡ 4 = c.len.ensures ∙ c.in_ok-frame.ensures.length in
     let calls = sym (start_sum (is_appendable c.args.whole old 4) ∙ ap (λ (n : ℕ). (if is_appendable c.args.whole old n then 1 else 8) + 4) (sym len)) in
     let p = err_from_is_err_and c.from_residual-in_err-make_appendable.result c.from_residual-in_err-make_appendable.ensures.1 in
-    rw (p.1, p.2) (λ told free closed is. subst (λ (n : ℕ). StopsOpening d.seen d.certain d.may_leave d.moment n old.disk c.make_appendable.new.frames.disk
+    rw (p.1, p.2) (λ told free closed is. subst (λ (n : ℕ). StopsOpening d.seen d.certain d.moment n old.disk c.make_appendable.new.frames.disk
     (IsKeptIn old.shape st (d.seen old.disk)) (IsKeptIn old.shape (booted (st.boot + 1) st) (d.seen old.disk))) calls
     (readying_cut d.seen d.certain d.may_leave d.moment d.left_since _ old.disk c.make_appendable.new.frames.disk _ _
     (c.in_err-make_appendable.ensures.cut told free closed is)))
@@ -73,7 +73,7 @@ returns-clause-cut g c = λ told free closed is.
     c.make_appendable.ensures.shape (c.append_count.ensures.cut told is) in
     let stops = subst (λ (s : StateOf Entry). StopsEarly d.seen d.certain d.moment 4 mid.disk new.disk (IsUnchanged old.shape None st (d.seen mid.disk))
     (IsChanged old.shape None s (d.seen mid.disk))) next moved in
-    subst (λ (n : ℕ). StopsOpening d.seen d.certain d.may_leave d.moment n old.disk new.disk
+    subst (λ (n : ℕ). StopsOpening d.seen d.certain d.moment n old.disk new.disk
     (IsKeptIn old.shape st (d.seen old.disk)) (IsKeptIn old.shape (booted (st.boot + 1) st) (d.seen old.disk))) calls
     (count_cut d.seen d.certain d.may_leave d.moment d.left_since _ old.shape st (booted (st.boot + 1) st) old.disk mid.disk new.disk
     (made.run.counted told refl) (made.slots told) stops)

@@ -57,16 +57,16 @@ returns-in_err-start-clause-cut g c =
     rw (p.1, p.2) (λ told free closed is.
     let run = c.in_err-start.ensures.cut told (c.load.ensures.plan.stays free) (c.load.ensures.same.closed ∙ closed)
     (let same : c.in_err-start.field-0.0 ≡ Disk = cc in ap (refused {E = StoreFault}) same) in
-    let counted = subst (λ (n : ℕ). StopsOpening d.seen d.certain d.may_leave d.moment n mid.disk new.disk (IsKeptIn mid.shape st (d.seen mid.disk))
+    let counted = subst (λ (n : ℕ). StopsOpening d.seen d.certain d.moment n mid.disk new.disk (IsKeptIn mid.shape st (d.seen mid.disk))
     (IsKeptIn mid.shape (booted (st.boot + 1) st) (d.seen mid.disk))) calls run in
-    let moved = subst (λ (s : Shape). StopsOpening d.seen d.certain d.may_leave d.moment
+    let moved = subst (λ (s : Shape). StopsOpening d.seen d.certain d.moment
     (opening_calls (is_appendable (is_whole (limits_of old.shape) old.frames empty) old 4)) mid.disk new.disk (IsKeptIn s st (d.seen mid.disk))
     (IsKeptIn s (booted (st.boot + 1) st) (d.seen mid.disk))) c.load.ensures.same.shape counted in
-    let first = subst (λ (x : StateOf Entry). StopsOpening d.seen d.certain d.may_leave d.moment
+    let first = subst (λ (x : StateOf Entry). StopsOpening d.seen d.certain d.moment
     (opening_calls (is_appendable (is_whole (limits_of old.shape) old.frames empty) old 4)) mid.disk new.disk (IsKeptIn old.shape x (d.seen mid.disk))
     (IsKeptIn old.shape (booted (x.boot + 1) x) (d.seen mid.disk))) (sym read.found) moved in
     read_first d.seen d.certain d.may_leave d.moment d.left_since _ old.disk mid.disk new.disk (IsKeptIn old.shape found)
-    (IsKeptIn old.shape (booted (found.boot + 1) found)) c.load.ensures.untouched first)
+    (IsKeptIn old.shape (booted (found.boot + 1) found)) c.load.ensures.untouched c.load.ensures.certain first)
 
 pub returns-in_err-start-clause-counted : goal.returns-in_err-start-clause-counted
 returns-in_err-start-clause-counted g c = λ free is. omega (

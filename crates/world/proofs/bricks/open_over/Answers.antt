@@ -28,7 +28,7 @@ returns-in-Err-Disk-default-clause-turns c state after rests =
     } in
     inr (cut_short c.args.layout c.args.me state after c.args.fault c.args.disk c.arm.new.self rests arms c.in-Err-Disk-default.left c.left_by.result
     c.in-Err-Disk-default.field-0-0 c.in-Err-Disk-default.field-0-0-is (c.in-Err-Disk-default.ensures.moments_err tt) c.in-Err-Disk-default.ensures.run_err
-    (c.in-Err-Disk-default.ensures.cut c.in-Err-Disk-default.field-0-0-is)
+    (c.in-Err-Disk-default.ensures.cut c.in-Err-Disk-default.field-0-0-is) c.arm.ensures.certain
     (c.in-Err-Disk-default.ensures.not_worn c.in-Err-Disk-default.field-0-0-is tt
     (unlisted_there c.args.layout c.args.me state after c.args.fault c.args.disk c.arm.new.self rests arms))
     c.left_by.ensures.left c.left_by.ensures.crash c.left_by.ensures.sound)

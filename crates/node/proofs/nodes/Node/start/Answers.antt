@@ -223,6 +223,6 @@ returns-in-Err-clause-cut g c = λ is told free frames closed opens before shows
     (c.records.ensures.value i) in
     let last = c.in-Err.refused.1 in
     let stops = subst (λ (s : Shape). (fs : List Frame) (gate : Bool) → OpensAs s fs gate (d.seen disk) → (st : StateOf Version)
-    → StandsFor s st (d.seen disk) → StopsOpening d.seen d.certain d.may_leave d.moment (opening_calls (opens_appendable s fs gate)) disk last
+    → StandsFor s st (d.seen disk) → StopsOpening d.seen d.certain d.moment (opening_calls (opens_appendable s fs gate)) disk last
     (StandsFor s st) (StandsFor s (booted (st.boot + 1) st))) same (c.in-Err.ensures.cut is told free) in
-    cut_shows layout me before (d.seen disk) shows d.seen d.certain d.may_leave d.moment _ disk last (stops frames closed opens shows.st shows.stands)
+    cut_shows layout me before (d.seen disk) shows d.seen d.certain d.moment _ disk last (stops frames closed opens shows.st shows.stands)
