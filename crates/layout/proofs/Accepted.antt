@@ -1,5 +1,5 @@
 -- What the checks accept is within the limits.
-use Rattle.std.proofs.Common.{◌≡◌, ℕ, ℤ, pos, negsuc, zero, suc, ◌*◌, ◌<◌, ◌≤◌, nat_eq, nat_lt, nat_le, Bool, true, false, not, ◌&&◌, ◌||◌, cond, List, [], ◌∷◌, length, map, Option, Some, None, option_map, option_and_then, slice_get, Result, Ok, Err, refl, ap, subst, sym, arith}
+use Rattle.std.proofs.Common.{◌≡◌, ℕ, ℤ, pos, negsuc, zero, suc, ◌*◌, ◌<◌, ◌≤◌, nat_eq, nat_lt, nat_le, Bool, true, false, not, ◌&&◌, cond, List, [], ◌∷◌, length, map, Option, Some, None, option_and_then, slice_get, Ok, Err, refl, ap, subst, sym, arith}
 use Rattle.std.specs.List.{IsDistinct, AllByRecursion}
 use Rattle.std.specs.Option.{ok_or}
 use Rattle.std.proofs.lemmas.Bool.{and_parts, not-true}
@@ -8,44 +8,14 @@ use Rattle.fab_base.specs.declared.identities.BrickId.{BrickId}
 use Rattle.fab_base.specs.Layouts.{Group, Layout}
 use Rattle.toml.specs.Data.{Data, Members, as_integer, get_member}
 use Rattle.layout.specs.Names.{key_text}
-use Rattle.layout.specs.declared.faults.Key.{Key}
 use Rattle.layout.specs.declared.faults.Key.TheVariants as keys
-use Rattle.layout.specs.declared.faults.LayoutFault.{LayoutFault}
 use Rattle.layout.specs.declared.faults.LayoutFault.TheVariants.{Toml, Limit}
 use Rattle.layout.specs.declared.faults.FieldName.TheVariants.{Other, OtherOfGroup}
 use Rattle.layout.specs.Limits.{IsGroup, IsLayout}
 use Rattle.layout.specs.Texts.{document_of, layout_or, layout_of}
-use Rattle.layout.specs.Checks.{◌>>=◌, no_field, integer_at, array_at, integers_in, tables_in, no_other, group_keys, top_keys, port_in, port_at, natural, within, number_at, blocks_in, blocks_at, brick_in, bricks_in, stands_in, are_distinct, seats_in, members_at, group_in, few_tables, tables_at, groups_in, layout_with, layout_in}
-
--- checks that pass: each one passed
-passed : {A B : Type 0} (first : Result A LayoutFault) (next : A → Result B LayoutFault) (b : B) → (first >>= next) ≡ Ok b
-    → (a : A) × (first ≡ Ok a) × (next a ≡ Ok b)
-passed (Ok a) next b is = (a, refl, is)
-passed (Err fault) next b is = let never : Err fault ≡ Ok b = is in cc
-
--- a value that had to be there is there
-there : {A : Type 0} (o : Option A) (fault : LayoutFault) (a : A) → ok_or o fault ≡ Ok a → o ≡ Some a
-there None fault a is = let never : Err fault ≡ Ok a = is in cc
-there (Some x) fault a is = let same : Ok x ≡ Ok a = is in let e : x ≡ a = cc in ap (λ (y : _). Some y) e
-
--- a number between its limits
-natural_range : (low high : ℕ) (z : ℤ) (n : ℕ) → natural low high z ≡ Some n → (low ≤ n) × (n ≤ high)
-natural_range low high (pos k) n is = in_range (nat_le low k && nat_le k high) refl is
-  where
-    in_range : (b : Bool) → (nat_le low k && nat_le k high) ≡ b → cond b (Some k) None ≡ Some n → (low ≤ n) × (n ≤ high)
-    in_range true both same =
-        let parts = and_parts (nat_le low k) (nat_le k high) both in
-        let e : Some k ≡ Some n = same in
-        let k_is : k ≡ n = cc in
-        let l : low ≤ k = grind (arith, nat_tests, parts) in
-        let h : k ≤ high = grind (arith, nat_tests, parts) in
-        (omega arith, omega arith)
-    in_range false both same = let never : None ≡ Some n = same in cc
-natural_range low high (negsuc k) n is = let never : None ≡ Some n = is in cc
-
-within_range : (key : Key) (low high : ℕ) (o : Option ℤ) (n : ℕ) → within key low high o ≡ Ok n → (low ≤ n) × (n ≤ high)
-within_range key low high None n is = cc
-within_range key low high (Some z) n is = natural_range low high z n (there (natural low high z) _ n is)
+use Rattle.layout.specs.Checks.{no_field, integer_at, array_at, integers_in, tables_in, no_other, group_keys, top_keys, port_in, port_at, number_at, blocks_in, blocks_at, brick_in, bricks_in, stands_in, are_distinct, seats_in, members_at, group_in, few_tables, tables_at, groups_in, volumes_in, volume_tables_at, layout_with, layout_in}
+use Rattle.layout.proofs.Passing.{passed, there, made, within_range, or_both, taken}
+use Rattle.layout.proofs.AcceptedVolumes.{few_volume_tables, volumes_are}
 
 -- the port is between its limits, the default too
 port_range : (o : Option Data) (port : ℕ) → port_in o ≡ Ok port → (1 ≤ port) × (port ≤ 65472)
@@ -55,22 +25,9 @@ port_range None port is =
     (omega (arith, e), omega (arith, e))
 port_range (Some value) port is = within_range keys.Port 1 65472 (as_integer value) port is
 
--- neither test holds
-or_both : (a b : Bool) → (a || b) ≡ false → (a ≡ false) × (b ≡ false)
-or_both true b e = cc
-or_both false b e = (refl, e)
-
 -- the brick of a number
 abbrev numbered : ℕ → BrickId
 numbered n = record { 0 = n }
-
--- the first element and the others, where all are there
-taken : {A : Type 0} (first : Option A) (rest : Option (List A)) (xs : List A)
-    → option_and_then (λ x. option_map (λ more. x ∷ more) rest) first ≡ Some xs
-    → (x : A) × (more : List A) × (first ≡ Some x) × (rest ≡ Some more) × (xs ≡ x ∷ more)
-taken None rest xs is = let never : None ≡ Some xs = is in cc
-taken (Some x) None xs is = let never : None ≡ Some xs = is in cc
-taken (Some x) (Some more) xs is = let same : Some (x ∷ more) ≡ Some xs = is in (x, more, refl, refl, (cc))
 
 brick_below : (bricks : ℕ) (z : ℤ) (brick : BrickId) → brick_in bricks z ≡ Some brick → brick.0 < bricks
 brick_below bricks (negsuc k) brick is = let never : None ≡ Some brick = is in cc
@@ -235,6 +192,10 @@ tables_are table tables is =
         subst (λ (l : List Members). (1 ≤ length l) × (length l ≤ 64)) all_same (low, high)
     few false all sizes same = let never : None ≡ Some tables = same in cc
 
+-- as many groups as tables
+counted : (n tables : ℕ) → n ≡ tables → (1 ≤ tables) × (tables ≤ 64) → (1 ≤ n) × (n ≤ 64)
+counted n tables same count = subst (λ (k : ℕ). (1 ≤ k) × (k ≤ 64)) (sym same) count
+
 -- an accepted layout is within the limits
 pub layout_is : (table : Members) (layout : Layout) → layout_in table ≡ Ok layout → IsLayout layout
 layout_is table layout is =
@@ -243,16 +204,20 @@ layout_is table layout is =
     let (records, records_read, after_records) = passed (number_at table keys.Records 1 1048576) _ layout after_bricks in
     let (port, port_read, after_port) = passed (port_at table) _ layout after_records in
     let (tables, tables_read, after_tables) = passed (tables_at table) _ layout after_port in
-    let (groups, groups_read, after_groups) = passed (groups_in block bricks tables) _ layout after_tables in
-    let (known, known_read, last) = passed (no_other Other top_keys table) _ layout after_groups in
+    let (volume_tables, volume_tables_read, after_volume_tables) = passed (volume_tables_at table) _ layout after_tables in
+    let (groups, groups_read, after_groups) = passed (groups_in block bricks tables) _ layout after_volume_tables in
+    let (volumes, volumes_read, after_volumes) = passed (volumes_in groups [] volume_tables) _ layout after_groups in
+    let (known, known_read, last) = passed (no_other Other top_keys table) _ layout after_volumes in
     let bytes = within_range keys.Block 1 4096 (integer_at table keys.Block) block block_read in
     let disk = within_range keys.Bricks 1 64 (integer_at table keys.Bricks) bricks bricks_read in
     let room = within_range keys.Records 1 1048576 (integer_at table keys.Records) records records_read in
     let ports = port_range (get_member (key_text keys.Port) table) port port_read in
     let count = tables_are table tables tables_read in
     let all = groups_are block bricks tables groups groups_read in
-    let same : Ok (layout_with block bricks records port groups) ≡ Ok layout = last in
-    let layout_same : layout_with block bricks records port groups ≡ layout = cc in
+    let number = counted (length groups) (length tables) all.count count in
+    let few = few_volume_tables (get_member (key_text keys.Volume) table) volume_tables volume_tables_read in
+    let layout_same : layout_with block bricks records port groups volumes ≡ layout =
+    made (layout_with block bricks records port groups volumes) layout (Ok (layout_with block bricks records port groups volumes)) refl last in
     subst IsLayout layout_same (record {
       some_byte = bytes.0;
       few_bytes = bytes.1;
@@ -262,9 +227,10 @@ layout_is table layout is =
       few_records = room.1;
       some_port = ports.0;
       few_ports = ports.1;
-      some_group = omega (arith, all.count);
-      few_groups = omega (arith, all.count);
+      some_group = number.0;
+      few_groups = number.1;
       each = all.each;
+      volumes = volumes_are groups volume_tables volumes few volumes_read;
     })
 
 -- what a text says is within the limits

@@ -1,6 +1,10 @@
 pub mod Keys
 pub mod Readings
+pub mod Passing
+pub mod AcceptedVolumes
 pub mod Accepted
 pub mod Documents
 pub mod Soundness
 pub mod Refusals
+pub mod TakenRuns
+pub mod PlaceLaws

@@ -1,10 +1,13 @@
 -- Reading a list one element after another.
-use Rattle.std.proofs.Common.{◌≡◌, ℕ, ◌+◌, ◌<◌, List, [], ◌∷◌, ◌++◌, length, get_or, drop, Option, Some, None, option_map, option_and_then, Result, Ok, Err, map, refl, ap, ◌∙◌, append_assoc}
-use Rattle.std.proofs.lemmas.List.{at_drop_more}
-use Rattle.fab_base.specs.Layouts.{Group}
+use Rattle.std.proofs.Common.{◌≡◌, ℕ, ◌+◌, ◌<◌, List, [], ◌∷◌, ◌++◌, length, get_or, drop, Option, Some, None, option_map, option_and_then, Result, Ok, Err, map, refl, ap, sym, subst, ◌∙◌, append_assoc}
+use Rattle.std.proofs.lemmas.List.{at_drop_more, flat_map_more}
+use Rattle.std.specs.BTreeMap.{BTreeMap}
+use Rattle.fab_base.specs.Layouts.{Group, Volume}
 use Rattle.layout.specs.declared.faults.LayoutFault.{LayoutFault}
 use Rattle.toml.specs.Data.{Members}
-use Rattle.layout.specs.Checks.{◌>>=◌, group_in, groups_in}
+use Rattle.layout.specs.Checks.{◌>>=◌, group_in, groups_in, volume_in, volumes_in}
+use Rattle.layout.specs.Runs.{HasRuns}
+use Rattle.layout.specs.Segments.{segments_of}
 
 -- what was read so far, with what the rest gives
 abbrev pub with_rest : {A : Type 0} → List A → Option (List A) → Option (List A)
@@ -58,3 +61,19 @@ group_read {X} view block bricks tables i d done group below gives =
     ap (after_groups done) (at_drop_more (λ (xs : List X). groups_in block bricks (map view xs)) tables i d below
     ∙ ap (λ (first : Result Group LayoutFault). first >>= λ g. rest >>= λ groups. Ok (g ∷ groups)) gives)
     ∙ last_group done group rest
+
+-- the reading of the volumes goes on past a table that says one
+pub volume_read : {X : Type 0} (view : X → Members) (groups : List Group) (before : List Volume) (tables : List X) (i : ℕ) (d : X) (volume : Volume)
+    (after : List Volume) → after ≡ before ++ (volume ∷ []) → i < length tables → volume_in groups before (view (get_or tables i d)) ≡ Ok volume
+    → volumes_in groups before (map view (drop i tables)) ≡ volumes_in groups after (map view (drop (i + 1) tables))
+volume_read {X} view groups before tables i d volume after after_is below gives =
+    at_drop_more (λ (xs : List X). volumes_in groups before (map view xs)) tables i d below
+    ∙ ap (λ (first : Result Volume LayoutFault). first >>= λ v. volumes_in groups (before ++ (v ∷ [])) (map view (drop (i + 1) tables))) gives
+    ∙ ap (λ (volumes : List Volume). volumes_in groups volumes (map view (drop (i + 1) tables))) (sym after_is)
+
+-- the runs of some volumes and of one more are those of all of them
+pub runs_more : (ends : BTreeMap ℕ ℕ) (before : List Volume) (volume : Volume) (after : List Volume) → after ≡ before ++ (volume ∷ [])
+    → HasRuns ends (segments_of before ++ volume.segments) → HasRuns ends (segments_of after)
+runs_more ends before volume after after_is has =
+    subst (λ (volumes : List Volume). HasRuns ends (segments_of volumes)) (sym after_is)
+    (subst (HasRuns ends) (flat_map_more (λ (v : Volume). v.segments) [] before volume) has)

@@ -1,16 +1,17 @@
 -- The faults that the checks of a table give: those of a field or a limit.
-use Rattle.std.proofs.Common.{◌≡◌, ◌≢◌, ℕ, ℤ, List, [], ◌∷◌, Option, Some, None, Result, Ok, Err, IfErr, option_and_then, refl, subst}
+use Rattle.std.proofs.Common.{◌≡◌, ◌≢◌, ℕ, ℤ, List, [], ◌∷◌, ◌++◌, Option, Some, None, Result, Ok, Err, IfErr, option_and_then, refl, subst}
 use Rattle.std.specs.Option.{ok_or}
-use Rattle.toml.specs.Data.{Data, Members, as_integer, get_member}
+use Rattle.toml.specs.Data.{Data, Members, as_integer, as_array, get_member}
 use Rattle.layout.specs.declared.faults.Key.{Key}
 use Rattle.layout.specs.declared.faults.Key.TheVariants as keys
 use Rattle.layout.specs.declared.faults.FieldName.{FieldName}
-use Rattle.layout.specs.declared.faults.FieldName.TheVariants.{Other, OtherOfGroup}
+use Rattle.layout.specs.declared.faults.FieldName.TheVariants.{Other, OtherOfGroup, OtherOfVolume}
 use Rattle.layout.specs.declared.faults.LayoutFault.{LayoutFault}
 use Rattle.layout.specs.declared.faults.LayoutFault.TheVariants.{Toml, Field, Limit, NoMemory}
-use Rattle.fab_base.specs.Layouts.{Layout}
+use Rattle.fab_base.specs.Layouts.{Group, Volume, Layout}
 use Rattle.layout.specs.Names.{key_text}
-use Rattle.layout.specs.Checks.{◌>>=◌, no_field, natural, within, integer_at, array_at, number_at, port_in, port_at, least_other, keys_of, refused_key, no_other, integers_in, bricks_in, seats_in, members_at, blocks_in, blocks_at, group_keys, group_in, tables_in, few_tables, tables_at, groups_in, top_keys, layout_in}
+use Rattle.layout.specs.Checks.{◌>>=◌, no_field, natural, within, integer_at, array_at, number_at, port_in, port_at, least_other, keys_of, refused_key, no_other, integers_in, bricks_in, seats_in, members_at, blocks_in, blocks_at, group_keys, group_in, tables_in, few_tables, tables_at, groups_in, text_at, new_name, name_at, rows_in, segments_in, few_segments, listed_segments, free_segments, segments_at, volume_keys, volume_in, volumes_in, up_to_64, volume_tables_in, volume_tables_at, top_keys, layout_in}
+use Rattle.layout.specs.Segments.{segments_of}
 use Rattle.layout.specs.Texts.{document_of, layout_or, layout_of}
 
 -- a fault of a field or a limit
@@ -77,6 +78,42 @@ tables_checks table =
     (or_checks (option_and_then tables_in (array_at table keys.Group)) (no_field keys.Group) tt)
     (λ (tables : List Members). or_checks (few_tables tables) (Limit keys.Group) tt)
 
+name_checks : (before : List Volume) (table : Members) → ChecksTable (name_at before table)
+name_checks before table =
+    then_checks (ok_or (text_at table keys.VolumeName) (no_field keys.VolumeName)) _
+    (or_checks (text_at table keys.VolumeName) (no_field keys.VolumeName) tt)
+    (λ (text : List ℕ). or_checks (new_name before text) (Limit keys.VolumeName) tt)
+
+listed_checks : (groups : List Group) (table : Members) → ChecksTable (listed_segments groups table)
+listed_checks groups table =
+    then_checks (ok_or (option_and_then rows_in (array_at table keys.VolumeSegments)) (no_field keys.VolumeSegments)) _
+    (or_checks (option_and_then rows_in (array_at table keys.VolumeSegments)) (no_field keys.VolumeSegments) tt)
+    (λ (rows : List (List ℤ)). or_checks (option_and_then few_segments (segments_in groups rows)) (Limit keys.VolumeSegments) tt)
+
+segments_checks : (groups : List Group) (before : List Volume) (table : Members) → ChecksTable (segments_at groups before table)
+segments_checks groups before table =
+    then_checks (listed_segments groups table) _ (listed_checks groups table)
+    (λ segments. or_checks (free_segments (segments_of before) segments) (Limit keys.VolumeSegments) tt)
+
+volume_checks : (groups : List Group) (before : List Volume) (table : Members) → ChecksTable (volume_in groups before table)
+volume_checks groups before table =
+    then_checks (name_at before table) _ (name_checks before table) (λ name.
+    then_checks (segments_at groups before table) _ (segments_checks groups before table) (λ segments.
+    then_checks (no_other OtherOfVolume volume_keys table) _ (key_checks OtherOfVolume (least_other volume_keys (keys_of table))) (λ known. tt)))
+
+volumes_checks : (groups : List Group) (before : List Volume) (tables : List Members) → ChecksTable (volumes_in groups before tables)
+volumes_checks groups before [] = tt
+volumes_checks groups before (table ∷ tables) =
+    then_checks (volume_in groups before table) _ (volume_checks groups before table)
+    (λ (volume : Volume). volumes_checks groups (before ++ (volume ∷ [])) tables)
+
+volume_tables_checks : (o : Option Data) → ChecksTable (volume_tables_in o)
+volume_tables_checks None = tt
+volume_tables_checks (Some value) =
+    then_checks (ok_or (option_and_then tables_in (as_array value)) (no_field keys.Volume)) _
+    (or_checks (option_and_then tables_in (as_array value)) (no_field keys.Volume) tt)
+    (λ (tables : List Members). or_checks (up_to_64 tables) (Limit keys.Volume) tt)
+
 -- the checks of a whole table
 pub layout_checks : (table : Members) → ChecksTable (layout_in table)
 layout_checks table =
@@ -85,8 +122,10 @@ layout_checks table =
     then_checks (number_at table keys.Records 1 1048576) _ (within_checks keys.Records 1 1048576 (integer_at table keys.Records)) (λ (records : ℕ).
     then_checks (port_at table) _ (port_checks (get_member (key_text keys.Port) table)) (λ (port : ℕ).
     then_checks (tables_at table) _ (tables_checks table) (λ tables.
+    then_checks (volume_tables_at table) _ (volume_tables_checks (get_member (key_text keys.Volume) table)) (λ volume_tables.
     then_checks (groups_in block bricks tables) _ (groups_checks block bricks tables) (λ groups.
-    then_checks (no_other Other top_keys table) _ (key_checks Other (least_other top_keys (keys_of table))) (λ known. tt)))))))
+    then_checks (volumes_in groups [] volume_tables) _ (volumes_checks groups [] volume_tables) (λ volumes.
+    then_checks (no_other Other top_keys table) _ (key_checks Other (least_other top_keys (keys_of table))) (λ known. tt)))))))))
 
 -- a fault of the checks is one of a field or a limit
 pub fault_of_table : (table : Members) (fault : LayoutFault) → layout_in table ≡ Err fault → IsOfTable fault

@@ -1,21 +1,23 @@
 -- The checks of a layout text over the table that it is as a TOML document, in their order: the first that fails gives the fault, and
 -- where none fails, the table says a layout.
-use Rattle.std.specs.Prelude.{ℕ, ℤ, pos, negsuc, ◌*◌, nat_eq, nat_lt, nat_le, Bool, true, not, ◌&&◌, if◌then◌else◌, List, [], ◌∷◌, length, Option, Some, None, option_map, option_and_then, Result, Ok, Err}
+use Rattle.std.specs.Prelude.{ℕ, ℤ, pos, negsuc, ◌+◌, ◌*◌, nat_eq, nat_lt, nat_le, Bool, true, not, ◌&&◌, if◌then◌else◌, List, [], ◌∷◌, ◌++◌, length, slice_get, Option, Some, None, option_map, option_and_then, Result, Ok, Err}
 use Rattle.std.specs.List.{list_any}
 use Rattle.std.specs.Option.{ok_or}
 use Rattle.std.specs.Ordering.{nat_cmp, is_lt}
 use Rattle.std.specs.Cmp.Lexicographic.{slice_cmp}
 use Rattle.std.specs.Str.{bytes_eq}
 use Rattle.fab_base.specs.declared.identities.BrickId.{BrickId}
-use Rattle.fab_base.specs.Layouts.{Group, Layout}
-use Rattle.toml.specs.Data.{Data, Items, no_items, item, Members, no_members, member, get_member, as_integer, as_array, as_table}
+use Rattle.fab_base.specs.declared.segments.Segment.{Segment}
+use Rattle.fab_base.specs.Layouts.{Group, Volume, Layout}
+use Rattle.toml.specs.Data.{Data, Items, no_items, item, Members, no_members, member, get_member, as_str, as_integer, as_array, as_table}
 use Rattle.layout.specs.declared.faults.Key.{Key}
 use Rattle.layout.specs.declared.faults.Key.TheVariants as keys
 use Rattle.layout.specs.declared.faults.FieldName.{FieldName}
-use Rattle.layout.specs.declared.faults.FieldName.TheVariants.{Known, Other, OtherOfGroup}
+use Rattle.layout.specs.declared.faults.FieldName.TheVariants.{Known, Other, OtherOfGroup, OtherOfVolume}
 use Rattle.layout.specs.declared.faults.LayoutFault.{LayoutFault}
 use Rattle.layout.specs.declared.faults.LayoutFault.TheVariants.{Field, Limit}
-use Rattle.layout.specs.Names.{key_text}
+use Rattle.layout.specs.Names.{key_text, is_name}
+use Rattle.layout.specs.Segments.{are_free, segments_of}
 
 infixl 10 ◌>>=◌
 -- the next check, where this one passed
@@ -174,15 +176,128 @@ groups_in block bricks (table ∷ tables) = do
   groups ← groups_in block bricks tables
   Ok (group ∷ groups)
 
+-- ---- the name of a volume
+
+-- the text at a key, if there is one
+abbrev pub text_at : Members → Key → Option (List ℕ)
+text_at table key = option_and_then as_str (get_member (key_text key) table)
+
+-- one of the volumes has this name
+abbrev pub has_name : List Volume → List ℕ → Bool
+has_name volumes name = list_any (λ volume. bytes_eq volume.name name) volumes
+
+-- the text, if it is a name and none of the volumes has it
+abbrev pub new_name : List Volume → List ℕ → Option (List ℕ)
+new_name before text = if is_name text && not (has_name before text) then Some text else None
+
+-- the name of a volume that stands after these volumes: a text, and then a name that none of them has
+abbrev pub name_at : List Volume → Members → Result (List ℕ) LayoutFault
+name_at before table = do
+  text ← ok_or (text_at table keys.VolumeName) (no_field keys.VolumeName)
+  ok_or (new_name before text) (Limit keys.VolumeName)
+
+-- ---- the segments of a volume
+
+-- the numbers, if there are three
+abbrev pub three_of : List ℤ → Option (List ℤ)
+three_of numbers = if nat_eq (length numbers) 3 then Some numbers else None
+
+-- the row of a value: a list of three whole numbers and nothing else
+abbrev pub row_in : Data → Option (List ℤ)
+row_in value = option_and_then three_of (option_and_then integers_in (as_array value))
+
+-- the rows of a list, if it has nothing else
+abbrev pub rows_in : Items → Option (List (List ℤ))
+rows_in no_items = Some []
+rows_in (item value rest) = option_and_then (λ row. option_map (λ more. row ∷ more) (rows_in rest)) (row_in value)
+
+-- the number at a place of a row, if it is from the lower limit to the upper
+abbrev pub number_in : List ℤ → ℕ → ℕ → ℕ → Option ℕ
+number_in row place low high = option_and_then (natural low high) (slice_get row place)
+
+-- so many stripes of a group from the first on, if it has them
+abbrev pub stripes_of : ℕ → ℕ → ℕ → Group → Option Segment
+stripes_of g first stripes group =
+    if nat_le (first + stripes) group.stripes
+    then Some (record { group = record { 0 = g }; first = record { 0 = first }; stripes = stripes }) else None
+
+-- the segment of a row: the number of a group, its first stripe and how many, at least one, if the group has them
+abbrev pub segment_in : List Group → List ℤ → Option Segment
+segment_in groups row =
+    option_and_then (λ g. option_and_then (λ first. option_and_then (λ stripes.
+    option_and_then (stripes_of g first stripes) (slice_get groups g))
+    (number_in row 2 1 65536)) (number_in row 1 0 65535)) (number_in row 0 0 63)
+
+-- the segments of some rows, if each is one
+abbrev pub segments_in : List Group → List (List ℤ) → Option (List Segment)
+segments_in groups [] = Some []
+segments_in groups (row ∷ rows) =
+    option_and_then (λ segment. option_map (λ more. segment ∷ more) (segments_in groups rows)) (segment_in groups row)
+
+-- 1 to 1,024 segments
+abbrev pub few_segments : List Segment → Option (List Segment)
+few_segments segments = if nat_le 1 (length segments) && nat_le (length segments) 1024 then Some segments else None
+
+-- a list of rows, and then 1 to 1,024 segments of the groups
+abbrev pub listed_segments : List Group → Members → Result (List Segment) LayoutFault
+listed_segments groups table = do
+  rows ← ok_or (option_and_then rows_in (array_at table keys.VolumeSegments)) (no_field keys.VolumeSegments)
+  ok_or (option_and_then few_segments (segments_in groups rows)) (Limit keys.VolumeSegments)
+
+-- the segments, if each of their stripes is free when its segment comes
+abbrev pub free_segments : List Segment → List Segment → Option (List Segment)
+free_segments before segments = if are_free before segments then Some segments else None
+
+-- the segments of a volume that stands after these volumes: no stripe stands in two, those of the volumes before included
+abbrev pub segments_at : List Group → List Volume → Members → Result (List Segment) LayoutFault
+segments_at groups before table = do
+  segments ← listed_segments groups table
+  ok_or (free_segments (segments_of before) segments) (Limit keys.VolumeSegments)
+
+-- ---- volumes
+
+-- the keys of a volume
+abbrev pub volume_keys : List Key
+volume_keys = keys.VolumeName ∷ (keys.VolumeSegments ∷ [])
+
+-- the volume of a table that stands after these volumes
+abbrev pub volume_in : List Group → List Volume → Members → Result Volume LayoutFault
+volume_in groups before table = do
+  name ← name_at before table
+  segments ← segments_at groups before table
+  known ← no_other OtherOfVolume volume_keys table
+  Ok (record { name = name; segments = segments })
+
+-- these volumes, and after them those of some tables, in their order
+abbrev pub volumes_in : List Group → List Volume → List Members → Result (List Volume) LayoutFault
+volumes_in groups before [] = Ok before
+volumes_in groups before (table ∷ tables) = do
+  volume ← volume_in groups before table
+  volumes_in groups (before ++ (volume ∷ [])) tables
+
+-- at most 64 tables
+abbrev pub up_to_64 : List Members → Option (List Members)
+up_to_64 tables = if nat_le (length tables) 64 then Some tables else None
+
+-- no tables where the key is missing; else a list of tables, and then at most 64 of them
+abbrev pub volume_tables_in : Option Data → Result (List Members) LayoutFault
+volume_tables_in None = Ok []
+volume_tables_in (Some value) = do
+  tables ← ok_or (option_and_then tables_in (as_array value)) (no_field keys.Volume)
+  ok_or (up_to_64 tables) (Limit keys.Volume)
+
+abbrev pub volume_tables_at : Members → Result (List Members) LayoutFault
+volume_tables_at table = volume_tables_in (get_member (key_text keys.Volume) table)
+
 -- ---- the whole table
 
 -- the keys at the top
 abbrev pub top_keys : List Key
-top_keys = keys.Block ∷ (keys.Bricks ∷ (keys.Records ∷ (keys.Port ∷ (keys.Group ∷ []))))
+top_keys = keys.Block ∷ (keys.Bricks ∷ (keys.Records ∷ (keys.Port ∷ (keys.Group ∷ (keys.Volume ∷ [])))))
 
--- the layout of these keys, with what holds where the others are missing: stores of form 2, no spares and no volumes
-abbrev pub layout_with : ℕ → ℕ → ℕ → ℕ → List Group → Layout
-layout_with block bricks records port groups =
+-- the layout of these keys, with what holds where the others are missing: stores of form 2 and no spares
+abbrev pub layout_with : ℕ → ℕ → ℕ → ℕ → List Group → List Volume → Layout
+layout_with block bricks records port groups volumes =
     record {
       block = block;
       bricks = bricks;
@@ -191,7 +306,7 @@ layout_with block bricks records port groups =
       store = 2;
       spares = [];
       groups = groups;
-      volumes = [];
+      volumes = volumes;
     }
 
 -- the layout that the table of a text says
@@ -202,6 +317,8 @@ layout_in table = do
   records ← number_at table keys.Records 1 1048576
   port ← port_at table
   tables ← tables_at table
+  volume_tables ← volume_tables_at table
   groups ← groups_in block bricks tables
+  volumes ← volumes_in groups [] volume_tables
   known ← no_other Other top_keys table
-  Ok (layout_with block bricks records port groups)
+  Ok (layout_with block bricks records port groups volumes)

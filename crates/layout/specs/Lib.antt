@@ -1,4 +1,7 @@
-pub mod Limits
+pub mod Segments
+pub mod Runs
 pub mod Names
+pub mod Limits
 pub mod Checks
 pub mod Texts
+pub mod Places

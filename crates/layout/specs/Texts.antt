@@ -27,4 +27,4 @@ three_members = record { members = record { 0 = 0 } ∷ (record { 0 = 1 } ∷ (r
 
 -- three bricks with blocks of one byte, each with room for 100 live records
 abbrev pub three_copies : Layout
-three_copies = layout_with 1 3 100 17000 (three_members ∷ [])
+three_copies = layout_with 1 3 100 17000 (three_members ∷ []) []

@@ -27,6 +27,12 @@ pub enum Key {
     GroupMembers,
     /// `stripes` of a group: how many stripes it has.
     GroupStripes,
+    /// `volume`: the list of volumes.
+    Volume,
+    /// `name` of a volume.
+    VolumeName,
+    /// `segments` of a volume: the stripes that hold its bytes.
+    VolumeSegments,
 }
 
 impl Key {
@@ -45,6 +51,9 @@ impl Key {
             Key::GroupM => "m",
             Key::GroupMembers => "members",
             Key::GroupStripes => "stripes",
+            Key::Volume => "volume",
+            Key::VolumeName => "name",
+            Key::VolumeSegments => "segments",
         }
     }
 
@@ -56,7 +65,11 @@ impl Key {
             Key::GroupM => "group.m",
             Key::GroupMembers => "group.members",
             Key::GroupStripes => "group.stripes",
-            Key::Block | Key::Bricks | Key::Records | Key::Port | Key::Group => self.as_str(),
+            Key::VolumeName => "volume.name",
+            Key::VolumeSegments => "volume.segments",
+            Key::Block | Key::Bricks | Key::Records | Key::Port | Key::Group | Key::Volume => {
+                self.as_str()
+            }
         }
     }
 }
@@ -113,6 +126,8 @@ pub enum FieldName {
     Other(KeyText),
     /// A key that a group has and the format has not.
     OtherOfGroup(KeyText),
+    /// A key that a volume has and the format has not.
+    OtherOfVolume(KeyText),
 }
 
 impl fmt::Display for FieldName {
@@ -131,6 +146,10 @@ impl fmt::Display for FieldName {
             FieldName::OtherOfGroup(text) => {
                 let key = text.as_str();
                 write!(f, "group.{key}")
+            }
+            FieldName::OtherOfVolume(text) => {
+                let key = text.as_str();
+                write!(f, "volume.{key}")
             }
         }
     }

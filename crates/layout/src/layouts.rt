@@ -77,7 +77,7 @@ fn copy_volumes(alloc: Global, volumes: &[Volume]) -> Result<Vec<Volume>, NoMem>
 
 impl Layout {
     // A layout of blocks of this many bytes, this many bricks, each with room for so many live records, the port of brick 0,
-    // and these groups. Its stores have form 2, and it has no spares and no volumes.
+    // and these groups and volumes. Its stores have form 2, and it has no spares.
     pub(crate) fn new(
         alloc: Global,
         block: u16,
@@ -85,9 +85,10 @@ impl Layout {
         records: u32,
         port: u16,
         groups: Vec<Group>,
+        volumes: Vec<Volume>,
     ) -> Layout
-        requires { IsLayout (layout_with block bricks records port groups.items) }
-        ensures { result ≡ layout_with block bricks records port groups.items }
+        requires { IsLayout (layout_with block bricks records port groups.items volumes.items) }
+        ensures { result ≡ layout_with block bricks records port groups.items volumes.items }
     {
         Layout {
             block,
@@ -97,7 +98,7 @@ impl Layout {
             store: 2,
             spares: Vec::new(alloc),
             groups,
-            volumes: Vec::new(alloc),
+            volumes,
         }
     }
 
@@ -119,6 +120,13 @@ impl Layout {
             groups: copy_groups(alloc, &self.groups)?,
             volumes: copy_volumes(alloc, &self.volumes)?,
         })
+    }
+
+    // The call does nothing: its contract says that the layout is within its limits.
+    pub(crate) fn is_within_limits(&self)
+        ensures { IsLayout self.now }
+    {
+        let _ = &self.block;
     }
 
     /// Bytes per block.

@@ -1,27 +1,32 @@
-//! The checks of a layout text, one after another, over the table that it is as a TOML document.
+//! The checks of the keys at the top of a layout text and of its groups, over the table that it is as a TOML document.
 
 ghost use Rattle.std.specs.Prelude.{◌≡◌, ◌≢◌, ◌≤◌, Some, None, Ok, Err, IfOk, IfErr, IfSome, length, map, option_map, option_copied};
 ghost use Rattle.toml.specs.Data.{get_member};
 ghost use Rattle.toml.specs.View.{view, array_view, table_view};
-ghost use Rattle.layout.specs.Limits.{IsLayout};
 ghost use Rattle.layout.specs.Names.{key_text};
-ghost use Rattle.layout.specs.Checks.{integer_at, array_at, brick_in, natural, within, number_at, port_at, least_other, keys_of, no_other, top_keys, group_keys, integers_in, bricks_in, stands_in, are_distinct, members_at, blocks_at, group_in, tables_in, tables_at, groups_in, is_known, layout_in};
+ghost use Rattle.layout.specs.Checks.{integer_at, array_at, brick_in, natural, within, number_at, port_at, least_other, keys_of, no_other, top_keys, group_keys, integers_in, bricks_in, stands_in, are_distinct, members_at, blocks_at, group_in, tables_in, tables_at, groups_in, is_known};
 
 use crate::faults::{FieldName, Key, KeyText, LayoutFault};
 use crate::groups::Group;
-use crate::layouts::Layout;
 use fab_base::{BrickId, Members, NoMem};
 use std::alloc::Global;
 use toml::value::Array;
 use toml::{Table, Value};
 
 // The keys at the top of a layout text, and those of a group.
-const TOP_KEYS: [Key; 5] = [Key::Block, Key::Bricks, Key::Records, Key::Port, Key::Group];
+const TOP_KEYS: [Key; 6] = [
+    Key::Block,
+    Key::Bricks,
+    Key::Records,
+    Key::Port,
+    Key::Group,
+    Key::Volume,
+];
 
 const GROUP_KEYS: [Key; 3] = [Key::GroupM, Key::GroupMembers, Key::GroupStripes];
 
 // The fault of a key that is missing, or whose value is of a wrong type.
-fn no_field(key: Key) -> LayoutFault
+pub fn no_field(key: Key) -> LayoutFault
     ensures { result ≡ LayoutFault.Field (FieldName.Known key) }
 {
     LayoutFault::Field {
@@ -30,14 +35,14 @@ fn no_field(key: Key) -> LayoutFault
 }
 
 // The fault of a value outside the limits of its key.
-fn limit(key: Key) -> LayoutFault
+pub fn limit(key: Key) -> LayoutFault
     ensures { result ≡ LayoutFault.Limit key }
 {
     LayoutFault::Limit { name: key }
 }
 
 // The value at a key, if there is one.
-fn value_at(table: &Table, key: Key) -> Option<&Value>
+pub fn value_at(table: &Table, key: Key) -> Option<&Value>
     ensures { option_map (λ value. view value.now) result ≡ get_member (key_text key) (table_view table.now) }
 {
     table.get(key.as_str())
@@ -51,14 +56,14 @@ fn integer_at(table: &Table, key: Key) -> Option<i64>
 }
 
 // The list at a key, if there is one.
-fn array_at(table: &Table, key: Key) -> Option<&Array>
+pub fn array_at(table: &Table, key: Key) -> Option<&Array>
     ensures { option_map (λ array. array_view array.now) result ≡ array_at (table_view table.now) key }
 {
     value_at(table, key)?.as_array()
 }
 
 // The number, if it is from the lower limit to the upper.
-fn natural(low: u32, high: u32, number: i64) -> Option<u32>
+pub fn natural(low: u32, high: u32, number: i64) -> Option<u32>
     ensures value { result ≡ natural low high number }
     ensures range { IfSome result (λ n. (low ≤ n) × (n ≤ high)) }
 {
@@ -99,7 +104,7 @@ pub fn port_at(table: &Table) -> Result<u32, LayoutFault>
 }
 
 // The whole numbers of a list, if it has nothing else.
-fn integers_in(alloc: Global, array: &Array) -> Result<Option<Vec<i64>>, NoMem>
+pub fn integers_in(alloc: Global, array: &Array) -> Result<Option<Vec<i64>>, NoMem>
     ensures { IfOk result (λ numbers. option_map (λ numbers. numbers.items) numbers ≡ integers_in (array_view array.now)) }
 {
     let mut numbers = Vec::new(alloc);
@@ -201,7 +206,7 @@ fn is_known(known: &[Key], text: &str) -> bool
 }
 
 // The least key of a table, in byte order, that is none of these.
-fn other_key<'a>(table: &'a Table, known: &[Key]) -> Option<&'a str>
+pub fn other_key<'a>(table: &'a Table, known: &[Key]) -> Option<&'a str>
     ensures { option_copied result ≡ least_other known.now (keys_of (table_view table.now)) }
 {
     for key in table.keys() {
@@ -214,7 +219,7 @@ fn other_key<'a>(table: &'a Table, known: &[Key]) -> Option<&'a str>
 }
 
 // Refuses another key at the top than those of the format.
-fn refuse_other(alloc: Global, table: &Table) -> Result<(), LayoutFault>
+pub fn refuse_other(alloc: Global, table: &Table) -> Result<(), LayoutFault>
     ensures ok { IfOk result (λ known. no_other FieldName.Other top_keys (table_view table.now) ≡ Ok known) }
     ensures err { IfErr result (λ fault. fault ≢ LayoutFault.NoMemory
         → no_other FieldName.Other top_keys (table_view table.now) ≡ Err fault) }
@@ -242,7 +247,7 @@ fn refuse_other_of_group(alloc: Global, table: &Table) -> Result<(), LayoutFault
 }
 
 // The tables of a list, if it has nothing else.
-fn tables_in(alloc: Global, array: &Array) -> Result<Option<Vec<&Table>>, NoMem>
+pub fn tables_in(alloc: Global, array: &Array) -> Result<Option<Vec<&Table>>, NoMem>
     ensures { IfOk result (λ tables. option_map (λ tables. map (λ table. table_view table.now) tables.items) tables ≡ tables_in
         (array_view array.now)) }
 {
@@ -257,7 +262,7 @@ fn tables_in(alloc: Global, array: &Array) -> Result<Option<Vec<&Table>>, NoMem>
 }
 
 // The tables of the groups: a list of tables, and then 1 to 64 of them.
-fn tables_at(alloc: Global, table: &Table) -> Result<Vec<&Table>, LayoutFault>
+pub fn tables_at(alloc: Global, table: &Table) -> Result<Vec<&Table>, LayoutFault>
     ensures ok { IfOk result (λ tables. tables_at (table_view table.now)
         ≡ Ok (map (λ table. table_view table.now) tables.items)) }
     ensures err { IfErr result (λ fault. fault ≢ LayoutFault.NoMemory
@@ -290,7 +295,7 @@ fn group_in(alloc: Global, block: u16, bricks: u16, table: &Table) -> Result<Gro
 }
 
 // The groups of some tables, by number.
-fn groups_in(
+pub fn groups_in(
     alloc: Global,
     block: u16,
     bricks: u16,
@@ -307,21 +312,4 @@ fn groups_in(
         groups.push(group_in(alloc, block, bricks, table)?)?;
     }
     Ok(groups)
-}
-
-/// The layout that the table of a text says.
-pub fn layout_in(alloc: Global, table: &Table) -> Result<Layout, LayoutFault>
-    ensures ok { IfOk result (λ layout. layout_in (table_view table.now) ≡ Ok layout) }
-    ensures err { IfErr result (λ fault. fault ≢ LayoutFault.NoMemory
-        → layout_in (table_view table.now) ≡ Err fault) }
-    ensures limits { IfOk result IsLayout }
-{
-    let block = number_at(table, Key::Block, 1, 4096)? as u16;
-    let bricks = number_at(table, Key::Bricks, 1, 64)? as u16;
-    let records = number_at(table, Key::Records, 1, 1_048_576)?;
-    let port = port_at(table)? as u16;
-    let tables = tables_at(alloc, table)?;
-    let groups = groups_in(alloc, block, bricks, tables.as_slice())?;
-    refuse_other(alloc, table)?;
-    Ok(Layout::new(alloc, block, bricks, records, port, groups))
 }

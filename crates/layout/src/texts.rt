@@ -4,9 +4,9 @@ ghost use Rattle.std.specs.Prelude.{◌≡◌, ◌≢◌, Some, None, Ok, Err, I
 ghost use Rattle.toml.specs.View.{table_view};
 ghost use Rattle.layout.specs.Texts.{document_of, layout_of, three_copies};
 
+use crate::document_checks::layout_in;
 use crate::faults::LayoutFault;
 use crate::layouts::Layout;
-use crate::tables::layout_in;
 use std::alloc::Global;
 use toml::Table;
 

@@ -1,6 +1,6 @@
 //! Volumes.
 
-ghost use Rattle.std.specs.Prelude.{◌≡◌, IfOk};
+ghost use Rattle.std.specs.Prelude.{◌≡◌, IfOk, string_bytes};
 
 use fab_base::{NoMem, Segment};
 use std::alloc::Global;
@@ -23,6 +23,13 @@ impl Model for Volume {
 }
 
 impl Volume {
+    // A volume of this name and these stripes.
+    pub(crate) fn new(name: String, segments: Vec<Segment>) -> Volume
+        ensures { result ≡ record { name = string_bytes name; segments = segments.items } }
+    {
+        Volume { name, segments }
+    }
+
     /// The name, in letters `a` to `z`, digits and `-`.
     pub fn name(&self) -> &str
         ensures { result.now ≡ self.now.name }

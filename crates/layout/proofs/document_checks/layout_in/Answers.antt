@@ -5,12 +5,13 @@ use Rattle.toml.specs.View.{table_view}
 use Rattle.fab_base.specs.Layouts.{Layout}
 use Rattle.layout.specs.Checks.{layout_with}
 use Rattle.layout.proofs.Accepted.{layout_is}
-use Rattle.layout.proofs.tables.layout_in.Goals as goal
+use Rattle.layout.proofs.document_checks.layout_in.Goals as goal
 
 pub new-requires : goal.new-requires
 new-requires c =
     let said : Layout =
-    layout_with c.in_ok-block.field-0 c.in_ok-bricks.field-0 c.in_ok-records.records c.in_ok-port.field-0 c.in_ok-groups.groups.items in
+    layout_with c.in_ok-block.field-0 c.in_ok-bricks.field-0 c.in_ok-records.records c.in_ok-port.field-0 c.in_ok-groups.groups.items
+    c.in_ok-volumes.volumes.items in
     layout_is (table_view c.args.table.now) said (grind (arith, common_steps))
 
 pub returns-in_err-block : goal.returns-in_err-block
@@ -28,8 +29,14 @@ returns-in_err-port c = search rules
 pub returns-in_err-tables : goal.returns-in_err-tables
 returns-in_err-tables c = search rules
 
+pub returns-in_err-volume_tables : goal.returns-in_err-volume_tables
+returns-in_err-volume_tables c = search rules
+
 pub returns-in_err-groups : goal.returns-in_err-groups
 returns-in_err-groups c = search rules
+
+pub returns-in_err-volumes : goal.returns-in_err-volumes
+returns-in_err-volumes c = search rules
 
 pub returns-in_err-refuse_other : goal.returns-in_err-refuse_other
 returns-in_err-refuse_other c = search rules
