@@ -5,7 +5,7 @@ use Rattle.std.proofs.lemmas.Bool.{cond_both, eqb-true, and_parts}
 use Rattle.messages.specs.declared.calls.Call.{Call}
 use Rattle.messages.specs.declared.replies.Reply.{Reply}
 use Rattle.fab_base.specs.Layouts.{seat_in}
-use Rattle.protocol.specs.Coordinators.{Coordinator, Counted, call_same, answers_phase, has_seat, new_seat, counts_at}
+use Rattle.protocol.specs.Coordinators.{Coordinator, Counted, call_same, answers_phase, has_seat, new_seat, answering_seat, counts_at}
 
 -- calls that test the same are equal
 call_of : ℕ → ℕ → ℕ → ℕ → ℕ → ℕ → Call
@@ -37,7 +37,7 @@ call_same_true a b is =
 -- a reply that counts at a seat
 pub record CountsAt (block : ℕ) (c : Coordinator) (from : ℕ) (call : Call) (reply : Reply) (seat : ℕ) : Type 0 where
   pub call_is : call ≡ c.call
-  pub answers : answers_phase block c.stamp c.phase reply ≡ true
+  pub answers : answers_phase block c.stamp seat c.phase reply ≡ true
   pub seat_is : seat_in c.group.members from ≡ Some seat
   pub first : has_seat seat c.counted ≡ false
 
@@ -50,18 +50,28 @@ new_seat_is counted (Some s) seat is =
     (λ isnt e. let same : s ≡ seat = cc in (e, subst (λ (z : ℕ). has_seat z counted ≡ false) same isnt))
     is
 
+answering_seat_is : (block : ℕ) (c : Coordinator) (reply : Reply) (o : Option ℕ) (seat : ℕ) → answering_seat block c reply o ≡ Some seat
+    → (o ≡ Some seat) × (answers_phase block c.stamp seat c.phase reply ≡ true)
+answering_seat_is block c reply None seat is = cc
+answering_seat_is block c reply (Some s) seat is =
+    cond_both (answers_phase block c.stamp s c.phase reply) (Some s) None
+    (λ (z : Option ℕ). z ≡ Some seat → (Some s ≡ Some seat) × (answers_phase block c.stamp seat c.phase reply ≡ true))
+    (λ answers e. let same : s ≡ seat = cc in (e, subst (λ (z : ℕ). answers_phase block c.stamp z c.phase reply ≡ true) same answers))
+    (λ isnt e. cc)
+    is
+
 -- what is known of a reply that counts
 pub counts_facts : (block : ℕ) (c : Coordinator) (from : ℕ) (call : Call) (reply : Reply) (seat : ℕ)
     → counts_at block c from call reply ≡ Some seat → CountsAt block c from call reply seat
 unfolding counts_at
 counts_facts block c from call reply seat is =
-    cond_both (call_same call c.call && (answers_phase block c.stamp c.phase reply && nat_lt c.call.phase (2 ^ 32 - 1)))
-    (new_seat c.counted (seat_in c.group.members from)) None
+    cond_both (call_same call c.call && nat_lt c.call.phase (2 ^ 32 - 1))
+    (new_seat c.counted (answering_seat block c reply (seat_in c.group.members from))) None
     (λ (z : Option ℕ). z ≡ Some seat → CountsAt block c from call reply seat)
     (λ test e.
-    let p = and_parts (call_same call c.call) (answers_phase block c.stamp c.phase reply && nat_lt c.call.phase (2 ^ 32 - 1)) test in
-    let q = and_parts (answers_phase block c.stamp c.phase reply) (nat_lt c.call.phase (2 ^ 32 - 1)) p.1 in
-    let n = new_seat_is c.counted (seat_in c.group.members from) seat e in
-    record { call_is = call_same_true call c.call p.0; answers = q.0; seat_is = n.0; first = n.1 })
+    let p = and_parts (call_same call c.call) (nat_lt c.call.phase (2 ^ 32 - 1)) test in
+    let n = new_seat_is c.counted (answering_seat block c reply (seat_in c.group.members from)) seat e in
+    let a = answering_seat_is block c reply (seat_in c.group.members from) seat n.0 in
+    record { call_is = call_same_true call c.call p.0; answers = a.1; seat_is = a.0; first = n.1 })
     (λ test e. cc)
     is

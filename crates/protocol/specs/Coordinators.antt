@@ -4,31 +4,34 @@ use Rattle.std.specs.Option.{option_map}
 use Rattle.fab_base.specs.declared.identities.BrickId.{BrickId}
 use Rattle.fab_base.specs.declared.stamps.Stamp.{Stamp}
 use Rattle.fab_base.specs.declared.asks.Ask.{Ask}
+use Rattle.fab_base.specs.declared.asks.Op.{Op}
+use Rattle.fab_base.specs.declared.asks.Op.TheVariants.{ReadBlock, WriteBlock, ReadStripe, WriteStripe}
 use Rattle.fab_base.specs.declared.answers.Answer.{Answer}
 use Rattle.fab_base.specs.declared.answers.Answer.TheVariants.{Data, Done, Aborted}
 use Rattle.fab_base.specs.declared.answers.Cause.TheVariants as Cause
 use Rattle.fab_base.specs.Stamps.{stamp_below, stamp_same}
 use Rattle.messages.specs.declared.calls.Call.{Call}
-use Rattle.messages.specs.declared.requests.Look.TheVariants.{Below}
+use Rattle.messages.specs.declared.requests.Look.TheVariants.{Below, At}
 use Rattle.messages.specs.declared.requests.Version.{Version}
-use Rattle.messages.specs.declared.requests.Want.TheVariants.{All}
+use Rattle.messages.specs.declared.requests.Want.TheVariants.{Seat, All}
 use Rattle.messages.specs.declared.requests.Request.{Request}
-use Rattle.messages.specs.declared.requests.Request.TheVariants.{Read, Order, OrderRead, Write}
+use Rattle.messages.specs.declared.requests.Request.TheVariants.{Read, Order, OrderRead, Write, Modify}
 use Rattle.messages.specs.declared.replies.Reply.{Reply}
-use Rattle.messages.specs.declared.replies.Reply.TheVariants.{Found, Ordered, OrderedRead, Stored, Later, Full}
+use Rattle.messages.specs.declared.replies.Reply.TheVariants.{Found, Ordered, OrderedRead, Stored, Behind, Later, Full}
 pub use Rattle.protocol.specs.declared.phases.Phase.{Phase}
-pub use Rattle.protocol.specs.declared.phases.Phase.TheVariants.{Looks, Orders, Recovers, Descends, Stores}
+pub use Rattle.protocol.specs.declared.phases.Phase.TheVariants.{Looks, LooksAt, Orders, OrdersAt, Recovers, Descends, Modifies, Bases, Stores}
 pub use Rattle.protocol.specs.declared.phases.Counted.{Counted}
 pub use Rattle.protocol.specs.declared.phases.Refuser.{Refuser}
 pub use Rattle.protocol.specs.declared.phases.FullMember.{FullMember}
 use Rattle.fab_base.specs.Layouts.{Group, seat_in}
 use Rattle.quorum.specs.Quorums.{quorum_of}
-use Rattle.reg_model.specs.Registers.{read_of}
+use Rattle.reg_model.specs.Registers.{read_of, after_op}
 use Rattle.protocol.specs.Settings.{Code, Piece}
+use Rattle.protocol.specs.Replicas.{is_changed}
 
 -- An open operation at its coordinator: the group, with the members of the operation's view; what is asked; its stamp; how many rounds of
--- ordering it has begun; the version that it read back, where it is a recovery that found one; the content that it stores, once it knows that;
--- the call of its present phase; and the replies that count in it.
+-- ordering it has begun; the version that it makes its own on, once it found one; the content that it stores, once it knows that, or what its data
+-- block changes by, while it modifies; the call of its present phase; and the replies that count in it.
 pub record Coordinator : Type 0 where
   pub group : Group
   pub ask : Ask
@@ -51,23 +54,44 @@ abbrev pub may_be_found : ℕ → Stamp → Option Version → Bool
 may_be_found block bound None = true
 may_be_found block bound (Some version) = nat_eq (length version.block) block && stamp_below version.stamp bound
 
--- A reply of this kind answers the request of a phase of an operation of this stamp.
-abbrev pub answers_phase : ℕ → Stamp → Phase → Reply → Bool
-answers_phase block t Looks (Found order None) = true
-answers_phase block t Looks (Found order (Some version)) = nat_eq (length version.block) block
-answers_phase block t Orders Ordered = true
-answers_phase block t Orders (Later x) = true
-answers_phase block t Orders (Full live) = true
-answers_phase block t Recovers (OrderedRead found) = may_be_found block t found
-answers_phase block t Recovers (Later x) = true
-answers_phase block t Recovers (Full live) = true
-answers_phase block t (Descends bound) (OrderedRead found) = may_be_found block bound found
-answers_phase block t (Descends bound) (Later x) = true
-answers_phase block t (Descends bound) (Full live) = true
-answers_phase block t Stores Stored = true
-answers_phase block t Stores (Later x) = true
-answers_phase block t Stores (Full live) = true
-answers_phase block t phase reply = false
+-- a version that was found has the length of a block, and is the phase's base
+abbrev pub may_be_base : ℕ → Stamp → Option Version → Bool
+may_be_base block base None = true
+may_be_base block base (Some version) = nat_eq (length version.block) block && stamp_same version.stamp base
+
+-- how many bytes a seat tells of a version, where those of data block j are wanted alone
+abbrev pub told_length : ℕ → ℕ → ℕ → ℕ
+told_length block j seat = if nat_eq j seat then block else 0
+
+-- A seat's reply of this kind answers the request of a phase of an operation of this stamp.
+abbrev pub answers_phase : ℕ → Stamp → ℕ → Phase → Reply → Bool
+answers_phase block t seat Looks (Found order None) = true
+answers_phase block t seat Looks (Found order (Some version)) = nat_eq (length version.block) block
+answers_phase block t seat (LooksAt j) (Found order None) = true
+answers_phase block t seat (LooksAt j) (Found order (Some version)) = nat_eq (length version.block) (told_length block j seat)
+answers_phase block t seat Orders Ordered = true
+answers_phase block t seat Orders (Later x) = true
+answers_phase block t seat Orders (Full live) = true
+answers_phase block t seat (OrdersAt j) (OrderedRead found) = may_be_found (told_length block j seat) t found
+answers_phase block t seat (OrdersAt j) (Later x) = true
+answers_phase block t seat (OrdersAt j) (Full live) = true
+answers_phase block t seat Recovers (OrderedRead found) = may_be_found block t found
+answers_phase block t seat Recovers (Later x) = true
+answers_phase block t seat Recovers (Full live) = true
+answers_phase block t seat (Descends bound) (OrderedRead found) = may_be_found block bound found
+answers_phase block t seat (Descends bound) (Later x) = true
+answers_phase block t seat (Descends bound) (Full live) = true
+answers_phase block t seat (Modifies base j) Stored = true
+answers_phase block t seat (Modifies base j) (Behind newest) = true
+answers_phase block t seat (Modifies base j) (Later x) = true
+answers_phase block t seat (Modifies base j) (Full live) = true
+answers_phase block t seat (Bases base) (OrderedRead found) = may_be_base block base found
+answers_phase block t seat (Bases base) (Later x) = true
+answers_phase block t seat (Bases base) (Full live) = true
+answers_phase block t seat Stores Stored = true
+answers_phase block t seat Stores (Later x) = true
+answers_phase block t seat Stores (Full live) = true
+answers_phase block t seat phase reply = false
 
 -- a seat has a reply that counts
 abbrev pub has_seat : ℕ → List Counted → Bool
@@ -79,12 +103,17 @@ abbrev pub new_seat : List Counted → Option ℕ → Option ℕ
 new_seat counted None = None
 new_seat counted (Some seat) = if has_seat seat counted then None else Some seat
 
+-- the seat, where this reply of it answers the coordinator's phase
+abbrev pub answering_seat : ℕ → Coordinator → Reply → Option ℕ → Option ℕ
+answering_seat block c reply None = None
+answering_seat block c reply (Some seat) = if answers_phase block c.stamp seat c.phase reply then Some seat else None
+
 -- The seat at which a brick's reply counts: it is to this very phase, answers it, and is its seat's first.
 -- In the last phase that a call can number nothing counts.
 unfoldable pub counts_at : ℕ → Coordinator → ℕ → Call → Reply → Option ℕ
 counts_at block c from call reply =
-    if call_same call c.call && (answers_phase block c.stamp c.phase reply && nat_lt c.call.phase (2 ^ 32 - 1))
-    then new_seat c.counted (seat_in c.group.members from)
+    if call_same call c.call && nat_lt c.call.phase (2 ^ 32 - 1)
+    then new_seat c.counted (answering_seat block c reply (seat_in c.group.members from))
     else None
 
 -- the version that a reply tells
@@ -116,6 +145,10 @@ unfoldable pub fast_version : List Counted → Option Stamp
 fast_version [] = None
 fast_version (c ∷ counted) = told_by_all (told_stamp c.reply) (c ∷ counted)
 
+-- the same, for a read of data block j: its seat has replied
+unfoldable pub fast_version_at : ℕ → List Counted → Option Stamp
+fast_version_at j counted = if has_seat j counted then fast_version counted else None
+
 -- the bytes of the version that a reply tells
 abbrev pub bytes_of : Option Version → List ℕ
 bytes_of None = []
@@ -123,6 +156,11 @@ bytes_of (Some version) = version.block
 
 abbrev pub found_bytes : Reply → List ℕ
 found_bytes reply = bytes_of (told_in reply)
+
+-- the bytes that the reply of a seat tells
+abbrev pub bytes_at : ℕ → List Counted → List ℕ
+bytes_at seat [] = []
+bytes_at seat (c ∷ counted) = if nat_eq c.seat seat then found_bytes c.reply else bytes_at seat counted
 
 -- the blocks that the replies tell, by seat
 abbrev pub pieces_of : List Counted → List Piece
@@ -151,6 +189,33 @@ finds v c = is_stamp (told_stamp c.reply)
 -- the blocks of a version that the replies tell, by seat
 abbrev pub pieces_at : Stamp → List Counted → List Piece
 pieces_at v counted = pieces_of (filter (finds v) counted)
+
+abbrev pub all_find : Stamp → List Counted → Bool
+all_find v [] = true
+all_find v (c ∷ counted) = finds v c && all_find v counted
+
+-- the stamp, where all replies find it
+abbrev pub found_by_all : Option Stamp → List Counted → Option Stamp
+found_by_all None counted = None
+found_by_all (Some v) counted = if all_find v counted then Some v else None
+
+-- the version that all replies find
+unfoldable pub common_version : List Counted → Option Stamp
+common_version [] = None
+common_version (c ∷ counted) = found_by_all (told_stamp c.reply) (c ∷ counted)
+
+-- the same, for a write of data block j: its seat has replied
+unfoldable pub common_version_at : ℕ → List Counted → Option Stamp
+common_version_at j counted = if has_seat j counted then common_version counted else None
+
+-- a member's newest version is another than the one that was to be modified
+abbrev pub is_behind : Reply → Bool
+is_behind (Behind newest) = true
+is_behind reply = false
+
+abbrev pub some_behind : List Counted → Bool
+some_behind [] = false
+some_behind (c ∷ counted) = is_behind c.reply || some_behind counted
 
 -- the member that told a later stamp, if this one did
 abbrev pub refuser_of : Counted → Option Refuser
@@ -194,19 +259,27 @@ abbrev pub lowest_full : List Counted → Option FullMember
 lowest_full [] = None
 lowest_full (c ∷ counted) = lower_full (full_member_of c) (lowest_full counted)
 
+-- what a seat is told that data block j changed by: nothing, where its block stays as it is
+abbrev pub delta_at : ℕ → ℕ → ℕ → List ℕ → List ℕ
+delta_at m j seat delta = if is_changed m j seat then delta else []
+
 -- what the phase asks of the member at a seat
 unfoldable pub request_of : Code → Coordinator → ℕ → Request
 request_of code c seat = request_in c.phase
   where
     request_in : Phase → Request
     request_in Looks = Read All
+    request_in (LooksAt j) = Read (Seat j)
     request_in Orders = Order c.stamp
+    request_in (OrdersAt j) = OrderRead c.stamp (Below c.stamp) (Seat j)
     request_in Recovers = OrderRead c.stamp (Below c.stamp) All
     request_in (Descends bound) = OrderRead c.stamp (Below bound) All
+    request_in (Modifies base j) = Modify c.stamp base j (delta_at c.group.m j seat c.content)
+    request_in (Bases base) = OrderRead c.stamp (At base) All
     request_in Stores = Write c.stamp (code.encode c.group.m c.content seat)
 
 -- What a coordinator does with a reply: it leaves it out, waits for more, begins its next phase, makes its
--- version by beginning to store it, or ends. An end tells the version that a fast read saw, and the one that
+-- version by beginning to store or to modify, or ends. An end tells the version that a fast read saw, and the one that
 -- was stored, which may now be collected.
 pub data Next : Type 0 where
   Ignores : Next
@@ -223,9 +296,21 @@ next_phase call = record call { phase = call.phase + 1 }
 abbrev pub in_phase : Coordinator → Phase → Coordinator
 in_phase c phase = record c { call = next_phase c.call; phase = phase; counted = [] }
 
--- the coordinator in its store phase, where it read this version back
-abbrev pub restoring : Coordinator → Stamp → List ℕ → Coordinator
-restoring c v content = record (in_phase c Stores) { base = Some v; content = content }
+-- the coordinator in its store phase, where it read this version back: what it stores is what the operation makes of that content
+abbrev pub restoring : ℕ → Coordinator → Stamp → List ℕ → Coordinator
+restoring block c v content = record (in_phase c Stores) { base = Some v; content = after_op block c.ask.op content }
+
+-- the bytes that a write of a data block writes
+abbrev pub block_written : Op → List ℕ
+block_written (ReadBlock j) = []
+block_written (WriteBlock j bytes) = bytes
+block_written ReadStripe = []
+block_written (WriteStripe bytes) = []
+
+-- the coordinator as it begins to modify this version in data block j, by what the block that was found there changes by
+abbrev pub modifying : Code → Coordinator → Stamp → ℕ → Coordinator
+modifying code c v j =
+    record (in_phase c (Modifies v j)) { base = Some v; content = code.delta (bytes_at j c.counted) (block_written c.ask.op) }
 
 -- the coordinator in its next round of ordering, with a new stamp
 abbrev pub reordering : Coordinator → Stamp → Coordinator
@@ -272,13 +357,34 @@ abbrev pub answered_fast : Code → Coordinator → Option Stamp → Next
 answered_fast code c None = Sends (in_phase c Recovers)
 answered_fast code c (Some v) = Ends (Data (code.decode c.group.m (pieces_of c.counted))) (Some v) None
 
+-- a read of data block j is answered where its version is told by all, and the block's seat replied, and else recovers
+abbrev pub answered_fast_at : Coordinator → ℕ → Option Stamp → Next
+answered_fast_at c j None = Sends (in_phase c Recovers)
+answered_fast_at c j (Some v) = Ends (Data (bytes_at j c.counted)) (Some v) None
+
 -- A recovery reads back the greatest version found, where there are enough blocks of it, and else looks below
 -- it. Where nothing was found, it forgets the replies, and waits for more.
-abbrev pub read_back : Code → Coordinator → Option Stamp → Next
-read_back code c None = Waits (forgetting c)
-read_back code c (Some v) =
+abbrev pub read_back : ℕ → Code → Coordinator → Option Stamp → Next
+read_back block code c None = Waits (forgetting c)
+read_back block code c (Some v) =
     if nat_lt (length (pieces_at v c.counted)) c.group.m then Sends (in_phase c (Descends v))
-    else Makes (restoring c v (code.decode c.group.m (pieces_at v c.counted)))
+    else Makes (restoring block c v (code.decode c.group.m (pieces_at v c.counted)))
+
+-- a write of data block j modifies the version that all found, where the block's seat replied, and else looks for the greatest below its own stamp
+abbrev pub modified_if : Code → Coordinator → ℕ → Option Stamp → Next
+modified_if code c j None = Sends (in_phase c (Descends c.stamp))
+modified_if code c j (Some v) = Makes (modifying code c v j)
+
+-- a write is done once a quorum has modified its version; where a member was behind, its base is read back
+abbrev pub once_modified : Coordinator → Stamp → Next
+once_modified c base = if some_behind c.counted then Sends (in_phase c (Bases base)) else Ends Done None (Some c.stamp)
+
+-- A write reads its base back, where there are enough blocks of it, and stores what it makes of that. Where there are too few, it forgets the
+-- replies, and waits for more.
+abbrev pub rebuilt : ℕ → Code → Coordinator → Stamp → Next
+rebuilt block code c base =
+    if nat_lt (length (pieces_at base c.counted)) c.group.m then Waits (forgetting c)
+    else Sends (restoring block c base (code.decode c.group.m (pieces_at base c.counted)))
 
 -- what an operation is answered where a read of it gives these bytes, if it reads
 abbrev pub answer_with : Option (List ℕ) → Answer
@@ -291,9 +397,13 @@ decided block code fresh c = unless_told_full (lowest_full c.counted) (decided_i
   where
     decided_in : Phase → Next
     decided_in Looks = answered_fast code c (fast_version c.counted)
+    decided_in (LooksAt j) = answered_fast_at c j (fast_version_at j c.counted)
     decided_in Orders = once_ordered fresh c (greatest_refuser c.counted) (Makes (in_phase c Stores))
-    decided_in Recovers = once_ordered fresh c (greatest_refuser c.counted) (read_back code c (greatest_found c.counted))
-    decided_in (Descends bound) = unless_refused (greatest_refuser c.counted) (read_back code c (greatest_found c.counted))
+    decided_in (OrdersAt j) = once_ordered fresh c (greatest_refuser c.counted) (modified_if code c j (common_version_at j c.counted))
+    decided_in Recovers = once_ordered fresh c (greatest_refuser c.counted) (read_back block code c (greatest_found c.counted))
+    decided_in (Descends bound) = unless_refused (greatest_refuser c.counted) (read_back block code c (greatest_found c.counted))
+    decided_in (Modifies base j) = unless_refused (greatest_refuser c.counted) (once_modified c base)
+    decided_in (Bases base) = unless_refused (greatest_refuser c.counted) (rebuilt block code c base)
     decided_in Stores = unless_refused (greatest_refuser c.counted) (Ends (answer_with (read_of block c.ask.op c.content)) None (Some c.stamp))
 
 -- the coordinator with one more reply

@@ -18,8 +18,8 @@ pub use Rattle.protocol.specs.declared.tellings.Answered.{Answered}
 use Rattle.fab_base.specs.Layouts.{Layout, Group, group_of, seat_in}
 use Rattle.protocol.specs.Settings.{Setting, are_bytes}
 use Rattle.protocol.specs.Views.{Learnt, first_learnt, group_kept, floor_of}
-use Rattle.protocol.specs.Replicas.{Replica, Reaction, fresh_replica, handle, stamp_max, top_of}
-use Rattle.protocol.specs.Coordinators.{Phase, Looks, Orders, Coordinator, Counted, Next, Ignores, Waits, Sends, Makes, Ends, has_seat, request_of, on_reply}
+use Rattle.protocol.specs.Replicas.{Replica, Reaction, fresh_replica, handle, is_changed, stamp_max, top_of}
+use Rattle.protocol.specs.Coordinators.{Phase, Looks, LooksAt, Orders, OrdersAt, Coordinator, Counted, Next, Ignores, Waits, Sends, Makes, Ends, has_seat, request_of, on_reply}
 
 -- a function with one value changed
 abbrev pub put : {A : Type 0} → (ℕ → A) → ℕ → A → ℕ → A
@@ -148,8 +148,8 @@ refusal_of layout node ask = refusal_in layout.block node ask (group_of layout a
 
 -- a read looks first, and a write orders
 abbrev pub first_phase : Op → Phase
-first_phase (ReadBlock j) = Looks
-first_phase (WriteBlock j bytes) = Orders
+first_phase (ReadBlock j) = LooksAt j
+first_phase (WriteBlock j bytes) = OrdersAt j
 first_phase ReadStripe = Looks
 first_phase (WriteStripe bytes) = Orders
 
@@ -237,37 +237,44 @@ abbrev pub reacted : BrickId → BrickId → Node → Call → Reaction → Node
 reacted me from node call reaction =
     sending (with_replica node call reaction) (reply_packets me from call reaction.reply)
 
--- a member handles a request; another brick ignores it
-abbrev pub requested_at : ℕ → BrickId → BrickId → Node → Call → Request → Option ℕ → NodeStep
-requested_at records me from node call request None = no_step node
-requested_at records me from node call request (Some seat) =
-    reacted me from node call (handle (full_at records node.live) seat (replica_at node call) request)
+-- a member handles a request of a stripe of m data blocks; another brick ignores it
+abbrev pub requested_at : Setting → ℕ → BrickId → BrickId → Node → Call → Request → Option ℕ → NodeStep
+requested_at setting m me from node call request None = no_step node
+requested_at setting m me from node call request (Some seat) =
+    reacted me from node call (handle setting.code m (full_at setting.layout.records node.live) seat (replica_at node call) request)
 
 -- a call is of a stripe that the group has, and of the view that the brick has learnt, while it has accepted none to follow that
 abbrev pub is_served : Group → Node → Call → Bool
 is_served group node call =
     nat_lt call.stripe.0 group.stripes && (nat_eq call.view.0 (view_at node call.group.0) && not (node.accepted call.group.0))
 
--- what a request stores has the length of a block
-abbrev pub fits_block : ℕ → Request → Bool
-fits_block block (Request.Write t bytes) = nat_eq (length bytes) block
-fits_block block request = true
+-- What a request has a seat store is a block: it has the length of one; or it changes one of the m data blocks, by as many bytes, or by none where
+-- the seat's block stays as it is.
+abbrev pub fits_block : ℕ → ℕ → ℕ → Request → Bool
+fits_block block m seat (Request.Write t bytes) = nat_eq (length bytes) block
+fits_block block m seat (Request.Modify t base j delta) = nat_lt j m && nat_eq (length delta) (if is_changed m j seat then block else 0)
+fits_block block m seat request = true
+
+-- the seat, where what a request has it store is a block
+abbrev pub fitting_seat : ℕ → ℕ → Request → Option ℕ → Option ℕ
+fitting_seat block m request None = None
+fitting_seat block m request (Some seat) = if fits_block block m seat request then Some seat else None
 
 -- the seat of the brick among the members, where a request is not void: it is of a stripe that there is, and would store what is a block, if anything
-abbrev pub seat_served : Layout → BrickId → Node → Call → Request → Option Group → Option ℕ
-seat_served layout me node call request None = None
-seat_served layout me node call request (Some group) =
-    if is_served group node call && fits_block layout.block request then seat_in group.members me.0 else None
+abbrev pub seat_served : Layout → BrickId → Node → Call → Request → Group → Option ℕ
+seat_served layout me node call request group =
+    if is_served group node call then fitting_seat layout.block group.m request (seat_in group.members me.0) else None
 
 -- a void request is ignored, as one to a brick that is no member
-abbrev pub requested_in : Layout → BrickId → BrickId → Node → Call → Request → Option Group → NodeStep
-requested_in layout me from node call request group =
-    requested_at layout.records me from node call request (seat_served layout me node call request group)
+abbrev pub requested_in : Setting → BrickId → BrickId → Node → Call → Request → Option Group → NodeStep
+requested_in setting me from node call request None = no_step node
+requested_in setting me from node call request (Some group) =
+    requested_at setting group.m me from node call request (seat_served setting.layout me node call request group)
 
 -- a brick handles a request
 unfoldable pub requested : Setting → BrickId → BrickId → Node → Call → Request → NodeStep
 requested setting me from node call request =
-    requested_in setting.layout me from node call request (group_at setting.layout node call.group.0)
+    requested_in setting me from node call request (group_at setting.layout node call.group.0)
 
 -- the time that a reply makes known
 abbrev pub known_after : ℕ → Reply → ℕ

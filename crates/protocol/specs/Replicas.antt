@@ -10,7 +10,8 @@ use Rattle.messages.specs.declared.requests.Want.TheVariants.{Seat, All}
 use Rattle.messages.specs.declared.requests.Request.{Request}
 use Rattle.messages.specs.declared.requests.Request.TheVariants.{Read, Order, OrderRead, Write, Modify, Collect, OldRead, Prepare, Accept}
 use Rattle.messages.specs.declared.replies.Reply.{Reply}
-use Rattle.messages.specs.declared.replies.Reply.TheVariants.{Found, Ordered, OrderedRead, Stored, Later, Full}
+use Rattle.messages.specs.declared.replies.Reply.TheVariants.{Found, Ordered, OrderedRead, Stored, Behind, Later, Full}
+use Rattle.protocol.specs.Settings.{Code}
 
 -- the stamp that the member has promised to take nothing below, and its log of versions, oldest first
 pub record Replica : Type 0 where
@@ -124,19 +125,42 @@ order_read full replica t look wanted =
     if stamp_below t (top_of replica) then stays replica (Later (top_of replica))
     else unless_full full replica (promised replica t (OrderedRead (told_version wanted (looked_up look replica.log))))
 
+-- the seats whose blocks change with data block j: its own, and those of the parity blocks
+abbrev pub is_changed : ℕ → ℕ → ℕ → Bool
+is_changed m j seat = nat_eq seat j || not (nat_lt seat m)
+
+-- a seat's block, once data block j changed by this
+abbrev pub modified_block : Code → ℕ → ℕ → ℕ → List ℕ → List ℕ → List ℕ
+modified_block code m j seat delta block = if is_changed m j seat then code.modify m j seat delta block else block
+
+-- store a version that differs from its base, the newest one here, by what data block j changed by
+abbrev pub modified_on : Code → ℕ → Option ℕ → ℕ → Replica → Stamp → Stamp → ℕ → List ℕ → Option Version → Reaction
+modified_on code m full seat replica t base j delta None = stays replica (Behind None)
+modified_on code m full seat replica t base j delta (Some newest) =
+    if stamp_same newest.stamp base
+    then unless_full full replica (stored replica t (modified_block code m j seat delta newest.block))
+    else stays replica (Behind (Some newest.stamp))
+
+-- the same, unless something later was promised or stored; a version that is held already is stored
+abbrev pub modified : Code → ℕ → Option ℕ → ℕ → Replica → Stamp → Stamp → ℕ → List ℕ → Reaction
+modified code m full seat replica t base j delta =
+    if is_held t replica.log then stays replica Stored
+    else if stamp_below t (top_of replica) then stays replica (Later (top_of replica))
+    else modified_on code m full seat replica t base j delta (newest_of replica.log)
+
 -- a request that is ignored
 abbrev pub ignored : Replica → Reaction
 ignored replica = record { replica = replica; reply = None; adds = 0; drops = 0 }
 
--- What the member at a seat does with a request. Versions are not collected yet, and no coordinator sends the
+-- What the member at a seat does with a request, where a stripe has m data blocks. Versions are not collected yet, and no coordinator sends the other
 -- requests that are ignored here.
-unfoldable pub handle : Option ℕ → ℕ → Replica → Request → Reaction
-handle full seat replica (Read want) = stays replica (Found replica.order (told_version (is_wanted want seat) (newest_of replica.log)))
-handle full seat replica (Order t) = ordered full replica t
-handle full seat replica (Write t block) = written full replica t block
-handle full seat replica (OrderRead t look want) = order_read full replica t look (is_wanted want seat)
-handle full seat replica (Modify t base j delta) = ignored replica
-handle full seat replica (Collect t) = ignored replica
-handle full seat replica (OldRead bound) = ignored replica
-handle full seat replica (Prepare ballot) = ignored replica
-handle full seat replica (Accept ballot members) = ignored replica
+unfoldable pub handle : Code → ℕ → Option ℕ → ℕ → Replica → Request → Reaction
+handle code m full seat replica (Read want) = stays replica (Found replica.order (told_version (is_wanted want seat) (newest_of replica.log)))
+handle code m full seat replica (Order t) = ordered full replica t
+handle code m full seat replica (Write t block) = written full replica t block
+handle code m full seat replica (OrderRead t look want) = order_read full replica t look (is_wanted want seat)
+handle code m full seat replica (Modify t base j delta) = modified code m full seat replica t base j delta
+handle code m full seat replica (Collect t) = ignored replica
+handle code m full seat replica (OldRead bound) = ignored replica
+handle code m full seat replica (Prepare ballot) = ignored replica
+handle code m full seat replica (Accept ballot members) = ignored replica

@@ -20,7 +20,7 @@ use Rattle.protocol.specs.Settings.{Setting}
 use Rattle.protocol.specs.Views.{view_of}
 use Rattle.protocol.specs.Replicas.{fresh_replica, is_held}
 use Rattle.protocol.specs.Coordinators.{Counted, Coordinator, counts_at}
-use Rattle.protocol.specs.Nodes.{Node, NodeStep, Told, Made, Seen, Answered, top_at, put, first_node, is_stripe_op, refusal_of, invoked, received, absorbed, ticked, stopped, restarted, may_open}
+use Rattle.protocol.specs.Nodes.{Node, NodeStep, Told, Made, Seen, Answered, top_at, put, first_node, refusal_of, invoked, received, absorbed, ticked, stopped, restarted, may_open}
 
 -- Which of two a store is found to hold, when its brick starts: what it held before the handling that the brick's stop cut short, or what that
 -- handling would have kept.
@@ -110,10 +110,10 @@ is_brick layout brick = nat_lt brick.0 layout.bricks
 abbrev pub is_up : Layout → World → BrickId → Bool
 is_up layout w brick = is_brick layout brick && w.up brick.0
 
--- the brick begins an operation that is a whole stripe's and is not refused
+-- the brick begins an operation that is not refused
 abbrev pub may_begin : Setting → World → BrickId → Ask → Bool
 may_begin setting w brick ask =
-    is_up setting.layout w brick && (is_stripe_op ask.op && not (is_some (refusal_of setting.layout (w.nodes brick.0) ask)))
+    is_up setting.layout w brick && not (is_some (refusal_of setting.layout (w.nodes brick.0) ask))
 
 -- the numbers of calls, with that of a brick's last call
 abbrev pub with_number : (ℕ → ℕ → ℕ → ℕ) → ℕ → Node → ℕ → ℕ → ℕ → ℕ → ℕ

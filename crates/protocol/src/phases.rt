@@ -4,18 +4,32 @@ use fab_base::{BrickId, Stamp};
 use messages::Reply;
 
 /// The phase that an operation is in (Frølund 2004: a read looks, and recovers where it finds no version that
-/// all tell; a write orders, and then stores).
+/// all tell; a write orders, and then stores, or modifies where it writes one block).
 #[derive(Clone, Copy, PartialEq, Eq)]
 pub enum Phase {
-    /// A read has asked each member for its newest version.
+    /// A read of a stripe has asked each member for its newest version.
     Looks,
+    /// A read of this data block has asked each member for its newest version, and the member of the block's seat for its bytes.
+    LooksAt(u8),
     /// A stripe write has asked each member to promise its stamp.
     Orders,
+    /// A write of this data block has asked each member to promise its stamp, and for its newest version below that, and the
+    /// member of the block's seat for its bytes.
+    OrdersAt(u8),
     /// A recovery has asked each member to promise its stamp, and for its newest version below that.
     Recovers,
     /// A recovery that found too few blocks of a version has asked each member for its newest version below
     /// this one.
     Descends(Stamp),
+    /// A write of a data block that all members told this base has sent each of them what changes.
+    Modifies {
+        /// The version that the new one is made on.
+        base: Stamp,
+        /// The data block.
+        data_block: u8,
+    },
+    /// A write of a data block for whose change a member was behind has asked each member for its version of this stamp, the base.
+    Bases(Stamp),
     /// An operation that made a version has sent each member its block.
     Stores,
 }
