@@ -38,7 +38,7 @@ AnyBlocksDecode code block m n =
 -- a data block's seat keeps it as it is
 abbrev pub KeepsDataBlocks : Code → ℕ → ℕ → Type 0
 KeepsDataBlocks code block m =
-    (content : List ℕ) (seat : ℕ) → length content ≡ m * block → seat < m → code.encode m content seat ≡ block_of block seat content
+    (content : List ℕ) (seat : ℕ) → length content ≡ m * block → are_bytes content ≡ true → seat < m → code.encode m content seat ≡ block_of block seat content
 
 -- what a data block changes by makes of each seat's block that of the changed content
 abbrev pub ModifiesBlocks : Code → ℕ → ℕ → ℕ → Type 0

@@ -1,6 +1,8 @@
 -- The disk's code, as the machine is told it: block k of a stripe's content, and the content that blocks at m seats give back.
-use Rattle.std.specs.Prelude.{◌≡◌, ℕ, ◌-◌, ◌*◌, ◌<◌, ◌≤◌, List, [], length, map, take, slice_index, slice_index_or}
+use Rattle.std.specs.Prelude.{◌≡◌, ℕ, ◌-◌, ◌*◌, ◌<◌, ◌≤◌, List, [], length, map, take, slice_index, slice_index_or, bit_xor}
 use Rattle.std.specs.List.{concat, range_with_len, AllByRecursion}
+use Rattle.gf_field.specs.Field.{field_mul}
+use Rattle.gf_field.specs.Polynomials.{weight_of}
 use Rattle.rs_code.specs.Codewords.{weighted_sum}
 use Rattle.rs_code.specs.Stripes.{coded_block, block_of}
 use Rattle.fab_base.specs.Layouts.{Layout}
@@ -29,9 +31,24 @@ decoded_block m size pieces j = map (λ t. weighted_sum m m (seat_of pieces) (by
 unfoldable pub decoded : ℕ → ℕ → List Piece → List ℕ
 decoded m size pieces = concat (map (decoded_block m size (take m pieces)) (range_with_len 0 m))
 
+-- what a block of this many bytes changes by: the sum of its old and new bytes, byte by byte
+unfoldable pub block_delta : ℕ → List ℕ → List ℕ → List ℕ
+block_delta size old new = map (λ t. bit_xor (slice_index old t) (slice_index new t)) (range_with_len 0 size)
+
+-- a seat's block once data block j changed by this: each byte plus the weight of block j at that seat times what the byte changes by
+unfoldable pub modified_block : ℕ → ℕ → ℕ → ℕ → List ℕ → List ℕ → List ℕ
+modified_block m size j seat delta block =
+    map (λ t. bit_xor (slice_index block t) (field_mul (weight_of m (λ i. i) j seat) (slice_index delta t))) (range_with_len 0 size)
+
 -- the code of blocks of this many bytes
 abbrev pub block_code : ℕ → Code
-block_code size = record { encode = λ m content seat. coded_block m size content seat; decode = λ m pieces. decoded m size pieces }
+block_code size =
+    record {
+      encode = λ m content seat. coded_block m size content seat;
+      decode = λ m pieces. decoded m size pieces;
+      delta = λ old new. block_delta size old new;
+      modify = λ m j seat delta block. modified_block m size j seat delta block;
+    }
 
 -- these are, one after the other, the blocks that the members at the seats from m up to n keep of a content
 pub record AreParity (m n size : ℕ) (content parity : List ℕ) : Type 0 where
