@@ -1,5 +1,5 @@
 -- A brick begins an operation, with a stamp that no part of any stripe has.
-use Rattle.std.proofs.Common.{◌≡◌, ℕ, ◌+◌, ◌≤◌, ◌⊎◌, inl, inr, true, false, not, List, [], ◌∷◌, length, Option, Some, None, refl, sym, ap, ◌∙◌, subst, ⊎_elim, arith}
+use Rattle.std.proofs.Common.{◌≡◌, ℕ, ◌+◌, ◌≤◌, ◌⊎◌, inl, inr, false, not, [], ◌∷◌, length, Option, Some, None, refl, sym, ap, ◌∙◌, subst, ⊎_elim, arith}
 use Rattle.std.specs.Prelude.{slice_get}
 use Rattle.std.proofs.lemmas.Bool.{false≢true}
 use Rattle.std.proofs.lemmas.List.{length-append}
@@ -9,8 +9,6 @@ use Rattle.fab_base.specs.declared.asks.Ask.{Ask}
 use Rattle.fab_base.specs.declared.asks.Op.{Op}
 use Rattle.fab_base.specs.declared.asks.Op.TheVariants.{ReadBlock, WriteBlock, ReadStripe, WriteStripe}
 use Rattle.messages.specs.declared.packets.Packet.{Packet}
-use Rattle.messages.specs.declared.requests.Request.{Request}
-use Rattle.messages.specs.declared.requests.Want.TheVariants as Want
 use Rattle.reg_model.specs.declared.marks.Mark.{Mark}
 use Rattle.reg_model.specs.declared.marks.Mark.TheVariants.{Begin, End}
 use Rattle.reg_model.specs.Marks.{life_of, position_of}
@@ -18,41 +16,46 @@ use Rattle.reg_model.specs.Walk.{last_of}
 use Rattle.fab_base.specs.Stamps.{stamp_below}
 use Rattle.fab_base.specs.Layouts.{Group, group_of, brick_at}
 use Rattle.quorum.proofs.Counts.{count_monotone}
-use Rattle.protocol.specs.Settings.{Setting, Code}
+use Rattle.protocol.specs.Settings.{Setting}
 use Rattle.protocol.specs.Replicas.{top_of}
 use Rattle.protocol.specs.declared.phases.Phase.{Phase}
-use Rattle.protocol.specs.declared.phases.Phase.TheVariants.{Looks, Orders, Descends, Stores}
+use Rattle.protocol.specs.declared.phases.Phase.TheVariants.{Looks, LooksAt, Orders, OrdersAt, Recovers, Descends, Modifies, Bases, Stores}
 use Rattle.protocol.specs.Coordinators.{Coordinator, request_of}
-use Rattle.protocol.specs.Nodes.{Node, put, is_stripe_op, first_phase, new_coordinator, opened, began_in, phase_packets, top_at}
+use Rattle.protocol.specs.Nodes.{Node, put, first_phase, new_coordinator, opened, began_in, phase_packets, top_at}
 use Rattle.protocol.specs.Worlds.{World, Operation, world_began}
 use Rattle.protocol_laws.proofs.Parts.{part_of, PartsGuard}
 use Rattle.protocol_laws.proofs.FirstViews.{floor_at, floor_first, view_first}
 use Rattle.protocol_laws.proofs.Books.{Books, IsOperation}
-use Rattle.protocol_laws.proofs.Said.{Begun, Stamping, Said, IsSaid, IsBegun, IsStamped, IsKnown, IsStampOf, IsCalled, FitsPhase, FloorsAtLeast, RequestSays, PacketSays, OperationSays, CallSays, IsInOrder}
+use Rattle.protocol_laws.proofs.Said.{Begun, Stamping, Said, IsSaid, IsBegun, IsStamped, IsKnown, IsStampOf, IsCalled, FitsPhase, FloorsAtLeast, RequestSays, PacketSays, OperationSays, CallSays, IsInOrder, DescendsFrom, base_in}
 use Rattle.protocol_laws.proofs.Tables.{put_each, put_same, get_grown, get_one, sent_to_member}
 use Rattle.protocol_laws.proofs.Lives.{last_grows}
 use Rattle.protocol_laws.proofs.Growth.{Grows, continues_same}
 use Rattle.protocol_laws.proofs.Steps.{KeepsStamps, parts_kept, sent_by, ages_by, calls_by, phase_asked, said_after}
 use Rattle.protocol_laws.proofs.Stampings.{known_first, ComesFrom, ages_within, stays_known, later_unknown, with_stamp, stamp_now, stamps_other, stamp_last, stamps_grow, stamps_say}
 
--- what a phase asks
-request_looks : (code : Code) (c : Coordinator) (seat : ℕ) → c.phase ≡ Looks → request_of code c seat ≡ Request.Read Want.All
-unfolding request_of
-request_looks code c seat is = rw is
+-- an operation fits its first phase
+first_fits : (op : Op) → FitsPhase (first_phase op) op
+first_fits (ReadBlock j) = refl
+first_fits (WriteBlock j bytes) = (bytes, refl)
+first_fits ReadStripe = refl
+first_fits (WriteStripe bytes) = (bytes, refl)
 
-request_orders : (code : Code) (c : Coordinator) (seat : ℕ) → c.phase ≡ Orders → request_of code c seat ≡ Request.Order c.stamp
-unfolding request_of
-request_orders code c seat is = rw is
+-- a phase that an operation may begin in
+abbrev IsFirstPhase : Phase → Type 0
+IsFirstPhase Looks = Unit {0}
+IsFirstPhase (LooksAt j) = Unit {0}
+IsFirstPhase Orders = Unit {0}
+IsFirstPhase (OrdersAt j) = Unit {0}
+IsFirstPhase phase = ⊥
 
--- an operation on a whole stripe is a read or a write
-op_cases : (op : Op) → is_stripe_op op ≡ true → (op ≡ ReadStripe) ⊎ ((bytes : List ℕ) × (op ≡ WriteStripe bytes))
-op_cases ReadStripe is = inl refl
-op_cases (WriteStripe bytes) is = inr (bytes, refl)
-op_cases (ReadBlock j) is = absurd (false≢true is)
-op_cases (WriteBlock j bytes) is = absurd (false≢true is)
+is_first : (op : Op) → IsFirstPhase (first_phase op)
+is_first (ReadBlock j) = tt
+is_first (WriteBlock j bytes) = tt
+is_first ReadStripe = tt
+is_first (WriteStripe bytes) = tt
 
 module _ (setting : Setting) (w : World) (stamps : Stamping) (me : BrickId) (ask : Ask) (group : Group) (books : Books setting w)
-    (said : Said setting w stamps) (group_is : group_of setting.layout ask.group.0 ≡ Some group) (stripe_op : is_stripe_op ask.op ≡ true) where
+    (said : Said setting w stamps) (group_is : group_of setting.layout ask.group.0 ≡ Some group) where
   -- the brick before
   abbrev old : Node
   old = w.nodes me.0
@@ -194,44 +197,63 @@ module _ (setting : Setting) (w : World) (stamps : Stamping) (me : BrickId) (ask
     content = λ v made version group group_is. absurd (false≢true made);
     stands = λ v has how. cc;
     version = λ v has. cc;
-    answered = λ answered bytes op. absurd (false≢true answered);
+    answered = λ answered writes. absurd (false≢true answered);
   }
 
   begun_now : IsBegun later me.0 c.call.boot c.call.seq c.call.phase c.phase c.stamp
   begun_now = stamp_now stamps me.0 c.call.boot c.call.seq c.call.phase first
 
-  -- the first request
-  request_says : (j seat : ℕ) → RequestSays setting next later me.0 j c.call (request_of setting.code c seat)
-  request_says j seat = ⊎_elim
-      (λ (reads : ask.op ≡ ReadStripe).
-      subst (λ (r : Request). RequestSays setting next later me.0 j c.call r) (sym (request_looks setting.code c seat (ap first_phase reads)))
-      (refl, (new, called)))
-      (λ (writes : (bytes : List ℕ) × (ask.op ≡ WriteStripe bytes)).
-      subst (λ (r : Request). RequestSays setting next later me.0 j c.call r)
-      (sym (request_orders setting.code c seat (ap first_phase writes.1))) (
-        subst (λ (phase : Phase). IsBegun later me.0 c.call.boot c.call.seq c.call.phase phase c.stamp) (ap first_phase writes.1) begun_now,
-        (new, called),
-      ))
-      (op_cases ask.op stripe_op)
-
   fits : FitsPhase (first_phase ask.op) ask.op
-  fits = ⊎_elim
-      (λ (reads : ask.op ≡ ReadStripe). subst (λ (p : Phase). FitsPhase p ask.op) (sym (ap first_phase reads)) reads)
-      (λ (writes : (bytes : List ℕ) × (ask.op ≡ WriteStripe bytes)). subst (λ (p : Phase). FitsPhase p ask.op) (sym (ap first_phase writes.1)) writes)
-      (op_cases ask.op stripe_op)
+  fits = first_fits ask.op
 
-  -- a first phase neither stores nor descends
-  not_stores : (op : Op) → first_phase op ≡ Stores → ⊥
-  not_stores (ReadBlock j) is = cc
-  not_stores (WriteBlock j bytes) is = cc
-  not_stores ReadStripe is = cc
-  not_stores (WriteStripe bytes) is = cc
+  -- a first phase is none of the others
+  other_phase : (p : Phase) → first_phase ask.op ≡ p → IsFirstPhase p
+  other_phase p is = subst (λ (q : Phase). IsFirstPhase q) is (is_first ask.op)
 
-  not_descends : (op : Op) (bound : Stamp) → first_phase op ≡ Descends bound → ⊥
-  not_descends (ReadBlock j) bound is = cc
-  not_descends (WriteBlock j bytes) bound is = cc
-  not_descends ReadStripe bound is = cc
-  not_descends (WriteStripe bytes) bound is = cc
+  from_first : DescendsFrom (first_phase ask.op) ask.op c.stamp
+  from_first = record {
+    most = λ bound is. absurd (other_phase (Descends bound) is);
+    lower = λ bound is reads. absurd (other_phase (Descends bound) is);
+  }
+
+  -- the first request
+  request_in : (p : Phase) → first_phase ask.op ≡ p → (j seat : ℕ)
+      → RequestSays setting next later me.0 j c.call (request_of setting.code (record c { phase = p }) seat)
+  unfolding request_of
+  request_in Looks is j seat = (new, called)
+  request_in (LooksAt d) is j seat = (new, called)
+  request_in Orders is j seat =
+      record {
+        operation = new;
+        called = called;
+        begun = subst (λ (p : Phase). IsBegun later me.0 c.call.boot c.call.seq c.call.phase p c.stamp) is begun_now;
+        fits = subst (λ (p : Phase). FitsPhase p ask.op) is fits;
+      }
+  request_in (OrdersAt d) is j seat =
+      record {
+        operation = new;
+        called = called;
+        phase = OrdersAt d;
+        begun = subst (λ (p : Phase). IsBegun later me.0 c.call.boot c.call.seq c.call.phase p c.stamp) is begun_now;
+        look_is = refl;
+        want_is = refl;
+        fits = subst (λ (p : Phase). FitsPhase p ask.op) is fits;
+        from = subst (λ (p : Phase). DescendsFrom p ask.op c.stamp) is from_first;
+        below = λ e less. less;
+      }
+  request_in Recovers is j seat = absurd (other_phase Recovers is)
+  request_in (Descends bound) is j seat = absurd (other_phase (Descends bound) is)
+  request_in (Modifies base d) is j seat = absurd (other_phase (Modifies base d) is)
+  request_in (Bases base) is j seat = absurd (other_phase (Bases base) is)
+  request_in Stores is j seat = absurd (other_phase Stores is)
+
+  request_says : (j seat : ℕ) → RequestSays setting next later me.0 j c.call (request_of setting.code c seat)
+  request_says j seat = request_in (first_phase ask.op) refl j seat
+
+  not_based : (p : Phase) (base : Stamp) → first_phase ask.op ≡ p → base_in p ≡ Some base → ⊥
+  not_based (Modifies u d) base is has = other_phase (Modifies u d) is
+  not_based (Bases u) base is has = other_phase (Bases u) is
+  not_based p base is has = cc
 
   -- the brick's boot stays
   boot_now : (next.nodes me.0).boot ≡ c.call.boot
@@ -254,10 +276,11 @@ module _ (setting : Setting) (w : World) (stamps : Stamping) (me : BrickId) (ask
         fits = fits;
         unbased = λ orders. refl;
         given = λ orders. refl;
-        above = λ bound descends. absurd (not_descends ask.op bound descends);
-        below = λ bound descends. absurd (not_descends ask.op bound descends);
-        covered = λ bound descends. absurd (not_descends ask.op bound descends);
-        stores = λ stores. absurd (not_stores ask.op stores);
+        above = λ bound descends. absurd (other_phase (Descends bound) descends);
+        from = from_first;
+        covered = λ bound descends. absurd (other_phase (Descends bound) descends);
+        stores = λ stores. absurd (other_phase Stores stores);
+        based = λ base has. absurd (not_based (first_phase ask.op) base refl has);
         counted = tt;
         once = tt;
       })))

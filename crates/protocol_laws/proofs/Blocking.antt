@@ -136,7 +136,7 @@ blocked_never_stands w g s group d blocked stands =
     absurd (omega (arith, blocked, stands, sum, none))
 
 -- twice a quorum is all the seats, and m more
-twice_quorum : (m n : ℕ) → m ≤ n → n + m ≤ (n - (n - m) / 2) + (n - (n - m) / 2)
+pub twice_quorum : (m n : ℕ) → m ≤ n → n + m ≤ (n - (n - m) / 2) + (n - (n - m) / 2)
 twice_quorum m n most = omega arith
 
 -- a stamp is blocked where so many seats pass it by that with m more they would be more than a quorum

@@ -9,9 +9,9 @@ use Rattle.fab_base.specs.Layouts.{Group, group_of}
 use Rattle.protocol.specs.Settings.{Setting}
 use Rattle.protocol.specs.declared.phases.Counted.{Counted}
 use Rattle.protocol.specs.declared.phases.Phase.{Phase}
-use Rattle.protocol.specs.declared.phases.Phase.TheVariants.{Looks, Orders, Recovers, Descends, Stores}
+use Rattle.protocol.specs.declared.phases.Phase.TheVariants.{Looks, LooksAt, Orders, OrdersAt, Recovers, Descends, Modifies, Bases, Stores}
 use Rattle.protocol.specs.Coordinators.{Coordinator, most_rounds}
-use Rattle.protocol.specs.Nodes.{is_stripe_op, has_length}
+use Rattle.protocol.specs.Nodes.{has_block, has_length}
 use Rattle.protocol.specs.Worlds.{World, Operation, number_of}
 use Rattle.protocol_laws.proofs.FirstViews.{IsInFirst}
 
@@ -36,20 +36,32 @@ version_after made (Some v) = Some v
 abbrev pub IsUnmade : Operation → Type 0
 IsUnmade o = (o.version ≡ None) × (o.made ≡ false) × (o.base ≡ None)
 
--- a version of the coordinator's own stamp was made on its base from its store phase on, and none before
+-- the operation has made a version of the coordinator's stamp, on its base
+abbrev pub IsMade : Coordinator → Operation → Type 0
+IsMade c o = (o.version ≡ Some c.stamp) × (o.made ≡ true) × (o.base ≡ c.base)
+
+-- a version of the coordinator's own stamp was made on its base from the phase on that stores or modifies, and none before
 abbrev pub MadeInPhase : Coordinator → Operation → Phase → Type 0
 MadeInPhase c o Looks = IsUnmade o
+MadeInPhase c o (LooksAt j) = IsUnmade o
 MadeInPhase c o Orders = IsUnmade o
+MadeInPhase c o (OrdersAt j) = IsUnmade o
 MadeInPhase c o Recovers = IsUnmade o
 MadeInPhase c o (Descends bound) = IsUnmade o
-MadeInPhase c o Stores = (o.version ≡ Some c.stamp) × (o.made ≡ true) × (o.base ≡ c.base)
+MadeInPhase c o (Modifies base j) = IsMade c o × (c.base ≡ Some base)
+MadeInPhase c o (Bases base) = IsMade c o × (c.base ≡ Some base)
+MadeInPhase c o Stores = IsMade c o
 
 -- the number of a phase, by the rounds of ordering that were begun
 abbrev pub InRound : Coordinator → Phase → Type 0
 InRound c Looks = (c.call.phase ≡ 1) × (c.round ≡ 1)
+InRound c (LooksAt j) = (c.call.phase ≡ 1) × (c.round ≡ 1)
 InRound c Orders = c.call.phase ≡ c.round
+InRound c (OrdersAt j) = c.call.phase ≡ c.round
 InRound c Recovers = c.call.phase ≡ c.round + 1
 InRound c (Descends bound) = Unit {0}
+InRound c (Modifies base j) = Unit {0}
+InRound c (Bases base) = Unit {0}
 InRound c Stores = Unit {0}
 
 -- operation n, and its marks
@@ -59,10 +71,10 @@ pub record OperationBooks (setting : Setting) (w : World) (n : ℕ) (o : Operati
   pub number : w.numbers o.brick.0 o.boot o.seq ≡ n
   pub booted : (1 ≤ o.boot) × (o.boot ≤ (w.nodes o.brick.0).boot)
   pub called : (1 ≤ o.seq) × (o.boot ≡ (w.nodes o.brick.0).boot → o.seq ≤ (w.nodes o.brick.0).seq)
-  pub is_stripe_op : is_stripe_op o.ask.op ≡ true
   pub group : Group
   pub group_is : group_of setting.layout o.ask.group.0 ≡ Some group
   pub stripe : o.ask.stripe.0 < group.stripes
+  pub block_fits : has_block group.m o.ask.op ≡ true
   pub length_fits : has_length group.m setting.layout.block o.ask.op ≡ true
   pub life : Life
   pub life_is : life_of w.marks n ≡ Some life

@@ -11,7 +11,7 @@ use Rattle.reg_model.specs.Marks.{Life, Unended, life_of, IsOpen}
 use Rattle.fab_base.specs.Layouts.{Group, group_of}
 use Rattle.protocol.specs.Settings.{Setting}
 use Rattle.protocol.specs.Coordinators.{Coordinator}
-use Rattle.protocol.specs.Nodes.{Node, put, is_stripe_op, has_length, first_phase, new_coordinator, opened, began_in, top_at}
+use Rattle.protocol.specs.Nodes.{Node, put, has_length, first_phase, new_coordinator, opened, began_in, top_at, has_block}
 use Rattle.protocol.specs.Worlds.{World, Operation, number_of, world_began}
 use Rattle.protocol_laws.proofs.FirstViews.{IsInFirst, view_first}
 use Rattle.protocol_laws.proofs.Books.{Books, OperationBooks, CallBooks, IsOperation, IsCall, IsUnmade, MadeInPhase, InRound}
@@ -40,7 +40,7 @@ none_lives None never = refl
 none_lives (Some l) never = absurd (never l refl)
 
 module _ (setting : Setting) (w : World) (brick : BrickId) (now : ℕ) (ask : Ask) (group : Group) (books : Books setting w)
-    (stripes : is_stripe_op ask.op ≡ true) (group_is : group_of setting.layout ask.group.0 ≡ Some group)
+    (block_fits : has_block group.m ask.op ≡ true) (group_is : group_of setting.layout ask.group.0 ≡ Some group)
     (stripe : ask.stripe.0 < group.stripes) (up : w.up brick.0 ≡ true) (fits : has_length group.m setting.layout.block ask.op ≡ true) where
   abbrev i : ℕ
   i = brick.0
@@ -143,10 +143,10 @@ module _ (setting : Setting) (w : World) (brick : BrickId) (now : ℕ) (ask : As
     number = number_is;
     booted = (books.boots i, (let e : (later.nodes i).boot ≡ node.boot = same_boots i in omega arith));
     called = (omega arith, λ present. (let e : (later.nodes i).seq ≡ k = own_seq in omega arith));
-    is_stripe_op = stripes;
     group = group;
     group_is = group_is;
     stripe = stripe;
+    block_fits = block_fits;
     length_fits = fits;
     life = record { begin = length w.marks; brick = brick.0; ask = ask; ending = Unended (length w.marks + 1) };
     life_is = life_began;

@@ -15,7 +15,7 @@ use Rattle.fab_base.specs.Layouts.{group_of}
 use Rattle.protocol.specs.Settings.{Setting}
 use Rattle.protocol.specs.declared.phases.Counted.{Counted}
 use Rattle.protocol.specs.Coordinators.{Coordinator}
-use Rattle.protocol.specs.Nodes.{Node, is_stripe_op, has_length, no_calls, stopped}
+use Rattle.protocol.specs.Nodes.{Node, has_length, no_calls, stopped, has_block}
 use Rattle.protocol.specs.Worlds.{World, Operation, is_answer, number_of, world_stopped}
 use Rattle.protocol_laws.proofs.Books.{Books, OperationBooks, CallBooks, IsOperation, IsCall}
 use Rattle.protocol_laws.proofs.BooksKept.{KeepsNumbers, first_kept, operation_stays, operation_kept, call_kept, number_at, calls_apart, cases_call, keeps_all}
@@ -125,10 +125,10 @@ module _ (setting : Setting) (w : World) (i k : ℕ) (c : Coordinator) (before o
                   (let least : before.seq ≤ (w.nodes before.brick.0).seq = own.called.1 (sym ended.boot ∙ present ∙ (ended.keeps o.brick.0).boot
                   ∙ ap (λ (j : ℕ). (w.nodes j).boot) at) in omega arith),
             ));
-        is_stripe_op = ap (λ (a : Ask). is_stripe_op a.op) ended.ask ∙ own.is_stripe_op;
         group = own.group;
         group_is = ap (λ (a : Ask). group_of setting.layout a.group.0) ended.ask ∙ own.group_is;
         stripe = subst (λ (a : Ask). a.stripe.0 < own.group.stripes) (sym ended.ask) own.stripe;
+        block_fits = ap (λ (a : Ask). has_block own.group.m a.op) ended.ask ∙ own.block_fits;
         length_fits = ap (λ (a : Ask). has_length own.group.m setting.layout.block a.op) ended.ask ∙ own.length_fits;
         life = with_ending own.life (Answered (length w.marks) answer);
         life_is = life_ended;
@@ -275,10 +275,10 @@ module _ (setting : Setting) (w : World) (brick : BrickId) (during : Option ℕ)
         number = mine.number;
         booted = (mine.booted.0, omega (arith, mine.booted.1));
         called = (mine.called.0, λ present. (let least : o.seq ≤ (w.nodes o.brick.0).seq = mine.called.1 (present ∙ boots) in omega arith));
-        is_stripe_op = mine.is_stripe_op;
         group = mine.group;
         group_is = mine.group_is;
         stripe = mine.stripe;
+        block_fits = mine.block_fits;
         length_fits = mine.length_fits;
         life = with_ending mine.life (Interrupted (length w.marks));
         life_is = life_of-crash w.marks (length w.marks) n brick mine.life mine.life_is unended (sym at ∙ sym mine.brick);

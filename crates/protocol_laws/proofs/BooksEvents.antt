@@ -18,22 +18,22 @@ use Rattle.fab_base.specs.Layouts.{Group, group_of}
 use Rattle.protocol.specs.Settings.{Setting}
 use Rattle.protocol.specs.Replicas.{handle}
 use Rattle.protocol.specs.declared.phases.Phase.{Phase}
-use Rattle.protocol.specs.declared.phases.Phase.TheVariants.{Looks, Orders, Recovers, Descends, Stores}
+use Rattle.protocol.specs.declared.phases.Phase.TheVariants.{Looks, LooksAt, Orders, OrdersAt, Recovers, Descends, Modifies, Bases, Stores}
 use Rattle.protocol.specs.declared.phases.Counted.{Counted}
 use Rattle.protocol.specs.Coordinators.{Coordinator, Next, Ignores, Waits, Sends, Makes, Ends, most_rounds, with_reply, once_full, counted_at, counts_at, on_reply}
-use Rattle.protocol.specs.Nodes.{Node, NodeStep, put, no_step, is_stripe_op, has_block, has_length, refusal_in, refusal_of, began, invoked, with_replica, replica_at, full_at, reply_packets, requested, absorbed, ticked, may_open, has_later_time, next_time, new_stamp, fresh_stamp, known_after, with_call, with_known, carried_out, phase_packets, collect_packets, sending, replied_at, replied, received}
+use Rattle.protocol.specs.Nodes.{Node, NodeStep, put, no_step, has_block, has_length, refusal_in, refusal_of, began, invoked, with_replica, replica_at, full_at, reply_packets, requested, absorbed, ticked, may_open, has_later_time, next_time, new_stamp, fresh_stamp, known_after, with_call, with_known, carried_out, phase_packets, collect_packets, sending, replied_at, replied, received}
 use Rattle.protocol.specs.Worlds.{World, world_found, Operation, Found, Before, After, Found, Before, After, Event, Invokes, Delivers, Sets, Ticks, Stops, Starts, is_answer, first_world, is_brick, is_up, may_begin, number_of, may_start, world_found, world_began, world_stepped, with_made, with_seen, with_answer, with_content, replies_with, delivered, packet_of, happens, run, with_held}
 use Rattle.protocol_laws.specs.Laws.{WasSent}
 use Rattle.protocol_laws.proofs.Served.{request_each, keeps_replica}
 use Rattle.protocol_laws.proofs.FirstViews.{group_first}
 use Rattle.protocol_laws.proofs.Left.{IsLeft, Leaves, always_leaves, leaves_happens, found_down}
-use Rattle.protocol_laws.proofs.Books.{Replies, version_after, Books, CallBooks, IsCall, IsUnmade, MadeInPhase, InRound}
+use Rattle.protocol_laws.proofs.Books.{Replies, version_after, Books, CallBooks, IsCall, IsUnmade, MadeInPhase, InRound, IsMade}
 use Rattle.protocol_laws.proofs.BooksKept.{KeepsNumbers, keeps_all, keeps_known, keeps_with_call}
 use Rattle.protocol_laws.proofs.BooksQuiet.{books_quiet, books_started}
 use Rattle.protocol_laws.proofs.BooksTurns.{IsBookedStamp, books_turned}
 use Rattle.protocol_laws.proofs.BooksEnds.{ended_world, books_ended, books_stopped}
 use Rattle.protocol_laws.proofs.BooksBegins.{books_began}
-use Rattle.protocol_laws.proofs.Outcomes.{SameOperation, IsRound, ReordersFits, RecoversFits, SendsFits, sends_unmade, EndFits, NextFits, once_full_fits}
+use Rattle.protocol_laws.proofs.Outcomes.{SameOperation, IsRound, ReordersFits, RecoversFits, SendsFits, EndFits, NextFits, once_full_fits, IsLook, IsMaking, RebuildsIn, RebuildsFits, MakesIn, unmade_again, unmade_recovers}
 use Rattle.protocol_laws.proofs.Puts.{put_other}
 use Rattle.protocol_laws.proofs.Tables.{put_each, put_same}
 
@@ -73,8 +73,8 @@ books_requested : (setting : Setting) (w : World) (replies : Replies) (me from :
 books_requested setting w replies me from call request books =
     request_each (λ (step : NodeStep). Books setting (stepped setting w replies me step)) setting me from (w.nodes me.0) call request
     (books_no_step setting w replies me books)
-    (λ seat view.
-    let reaction = handle (full_at setting.layout.records (w.nodes me.0).live) seat (replica_at (w.nodes me.0) call) request in
+    (λ group seat here at view.
+    let reaction = handle setting.code group.m (full_at setting.layout.records (w.nodes me.0).live) seat (replica_at (w.nodes me.0) call) request in
     books_nothing setting w replies me (with_replica (w.nodes me.0) call reaction) (reply_packets me from call reaction.reply) books
     (keeps_replica (w.nodes me.0) call reaction view) (λ l. refl))
 
@@ -82,27 +82,56 @@ books_requested setting w replies me from call request books =
 made_same : (c d : Coordinator) (o : Operation) (p q : Phase) → d.stamp ≡ c.stamp → d.base ≡ c.base → q ≡ p → MadeInPhase c o p → MadeInPhase d o q
 made_same c d o p q stamp base phase made = subst (λ (x : Phase). MadeInPhase d o x) (sym phase) (by p made)
   where
+    goes : IsMade c o → IsMade d o
+    goes made = (made.0 ∙ ap (λ (t : Stamp). Some t) (sym stamp), made.1, made.2 ∙ sym base)
+
     by : (p : Phase) → MadeInPhase c o p → MadeInPhase d o p
     by Looks made = made
+    by (LooksAt j) made = made
     by Orders made = made
+    by (OrdersAt j) made = made
     by Recovers made = made
     by (Descends bound) made = made
-    by Stores made = (made.0 ∙ ap (λ (t : Stamp). Some t) (sym stamp), made.1, made.2 ∙ sym base)
+    by (Modifies u j) made = (goes made.0, base ∙ made.1)
+    by (Bases u) made = (goes made.0, base ∙ made.1)
+    by Stores made = goes made
 
--- before its store phase an operation has made nothing
-made_nothing : (c : Coordinator) (o : Operation) (p : Phase) → (p ≡ Stores → ⊥) → MadeInPhase c o p → IsUnmade o
+-- before its store phase, or one that modifies, an operation has made nothing
+made_nothing : (c : Coordinator) (o : Operation) (p : Phase) → (IsMaking p → ⊥) → MadeInPhase c o p → IsUnmade o
+made_nothing c o (Modifies u j) before made = absurd (before tt)
+made_nothing c o (Bases u) before made = absurd (before tt)
+made_nothing c o Stores before made = absurd (before tt)
 made_nothing c o Looks before made = made
+made_nothing c o (LooksAt j) before made = made
 made_nothing c o Orders before made = made
+made_nothing c o (OrdersAt j) before made = made
 made_nothing c o Recovers before made = made
 made_nothing c o (Descends bound) before made = made
-made_nothing c o Stores before made = absurd (before refl)
 
-nothing_made : (d : Coordinator) (o : Operation) (p : Phase) → (p ≡ Stores → ⊥) → IsUnmade o → MadeInPhase d o p
+nothing_made : (d : Coordinator) (o : Operation) (p : Phase) → (IsMaking p → ⊥) → IsUnmade o → MadeInPhase d o p
+nothing_made d o (Modifies u j) before none = absurd (before tt)
+nothing_made d o (Bases u) before none = absurd (before tt)
+nothing_made d o Stores before none = absurd (before tt)
 nothing_made d o Looks before none = none
+nothing_made d o (LooksAt j) before none = none
 nothing_made d o Orders before none = none
+nothing_made d o (OrdersAt j) before none = none
 nothing_made d o Recovers before none = none
 nothing_made d o (Descends bound) before none = none
-nothing_made d o Stores before none = absurd (before refl)
+
+-- a version that was made stays the operation's as it reads the base back
+rebuilt_made : (c d : Coordinator) (o : Operation) → RebuildsFits c d → MadeInPhase c o c.phase → MadeInPhase d o d.phase
+rebuilt_made c d o fits made = by fits.how
+  where
+    by : RebuildsIn c d → MadeInPhase d o d.phase
+    by (inl (u, j, was, now, base)) =
+        let had : IsMade c o × (c.base ≡ Some u) = subst (λ (p : Phase). MadeInPhase c o p) was made in
+        subst (λ (p : Phase). MadeInPhase d o p) (sym now)
+        ((had.0.0 ∙ ap (λ (t : Stamp). Some t) (sym fits.stamp), had.0.1, had.0.2 ∙ sym base), base ∙ had.1)
+    by (inr (u, was, now, base)) =
+        let had : IsMade c o × (c.base ≡ Some u) = subst (λ (p : Phase). MadeInPhase c o p) was made in
+        subst (λ (p : Phase). MadeInPhase d o p) (sym now)
+        (had.0.0 ∙ ap (λ (t : Stamp). Some t) (sym fits.stamp), had.0.1, had.0.2 ∙ had.1 ∙ sym base)
 
 -- a phase that stays has its number
 round_same : (c d : Coordinator) (p q : Phase) → d.call.phase ≡ c.call.phase → d.round ≡ c.round → q ≡ p → InRound c p → InRound d q
@@ -110,18 +139,32 @@ round_same c d p q call round phase within = subst (λ (x : Phase). InRound d x)
   where
     by : (p : Phase) → InRound c p → InRound d p
     by Looks (first, one) = (call ∙ first, round ∙ one)
+    by (LooksAt j) (first, one) = (call ∙ first, round ∙ one)
     by Orders within = call ∙ within ∙ sym round
+    by (OrdersAt j) within = call ∙ within ∙ sym round
     by Recovers within = call ∙ within ∙ ap (λ (x : ℕ). x + 1) (sym round)
     by (Descends bound) within = tt
+    by (Modifies u j) within = tt
+    by (Bases u) within = tt
     by Stores within = tt
 
 -- the next round of ordering has the next number
 round_again : (c d : Coordinator) (p : Phase) → IsRound p → d.call.phase ≡ c.call.phase + 1 → d.round ≡ c.round + 1 → InRound c p → InRound d p
-round_again c d Looks is call round within = absurd is
 round_again c d Orders is call round within = omega arith
+round_again c d (OrdersAt j) is call round within = omega arith
 round_again c d Recovers is call round within = omega arith
+round_again c d Looks is call round within = absurd is
+round_again c d (LooksAt j) is call round within = absurd is
 round_again c d (Descends bound) is call round within = tt
+round_again c d (Modifies u j) is call round within = tt
+round_again c d (Bases u) is call round within = tt
 round_again c d Stores is call round within = tt
+
+-- a read looks in the first phase, before its first round
+pub look_first : (c : Coordinator) (p : Phase) → IsLook p → InRound c p → (c.call.phase ≡ 1) × (c.round ≡ 1)
+look_first c Looks look within = within
+look_first c (LooksAt j) look within = within
+look_first c p look within = absurd look
 
 round_next : (fresh : Option Stamp) (c d : Coordinator) → SendsFits fresh c d → InRound c c.phase → InRound d d.phase
 round_next fresh c d fits within = by fits.how
@@ -129,25 +172,44 @@ round_next fresh c d fits within = by fits.how
     call : d.call.phase ≡ c.call.phase + 1
     call = ap (λ (x : Call). x.phase) fits.call
 
-    recovers : (r : RecoversFits c d) → ((c.phase ≡ Looks) × (d.phase ≡ Recovers)) ⊎ ((bound : Stamp) × (d.phase ≡ Descends bound))
+    recovers : (r : RecoversFits c d) → (IsLook c.phase × (d.phase ≡ Recovers)) ⊎ ((bound : Stamp) × (d.phase ≡ Descends bound))
         → InRound d d.phase
-    recovers r (inl (was, now)) =
-        let first : (c.call.phase ≡ 1) × (c.round ≡ 1) = subst (λ (x : Phase). InRound c x) was within in
+    recovers r (inl (look, now)) =
+        let first = look_first c c.phase look within in
         subst (λ (x : Phase). InRound d x) (sym now)
         (call ∙ ap (λ (x : ℕ). x + 1) first.0 ∙ ap (λ (x : ℕ). x + 1) (sym (r.round ∙ first.1)))
     recovers r (inr (bound, now)) = subst (λ (x : Phase). InRound d x) (sym now) tt
 
-    by : ReordersFits fresh c d ⊎ RecoversFits c d → InRound d d.phase
+    rebuilds : RebuildsIn c d → InRound d d.phase
+    rebuilds (inl (u, j, was, now, base)) = subst (λ (x : Phase). InRound d x) (sym now) tt
+    rebuilds (inr (u, was, now, base)) = subst (λ (x : Phase). InRound d x) (sym now) tt
+
+    by : ReordersFits fresh c d ⊎ (RecoversFits c d ⊎ RebuildsFits c d) → InRound d d.phase
     by (inl again) = subst (λ (x : Phase). InRound d x) (sym again.phase) (round_again c d c.phase again.was call again.round within)
-    by (inr goes) = recovers goes goes.phase
+    by (inr (inl goes)) = recovers goes goes.phase
+    by (inr (inr goes)) = rebuilds goes.how
+
+-- a version that is made is of the phase that makes it
+made_now : (d : Coordinator) (o : Operation) → MakesIn d → IsMade d o → MadeInPhase d o d.phase
+made_now d o (inl stores) made = subst (λ (p : Phase). MadeInPhase d o p) (sym stores) made
+made_now d o (inr (u, j, modifies, base)) made = subst (λ (p : Phase). MadeInPhase d o p) (sym modifies) (made, base)
+
+round_made : (d : Coordinator) → MakesIn d → InRound d d.phase
+round_made d (inl stores) = subst (λ (p : Phase). InRound d p) (sym stores) tt
+round_made d (inr (u, j, modifies, base)) = subst (λ (p : Phase). InRound d p) (sym modifies) tt
 
 -- an operation that is answered has a version
 ends_version : (c : Coordinator) (o : Operation) (p : Phase) (answer : Answer) (seen : Option Stamp) → MadeInPhase c o p → EndFits p answer seen
     → is_answer answer ≡ true → (v : Stamp) × (version_after o.version seen ≡ Some v)
 ends_version c o Looks answer seen made fits is = (let saw = fits is in (saw.0, ap (λ (x : Option Stamp). version_after o.version x) saw.1))
+ends_version c o (LooksAt j) answer seen made fits is = (let saw = fits is in (saw.0, ap (λ (x : Option Stamp). version_after o.version x) saw.1))
 ends_version c o Orders answer seen made fits is = absurd (both_ways (is_answer answer) fits is)
+ends_version c o (OrdersAt j) answer seen made fits is = absurd (both_ways (is_answer answer) fits is)
 ends_version c o Recovers answer seen made fits is = absurd (both_ways (is_answer answer) fits is)
 ends_version c o (Descends bound) answer seen made fits is = absurd (both_ways (is_answer answer) fits is)
+ends_version c o (Bases u) answer seen made fits is = absurd (both_ways (is_answer answer) fits is)
+ends_version c o (Modifies u j) answer None made fits is = (c.stamp, made.0.0)
+ends_version c o (Modifies u j) answer (Some v) made fits is = (v, refl)
 ends_version c o Stores answer None made fits is = (c.stamp, made.0)
 ends_version c o Stores answer (Some v) made fits is = (v, refl)
 
@@ -247,15 +309,25 @@ module _ (setting : Setting) (w : World) (replies : Replies) (me : BrickId) (now
       })
 
   -- the stamp and the rounds of the next phase
-  stamp_sends : (d : Coordinator) → ReordersFits fresh then' d ⊎ RecoversFits then' d
+  stamp_sends : (d : Coordinator) → ReordersFits fresh then' d ⊎ (RecoversFits then' d ⊎ RebuildsFits then' d)
       → IsBookedStamp (put w.nodes i (with_call node (max known d.stamp.time) node.busy k (Some d)) i).known mine.operation d.stamp
   stamp_sends d (inl again) = stamp_fresh (max known d.stamp.time) (Some d) d.stamp again.stamp (omega arith)
-  stamp_sends d (inr goes) = stamp_stays (max known d.stamp.time) (Some d) d.stamp goes.stamp (omega arith)
+  stamp_sends d (inr (inl goes)) = stamp_stays (max known d.stamp.time) (Some d) d.stamp goes.stamp (omega arith)
+  stamp_sends d (inr (inr goes)) = stamp_stays (max known d.stamp.time) (Some d) d.stamp goes.stamp (omega arith)
 
-  rounds_sends : (d : Coordinator) → ReordersFits fresh then' d ⊎ RecoversFits then' d → (1 ≤ d.round) × (d.round ≤ most_rounds)
+  rounds_sends : (d : Coordinator) → ReordersFits fresh then' d ⊎ (RecoversFits then' d ⊎ RebuildsFits then' d) → (1 ≤ d.round) × (d.round ≤ most_rounds)
   rounds_sends d (inl again) =
       let next : d.round ≡ c.round + 1 = again.round in let left : c.round < most_rounds = again.left in (omega arith, omega arith)
-  rounds_sends d (inr goes) = subst (λ (x : ℕ). (1 ≤ x) × (x ≤ most_rounds)) (sym goes.round) mine.rounds
+  rounds_sends d (inr (inl goes)) = subst (λ (x : ℕ). (1 ≤ x) × (x ≤ most_rounds)) (sym goes.round) mine.rounds
+  rounds_sends d (inr (inr goes)) = subst (λ (x : ℕ). (1 ≤ x) × (x ≤ most_rounds)) (sym goes.round) mine.rounds
+
+  -- what the operation has made in the next phase
+  made_sends : (d : Coordinator) → ReordersFits fresh then' d ⊎ (RecoversFits then' d ⊎ RebuildsFits then' d) → MadeInPhase d mine.operation d.phase
+  made_sends d (inl again) =
+      nothing_made d mine.operation d.phase (unmade_again fresh then' d again) (made_nothing c mine.operation c.phase again.unmade mine.made)
+  made_sends d (inr (inl goes)) =
+      nothing_made d mine.operation d.phase (unmade_recovers then' d goes) (made_nothing c mine.operation c.phase goes.unmade mine.made)
+  made_sends d (inr (inr goes)) = rebuilt_made then' d mine.operation goes (made_same c then' mine.operation c.phase c.phase refl refl refl mine.made)
 
   -- the operation's number
   abbrev n : ℕ
@@ -335,8 +407,7 @@ module _ (setting : Setting) (w : World) (replies : Replies) (me : BrickId) (now
         rounds = rounds_sends d fits.how;
         in_round = round_next fresh then' d fits (round_same c then' c.phase c.phase refl refl refl mine.in_round);
         same_ask = record { brick = refl; boot = refl; seq = refl; begin = refl; ask = refl; answered = refl };
-        made = nothing_made d mine.operation d.phase (sends_unmade fresh then' d fits)
-            (made_nothing c mine.operation c.phase fits.unmade mine.made);
+        made = made_sends d fits.how;
         keeps = keeps_call time node.busy (Some d) (omega arith);
         call_is = call_put time node.busy (Some d);
         other_calls = other_put time node.busy (Some d);
@@ -365,9 +436,9 @@ module _ (setting : Setting) (w : World) (replies : Replies) (me : BrickId) (now
         same = same_of d fits.same;
         stamp = stamp_stays known (Some d) d.stamp fits.stamp grows;
         rounds = subst (λ (x : ℕ). (1 ≤ x) × (x ≤ most_rounds)) (sym fits.round) mine.rounds;
-        in_round = subst (λ (x : Phase). InRound d x) (sym fits.phase) tt;
+        in_round = round_made d fits.phase;
         same_ask = record { brick = refl; boot = refl; seq = refl; begin = refl; ask = refl; answered = refl };
-        made = subst (λ (x : Phase). MadeInPhase d o x) (sym fits.phase) (refl, refl, refl);
+        made = made_now d o fits.phase (refl, refl, refl);
         keeps = keeps_call known node.busy (Some d) grows;
         call_is = call_put known node.busy (Some d);
         other_calls = other_put known node.busy (Some d);
@@ -447,13 +518,13 @@ cond_none true r rest h = absurd (let never : Some r ≡ None = h in cc)
 cond_none false r rest h = (refl, h)
 
 not_refused : (block : ℕ) (node : Node) (ask : Ask) (found : Option Group) → refusal_in block node ask found ≡ None
-    → (group : Group) × (found ≡ Some group) × (ask.stripe.0 < group.stripes) × (has_length group.m block ask.op ≡ true)
+    → (group : Group) × (found ≡ Some group) × (ask.stripe.0 < group.stripes) × (has_block group.m ask.op ≡ true) × (has_length group.m block ask.op ≡ true)
 not_refused block node ask None h = absurd (let never : Some Refusal.NoStripe ≡ None = h in cc)
 not_refused block node ask (Some group) h =
     let first = cond_none (not (nat_lt ask.stripe.0 group.stripes)) Refusal.NoStripe _ h in
     let second = cond_none (not (has_block group.m ask.op)) Refusal.NoBlock _ first.1 in
     let third = cond_none (not (has_length group.m block ask.op)) Refusal.Length _ second.1 in
-    (group, refl, ltb-true ask.stripe.0 group.stripes (not-false _ first.0), not-false _ third.0)
+    (group, refl, ltb-true ask.stripe.0 group.stripes (not-false _ first.0), not-false _ second.0, not-false _ third.0)
 
 no_value : (r : Option Refusal) → is_some r ≡ false → r ≡ None
 no_value None h = refl
@@ -463,7 +534,7 @@ no_value (Some r) h = absurd (let never : true ≡ false = h in cc)
 pub record BeginFits (setting : Setting) (ask : Ask) : Type 0 where
   pub group : Group
   pub group_is : group_of setting.layout ask.group.0 ≡ Some group
-  pub is_stripe_op : is_stripe_op ask.op ≡ true
+  pub block_fits : has_block group.m ask.op ≡ true
   pub stripe : ask.stripe.0 < group.stripes
   pub length_fits : has_length group.m setting.layout.block ask.op ≡ true
 
@@ -471,18 +542,17 @@ pub begin_fits : (setting : Setting) (w : World) (brick : BrickId) (ask : Ask) �
 unfolding refusal_of
 begin_fits setting w brick ask may =
     let both = and_parts (is_up setting.layout w brick)
-    (is_stripe_op ask.op && not (is_some (refusal_of setting.layout (w.nodes brick.0) ask))) may in
-    let rest = and_parts (is_stripe_op ask.op) (not (is_some (refusal_of setting.layout (w.nodes brick.0) ask))) both.1 in
+    (not (is_some (refusal_of setting.layout (w.nodes brick.0) ask))) may in
     let none : refusal_of setting.layout (w.nodes brick.0) ask ≡ None = no_value (refusal_of setting.layout (w.nodes brick.0) ask)
-    (not-true _ rest.1) in
+    (not-true _ both.1) in
     let fits = not_refused setting.layout.block (w.nodes brick.0) ask (group_of setting.layout ask.group.0) none in
-    record { group = fits.0; group_is = fits.1; is_stripe_op = rest.0; stripe = fits.2; length_fits = fits.3 }
+    record { group = fits.0; group_is = fits.1; stripe = fits.2; block_fits = fits.3; length_fits = fits.4 }
 
 -- it begins at a brick that is up
 pub begin_up : (setting : Setting) (w : World) (brick : BrickId) (ask : Ask) → may_begin setting w brick ask ≡ true → w.up brick.0 ≡ true
 begin_up setting w brick ask may =
     let both = and_parts (is_up setting.layout w brick)
-    (is_stripe_op ask.op && not (is_some (refusal_of setting.layout (w.nodes brick.0) ask))) may in
+    (not (is_some (refusal_of setting.layout (w.nodes brick.0) ask))) may in
     (and_parts (is_brick setting.layout brick) (w.up brick.0) both.0).1
 
 -- an invocation
@@ -493,7 +563,7 @@ books_invoked setting w brick now ask books may =
     let fits : BeginFits setting ask = begin_fits setting w brick ask may in
     subst (λ (found : Option Group). Books setting (world_began w brick ask (began setting brick now (w.nodes brick.0) ask found)))
     (sym (group_first setting.layout (w.nodes brick.0) ask.group.0 (books.first brick.0) ∙ fits.group_is))
-    (books_began setting w brick now ask fits.group books fits.is_stripe_op fits.group_is fits.stripe
+    (books_began setting w brick now ask fits.group books fits.block_fits fits.group_is fits.stripe
     (begin_up setting w brick ask may) fits.length_fits)
 
 -- what a request leaves of a brick keeps its numbers and calls
@@ -507,7 +577,7 @@ requested_keeps : (setting : Setting) (me from : BrickId) (node : Node) (call : 
     → KeepsCalls node (requested setting me from node call request).node
 requested_keeps setting me from node call request =
     request_each (λ (step : NodeStep). KeepsCalls node step.node) setting me from node call request (keeps_itself node)
-    (λ seat view. (keeps_replica node call (handle (full_at setting.layout.records node.live) seat (replica_at node call) request) view, λ l. refl))
+    (λ group seat here at view. (keeps_replica node call (handle setting.code group.m (full_at setting.layout.records node.live) seat (replica_at node call) request) view, λ l. refl))
 
 -- so does a message whose handling was the last thing that it did
 pub absorbed_keeps : (setting : Setting) (me : BrickId) (node : Node) (from to : BrickId) (message : Message)

@@ -152,10 +152,10 @@ module _ (setting : Setting) (w : World) (i k : ℕ) (c d : Coordinator) (before
                   (let least : before.seq ≤ (w.nodes before.brick.0).seq = own.called.1 (sym boot ∙ present ∙ (turned.keeps o.brick.0).boot
                   ∙ ap (λ b. (w.nodes b.0).boot) brick) in omega arith),
             ));
-        is_stripe_op = ap (λ a. Rattle.protocol.specs.Nodes.is_stripe_op a.op) ask ∙ own.is_stripe_op;
         group = own.group;
         group_is = ap (λ a. Rattle.fab_base.specs.Layouts.group_of setting.layout a.group.0) ask ∙ own.group_is;
         stripe = subst (λ a. a.stripe.0 < own.group.stripes) (sym ask) own.stripe;
+        block_fits = ap (λ a. Rattle.protocol.specs.Nodes.has_block own.group.m a.op) ask ∙ own.block_fits;
         length_fits = ap (λ a. Rattle.protocol.specs.Nodes.has_length own.group.m setting.layout.block a.op) ask ∙ own.length_fits;
         life = own.life;
         life_is = own.life_is;

@@ -6,7 +6,8 @@ use Rattle.std.proofs.lemmas.Bool.{cond_both, cases_eq, eqb-true, eqb-false, eq-
 use Rattle.std.proofs.lemmas.Option.{same_Some}
 use Rattle.fab_base.specs.declared.stamps.Stamp.{Stamp}
 use Rattle.fab_base.specs.Stamps.{stamp_below, stamp_same}
-use Rattle.fab_base.proofs.StampOrder.{stamp_below_irrefl, stamp_below_asym, stamp_not_below_trans, stamp_same_true}
+use Rattle.fab_base.specs.declared.identities.BrickId.{BrickId}
+use Rattle.fab_base.proofs.StampOrder.{stamp_below_irrefl, stamp_below_asym, stamp_not_below_trans, stamp_same_refl, stamp_same_true}
 use Rattle.messages.specs.declared.requests.Version.{Version}
 use Rattle.messages.specs.declared.replies.Reply.{Reply}
 use Rattle.quorum.specs.Quorums.{count, with_seat}
@@ -17,7 +18,7 @@ use Rattle.protocol.specs.Settings.{Code, Piece, ArePiecesOf}
 use Rattle.protocol.specs.declared.phases.Counted.{Counted}
 use Rattle.protocol.specs.declared.phases.Refuser.{Refuser}
 use Rattle.protocol.specs.declared.phases.FullMember.{FullMember}
-use Rattle.protocol.specs.Coordinators.{has_seat, fast_version, told_stamp, greater_stamp, greatest_found, tells, all_tell, told_by_all, found_bytes, pieces_of, refuser_of, greater_refuser, greatest_refuser, full_member_of, lower_full, lowest_full}
+use Rattle.protocol.specs.Coordinators.{has_seat, fast_version, fast_version_at, common_version_at, told_stamp, greater_stamp, greatest_found, tells, all_tell, told_by_all, finds, all_find, found_by_all, common_version, bytes_at, is_behind, some_behind, found_bytes, pieces_of, refuser_of, greater_refuser, greatest_refuser, full_member_of, lower_full, lowest_full}
 use Rattle.protocol_laws.specs.Laws.{AtQuorum}
 use Rattle.protocol_laws.proofs.Said.{EachCounted, AreOnce}
 
@@ -231,6 +232,99 @@ pub fast_each : (counted : List Counted) (v : Stamp) → fast_version counted �
 unfolding fast_version
 fast_each [] v is = tt
 fast_each (x ∷ counted) v is = told_each (told_stamp x.reply) v (x ∷ counted) is
+
+-- a reply finds the version whose stamp it tells
+pub finds_told : (v : Stamp) (seat : ℕ) (brick : BrickId) (reply : Reply) → finds v (record { seat = seat; brick = brick; reply = reply }) ≡ true
+    → told_stamp reply ≡ Some v
+finds_told v seat brick (Reply.Found order (Some version)) is = ap (λ (t : Stamp). Some t) (stamp_same_true version.stamp v is)
+finds_told v seat brick (Reply.OrderedRead (Some version)) is = ap (λ (t : Stamp). Some t) (stamp_same_true version.stamp v is)
+finds_told v seat brick reply is = absurd (false≢true is)
+
+pub told_finds : (v : Stamp) (seat : ℕ) (brick : BrickId) (reply : Reply) → told_stamp reply ≡ Some v
+    → finds v (record { seat = seat; brick = brick; reply = reply }) ≡ true
+told_finds v seat brick (Reply.Found order (Some version)) is =
+    subst (λ (t : Stamp). stamp_same t v ≡ true) (sym (same_Some version.stamp v is)) (stamp_same_refl v)
+told_finds v seat brick (Reply.OrderedRead (Some version)) is =
+    subst (λ (t : Stamp). stamp_same t v ≡ true) (sym (same_Some version.stamp v is)) (stamp_same_refl v)
+told_finds v seat brick reply is = cc
+
+all_find_each : (v : Stamp) (counted : List Counted) → all_find v counted ≡ true → EachCounted (λ x. told_stamp x.reply ≡ Some v) counted
+all_find_each v [] is = tt
+all_find_each v (x ∷ counted) is =
+    let parts = and_parts (finds v x) (all_find v counted) is in
+    (finds_told v x.seat x.brick x.reply parts.0, all_find_each v counted parts.1)
+
+found_each : (o : Option Stamp) (v : Stamp) (counted : List Counted) → found_by_all o counted ≡ Some v
+    → EachCounted (λ x. told_stamp x.reply ≡ Some v) counted
+found_each None v counted is = cc
+found_each (Some u) v counted is =
+    cond_both (all_find u counted) (Some u) None
+    (λ (z : Option Stamp). z ≡ Some v → EachCounted (λ x. told_stamp x.reply ≡ Some v) counted)
+    (λ all e.
+    let same : u ≡ v = cc in
+    subst (λ (z : Stamp). EachCounted (λ x. told_stamp x.reply ≡ Some z) counted) same (all_find_each u counted all))
+    (λ none e. cc)
+    is
+
+-- a version that all find is told by each reply
+pub common_each : (counted : List Counted) (v : Stamp) → common_version counted ≡ Some v → EachCounted (λ x. told_stamp x.reply ≡ Some v) counted
+unfolding common_version
+common_each [] v is = tt
+common_each (x ∷ counted) v is = found_each (told_stamp x.reply) v (x ∷ counted) is
+
+-- the greater of two equal stamps
+greater_same : (v : Stamp) → greater_stamp (Some v) (Some v) ≡ Some v
+greater_same v = cond_both (stamp_below v v) (Some v) (Some v) (λ (z : Option Stamp). z ≡ Some v) (λ is. refl) (λ isnt. refl)
+
+-- and is the greatest that they tell
+each_greatest : (v : Stamp) (x : Counted) (counted : List Counted) → EachCounted (λ y. told_stamp y.reply ≡ Some v) (x ∷ counted)
+    → greatest_found (x ∷ counted) ≡ Some v
+each_greatest v x [] each = ap (λ (z : Option Stamp). greater_stamp z None) each.0
+each_greatest v x (y ∷ counted) each =
+    ap (λ (z : Option Stamp). greater_stamp z (greatest_found (y ∷ counted))) each.0
+    ∙ ap (λ (z : Option Stamp). greater_stamp (Some v) z) (each_greatest v y counted each.1) ∙ greater_same v
+
+pub common_greatest : (counted : List Counted) (v : Stamp) → common_version counted ≡ Some v → greatest_found counted ≡ Some v
+unfolding common_version
+common_greatest [] v is = cc
+common_greatest (x ∷ counted) v is = each_greatest v x counted (found_each (told_stamp x.reply) v (x ∷ counted) is)
+
+-- a version that is told or found where a seat replied
+if_seat : (j : ℕ) (counted : List Counted) (z : Option Stamp) (v : Stamp) → cond (has_seat j counted) z None ≡ Some v
+    → (has_seat j counted ≡ true) × (z ≡ Some v)
+if_seat j counted z v is =
+    cond_both (has_seat j counted) z None (λ (y : Option Stamp). y ≡ Some v → (has_seat j counted ≡ true) × (z ≡ Some v))
+    (λ has e. (has, e)) (λ hasnt e. cc) is
+
+pub fast_at : (j : ℕ) (counted : List Counted) (v : Stamp) → fast_version_at j counted ≡ Some v
+    → (has_seat j counted ≡ true) × (fast_version counted ≡ Some v)
+unfolding fast_version_at
+fast_at j counted v is = if_seat j counted (fast_version counted) v is
+
+pub common_at : (j : ℕ) (counted : List Counted) (v : Stamp) → common_version_at j counted ≡ Some v
+    → (has_seat j counted ≡ true) × (common_version counted ≡ Some v)
+unfolding common_version_at
+common_at j counted v is = if_seat j counted (common_version counted) v is
+
+-- the bytes of a seat that replied are those of its reply
+pub bytes_reply : (P : Counted → Type 0) (counted : List Counted) (seat : ℕ) → EachCounted P counted → has_seat seat counted ≡ true
+    → (x : Counted) × P x × (x.seat ≡ seat) × (bytes_at seat counted ≡ found_bytes x.reply)
+bytes_reply P [] seat each has = absurd (false≢true has)
+bytes_reply P (x ∷ counted) seat each has =
+    cond_both (nat_eq x.seat seat) (found_bytes x.reply) (bytes_at seat counted)
+    (λ (z : List ℕ). (nat_eq x.seat seat || has_seat seat counted) ≡ true → (y : Counted) × P y × (y.seat ≡ seat) × (z ≡ found_bytes y.reply))
+    (λ here h. (x, each.0, eqb-true x.seat seat here, refl))
+    (λ there h. bytes_reply P counted seat each.1 (⊎_elim
+    (λ (is : nat_eq x.seat seat ≡ true). absurd (false≢true (sym there ∙ is)))
+    (λ (is : has_seat seat counted ≡ true). is)
+    (or_cases (nat_eq x.seat seat) (has_seat seat counted) h)))
+    has
+
+-- none is behind where not one is
+pub none_behind : (counted : List Counted) → some_behind counted ≡ false → EachCounted (λ x. is_behind x.reply ≡ false) counted
+none_behind [] none = tt
+none_behind (x ∷ counted) none =
+    let parts = or_parts (is_behind x.reply) (some_behind counted) none in (parts.0, none_behind counted parts.1)
 
 -- of two refusers one is the greater
 greater_one : (a b : Refuser) → (greater_refuser (Some a) (Some b) ≡ Some a) ⊎ (greater_refuser (Some a) (Some b) ≡ Some b)

@@ -1,40 +1,45 @@
 -- What the replies that count show of the operation, when they are a quorum.
 use Rattle.std.proofs.Common.{◌≡◌, ℕ, zero, suc, ◌-◌, ◌*◌, ◌/◌, ◌<◌, ◌≤◌, ◌⊎◌, inl, inr, true, false, not, List, [], ◌∷◌, length, replicate, Option, Some, None, refl, sym, ap, ◌∙◌, subst, ⊎_elim, arith, Bool}
 use Rattle.std.specs.Prelude.{nat_eq}
-use Rattle.std.proofs.lemmas.Bool.{false≢true, not_from_false, and_parts}
+use Rattle.std.specs.Option.{option_map}
+use Rattle.std.proofs.lemmas.Bool.{false≢true, not_from_false, and_parts, eqb-true, eq-eqb, cond-true}
 use Rattle.std.proofs.lemmas.Option.{same_Some}
 use Rattle.std.proofs.lemmas.List.{length-replicate}
 use Rattle.fab_base.specs.declared.identities.BrickId.{BrickId}
 use Rattle.fab_base.specs.declared.stamps.Stamp.{Stamp}
-use Rattle.fab_base.specs.Stamps.{stamp_below}
+use Rattle.fab_base.specs.Stamps.{stamp_below, stamp_same}
 use Rattle.fab_base.proofs.StampOrder.{stamp_below_irrefl, stamp_not_below_trans}
 use Rattle.messages.specs.declared.calls.Call.{Call}
 use Rattle.messages.specs.declared.packets.Message.TheVariants as Message
 use Rattle.messages.specs.declared.requests.Version.{Version}
-use Rattle.messages.specs.declared.requests.Request.TheVariants as Request
+use Rattle.messages.specs.declared.requests.Look.{Look}
+use Rattle.messages.specs.declared.requests.Look.TheVariants.{Below, At}
+use Rattle.messages.specs.declared.requests.Want.{Want}
+use Rattle.messages.specs.declared.requests.Want.TheVariants.{Seat, All}
+use Rattle.messages.specs.declared.requests.Request.{Request}
 use Rattle.messages.specs.declared.replies.Reply.{Reply}
 use Rattle.quorum.specs.Quorums.{IsWithinLimits}
-use Rattle.reg_model.specs.Registers.{zero_registers}
+use Rattle.reg_model.specs.Registers.{zero_registers, block_of}
 use Rattle.fab_base.specs.Layouts.{Group, group_of, seat_in}
 use Rattle.quorum.specs.Quorums.{quorum_of}
 use Rattle.protocol.specs.Settings.{Setting, IsSound, are_bytes}
-use Rattle.protocol.specs.Replicas.{Replica, top_of, stamp_max}
+use Rattle.protocol.specs.Replicas.{Replica, top_of, stamp_max, is_wanted}
 use Rattle.protocol.specs.declared.phases.Counted.{Counted}
 use Rattle.protocol.specs.declared.phases.Phase.{Phase}
-use Rattle.protocol.specs.declared.phases.Phase.TheVariants.{Orders, Recovers, Descends, Stores}
-use Rattle.protocol.specs.Coordinators.{Coordinator, may_be_found, answers_phase, told_in, refuser_of, greatest_refuser, full_member_of, lowest_full, fast_version, found_bytes, pieces_of}
+use Rattle.protocol.specs.declared.phases.Phase.TheVariants.{Looks, LooksAt, Orders, OrdersAt, Recovers, Descends, Modifies, Bases, Stores}
+use Rattle.protocol.specs.Coordinators.{Coordinator, may_be_found, may_be_base, told_length, answers_phase, told_in, told_stamp, bytes_of, bytes_at, has_seat, is_behind, some_behind, refuser_of, greatest_refuser, full_member_of, lowest_full, fast_version, found_bytes, pieces_of}
 use Rattle.protocol.specs.Worlds.{World, Operation, zero_content}
 use Rattle.fab_base.specs.Layouts.{brick_at}
-use Rattle.protocol_laws.specs.Laws.{AtQuorum}
+use Rattle.protocol_laws.specs.Laws.{AtQuorum, stamp_stored}
 use Rattle.protocol_laws.proofs.Parts.{part_of, PartsGuard}
 use Rattle.protocol_laws.proofs.FirstViews.{floor_at}
 use Rattle.protocol_laws.proofs.Books.{Books, CallBooks, IsOperation, IsCall}
 use Rattle.protocol_laws.proofs.Logs.{IsWithin}
-use Rattle.protocol_laws.proofs.Said.{Stamping, Said, IsBegun, IsRecovery, IsContent, IsMadeOrFirst, FloorsAtMost, IsCalled, WriteSays, OrderedSays, OrderedReadSays, FoundSays, ReplySays, CountedSays, EachCounted, AreOnce}
+use Rattle.protocol_laws.proofs.Said.{Stamping, Said, IsBegun, IsContent, IsMadeOrFirst, FloorsAtMost, IsCalled, OrderedSays, OrderedReadSays, FoundSays, ReplySays, CountedSays, EachCounted, AreOnce, IsBlockOf, RequestSays, look_of, want_of, is_looked}
 use Rattle.fab_base.proofs.Seats.{seat_within, brick_at_seat}
 use Rattle.protocol_laws.proofs.Reactions.{max_right, max_most}
 use Rattle.protocol_laws.proofs.Stampings.{begun_once}
-use Rattle.protocol_laws.proofs.Counting.{each_then, each_both, at_quorum, TellsVersion, fast_each, none_refuses, none_full, IsPieceOf, are_pieces, pieces_length}
+use Rattle.protocol_laws.proofs.Counting.{each_then, each_both, at_quorum, TellsVersion, fast_each, none_refuses, none_full, IsPieceOf, are_pieces, pieces_length, none_behind, bytes_reply}
 
 -- zeros are bytes
 zero_bytes : (n : ℕ) → are_bytes (replicate n 0) ≡ true
@@ -48,7 +53,7 @@ pub record FoundAt (setting : Setting) (w : World) (j : ℕ) (o : Operation) (or
   pub held : w.held j o.ask.group.0 o.ask.stripe.0 version.stamp ≡ true
   pub made : IsMadeOrFirst w o.ask.group.0 o.ask.stripe.0 version.stamp
   pub block : (group : Group) (seat : ℕ) → group_of setting.layout o.ask.group.0 ≡ Some group → seat_in group.members j ≡ Some seat
-      → version.block ≡ setting.code.encode group.m (w.contents o.ask.group.0 o.ask.stripe.0 version.stamp) seat
+      → (version.block ≡ []) ⊎ (version.block ≡ setting.code.encode group.m (w.contents o.ask.group.0 o.ask.stripe.0 version.stamp) seat)
 
 found_at : (setting : Setting) (w : World) (j i : ℕ) (call : Call) (o : Operation) (order : Stamp) (version : Version)
     → IsOperation w (w.numbers i call.boot call.seq) o → FoundSays setting w j i call order version → FoundAt setting w j o order version
@@ -65,11 +70,14 @@ found_at setting w j i call o order version is says =
           (subst (λ (s : ℕ). w.held j call.group.0 s version.stamp ≡ true) (sym stripe) says.held);
       made = subst (λ (g : ℕ). IsMadeOrFirst w g o.ask.stripe.0 version.stamp) (sym group)
           (subst (λ (s : ℕ). IsMadeOrFirst w call.group.0 s version.stamp) (sym stripe) says.says.made);
-      block = λ its seat its_is at.
-          says.says.block its seat (ap (group_of setting.layout) (sym group) ∙ its_is) at
+      block = λ its seat its_is at. ⊎_elim
+          (λ (none : version.block ≡ []). inl none)
+          (λ (block : IsBlockOf setting w call.group.0 call.stripe.0 j version.stamp version.block).
+          inr (block its seat (ap (group_of setting.layout) (sym group) ∙ its_is) at
           ∙ ap (λ content. setting.code.encode its.m content seat)
           (ap (λ (g : ℕ). w.contents g call.stripe.0 version.stamp) (sym group) ∙ ap (λ (s : ℕ). w.contents o.ask.group.0 s version.stamp)
-          (sym stripe));
+          (sym stripe))))
+          says.says.block;
     }
 
 -- a reply that neither refuses what it was asked, nor tells that a store is full
@@ -77,10 +85,10 @@ abbrev pub Allows : Counted → Type 0
 Allows x = (refuser_of x ≡ None) × (full_member_of x ≡ None)
 
 -- a reply to an order that allows it
-order_answered : (block : ℕ) (t : Stamp) (x : Counted) → answers_phase block t Orders x.reply ≡ true → Allows x → x.reply ≡ Reply.Ordered
+order_answered : (block : ℕ) (t : Stamp) (x : Counted) → answers_phase block t x.seat Orders x.reply ≡ true → Allows x → x.reply ≡ Reply.Ordered
 order_answered block t x answers allows = told x.reply refl answers allows
   where
-    told : (reply : Reply) → x.reply ≡ reply → answers_phase block t Orders reply ≡ true
+    told : (reply : Reply) → x.reply ≡ reply → answers_phase block t x.seat Orders reply ≡ true
         → Allows (record { seat = x.seat; brick = x.brick; reply = reply }) → x.reply ≡ Reply.Ordered
     told Reply.Ordered e answers allows = e
     told (Reply.Later u) e answers (none, roomy) = cc
@@ -88,74 +96,141 @@ order_answered block t x answers allows = told x.reply refl answers allows
     told reply e answers allows = absurd (false≢true answers)
 
 -- a reply to a write that allows it
-write_answered : (block : ℕ) (t : Stamp) (x : Counted) → answers_phase block t Stores x.reply ≡ true → Allows x → x.reply ≡ Reply.Stored
+write_answered : (block : ℕ) (t : Stamp) (x : Counted) → answers_phase block t x.seat Stores x.reply ≡ true → Allows x → x.reply ≡ Reply.Stored
 write_answered block t x answers allows = told x.reply refl answers allows
   where
-    told : (reply : Reply) → x.reply ≡ reply → answers_phase block t Stores reply ≡ true
+    told : (reply : Reply) → x.reply ≡ reply → answers_phase block t x.seat Stores reply ≡ true
         → Allows (record { seat = x.seat; brick = x.brick; reply = reply }) → x.reply ≡ Reply.Stored
     told Reply.Stored e answers allows = e
     told (Reply.Later u) e answers (none, roomy) = cc
     told (Reply.Full live) e answers (none, roomy) = cc
     told reply e answers allows = absurd (false≢true answers)
 
--- the bound below which a recovery's phase looks
-abbrev pub LooksBelow : Coordinator → Stamp → Type 0
-LooksBelow c bound = ((c.phase ≡ Recovers) × (bound ≡ c.stamp)) ⊎ (c.phase ≡ Descends bound)
-
--- the replies to a recovery that allow it, by what its phase does
-found_by : (block : ℕ) (t bound : Stamp) (phase : Phase) (x : Counted) → ((phase ≡ Recovers) × (bound ≡ t)) ⊎ (phase ≡ Descends bound)
-    → answers_phase block t phase x.reply ≡ true → Allows x
-    → (found : Option Version) × (x.reply ≡ Reply.OrderedRead found) × (may_be_found block bound found ≡ true)
-found_by block t bound phase x looks answers allows = ⊎_elim
-    (λ (own : (phase ≡ Recovers) × (bound ≡ t)).
-    subst (λ (b : Stamp). (found : Option Version) × (x.reply ≡ Reply.OrderedRead found) × (may_be_found block b found ≡ true)) (sym own.1)
-    (recovers x.reply refl (subst (λ (p : Phase). answers_phase block t p x.reply ≡ true) own.0 answers) allows))
-    (λ (lower : phase ≡ Descends bound).
-    descends x.reply refl (subst (λ (p : Phase). answers_phase block t p x.reply ≡ true) lower answers) allows)
-    looks
+-- and one to a modification, which is not behind
+modify_answered : (block j : ℕ) (t base : Stamp) (x : Counted) → answers_phase block t x.seat (Modifies base j) x.reply ≡ true → Allows x
+    → is_behind x.reply ≡ false → x.reply ≡ Reply.Stored
+modify_answered block j t base x answers allows level = told x.reply refl answers allows level
   where
-    recovers : (reply : Reply) → x.reply ≡ reply → answers_phase block t Recovers reply ≡ true
-        → Allows (record { seat = x.seat; brick = x.brick; reply = reply })
-        → (found : Option Version) × (x.reply ≡ Reply.OrderedRead found) × (may_be_found block t found ≡ true)
-    recovers (Reply.OrderedRead found) e answers allows = (found, e, answers)
-    recovers (Reply.Later u) e answers (none, roomy) = cc
-    recovers (Reply.Full live) e answers (none, roomy) = cc
-    recovers reply e answers allows = absurd (false≢true answers)
+    told : (reply : Reply) → x.reply ≡ reply → answers_phase block t x.seat (Modifies base j) reply ≡ true
+        → Allows (record { seat = x.seat; brick = x.brick; reply = reply }) → is_behind reply ≡ false → x.reply ≡ Reply.Stored
+    told Reply.Stored e answers allows level = e
+    told (Reply.Behind newest) e answers allows level = absurd (false≢true (sym level))
+    told (Reply.Later u) e answers (none, roomy) level = cc
+    told (Reply.Full live) e answers (none, roomy) level = cc
+    told reply e answers allows level = absurd (false≢true answers)
 
-    descends : (reply : Reply) → x.reply ≡ reply → answers_phase block t (Descends bound) reply ≡ true
-        → Allows (record { seat = x.seat; brick = x.brick; reply = reply })
-        → (found : Option Version) × (x.reply ≡ Reply.OrderedRead found) × (may_be_found block bound found ≡ true)
-    descends (Reply.OrderedRead found) e answers allows = (found, e, answers)
-    descends (Reply.Later u) e answers (none, roomy) = cc
-    descends (Reply.Full live) e answers (none, roomy) = cc
-    descends reply e answers allows = absurd (false≢true answers)
+-- a reply to a phase that looks for a version, which allows it: what was found is looked for
+pub record FoundBy (look : Look) (x : Counted) : Type 0 where
+  pub found : Option Version
+  pub reply_is : x.reply ≡ Reply.OrderedRead found
+  pub looked : (version : Version) → found ≡ Some version → is_looked look version.stamp ≡ true
 
--- a version that may be found is below the bound
-found_below : (block : ℕ) (bound : Stamp) (version : Version) → may_be_found block bound (Some version) ≡ true
-    → stamp_below version.stamp bound ≡ true
-found_below block bound version may = (and_parts (nat_eq (length version.block) block) (stamp_below version.stamp bound) may).1
+found_by : (block : ℕ) (t : Stamp) (phase : Phase) (look : Look) (x : Counted) → look_of phase t ≡ Some look
+    → answers_phase block t x.seat phase x.reply ≡ true → Allows x → FoundBy look x
+found_by block t phase look x looks answers allows = told phase x.reply look refl looks answers allows
+  where
+    under : (long : ℕ) (bound : Stamp) (found : Option Version) → may_be_found long bound found ≡ true
+        → (version : Version) → found ≡ Some version → stamp_below version.stamp bound ≡ true
+    under long bound None may version is = cc
+    under long bound (Some v) may version is =
+        let same : v ≡ version = cc in
+        subst (λ (z : Version). stamp_below z.stamp bound ≡ true) same (and_parts (nat_eq (length v.block) long) (stamp_below v.stamp bound) may).1
 
--- a recovery's stamp and bound are those of its phase
-recovery_same : (stamps : Stamping) (i boot k p : ℕ) (phase : Phase) (t u bound b : Stamp) → IsBegun stamps i boot k p phase t
-    → ((phase ≡ Recovers) × (bound ≡ t)) ⊎ (phase ≡ Descends bound) → IsRecovery stamps i boot k p b u → (u ≡ t) × (b ≡ bound)
-recovery_same stamps i boot k p phase t u bound b begun (inl looks) (inl own) =
-    let same = begun_once stamps i boot k p phase Recovers t u begun own.1 in (sym same.1, own.0 ∙ sym same.1 ∙ sym looks.1)
-recovery_same stamps i boot k p phase t u bound b begun (inl looks) (inr lower) =
-    let same = begun_once stamps i boot k p phase (Descends b) t u begun lower.1 in
-    let bad : Recovers ≡ Descends b = sym looks.0 ∙ same.0 in
-    absurd (let never : ⊥ = cc in never)
-recovery_same stamps i boot k p phase t u bound b begun (inr looks) (inl own) =
-    let same = begun_once stamps i boot k p phase Recovers t u begun own.1 in
-    let bad : Recovers ≡ Descends bound = sym same.0 ∙ looks in
-    absurd (let never : ⊥ = cc in never)
-recovery_same stamps i boot k p phase t u bound b begun (inr looks) (inr lower) =
-    let same = begun_once stamps i boot k p phase (Descends b) t u begun lower.1 in
-    let phases : Descends b ≡ Descends bound = sym same.0 ∙ looks in
-    (sym same.1, let e : b ≡ bound = cc in e)
+    same_base : (base : Stamp) (found : Option Version) → may_be_base block base found ≡ true
+        → (version : Version) → found ≡ Some version → stamp_same version.stamp base ≡ true
+    same_base base None may version is = cc
+    same_base base (Some v) may version is =
+        let same : v ≡ version = cc in
+        subst (λ (z : Version). stamp_same z.stamp base ≡ true) same (and_parts (nat_eq (length v.block) block) (stamp_same v.stamp base) may).1
+
+    below : (bound : Stamp) (look : Look) (found : Option Version) → x.reply ≡ Reply.OrderedRead found → Some (Below bound) ≡ Some look
+        → ((version : Version) → found ≡ Some version → stamp_below version.stamp bound ≡ true) → FoundBy look x
+    below bound look found e looks h = record {
+      found = found;
+      reply_is = e;
+      looked = λ version is.
+          let same : Below bound ≡ look = cc in subst (λ (l : Look). is_looked l version.stamp ≡ true) same (h version is);
+    }
+
+    at : (base : Stamp) (look : Look) (found : Option Version) → x.reply ≡ Reply.OrderedRead found → Some (At base) ≡ Some look
+        → ((version : Version) → found ≡ Some version → stamp_same version.stamp base ≡ true) → FoundBy look x
+    at base look found e looks h = record {
+      found = found;
+      reply_is = e;
+      looked = λ version is.
+          let same : At base ≡ look = cc in subst (λ (l : Look). is_looked l version.stamp ≡ true) same (h version is);
+    }
+
+    told : (p : Phase) (reply : Reply) (l : Look) → x.reply ≡ reply → look_of p t ≡ Some l → answers_phase block t x.seat p reply ≡ true
+        → Allows (record { seat = x.seat; brick = x.brick; reply = reply }) → FoundBy l x
+    told (OrdersAt j) (Reply.OrderedRead found) l e looks answers allows = below t l found e looks (under (told_length block j x.seat) t found answers)
+    told (OrdersAt j) (Reply.Later u) l e looks answers (none, roomy) = cc
+    told (OrdersAt j) (Reply.Full live) l e looks answers (none, roomy) = cc
+    told Recovers (Reply.OrderedRead found) l e looks answers allows = below t l found e looks (under block t found answers)
+    told Recovers (Reply.Later u) l e looks answers (none, roomy) = cc
+    told Recovers (Reply.Full live) l e looks answers (none, roomy) = cc
+    told (Descends bound) (Reply.OrderedRead found) l e looks answers allows = below bound l found e looks (under block bound found answers)
+    told (Descends bound) (Reply.Later u) l e looks answers (none, roomy) = cc
+    told (Descends bound) (Reply.Full live) l e looks answers (none, roomy) = cc
+    told (Bases base) (Reply.OrderedRead found) l e looks answers allows = at base l found e looks (same_base base found answers)
+    told (Bases base) (Reply.Later u) l e looks answers (none, roomy) = cc
+    told (Bases base) (Reply.Full live) l e looks answers (none, roomy) = cc
+    told Looks reply l e looks answers allows = cc
+    told (LooksAt j) reply l e looks answers allows = cc
+    told Orders reply l e looks answers allows = cc
+    told (Modifies base j) reply l e looks answers allows = cc
+    told Stores reply l e looks answers allows = cc
+    told p reply l e looks answers allows = absurd (false≢true answers)
+
+-- a block that is wanted of a seat is told whole
+wanted_long : (block : ℕ) (t : Stamp) (seat : ℕ) (phase : Phase) (reply : Reply) (version : Version) → told_in reply ≡ Some version
+    → answers_phase block t seat phase reply ≡ true → is_wanted (want_of phase) seat ≡ true → length version.block ≡ block
+wanted_long block t seat Looks (Reply.Found order (Some v)) version is answers wanted =
+    let same : v ≡ version = cc in ap (λ (z : Version). length z.block) (sym same) ∙ eqb-true (length v.block) block answers
+wanted_long block t seat (LooksAt j) (Reply.Found order (Some v)) version is answers wanted =
+    let same : v ≡ version = cc in
+    ap (λ (z : Version). length z.block) (sym same) ∙ eqb-true (length v.block) (told_length block j seat) answers
+    ∙ cond-true (nat_eq j seat) block 0 wanted
+wanted_long block t seat (OrdersAt j) (Reply.OrderedRead (Some v)) version is answers wanted =
+    let same : v ≡ version = cc in
+    ap (λ (z : Version). length z.block) (sym same)
+    ∙ eqb-true (length v.block) (told_length block j seat) (and_parts (nat_eq (length v.block) (told_length block j seat)) (stamp_below v.stamp t) answers).0
+    ∙ cond-true (nat_eq j seat) block 0 wanted
+wanted_long block t seat Recovers (Reply.OrderedRead (Some v)) version is answers wanted =
+    let same : v ≡ version = cc in
+    ap (λ (z : Version). length z.block) (sym same)
+    ∙ eqb-true (length v.block) block (and_parts (nat_eq (length v.block) block) (stamp_below v.stamp t) answers).0
+wanted_long block t seat (Descends bound) (Reply.OrderedRead (Some v)) version is answers wanted =
+    let same : v ≡ version = cc in
+    ap (λ (z : Version). length z.block) (sym same)
+    ∙ eqb-true (length v.block) block (and_parts (nat_eq (length v.block) block) (stamp_below v.stamp bound) answers).0
+wanted_long block t seat (Bases base) (Reply.OrderedRead (Some v)) version is answers wanted =
+    let same : v ≡ version = cc in
+    ap (λ (z : Version). length z.block) (sym same)
+    ∙ eqb-true (length v.block) block (and_parts (nat_eq (length v.block) block) (stamp_same v.stamp base) answers).0
+wanted_long block t seat phase (Reply.Found order None) version is answers wanted = cc
+wanted_long block t seat phase (Reply.OrderedRead None) version is answers wanted = cc
+wanted_long block t seat phase (Reply.Found order (Some v)) version is answers wanted = absurd (false≢true answers)
+wanted_long block t seat phase (Reply.OrderedRead (Some v)) version is answers wanted = absurd (false≢true answers)
+wanted_long block t seat phase reply version is answers wanted = cc
+
+-- which is no empty one
+whole_block : (block : ℕ) (bytes is : List ℕ) → 1 ≤ block → length bytes ≡ block → (bytes ≡ []) ⊎ (bytes ≡ is) → bytes ≡ is
+whole_block block bytes is some long (inl none) =
+    absurd (let empty : length bytes ≡ 0 = ap (λ (l : List ℕ). length l) none in omega (arith, some, long, empty))
+whole_block block bytes is some long (inr whole) = whole
 
 -- a quorum has at least m seats
 pub quorum_enough : (m n : ℕ) → m ≤ n → m ≤ n - (n - m) / 2
 quorum_enough m n le = omega arith
+
+-- the version that is told
+pub told_version_is : (x : Counted) (found : Option Version) (v : Stamp) → told_in x.reply ≡ found → told_stamp x.reply ≡ Some v
+    → (version : Version) × (found ≡ Some version) × (version.stamp ≡ v)
+told_version_is x None v is told = let none : None ≡ Some v = sym (ap (option_map (λ (z : Version). z.stamp)) is) ∙ told in cc
+told_version_is x (Some version) v is told =
+    let some : Some version.stamp ≡ Some v = sym (ap (option_map (λ (z : Version). z.stamp)) is) ∙ told in
+    (version, refl, same_Some version.stamp v some)
 
 module _ (setting : Setting) (sound : IsSound setting) (w : World) (stamps : Stamping) (me : BrickId) (c : Coordinator)
     (books : Books setting w) (said : Said setting w stamps) (is : IsCall w me.0 c.call.seq c)
@@ -269,8 +344,8 @@ module _ (setting : Setting) (sound : IsSound setting) (w : World) (stamps : Sta
   -- an order that was answered
   ordered_seat : c.phase ≡ Orders → (x : Counted) → CountedSays setting w me.0 c x → Allows x → PromisesAt x
   ordered_seat orders x says allows =
-      let answers : answers_phase setting.layout.block c.stamp Orders x.reply ≡ true
-      = subst (λ (p : Phase). answers_phase setting.layout.block c.stamp p x.reply ≡ true) orders says.answers in
+      let answers : answers_phase setting.layout.block c.stamp x.seat Orders x.reply ≡ true
+      = subst (λ (p : Phase). answers_phase setting.layout.block c.stamp x.seat p x.reply ≡ true) orders says.answers in
       let told : OrderedSays w stamps x.brick.0 me.0 c.call
       = subst (λ (r : Reply). ReplySays setting w stamps x.brick (record { 0 = me.0 }) c.call r)
       (order_answered setting.layout.block c.stamp x answers allows) (counted_says x says) in
@@ -283,78 +358,117 @@ module _ (setting : Setting) (sound : IsSound setting) (w : World) (stamps : Sta
   all_ordered orders none roomy =
       each_then (λ x. CountedSays setting w me.0 c x × Allows x) PromisesAt counted (λ x h. ordered_seat orders x h.0 h.1) (each_allows none roomy)
 
-  -- a write that was answered
-  stored_seat : c.phase ≡ Stores → (x : Counted) → CountedSays setting w me.0 c x → Allows x
+  -- the stamp of what a call has stored is its own
+  stored_by : (to : ℕ) (request : Request) (t : Stamp) → RequestSays setting w stamps me.0 to c.call request → stamp_stored request ≡ Some t
+      → t ≡ c.stamp
+  stored_by to (Request.Write z block) t says stores =
+      let same : z ≡ t = cc in
+      sym same ∙ (begun_once stamps me.0 c.call.boot c.call.seq c.call.phase Stores c.phase z c.stamp says.maker.begun its_begun).1
+  stored_by to (Request.Modify z base j sent) t says stores =
+      let same : z ≡ t = cc in
+      sym same ∙ (begun_once stamps me.0 c.call.boot c.call.seq c.call.phase (Modifies base j) c.phase z c.stamp says.maker.begun its_begun).1
+  stored_by to request t says stores = cc
+
+  -- a version that a member said it stored
+  stored_seat : (x : Counted) → CountedSays setting w me.0 c x → x.reply ≡ Reply.Stored
       → (x.seat < length group.members) × (held_at x.seat c.stamp ≡ true)
-  stored_seat stores x says allows =
-      let answers : answers_phase setting.layout.block c.stamp Stores x.reply ≡ true
-      = subst (λ (p : Phase). answers_phase setting.layout.block c.stamp p x.reply ≡ true) stores says.answers in
+  stored_seat x says reply_is =
       let told : ReplySays setting w stamps x.brick (record { 0 = me.0 }) c.call Reply.Stored
-      = subst (λ (r : Reply). ReplySays setting w stamps x.brick (record { 0 = me.0 }) c.call r)
-      (write_answered setting.layout.block c.stamp x answers allows) (counted_says x says) in
-      let writes : WriteSays setting w stamps me.0 x.brick.0 c.call told.0 told.1
-      = said.packets told.2.0 (record {
-        from = record { 0 = me.0 };
-        to = x.brick;
-        message = Message.Request c.call
-            (Request.Write told.0 told.1);
-      }) told.2.1 in
-      let same : told.0 ≡ c.stamp
-      = (begun_once stamps me.0 c.call.boot c.call.seq c.call.phase Stores c.phase told.0 c.stamp writes.begun its_begun).1 in (
+      = subst (λ (r : Reply). ReplySays setting w stamps x.brick (record { 0 = me.0 }) c.call r) reply_is (counted_says x says) in
+      let asks : RequestSays setting w stamps me.0 x.brick.0 c.call told.1
+      = said.packets told.2.0 (record { from = record { 0 = me.0 }; to = x.brick; message = Message.Request c.call told.1 }) told.2.1 in (
         (seat_fits x says).0,
-        subst (λ (t : Stamp). held_at x.seat t ≡ true) same
-            (at_seat (λ g s j. w.held j g s told.0 ≡ true) x says told.3),
+        subst (λ (t : Stamp). held_at x.seat t ≡ true) (stored_by x.brick.0 told.1 told.0 asks told.3)
+            (at_seat (λ g s j. w.held j g s told.0 ≡ true) x says told.4),
       )
 
   -- a version that a quorum stored stands
+  all_stored : EachCounted (λ x. CountedSays setting w me.0 c x × (x.reply ≡ Reply.Stored)) counted → AtQuorum group (λ seat. held_at seat c.stamp)
+  all_stored stored =
+      at_quorum group counted (λ seat. held_at seat c.stamp)
+      (each_then (λ x. CountedSays setting w me.0 c x × (x.reply ≡ Reply.Stored)) (λ x. (x.seat < length group.members)
+      × (held_at x.seat c.stamp ≡ true))
+      counted (λ x h. stored_seat x h.0 h.1) stored)
+      once many
+
   pub stored_stands : c.phase ≡ Stores → greatest_refuser counted ≡ None → lowest_full counted ≡ None
       → AtQuorum group (λ seat. held_at seat c.stamp)
   stored_stands stores none roomy =
-      at_quorum group counted (λ seat. held_at seat c.stamp)
-      (each_then (λ x. CountedSays setting w me.0 c x × Allows x) (λ x. (x.seat < length group.members)
-      × (held_at x.seat c.stamp ≡ true))
-      counted (λ x h. stored_seat stores x h.0 h.1) (each_allows none roomy))
-      once many
+      all_stored (each_then (λ x. CountedSays setting w me.0 c x × Allows x) (λ x. CountedSays setting w me.0 c x × (x.reply ≡ Reply.Stored)) counted
+      (λ x h. (
+        h.0,
+        write_answered setting.layout.block c.stamp x
+            (subst (λ (p : Phase). answers_phase setting.layout.block c.stamp x.seat p x.reply ≡ true) stores h.0.answers) h.1,
+      ))
+      (each_allows none roomy))
 
-  -- what a reply to a recovery shows
-  pub record ReadsAt (bound : Stamp) (x : Counted) : Type 0 where
+  -- so does one that a quorum modified, none of it being behind
+  pub modified_stands : (base : Stamp) (j : ℕ) → c.phase ≡ Modifies base j → greatest_refuser counted ≡ None → lowest_full counted ≡ None
+      → some_behind counted ≡ false → AtQuorum group (λ seat. held_at seat c.stamp)
+  modified_stands base j modifies none roomy level =
+      all_stored (each_then (λ x. (CountedSays setting w me.0 c x × Allows x) × (is_behind x.reply ≡ false))
+      (λ x. CountedSays setting w me.0 c x × (x.reply ≡ Reply.Stored)) counted
+      (λ x h. (
+        h.0.0,
+        modify_answered setting.layout.block j c.stamp base x
+            (subst (λ (p : Phase). answers_phase setting.layout.block c.stamp x.seat p x.reply ≡ true) modifies h.0.0.answers) h.0.1 h.1,
+      ))
+      (each_both (λ x. CountedSays setting w me.0 c x × Allows x) (λ x. is_behind x.reply ≡ false) counted (each_allows none roomy)
+      (none_behind counted level)))
+
+  -- what a reply to a phase that looks for a version shows
+  pub record ReadsAt (look : Look) (x : Counted) : Type 0 where
     pub promises : PromisesAt x
     pub found : Option Version
     pub found_is : told_in x.reply ≡ found
-    pub newest : (d : Stamp) → held_at x.seat d ≡ true → stamp_below d bound ≡ true → IsWithin found d
-    pub below : (version : Version) → found ≡ Some version → stamp_below version.stamp bound ≡ true
+    pub newest : (d : Stamp) → held_at x.seat d ≡ true → is_looked look d ≡ true → IsWithin found d
+    pub looked : (version : Version) → found ≡ Some version → is_looked look version.stamp ≡ true
+    pub held : (version : Version) → found ≡ Some version → held_at x.seat version.stamp ≡ true
     pub made : (version : Version) → found ≡ Some version → IsMadeOrFirst w its_operation.ask.group.0 its_operation.ask.stripe.0 version.stamp
-    pub block : (version : Version) → found ≡ Some version
+    pub block : (version : Version) → found ≡ Some version → is_wanted (want_of c.phase) x.seat ≡ true
         → version.block ≡ setting.code.encode group.m (w.contents its_operation.ask.group.0 its_operation.ask.stripe.0 version.stamp) x.seat
 
-  read_seat : (bound : Stamp) → LooksBelow c bound → (x : Counted) → CountedSays setting w me.0 c x → Allows x → ReadsAt bound x
-  read_seat bound looks x says allows =
-      let answer = found_by setting.layout.block c.stamp bound c.phase x looks says.answers allows in
-      let told : OrderedReadSays setting w stamps x.brick.0 me.0 c.call answer.0
-      = subst (λ (r : Reply). ReplySays setting w stamps x.brick (record { 0 = me.0 }) c.call r) answer.1 (counted_says x says) in
-      let same
-      = recovery_same stamps me.0 c.call.boot c.call.seq c.call.phase c.phase c.stamp told.stamp bound told.bound its_begun looks told.recovers in
+  -- the phase of the call looks for just this
+  look_same : (phase : Phase) (t : Stamp) (look other : Look) → IsBegun stamps me.0 c.call.boot c.call.seq c.call.phase phase t
+      → look_of phase t ≡ Some other → look_of c.phase c.stamp ≡ Some look → (t ≡ c.stamp) × (other ≡ look)
+  look_same phase t look other begun other_is looks =
+      let same = begun_once stamps me.0 c.call.boot c.call.seq c.call.phase phase c.phase t c.stamp begun its_begun in (
+        same.1,
+        same_Some other look (sym other_is ∙ ap (λ (p : Phase). look_of p t) same.0 ∙ ap (λ (z : Stamp). look_of c.phase z) same.1 ∙ looks),
+      )
+
+  read_seat : (look : Look) → look_of c.phase c.stamp ≡ Some look → (x : Counted) → CountedSays setting w me.0 c x → Allows x → ReadsAt look x
+  read_seat look looks x says allows =
+      let answer : FoundBy look x = found_by setting.layout.block c.stamp c.phase look x looks says.answers allows in
+      let told : OrderedReadSays setting w stamps x.brick.0 me.0 c.call answer.found
+      = subst (λ (r : Reply). ReplySays setting w stamps x.brick (record { 0 = me.0 }) c.call r) answer.reply_is (counted_says x says) in
+      let same = look_same told.phase told.stamp look told.look told.begun told.look_is looks in
       record {
         promises = promises_at x says told.operation told.stamp told.called same.0 told.promised told.floor;
-        found = answer.0;
-        found_is = ap told_in answer.1;
-        newest = at_seat (λ g s j. (d : Stamp) → w.held j g s d ≡ true → stamp_below d bound ≡ true → IsWithin answer.0 d) x says
-            (subst (λ (b : Stamp). (d : Stamp) → w.held x.brick.0 c.call.group.0 c.call.stripe.0 d ≡ true → stamp_below d b ≡ true
-            → IsWithin answer.0 d) same.1 told.newest);
-        below = λ version is.
-            found_below setting.layout.block bound version
-            (subst (λ (z : Option Version). may_be_found setting.layout.block bound z ≡ true) is answer.2);
+        found = answer.found;
+        found_is = ap told_in answer.reply_is;
+        newest = at_seat (λ g s j. (d : Stamp) → w.held j g s d ≡ true → is_looked look d ≡ true → IsWithin answer.found d) x says
+            (subst (λ (l : Look). (d : Stamp) → w.held x.brick.0 c.call.group.0 c.call.stripe.0 d ≡ true → is_looked l d ≡ true
+            → IsWithin answer.found d) same.1 told.newest);
+        looked = answer.looked;
+        held = λ version is. at_seat (λ g s j. w.held j g s version.stamp ≡ true) x says (told.held version is);
         made = λ version is. of_stripe (λ g s. IsMadeOrFirst w g s version.stamp) (told.says version is).made;
-        block = λ version is.
+        block = λ version is wanted.
             of_stripe (λ g s. version.block ≡ setting.code.encode group.m (w.contents g s version.stamp) x.seat)
-            ((told.says version is).block group x.seat (ap (group_of setting.layout) (sym call_group) ∙ its_group) (says.seat group group_is));
+            (whole_block setting.layout.block version.block
+            (setting.code.encode group.m (w.contents c.call.group.0 c.call.stripe.0 version.stamp) x.seat) sound.positive
+            (wanted_long setting.layout.block c.stamp x.seat c.phase x.reply version (ap told_in answer.reply_is ∙ is) says.answers wanted)
+            (⊎_elim (λ (none : version.block ≡ []). inl none)
+            (λ (block : IsBlockOf setting w c.call.group.0 c.call.stripe.0 x.brick.0 version.stamp version.block).
+            inr (block group x.seat (ap (group_of setting.layout) (sym call_group) ∙ its_group) (says.seat group group_is)))
+            (told.says version is).block));
       }
 
-  -- a recovery that a quorum answered
-  pub all_read : (bound : Stamp) → LooksBelow c bound → greatest_refuser counted ≡ None → lowest_full counted ≡ None
-      → EachCounted (ReadsAt bound) counted
-  all_read bound looks none roomy =
-      each_then (λ x. CountedSays setting w me.0 c x × Allows x) (ReadsAt bound) counted (λ x h. read_seat bound looks x h.0 h.1)
+  -- such a phase that a quorum answered
+  pub all_read : (look : Look) → look_of c.phase c.stamp ≡ Some look → greatest_refuser counted ≡ None → lowest_full counted ≡ None
+      → EachCounted (ReadsAt look) counted
+  all_read look looks none roomy =
+      each_then (λ x. CountedSays setting w me.0 c x × Allows x) (ReadsAt look) counted (λ x h. read_seat look looks x h.0 h.1)
       (each_allows none roomy)
 
   -- what a reply that tells version v shows
@@ -364,7 +478,8 @@ module _ (setting : Setting) (sound : IsSound setting) (w : World) (stamps : Sta
     floor : stamp_below v (floor_at its_operation (brick_at group x.seat)) ≡ false
     held : held_at x.seat v ≡ true
     made : IsMadeOrFirst w its_operation.ask.group.0 its_operation.ask.stripe.0 v
-    block : found_bytes x.reply ≡ setting.code.encode group.m (w.contents its_operation.ask.group.0 its_operation.ask.stripe.0 v) x.seat
+    block : is_wanted (want_of c.phase) x.seat ≡ true
+        → found_bytes x.reply ≡ setting.code.encode group.m (w.contents its_operation.ask.group.0 its_operation.ask.stripe.0 v) x.seat
 
   tells_at : (v : Stamp) (x : Counted) → CountedSays setting w me.0 c x → TellsVersion v x.reply → TellsAt v x
   tells_at v x says tells =
@@ -389,8 +504,12 @@ module _ (setting : Setting) (sound : IsSound setting) (w : World) (stamps : Sta
             (subst (λ (j : ℕ). w.held j its_operation.ask.group.0 its_operation.ask.stripe.0 tells.version.stamp ≡ true)
             (sym brick) at.held);
         made = subst (λ (t : Stamp). IsMadeOrFirst w its_operation.ask.group.0 its_operation.ask.stripe.0 t) tells.stamp at.made;
-        block = ap found_bytes tells.reply_is
-            ∙ at.block group x.seat its_group (says.seat group group_is)
+        block = λ wanted.
+            ap found_bytes tells.reply_is
+            ∙ whole_block setting.layout.block tells.version.block
+            (setting.code.encode group.m (w.contents its_operation.ask.group.0 its_operation.ask.stripe.0 tells.version.stamp) x.seat) sound.positive
+            (wanted_long setting.layout.block c.stamp x.seat c.phase x.reply tells.version (ap told_in tells.reply_is) says.answers wanted)
+            (at.block group x.seat its_group (says.seat group group_is))
             ∙ ap (λ (t : Stamp). setting.code.encode group.m (w.contents its_operation.ask.group.0 its_operation.ask.stripe.0 t) x.seat) tells.stamp;
       }
 
@@ -453,10 +572,10 @@ module _ (setting : Setting) (sound : IsSound setting) (w : World) (stamps : Sta
       subst (λ (l : List ℕ). IsContent group.m setting.layout.block l) content
       ((said.operations made.0 p made.2).content v made.5 made.6 group (ap (group_of setting.layout) made.3 ∙ its_group))
 
-  -- and the replies decode to its content
-  pub fast_decodes : (v : Stamp) → fast_version counted ≡ Some v
+  -- and the replies decode to its content, where all blocks are wanted
+  pub fast_decodes : (v : Stamp) → fast_version counted ≡ Some v → want_of c.phase ≡ All
       → setting.code.decode group.m (pieces_of counted) ≡ w.contents its_operation.ask.group.0 its_operation.ask.stripe.0 v
-  fast_decodes v fast =
+  fast_decodes v fast all_wanted =
       let limits : IsWithinLimits group.m (length group.members) = sound.limits its_operation.ask.group.0 group its_group in
       let enough : group.m ≤ quorum_of group = quorum_enough group.m (length group.members) limits.enough_seats in
       let pieces : length (pieces_of counted) ≡ length counted = pieces_length counted in
@@ -466,6 +585,53 @@ module _ (setting : Setting) (sound : IsSound setting) (w : World) (stamps : Sta
       (are_pieces setting.code group.m (length group.members) (w.contents its_operation.ask.group.0 its_operation.ask.stripe.0 v) counted
       (each_then (TellsAt v) (IsPieceOf setting.code group.m (length group.members)
       (w.contents its_operation.ask.group.0 its_operation.ask.stripe.0 v)) counted
-      (λ x h. (h.within, h.block)) (all_tell_at v fast))
+      (λ x h. (h.within, h.block (ap (λ (z : Want). is_wanted z x.seat) all_wanted))) (all_tell_at v fast))
       once)
       (omega arith)
+
+  -- the block of a data seat is the data block of the content
+  data_block : (v : Stamp) (j : ℕ) → j < group.m → IsMadeOrFirst w its_operation.ask.group.0 its_operation.ask.stripe.0 v
+      → setting.code.encode group.m (w.contents its_operation.ask.group.0 its_operation.ask.stripe.0 v) j
+      ≡ block_of setting.layout.block j (w.contents its_operation.ask.group.0 its_operation.ask.stripe.0 v)
+  data_block v j below made =
+      let formed = content_formed v made in
+      sound.keeps group.m (length group.members) (sound.limits its_operation.ask.group.0 group its_group)
+      (w.contents its_operation.ask.group.0 its_operation.ask.stripe.0 v) j formed.0 formed.1 below
+
+  -- what the seat of data block j tells, where it is wanted, is that block of the version that all tell
+  pub fast_block : (v : Stamp) (j : ℕ) → j < group.m → fast_version counted ≡ Some v → has_seat j counted ≡ true → want_of c.phase ≡ Seat j
+      → bytes_at j counted ≡ block_of setting.layout.block j (w.contents its_operation.ask.group.0 its_operation.ask.stripe.0 v)
+  fast_block v j below fast has wanted =
+      let found = bytes_reply (TellsAt v) counted j (all_tell_at v fast) has in
+      found.3
+      ∙ found.1.block (ap (λ (z : Want). is_wanted z found.0.seat) wanted ∙ eq-eqb j found.0.seat (sym found.2))
+      ∙ ap (setting.code.encode group.m (w.contents its_operation.ask.group.0 its_operation.ask.stripe.0 v)) found.2
+      ∙ data_block v j below (fast_made v fast)
+
+  -- the same of a version that all find
+  pub common_block : (look : Look) → EachCounted (ReadsAt look) counted → (v : Stamp) (j : ℕ) → j < group.m
+      → IsMadeOrFirst w its_operation.ask.group.0 its_operation.ask.stripe.0 v
+      → EachCounted (λ x. told_stamp x.reply ≡ Some v) counted → has_seat j counted ≡ true → want_of c.phase ≡ Seat j
+      → bytes_at j counted ≡ block_of setting.layout.block j (w.contents its_operation.ask.group.0 its_operation.ask.stripe.0 v)
+  common_block look all v j below made told has wanted =
+      let found = bytes_reply (λ x. ReadsAt look x × (told_stamp x.reply ≡ Some v)) counted j
+      (each_both (ReadsAt look) (λ x. told_stamp x.reply ≡ Some v) counted all told) has in
+      let version = told_version_is found.0 found.1.0.found v found.1.0.found_is found.1.1 in
+      found.3
+      ∙ ap bytes_of (found.1.0.found_is ∙ version.1)
+      ∙ found.1.0.block version.0 version.1 (ap (λ (z : Want). is_wanted z found.0.seat) wanted ∙ eq-eqb j found.0.seat (sym found.2))
+      ∙ ap (λ (t : Stamp). setting.code.encode group.m (w.contents its_operation.ask.group.0 its_operation.ask.stripe.0 t) found.0.seat) version.2
+      ∙ ap (setting.code.encode group.m (w.contents its_operation.ask.group.0 its_operation.ask.stripe.0 v)) found.2
+      ∙ data_block v j below made
+
+  -- a version that all find stands
+  pub common_stands : (look : Look) → EachCounted (ReadsAt look) counted → (v : Stamp) → EachCounted (λ x. told_stamp x.reply ≡ Some v) counted
+      → AtQuorum group (λ seat. held_at seat v)
+  common_stands look all v told =
+      at_quorum group counted (λ seat. held_at seat v)
+      (each_then (λ x. ReadsAt look x × (told_stamp x.reply ≡ Some v)) (λ x. (x.seat < length group.members) × (held_at x.seat v ≡ true)) counted
+      (λ x h.
+      let version = told_version_is x h.0.found v h.0.found_is h.1 in
+      (h.0.promises.within, subst (λ (t : Stamp). held_at x.seat t ≡ true) version.2 (h.0.held version.0 version.1)))
+      (each_both (ReadsAt look) (λ x. told_stamp x.reply ≡ Some v) counted all told))
+      once many

@@ -5,13 +5,14 @@ use Rattle.std.proofs.lemmas.Option.{same_Some}
 use Rattle.std.proofs.lemmas.List.{length-append}
 use Rattle.fab_base.specs.declared.identities.BrickId.{BrickId}
 use Rattle.fab_base.specs.declared.stamps.Stamp.{Stamp}
-use Rattle.fab_base.specs.declared.asks.Op.TheVariants.{ReadStripe, WriteStripe}
 use Rattle.fab_base.specs.declared.answers.Answer.{Answer}
 use Rattle.fab_base.specs.declared.answers.Answer.TheVariants.{Data, Done, Aborted}
 use Rattle.messages.specs.declared.packets.Packet.{Packet}
 use Rattle.messages.specs.declared.requests.Request.TheVariants as Request
 use Rattle.reg_model.specs.declared.marks.Mark.{Mark}
 use Rattle.reg_model.specs.declared.marks.Mark.TheVariants.{End}
+use Rattle.reg_model.specs.Registers.{read_of}
+use Rattle.protocol.specs.Happenings.{writes}
 use Rattle.protocol.specs.Settings.{Setting}
 use Rattle.protocol.specs.Coordinators.{Coordinator}
 use Rattle.protocol.specs.Nodes.{Node, NodeStep, put, with_call, seen_told, collect_packets}
@@ -27,12 +28,12 @@ use Rattle.protocol_laws.proofs.Operated.{operated, OperatedKeeps, operated_grow
 use Rattle.protocol_laws.proofs.Stores.{open_until}
 
 -- what must be known of an operation that ends by this answer, having seen this version
-abbrev pub WillShow : World → Operation → Option Stamp → Answer → Type 0
-WillShow w o seen (Data bytes) =
-    (o.ask.op ≡ ReadStripe)
-    × ((v : Stamp) × (version_after o.version seen ≡ Some v) × (bytes ≡ w.contents o.ask.group.0 o.ask.stripe.0 v))
-WillShow w o seen Done = (bytes : List ℕ) × (o.ask.op ≡ WriteStripe bytes)
-WillShow w o seen (Aborted cause) = Unit {0}
+abbrev pub WillShow : Setting → World → Operation → Option Stamp → Answer → Type 0
+WillShow setting w o seen (Data bytes) =
+    (v : Stamp) × (version_after o.version seen ≡ Some v)
+    × (read_of setting.layout.block o.ask.op (w.contents o.ask.group.0 o.ask.stripe.0 v) ≡ Some bytes)
+WillShow setting w o seen Done = writes o.ask.op ≡ true
+WillShow setting w o seen (Aborted cause) = Unit {0}
 
 module _ (setting : Setting) (w : World) (stamps : Stamping) (me : BrickId) (c : Coordinator) (known : ℕ)
     (books : Books setting w) (said : Said setting w stamps) (is : IsCall w me.0 c.call.seq c)
@@ -117,8 +118,8 @@ module _ (setting : Setting) (w : World) (stamps : Stamping) (me : BrickId) (c :
       (has_version : (v : Stamp) → version_after o.version seen ≡ Some v → HasVersion setting w o v)
       (stands : (v : Stamp) → version_after o.version seen ≡ Some v → (o.made ≡ false) ⊎ (is_answer answer ≡ true)
       → Stands setting w o.ask.group.0 o.ask.stripe.0 v)
-      (answered_made : is_answer answer ≡ true → (bytes : List ℕ) → o.ask.op ≡ WriteStripe bytes → o.made ≡ true)
-      (shows : WillShow w o seen answer) where
+      (answered_made : is_answer answer ≡ true → writes o.ask.op ≡ true → o.made ≡ true)
+      (shows : WillShow setting w o seen answer) where
     on : Continues o ended
     on = record {
       brick = refl;
@@ -209,29 +210,28 @@ module _ (setting : Setting) (w : World) (stamps : Stamping) (me : BrickId) (c :
         let sent = sent_to_member me c.call (λ seat. Request.Collect t) 0 c.group.members k packet at in
         subst (λ (z : Packet). PacketSays setting next stamps z) (sym sent.2) tt
 
-    end_shows : (a : Answer) → a ≡ answer → EndShows next n a
+    end_shows : (a : Answer) → a ≡ answer → EndShows setting next n a
     end_shows (Data bytes) same =
-        let told : WillShow w o seen (Data bytes) = subst (λ (z : Answer). WillShow w o seen z) (sym same) shows in
+        let told : WillShow setting w o seen (Data bytes) = subst (λ (z : Answer). WillShow setting w o seen z) (sym same) shows in
         record {
           operation = ended;
           is = put_same w.operations n (Some ended);
-          reads = told.0;
-          version = told.1.0;
-          version_is = told.1.1;
-          bytes_are = told.1.2;
+          version = told.0;
+          version_is = told.1;
+          bytes_are = told.2;
         }
-    end_shows Done same = (ended, put_same w.operations n (Some ended), subst (λ (z : Answer). WillShow w o seen z) (sym same) shows)
+    end_shows Done same = (ended, put_same w.operations n (Some ended), subst (λ (z : Answer). WillShow setting w o seen z) (sym same) shows)
     end_shows (Aborted cause) same = (ended, put_same w.operations n (Some ended))
 
     ends : (k q a : ℕ) (other : Answer) → slice_get marks k ≡ Some (End q a other) → (slice_get w.marks k ≡ Some (End q a other))
-        ⊎ EndShows next a other
+        ⊎ EndShows setting next a other
     ends k q a other at = ⊎_elim
         (λ (old : slice_get w.marks k ≡ Some (End q a other)). inl old)
         (λ (new : (j : ℕ) × (slice_get (End (length w.marks) n answer ∷ []) j ≡ Some (End q a other))).
         let same : End (length w.marks) n answer ≡ End q a other = get_one (End (length w.marks) n answer) (End q a other) new.0 new.1 in
         let number : n ≡ a = cc in
         let by : other ≡ answer = cc in
-        inr (subst (λ (i : ℕ). EndShows next i other) number (end_shows other by)))
+        inr (subst (λ (i : ℕ). EndShows setting next i other) number (end_shows other by)))
         (get_grown w.marks (End (length w.marks) n answer ∷ []) k (End q a other) at)
 
     -- the invariant holds when an operation ended

@@ -29,6 +29,7 @@ laws setting views w stamps booked said follows facts history numbered truths = 
   guarded = writes_guarded setting views w stamps booked said follows;
   stored = facts.stored;
   bases = bases_newest setting views w stamps booked said follows;
+  bases_found = facts.bases_found;
   neighbours = λ g s. neighbours_follow setting w g s booked facts;
   lowest = λ g s. lowest_follows setting w g s booked facts;
   real_time = facts.real_time;

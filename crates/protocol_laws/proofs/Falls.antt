@@ -48,9 +48,10 @@ request_keeps : (setting : Setting) (me from : BrickId) (node : Node) (call : Ca
     → KeepsParts node (requested setting me from node call request).node
 request_keeps setting me from node call request =
     request_each (λ step. KeepsParts node step.node) setting me from node call request (keeps_same node node refl)
-    (λ seat view.
+    (λ group seat here at view.
     let full : Option ℕ = full_at setting.layout.records node.live in
-    parts_keep node call request (handle full seat (replica_at node call) request) (handle_after full seat (replica_at node call) request))
+    parts_keep setting.code group.m seat node call request (handle setting.code group.m full seat (replica_at node call) request)
+    (handle_after setting.code group.m seat full (replica_at node call) request))
 
 pub message_keeps : (setting : Setting) (me from to : BrickId) (now : ℕ) (node : Node) (message : Message)
     → KeepsParts node (received setting me now node (record { from = from; to = to; message = message })).node

@@ -1,38 +1,41 @@
 -- What was said stays said: nothing falls, messages and versions stay, and a version's content does not change.
-use Rattle.std.proofs.Common.{◌≡◌, ℕ, ◌≤◌, ◌⊎◌, inl, inr, true, false, not, List, length, Option, Some, None, refl, sym, ap, ◌∙◌, subst, ⊎_elim, arith}
+use Rattle.std.proofs.Common.{◌≡◌, ℕ, ◌≤◌, ◌⊎◌, inl, inr, true, false, not, List, length, Option, Some, None, refl, sym, ap, ◌∙◌, subst, ⊎_elim, arith, []}
 use Rattle.std.proofs.lemmas.Bool.{not-true, not_from_false, false≢true}
 use Rattle.fab_base.specs.declared.identities.BrickId.{BrickId}
 use Rattle.fab_base.specs.declared.stamps.Stamp.{Stamp}
+use Rattle.fab_base.specs.declared.asks.Ask.{Ask}
 use Rattle.fab_base.specs.declared.asks.Op.TheVariants.{WriteStripe}
 use Rattle.fab_base.specs.declared.answers.Answer.{Answer}
 use Rattle.fab_base.specs.declared.answers.Answer.TheVariants.{Data, Done, Aborted}
 use Rattle.fab_base.specs.Stamps.{stamp_below}
-use Rattle.fab_base.proofs.StampOrder.{stamp_below_trans, stamp_not_below_trans}
+use Rattle.fab_base.proofs.StampOrder.{stamp_not_below_trans}
 use Rattle.messages.specs.declared.calls.Call.{Call}
 use Rattle.messages.specs.declared.packets.Message.{Message}
 use Rattle.messages.specs.declared.packets.Packet.{Packet}
 use Rattle.messages.specs.declared.requests.Request.{Request}
-use Rattle.messages.specs.declared.requests.Look.TheVariants as Look
-use Rattle.messages.specs.declared.requests.Want.TheVariants as Want
+use Rattle.messages.specs.declared.requests.Look.{Look}
+use Rattle.messages.specs.declared.requests.Want.{Want}
 use Rattle.messages.specs.declared.requests.Version.{Version}
 use Rattle.messages.specs.declared.replies.Reply.{Reply}
 use Rattle.quorum.proofs.Counts.{count_monotone}
 use Rattle.fab_base.specs.Layouts.{Group}
+use Rattle.reg_model.specs.Registers.{block_of, with_block, after_op, read_of}
 use Rattle.protocol.specs.Settings.{Setting}
 use Rattle.protocol.specs.Views.{view_of}
-use Rattle.protocol.specs.Replicas.{top_of, stamp_max}
+use Rattle.protocol.specs.Replicas.{top_of, stamp_max, modified_block}
 use Rattle.protocol.specs.declared.phases.Phase.{Phase}
-use Rattle.protocol.specs.declared.phases.Phase.TheVariants.{Orders, Recovers, Descends, Stores}
+use Rattle.protocol.specs.declared.phases.Phase.TheVariants.{Orders, Stores, Modifies}
 use Rattle.protocol.specs.declared.phases.Counted.{Counted}
 use Rattle.protocol.specs.Coordinators.{Coordinator, request_of}
 use Rattle.protocol.specs.Worlds.{World, Operation}
+use Rattle.protocol.specs.Happenings.{writes}
 use Rattle.fab_base.specs.Layouts.{brick_at}
-use Rattle.protocol_laws.specs.Laws.{WasSent, AskedAt, part_in}
+use Rattle.protocol_laws.specs.Laws.{WasSent, AskedAt, part_in, IsModified}
 use Rattle.protocol_laws.proofs.Parts.{PartsNeverFall, part_of, PartsGuard}
 use Rattle.protocol_laws.proofs.FirstViews.{floor_at, part_floor, view_below}
 use Rattle.protocol_laws.proofs.Books.{Books, OperationBooks, IsOperation}
 use Rattle.protocol_laws.proofs.Blocking.{PartsStay, blocked_stays, stands_stays}
-use Rattle.protocol_laws.proofs.Said.{Stamping, IsBegun, IsStamped, IsRecovery, Stands, AreBlocked, IsContent, IsMadeOrFirst, IsKnown, IsCalled, IsBlockOf, VersionSays, WriteSays, RequestSays, OrderedSays, OrderedReadSays, FoundSays, ReplySays, MessageSays, PacketSays, HasVersion, WritesWhole, ReadsBack, OperationSays, CountedSays, CallSays, DataShown, EndShows}
+use Rattle.protocol_laws.proofs.Said.{Stamping, IsBegun, IsStamped, Stands, AreBlocked, IsContent, IsMadeOrFirst, IsKnown, IsCalled, IsBlockOf, VersionSays, WriteSays, RequestSays, OrderedSays, OrderedReadSays, FoundSays, ReplySays, MessageSays, PacketSays, HasVersion, WritesWhole, ReadsBack, OperationSays, CountedSays, CallSays, DataShown, EndShows, FitsPhase, DescendsFrom, ToldSays, MakerSays, ChangesBlock, ModifySays, OrderSays, OrderReadSays, MadeOn}
 use Rattle.protocol_laws.proofs.Stampings.{StampsGrow, stays_begun, stays_stamped, stays_known}
 use Rattle.protocol_laws.proofs.Counting.{each_then}
 
@@ -143,10 +146,6 @@ module _ (setting : Setting) (w next : World) (stamps later : Stamping) (books :
   pub stays_phase : (i b k p : ℕ) (phase : Phase) (t : Stamp) → IsBegun stamps i b k p phase t → IsBegun later i b k p phase t
   stays_phase i b k p phase t is = stays_begun stamps later grows.grow i b k p phase t is
 
-  pub stays_recovery : (i b k p : ℕ) (bound t : Stamp) → IsRecovery stamps i b k p bound t → IsRecovery later i b k p bound t
-  stays_recovery i b k p bound t (inl own) = inl (own.0, stays_phase i b k p Recovers t own.1)
-  stays_recovery i b k p bound t (inr lower) = inr (lower.0, stays_phase i b k p (Descends bound) t lower.1)
-
   -- what is at or above t stays so
   pub stays_above : (g s i : ℕ) (t : Stamp) → stamp_below (top_of (part_of w g s i)) t ≡ false → stamp_below (top_of (part_of next g s i)) t ≡ false
   stays_above g s i t above = above_stays w next grows.parts.tops g s i t above
@@ -175,37 +174,111 @@ module _ (setting : Setting) (w next : World) (stamps later : Stamping) (books :
     block = stays_block g s i version.stamp version.block says.made says.block;
   }
 
-  -- the version that a write carries was made by its operation
-  pub write_made : (from to : ℕ) (call : Call) (t : Stamp) (block : List ℕ) → WriteSays setting w stamps from to call t block
+  pub stays_told : (g s i : ℕ) (version : Version) → ToldSays setting w g s i version → ToldSays setting next g s i version
+  stays_told g s i version says = record {
+    made = stays_made g s version.stamp says.made;
+    block = ⊎_elim
+        (λ (none : version.block ≡ []). inl none)
+        (λ (block : IsBlockOf setting w g s i version.stamp version.block).
+        inr (stays_block g s i version.stamp version.block says.made block))
+        says.block;
+  }
+
+  -- the version that a request stores was made by its operation
+  pub maker_made : (from to : ℕ) (call : Call) (phase : Phase) (t : Stamp) → MakerSays setting w stamps from to call phase t
       → IsMadeOrFirst w call.group.0 call.stripe.0 t
-  write_made from to call t block says =
+  maker_made from to call phase t says =
       inr (w.numbers from call.boot call.seq, says.operation, says.called.is, says.called.group, says.called.stripe, says.made, says.version)
 
-  pub stays_write : (from to : ℕ) (call : Call) (t : Stamp) (block : List ℕ) → WriteSays setting w stamps from to call t block
-      → WriteSays setting next later from to call t block
-  stays_write from to call t block says =
+  stays_maker_of : (from to : ℕ) (call : Call) (phase : Phase) (t : Stamp) → MakerSays setting w stamps from to call phase t
+      → MakerSays setting next later from to call phase t
+  stays_maker_of from to call phase t says =
       let goes = stays_called from call says.operation says.called in
       record {
         operation = goes.0;
         called = goes.1;
-        begun = stays_phase from call.boot call.seq call.phase Stores t says.begun;
+        begun = stays_phase from call.boot call.seq call.phase phase t says.begun;
         made = goes.2.made t says.version ∙ says.made;
         version = goes.2.version t says.version;
         member = says.member;
         guarded = λ group is. stays_guarded call.group.0 call.stripe.0 group t (says.guarded group is);
-        is_block = stays_block call.group.0 call.stripe.0 to t block (write_made from to call t block says) says.is_block;
+      }
+
+  pub stays_write : (from to : ℕ) (call : Call) (t : Stamp) (block : List ℕ) → WriteSays setting w stamps from to call t block
+      → WriteSays setting next later from to call t block
+  stays_write from to call t block says = record {
+    maker = stays_maker_of from to call Stores t says.maker;
+    is_block = stays_block call.group.0 call.stripe.0 to t block (maker_made from to call Stores t says.maker) says.is_block;
+  }
+
+  -- what a version modifies of its base stays so
+  stays_modified : (g s : ℕ) (t base : Stamp) (j : ℕ) (delta : List ℕ) → IsMadeOrFirst w g s t → IsMadeOrFirst w g s base
+      → IsModified setting w g s t base j delta → IsModified setting next g s t base j delta
+  stays_modified g s t base j delta made base_made is =
+      let content : w.contents g s t ≡ next.contents g s t = sym (grows.contents g s t made) in
+      let on : w.contents g s base ≡ next.contents g s base = sym (grows.contents g s base base_made) in
+      record {
+        delta_is = is.delta_is
+            ∙ ap (λ (z : List ℕ). setting.code.delta (block_of setting.layout.block j z) (block_of setting.layout.block j (w.contents g s t))) on
+            ∙ ap (λ (z : List ℕ). setting.code.delta (block_of setting.layout.block j (next.contents g s base)) (block_of setting.layout.block j z)) content;
+        others = sym content ∙ is.others
+            ∙ ap (λ (z : List ℕ). with_block setting.layout.block j (block_of setting.layout.block j z) (w.contents g s base)) content
+            ∙ ap (λ (z : List ℕ). with_block setting.layout.block j (block_of setting.layout.block j (next.contents g s t)) z) on;
+      }
+
+  stays_change : (g s : ℕ) (t base : Stamp) (j : ℕ) (sent : List ℕ) (group : Group) (seat : ℕ) → IsMadeOrFirst w g s t → IsMadeOrFirst w g s base
+      → ChangesBlock setting w g s t base j sent group seat → ChangesBlock setting next g s t base j sent group seat
+  stays_change g s t base j sent group seat made base_made says = record {
+    delta = says.delta;
+    sent_is = says.sent_is;
+    is = stays_modified g s t base j says.delta made base_made says.is;
+    makes = ap (λ (z : List ℕ). modified_block setting.code group.m j seat sent (setting.code.encode group.m z seat)) (grows.contents g s base base_made)
+        ∙ says.makes ∙ ap (λ (z : List ℕ). setting.code.encode group.m z seat) (sym (grows.contents g s t made));
+  }
+
+  pub stays_modify : (from to : ℕ) (call : Call) (t base : Stamp) (j : ℕ) (sent : List ℕ) → ModifySays setting w stamps from to call t base j sent
+      → ModifySays setting next later from to call t base j sent
+  stays_modify from to call t base j sent says = record {
+    maker = stays_maker_of from to call (Modifies base j) t says.maker;
+    base_made = stays_made call.group.0 call.stripe.0 base says.base_made;
+    changes = λ group seat is at.
+        stays_change call.group.0 call.stripe.0 t base j sent group seat (maker_made from to call (Modifies base j) t says.maker) says.base_made
+        (says.changes group seat is at);
+  }
+
+  stays_order : (i : ℕ) (call : Call) (t : Stamp) → OrderSays w stamps i call t → OrderSays next later i call t
+  stays_order i call t says =
+      let goes = stays_called i call says.operation says.called in
+      record {
+        operation = goes.0;
+        called = goes.1;
+        begun = stays_phase i call.boot call.seq call.phase Orders t says.begun;
+        fits = subst (λ (a : Ask). FitsPhase Orders a.op) (sym goes.2.ask) says.fits;
+      }
+
+  stays_order_read : (i : ℕ) (call : Call) (t : Stamp) (look : Look) (want : Want) → OrderReadSays w stamps i call t look want
+      → OrderReadSays next later i call t look want
+  stays_order_read i call t look want says =
+      let goes = stays_called i call says.operation says.called in
+      record {
+        operation = goes.0;
+        called = goes.1;
+        phase = says.phase;
+        begun = stays_phase i call.boot call.seq call.phase says.phase t says.begun;
+        look_is = says.look_is;
+        want_is = says.want_is;
+        fits = subst (λ (a : Ask). FitsPhase says.phase a.op) (sym goes.2.ask) says.fits;
+        from = subst (λ (a : Ask). DescendsFrom says.phase a.op t) (sym goes.2.ask) says.from;
+        below = says.below;
       }
 
   pub stays_request : (i j : ℕ) (call : Call) (request : Request) → RequestSays setting w stamps i j call request
       → RequestSays setting next later i j call request
-  stays_request i j call (Request.Read want) says = let goes = stays_called i call says.1.0 says.1.1 in (says.0, (goes.0, goes.1))
-  stays_request i j call (Request.Order t) says =
-      let goes = stays_called i call says.1.0 says.1.1 in (stays_phase i call.boot call.seq call.phase Orders t says.0, (goes.0, goes.1))
-  stays_request i j call (Request.OrderRead t (Look.Below bound) want) says =
-      let goes = stays_called i call says.2.0 says.2.1 in
-      (says.0, stays_recovery i call.boot call.seq call.phase bound t says.1, (goes.0, goes.1))
-  stays_request i j call (Request.OrderRead t (Look.At u) want) says = says
+  stays_request i j call (Request.Read want) says = let goes = stays_called i call says.0 says.1 in (goes.0, goes.1)
+  stays_request i j call (Request.Order t) says = stays_order i call t says
+  stays_request i j call (Request.OrderRead t look want) says = stays_order_read i call t look want says
   stays_request i j call (Request.Write t block) says = stays_write i j call t block says
+  stays_request i j call (Request.Modify t base d sent) says = stays_modify i j call t base d sent says
   stays_request i j call request says = tt
 
   pub stays_ordered : (j i : ℕ) (call : Call) → OrderedSays w stamps j i call → OrderedSays next later j i call
@@ -230,15 +303,10 @@ module _ (setting : Setting) (w next : World) (stamps later : Stamping) (books :
         top = stays_above call.group.0 call.stripe.0 j (stamp_max order version.stamp) says.top;
         floor = subst (λ (f : ℕ → Stamp). stamp_below (stamp_max order version.stamp) (part_floor (f j)) ≡ false) (sym goes.2.floor) says.floor;
         held = grows.parts.held call.group.0 call.stripe.0 j version.stamp says.held;
-        says = stays_version call.group.0 call.stripe.0 j version says.says;
+        says = stays_told call.group.0 call.stripe.0 j version says.says;
       }
 
-  -- the bound of a recovery is at most its stamp
-  bound_within : (i b k p : ℕ) (bound t d : Stamp) → IsRecovery stamps i b k p bound t → stamp_below d bound ≡ true → stamp_below d t ≡ true
-  bound_within i b k p bound t d (inl own) less = subst (λ (z : Stamp). stamp_below d z ≡ true) own.0 less
-  bound_within i b k p bound t d (inr lower) less = stamp_below_trans d bound t less lower.0
-
-  -- what was found below a bound stays the newest there, since nothing comes to be held below the stamp that was promised
+  -- what was found stays the newest that is looked for, since nothing comes to be held below the stamp that was promised
   pub stays_ordered_read : (j i : ℕ) (call : Call) (found : Option Version) → OrderedReadSays setting w stamps j i call found
       → OrderedReadSays setting next later j i call found
   stays_ordered_read j i call found says =
@@ -247,42 +315,32 @@ module _ (setting : Setting) (w next : World) (stamps later : Stamping) (books :
         operation = goes.0;
         called = goes.1;
         stamp = says.stamp;
-        bound = says.bound;
-        recovers = stays_recovery i call.boot call.seq call.phase says.bound says.stamp says.recovers;
+        look = says.look;
+        phase = says.phase;
+        begun = stays_phase i call.boot call.seq call.phase says.phase says.stamp says.begun;
+        look_is = says.look_is;
+        below = says.below;
         view = says.view;
         promised = stays_above call.group.0 call.stripe.0 j says.stamp says.promised;
         floor = subst (λ (f : ℕ → Stamp). stamp_below says.stamp (part_floor (f j)) ≡ false) (sym goes.2.floor) says.floor;
         newest = λ d held less. ⊎_elim
             (λ (was : w.held j call.group.0 call.stripe.0 d ≡ true). says.newest d was less)
             (λ (new : stamp_below d (top_of (part_in w call.group.0 (view_of d) call.stripe.0 j)) ≡ false).
-            let lower : stamp_below d says.stamp ≡ true = bound_within i call.boot call.seq call.phase says.bound says.stamp d says.recovers less in
+            let lower : stamp_below d says.stamp ≡ true = says.below d less in
             let above : stamp_below d says.stamp ≡ false = stamp_not_below_trans says.stamp
             (top_of (part_of w call.group.0 call.stripe.0 j)) d says.promised
             (subst (λ (e : ℕ). stamp_below d (top_of (part_in w call.group.0 e call.stripe.0 j)) ≡ false)
             (view_below d says.stamp (omega (arith, says.view)) lower) new) in
             absurd (false≢true (sym above ∙ lower)))
             (grows.parts.newer call.group.0 call.stripe.0 j d held);
-        says = λ version is. stays_version call.group.0 call.stripe.0 j version (says.says version is);
+        held = λ version is. grows.parts.held call.group.0 call.stripe.0 j version.stamp (says.held version is);
+        says = λ version is. stays_told call.group.0 call.stripe.0 j version (says.says version is);
       }
 
   -- what was asked stays asked
   pub stays_asked : (call : Call) (from to : BrickId) (t : Stamp) → AskedAt w call from to t → AskedAt next call from to t
-  stays_asked call from to t (inl (inl sent)) =
-      inl (inl (grows.sent (record { from = from; to = to; message = Message.Request call (Request.Order t) }) sent))
-  stays_asked call from to t (inl (inr sent)) =
-      inl (inr (grows.sent (record { from = from; to = to; message = Message.Request call (Request.OrderRead t (Look.Below t) Want.All) }) sent))
-  stays_asked call from to t (inr (inl sent)) =
-      inr (inl (
-        sent.0,
-        grows.sent (record {
-          from = from;
-          to = to;
-          message = Message.Request call
-              (Request.OrderRead t (Look.Below sent.0) Want.All);
-        }) sent.1,
-      ))
-  stays_asked call from to t (inr (inr sent)) =
-      inr (inr (sent.0, grows.sent (record { from = from; to = to; message = Message.Request call (Request.Write t sent.0) }) sent.1))
+  stays_asked call from to t asked =
+      (asked.0, grows.sent (record { from = from; to = to; message = Message.Request call asked.0 }) asked.1, asked.2)
 
   pub stays_reply : (from to : BrickId) (call : Call) (reply : Reply) → ReplySays setting w stamps from to call reply
       → ReplySays setting next later from to call reply
@@ -292,8 +350,9 @@ module _ (setting : Setting) (w next : World) (stamps later : Stamping) (books :
   stays_reply from to call Reply.Stored says = (
     says.0,
     says.1,
-    grows.sent (record { from = to; to = from; message = Message.Request call (Request.Write says.0 says.1) }) says.2,
-    grows.parts.held call.group.0 call.stripe.0 from.0 says.0 says.3,
+    grows.sent (record { from = to; to = from; message = Message.Request call says.1 }) says.2,
+    says.3,
+    grows.parts.held call.group.0 call.stripe.0 from.0 says.0 says.4,
   )
   stays_reply from to call (Reply.Later x) says = (says.0, stays_asked call to from says.0 says.1, says.2)
   stays_reply from to call (Reply.Full live) says = says
@@ -334,7 +393,8 @@ module _ (setting : Setting) (w next : World) (stamps later : Stamping) (books :
     op = back.op;
     below = back.below;
     made = stays_made o.ask.group.0 o.ask.stripe.0 back.base back.made;
-    content = stays_content n o v is made version ∙ back.content ∙ sym (grows.contents o.ask.group.0 o.ask.stripe.0 back.base back.made);
+    content = stays_content n o v is made version ∙ back.content
+        ∙ ap (λ (z : List ℕ). after_op setting.layout.block o.ask.op z) (sym (grows.contents o.ask.group.0 o.ask.stripe.0 back.base back.made));
     blocked = stay_blocked o.ask.group.0 o.ask.stripe.0 (λ d. (stamp_below back.base d ≡ true) × (stamp_below d v ≡ true)) back.blocked;
   })
 
@@ -366,6 +426,17 @@ module _ (setting : Setting) (w next : World) (stamps later : Stamping) (books :
     seat = says.seat;
   }
 
+  pub stays_made_on : (c : Coordinator) (base : Stamp) → MadeOn setting w c base → MadeOn setting next c base
+  stays_made_on c base on = record {
+    base_is = on.base_is;
+    below = on.below;
+    base_made = stays_made c.ask.group.0 c.ask.stripe.0 base on.base_made;
+    stands = stays_standing c.ask.group.0 c.ask.stripe.0 base on.stands;
+    made = stays_made c.ask.group.0 c.ask.stripe.0 c.stamp on.made;
+    content = grows.contents c.ask.group.0 c.ask.stripe.0 c.stamp on.made ∙ on.content
+        ∙ ap (λ (z : List ℕ). after_op setting.layout.block c.ask.op z) (sym (grows.contents c.ask.group.0 c.ask.stripe.0 base on.base_made));
+  }
+
   -- what a coordinator says stays said, where its brick goes on, and its call has no new stamp
   pub stays_call : (i k : ℕ) (c : Coordinator) → (next.nodes i).boot ≡ (w.nodes i).boot
       → ((p : ℕ) → later i (w.nodes i).boot k p ≡ stamps i (w.nodes i).boot k p) → CallSays setting w stamps i k c
@@ -381,7 +452,7 @@ module _ (setting : Setting) (w next : World) (stamps later : Stamping) (books :
     unbased = says.unbased;
     given = says.given;
     above = says.above;
-    below = says.below;
+    from = says.from;
     covered = λ bound is.
         stay_blocked c.ask.group.0 c.ask.stripe.0 (λ d. (stamp_below d bound ≡ false) × (stamp_below d c.stamp ≡ true)) (says.covered bound is);
     stores = λ is.
@@ -389,13 +460,14 @@ module _ (setting : Setting) (w next : World) (stamps later : Stamping) (books :
           stays_made c.ask.group.0 c.ask.stripe.0 c.stamp stored.0,
           stored.1 ∙ sym (grows.contents c.ask.group.0 c.ask.stripe.0 c.stamp stored.0),
         );
+    based = λ base is. stays_made_on c base (says.based base is);
     counted = each_then (CountedSays setting w i c) (CountedSays setting next i c) c.counted (λ x h. stays_counted i c x h) says.counted;
     once = says.once;
   }
 
   pub stays_shown : (said : (n : ℕ) (o : Operation) → IsOperation w n o → OperationSays setting w stamps n o) (n : ℕ) (bytes : List ℕ)
-      → DataShown w n bytes
-      → DataShown next n bytes
+      → DataShown setting w n bytes
+      → DataShown setting next n bytes
   stays_shown said n bytes shown =
       let goes = grows.operations n shown.operation shown.is in
       let made : IsMadeOrFirst w shown.operation.ask.group.0 shown.operation.ask.stripe.0 shown.version
@@ -403,18 +475,18 @@ module _ (setting : Setting) (w next : World) (stamps later : Stamping) (books :
       record {
         operation = goes.0;
         is = goes.1;
-        reads = ap (λ a. a.op) goes.2.ask ∙ shown.reads;
         version = shown.version;
         version_is = goes.2.version shown.version shown.version_is;
-        bytes_are = shown.bytes_are
-            ∙ sym (grows.contents shown.operation.ask.group.0 shown.operation.ask.stripe.0 shown.version made)
-            ∙ ap (λ a. next.contents a.group.0 a.stripe.0 shown.version) (sym goes.2.ask);
+        bytes_are = ap (λ (a : Ask). read_of setting.layout.block a.op (next.contents a.group.0 a.stripe.0 shown.version)) goes.2.ask
+            ∙ ap (λ (z : List ℕ). read_of setting.layout.block shown.operation.ask.op z)
+            (grows.contents shown.operation.ask.group.0 shown.operation.ask.stripe.0 shown.version made)
+            ∙ shown.bytes_are;
       }
 
   -- what an end shows stays shown
   pub stays_end : (said : (n : ℕ) (o : Operation) → IsOperation w n o → OperationSays setting w stamps n o) (n : ℕ) (answer : Answer)
-      → EndShows w n answer → EndShows next n answer
+      → EndShows setting w n answer → EndShows setting next n answer
   stays_end said n (Data bytes) shows = stays_shown said n bytes shows
   stays_end said n Done shows =
-      let goes = grows.operations n shows.0 shows.1 in (goes.0, goes.1, (shows.2.0, ap (λ a. a.op) goes.2.ask ∙ shows.2.1))
+      let goes = grows.operations n shows.0 shows.1 in (goes.0, goes.1, ap (λ a. writes a.op) goes.2.ask ∙ shows.2)
   stays_end said n (Aborted cause) shows = let goes = grows.operations n shows.0 shows.1 in (goes.0, goes.1)

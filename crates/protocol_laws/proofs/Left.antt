@@ -1,6 +1,6 @@
 -- What the store of a stopped brick may hold when it starts: what it kept when it stopped, or what the handling of a message that was sent to it
 -- makes of that.
-use Rattle.std.proofs.Common.{◌≡◌, ◌≢◌, ℕ, zero, suc, ◌⊎◌, inl, inr, ⊎_elim, Bool, true, false, not, ◌&&◌, List, [], ◌∷◌, ◌++◌, Option, Some, None, is_some, refl, sym, ap, ◌∙◌, subst}
+use Rattle.std.proofs.Common.{◌≡◌, ◌≢◌, ℕ, zero, suc, ◌⊎◌, inl, inr, ⊎_elim, Bool, true, false, not, List, [], ◌∷◌, ◌++◌, Option, Some, None, is_some, refl, sym, ap, ◌∙◌, subst}
 use Rattle.std.specs.Prelude.{slice_get, nat_eq}
 use Rattle.std.proofs.lemmas.Bool.{cond_both, and_parts, cases_eq, eqb-true, both_ways}
 use Rattle.fab_base.specs.declared.identities.BrickId.{BrickId}
@@ -14,7 +14,7 @@ use Rattle.protocol.specs.declared.phases.Counted.{Counted}
 use Rattle.protocol.specs.declared.tellings.Told.{Told}
 use Rattle.protocol.specs.declared.tellings.Told.TheVariants.{Made, Seen}
 use Rattle.protocol.specs.declared.tellings.Answered.{Answered}
-use Rattle.protocol.specs.Nodes.{Node, NodeStep, group_at, put, is_stripe_op, refusal_of, requested_at, seat_served, requested_in, requested, absorbed, stopped, restarted, invoked, received}
+use Rattle.protocol.specs.Nodes.{Node, NodeStep, group_at, put, refusal_of, requested_at, seat_served, requested_in, requested, absorbed, stopped, restarted, invoked, received}
 use Rattle.protocol.specs.Worlds.{World, Found, Before, After, Event, Invokes, Delivers, Sets, Ticks, Stops, Starts, first_world, is_brick, is_up, may_begin, may_start, world_began, world_told, world_tells, world_answered, world_answers, world_stepped, world_ticked, left_after, packet_during, world_stopped, world_found, world_started, replies_with, delivered, packet_of, happens, run}
 use Rattle.protocol_laws.specs.Laws.{WasSent}
 use Rattle.protocol_laws.proofs.Puts.{put_other}
@@ -26,15 +26,15 @@ requested_stopped : (setting : Setting) (me from : BrickId) (node : Node) (call 
 unfolding requested stopped
 requested_stopped setting me from node call request = in_group (group_at setting.layout node call.group.0)
   where
-    at_seat : (z : Option ℕ) → (requested_at setting.layout.records me from (stopped node) call request z).node
-        ≡ stopped (requested_at setting.layout.records me from node call request z).node
-    at_seat None = refl
-    at_seat (Some seat) = refl
+    at_seat : (m : ℕ) (z : Option ℕ) → (requested_at setting m me from (stopped node) call request z).node
+        ≡ stopped (requested_at setting m me from node call request z).node
+    at_seat m None = refl
+    at_seat m (Some seat) = refl
 
-    in_group : (z : Option Group) → (requested_in setting.layout me from (stopped node) call request z).node
-        ≡ stopped (requested_in setting.layout me from node call request z).node
+    in_group : (z : Option Group) → (requested_in setting me from (stopped node) call request z).node
+        ≡ stopped (requested_in setting me from node call request z).node
     in_group None = refl
-    in_group (Some group) = at_seat (seat_served setting.layout me node call request (Some group))
+    in_group (Some group) = at_seat group.m (seat_served setting.layout me node call request group)
 
 absorbed_stopped : (setting : Setting) (me from to : BrickId) (node : Node) (message : Message)
     → absorbed setting me (stopped node) (record { from = from; to = to; message = message })
@@ -231,7 +231,7 @@ leaves_happens setting w (Invokes brick ask) leaves =
     let step : NodeStep = invoked setting brick (w.clocks brick.0) (w.nodes brick.0) ask in
     cond_both (may_begin setting w brick ask) (world_began w brick ask step) w (λ (next : World). Leaves setting next)
     (λ may.
-    let up = and_parts (is_up setting.layout w brick) (is_stripe_op ask.op && not (is_some (refusal_of setting.layout (w.nodes brick.0) ask))) may in
+    let up = and_parts (is_up setting.layout w brick) (not (is_some (refusal_of setting.layout (w.nodes brick.0) ask))) may in
     leaves_on setting w (world_began w brick ask step)
     (steps_on w brick.0 step.node (and_parts (is_brick setting.layout brick) (w.up brick.0) up.0).1)
     (λ packet sent. (sent.0, get_kept w.packets step.packets sent.0 packet sent.1)) leaves)

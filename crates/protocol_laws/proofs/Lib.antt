@@ -1,5 +1,7 @@
+pub mod BasesFound
 pub mod Begins
 pub mod Blocking
+pub mod Blocks
 pub mod Books
 pub mod BooksBegins
 pub mod BooksEnds

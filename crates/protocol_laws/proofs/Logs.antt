@@ -1,12 +1,12 @@
 -- Logs ascend: no version is below one that stands before it. So the last version below a bound is the greatest one there.
 use Rattle.std.proofs.Common.{◌≡◌, ℕ, zero, suc, ◌⊎◌, inl, inr, true, false, List, [], ◌∷◌, ◌++◌, Option, Some, None, refl, sym, ◌∙◌, subst, ⊎_elim}
-use Rattle.std.specs.Prelude.{slice_get}
+use Rattle.std.specs.Prelude.{slice_get, Bool, filter}
 use Rattle.std.proofs.lemmas.Bool.{cond_both, cases_Bool, false≢true, or_cases, or_left, or_right}
 use Rattle.fab_base.specs.declared.stamps.Stamp.{Stamp}
 use Rattle.fab_base.specs.Stamps.{stamp_below, stamp_same}
 use Rattle.fab_base.proofs.StampOrder.{stamp_below_irrefl, stamp_not_below_trans, stamp_same_refl, stamp_same_true}
 use Rattle.messages.specs.declared.requests.Version.{Version}
-use Rattle.protocol.specs.Replicas.{newest_of, is_held, below}
+use Rattle.protocol.specs.Replicas.{newest_of, is_held}
 
 -- no version that is held is below t
 abbrev pub NoneBelow : Stamp → List Version → Type 0
@@ -61,17 +61,28 @@ newest_held (x ∷ []) version is = let same : x ≡ version = cc in subst (λ (
 newest_held (x ∷ (y ∷ log)) version is =
     or_right (stamp_same x.stamp version.stamp) (is_held version.stamp (y ∷ log)) (newest_held (y ∷ log) version is)
 
--- what is below a bound in a log is held in it
-below_held : (bound d : Stamp) (log : List Version) → is_held d (below bound log) ≡ true → is_held d log ≡ true
-below_held bound d [] held = held
-below_held bound d (x ∷ log) held =
-    cond_both (stamp_below x.stamp bound) (x ∷ below bound log) (below bound log) (λ (l : List Version). is_held d l ≡ true
+-- what stands in a log is held in it
+pub place_held : (log : List Version) (k : ℕ) (version : Version) → slice_get log k ≡ Some version → is_held version.stamp log ≡ true
+place_held [] k version at = cc
+place_held (x ∷ log) zero version at =
+    let same : x ≡ version = cc in subst (λ (z : Version). is_held z.stamp (x ∷ log) ≡ true) same (held_here x log)
+place_held (x ∷ log) (suc k) version at = or_right (stamp_same x.stamp version.stamp) (is_held version.stamp log) (place_held log k version at)
+
+-- the versions of a log whose stamps pass a test
+abbrev pub among : (Stamp → Bool) → List Version → List Version
+among p log = filter (λ version. p version.stamp) log
+
+-- what is among these is held in the log
+among_held : (p : Stamp → Bool) (d : Stamp) (log : List Version) → is_held d (among p log) ≡ true → is_held d log ≡ true
+among_held p d [] held = held
+among_held p d (x ∷ log) held =
+    cond_both (p x.stamp) (x ∷ among p log) (among p log) (λ (l : List Version). is_held d l ≡ true
     → is_held d (x ∷ log) ≡ true)
     (λ is h. ⊎_elim
     (λ (here : x.stamp ≡ d). subst (λ (z : Stamp). is_held z (x ∷ log) ≡ true) here (held_here x log))
-    (λ (there : is_held d (below bound log) ≡ true). or_right (stamp_same x.stamp d) (is_held d log) (below_held bound d log there))
-    (held_cases d x (below bound log) h))
-    (λ isnt h. or_right (stamp_same x.stamp d) (is_held d log) (below_held bound d log h))
+    (λ (there : is_held d (among p log) ≡ true). or_right (stamp_same x.stamp d) (is_held d log) (among_held p d log there))
+    (held_cases d x (among p log) h))
+    (λ isnt h. or_right (stamp_same x.stamp d) (is_held d log) (among_held p d log h))
     held
 
 -- the place in a longer list
@@ -81,21 +92,21 @@ place_next : (x version : Version) (log more : List Version)
 place_next x version log more old zero at = (zero, at)
 place_next x version log more old (suc k) at = let rest = old k at in (suc rest.0, rest.1)
 
-below_stands : (bound : Stamp) (log : List Version) (version : Version) (k : ℕ) → slice_get (below bound log) k ≡ Some version
+among_stands : (p : Stamp → Bool) (log : List Version) (version : Version) (k : ℕ) → slice_get (among p log) k ≡ Some version
     → (j : ℕ) × (slice_get log j ≡ Some version)
-below_stands bound [] version k is = (k, is)
-below_stands bound (x ∷ log) version k is =
-    cond_both (stamp_below x.stamp bound) (x ∷ below bound log) (below bound log)
+among_stands p [] version k is = (k, is)
+among_stands p (x ∷ log) version k is =
+    cond_both (p x.stamp) (x ∷ among p log) (among p log)
     (λ (l : List Version). slice_get l k ≡ Some version → (j : ℕ) × (slice_get (x ∷ log) j ≡ Some version))
-    (λ less at. place_next x version log (below bound log) (below_stands bound log version) k at)
-    (λ not_less at. let rest = below_stands bound log version k at in (suc rest.0, rest.1))
+    (λ less at. place_next x version log (among p log) (among_stands p log version) k at)
+    (λ not_less at. let rest = among_stands p log version k at in (suc rest.0, rest.1))
     is
 
--- the last version below a bound stands in the log
-pub newest_stands_below : (bound : Stamp) (log : List Version) (version : Version) → newest_of (below bound log) ≡ Some version
+-- the last of these stands in the log
+pub newest_stands_among : (p : Stamp → Bool) (log : List Version) (version : Version) → newest_of (among p log) ≡ Some version
     → (k : ℕ) × (slice_get log k ≡ Some version)
-newest_stands_below bound log version is =
-    let at = newest_stands (below bound log) version is in below_stands bound log version at.0 at.1
+newest_stands_among p log version is =
+    let at = newest_stands (among p log) version is in among_stands p log version at.0 at.1
 
 -- the last version of a log, where something stands before it that is at most it
 newest_after : (x : Version) (log : List Version) (d : Stamp) → IsWithin (newest_of log) d → IsWithin (newest_of (x ∷ log)) d
@@ -115,20 +126,20 @@ newest_first x (y ∷ log) least = within (newest_of (y ∷ log)) refl
         never (u ∷ l) v none = never l u none
     within (Some version) is = least version.stamp (newest_held (y ∷ log) version is)
 
--- each version below a bound is at most the last one there
-pub newest_below : (bound d : Stamp) (log : List Version) → LogAscends log → is_held d log ≡ true → stamp_below d bound ≡ true
-    → IsWithin (newest_of (below bound log)) d
-newest_below bound d [] ascends held less = absurd (false≢true held)
-newest_below bound d (x ∷ log) ascends held less =
-    cond_both (stamp_below x.stamp bound) (x ∷ below bound log) (below bound log) (λ (l : List Version). IsWithin (newest_of l) d)
+-- each of these is at most the last one
+pub newest_among : (p : Stamp → Bool) (d : Stamp) (log : List Version) → LogAscends log → is_held d log ≡ true → p d ≡ true
+    → IsWithin (newest_of (among p log)) d
+newest_among p d [] ascends held less = absurd (false≢true held)
+newest_among p d (x ∷ log) ascends held less =
+    cond_both (p x.stamp) (x ∷ among p log) (among p log) (λ (l : List Version). IsWithin (newest_of l) d)
     (λ is. ⊎_elim
-    (λ (here : x.stamp ≡ d). subst (λ (z : Stamp). IsWithin (newest_of (x ∷ below bound log)) z) here
-    (newest_first x (below bound log) (λ e h. ascends.0 e (below_held bound e log h))))
-    (λ (there : is_held d log ≡ true). newest_after x (below bound log) d (newest_below bound d log ascends.1 there less))
+    (λ (here : x.stamp ≡ d). subst (λ (z : Stamp). IsWithin (newest_of (x ∷ among p log)) z) here
+    (newest_first x (among p log) (λ e h. ascends.0 e (among_held p e log h))))
+    (λ (there : is_held d log ≡ true). newest_after x (among p log) d (newest_among p d log ascends.1 there less))
     (held_cases d x log held))
     (λ isnt. ⊎_elim
-    (λ (here : x.stamp ≡ d). absurd (false≢true (sym isnt ∙ subst (λ (z : Stamp). stamp_below z bound ≡ true) (sym here) less)))
-    (λ (there : is_held d log ≡ true). newest_below bound d log ascends.1 there less)
+    (λ (here : x.stamp ≡ d). absurd (false≢true (sym isnt ∙ subst (λ (z : Stamp). p z ≡ true) (sym here) less)))
+    (λ (there : is_held d log ≡ true). newest_among p d log ascends.1 there less)
     (held_cases d x log held))
 
 -- each version is at most the last one

@@ -14,7 +14,8 @@ use Rattle.messages.specs.declared.packets.Packet.{Packet}
 use Rattle.messages.specs.declared.requests.Request.{Request}
 use Rattle.messages.specs.declared.replies.Reply.{Reply}
 use Rattle.fab_base.specs.Layouts.{Group}
-use Rattle.protocol.specs.Settings.{Setting}
+use Rattle.protocol.specs.Settings.{Setting, Code}
+use Rattle.protocol_laws.proofs.Reactions.{modified_each}
 use Rattle.protocol.specs.Replicas.{Replica, Reaction, top_of, is_held, is_wanted, told_version, stays, unless_full, promised, stored, looked_up, handle}
 use Rattle.protocol.specs.declared.phases.Counted.{Counted}
 use Rattle.protocol.specs.Coordinators.{Coordinator, Next, Ignores, Waits, Sends, Makes, Ends, has_seat, request_of, on_reply}
@@ -91,28 +92,31 @@ unless_full_true None whole replica reaction is says = says
 unless_full_true (Some live) whole replica reaction is says =
     cond_both (nat_lt reaction.drops reaction.adds) (stays replica (Reply.Full live)) reaction (λ (z : Reaction). SaysTrue whole replica z.reply) (λ adds. is) (λ isnt. says)
 
-handle_true : (full : Option ℕ) (seat : ℕ) (replica : Replica) (request : Request) → SaysTrue full replica (handle full seat replica request).reply
+handle_true : (code : Code) (m : ℕ) (full : Option ℕ) (seat : ℕ) (replica : Replica) (request : Request)
+    → SaysTrue full replica (handle code m full seat replica request).reply
 unfolding handle
-handle_true full seat replica (Request.Read want) = tt
-handle_true full seat replica (Request.Order t) =
+handle_true code m full seat replica (Request.Read want) = tt
+handle_true code m full seat replica (Request.Order t) =
     cond_both (stamp_below t (top_of replica)) (stays replica (Reply.Later (top_of replica))) _ (λ (z : Reaction). SaysTrue full replica z.reply)
     (λ below. (refl, (t, below))) (λ at. unless_full_true full full replica (promised replica t Reply.Ordered) refl tt)
-handle_true full seat replica (Request.Write t block) =
+handle_true code m full seat replica (Request.Write t block) =
     cond_both (is_held t replica.log) (stays replica Reply.Stored) _ (λ (z : Reaction). SaysTrue full replica z.reply)
     (λ held. tt)
     (λ isnt. cond_both (stamp_below t (top_of replica)) (stays replica (Reply.Later (top_of replica))) _
     (λ (z : Reaction). SaysTrue full replica z.reply)
     (λ below. (refl, (t, below))) (λ at. unless_full_true full full replica (stored replica t block) refl tt))
-handle_true full seat replica (Request.OrderRead t look want) =
+handle_true code m full seat replica (Request.OrderRead t look want) =
     cond_both (stamp_below t (top_of replica)) (stays replica (Reply.Later (top_of replica))) _ (λ (z : Reaction). SaysTrue full replica z.reply)
     (λ below. (refl, (t, below)))
     (λ at. unless_full_true full full replica
     (promised replica t (Reply.OrderedRead (told_version (is_wanted want seat) (looked_up look replica.log)))) refl tt)
-handle_true full seat replica (Request.Modify t base j delta) = tt
-handle_true full seat replica (Request.Collect t) = tt
-handle_true full seat replica (Request.OldRead bound) = tt
-handle_true full seat replica (Request.Prepare ballot) = tt
-handle_true full seat replica (Request.Accept ballot members) = tt
+handle_true code m full seat replica (Request.Modify t base j delta) =
+    modified_each code m seat (λ (z : Reaction). SaysTrue full replica z.reply) full replica t base j delta
+    tt (λ below. (refl, (t, below))) (λ newest. tt) (λ live is. is) (λ at old is same. tt)
+handle_true code m full seat replica (Request.Collect t) = tt
+handle_true code m full seat replica (Request.OldRead bound) = tt
+handle_true code m full seat replica (Request.Prepare ballot) = tt
+handle_true code m full seat replica (Request.Accept ballot members) = tt
 
 -- as many live records as there may be are as many as the brick keeps
 full_live : (records : ℕ) (node : Node) (live : ℕ) → full_at records node.live ≡ Some live → node.live ≡ live
@@ -141,9 +145,9 @@ requested_true : (setting : Setting) (w : World) (me from : BrickId) (call : Cal
     → AreTrue w (requested setting me from (w.nodes me.0) call request).packets
 requested_true setting w me from call request first =
     request_each (λ step. AreTrue w step.packets) setting me from (w.nodes me.0) call request (none_true w)
-    (λ seat view. replies_true setting w me from call
-    (handle (full_at setting.layout.records (w.nodes me.0).live) seat (replica_at (w.nodes me.0) call) request).reply first view
-    (handle_true (full_at setting.layout.records (w.nodes me.0).live) seat (replica_at (w.nodes me.0) call) request))
+    (λ group seat here at view. replies_true setting w me from call
+    (handle setting.code group.m (full_at setting.layout.records (w.nodes me.0).live) seat (replica_at (w.nodes me.0) call) request).reply first view
+    (handle_true setting.code group.m (full_at setting.layout.records (w.nodes me.0).live) seat (replica_at (w.nodes me.0) call) request))
 
 carried_true : (setting : Setting) (w : World) (me : BrickId) (node : Node) (known : ℕ) (c : Coordinator) (next : Next)
     → AreTrue w (carried_out setting me node known c next).packets

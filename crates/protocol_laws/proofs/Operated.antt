@@ -123,7 +123,7 @@ pub record OperatedOwes (setting : Setting) (w next : World) (stamps later : Sta
       → (((w.nodes me.0).calls k ≡ Some c) × KeepsStamps stamps later me.0 (w.nodes me.0).boot k) ⊎ CallSays setting next later me.0 k c
   pub packets : (k : ℕ) (packet : Packet) → slice_get more k ≡ Some packet → PacketSays setting next later packet
   pub ends : (k q a : ℕ) (answer : Answer) → slice_get next.marks k ≡ Some (End q a answer)
-      → (slice_get w.marks k ≡ Some (End q a answer)) ⊎ EndShows next a answer
+      → (slice_get w.marks k ≡ Some (End q a answer)) ⊎ EndShows setting next a answer
 
 -- the invariant holds after an operation changed
 pub said_operated : (setting : Setting) (w : World) (stamps later : Stamping) (me : BrickId) (node : Node) (more : List Packet) (marks : List Mark)

@@ -1,5 +1,5 @@
 -- What a coordinator decides once a reply counts, by its phase.
-use Rattle.std.proofs.Common.{◌≡◌, ℕ, ◌+◌, ◌<◌, ◌≤◌, ◌⊎◌, inl, inr, true, false, List, [], length, Option, Some, None, is_some, refl, sym, ◌∙◌, arith}
+use Rattle.std.proofs.Common.{◌≡◌, ℕ, ◌+◌, ◌<◌, ◌≤◌, ◌⊎◌, inl, inr, true, false, List, [], length, Option, Some, None, is_some, refl, arith, subst, ⊎_elim}
 use Rattle.std.specs.Prelude.{nat_lt}
 use Rattle.std.proofs.lemmas.Bool.{cond_both, false≢true, ltb-true, ltb-false}
 use Rattle.fab_base.specs.declared.asks.Ask.{Ask}
@@ -11,14 +11,14 @@ use Rattle.fab_base.specs.declared.answers.Cause.{Cause}
 use Rattle.messages.specs.declared.calls.Call.{Call}
 use Rattle.fab_base.specs.Layouts.{Group}
 use Rattle.quorum.specs.Quorums.{quorum_of}
-use Rattle.reg_model.specs.Registers.{read_of}
+use Rattle.reg_model.specs.Registers.{read_of, after_op}
 use Rattle.protocol.specs.Settings.{Code}
 use Rattle.protocol.specs.declared.phases.Phase.{Phase}
-use Rattle.protocol.specs.declared.phases.Phase.TheVariants.{Looks, Orders, Recovers, Descends, Stores}
+use Rattle.protocol.specs.declared.phases.Phase.TheVariants.{Looks, LooksAt, Orders, OrdersAt, Recovers, Descends, Modifies, Bases, Stores}
 use Rattle.protocol.specs.declared.phases.Counted.{Counted}
 use Rattle.protocol.specs.declared.phases.Refuser.{Refuser}
 use Rattle.protocol.specs.declared.phases.FullMember.{FullMember}
-use Rattle.protocol.specs.Coordinators.{Coordinator, Next, Ignores, Waits, Sends, Makes, Ends, next_phase, in_phase, restoring, reordering, forgetting, most_rounds, aborted_by, unless_told_full, ordered_again, once_ordered, unless_refused, answered_fast, read_back, answer_with, pieces_at, greatest_refuser, lowest_full, greatest_found, fast_version, decided, once_full}
+use Rattle.protocol.specs.Coordinators.{Coordinator, Next, Ignores, Waits, Sends, Makes, Ends, next_phase, in_phase, restoring, reordering, forgetting, most_rounds, aborted_by, unless_told_full, ordered_again, once_ordered, unless_refused, answered_fast, read_back, answer_with, pieces_at, greatest_refuser, lowest_full, greatest_found, fast_version, decided, once_full, answered_fast_at, modified_if, once_modified, rebuilt, some_behind, bytes_at, block_written, fast_version_at, common_version_at}
 use Rattle.protocol.specs.Worlds.{is_answer}
 
 -- the coordinator of the same operation, under the same call
@@ -44,29 +44,42 @@ pub record WaitsFits (c d : Coordinator) : Type 0 where
 -- a phase that is a round of ordering
 abbrev pub IsRound : Phase → Type 0
 IsRound Looks = ⊥
+IsRound (LooksAt j) = ⊥
 IsRound Orders = Unit {0}
+IsRound (OrdersAt j) = Unit {0}
 IsRound Recovers = Unit {0}
 IsRound (Descends bound) = ⊥
+IsRound (Modifies base j) = ⊥
+IsRound (Bases base) = ⊥
 IsRound Stores = ⊥
+
+-- a phase in which a read looks
+abbrev pub IsLook : Phase → Type 0
+IsLook Looks = Unit {0}
+IsLook (LooksAt j) = Unit {0}
+IsLook phase = ⊥
+
+-- a phase that an operation is in once it made its version
+abbrev pub IsMaking : Phase → Type 0
+IsMaking (Modifies base j) = Unit {0}
+IsMaking (Bases base) = Unit {0}
+IsMaking Stores = Unit {0}
+IsMaking phase = ⊥
 
 -- the phase number of an operation's first round of ordering: a recovery has looked before it
 abbrev pub first_round : Phase → ℕ
-first_round Looks = 1
-first_round Orders = 1
 first_round Recovers = 2
-first_round (Descends bound) = 1
-first_round Stores = 1
+first_round phase = 1
 
 pub first_round_above : (p : Phase) → 1 ≤ first_round p
-first_round_above Looks = omega arith
-first_round_above Orders = omega arith
 first_round_above Recovers = omega arith
-first_round_above (Descends bound) = omega arith
-first_round_above Stores = omega arith
+first_round_above phase = omega arith
 
 -- an order that was refused is in its next round, with the fresh stamp
 pub record ReordersFits (fresh : Option Stamp) (c d : Coordinator) : Type 0 where
   pub was : IsRound c.phase
+  pub unmade : IsMaking c.phase → ⊥
+  pub base : d.base ≡ c.base
   pub phase : d.phase ≡ c.phase
   pub stamp : fresh ≡ Some d.stamp
   pub left : c.round < most_rounds
@@ -75,55 +88,68 @@ pub record ReordersFits (fresh : Option Stamp) (c d : Coordinator) : Type 0 wher
 
 -- the operation, under its stamp, begins to recover, or looks further down
 pub record RecoversFits (c d : Coordinator) : Type 0 where
+  pub unmade : IsMaking c.phase → ⊥
+  pub base : d.base ≡ c.base
   pub stamp : d.stamp ≡ c.stamp
   pub round : d.round ≡ c.round
-  pub phase : ((c.phase ≡ Looks) × (d.phase ≡ Recovers)) ⊎ ((bound : Stamp) × (d.phase ≡ Descends bound))
+  pub phase : (IsLook c.phase × (d.phase ≡ Recovers)) ⊎ ((bound : Stamp) × (d.phase ≡ Descends bound))
 
--- it is in its next phase, and has made nothing
+-- the operation, which made its version by a change, reads the base of that back, or stores what it made of it
+abbrev pub RebuildsIn : Coordinator → Coordinator → Type 0
+RebuildsIn c d =
+    ((base : Stamp) × (j : ℕ) × (c.phase ≡ Modifies base j) × (d.phase ≡ Bases base) × (d.base ≡ c.base))
+    ⊎ ((base : Stamp) × (c.phase ≡ Bases base) × (d.phase ≡ Stores) × (d.base ≡ Some base))
+
+pub record RebuildsFits (c d : Coordinator) : Type 0 where
+  pub stamp : d.stamp ≡ c.stamp
+  pub round : d.round ≡ c.round
+  pub how : RebuildsIn c d
+
+-- it is in its next phase, and makes no version by that
 pub record SendsFits (fresh : Option Stamp) (c d : Coordinator) : Type 0 where
   pub same : SameOperation c d
-  pub base : d.base ≡ c.base
   pub call : d.call ≡ next_phase c.call
   pub counted : d.counted ≡ []
-  pub unmade : (c.phase ≡ Stores) → ⊥
-  pub how : ReordersFits fresh c d ⊎ RecoversFits c d
+  pub how : ReordersFits fresh c d ⊎ (RecoversFits c d ⊎ RebuildsFits c d)
 
--- it is in its store phase
+-- it makes its version: it is in its store phase, or modifies its base
+abbrev pub MakesIn : Coordinator → Type 0
+MakesIn d = (d.phase ≡ Stores) ⊎ ((base : Stamp) × (j : ℕ) × (d.phase ≡ Modifies base j) × (d.base ≡ Some base))
+
 pub record MakesFits (c d : Coordinator) : Type 0 where
   pub same : SameOperation c d
-  pub phase : d.phase ≡ Stores
+  pub unmade : IsMaking c.phase → ⊥
+  pub phase : MakesIn d
   pub stamp : d.stamp ≡ c.stamp
   pub round : d.round ≡ c.round
   pub call : d.call ≡ next_phase c.call
   pub counted : d.counted ≡ []
 
--- the next phase of an operation that has made nothing is not its store phase
-pub sends_unmade : (fresh : Option Stamp) (c d : Coordinator) → SendsFits fresh c d → d.phase ≡ Stores → ⊥
-sends_unmade fresh c d fits is = by fits.how
-  where
-    recovers : ((c.phase ≡ Looks) × (d.phase ≡ Recovers)) ⊎ ((bound : Stamp) × (d.phase ≡ Descends bound)) → ⊥
-    recovers (inl (was, now)) = let never : Recovers ≡ Stores = sym now ∙ is in cc
-    recovers (inr (bound, now)) = let never : Descends bound ≡ Stores = sym now ∙ is in cc
+-- the next phase of an operation that has made nothing is none of those of a version that was made
+pub unmade_again : (fresh : Option Stamp) (c d : Coordinator) → ReordersFits fresh c d → IsMaking d.phase → ⊥
+unmade_again fresh c d again is = again.unmade (subst (λ (p : Phase). IsMaking p) again.phase is)
 
-    by : ReordersFits fresh c d ⊎ RecoversFits c d → ⊥
-    by (inl again) = fits.unmade (sym again.phase ∙ is)
-    by (inr goes) = recovers goes.phase
+pub unmade_recovers : (c d : Coordinator) → RecoversFits c d → IsMaking d.phase → ⊥
+unmade_recovers c d goes is = ⊎_elim
+    (λ (look : IsLook c.phase × (d.phase ≡ Recovers)). subst (λ (p : Phase). IsMaking p) look.1 is)
+    (λ (down : (bound : Stamp) × (d.phase ≡ Descends bound)). subst (λ (p : Phase). IsMaking p) down.1 is)
+    goes.phase
 
--- how each phase ends: a read that looks tells a version, where it is answered, and before the store phase all else ends only by an abort
+-- how each phase ends: a read that looks tells a version, where it is answered, and all but what stores or modifies ends only by an abort
 abbrev pub EndFits : Phase → Answer → Option Stamp → Type 0
 EndFits Looks answer seen = is_answer answer ≡ true → (v : Stamp) × (seen ≡ Some v)
-EndFits Orders answer seen = is_answer answer ≡ false
-EndFits Recovers answer seen = is_answer answer ≡ false
-EndFits (Descends bound) answer seen = is_answer answer ≡ false
+EndFits (LooksAt j) answer seen = is_answer answer ≡ true → (v : Stamp) × (seen ≡ Some v)
+EndFits (Modifies base j) answer seen = Unit {0}
 EndFits Stores answer seen = Unit {0}
+EndFits phase answer seen = is_answer answer ≡ false
 
 -- an abort ends any phase
 abort_ends : (phase : Phase) (cause : Cause) → EndFits phase (Aborted cause) None
 abort_ends Looks cause = λ is. absurd (false≢true is)
-abort_ends Orders cause = refl
-abort_ends Recovers cause = refl
-abort_ends (Descends bound) cause = refl
+abort_ends (LooksAt j) cause = λ is. absurd (false≢true is)
+abort_ends (Modifies base j) cause = tt
 abort_ends Stores cause = tt
+abort_ends phase cause = refl
 
 -- no other round of ordering follows: there is no fresh stamp, or no round is left
 abbrev pub NoRoundFits : Option Stamp → Coordinator → Type 0
@@ -132,10 +158,11 @@ NoRoundFits fresh c = (fresh ≡ None) ⊎ (most_rounds ≤ c.round)
 -- a phase is aborted only where no other round of ordering follows
 abbrev pub LastFits : Option Stamp → Coordinator → Phase → Type 0
 LastFits fresh c Looks = ⊥
+LastFits fresh c (LooksAt j) = ⊥
 LastFits fresh c Orders = NoRoundFits fresh c
+LastFits fresh c (OrdersAt j) = NoRoundFits fresh c
 LastFits fresh c Recovers = NoRoundFits fresh c
-LastFits fresh c (Descends bound) = Unit {0}
-LastFits fresh c Stores = Unit {0}
+LastFits fresh c phase = Unit {0}
 
 -- the abort tells of the member that told the greatest later stamp
 pub record AbortFits (fresh : Option Stamp) (c : Coordinator) (brick : BrickId) (x : Stamp) : Type 0 where
@@ -197,57 +224,110 @@ module _ (group : Group) (ask : Ask) (stamp : Stamp) (round : ℕ) (base : Optio
     counted = inr (refl, none, roomy);
   }
 
-  makes_fits : (phase : Phase) → MakesFits (within phase) (in_phase (within phase) Stores)
-  makes_fits phase = record {
-    same = record { ask = refl; members = refl; boot = refl; seq = refl; group = refl; view = refl; stripe = refl };
-    phase = refl;
+  same_next : (phase next : Phase) (base_of : Option Stamp) (bytes : List ℕ) → SameOperation (within phase)
+      (record (in_phase (within phase) next) { base = base_of; content = bytes })
+  same_next phase next base_of bytes = record { ask = refl; members = refl; boot = refl; seq = refl; group = refl; view = refl; stripe = refl }
+
+  makes_fits : (phase : Phase) → (IsMaking phase → ⊥) → MakesFits (within phase) (in_phase (within phase) Stores)
+  makes_fits phase unmade = record {
+    same = same_next phase Stores base content;
+    unmade = unmade;
+    phase = inl refl;
     stamp = refl;
     round = refl;
     call = refl;
     counted = refl;
   }
 
-  restores_fits : (phase : Phase) (v : Stamp) (bytes : List ℕ) → MakesFits (within phase) (restoring (within phase) v bytes)
-  restores_fits phase v bytes = record {
-    same = record { ask = refl; members = refl; boot = refl; seq = refl; group = refl; view = refl; stripe = refl };
-    phase = refl;
+  restores_fits : (block : ℕ) (phase : Phase) (v : Stamp) (bytes : List ℕ) → (IsMaking phase → ⊥)
+      → MakesFits (within phase) (restoring block (within phase) v bytes)
+  restores_fits block phase v bytes unmade = record {
+    same = same_next phase Stores (Some v) (after_op block ask.op bytes);
+    unmade = unmade;
+    phase = inl refl;
     stamp = refl;
     round = refl;
     call = refl;
     counted = refl;
   }
 
-  descends_fits : (fresh : Option Stamp) (phase : Phase) (v : Stamp) → (phase ≡ Stores → ⊥)
+  descends_fits : (fresh : Option Stamp) (phase : Phase) (v : Stamp) → (IsMaking phase → ⊥)
       → SendsFits fresh (within phase) (in_phase (within phase) (Descends v))
   descends_fits fresh phase v unmade = record {
-    same = record { ask = refl; members = refl; boot = refl; seq = refl; group = refl; view = refl; stripe = refl };
-    base = refl;
+    same = same_next phase (Descends v) base content;
     call = refl;
     counted = refl;
-    unmade = unmade;
-    how = inr (record { stamp = refl; round = refl; phase = inr (v, refl) });
+    how = inr (inl (record { unmade = unmade; base = refl; stamp = refl; round = refl; phase = inr (v, refl) }));
+  }
+
+  -- a read that looked begins to recover
+  recovers_fits : (fresh : Option Stamp) (phase : Phase) → (IsMaking phase → ⊥) → IsLook phase
+      → SendsFits fresh (within phase) (in_phase (within phase) Recovers)
+  recovers_fits fresh phase unmade look = record {
+    same = same_next phase Recovers base content;
+    call = refl;
+    counted = refl;
+    how = inr (inl (record { unmade = unmade; base = refl; stamp = refl; round = refl; phase = inl (look, refl) }));
   }
 
   answered_fast_fits : (code : Code) (fresh v : Option Stamp) → NextFits fresh (within Looks) (answered_fast code (within Looks) v)
-  answered_fast_fits code fresh None = record {
-    same = record { ask = refl; members = refl; boot = refl; seq = refl; group = refl; view = refl; stripe = refl };
-    base = refl;
-    call = refl;
-    counted = refl;
-    unmade = λ is. cc;
-    how = inr (record { stamp = refl; round = refl; phase = inl (refl, refl) });
-  }
+  answered_fast_fits code fresh None = recovers_fits fresh Looks (λ is. is) tt
   answered_fast_fits code fresh (Some v) = ((λ is. (v, refl)), tt)
 
-  read_back_fits : (code : Code) (fresh : Option Stamp) (phase : Phase) (v : Option Stamp) → (phase ≡ Stores → ⊥)
-      → greatest_refuser counted ≡ None → lowest_full counted ≡ None → NextFits fresh (within phase) (read_back code (within phase) v)
-  read_back_fits code fresh phase None unmade none roomy = forgets_fits phase none roomy
-  read_back_fits code fresh phase (Some v) unmade none roomy =
+  answered_fast_at_fits : (fresh : Option Stamp) (j : ℕ) (v : Option Stamp) → NextFits fresh (within (LooksAt j)) (answered_fast_at (within (LooksAt j)) j v)
+  answered_fast_at_fits fresh j None = recovers_fits fresh (LooksAt j) (λ is. is) tt
+  answered_fast_at_fits fresh j (Some v) = ((λ is. (v, refl)), tt)
+
+  -- a write of a block modifies the version that all found, or looks for one
+  modified_fits : (code : Code) (fresh : Option Stamp) (j : ℕ) (v : Option Stamp) → NextFits fresh (within (OrdersAt j)) (modified_if code (within (OrdersAt j)) j v)
+  modified_fits code fresh j None = descends_fits fresh (OrdersAt j) stamp (λ is. is)
+  modified_fits code fresh j (Some v) = record {
+    same = same_next (OrdersAt j) (Modifies v j) (Some v) (code.delta (bytes_at j counted) (block_written ask.op));
+    unmade = λ is. is;
+    phase = inr (v, j, refl, refl);
+    stamp = refl;
+    round = refl;
+    call = refl;
+    counted = refl;
+  }
+
+  -- it is done, or reads its base back
+  once_modified_fits : (fresh : Option Stamp) (v : Stamp) (j : ℕ) → NextFits fresh (within (Modifies v j)) (once_modified (within (Modifies v j)) v)
+  once_modified_fits fresh v j =
+      cond_both (some_behind counted) (Sends (in_phase (within (Modifies v j)) (Bases v))) (Ends Done None (Some stamp))
+      (λ (next : Next). NextFits fresh (within (Modifies v j)) next)
+      (λ behind. record {
+        same = same_next (Modifies v j) (Bases v) base content;
+        call = refl;
+        counted = refl;
+        how = inr (inr (record { stamp = refl; round = refl; how = inl (v, j, refl, refl, refl) }));
+      })
+      (λ all. (tt, tt))
+
+  -- and stores what it made of that
+  rebuilt_fits : (block : ℕ) (code : Code) (fresh : Option Stamp) (v : Stamp) → greatest_refuser counted ≡ None → lowest_full counted ≡ None
+      → NextFits fresh (within (Bases v)) (rebuilt block code (within (Bases v)) v)
+  rebuilt_fits block code fresh v none roomy =
+      cond_both (nat_lt (length (pieces_at v counted)) group.m) (Waits (forgetting (within (Bases v))))
+      (Sends (restoring block (within (Bases v)) v (code.decode group.m (pieces_at v counted))))
+      (λ (next : Next). NextFits fresh (within (Bases v)) next)
+      (λ few. forgets_fits (Bases v) none roomy)
+      (λ enough. record {
+        same = same_next (Bases v) Stores (Some v) (after_op block ask.op (code.decode group.m (pieces_at v counted)));
+        call = refl;
+        counted = refl;
+        how = inr (inr (record { stamp = refl; round = refl; how = inr (v, refl, refl, refl) }));
+      })
+
+  read_back_fits : (block : ℕ) (code : Code) (fresh : Option Stamp) (phase : Phase) (v : Option Stamp) → (IsMaking phase → ⊥)
+      → greatest_refuser counted ≡ None → lowest_full counted ≡ None → NextFits fresh (within phase) (read_back block code (within phase) v)
+  read_back_fits block code fresh phase None unmade none roomy = forgets_fits phase none roomy
+  read_back_fits block code fresh phase (Some v) unmade none roomy =
       cond_both (nat_lt (length (pieces_at v counted)) group.m) (Sends (in_phase (within phase) (Descends v)))
-      (Makes (restoring (within phase) v (code.decode group.m (pieces_at v counted))))
+      (Makes (restoring block (within phase) v (code.decode group.m (pieces_at v counted))))
       (λ (next : Next). NextFits fresh (within phase) next)
       (λ few. descends_fits fresh phase v unmade)
-      (λ enough. restores_fits phase v (code.decode group.m (pieces_at v counted)))
+      (λ enough. restores_fits block phase v (code.decode group.m (pieces_at v counted)) unmade)
 
   -- an abort in a phase that is no round of ordering, or in the last one
   aborts_fits : (fresh : Option Stamp) (phase : Phase) (r : Refuser) → greatest_refuser counted ≡ Some r → LastFits fresh (within phase) phase
@@ -263,18 +343,18 @@ module _ (group : Group) (ask : Ask) (stamp : Stamp) (round : ℕ) (base : Optio
 
   again_fits : (fresh : Option Stamp) (phase : Phase) (r : Refuser) → IsRound phase
       → ((f : Option Stamp) → NoRoundFits f (within phase) → LastFits f (within phase) phase)
-      → (phase ≡ Stores → ⊥) → greatest_refuser counted ≡ Some r → NextFits fresh (within phase) (ordered_again fresh (within phase) r)
+      → (IsMaking phase → ⊥) → greatest_refuser counted ≡ Some r → NextFits fresh (within phase) (ordered_again fresh (within phase) r)
   again_fits None phase r is last unmade refused = aborts_fits None phase r refused (last None (inl refl))
   again_fits (Some t) phase r is last unmade refused =
       cond_both (nat_lt round most_rounds) (Sends (reordering (within phase) t)) (aborted_by r)
       (λ (next : Next). NextFits (Some t) (within phase) next)
       (λ few. record {
         same = record { ask = refl; members = refl; boot = refl; seq = refl; group = refl; view = refl; stripe = refl };
-        base = refl;
         call = refl;
         counted = refl;
-        unmade = unmade;
         how = inl (record {
+          unmade = unmade;
+          base = refl;
           was = is;
           phase = refl;
           stamp = refl;
@@ -287,19 +367,35 @@ module _ (group : Group) (ask : Ask) (stamp : Stamp) (round : ℕ) (base : Optio
 
   ordered_fits : (fresh : Option Stamp) (r : Option Refuser) → greatest_refuser counted ≡ r
       → NextFits fresh (within Orders) (once_ordered fresh (within Orders) r (Makes (in_phase (within Orders) Stores)))
-  ordered_fits fresh None refused = makes_fits Orders
-  ordered_fits fresh (Some r) refused = again_fits fresh Orders r tt (λ f none. none) (λ is. cc) refused
+  ordered_fits fresh None refused = makes_fits Orders (λ is. is)
+  ordered_fits fresh (Some r) refused = again_fits fresh Orders r tt (λ f none. none) (λ is. is) refused
 
-  recovered_fits : (code : Code) (fresh : Option Stamp) (r : Option Refuser) → greatest_refuser counted ≡ r → lowest_full counted ≡ None
-      → NextFits fresh (within Recovers) (once_ordered fresh (within Recovers) r (read_back code (within Recovers) (greatest_found counted)))
-  recovered_fits code fresh None refused roomy = read_back_fits code fresh Recovers (greatest_found counted) (λ is. cc) refused roomy
-  recovered_fits code fresh (Some r) refused roomy = again_fits fresh Recovers r tt (λ f none. none) (λ is. cc) refused
+  ordered_at_fits : (code : Code) (fresh : Option Stamp) (j : ℕ) (r : Option Refuser) → greatest_refuser counted ≡ r
+      → NextFits fresh (within (OrdersAt j)) (once_ordered fresh (within (OrdersAt j)) r (modified_if code (within (OrdersAt j)) j (common_version_at j counted)))
+  ordered_at_fits code fresh j None refused = modified_fits code fresh j (common_version_at j counted)
+  ordered_at_fits code fresh j (Some r) refused = again_fits fresh (OrdersAt j) r tt (λ f none. none) (λ is. is) refused
 
-  descended_fits : (code : Code) (fresh : Option Stamp) (bound : Stamp) (r : Option Refuser) → greatest_refuser counted ≡ r
-      → lowest_full counted ≡ None → NextFits fresh (within (Descends bound)) (unless_refused r (read_back code (within (Descends bound)) (greatest_found counted)))
-  descended_fits code fresh bound None refused roomy =
-      read_back_fits code fresh (Descends bound) (greatest_found counted) (λ is. cc) refused roomy
-  descended_fits code fresh bound (Some r) refused roomy = aborts_fits fresh (Descends bound) r refused tt
+  recovered_fits : (block : ℕ) (code : Code) (fresh : Option Stamp) (r : Option Refuser) → greatest_refuser counted ≡ r → lowest_full counted ≡ None
+      → NextFits fresh (within Recovers) (once_ordered fresh (within Recovers) r (read_back block code (within Recovers) (greatest_found counted)))
+  recovered_fits block code fresh None refused roomy = read_back_fits block code fresh Recovers (greatest_found counted) (λ is. is) refused roomy
+  recovered_fits block code fresh (Some r) refused roomy = again_fits fresh Recovers r tt (λ f none. none) (λ is. is) refused
+
+  descended_fits : (block : ℕ) (code : Code) (fresh : Option Stamp) (bound : Stamp) (r : Option Refuser) → greatest_refuser counted ≡ r
+      → lowest_full counted ≡ None
+      → NextFits fresh (within (Descends bound)) (unless_refused r (read_back block code (within (Descends bound)) (greatest_found counted)))
+  descended_fits block code fresh bound None refused roomy =
+      read_back_fits block code fresh (Descends bound) (greatest_found counted) (λ is. is) refused roomy
+  descended_fits block code fresh bound (Some r) refused roomy = aborts_fits fresh (Descends bound) r refused tt
+
+  modifies_fits : (fresh : Option Stamp) (v : Stamp) (j : ℕ) (r : Option Refuser) → greatest_refuser counted ≡ r
+      → NextFits fresh (within (Modifies v j)) (unless_refused r (once_modified (within (Modifies v j)) v))
+  modifies_fits fresh v j None refused = once_modified_fits fresh v j
+  modifies_fits fresh v j (Some r) refused = aborts_fits fresh (Modifies v j) r refused tt
+
+  bases_fits : (block : ℕ) (code : Code) (fresh : Option Stamp) (v : Stamp) (r : Option Refuser) → greatest_refuser counted ≡ r
+      → lowest_full counted ≡ None → NextFits fresh (within (Bases v)) (unless_refused r (rebuilt block code (within (Bases v)) v))
+  bases_fits block code fresh v None refused roomy = rebuilt_fits block code fresh v refused roomy
+  bases_fits block code fresh v (Some r) refused roomy = aborts_fits fresh (Bases v) r refused tt
 
   answer_fits : (fresh : Option Stamp) (read : Option (List ℕ)) → AnswerFits fresh (within Stores) (answer_with read)
   answer_fits fresh None = tt
@@ -314,10 +410,18 @@ module _ (group : Group) (ask : Ask) (stamp : Stamp) (round : ℕ) (base : Optio
   unfolding decided
   decided_fits block code fresh Looks = unless_told_fits fresh Looks _ (lowest_full counted) refl (λ roomy. answered_fast_fits code fresh (fast_version counted))
   decided_fits block code fresh Orders = unless_told_fits fresh Orders _ (lowest_full counted) refl (λ roomy. ordered_fits fresh (greatest_refuser counted) refl)
+  decided_fits block code fresh (LooksAt j) =
+      unless_told_fits fresh (LooksAt j) _ (lowest_full counted) refl (λ roomy. answered_fast_at_fits fresh j (fast_version_at j counted))
+  decided_fits block code fresh (OrdersAt j) =
+      unless_told_fits fresh (OrdersAt j) _ (lowest_full counted) refl (λ roomy. ordered_at_fits code fresh j (greatest_refuser counted) refl)
   decided_fits block code fresh Recovers =
-      unless_told_fits fresh Recovers _ (lowest_full counted) refl (recovered_fits code fresh (greatest_refuser counted) refl)
+      unless_told_fits fresh Recovers _ (lowest_full counted) refl (recovered_fits block code fresh (greatest_refuser counted) refl)
   decided_fits block code fresh (Descends bound) =
-      unless_told_fits fresh (Descends bound) _ (lowest_full counted) refl (descended_fits code fresh bound (greatest_refuser counted) refl)
+      unless_told_fits fresh (Descends bound) _ (lowest_full counted) refl (descended_fits block code fresh bound (greatest_refuser counted) refl)
+  decided_fits block code fresh (Modifies u j) =
+      unless_told_fits fresh (Modifies u j) _ (lowest_full counted) refl (λ roomy. modifies_fits fresh u j (greatest_refuser counted) refl)
+  decided_fits block code fresh (Bases u) =
+      unless_told_fits fresh (Bases u) _ (lowest_full counted) refl (bases_fits block code fresh u (greatest_refuser counted) refl)
   decided_fits block code fresh Stores =
       unless_told_fits fresh Stores _ (lowest_full counted) refl (λ roomy. stored_fits fresh (Some stamp) (read_of block ask.op content) (greatest_refuser counted) refl)
 

@@ -1,27 +1,50 @@
 -- Each call has stamps of its own.
-use Rattle.std.proofs.Common.{◌≡◌, ℕ, ◌⊎◌, inl, inr, true, false, List, Some, sym, ap, ◌∙◌, subst, ⊎_elim}
+use Rattle.std.proofs.Common.{◌≡◌, ℕ, inl, inr, true, false, Some, refl, sym, ap, ◌∙◌, subst}
 use Rattle.std.proofs.lemmas.Bool.{false≢true}
 use Rattle.std.proofs.lemmas.Option.{same_Some}
 use Rattle.fab_base.specs.declared.identities.BrickId.{BrickId}
 use Rattle.fab_base.specs.declared.stamps.Stamp.{Stamp}
+use Rattle.fab_base.specs.declared.asks.Op.{Op}
+use Rattle.fab_base.specs.declared.asks.Op.TheVariants.{ReadBlock, WriteBlock, ReadStripe, WriteStripe}
 use Rattle.fab_base.specs.Stamps.{stamp_below, first_stamp}
 use Rattle.fab_base.proofs.StampOrder.{stamp_below_irrefl}
 use Rattle.messages.specs.declared.calls.Call.{Call}
 use Rattle.messages.specs.declared.packets.Message.TheVariants as Message
-use Rattle.messages.specs.declared.requests.Look.TheVariants as Look
-use Rattle.messages.specs.declared.requests.Want.TheVariants as Want
+use Rattle.messages.specs.declared.requests.Look.{Look}
+use Rattle.messages.specs.declared.requests.Look.TheVariants.{Below}
+use Rattle.messages.specs.declared.requests.Want.{Want}
+use Rattle.messages.specs.declared.requests.Want.TheVariants.{Seat, All}
 use Rattle.messages.specs.declared.requests.Request.{Request}
 use Rattle.protocol.specs.Settings.{Setting}
 use Rattle.protocol.specs.Views.{view_of}
 use Rattle.protocol.specs.declared.phases.Phase.{Phase}
-use Rattle.protocol.specs.declared.phases.Phase.TheVariants.{Orders, Recovers, Descends, Stores}
+use Rattle.protocol.specs.declared.phases.Phase.TheVariants.{LooksAt, Orders, OrdersAt, Recovers, Descends, Modifies, Stores}
 use Rattle.protocol.specs.Coordinators.{Coordinator}
 use Rattle.protocol.specs.Worlds.{World, Operation}
-use Rattle.protocol_laws.specs.Laws.{WasSent, WriteSent, OrderSent, AskedAt}
-use Rattle.protocol_laws.proofs.Books.{Books, OperationBooks, IsOperation, IsCall}
-use Rattle.protocol_laws.proofs.Said.{Stamping, Said, IsMadeOrFirst, IsBegun, IsStamped, RequestSays, WriteSays}
+use Rattle.protocol.specs.Happenings.{writes}
+use Rattle.protocol_laws.specs.Laws.{WasSent, RequestSent, IsCallOf, stamp_asked, order_of}
+use Rattle.protocol_laws.proofs.Books.{Books, OperationBooks, IsOperation, IsCall, CallBooks}
+use Rattle.protocol_laws.proofs.Said.{Stamping, Said, IsMadeOrFirst, IsBegun, IsStamped, IsCalled, FitsPhase, DescendsFrom, RequestSays, OrderSays, OrderReadSays, look_of, want_of}
+use Rattle.protocol_laws.proofs.Outcomes.{IsRound}
 use Rattle.protocol_laws.proofs.FirstViews.{IsOfFirst, above_floor, view_is}
 use Rattle.protocol_laws.proofs.Stampings.{not_first, begun_once}
+
+-- the phase in which an operation orders
+abbrev ordering : Op → Phase
+ordering (ReadBlock j) = Recovers
+ordering (WriteBlock j bytes) = OrdersAt j
+ordering ReadStripe = Recovers
+ordering (WriteStripe bytes) = Orders
+
+is_round : (op : Op) → IsRound (ordering op)
+is_round (ReadBlock j) = tt
+is_round (WriteBlock j bytes) = tt
+is_round ReadStripe = tt
+is_round (WriteStripe bytes) = tt
+
+-- it is none in which a version is stored
+ordering_only : (op : Op) (p : Phase) → p ≡ ordering op → IsRound p
+ordering_only op p is = subst (λ (q : Phase). IsRound q) (sym is) (is_round op)
 
 module _ (setting : Setting) (w : World) (stamps : Stamping) (books : Books setting w) (said : Said setting w stamps) where
   -- two phases with one stamp are of the same call
@@ -91,55 +114,105 @@ module _ (setting : Setting) (w : World) (stamps : Stamping) (books : Books sett
       → RequestSays setting w stamps from.0 to.0 call request
   sent_says call from to request sent = said.packets sent.0 (record { from = from; to = to; message = Message.Request call request }) sent.1
 
-  -- the phase of an order that was sent
-  order_begun : (call : Call) (from to : BrickId) (t : Stamp) → OrderSent w call from to t
-      → IsBegun stamps from.0 call.boot call.seq call.phase Orders t ⊎ IsBegun stamps from.0 call.boot call.seq call.phase Recovers t
-  order_begun call from to t (inl sent) = inl (sent_says call from to (Request.Order t) sent).0
-  order_begun call from to t (inr sent) = ⊎_elim
-      (λ (own : (t ≡ t) × IsBegun stamps from.0 call.boot call.seq call.phase Recovers t). inr own.1)
-      (λ (lower : (stamp_below t t ≡ true) × IsBegun stamps from.0 call.boot call.seq call.phase (Descends t) t).
-      absurd (false≢true (sym (stamp_below_irrefl t) ∙ lower.0)))
-      (sent_says call from to (Request.OrderRead t (Look.Below t) Want.All) sent).1
+  -- the operation of a call is one alone
+  called_once : (from : ℕ) (call : Call) (o p : Operation) → IsCalled w from call o → IsCalled w from call p → o ≡ p
+  called_once from call o p one other = same_Some o p (sym one.is ∙ other.is)
 
-  write_begun : (call : Call) (from to : BrickId) (t : Stamp) (block : List ℕ) → WriteSent w call from to t block
-      → IsBegun stamps from.0 call.boot call.seq call.phase Stores t
-  write_begun call from to t block sent =
-      let says : WriteSays setting w stamps from.0 to.0 call t block = sent_says call from to (Request.Write t block) sent in says.begun
+  -- a phase that looks below its own stamp, and wants this block alone, is the order of a write of it
+  order_at : (p : Phase) (t : Stamp) (j : ℕ) → look_of p t ≡ Some (Below t) → want_of p ≡ Seat j → p ≡ OrdersAt j
+  order_at (OrdersAt k) t j looks wants = let same : k ≡ j = cc in ap OrdersAt same
+  order_at (LooksAt k) t j looks wants = cc
+  order_at p t j looks wants = cc
 
-  -- a call that carries an order carries neither a write nor an order that looks below a lower bound
-  no_order : (call : Call) (from other : BrickId) (phase : Phase) (t u : Stamp) → IsBegun stamps from.0 call.boot call.seq call.phase phase t
-      → OrderSent w call from other u → (phase ≡ Orders) ⊎ (phase ≡ Recovers)
-  no_order call from other phase t u begun sent = ⊎_elim
-      (λ (orders : IsBegun stamps from.0 call.boot call.seq call.phase Orders u).
-      inl (begun_once stamps from.0 call.boot call.seq call.phase phase Orders t u begun orders).0)
-      (λ (recovers : IsBegun stamps from.0 call.boot call.seq call.phase Recovers u).
-      inr (begun_once stamps from.0 call.boot call.seq call.phase phase Recovers t u begun recovers).0)
-      (order_begun call from other u sent)
+  -- and one of a read is its recovery's first
+  order_read : (op : Op) (p : Phase) (t : Stamp) → writes op ≡ false → look_of p t ≡ Some (Below t) → FitsPhase p op → DescendsFrom p op t
+      → p ≡ Recovers
+  order_read op Recovers t reads looks fits from = refl
+  order_read op (OrdersAt k) t reads looks fits from = absurd (false≢true (sym reads ∙ ap writes fits.1))
+  order_read op (Descends bound) t reads looks fits from =
+      let same : bound ≡ t = cc in
+      absurd (false≢true (sym (stamp_below_irrefl t) ∙ subst (λ (z : Stamp). stamp_below z t ≡ true) same (from.lower bound refl reads)))
+  order_read op p t reads looks fits from = cc
 
-  pub order_or_write : (call : Call) (from to other : BrickId) (t u : Stamp) (block : List ℕ) → WriteSent w call from to t block
-      → OrderSent w call from other u → ⊥
-  order_or_write call from to other t u block write order = ⊎_elim
-      (λ (orders : Stores ≡ Orders). let never : ⊥ = cc in never)
-      (λ (recovers : Stores ≡ Recovers). let never : ⊥ = cc in never)
-      (no_order call from other Stores t u (write_begun call from to t block write) order)
+  -- the phase in which a read orders
+  read_begun : (call : Call) (from to : BrickId) (o : Operation) (op : Op) (t : Stamp) → IsCalled w from.0 call o → o.ask.op ≡ op → writes op ≡ false
+      → RequestSent w call from to (Request.OrderRead t (Below t) All) → IsBegun stamps from.0 call.boot call.seq call.phase Recovers t
+  read_begun call from to o op t called is reads sent =
+      let says : OrderReadSays w stamps from.0 call t (Below t) All = sent_says call from to (Request.OrderRead t (Below t) All) sent in
+      let same : says.operation.ask.op ≡ op = ap (λ (z : Operation). z.ask.op) (called_once from.0 call says.operation o says.called called) ∙ is in
+      subst (λ (p : Phase). IsBegun stamps from.0 call.boot call.seq call.phase p t)
+      (order_read says.operation.ask.op says.phase t (ap writes same ∙ reads) says.look_is says.fits says.from) says.begun
 
-  -- the phase of an order that looks below a lower bound
-  descent_begun : (call : Call) (from to : BrickId) (t bound : Stamp) → stamp_below bound t ≡ true
-      → WasSent w (record { from = from; to = to; message = Message.Request call (Request.OrderRead t (Look.Below bound) Want.All) })
-      → IsBegun stamps from.0 call.boot call.seq call.phase (Descends bound) t
-  descent_begun call from to t bound less sent = ⊎_elim
-      (λ (own : (bound ≡ t) × IsBegun stamps from.0 call.boot call.seq call.phase Recovers t).
-      absurd (false≢true (sym (stamp_below_irrefl t) ∙ subst (λ (z : Stamp). stamp_below z t ≡ true) own.0 less)))
-      (λ (lower : (stamp_below bound t ≡ true) × IsBegun stamps from.0 call.boot call.seq call.phase (Descends bound) t). lower.1)
-      (sent_says call from to (Request.OrderRead t (Look.Below bound) Want.All) sent).1
+  -- the phase in which an operation orders
+  order_begun : (call : Call) (from to : BrickId) (o : Operation) (op : Op) (t : Stamp) → IsCalled w from.0 call o → o.ask.op ≡ op
+      → RequestSent w call from to (order_of op t) → IsBegun stamps from.0 call.boot call.seq call.phase (ordering op) t
+  order_begun call from to o (WriteStripe bytes) t called is sent =
+      let says : OrderSays w stamps from.0 call t = sent_says call from to (Request.Order t) sent in says.begun
+  order_begun call from to o (WriteBlock j bytes) t called is sent =
+      let says : OrderReadSays w stamps from.0 call t (Below t) (Seat j) = sent_says call from to (Request.OrderRead t (Below t) (Seat j)) sent in
+      subst (λ (p : Phase). IsBegun stamps from.0 call.boot call.seq call.phase p t) (order_at says.phase t j says.look_is says.want_is) says.begun
+  order_begun call from to o (ReadBlock j) t called is sent = read_begun call from to o (ReadBlock j) t called is refl sent
+  order_begun call from to o ReadStripe t called is sent = read_begun call from to o ReadStripe t called is refl sent
 
-  pub order_or_descent : (call : Call) (from to other : BrickId) (t u bound : Stamp) → stamp_below bound t ≡ true
-      → WasSent w (record { from = from; to = to; message = Message.Request call (Request.OrderRead t (Look.Below bound) Want.All) })
-      → OrderSent w call from other u → ⊥
-  order_or_descent call from to other t u bound less sent order = ⊎_elim
-      (λ (orders : Descends bound ≡ Orders). let never : ⊥ = cc in never)
-      (λ (recovers : Descends bound ≡ Recovers). let never : ⊥ = cc in never)
-      (no_order call from other (Descends bound) t u (descent_begun call from to t bound less sent) order)
+  -- what is asked in the phase in which an operation orders is its order
+  order_is : (call : Call) (from to : BrickId) (op : Op) (request : Request) (t u : Stamp) → RequestSays setting w stamps from.0 to.0 call request
+      → stamp_asked request ≡ Some t → IsBegun stamps from.0 call.boot call.seq call.phase (ordering op) u → request ≡ order_of op t
+  order_is call from to op (Request.Order z) t u says asked begun =
+      let same = begun_once stamps from.0 call.boot call.seq call.phase Orders (ordering op) z u says.begun begun in
+      let stamp : z ≡ t = cc in ap Request.Order stamp ∙ whole op same.0
+    where
+      whole : (op : Op) → Orders ≡ ordering op → Request.Order t ≡ order_of op t
+      whole (WriteStripe bytes) is = refl
+      whole (WriteBlock j bytes) is = cc
+      whole (ReadBlock j) is = cc
+      whole ReadStripe is = cc
+  order_is call from to op (Request.OrderRead z look want) t u says asked begun =
+      let same = begun_once stamps from.0 call.boot call.seq call.phase says.phase (ordering op) z u says.begun begun in
+      let stamp : z ≡ t = cc in
+      ap (λ (x : Stamp). Request.OrderRead x look want) stamp
+      ∙ told op (subst (λ (x : Stamp). look_of says.phase x ≡ Some look) stamp says.look_is) same.0
+    where
+      told : (op : Op) → look_of says.phase t ≡ Some look → says.phase ≡ ordering op → Request.OrderRead t look want ≡ order_of op t
+      told op looks is =
+          by op (subst (λ (p : Phase). look_of p t ≡ Some look) is looks) (subst (λ (p : Phase). want_of p ≡ want) is says.want_is)
+        where
+          by : (op : Op) → look_of (ordering op) t ≡ Some look → want_of (ordering op) ≡ want → Request.OrderRead t look want ≡ order_of op t
+          by (WriteStripe bytes) looks wants = cc
+          by (WriteBlock j bytes) looks wants = let a : Below t ≡ look = cc in ap (λ (l : Look). Request.OrderRead t l want) (sym a)
+              ∙ ap (λ (x : Want). Request.OrderRead t (Below t) x) (sym wants)
+          by (ReadBlock j) looks wants = let a : Below t ≡ look = cc in ap (λ (l : Look). Request.OrderRead t l want) (sym a)
+              ∙ ap (λ (x : Want). Request.OrderRead t (Below t) x) (sym wants)
+          by ReadStripe looks wants = let a : Below t ≡ look = cc in ap (λ (l : Look). Request.OrderRead t l want) (sym a)
+              ∙ ap (λ (x : Want). Request.OrderRead t (Below t) x) (sym wants)
+  order_is call from to op (Request.Write z block) t u says asked begun =
+      absurd (ordering_only op Stores (begun_once stamps from.0 call.boot call.seq call.phase Stores (ordering op) z u says.maker.begun begun).0)
+  order_is call from to op (Request.Modify z base j sent) t u says asked begun =
+      absurd (ordering_only op (Modifies base j)
+      (begun_once stamps from.0 call.boot call.seq call.phase (Modifies base j) (ordering op) z u says.maker.begun begun).0)
+  order_is call from to op request t u says asked begun = cc
+
+  -- the operation that asks at a stamp
+  asker : (call : Call) (from to : ℕ) (request : Request) (t : Stamp) → RequestSays setting w stamps from to call request
+      → stamp_asked request ≡ Some t → (o : Operation) × IsCalled w from call o
+  asker call from to (Request.Order z) t says asked = (says.operation, says.called)
+  asker call from to (Request.OrderRead z look want) t says asked = (says.operation, says.called)
+  asker call from to (Request.Write z block) t says asked = (says.maker.operation, says.maker.called)
+  asker call from to (Request.Modify z base j sent) t says asked = (says.maker.operation, says.maker.called)
+  asker call from to request t says asked = cc
+
+  -- where an operation orders under a call, all that it asks under it is that order
+  pub orders_alone : (n : ℕ) (o : Operation) (call : Call) (to other : BrickId) (request : Request) (t u : Stamp) → IsOperation w n o → IsCallOf call o
+      → RequestSent w call o.brick to request → stamp_asked request ≡ Some t → RequestSent w call o.brick other (order_of o.ask.op u)
+      → request ≡ order_of o.ask.op t
+  orders_alone n o call to other request t u is own sent asked ordered =
+      let says : RequestSays setting w stamps o.brick.0 to.0 call request = sent_says call o.brick to request sent in
+      let by : (p : Operation) × IsCalled w o.brick.0 call p = asker call o.brick.0 to.0 request t says asked in
+      let number : w.numbers o.brick.0 call.boot call.seq ≡ n
+      = ap (λ (b : ℕ). w.numbers o.brick.0 b call.seq) own.0 ∙ ap (λ (k : ℕ). w.numbers o.brick.0 o.boot k) own.1
+      ∙ (books.operations n o is).number in
+      let same : by.0 ≡ o = same_Some by.0 o (sym by.1.is ∙ ap w.operations number ∙ is) in
+      order_is call o.brick to o.ask.op request t u says asked
+      (order_begun call o.brick other o o.ask.op u (subst (λ (p : Operation). IsCalled w o.brick.0 call p) same by.1) refl ordered)
 
   -- the present phase of an open call was begun
   call_begun : (from : BrickId) (c : Coordinator) → IsCall w from.0 c.call.seq c
@@ -148,62 +221,21 @@ module _ (setting : Setting) (w : World) (stamps : Stamping) (books : Books sett
       subst (λ (b : ℕ). IsBegun stamps from.0 b c.call.seq c.call.phase c.phase c.stamp) (sym (books.calls from.0 c.call.seq c is).call_boot)
       (said.calls from.0 c.call.seq c is).begun
 
-  -- what a call in its store phase asked is a write
-  pub stores_asked : (from to : BrickId) (c : Coordinator) (t : Stamp) → IsCall w from.0 c.call.seq c → c.phase ≡ Stores → AskedAt w c.call from to t
-      → (block : List ℕ) × WriteSent w c.call from to t block
-  stores_asked from to c t is stores asked = asked_as asked
-    where
-      begun : IsBegun stamps from.0 c.call.boot c.call.seq c.call.phase Stores c.stamp
-      begun = subst (λ (p : Phase). IsBegun stamps from.0 c.call.boot c.call.seq c.call.phase p c.stamp) stores (call_begun from c is)
-
-      asked_as : AskedAt w c.call from to t → (block : List ℕ) × WriteSent w c.call from to t block
-      asked_as (inl order) = ⊎_elim
-          (λ (orders : Stores ≡ Orders). absurd (let never : ⊥ = cc in never))
-          (λ (recovers : Stores ≡ Recovers). absurd (let never : ⊥ = cc in never))
-          (no_order c.call from to Stores c.stamp t begun order)
-      asked_as (inr (inl sent)) = ⊎_elim
-          (λ (own : (sent.0 ≡ t) × IsBegun stamps from.0 c.call.boot c.call.seq c.call.phase Recovers t).
-          let bad : Stores ≡ Recovers = (begun_once stamps from.0 c.call.boot c.call.seq c.call.phase Stores Recovers c.stamp t begun own.1).0 in
-          absurd (let never : ⊥ = cc in never))
-          (λ (lower : (stamp_below sent.0 t ≡ true) × IsBegun stamps from.0 c.call.boot c.call.seq c.call.phase (Descends sent.0) t).
-          let bad : Stores ≡ Descends sent.0
-          = (begun_once stamps from.0 c.call.boot c.call.seq c.call.phase Stores (Descends sent.0) c.stamp t begun lower.1).0 in
-          absurd (let never : ⊥ = cc in never))
-          (sent_says c.call from to (Request.OrderRead t (Look.Below sent.0) Want.All) sent.1).1
-      asked_as (inr (inr write)) = write
-
-  -- what a call that descends asked looks below its bound
-  pub descends_asked : (from to : BrickId) (c : Coordinator) (bound t : Stamp) → IsCall w from.0 c.call.seq c → c.phase ≡ Descends bound
-      → AskedAt w c.call from to t
-      → (stamp_below bound t ≡ true)
-      × WasSent w (record { from = from; to = to; message = Message.Request c.call (Request.OrderRead t (Look.Below bound) Want.All) })
-  descends_asked from to c bound t is descends asked = asked_as asked
-    where
-      begun : IsBegun stamps from.0 c.call.boot c.call.seq c.call.phase (Descends bound) c.stamp
-      begun = subst (λ (p : Phase). IsBegun stamps from.0 c.call.boot c.call.seq c.call.phase p c.stamp) descends (call_begun from c is)
-
-      asked_as : AskedAt w c.call from to t
-          → (stamp_below bound t ≡ true)
-          × WasSent w (record { from = from; to = to; message = Message.Request c.call (Request.OrderRead t (Look.Below bound) Want.All) })
-      asked_as (inl order) = ⊎_elim
-          (λ (orders : Descends bound ≡ Orders). absurd (let never : ⊥ = cc in never))
-          (λ (recovers : Descends bound ≡ Recovers). absurd (let never : ⊥ = cc in never))
-          (no_order c.call from to (Descends bound) c.stamp t begun order)
-      asked_as (inr (inl sent)) = ⊎_elim
-          (λ (own : (sent.0 ≡ t) × IsBegun stamps from.0 c.call.boot c.call.seq c.call.phase Recovers t).
-          let bad : Descends bound ≡ Recovers
-          = (begun_once stamps from.0 c.call.boot c.call.seq c.call.phase (Descends bound) Recovers c.stamp t begun own.1).0 in
-          absurd (let never : ⊥ = cc in never))
-          (λ (lower : (stamp_below sent.0 t ≡ true) × IsBegun stamps from.0 c.call.boot c.call.seq c.call.phase (Descends sent.0) t).
-          let phases : Descends bound ≡ Descends sent.0
-          = (begun_once stamps from.0 c.call.boot c.call.seq c.call.phase (Descends bound) (Descends sent.0) c.stamp t begun lower.1).0 in
-          let same : bound ≡ sent.0 = cc in
-          subst (λ (b : Stamp). (stamp_below b t ≡ true)
-          × WasSent w (record { from = from; to = to; message = Message.Request c.call (Request.OrderRead t (Look.Below b) Want.All) }))
-          (sym same) (lower.0, sent.1))
-          (sent_says c.call from to (Request.OrderRead t (Look.Below sent.0) Want.All) sent.1).1
-      asked_as (inr (inr write)) =
-          let bad : Descends bound ≡ Stores
-          = (begun_once stamps from.0 c.call.boot c.call.seq c.call.phase (Descends bound) Stores c.stamp t begun
-          (write_begun c.call from to t write.0 write.1)).0 in
-          absurd (let never : ⊥ = cc in never)
+  -- an operation is in a round of ordering where it has sent its order under the call of its present phase
+  pub in_round : (from to : BrickId) (c : Coordinator) (t : Stamp) → IsCall w from.0 c.call.seq c
+      → RequestSent w c.call from to (order_of c.ask.op t) → IsRound c.phase
+  in_round from to c t is sent =
+      let its : CallBooks setting w from.0 c.call.seq c = books.calls from.0 c.call.seq c is in
+      let called : IsCalled w from.0 c.call its.operation = record {
+        is = subst (λ (b : ℕ). IsOperation w (w.numbers from.0 b c.call.seq) its.operation) (sym its.call_boot) its.operation_is;
+        brick = its.brick;
+        boot = its.boot ∙ sym its.call_boot;
+        seq = its.seq;
+        group = ap (λ a. a.group.0) (sym its.ask) ∙ ap (λ g. g.0) (sym its.call_group);
+        stripe = ap (λ a. a.stripe.0) (sym its.ask) ∙ ap (λ s. s.0) (sym its.call_stripe);
+        view = its.call_view;
+      } in
+      let begun = order_begun c.call from to its.operation c.ask.op t called (ap (λ a. a.op) (sym its.ask)) sent in
+      subst (λ (p : Phase). IsRound p)
+      (begun_once stamps from.0 c.call.boot c.call.seq c.call.phase (ordering c.ask.op) c.phase t c.stamp begun (call_begun from c is)).0
+      (is_round c.ask.op)

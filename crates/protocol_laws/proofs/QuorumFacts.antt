@@ -5,7 +5,7 @@ use Rattle.std.proofs.lemmas.Bool.{and_parts, cases_Bool, eqb-true, not-true}
 use Rattle.std.proofs.lemmas.Option.{same_Some}
 use Rattle.fab_base.specs.declared.stamps.Stamp.{Stamp}
 use Rattle.fab_base.specs.declared.asks.Op.{Op}
-use Rattle.fab_base.specs.declared.asks.Op.TheVariants.{ReadStripe, WriteStripe}
+use Rattle.fab_base.specs.declared.asks.Op.TheVariants.{WriteStripe}
 use Rattle.fab_base.specs.declared.answers.Answer.TheVariants.{Data}
 use Rattle.fab_base.specs.Stamps.{stamp_below, first_stamp}
 use Rattle.fab_base.proofs.StampOrder.{stamp_not_below_trans, stamp_neither_below}
@@ -14,42 +14,44 @@ use Rattle.messages.specs.declared.replies.Reply.{Reply}
 use Rattle.quorum.specs.Quorums.{IsWithinLimits, both}
 use Rattle.quorum.proofs.Counts.{count_some, quorums_share}
 use Rattle.reg_model.specs.Marks.{Life, life_of, Answered}
-use Rattle.reg_model.specs.Registers.{zero_registers}
+use Rattle.reg_model.specs.Registers.{zero_registers, after_op, read_of}
 use Rattle.reg_model.specs.Walk.{last_of}
 use Rattle.fab_base.specs.Layouts.{Group, group_of}
 use Rattle.protocol.specs.Settings.{Setting, IsSound}
 use Rattle.protocol.specs.Worlds.{World, Operation, zero_content, content_on}
+use Rattle.protocol.specs.Happenings.{writes}
 use Rattle.fab_base.specs.Layouts.{brick_at}
-use Rattle.protocol_laws.specs.Laws.{ContentsAreMade, StoredIsHeld, FollowsRealTime, FullIsFull}
+use Rattle.protocol_laws.specs.Laws.{ContentsAreMade, StoredIsHeld, FollowsRealTime, FullIsFull, BasesAreFound}
 use Rattle.protocol_laws.specs.Marked.{WordsFit}
 use Rattle.protocol_laws.proofs.FirstViews.{floor_at}
 use Rattle.protocol_laws.proofs.Books.{Books, OperationBooks, IsOperation}
 use Rattle.protocol_laws.proofs.Words.{words_fit}
 use Rattle.protocol_laws.proofs.Said.{Stamping, Said, IsStamped, IsMadeOrFirst, Stands, WritesWhole, ReadsBack, FloorsAtLeast, HasVersion, DataShown}
+use Rattle.protocol_laws.proofs.BasesFound.{bases_found}
 use Rattle.protocol_laws.proofs.Blocking.{blocked_never_stands}
 use Rattle.protocol_laws.proofs.Lives.{answered_has_end}
 use Rattle.protocol_laws.proofs.Stampings.{above_first}
 use Rattle.protocol_laws.proofs.OwnStamps.{maker_stamp, made_later, operation_unique}
 
--- an operation that made version t by reading its base back: the base is below it, was made itself or is the first, and is its content; and
--- nothing that a quorum holds lies between the two
+-- an operation that made version t on a base: the base is below it, was made itself or is the first, and the content is what the operation makes of
+-- the base's; and nothing that a quorum holds lies between the two
 pub record BaseSays (setting : Setting) (w : World) (o : Operation) (t : Stamp) : Type 0 where
   pub base : Stamp
   pub base_is : o.base ≡ Some base
-  pub op : o.ask.op ≡ ReadStripe
+  pub op : (bytes : List ℕ) → o.ask.op ≡ WriteStripe bytes → ⊥
   pub below : stamp_below base t ≡ true
   pub made : IsMadeOrFirst w o.ask.group.0 o.ask.stripe.0 base
-  pub content : w.contents o.ask.group.0 o.ask.stripe.0 t ≡ w.contents o.ask.group.0 o.ask.stripe.0 base
+  pub content : w.contents o.ask.group.0 o.ask.stripe.0 t ≡ after_op setting.layout.block o.ask.op (w.contents o.ask.group.0 o.ask.stripe.0 base)
   pub none_between : (u : Stamp) → Stands setting w o.ask.group.0 o.ask.stripe.0 u → stamp_below base u ≡ true → stamp_below u t ≡ true → ⊥
 
--- an operation that made version t wrote it whole, on no base, or read its base back
+-- an operation that made version t wrote it whole, on no base, or made it on its base
 pub record MakerFacts (setting : Setting) (w : World) (o : Operation) (t : Stamp) : Type 0 where
   pub how : WritesWhole w o t ⊎ BaseSays setting w o t
   pub later : stamp_below first_stamp t ≡ true
 
--- an operation that read version t at once reads a stripe, and the version is the first one or was made
+-- an operation that read version t at once is a read, and the version is the first one or was made
 pub record ReaderFacts (w : World) (o : Operation) (t : Stamp) : Type 0 where
-  pub op : o.ask.op ≡ ReadStripe
+  pub op : writes o.ask.op ≡ false
   pub made : IsMadeOrFirst w o.ask.group.0 o.ask.stripe.0 t
 
 -- the facts on versions
@@ -63,14 +65,15 @@ pub record QuorumFacts (setting : Setting) (w : World) : Type 0 where
   pub stands : (n : ℕ) (o : Operation) (t : Stamp) → IsOperation w n o → o.version ≡ Some t → (o.made ≡ false) ⊎ (o.answered ≡ true)
       → Stands setting w o.ask.group.0 o.ask.stripe.0 t
   pub answered_data : (n : ℕ) (o : Operation) (t : Stamp) (life : Life) (p : ℕ) (bytes : List ℕ) → IsOperation w n o → o.version ≡ Some t
-      → life_of w.marks n ≡ Some life → life.ending ≡ Answered p (Data bytes) → bytes ≡ w.contents o.ask.group.0 o.ask.stripe.0 t
-  pub answered_write : (n : ℕ) (o : Operation) (bytes : List ℕ) → IsOperation w n o → o.answered ≡ true → o.ask.op ≡ WriteStripe bytes
-      → o.made ≡ true
+      → life_of w.marks n ≡ Some life → life.ending ≡ Answered p (Data bytes)
+      → read_of setting.layout.block o.ask.op (w.contents o.ask.group.0 o.ask.stripe.0 t) ≡ Some bytes
+  pub answered_write : (n : ℕ) (o : Operation) → IsOperation w n o → o.answered ≡ true → writes o.ask.op ≡ true → o.made ≡ true
   pub first : (g s : ℕ) (group : Group) → group_of setting.layout g ≡ Some group
       → w.contents g s first_stamp ≡ zero_registers group.m setting.layout.block
   pub contents : ContentsAreMade setting w
   pub stored : StoredIsHeld w
   pub full : FullIsFull setting w
+  pub bases_found : BasesAreFound setting w
   pub words : WordsFit setting.layout w.marks
 
 module _ (setting : Setting) (sound : IsSound setting) (w : World) (stamps : Stamping) (books : Books setting w) (said : Said setting w stamps) where
@@ -119,7 +122,7 @@ module _ (setting : Setting) (sound : IsSound setting) (w : World) (stamps : Sta
       (eqb-true earlier.ask.group.0 g a_at.0 ∙ sym (eqb-true later.ask.group.0 g b_at.0))
       (eqb-true earlier.ask.stripe.0 s a_at.1 ∙ sym (eqb-true later.ask.stripe.0 s b_at.1)) a_version)
 
-  -- a version that was read back is the base
+  -- a version that another was made on is the base
   base_says : (n : ℕ) (o : Operation) (t : Stamp) → IsOperation w n o → ReadsBack setting w o t → BaseSays setting w o t
   base_says n o t is back =
       let its : OperationBooks setting w n o = books.operations n o is in
@@ -149,17 +152,18 @@ module _ (setting : Setting) (sound : IsSound setting) (w : World) (stamps : Sta
       let has : HasVersion setting w o t = (said.operations n o is).version t version in record { op = has.reader unmade; made = has.made }
 
   answered_data_holds : (n : ℕ) (o : Operation) (t : Stamp) (life : Life) (p : ℕ) (bytes : List ℕ) → IsOperation w n o → o.version ≡ Some t
-      → life_of w.marks n ≡ Some life → life.ending ≡ Answered p (Data bytes) → bytes ≡ w.contents o.ask.group.0 o.ask.stripe.0 t
+      → life_of w.marks n ≡ Some life → life.ending ≡ Answered p (Data bytes)
+      → read_of setting.layout.block o.ask.op (w.contents o.ask.group.0 o.ask.stripe.0 t) ≡ Some bytes
   answered_data_holds n o t life p bytes is version life_is ending =
       let end = answered_has_end w.marks n p (Data bytes) life life_is ending in
-      let shown : DataShown w n bytes = said.ends end.0 p n (Data bytes) end.1 in
+      let shown : DataShown setting w n bytes = said.ends end.0 p n (Data bytes) end.1 in
       let same : shown.operation ≡ o = same_Some shown.operation o (sym shown.is ∙ is) in
       let stamp : shown.version ≡ t = same_Some shown.version t (sym shown.version_is ∙ ap (λ (z : Operation). z.version) same ∙ version) in
-      shown.bytes_are
-      ∙ ap (λ (z : Operation). w.contents z.ask.group.0 z.ask.stripe.0 shown.version) same
-      ∙ ap (λ (u : Stamp). w.contents o.ask.group.0 o.ask.stripe.0 u) stamp
+      ap (λ (u : Stamp). read_of setting.layout.block o.ask.op (w.contents o.ask.group.0 o.ask.stripe.0 u)) (sym stamp)
+      ∙ ap (λ (z : Operation). read_of setting.layout.block z.ask.op (w.contents z.ask.group.0 z.ask.stripe.0 shown.version)) (sym same)
+      ∙ shown.bytes_are
 
-  -- a stripe write makes its bytes, and a recovery the content of its base
+  -- a stripe write makes its bytes, and each other version is made of its base's content
   contents_hold : ContentsAreMade setting w
   contents_hold n o t is made version = ⊎_elim
       (λ (whole : WritesWhole w o t). sym (
@@ -168,8 +172,7 @@ module _ (setting : Setting) (sound : IsSound setting) (w : World) (stamps : Sta
       (WriteStripe (w.contents o.ask.group.0 o.ask.stripe.0 t)) z) whole.0))
       (λ (back : ReadsBack setting w o t).
       back.content ∙ sym (
-      ap (λ (op : Op). content_on setting.layout.block (w.contents o.ask.group.0 o.ask.stripe.0) op o.base) back.op
-      ∙ ap (λ (z : Option Stamp). content_on setting.layout.block (w.contents o.ask.group.0 o.ask.stripe.0) ReadStripe z) back.base_is))
+      ap (λ (z : Option Stamp). content_on setting.layout.block (w.contents o.ask.group.0 o.ask.stripe.0) o.ask.op z) back.base_is))
       ((said.operations n o is).maker t made version)
 
   -- what is said of a world makes these facts true
@@ -185,10 +188,11 @@ module _ (setting : Setting) (sound : IsSound setting) (w : World) (stamps : Sta
     reader = reader_holds;
     stands = λ n o t is version how. (said.operations n o is).stands t version how;
     answered_data = answered_data_holds;
-    answered_write = λ n o bytes is answered op. (said.operations n o is).answered answered bytes op;
+    answered_write = λ n o is answered writes. (said.operations n o is).answered answered writes;
     first = λ g s group group_is. said.first g s ∙ ap (λ (z : Option Group). zero_content setting.layout.block z) group_is;
     contents = contents_hold;
     stored = λ call from to sent. said.packets sent.0 (record { from = from; to = to; message = Message.Reply call Reply.Stored }) sent.1;
     full = λ call from to live sent. said.packets sent.0 (record { from = from; to = to; message = Message.Reply call (Reply.Full live) }) sent.1;
+    bases_found = bases_found setting sound w stamps books said;
     words = words_fit setting w stamps books said;
   }

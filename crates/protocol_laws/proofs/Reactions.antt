@@ -4,17 +4,17 @@ use Rattle.std.specs.Prelude.{slice_get}
 use Rattle.std.proofs.lemmas.Bool.{cond_both, cond-false, false≢true, or_left, or_right, or_cases}
 use Rattle.fab_base.specs.declared.stamps.Stamp.{Stamp}
 use Rattle.fab_base.specs.Stamps.{stamp_below, stamp_same}
-use Rattle.fab_base.proofs.StampOrder.{stamp_below_irrefl, stamp_below_asym, stamp_not_below_trans, stamp_neither_below, stamp_same_refl}
+use Rattle.fab_base.proofs.StampOrder.{stamp_below_irrefl, stamp_below_asym, stamp_not_below_trans, stamp_neither_below, stamp_same_refl, stamp_same_true}
 use Rattle.messages.specs.declared.requests.Version.{Version}
 use Rattle.messages.specs.declared.requests.Look.{Look}
-use Rattle.messages.specs.declared.requests.Look.TheVariants.{Below}
 use Rattle.messages.specs.declared.requests.Want.{Want}
-use Rattle.messages.specs.declared.requests.Want.TheVariants.{Seat, All}
 use Rattle.messages.specs.declared.requests.Request.{Request}
 use Rattle.messages.specs.declared.requests.Request.TheVariants.{Read, Order, OrderRead, Write, Modify, Collect, OldRead, Prepare, Accept}
 use Rattle.messages.specs.declared.replies.Reply.{Reply}
-use Rattle.messages.specs.declared.replies.Reply.TheVariants.{Found, Ordered, OrderedRead, Stored, Later, Full}
-use Rattle.protocol.specs.Replicas.{Replica, Reaction, newest_of, is_held, stamp_max, top_of, is_wanted, told_version, stays, unless_full, promised, stored, ordered, written, below, looked_up, order_read, handle}
+use Rattle.messages.specs.declared.replies.Reply.TheVariants.{Found, Ordered, OrderedRead, Stored, Behind, Later, Full}
+use Rattle.protocol.specs.Settings.{Code}
+use Rattle.protocol.specs.Replicas.{Replica, Reaction, newest_of, is_held, stamp_max, top_of, is_wanted, told_version, stays, unless_full, promised, stored, ordered, written, looked_up, order_read, modified_block, modified_on, modified, handle}
+use Rattle.protocol_laws.specs.Laws.{stamp_stored, stamp_asked}
 use Rattle.protocol_laws.proofs.Logs.{LogAscends, IsWithin, newest_greatest, ascends_more, held_more}
 use Rattle.protocol_laws.proofs.Tables.{get_grown, get_one}
 
@@ -108,17 +108,24 @@ pub record HasPromised (replica : Replica) (request : Request) (next : Replica) 
   pub above : stamp_below stamp (top_of replica) ≡ false
   pub next_is : next ≡ with_order replica stamp
 
+-- a request has the member at a seat store this block: a write its own, and a modification the newest version's, changed
+abbrev pub StoresBlock : Code → ℕ → ℕ → Replica → Request → Stamp → List ℕ → Type 0
+StoresBlock code m seat replica request t block =
+    (request ≡ Write t block)
+    ⊎ ((old : Version) × (j : ℕ) × (delta : List ℕ) × (request ≡ Modify t old.stamp j delta) × (newest_of replica.log ≡ Some old)
+    × (block ≡ modified_block code m j seat delta old.block))
+
 -- a request made the member store a version
-pub record HasWritten (replica : Replica) (request : Request) (next : Replica) : Type 0 where
+pub record HasWritten (code : Code) (m seat : ℕ) (replica : Replica) (request : Request) (next : Replica) : Type 0 where
   pub stamp : Stamp
   pub block : List ℕ
-  pub request_is : request ≡ Write stamp block
+  pub request_is : StoresBlock code m seat replica request stamp block
   pub above : stamp_below stamp (top_of replica) ≡ false
   pub next_is : next ≡ with_version replica stamp block
 
 -- the part after a request: as before, or with a promise, or with one more version
-abbrev pub IsAfter : Replica → Request → Replica → Type 0
-IsAfter replica request next = (next ≡ replica) ⊎ (HasPromised replica request next ⊎ HasWritten replica request next)
+abbrev pub IsAfter : Code → ℕ → ℕ → Replica → Request → Replica → Type 0
+IsAfter code m seat replica request next = (next ≡ replica) ⊎ (HasPromised replica request next ⊎ HasWritten code m seat replica request next)
 
 -- below the top nothing changes; else the change is made, or is refused where the store is full
 change_cases : (P : Reaction → Type 0) (full : Option ℕ) (replica : Replica) (t : Stamp) (reaction : Reaction)
@@ -135,63 +142,108 @@ change_cases P full replica t reaction later refused made =
     with_room (Some live) refused made =
         cond_both (nat_lt reaction.drops reaction.adds) (stays replica (Full live)) reaction P (λ more. refused live refl) (λ same. made)
 
--- the part after each kind of request
-ordered_after : (full : Option ℕ) (replica : Replica) (t : Stamp) → IsAfter replica (Order t) (ordered full replica t).replica
-ordered_after full replica t =
-    change_cases (λ (z : Reaction). IsAfter replica (Order t) z.replica) full replica t (promised replica t Ordered)
-    (λ below. inl refl) (λ live is. inl refl)
-    (λ at. inr (inl (record { stamp = t; request_is = inl refl; above = at; next_is = refl })))
+module _ (code : Code) (m seat : ℕ) where
+  -- the part after each kind of request
+  ordered_after : (full : Option ℕ) (replica : Replica) (t : Stamp) → IsAfter code m seat replica (Order t) (ordered full replica t).replica
+  ordered_after full replica t =
+      change_cases (λ (z : Reaction). IsAfter code m seat replica (Order t) z.replica) full replica t (promised replica t Ordered)
+      (λ below. inl refl) (λ live is. inl refl)
+      (λ at. inr (inl (record { stamp = t; request_is = inl refl; above = at; next_is = refl })))
 
-order_read_after : (full : Option ℕ) (replica : Replica) (t : Stamp) (look : Look) (want : Want) (wanted : Bool)
-    → IsAfter replica (OrderRead t look want) (order_read full replica t look wanted).replica
-order_read_after full replica t look want wanted =
-    change_cases (λ (z : Reaction). IsAfter replica (OrderRead t look want) z.replica) full replica t
-    (promised replica t (OrderedRead (told_version wanted (looked_up look replica.log))))
-    (λ below. inl refl) (λ live is. inl refl)
-    (λ at. inr (inl (record { stamp = t; request_is = inr (look, want, refl); above = at; next_is = refl })))
+  order_read_after : (full : Option ℕ) (replica : Replica) (t : Stamp) (look : Look) (want : Want) (wanted : Bool)
+      → IsAfter code m seat replica (OrderRead t look want) (order_read full replica t look wanted).replica
+  order_read_after full replica t look want wanted =
+      change_cases (λ (z : Reaction). IsAfter code m seat replica (OrderRead t look want) z.replica) full replica t
+      (promised replica t (OrderedRead (told_version wanted (looked_up look replica.log))))
+      (λ below. inl refl) (λ live is. inl refl)
+      (λ at. inr (inl (record { stamp = t; request_is = inr (look, want, refl); above = at; next_is = refl })))
 
-written_after : (full : Option ℕ) (replica : Replica) (t : Stamp) (block : List ℕ)
-    → IsAfter replica (Write t block) (written full replica t block).replica
-written_after full replica t block =
-    cond_both (is_held t replica.log) (stays replica Stored) _ (λ (z : Reaction). IsAfter replica (Write t block) z.replica)
-    (λ held. inl refl)
-    (λ isnt. change_cases (λ (z : Reaction). IsAfter replica (Write t block) z.replica) full replica t (stored replica t block)
-    (λ below. inl refl) (λ live is. inl refl)
-    (λ at. inr (inr (record { stamp = t; block = block; request_is = refl; above = at; next_is = refl }))))
+  written_after : (full : Option ℕ) (replica : Replica) (t : Stamp) (block : List ℕ)
+      → IsAfter code m seat replica (Write t block) (written full replica t block).replica
+  written_after full replica t block =
+      cond_both (is_held t replica.log) (stays replica Stored) _ (λ (z : Reaction). IsAfter code m seat replica (Write t block) z.replica)
+      (λ held. inl refl)
+      (λ isnt. change_cases (λ (z : Reaction). IsAfter code m seat replica (Write t block) z.replica) full replica t (stored replica t block)
+      (λ below. inl refl) (λ live is. inl refl)
+      (λ at. inr (inr (record { stamp = t; block = block; request_is = inl refl; above = at; next_is = refl }))))
 
--- the part after a request
-pub handle_after : (full : Option ℕ) (seat : ℕ) (replica : Replica) (request : Request)
-    → IsAfter replica request (handle full seat replica request).replica
-unfolding handle
-handle_after full seat replica (Read want) = inl refl
-handle_after full seat replica (Order t) = ordered_after full replica t
-handle_after full seat replica (Write t block) = written_after full replica t block
-handle_after full seat replica (OrderRead t look want) = order_read_after full replica t look want (is_wanted want seat)
-handle_after full seat replica (Modify t base j delta) = inl refl
-handle_after full seat replica (Collect t) = inl refl
-handle_after full seat replica (OldRead bound) = inl refl
-handle_after full seat replica (Prepare ballot) = inl refl
-handle_after full seat replica (Accept ballot members) = inl refl
+  -- what a modification comes to, by the newest version
+  pub modified_each : (P : Reaction → Type 0) (full : Option ℕ) (replica : Replica) (t base : Stamp) (j : ℕ) (delta : List ℕ)
+      → P (stays replica Stored) → (stamp_below t (top_of replica) ≡ true → P (stays replica (Later (top_of replica))))
+      → ((newest : Option Stamp) → P (stays replica (Behind newest))) → ((live : ℕ) → full ≡ Some live → P (stays replica (Full live)))
+      → (stamp_below t (top_of replica) ≡ false → (old : Version) → newest_of replica.log ≡ Some old → old.stamp ≡ base
+      → P (stored replica t (modified_block code m j seat delta old.block)))
+      → P (modified code m full seat replica t base j delta)
+  modified_each P full replica t base j delta held later behind refused made =
+      cond_both (is_held t replica.log) (stays replica Stored) _ P (λ is. held)
+      (λ isnt. cond_both (stamp_below t (top_of replica)) (stays replica (Later (top_of replica)))
+      (modified_on code m full seat replica t base j delta (newest_of replica.log)) P later
+      (λ at. on (newest_of replica.log) refl at))
+    where
+      with_room : (f : Option ℕ) → full ≡ f → (reaction : Reaction) → P reaction → P (unless_full f replica reaction)
+      with_room None is reaction goes = goes
+      with_room (Some live) is reaction goes =
+          cond_both (nat_lt reaction.drops reaction.adds) (stays replica (Full live)) reaction P (λ more. refused live is) (λ same. goes)
 
--- a stamp is asked for
-abbrev pub IsAsked : Request → Stamp → Type 0
-IsAsked request t = IsOrder request t ⊎ ((block : List ℕ) × (request ≡ Write t block))
+      on : (z : Option Version) → newest_of replica.log ≡ z → stamp_below t (top_of replica) ≡ false
+          → P (modified_on code m full seat replica t base j delta z)
+      on None is at = behind None
+      on (Some old) is at =
+          cond_both (stamp_same old.stamp base) (unless_full full replica (stored replica t (modified_block code m j seat delta old.block)))
+          (stays replica (Behind (Some old.stamp))) P
+          (λ same. with_room full refl (stored replica t (modified_block code m j seat delta old.block)) (made at old is (stamp_same_true old.stamp base same)))
+          (λ other. behind (Some old.stamp))
 
--- A member that promised t found this version. Where it was asked for all blocks below a bound, it is the last one there.
+  modified_after : (full : Option ℕ) (replica : Replica) (t base : Stamp) (j : ℕ) (delta : List ℕ)
+      → IsAfter code m seat replica (Modify t base j delta) (modified code m full seat replica t base j delta).replica
+  modified_after full replica t base j delta =
+      modified_each (λ (z : Reaction). IsAfter code m seat replica (Modify t base j delta) z.replica) full replica t base j delta
+      (inl refl) (λ below. inl refl) (λ newest. inl refl) (λ live is. inl refl)
+      (λ at old is same.
+      let request : Modify t base j delta ≡ Modify t old.stamp j delta = ap (λ (u : Stamp). Modify t u j delta) (sym same) in
+      inr (inr (record {
+        stamp = t;
+        block = modified_block code m j seat delta old.block;
+        request_is = inr (old, j, delta, request, is, refl);
+        above = at;
+        next_is = refl;
+      })))
+
+  -- the part after a request
+  pub handle_after : (full : Option ℕ) (replica : Replica) (request : Request)
+      → IsAfter code m seat replica request (handle code m full seat replica request).replica
+  unfolding handle
+  handle_after full replica (Read want) = inl refl
+  handle_after full replica (Order t) = ordered_after full replica t
+  handle_after full replica (Write t block) = written_after full replica t block
+  handle_after full replica (OrderRead t look want) = order_read_after full replica t look want (is_wanted want seat)
+  handle_after full replica (Modify t base j delta) = modified_after full replica t base j delta
+  handle_after full replica (Collect t) = inl refl
+  handle_after full replica (OldRead bound) = inl refl
+  handle_after full replica (Prepare ballot) = inl refl
+  handle_after full replica (Accept ballot members) = inl refl
+
+-- a version is told as it is kept, or without its bytes
+abbrev pub IsTold : Option Version → Option Version → Type 0
+IsTold None kept = kept ≡ None
+IsTold (Some version) kept =
+    (old : Version) × (kept ≡ Some old) × (version.stamp ≡ old.stamp) × ((version.block ≡ []) ⊎ (version.block ≡ old.block))
+
+-- A member that promised t told the version that it was to look for.
 abbrev pub FoundBelow : Replica → Request → Replica → Option Version → Stamp → Type 0
 FoundBelow replica request next found t =
     (look : Look) × (want : Want) × (request ≡ OrderRead t look want) × (stamp_below t (top_of replica) ≡ false) × (next ≡ with_order replica t)
-    × ((bound : Stamp) → look ≡ Below bound → want ≡ All → found ≡ newest_of (below bound replica.log))
+    × IsTold found (looked_up look replica.log)
 
 -- What a member's reply tells of its part before and after the request, and of how many live records it keeps, where those are as many as it may.
 abbrev pub ReactionSays : Option ℕ → Replica → Request → Replica → Reply → Type 0
 ReactionSays full replica request next (Found order (Some version)) =
-    (want : Want) × (request ≡ Read want) × (want ≡ All → newest_of replica.log ≡ Some version) × (order ≡ replica.order) × (next ≡ replica)
+    (want : Want) × (request ≡ Read want) × IsTold (Some version) (newest_of replica.log) × (order ≡ replica.order) × (next ≡ replica)
 ReactionSays full replica request next Ordered =
     (t : Stamp) × (request ≡ Order t) × (stamp_below t (top_of replica) ≡ false) × (top_of next ≡ t)
 ReactionSays full replica request next (OrderedRead found) = (t : Stamp) × FoundBelow replica request next found t
-ReactionSays full replica request next Stored = (t : Stamp) × (block : List ℕ) × (request ≡ Write t block) × (is_held t next.log ≡ true)
-ReactionSays full replica request next (Later x) = (t : Stamp) × IsAsked request t × (stamp_below t x ≡ true)
+ReactionSays full replica request next Stored = (t : Stamp) × (stamp_stored request ≡ Some t) × (is_held t next.log ≡ true)
+ReactionSays full replica request next (Later x) = (t : Stamp) × (stamp_asked request ≡ Some t) × (stamp_below t x ≡ true)
 ReactionSays full replica request next (Full live) = full ≡ Some live
 ReactionSays full replica request next reply = Unit {0}
 
@@ -218,13 +270,14 @@ ordered_says : (full : Option ℕ) (replica : Replica) (t : Stamp)
     → SaysIf full replica (Order t) (ordered full replica t).replica (ordered full replica t).reply
 ordered_says full replica t =
     change_cases (λ (z : Reaction). SaysIf full replica (Order t) z.replica z.reply) full replica t (promised replica t Ordered)
-    (λ below. (t, inl (inl refl), below)) (λ live is. is)
+    (λ below. (t, refl, below)) (λ live is. is)
     (λ at. (t, refl, at, top_promised replica t at))
 
--- what is told where all is wanted is all that is there
-told_true : (o : Option Version) → told_version true o ≡ o
-told_true None = refl
-told_true (Some version) = refl
+-- what is told of a version
+told_is : (wanted : Bool) (kept : Option Version) → IsTold (told_version wanted kept) kept
+told_is wanted None = refl
+told_is true (Some version) = (version, refl, refl, inr refl)
+told_is false (Some version) = (version, refl, refl, inl refl)
 
 order_read_says : (full : Option ℕ) (replica : Replica) (t : Stamp) (look : Look) (want : Want) (seat : ℕ)
     → SaysIf full replica (OrderRead t look want) (order_read full replica t look (is_wanted want seat)).replica
@@ -232,74 +285,83 @@ order_read_says : (full : Option ℕ) (replica : Replica) (t : Stamp) (look : Lo
 order_read_says full replica t look want seat =
     change_cases (λ (z : Reaction). SaysIf full replica (OrderRead t look want) z.replica z.reply) full replica t
     (promised replica t (OrderedRead (told_version (is_wanted want seat) (looked_up look replica.log))))
-    (λ under. (t, inl (inr (look, want, refl)), under)) (λ live is. is)
-    (λ at. (
-      t,
-      (
-        look,
-        want,
-        refl,
-        at,
-        refl,
-        (λ bound look_is want_is.
-            ap (λ (x : Want). told_version (is_wanted x seat) (looked_up look replica.log)) want_is ∙ told_true (looked_up look replica.log)
-            ∙ ap (λ (l : Look). looked_up l replica.log) look_is),
-      ),
-    ))
+    (λ under. (t, refl, under)) (λ live is. is)
+    (λ at. (t, (look, want, refl, at, refl, told_is (is_wanted want seat) (looked_up look replica.log))))
 
 written_says : (full : Option ℕ) (replica : Replica) (t : Stamp) (block : List ℕ)
     → SaysIf full replica (Write t block) (written full replica t block).replica (written full replica t block).reply
 written_says full replica t block =
     cond_both (is_held t replica.log) (stays replica Stored) _ (λ (z : Reaction). SaysIf full replica (Write t block) z.replica z.reply)
-    (λ held. (t, block, refl, held))
+    (λ held. (t, refl, held))
     (λ isnt. change_cases (λ (z : Reaction). SaysIf full replica (Write t block) z.replica z.reply) full replica t (stored replica t block)
-    (λ below. (t, inr (block, refl), below)) (λ live is. is)
-    (λ at. (t, block, refl, held_grown replica.log (record { stamp = t; block = block }))))
+    (λ below. (t, refl, below)) (λ live is. is)
+    (λ at. (t, refl, held_grown replica.log (record { stamp = t; block = block }))))
 
--- what is told where all is wanted
-told_all : (full : Option ℕ) (replica : Replica) (want : Want) (seat : ℕ) (newest : Option Version) → newest_of replica.log ≡ newest
-    → SaysIf full replica (Read want) replica (Some (Found replica.order (told_version (is_wanted want seat) newest)))
-told_all full replica want seat None is = tt
-told_all full replica (Seat k) seat (Some version) is =
-    told_some (is_wanted (Seat k) seat)
+modified_says : (code : Code) (m seat : ℕ) (full : Option ℕ) (replica : Replica) (t base : Stamp) (j : ℕ) (delta : List ℕ)
+    → SaysIf full replica (Modify t base j delta) (modified code m full seat replica t base j delta).replica
+    (modified code m full seat replica t base j delta).reply
+modified_says code m seat full replica t base j delta =
+    cond_both (is_held t replica.log) (stays replica Stored) (cond (stamp_below t (top_of replica)) (stays replica (Later (top_of replica)))
+    (modified_on code m full seat replica t base j delta (newest_of replica.log)))
+    (λ (z : Reaction). SaysIf full replica (Modify t base j delta) z.replica z.reply)
+    (λ held. (t, refl, held))
+    (λ isnt. cond_both (stamp_below t (top_of replica)) (stays replica (Later (top_of replica)))
+    (modified_on code m full seat replica t base j delta (newest_of replica.log))
+    (λ (z : Reaction). SaysIf full replica (Modify t base j delta) z.replica z.reply)
+    (λ below. (t, refl, below)) (λ at. on (newest_of replica.log)))
   where
-    told_some : (b : Bool) → SaysIf full replica (Read (Seat k)) replica (Some (Found replica.order (told_version b (Some version))))
-    told_some true = (Seat k, refl, (λ e. cc), refl, refl)
-    told_some false = (Seat k, refl, (λ e. cc), refl, refl)
-told_all full replica All seat (Some version) is = (All, refl, (λ e. is), refl, refl)
+    with_room : (f : Option ℕ) → (block : List ℕ)
+        → SaysIf f replica (Modify t base j delta) (unless_full f replica (stored replica t block)).replica (unless_full f replica (stored replica t block)).reply
+    with_room None block = (t, refl, held_grown replica.log (record { stamp = t; block = block }))
+    with_room (Some live) block = refl
+
+    on : (z : Option Version) → SaysIf full replica (Modify t base j delta) (modified_on code m full seat replica t base j delta z).replica
+        (modified_on code m full seat replica t base j delta z).reply
+    on None = tt
+    on (Some old) =
+        cond_both (stamp_same old.stamp base) (unless_full full replica (stored replica t (modified_block code m j seat delta old.block)))
+        (stays replica (Behind (Some old.stamp))) (λ (z : Reaction). SaysIf full replica (Modify t base j delta) z.replica z.reply)
+        (λ same. with_room full (modified_block code m j seat delta old.block)) (λ other. tt)
+
+-- what is told of the newest version
+told_newest : (full : Option ℕ) (replica : Replica) (want : Want) (wanted : Bool) (newest : Option Version) → newest_of replica.log ≡ newest
+    → SaysIf full replica (Read want) replica (Some (Found replica.order (told_version wanted newest)))
+told_newest full replica want wanted None is = tt
+told_newest full replica want true (Some version) is = (want, refl, (version, is, refl, inr refl), refl, refl)
+told_newest full replica want false (Some version) is = (want, refl, (version, is, refl, inl refl), refl, refl)
 
 -- what the reply to a request tells
-pub handle_says : (full : Option ℕ) (seat : ℕ) (replica : Replica) (request : Request)
-    → SaysIf full replica request (handle full seat replica request).replica (handle full seat replica request).reply
+pub handle_says : (code : Code) (m : ℕ) (full : Option ℕ) (seat : ℕ) (replica : Replica) (request : Request)
+    → SaysIf full replica request (handle code m full seat replica request).replica (handle code m full seat replica request).reply
 unfolding handle
-handle_says full seat replica (Read want) = told_all full replica want seat (newest_of replica.log) refl
-handle_says full seat replica (Order t) = ordered_says full replica t
-handle_says full seat replica (Write t block) = written_says full replica t block
-handle_says full seat replica (OrderRead t look want) = order_read_says full replica t look want seat
-handle_says full seat replica (Modify t base j delta) = tt
-handle_says full seat replica (Collect t) = tt
-handle_says full seat replica (OldRead bound) = tt
-handle_says full seat replica (Prepare ballot) = tt
-handle_says full seat replica (Accept ballot members) = tt
+handle_says code m full seat replica (Read want) = told_newest full replica want (is_wanted want seat) (newest_of replica.log) refl
+handle_says code m full seat replica (Order t) = ordered_says full replica t
+handle_says code m full seat replica (Write t block) = written_says full replica t block
+handle_says code m full seat replica (OrderRead t look want) = order_read_says full replica t look want seat
+handle_says code m full seat replica (Modify t base j delta) = modified_says code m seat full replica t base j delta
+handle_says code m full seat replica (Collect t) = tt
+handle_says code m full seat replica (OldRead bound) = tt
+handle_says code m full seat replica (Prepare ballot) = tt
+handle_says code m full seat replica (Accept ballot members) = tt
 
 -- a request does not lower the top
-pub after_top : (replica : Replica) (request : Request) (next : Replica) → IsAfter replica request next
+pub after_top : (code : Code) (m seat : ℕ) (replica : Replica) (request : Request) (next : Replica) → IsAfter code m seat replica request next
     → stamp_below (top_of next) (top_of replica) ≡ false
-after_top replica request next (inl same) = subst (λ (z : Replica). stamp_below (top_of z) (top_of replica) ≡ false) (sym same)
+after_top code m seat replica request next (inl same) = subst (λ (z : Replica). stamp_below (top_of z) (top_of replica) ≡ false) (sym same)
     (stamp_below_irrefl (top_of replica))
-after_top replica request next (inr (inl p)) =
+after_top code m seat replica request next (inr (inl p)) =
     let top : top_of next ≡ p.stamp = ap (λ z. top_of z) p.next_is ∙ top_promised replica p.stamp p.above in
     subst (λ (z : Stamp). stamp_below z (top_of replica) ≡ false) (sym top) p.above
-after_top replica request next (inr (inr p)) =
+after_top code m seat replica request next (inr (inr p)) =
     let top : top_of next ≡ p.stamp = ap (λ z. top_of z) p.next_is ∙ top_written replica p.stamp p.block p.above in
     subst (λ (z : Stamp). stamp_below z (top_of replica) ≡ false) (sym top) p.above
 
 -- a request leaves what is held
-pub after_held : (replica : Replica) (request : Request) (next : Replica) (t : Stamp) → IsAfter replica request next → is_held t replica.log ≡ true
+pub after_held : (code : Code) (m seat : ℕ) (replica : Replica) (request : Request) (next : Replica) (t : Stamp) → IsAfter code m seat replica request next → is_held t replica.log ≡ true
     → is_held t next.log ≡ true
-after_held replica request next t (inl same) held = subst (λ (z : Replica). is_held t z.log ≡ true) (sym same) held
-after_held replica request next t (inr (inl p)) held = subst (λ (z : Replica). is_held t z.log ≡ true) (sym p.next_is) held
-after_held replica request next t (inr (inr p)) held =
+after_held code m seat replica request next t (inl same) held = subst (λ (z : Replica). is_held t z.log ≡ true) (sym same) held
+after_held code m seat replica request next t (inr (inl p)) held = subst (λ (z : Replica). is_held t z.log ≡ true) (sym p.next_is) held
+after_held code m seat replica request next t (inr (inr p)) held =
     subst (λ (z : Replica). is_held t z.log ≡ true) (sym p.next_is) (held_kept t replica.log (record { stamp = p.stamp; block = p.block } ∷ []) held)
 
 -- what is held is at most the top
@@ -313,47 +375,59 @@ held_top replica d ascends held = within (newest_of replica.log) refl
         (subst (λ (z : Option Version). IsWithin z d) is (newest_greatest d replica.log ascends held)) (top_newest replica version is)
 
 -- after a request a log goes on ascending
-pub after_ascends : (replica : Replica) (request : Request) (next : Replica) → IsAfter replica request next → LogAscends replica.log
+pub after_ascends : (code : Code) (m seat : ℕ) (replica : Replica) (request : Request) (next : Replica) → IsAfter code m seat replica request next → LogAscends replica.log
     → LogAscends next.log
-after_ascends replica request next (inl same) ascends = subst (λ (z : Replica). LogAscends z.log) (sym same) ascends
-after_ascends replica request next (inr (inl p)) ascends = subst (λ (z : Replica). LogAscends z.log) (sym p.next_is) ascends
-after_ascends replica request next (inr (inr p)) ascends =
+after_ascends code m seat replica request next (inl same) ascends = subst (λ (z : Replica). LogAscends z.log) (sym same) ascends
+after_ascends code m seat replica request next (inr (inl p)) ascends = subst (λ (z : Replica). LogAscends z.log) (sym p.next_is) ascends
+after_ascends code m seat replica request next (inr (inr p)) ascends =
     subst (λ (z : Replica). LogAscends z.log) (sym p.next_is)
     (ascends_more replica.log (record { stamp = p.stamp; block = p.block }) ascends
     (λ d held. stamp_not_below_trans d (top_of replica) p.stamp (held_top replica d ascends held) p.above))
 
 -- what is held after a request was held, or is at or above the top
-pub after_newer : (replica : Replica) (request : Request) (next : Replica) (t : Stamp) → IsAfter replica request next → is_held t next.log ≡ true
+pub after_newer : (code : Code) (m seat : ℕ) (replica : Replica) (request : Request) (next : Replica) (t : Stamp) → IsAfter code m seat replica request next → is_held t next.log ≡ true
     → (is_held t replica.log ≡ true) ⊎ (stamp_below t (top_of replica) ≡ false)
-after_newer replica request next t (inl same) held = inl (subst (λ (z : Replica). is_held t z.log ≡ true) same held)
-after_newer replica request next t (inr (inl p)) held = inl (subst (λ (z : Replica). is_held t z.log ≡ true) p.next_is held)
-after_newer replica request next t (inr (inr p)) held = ⊎_elim
+after_newer code m seat replica request next t (inl same) held = inl (subst (λ (z : Replica). is_held t z.log ≡ true) same held)
+after_newer code m seat replica request next t (inr (inl p)) held = inl (subst (λ (z : Replica). is_held t z.log ≡ true) p.next_is held)
+after_newer code m seat replica request next t (inr (inr p)) held = ⊎_elim
     (λ (old : is_held t replica.log ≡ true). inl old)
     (λ (new : p.stamp ≡ t). inr (subst (λ (z : Stamp). stamp_below z (top_of replica) ≡ false) new p.above))
     (held_more t replica.log (record { stamp = p.stamp; block = p.block }) (subst (λ (z : Replica). is_held t z.log ≡ true) p.next_is held))
 
--- the top is as before, or the stamp that was asked for
-pub after_asked : (replica : Replica) (request : Request) (next : Replica) → IsAfter replica request next
-    → (top_of next ≡ top_of replica) ⊎ IsAsked request (top_of next)
-after_asked replica request next (inl same) = inl (ap (λ z. top_of z) same)
-after_asked replica request next (inr (inl p)) =
-    let top : top_of next ≡ p.stamp = ap (λ z. top_of z) p.next_is ∙ top_promised replica p.stamp p.above in
-    inr (subst (λ (z : Stamp). IsAsked request z) (sym top) (inl p.request_is))
-after_asked replica request next (inr (inr p)) =
-    let top : top_of next ≡ p.stamp = ap (λ z. top_of z) p.next_is ∙ top_written replica p.stamp p.block p.above in
-    inr (subst (λ (z : Stamp). IsAsked request z) (sym top) (inr (p.block, p.request_is)))
+-- an order asks for its stamp, and what has a block stored too
+order_asked : (request : Request) (t : Stamp) → IsOrder request t → stamp_asked request ≡ Some t
+order_asked request t (inl is) = ap stamp_asked is
+order_asked request t (inr (look, want, is)) = ap stamp_asked is
 
--- a version in the log was there, or was written
-pub after_log : (replica : Replica) (request : Request) (next : Replica) (k : ℕ) (version : Version) → IsAfter replica request next
-    → slice_get next.log k ≡ Some version → (slice_get replica.log k ≡ Some version) ⊎ (request ≡ Write version.stamp version.block)
-after_log replica request next k version (inl same) is = inl (subst (λ (z : Replica). slice_get z.log k ≡ Some version) same is)
-after_log replica request next k version (inr (inl p)) is = inl (subst (λ (z : Replica). slice_get z.log k ≡ Some version) p.next_is is)
-after_log replica request next k version (inr (inr p)) is =
+store_asked : (code : Code) (m seat : ℕ) (replica : Replica) (request : Request) (t : Stamp) (block : List ℕ)
+    → StoresBlock code m seat replica request t block → stamp_asked request ≡ Some t
+store_asked code m seat replica request t block (inl is) = ap stamp_asked is
+store_asked code m seat replica request t block (inr (old, j, delta, is, newest, block_is)) = ap stamp_asked is
+
+-- the top is as before, or the stamp that was asked for
+pub after_asked : (code : Code) (m seat : ℕ) (replica : Replica) (request : Request) (next : Replica) → IsAfter code m seat replica request next
+    → (top_of next ≡ top_of replica) ⊎ (stamp_asked request ≡ Some (top_of next))
+after_asked code m seat replica request next (inl same) = inl (ap (λ z. top_of z) same)
+after_asked code m seat replica request next (inr (inl p)) =
+    let top : top_of next ≡ p.stamp = ap (λ z. top_of z) p.next_is ∙ top_promised replica p.stamp p.above in
+    inr (order_asked request p.stamp p.request_is ∙ ap (λ (t : Stamp). Some t) (sym top))
+after_asked code m seat replica request next (inr (inr p)) =
+    let top : top_of next ≡ p.stamp = ap (λ z. top_of z) p.next_is ∙ top_written replica p.stamp p.block p.above in
+    inr (store_asked code m seat replica request p.stamp p.block p.request_is ∙ ap (λ (t : Stamp). Some t) (sym top))
+
+-- a version in the log was there, or was stored
+pub after_log : (code : Code) (m seat : ℕ) (replica : Replica) (request : Request) (next : Replica) (k : ℕ) (version : Version)
+    → IsAfter code m seat replica request next
+    → slice_get next.log k ≡ Some version
+    → (slice_get replica.log k ≡ Some version) ⊎ StoresBlock code m seat replica request version.stamp version.block
+after_log code m seat replica request next k version (inl same) is = inl (subst (λ (z : Replica). slice_get z.log k ≡ Some version) same is)
+after_log code m seat replica request next k version (inr (inl p)) is = inl (subst (λ (z : Replica). slice_get z.log k ≡ Some version) p.next_is is)
+after_log code m seat replica request next k version (inr (inr p)) is =
     let grown : slice_get (replica.log ++ (record { stamp = p.stamp; block = p.block } ∷ [])) k ≡ Some version
     = subst (λ (z : Replica). slice_get z.log k ≡ Some version) p.next_is is in
     ⊎_elim
     (λ (old : slice_get replica.log k ≡ Some version). inl old)
     (λ (new : (j : ℕ) × (slice_get (record { stamp = p.stamp; block = p.block } ∷ []) j ≡ Some version)).
     let same : record { stamp = p.stamp; block = p.block } ≡ version = get_one (record { stamp = p.stamp; block = p.block }) version new.0 new.1 in
-    inr (p.request_is ∙ ap (λ (z : Version). Write z.stamp z.block) same))
+    inr (subst (λ (z : Version). StoresBlock code m seat replica request z.stamp z.block) same p.request_is))
     (get_grown replica.log (record { stamp = p.stamp; block = p.block } ∷ []) k version grown)

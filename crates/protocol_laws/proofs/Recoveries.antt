@@ -1,62 +1,42 @@
 -- What a quorum of replies to a recovery decides: nothing that a quorum holds, or ever will, lies between the greatest version found and the
 -- recovery's stamp; nor that version itself, where too few blocks of it were found.
-use Rattle.std.proofs.Common.{◌≡◌, ℕ, ◌+◌, ◌<◌, ◌≤◌, Bool, true, false, not, List, [], ◌∷◌, length, Option, Some, None, refl, sym, ap, ◌∙◌, subst, ⊎_elim, arith}
+use Rattle.std.proofs.Common.{◌≡◌, ℕ, ◌+◌, ◌<◌, ◌≤◌, Bool, true, false, not, List, [], ◌∷◌, length, Option, Some, None, refl, sym, ap, ◌∙◌, subst, ⊎_elim, arith, ◌⊎◌, inl, inr, ◌&&◌}
 use Rattle.std.specs.Prelude.{filter}
 use Rattle.std.specs.Option.{option_map}
-use Rattle.std.proofs.lemmas.Bool.{cond_both, false≢true, cases_Bool, not-true}
-use Rattle.std.proofs.lemmas.Option.{same_Some}
+use Rattle.std.proofs.lemmas.Bool.{cond_both, false≢true, cases_Bool, not-true, not_from_false}
 use Rattle.std.proofs.lemmas.List.Filters.{length-filter_both}
 use Rattle.fab_base.specs.declared.identities.BrickId.{BrickId}
 use Rattle.fab_base.specs.declared.stamps.Stamp.{Stamp}
-use Rattle.fab_base.specs.Stamps.{stamp_below, stamp_same, first_stamp}
-use Rattle.fab_base.proofs.StampOrder.{stamp_not_below_trans, stamp_below_trans, stamp_neither_below, stamp_same_refl, stamp_same_true}
+use Rattle.fab_base.specs.Stamps.{stamp_below, first_stamp}
+use Rattle.fab_base.proofs.StampOrder.{stamp_not_below_trans, stamp_neither_below, stamp_same_refl, stamp_same_true}
 use Rattle.fab_base.specs.declared.asks.Ask.{Ask}
 use Rattle.messages.specs.declared.requests.Version.{Version}
-use Rattle.messages.specs.declared.replies.Reply.{Reply}
-use Rattle.quorum.specs.Quorums.{count, IsWithinLimits}
-use Rattle.quorum.proofs.Counts.{count_full}
+use Rattle.quorum.specs.Quorums.{count, both, IsWithinLimits}
+use Rattle.quorum.proofs.Counts.{count_full, count_both, count_empty}
 use Rattle.fab_base.specs.Layouts.{Group, group_of}
 use Rattle.quorum.specs.Quorums.{quorum_of}
 use Rattle.protocol.specs.Settings.{Setting, IsSound}
-use Rattle.protocol.specs.Replicas.{Replica, top_of}
+use Rattle.protocol.specs.Replicas.{Replica, top_of, is_wanted}
 use Rattle.protocol.specs.declared.phases.Counted.{Counted}
-use Rattle.protocol.specs.declared.phases.Phase.TheVariants.{Recovers, Descends}
-use Rattle.protocol.specs.Coordinators.{Coordinator, told_in, told_stamp, finds, bytes_of, pieces_at, greater_stamp, greatest_found}
+use Rattle.messages.specs.declared.requests.Look.{Look}
+use Rattle.messages.specs.declared.requests.Look.TheVariants.{Below, At}
+use Rattle.messages.specs.declared.requests.Want.{Want}
+use Rattle.messages.specs.declared.requests.Want.TheVariants.{All}
+use Rattle.protocol.specs.declared.phases.Phase.{Phase}
+use Rattle.protocol.specs.declared.phases.Phase.TheVariants.{OrdersAt, Recovers, Descends, Bases}
+use Rattle.protocol.specs.Coordinators.{Coordinator, told_in, told_stamp, finds, bytes_of, pieces_at, greater_stamp, greatest_found, greatest_refuser, lowest_full}
 use Rattle.protocol.specs.Worlds.{World, Operation}
 use Rattle.fab_base.specs.Layouts.{brick_at}
-use Rattle.protocol_laws.specs.Laws.{part_in}
+use Rattle.protocol_laws.specs.Laws.{part_in, AtQuorum}
 use Rattle.protocol_laws.proofs.Parts.{part_of, PartsBlock}
 use Rattle.protocol_laws.proofs.FirstViews.{view_below}
 use Rattle.protocol_laws.proofs.Books.{Books, CallBooks, IsCall}
 use Rattle.protocol_laws.proofs.Logs.{IsWithin, below_above}
-use Rattle.protocol_laws.proofs.Blocking.{passes_by, passes, blocked_by, blocked_never_stands}
-use Rattle.protocol_laws.proofs.Said.{Stamping, Said, IsContent, IsMadeOrFirst, IsStampOf, CallSays, CountedSays, EachCounted, AreOnce}
-use Rattle.protocol_laws.proofs.Counting.{each_then, each_both, each_filter, once_filter, at_seats, TellsAtMost, found_most, found_one, IsPieceOf, are_pieces, pieces_length}
+use Rattle.protocol_laws.proofs.Blocking.{twice_quorum, passes_by, passes, blocked_by, blocked_never_stands}
+use Rattle.protocol_laws.proofs.Said.{Stamping, Said, IsContent, IsMadeOrFirst, IsStampOf, CallSays, CountedSays, EachCounted, AreOnce, look_of, want_of, is_looked, MadeOn, base_in}
+use Rattle.protocol_laws.proofs.Counting.{each_then, each_both, each_filter, once_filter, at_seats, TellsAtMost, found_most, found_one, finds_told, told_finds, IsPieceOf, are_pieces, pieces_length}
 use Rattle.protocol_laws.proofs.Stampings.{not_first, above_first}
-use Rattle.protocol_laws.proofs.Decisions.{quorum_enough, ReadsAt, LooksBelow, content_formed}
-
--- the version that is told
-told_version_is : (x : Counted) (found : Option Version) (v : Stamp) → told_in x.reply ≡ found → told_stamp x.reply ≡ Some v
-    → (version : Version) × (found ≡ Some version) × (version.stamp ≡ v)
-told_version_is x None v is told = let none : None ≡ Some v = sym (ap (option_map (λ (z : Version). z.stamp)) is) ∙ told in cc
-told_version_is x (Some version) v is told =
-    let some : Some version.stamp ≡ Some v = sym (ap (option_map (λ (z : Version). z.stamp)) is) ∙ told in
-    (version, refl, same_Some version.stamp v some)
-
--- a reply finds the version whose stamp it tells
-finds_told : (v : Stamp) (seat : ℕ) (brick : BrickId) (reply : Reply) → finds v (record { seat = seat; brick = brick; reply = reply }) ≡ true
-    → told_stamp reply ≡ Some v
-finds_told v seat brick (Reply.Found order (Some version)) is = ap (λ (t : Stamp). Some t) (stamp_same_true version.stamp v is)
-finds_told v seat brick (Reply.OrderedRead (Some version)) is = ap (λ (t : Stamp). Some t) (stamp_same_true version.stamp v is)
-finds_told v seat brick reply is = absurd (false≢true is)
-
-told_finds : (v : Stamp) (seat : ℕ) (brick : BrickId) (reply : Reply) → told_stamp reply ≡ Some v
-    → finds v (record { seat = seat; brick = brick; reply = reply }) ≡ true
-told_finds v seat brick (Reply.Found order (Some version)) is =
-    subst (λ (t : Stamp). stamp_same t v ≡ true) (sym (same_Some version.stamp v is)) (stamp_same_refl v)
-told_finds v seat brick (Reply.OrderedRead (Some version)) is =
-    subst (λ (t : Stamp). stamp_same t v ≡ true) (sym (same_Some version.stamp v is)) (stamp_same_refl v)
-told_finds v seat brick reply is = cc
+use Rattle.protocol_laws.proofs.Decisions.{quorum_enough, ReadsAt, told_version_is, content_formed, all_read}
 
 -- nothing is told where nothing is found
 none_told : (found : Option Version) → option_map (λ (z : Version). z.stamp) found ≡ None → found ≡ None
@@ -70,25 +50,71 @@ none_greater (Some a) None is = is
 none_greater (Some a) (Some b) is =
     cond_both (stamp_below a b) (Some b) (Some a) (λ (z : Option Stamp). z ≡ None → Some a ≡ None) (λ less e. cc) (λ above e. cc) is
 
+-- a phase that looks below a bound looks below its own stamp, or descends
+bound_cases : (p : Phase) (t bound : Stamp) → look_of p t ≡ Some (Below bound) → (bound ≡ t) ⊎ (p ≡ Descends bound)
+bound_cases (OrdersAt j) t bound looks = let same : bound ≡ t = cc in inl same
+bound_cases Recovers t bound looks = let same : bound ≡ t = cc in inl same
+bound_cases (Descends b) t bound looks = let same : b ≡ bound = cc in inr (ap Descends same)
+bound_cases p t bound looks = cc
+
 module _ (setting : Setting) (sound : IsSound setting) (w : World) (stamps : Stamping) (me : BrickId) (c : Coordinator)
     (books : Books setting w) (said : Said setting w stamps) (is : IsCall w me.0 c.call.seq c)
     (counted : List Counted) (each : EachCounted (CountedSays setting w me.0 c) counted) (once : AreOnce counted)
-    (many : quorum_of c.group ≤ length counted) (bound : Stamp) (looks : LooksBelow c bound)
-    (all : EachCounted (ReadsAt setting sound w stamps me c books said is counted each once many bound) counted) where
+    (many : quorum_of c.group ≤ length counted) (look : Look)
+    (all : EachCounted (ReadsAt setting sound w stamps me c books said is counted each once many look) counted)
+    (v : Stamp) (made : IsMadeOrFirst w (books.calls me.0 c.call.seq c is).operation.ask.group.0
+    (books.calls me.0 c.call.seq c is).operation.ask.stripe.0 v) (all_wanted : want_of c.phase ≡ All) where
+  abbrev its_ask : Ask
+  its_ask = (books.calls me.0 c.call.seq c is).operation.ask
+
+  -- a reply that finds a version tells its seat's block
+  piece_at : (x : Counted) → ReadsAt setting sound w stamps me c books said is counted each once many look x → finds v x ≡ true
+      → IsPieceOf setting.code c.group.m (length c.group.members) (w.contents its_ask.group.0 its_ask.stripe.0 v) x
+  piece_at x reads is_found =
+      let told = told_version_is x reads.found v reads.found_is (finds_told v x.seat x.brick x.reply is_found) in (
+        reads.promises.within,
+        ap bytes_of (reads.found_is ∙ told.1)
+            ∙ reads.block told.0 told.1 (ap (λ (z : Want). is_wanted z x.seat) all_wanted)
+            ∙ ap (λ (t : Stamp). setting.code.encode c.group.m (w.contents its_ask.group.0 its_ask.stripe.0 t) x.seat) told.2,
+      )
+
+  -- enough blocks of a version decode to its content
+  pub pieces_decode : c.group.m ≤ length (pieces_at v counted)
+      → setting.code.decode c.group.m (pieces_at v counted) ≡ w.contents its_ask.group.0 its_ask.stripe.0 v
+  pieces_decode enough =
+      let its : CallBooks setting w me.0 c.call.seq c = books.calls me.0 c.call.seq c is in
+      let limits : IsWithinLimits c.group.m (length c.group.members)
+      = sound.limits its_ask.group.0 c.group (ap (λ a. group_of setting.layout a.group.0) (sym its.ask) ∙ its.group_is) in
+      let formed : IsContent c.group.m setting.layout.block (w.contents its_ask.group.0 its_ask.stripe.0 v)
+      = content_formed setting sound w stamps me c books said is counted each once many v made in
+      sound.decodes c.group.m (length c.group.members) limits (w.contents its_ask.group.0 its_ask.stripe.0 v) (pieces_at v counted) formed.0 formed.1
+      (are_pieces setting.code c.group.m (length c.group.members) (w.contents its_ask.group.0 its_ask.stripe.0 v) (filter (finds v) counted)
+      (each_then (λ x. ReadsAt setting sound w stamps me c books said is counted each once many look x × (finds v x ≡ true))
+      (IsPieceOf setting.code c.group.m (length c.group.members) (w.contents its_ask.group.0 its_ask.stripe.0 v)) (filter (finds v) counted)
+      (λ x h. piece_at x h.0 h.1)
+      (each_filter (ReadsAt setting sound w stamps me c books said is counted each once many look) (finds v) counted all))
+      (once_filter (finds v) counted once))
+      enough
+
+module _ (setting : Setting) (sound : IsSound setting) (w : World) (stamps : Stamping) (me : BrickId) (c : Coordinator)
+    (books : Books setting w) (said : Said setting w stamps) (is : IsCall w me.0 c.call.seq c)
+    (counted : List Counted) (each : EachCounted (CountedSays setting w me.0 c) counted) (once : AreOnce counted)
+    (many : quorum_of c.group ≤ length counted) (bound : Stamp) (looks : look_of c.phase c.stamp ≡ Some (Below bound))
+    (all : EachCounted (ReadsAt setting sound w stamps me c books said is counted each once many (Below bound)) counted) where
   -- what a reply reads
   abbrev Reading : Counted → Type 0
-  Reading x = ReadsAt setting sound w stamps me c books said is counted each once many bound x
+  Reading x = ReadsAt setting sound w stamps me c books said is counted each once many (Below bound) x
 
   -- the bound is above the first stamp
   first_under : stamp_below first_stamp bound ≡ true
   first_under = ⊎_elim
-      (λ (own : (c.phase ≡ Recovers) × (bound ≡ c.stamp)).
+      (λ (own : bound ≡ c.stamp).
       let its_stamp : IsStampOf (w.nodes me.0) me.0 (w.nodes me.0).boot c.stamp
       = said.stamps_say.are me.0 (w.nodes me.0).boot c.call.seq c.call.phase c.stamp (c.phase, (said.calls me.0 c.call.seq c is).begun) in
-      subst (λ (t : Stamp). stamp_below first_stamp t ≡ true) (sym own.1)
+      subst (λ (t : Stamp). stamp_below first_stamp t ≡ true) (sym own)
       (above_first c.stamp (not_first (w.nodes me.0) me.0 (w.nodes me.0).boot c.stamp its_stamp)))
       (λ (lower : c.phase ≡ Descends bound). (said.calls me.0 c.call.seq c is).above bound lower)
-      looks
+      (bound_cases c.phase c.stamp bound looks)
 
   -- a reply tells some version, since each member holds the first
   tells_some : (x : Counted) → Reading x → told_stamp x.reply ≡ None → ⊥
@@ -114,8 +140,8 @@ module _ (setting : Setting) (sound : IsSound setting) (w : World) (stamps : Sta
 module _ (setting : Setting) (sound : IsSound setting) (w : World) (stamps : Stamping) (me : BrickId) (c : Coordinator)
     (books : Books setting w) (said : Said setting w stamps) (is : IsCall w me.0 c.call.seq c)
     (counted : List Counted) (each : EachCounted (CountedSays setting w me.0 c) counted) (once : AreOnce counted)
-    (many : quorum_of c.group ≤ length counted) (bound : Stamp) (looks : LooksBelow c bound)
-    (all : EachCounted (ReadsAt setting sound w stamps me c books said is counted each once many bound) counted)
+    (many : quorum_of c.group ≤ length counted) (bound : Stamp) (looks : look_of c.phase c.stamp ≡ Some (Below bound))
+    (all : EachCounted (ReadsAt setting sound w stamps me c books said is counted each once many (Below bound)) counted)
     (v : Stamp) (greatest : greatest_found counted ≡ Some v) where
   -- its group, and its members
   abbrev group : Group
@@ -141,7 +167,7 @@ module _ (setting : Setting) (sound : IsSound setting) (w : World) (stamps : Sta
 
   -- what a reply reads
   abbrev Reads : Counted → Type 0
-  Reads x = ReadsAt setting sound w stamps me c books said is counted each once many bound x
+  Reads x = ReadsAt setting sound w stamps me c books said is counted each once many (Below bound) x
 
   -- the part of the stripe at a seat
   abbrev part : ℕ → Replica
@@ -154,9 +180,9 @@ module _ (setting : Setting) (sound : IsSound setting) (w : World) (stamps : Sta
   -- what is below the bound is below the recovery's stamp
   bound_most : (d : Stamp) → stamp_below d bound ≡ true → stamp_below d c.stamp ≡ true
   bound_most d less = ⊎_elim
-      (λ (own : (c.phase ≡ Recovers) × (bound ≡ c.stamp)). subst (λ (t : Stamp). stamp_below d t ≡ true) own.1 less)
-      (λ (lower : c.phase ≡ Descends bound). stamp_below_trans d bound c.stamp less (says.below bound lower))
-      looks
+      (λ (own : bound ≡ c.stamp). subst (λ (t : Stamp). stamp_below d t ≡ true) own less)
+      (λ (lower : c.phase ≡ Descends bound). below_above d bound c.stamp less (says.from.most bound lower))
+      (bound_cases c.phase c.stamp bound looks)
 
   each_tells : EachCounted (λ x. Reads x × TellsAtMost v (told_stamp x.reply)) counted
   each_tells = each_both Reads (λ x. TellsAtMost v (told_stamp x.reply)) counted all (found_most counted v greatest)
@@ -169,7 +195,7 @@ module _ (setting : Setting) (sound : IsSound setting) (w : World) (stamps : Sta
   v_told = told_version_is one.0 one.1.found v one.1.found_is one.2
 
   v_below : stamp_below v bound ≡ true
-  v_below = subst (λ (t : Stamp). stamp_below t bound ≡ true) v_told.2 (one.1.below v_told.0 v_told.1)
+  v_below = subst (λ (t : Stamp). stamp_below t bound ≡ true) v_told.2 (one.1.looked v_told.0 v_told.1)
 
   -- the version is below the recovery's stamp, and was made, or is the first
   pub version_lower : stamp_below v c.stamp ≡ true
@@ -220,11 +246,11 @@ module _ (setting : Setting) (sound : IsSound setting) (w : World) (stamps : Sta
   -- nor from the bound up to the recovery's stamp
   from_bound : (d : Stamp) → stamp_below d bound ≡ false → stamp_below d c.stamp ≡ true → PartsBlock w o.ask.group.0 o.ask.stripe.0 group d
   from_bound d not_less less = ⊎_elim
-      (λ (own : (c.phase ≡ Recovers) × (bound ≡ c.stamp)).
-      absurd (false≢true (sym not_less ∙ subst (λ (t : Stamp). stamp_below d t ≡ true) (sym own.1) less)))
+      (λ (own : bound ≡ c.stamp).
+      absurd (false≢true (sym not_less ∙ subst (λ (t : Stamp). stamp_below d t ≡ true) (sym own) less)))
       (λ (lower : c.phase ≡ Descends bound).
       subst (λ (a : Ask). PartsBlock w a.group.0 a.stripe.0 group d) its.ask (says.covered bound lower group group_is d (not_less, less)))
-      looks
+      (bound_cases c.phase c.stamp bound looks)
 
   -- nothing that a quorum holds, or ever will, lies between the version and the recovery's stamp
   pub between_blocked : (d : Stamp) → stamp_below v d ≡ true → stamp_below d c.stamp ≡ true → PartsBlock w o.ask.group.0 o.ask.stripe.0 group d
@@ -275,27 +301,86 @@ module _ (setting : Setting) (sound : IsSound setting) (w : World) (stamps : Sta
       (λ k below. said.first_held o.ask.group.0 o.ask.stripe.0 (brick_at group k)) in
       omega (arith, full)))
 
-  -- a reply that finds v tells its seat's block
-  piece_at : (x : Counted) → Reads x → finds v x ≡ true
-      → IsPieceOf setting.code group.m (length group.members) (w.contents o.ask.group.0 o.ask.stripe.0 v) x
-  piece_at x reads is_found =
-      let told = told_version_is x reads.found v reads.found_is (finds_told v x.seat x.brick x.reply is_found) in (
-        reads.promises.within,
-        ap bytes_of (reads.found_is ∙ told.1)
-            ∙ reads.block told.0 told.1
-            ∙ ap (λ (t : Stamp). setting.code.encode group.m (w.contents o.ask.group.0 o.ask.stripe.0 t) x.seat) told.2,
-      )
+-- A quorum of replies to a phase that looks for a version which stands finds enough blocks of it.
+module _ (setting : Setting) (sound : IsSound setting) (w : World) (stamps : Stamping) (me : BrickId) (c : Coordinator)
+    (books : Books setting w) (said : Said setting w stamps) (is : IsCall w me.0 c.call.seq c)
+    (counted : List Counted) (each : EachCounted (CountedSays setting w me.0 c) counted) (once : AreOnce counted)
+    (many : quorum_of c.group ≤ length counted) (base : Stamp)
+    (all : EachCounted (ReadsAt setting sound w stamps me c books said is counted each once many (At base)) counted)
+    (stands : AtQuorum c.group (λ seat. w.held (brick_at c.group seat) (books.calls me.0 c.call.seq c is).operation.ask.group.0
+    (books.calls me.0 c.call.seq c is).operation.ask.stripe.0 base)) where
+  abbrev asked : Ask
+  asked = (books.calls me.0 c.call.seq c is).operation.ask
 
-  -- enough blocks of the version decode to its content
-  pub read_decodes : group.m ≤ length (pieces_at v counted)
-      → setting.code.decode group.m (pieces_at v counted) ≡ w.contents o.ask.group.0 o.ask.stripe.0 v
-  read_decodes enough =
-      let formed : IsContent group.m setting.layout.block (w.contents o.ask.group.0 o.ask.stripe.0 v)
-      = content_formed setting sound w stamps me c books said is counted each once many v version_made in
-      sound.decodes group.m (length group.members) limits (w.contents o.ask.group.0 o.ask.stripe.0 v) (pieces_at v counted) formed.0 formed.1
-      (are_pieces setting.code group.m (length group.members) (w.contents o.ask.group.0 o.ask.stripe.0 v) (filter (finds v) counted)
-      (each_then (λ x. Reads x × (finds v x ≡ true))
-      (IsPieceOf setting.code group.m (length group.members) (w.contents o.ask.group.0 o.ask.stripe.0 v)) (filter (finds v) counted)
-      (λ x h. piece_at x h.0 h.1) (each_filter Reads (finds v) counted all))
-      (once_filter (finds v) counted once))
-      enough
+  abbrev held_base : ℕ → Bool
+  held_base seat = w.held (brick_at c.group seat) asked.group.0 asked.stripe.0 base
+
+  -- a reply that does not find the base is of a member that has not held it
+  unheld : (x : Counted) → ReadsAt setting sound w stamps me c books said is counted each once many (At base) x → not (finds base x) ≡ true
+      → held_base x.seat ≡ false
+  unheld x reads isnt = ⊎_elim
+      (λ (held : held_base x.seat ≡ true). absurd (by reads.found reads.found_is reads.looked (reads.newest base held (stamp_same_refl base))))
+      (λ (never : held_base x.seat ≡ false). never)
+      (cases_Bool (held_base x.seat))
+    where
+      by : (found : Option Version) → told_in x.reply ≡ found
+          → ((version : Version) → found ≡ Some version → is_looked (At base) version.stamp ≡ true) → IsWithin found base → ⊥
+      by None told looked within = within
+      by (Some version) told looked within =
+          let same : version.stamp ≡ base = stamp_same_true version.stamp base (looked version refl) in
+          let finds_it : finds base x ≡ true
+          = told_finds base x.seat x.brick x.reply (ap (option_map (λ (z : Version). z.stamp)) told ∙ ap (λ (t : Stamp). Some t) same) in
+          false≢true (sym (not-true (finds base x) isnt) ∙ finds_it)
+
+  base_found : c.group.m ≤ length (pieces_at base counted)
+  base_found =
+      let its : CallBooks setting w me.0 c.call.seq c = books.calls me.0 c.call.seq c is in
+      let limits : IsWithinLimits c.group.m (length c.group.members) = sound.limits c.ask.group.0 c.group its.group_is in
+      let test : Counted → Bool = λ x. not (finds base x) in
+      let others : List Counted = filter test counted in
+      let seats : length others ≤ count (length c.group.members) (λ seat. not (held_base seat))
+      = at_seats (length c.group.members) others (λ seat. not (held_base seat))
+      (each_then (λ x. ReadsAt setting sound w stamps me c books said is counted each once many (At base) x × (test x ≡ true))
+      (λ x. (x.seat < length c.group.members) × (not (held_base x.seat) ≡ true)) others
+      (λ x h. (h.0.promises.within, not_from_false (held_base x.seat) (unheld x h.0 h.1)))
+      (each_filter (ReadsAt setting sound w stamps me c books said is counted each once many (At base)) test counted all))
+      (once_filter test counted once) in
+      let sum = count_both (length c.group.members) (λ seat. not (held_base seat)) held_base in
+      let none = count_empty (length c.group.members) (both (λ seat. not (held_base seat)) held_base) (λ k below. never_both (held_base k)) in
+      let split : length (filter (finds base) counted) + length others ≡ length counted = length-filter_both (finds base) test (λ x. refl) counted in
+      let pieces : length (pieces_at base counted) ≡ length (filter (finds base) counted) = pieces_length (filter (finds base) counted) in
+      let twice = twice_quorum c.group.m (length c.group.members) limits.enough_seats in
+      omega (arith, seats, sum, none, split, pieces, twice, stands, many)
+    where
+      never_both : (h : Bool) → (not h && h) ≡ false
+      never_both true = refl
+      never_both false = refl
+
+-- A write of a block that reads its base back: a quorum of its replies that refuse nothing finds enough blocks of it.
+module _ (setting : Setting) (sound : IsSound setting) (w : World) (stamps : Stamping) (me : BrickId) (c : Coordinator)
+    (books : Books setting w) (said : Said setting w stamps) (is : IsCall w me.0 c.call.seq c)
+    (counted : List Counted) (each : EachCounted (CountedSays setting w me.0 c) counted) (once : AreOnce counted)
+    (many : quorum_of c.group ≤ length counted) (base : Stamp) (reads : c.phase ≡ Bases base)
+    (none : greatest_refuser counted ≡ None) (roomy : lowest_full counted ≡ None) where
+  abbrev its_books : CallBooks setting w me.0 c.call.seq c
+  its_books = books.calls me.0 c.call.seq c is
+
+  based : MadeOn setting w c base
+  based = (said.calls me.0 c.call.seq c is).based base (ap base_in reads)
+
+  all_reads : EachCounted (ReadsAt setting sound w stamps me c books said is counted each once many (At base)) counted
+  all_reads =
+      all_read setting sound w stamps me c books said is counted each once many (At base) (ap (λ (p : Phase). look_of p c.stamp) reads) none roomy
+
+  pub base_enough : c.group.m ≤ length (pieces_at base counted)
+  base_enough =
+      base_found setting sound w stamps me c books said is counted each once many base all_reads
+      (subst (λ (a : Ask). AtQuorum c.group (λ seat. w.held (brick_at c.group seat) a.group.0 a.stripe.0 base)) its_books.ask
+      (based.stands c.group its_books.group_is))
+
+  -- and so reads its content back
+  pub base_decodes : setting.code.decode c.group.m (pieces_at base counted)
+      ≡ w.contents its_books.operation.ask.group.0 its_books.operation.ask.stripe.0 base
+  base_decodes =
+      pieces_decode setting sound w stamps me c books said is counted each once many (At base) all_reads base
+      (subst (λ (a : Ask). IsMadeOrFirst w a.group.0 a.stripe.0 base) its_books.ask based.base_made) (ap want_of reads) base_enough

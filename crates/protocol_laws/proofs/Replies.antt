@@ -1,45 +1,51 @@
 -- A coordinator takes a reply: what it then decides keeps the invariant.
-use Rattle.std.proofs.Common.{◌≡◌, ℕ, ◌+◌, ◌<◌, ◌≤◌, max, nat_lt, ◌⊎◌, inl, inr, true, false, List, [], length, Option, Some, None, refl, sym, ap, ◌∙◌, subst, ⊎_elim, arith}
-use Rattle.std.proofs.lemmas.Bool.{cond_both, cases_Bool, false≢true, ltb-true, ltb-false}
+use Rattle.std.proofs.Common.{◌≡◌, ℕ, ◌+◌, ◌*◌, ◌<◌, ◌≤◌, max, nat_lt, ◌⊎◌, inl, inr, true, false, List, [], length, Option, Some, None, refl, sym, ap, ◌∙◌, subst, ⊎_elim, arith}
+use Rattle.std.specs.Prelude.{nat_eq}
+use Rattle.std.proofs.lemmas.Bool.{cond_both, cases_Bool, false≢true, and_parts, eqb-true, ltb-true, ltb-false}
 use Rattle.std.proofs.lemmas.Option.{same_Some}
 use Rattle.fab_base.specs.declared.identities.BrickId.{BrickId}
 use Rattle.fab_base.specs.declared.stamps.Stamp.{Stamp}
 use Rattle.fab_base.specs.declared.asks.Ask.{Ask}
 use Rattle.fab_base.specs.declared.asks.Op.{Op}
 use Rattle.fab_base.specs.declared.asks.Op.TheVariants.{ReadBlock, WriteBlock, ReadStripe, WriteStripe}
-use Rattle.fab_base.specs.Stamps.{stamp_below}
-use Rattle.fab_base.proofs.StampOrder.{stamp_neither_below}
-use Rattle.fab_base.specs.declared.answers.Answer.TheVariants.{Data, Aborted}
+use Rattle.fab_base.specs.Stamps.{stamp_below, first_stamp}
+use Rattle.fab_base.proofs.StampOrder.{stamp_neither_below, stamp_below_irrefl, stamp_below_asym}
+use Rattle.fab_base.specs.declared.answers.Answer.{Answer}
+use Rattle.fab_base.specs.declared.answers.Answer.TheVariants.{Data, Done, Aborted}
 use Rattle.fab_base.specs.declared.answers.Cause.{Cause}
 use Rattle.messages.specs.declared.calls.Call.{Call}
 use Rattle.messages.specs.declared.packets.Message.TheVariants as Message
+use Rattle.messages.specs.declared.requests.Look.TheVariants.{Below}
+use Rattle.messages.specs.declared.requests.Want.TheVariants.{All}
 use Rattle.messages.specs.declared.replies.Reply.{Reply}
 use Rattle.fab_base.specs.Layouts.{Group, group_of, seat_in}
 use Rattle.quorum.specs.Quorums.{quorum_of}
-use Rattle.reg_model.specs.Registers.{read_of}
-use Rattle.protocol.specs.Settings.{Setting, Code, IsSound}
+use Rattle.reg_model.specs.Registers.{block_of, after_op, read_of}
+use Rattle.protocol.specs.Settings.{Setting, Code, IsSound, are_bytes}
 use Rattle.protocol.specs.declared.phases.Refuser.{Refuser}
 use Rattle.protocol.specs.declared.phases.FullMember.{FullMember}
 use Rattle.protocol.specs.declared.phases.Phase.{Phase}
-use Rattle.protocol.specs.declared.phases.Phase.TheVariants.{Looks, Orders, Recovers, Descends, Stores}
-use Rattle.protocol.specs.Coordinators.{Coordinator, Next, Waits, Sends, Makes, Ends, answers_phase, has_seat, counts_at, fast_version, pieces_of, pieces_at, greatest_found, greatest_refuser, lowest_full, in_phase, restoring, reordering, most_rounds, aborted_by, unless_told_full, unless_refused, ordered_again, once_ordered, answered_fast, read_back, answer_with, decided, with_reply, once_full, counted_at, on_reply, request_of}
-use Rattle.protocol.specs.Nodes.{Node, is_stripe_op, with_known, with_call, carried_out}
-use Rattle.protocol.specs.Worlds.{World, Operation, number_of, world_stepped}
+use Rattle.protocol.specs.declared.phases.Phase.TheVariants.{Looks, LooksAt, Orders, OrdersAt, Recovers, Descends, Modifies, Bases, Stores}
+use Rattle.protocol.specs.Coordinators.{Coordinator, Next, Waits, Sends, Makes, Ends, answers_phase, has_seat, counts_at, fast_version, pieces_of, pieces_at, greatest_found, greatest_refuser, lowest_full, in_phase, restoring, reordering, most_rounds, aborted_by, unless_told_full, unless_refused, ordered_again, once_ordered, answered_fast, read_back, answer_with, decided, with_reply, once_full, counted_at, on_reply, request_of, fast_version_at, common_version, common_version_at, bytes_at, block_written, some_behind, answered_fast_at, modifying, modified_if, once_modified, rebuilt, forgetting}
+use Rattle.protocol.specs.Nodes.{Node, has_block, has_length, given_content, with_known, with_call, carried_out}
+use Rattle.protocol.specs.Worlds.{World, Operation, number_of, world_stepped, content_on}
+use Rattle.protocol.specs.Happenings.{writes}
 use Rattle.fab_base.specs.Layouts.{brick_at}
 use Rattle.protocol_laws.specs.Laws.{WasSent, AtQuorum}
 use Rattle.protocol_laws.proofs.Parts.{PartsGuard, PartsBlock}
-use Rattle.protocol_laws.proofs.Books.{Books, CallBooks, IsUnmade, MadeInPhase, IsCall}
-use Rattle.protocol_laws.proofs.Said.{Stamping, Said, IsSaid, AreBlocked, IsContent, IsMadeOrFirst, IsStampOf, EachCounted, AreOnce, FitsPhase, FloorsAtMost, HasVersion, CountedSays, CallSays}
+use Rattle.protocol_laws.proofs.Books.{Books, OperationBooks, CallBooks, IsUnmade, IsMade, MadeInPhase, IsCall}
+use Rattle.protocol_laws.proofs.Said.{Stamping, Said, IsSaid, AreBlocked, IsContent, IsMadeOrFirst, IsStampOf, EachCounted, AreOnce, FitsPhase, FloorsAtMost, HasVersion, CountedSays, CallSays, DescendsFrom, MadeOn, look_of, want_of, base_in}
 use Rattle.protocol_laws.proofs.Tables.{put_each, put_same}
 use Rattle.protocol.proofs.CountsAt.{CountsAt, counts_facts}
-use Rattle.protocol_laws.proofs.Counting.{each_then, each_more, once_more}
-use Rattle.protocol_laws.proofs.Stampings.{ComesFrom, ages_within, stamp_stays, stamps_same, later_unknown}
+use Rattle.protocol_laws.proofs.Counting.{each_then, each_more, once_more, fast_at, common_at, common_each, common_greatest}
+use Rattle.protocol_laws.proofs.Blocks.{formed_after}
+use Rattle.protocol_laws.proofs.Stampings.{ComesFrom, ages_within, stamp_stays, stamps_same, later_unknown, not_first, above_first}
 use Rattle.protocol_laws.proofs.Growth.{Grows, stays_call}
 use Rattle.protocol_laws.proofs.Steps.{KeepsStamps, keeps_same, quiet, quiet_grows, said_quiet, stamps_stay_by}
-use Rattle.protocol_laws.proofs.Decisions.{PromisesAt, ReadsAt, LooksBelow, all_ordered, all_read, promises_guard, promises_floors, stored_stands, fast_guards, fast_floors, fast_stands, fast_made, fast_decodes, content_formed}
-use Rattle.protocol_laws.proofs.Recoveries.{something_found, version_lower, version_above, version_made, between_blocked, too_few_blocked, read_decodes}
-use Rattle.protocol_laws.proofs.Stores.{said_made}
-use Rattle.protocol_laws.proofs.Sends.{IsCovered, AsksPromises, said_sent}
+use Rattle.protocol_laws.proofs.Decisions.{PromisesAt, ReadsAt, all_ordered, all_read, promises_guard, promises_floors, stored_stands, fast_guards, fast_floors, fast_stands, fast_made, fast_decodes, content_formed, modified_stands, fast_block, common_block, common_stands}
+use Rattle.protocol_laws.proofs.Recoveries.{something_found, version_lower, version_above, version_made, between_blocked, too_few_blocked, pieces_decode, base_enough, base_decodes}
+use Rattle.protocol_laws.proofs.Stores.{MakesOn, SendsVersion, made_content, said_made}
+use Rattle.protocol_laws.proofs.Sends.{IsCovered, MayBegin, said_sent}
 use Rattle.protocol_laws.proofs.Ends.{WillShow, said_ended}
 
 -- a brick that only learns a time keeps the invariant
@@ -70,17 +76,38 @@ decided_orders : (block : ℕ) (code : Code) (fresh : Option Stamp) (c : Coordin
 unfolding decided
 decided_orders block code fresh c is = rw is
 
+decided_looks_at : (block : ℕ) (code : Code) (fresh : Option Stamp) (j : ℕ) (c : Coordinator) → c.phase ≡ LooksAt j
+    → decided block code fresh c ≡ unless_told_full (lowest_full c.counted) (answered_fast_at c j (fast_version_at j c.counted))
+unfolding decided
+decided_looks_at block code fresh j c is = rw is
+
+decided_orders_at : (block : ℕ) (code : Code) (fresh : Option Stamp) (j : ℕ) (c : Coordinator) → c.phase ≡ OrdersAt j
+    → decided block code fresh c ≡ unless_told_full (lowest_full c.counted)
+    (once_ordered fresh c (greatest_refuser c.counted) (modified_if code c j (common_version_at j c.counted)))
+unfolding decided
+decided_orders_at block code fresh j c is = rw is
+
 decided_recovers : (block : ℕ) (code : Code) (fresh : Option Stamp) (c : Coordinator) → c.phase ≡ Recovers
     → decided block code fresh c ≡ unless_told_full (lowest_full c.counted)
-    (once_ordered fresh c (greatest_refuser c.counted) (read_back code c (greatest_found c.counted)))
+    (once_ordered fresh c (greatest_refuser c.counted) (read_back block code c (greatest_found c.counted)))
 unfolding decided
 decided_recovers block code fresh c is = rw is
 
 decided_descends : (block : ℕ) (code : Code) (fresh : Option Stamp) (bound : Stamp) (c : Coordinator) → c.phase ≡ Descends bound
     → decided block code fresh c ≡ unless_told_full (lowest_full c.counted)
-    (unless_refused (greatest_refuser c.counted) (read_back code c (greatest_found c.counted)))
+    (unless_refused (greatest_refuser c.counted) (read_back block code c (greatest_found c.counted)))
 unfolding decided
 decided_descends block code fresh bound c is = rw is
+
+decided_modifies : (block : ℕ) (code : Code) (fresh : Option Stamp) (base : Stamp) (j : ℕ) (c : Coordinator) → c.phase ≡ Modifies base j
+    → decided block code fresh c ≡ unless_told_full (lowest_full c.counted) (unless_refused (greatest_refuser c.counted) (once_modified c base))
+unfolding decided
+decided_modifies block code fresh base j c is = rw is
+
+decided_bases : (block : ℕ) (code : Code) (fresh : Option Stamp) (base : Stamp) (c : Coordinator) → c.phase ≡ Bases base
+    → decided block code fresh c ≡ unless_told_full (lowest_full c.counted) (unless_refused (greatest_refuser c.counted) (rebuilt block code c base))
+unfolding decided
+decided_bases block code fresh base c is = rw is
 
 decided_stores : (block : ℕ) (code : Code) (fresh : Option Stamp) (c : Coordinator) → c.phase ≡ Stores
     → decided block code fresh c ≡ unless_told_full (lowest_full c.counted)
@@ -153,7 +180,7 @@ module _ (setting : Setting) (sound : IsSound setting) (w : World) (stamps : Sta
         (λ (unmade : o.made ≡ false). inl unmade)
         (λ (bad : false ≡ true). absurd (false≢true bad))
         how))
-        (λ bad bytes op. absurd (false≢true bad))
+        (λ bad writing. absurd (false≢true bad))
         tt,
   )
 
@@ -162,7 +189,7 @@ module _ (setting : Setting) (sound : IsSound setting) (w : World) (stamps : Sta
   its_group = ap (λ a. group_of setting.layout a.group.0) (sym its.ask) ∙ group_is
 
   module _ (from : BrickId) (reply : Reply) (seat : ℕ) (sent : WasSent w (record { from = from; to = me; message = Message.Reply c.call reply }))
-      (answers : answers_phase setting.layout.block c.stamp c.phase reply ≡ true) (seat_is : seat_in group.members from.0 ≡ Some seat)
+      (answers : answers_phase setting.layout.block c.stamp seat c.phase reply ≡ true) (seat_is : seat_in group.members from.0 ≡ Some seat)
       (first : has_seat seat c.counted ≡ false) where
     -- the coordinator with the reply
     abbrev d : Coordinator
@@ -194,9 +221,12 @@ module _ (setting : Setting) (sound : IsSound setting) (w : World) (stamps : Sta
       unbased = says.unbased;
       given = says.given;
       above = says.above;
-      below = says.below;
+      from = says.from;
       covered = says.covered;
       stores = says.stores;
+      based = λ base has.
+          let on : MadeOn setting w c base = says.based base has in
+          record { base_is = on.base_is; below = on.below; base_made = on.base_made; stands = on.stands; made = on.made; content = on.content };
       counted = each_then (CountedSays setting w me.0 c) (CountedSays setting w me.0 d) d.counted
           (λ x h. record { sent = h.sent; answers = h.answers; seat = h.seat }) each;
       once = once;
@@ -207,13 +237,15 @@ module _ (setting : Setting) (sound : IsSound setting) (w : World) (stamps : Sta
     of_ask P h = subst P (sym its.ask) h
 
     module _ (many : quorum_of group ≤ length d.counted) where
-      -- a read that sees one version is answered it
-      said_answers : c.phase ≡ Looks → (v : Stamp) → fast_version d.counted ≡ Some v
-          → IsSaid setting (after (Ends (Data (setting.code.decode group.m (pieces_of d.counted))) (Some v) None))
-      said_answers looks v fast =
-          let unmade : IsUnmade o = subst (λ (p : Phase). MadeInPhase c o p) looks its.made in
-          let reads : o.ask.op ≡ ReadStripe
-          = ap (λ a. a.op) (sym its.ask) ∙ subst (λ (p : Phase). FitsPhase p c.ask.op) looks says.fits in
+      -- what is asked is the operation's
+      its_op : o.ask.op ≡ c.ask.op
+      its_op = ap (λ a. a.op) (sym its.ask)
+
+      -- a read that sees one version is answered what it reads of that
+      said_answers : (v : Stamp) (bytes : List ℕ) → fast_version d.counted ≡ Some v → IsUnmade o → writes o.ask.op ≡ false
+          → read_of setting.layout.block o.ask.op (w.contents o.ask.group.0 o.ask.stripe.0 v) ≡ Some bytes
+          → IsSaid setting (after (Ends (Data bytes) (Some v) None))
+      said_answers v bytes fast unmade reads gives =
           let has : HasVersion setting w o v = record {
             made = fast_made setting sound w stamps me c books said is d.counted each once many v fast;
             reader = λ isnt. reads;
@@ -227,7 +259,7 @@ module _ (setting : Setting) (sound : IsSound setting) (w : World) (stamps : Sta
                 (fast_floors setting sound w stamps me c books said is d.counted each once many v fast);
           } in (
             stamps,
-            said_ended setting w stamps me c known books said is more_known (Data (setting.code.decode group.m (pieces_of d.counted)))
+            said_ended setting w stamps me c known books said is more_known (Data bytes)
                 (Some v) None
                 (λ u old. let e : Some u ≡ None = sym old ∙ unmade.0 in cc)
                 (λ u now. let same : v ≡ u = cc in subst (λ (t : Stamp). HasVersion setting w o t) same has)
@@ -237,8 +269,8 @@ module _ (setting : Setting) (sound : IsSound setting) (w : World) (stamps : Sta
                 subst (λ (z : Group). AtQuorum z (λ seat. w.held (brick_at z seat) o.ask.group.0 o.ask.stripe.0 u)) group_same
                 (subst (λ (t : Stamp). AtQuorum group (λ seat. w.held (brick_at group seat) o.ask.group.0 o.ask.stripe.0 t)) same
                 (fast_stands setting sound w stamps me c books said is d.counted each once many v fast)))
-                (λ answered bytes op. let e : ReadStripe ≡ WriteStripe bytes = sym reads ∙ op in cc)
-                (reads, (v, refl, fast_decodes setting sound w stamps me c books said is d.counted each once many v fast)),
+                (λ answered writing. absurd (false≢true (sym reads ∙ writing)))
+                (v, refl, gives),
           )
 
       -- the coordinator begins its next phase with its own stamp
@@ -251,23 +283,75 @@ module _ (setting : Setting) (sound : IsSound setting) (w : World) (stamps : Sta
       own_from : ComesFrom stamps me.0 (w.nodes me.0).boot c.call.seq c.stamp
       own_from = inl (c.call.phase, (c.phase, says.begun))
 
+      -- a phase of its own stamp begins
+      begins : (base : Option Stamp) (content : List ℕ) (phase : Phase) → FitsPhase phase c.ask.op
+          → MayBegin setting w c o c.stamp base content phase → DescendsFrom phase c.ask.op c.stamp
+          → IsSaid setting (after (Sends (record (in_phase d phase) { base = base; content = content })))
+      begins base content phase fits asks down =
+          said_sent setting sound w stamps me c known books said is more_known c.stamp c.round base content phase own_of own_from fits asks down
+
+      -- a phase that does not look below a bound
+      level : (phase : Phase) (op : Op) (t : Stamp) → ((bound : Stamp) → phase ≡ Descends bound → ⊥) → DescendsFrom phase op t
+      level phase op t never = record {
+        most = λ bound is. absurd (never bound is);
+        lower = λ bound is reads. absurd (never bound is);
+      }
+
       -- a read that saw no version told by all recovers
+      recovers_next : writes c.ask.op ≡ false → IsSaid setting (after (Sends (in_phase d Recovers)))
+      recovers_next reads = begins c.base c.content Recovers reads tt (level Recovers c.ask.op c.stamp (λ bound bad. cc))
+
       looks_on : c.phase ≡ Looks → (z : Option Stamp) → fast_version d.counted ≡ z → IsSaid setting (after (answered_fast setting.code d z))
       looks_on looks None fast =
-          said_sent setting w stamps me c known books said is more_known c.stamp c.round Recovers own_of own_from
-          (subst (λ (p : Phase). FitsPhase p c.ask.op) looks says.fits) (λ bad. cc) tt
-      looks_on looks (Some v) fast = said_answers looks v fast
+          recovers_next (ap writes (subst (λ (p : Phase). FitsPhase p c.ask.op) looks says.fits))
+      looks_on looks (Some v) fast =
+          let reads : o.ask.op ≡ ReadStripe = its_op ∙ subst (λ (p : Phase). FitsPhase p c.ask.op) looks says.fits in
+          said_answers v (setting.code.decode group.m (pieces_of d.counted)) fast (subst (λ (p : Phase). MadeInPhase c o p) looks its.made) (ap writes reads)
+          (ap (λ (op : Op). read_of setting.layout.block op (w.contents o.ask.group.0 o.ask.stripe.0 v)) reads
+          ∙ ap (λ (l : List ℕ). Some l)
+          (sym (fast_decodes setting sound w stamps me c books said is d.counted each once many v fast (ap want_of looks))))
+
+      -- the data block of an operation is one of m
+      block_below : (j : ℕ) → has_block group.m o.ask.op ≡ true → (o.ask.op ≡ ReadBlock j) ⊎ ((bytes : List ℕ) × (o.ask.op ≡ WriteBlock j bytes)) → j < group.m
+      block_below j has (inl reads) = ltb-true j group.m (ap (has_block group.m) (sym reads) ∙ has)
+      block_below j has (inr writing) = ltb-true j group.m (ap (has_block group.m) (sym writing.1) ∙ has)
+
+      -- what is asked fits the group
+      o_books : OperationBooks setting w (number_of w me.0 c.call.seq) o
+      o_books = books.operations (number_of w me.0 c.call.seq) o its.operation_is
+
+      o_group : o_books.group ≡ group
+      o_group = same_Some o_books.group group (sym o_books.group_is ∙ its_group)
+
+      has_its_block : has_block group.m o.ask.op ≡ true
+      has_its_block = subst (λ (z : Group). has_block z.m o.ask.op ≡ true) o_group o_books.block_fits
+
+      has_its_length : has_length group.m setting.layout.block o.ask.op ≡ true
+      has_its_length = subst (λ (z : Group). has_length z.m setting.layout.block o.ask.op ≡ true) o_group o_books.length_fits
+
+      looks_at_on : (j : ℕ) → c.phase ≡ LooksAt j → (z : Option Stamp) → fast_version_at j d.counted ≡ z
+          → IsSaid setting (after (answered_fast_at d j z))
+      looks_at_on j looks None fast =
+          recovers_next (ap writes (subst (λ (p : Phase). FitsPhase p c.ask.op) looks says.fits))
+      looks_at_on j looks (Some v) fast_at_j =
+          let reads : o.ask.op ≡ ReadBlock j = its_op ∙ subst (λ (p : Phase). FitsPhase p c.ask.op) looks says.fits in
+          let fast = fast_at j d.counted v fast_at_j in
+          said_answers v (bytes_at j d.counted) fast.1 (subst (λ (p : Phase). MadeInPhase c o p) looks its.made) (ap writes reads)
+          (ap (λ (op : Op). read_of setting.layout.block op (w.contents o.ask.group.0 o.ask.stripe.0 v)) reads
+          ∙ ap (λ (l : List ℕ). Some l)
+          (sym (fast_block setting sound w stamps me c books said is d.counted each once many v j (block_below j has_its_block (inl reads)) fast.1 fast.0
+          (ap want_of looks))))
 
       -- an order that was refused is tried again, or aborts
-      again : (phase : Phase) → c.phase ≡ phase → FitsPhase phase c.ask.op → AsksPromises setting w c.ask.group.0 c.ask.stripe.0 c.stamp phase
-          → ((t : Stamp) → AsksPromises setting w c.ask.group.0 c.ask.stripe.0 t phase) → (r : Refuser) (z : Option Stamp) → fresh ≡ z
+      again : (phase : Phase) → c.phase ≡ phase → ((t : Stamp) → MayBegin setting w c o t c.base c.content phase)
+          → ((bound : Stamp) → phase ≡ Descends bound → ⊥) → (r : Refuser) (z : Option Stamp) → fresh ≡ z
           → IsSaid setting (after (ordered_again z d r))
-      again phase same fits here asks r None none = said_aborts (Cause.Later r.brick r.stamp)
-      again phase same fits here asks r (Some t) new =
+      again phase same asks never r None none = said_aborts (Cause.Later r.brick r.stamp)
+      again phase same asks never r (Some t) new =
           let own = fresh_is t new in
           cond_both (nat_lt c.round most_rounds) (Sends (reordering d t)) (aborted_by r) (λ (z : Next). IsSaid setting (after z))
           (λ few.
-          said_sent setting w stamps me c known books said is more_known t (c.round + 1) c.phase
+          said_sent setting sound w stamps me c known books said is more_known t (c.round + 1) c.base c.content c.phase
           (record {
             view = own.0.view;
             boot = own.0.boot;
@@ -277,7 +361,8 @@ module _ (setting : Setting) (sound : IsSound setting) (w : World) (stamps : Sta
             bounded = λ now. omega arith;
           })
           (inr (later_unknown w stamps said.stamps_say (with_known (w.nodes me.0) t.time) me.0 t own.0 own.1))
-          says.fits (λ orders. (says.unbased orders, says.given orders)) (subst (λ (p : Phase). AsksPromises setting w c.ask.group.0 c.ask.stripe.0 t p) (sym same) (asks t)))
+          says.fits (subst (λ (p : Phase). MayBegin setting w c o t c.base c.content p) (sym same) (asks t))
+          (level c.phase c.ask.op t (λ bound is. never bound (sym same ∙ is))))
           (λ all. said_aborts (Cause.Later r.brick r.stamp))
 
       orders_on : c.phase ≡ Orders → lowest_full d.counted ≡ None → (z : Option Refuser) → greatest_refuser d.counted ≡ z
@@ -285,29 +370,46 @@ module _ (setting : Setting) (sound : IsSound setting) (w : World) (stamps : Sta
       orders_on orders roomy None none =
           let all = all_ordered setting sound w stamps me c books said is d.counted each once many orders none roomy in
           let unmade : IsUnmade o = subst (λ (p : Phase). MadeInPhase c o p) orders its.made in
-          let writes : (bytes : List ℕ) × (c.ask.op ≡ WriteStripe bytes) = subst (λ (p : Phase). FitsPhase p c.ask.op) orders says.fits in
-          said_made setting sound w stamps me c known books said is more_known c.base c.content (unmade.0, unmade.1)
+          let writing : (bytes : List ℕ) × (c.ask.op ≡ WriteStripe bytes) = subst (λ (p : Phase). FitsPhase p c.ask.op) orders says.fits in
+          let content : List ℕ = made_content setting w c c.base in
+          let given : made_content setting w c c.base ≡ writing.0
+          = ap (λ (z : Option Stamp). content_on setting.layout.block (w.contents c.ask.group.0 c.ask.stripe.0) c.ask.op z) (says.unbased orders)
+          ∙ ap (λ (op : Op). content_on setting.layout.block (w.contents c.ask.group.0 c.ask.stripe.0) op None) writing.1 in
+          let formed : IsContent group.m setting.layout.block writing.0
+          = whole_formed writing.0
+          (ap (λ (op : Op). has_length group.m setting.layout.block op) (sym (its_op ∙ writing.1)) ∙ has_its_length) in
+          said_made setting sound w stamps me c known books said is more_known c.base Stores c.content (unmade.0, unmade.1)
           (of_ask (λ a. PartsGuard w a.group.0 a.stripe.0 group c.stamp)
           (promises_guard setting sound w stamps me c books said is d.counted each once many all))
           (promises_floors setting sound w stamps me c books said is d.counted each once many all)
-          (inl (says.unbased orders, writes, says.given orders))
+          (inl (says.unbased orders, writing))
+          (subst (λ (l : List ℕ). IsContent group.m setting.layout.block l) (sym given) formed)
+          (inl (refl, says.given orders ∙ ap given_content writing.1 ∙ sym given))
+        where
+          whole_formed : (bytes : List ℕ) → has_length group.m setting.layout.block (WriteStripe bytes) ≡ true → IsContent group.m setting.layout.block bytes
+          whole_formed bytes long =
+              let parts = and_parts (are_bytes bytes) (nat_eq (length bytes) (group.m * setting.layout.block)) long in
+              (eqb-true (length bytes) (group.m * setting.layout.block) parts.1, parts.0)
       orders_on orders roomy (Some r) refused =
-          again Orders orders (subst (λ (p : Phase). FitsPhase p c.ask.op) orders says.fits) tt (λ t. tt) r fresh refl
+          again Orders orders (λ t. (says.unbased orders, says.given orders)) (λ bound bad. cc) r fresh refl
 
-      -- a recovery that no reply refused reads back what it found
-      module _ (bound : Stamp) (looks : LooksBelow c bound) (none : greatest_refuser d.counted ≡ None) (roomy : lowest_full d.counted ≡ None)
-          (reads : c.ask.op ≡ ReadStripe) (unmade : IsUnmade o) where
-        all : EachCounted (ReadsAt setting sound w stamps me c books said is d.counted each once many bound) d.counted
-        all = all_read setting sound w stamps me c books said is d.counted each once many bound looks none roomy
+      -- a phase that looks below a bound, which no reply refused
+      module _ (bound : Stamp) (looks : look_of c.phase c.stamp ≡ Some (Below bound)) (none : greatest_refuser d.counted ≡ None)
+          (roomy : lowest_full d.counted ≡ None) (not_whole : (bytes : List ℕ) → c.ask.op ≡ WriteStripe bytes → ⊥) (unmade : IsUnmade o) where
+        all : EachCounted (ReadsAt setting sound w stamps me c books said is d.counted each once many (Below bound)) d.counted
+        all = all_read setting sound w stamps me c books said is d.counted each once many (Below bound) looks none roomy
 
         promised : EachCounted (PromisesAt setting sound w stamps me c books said is d.counted each once many) d.counted
         promised =
-            each_then (ReadsAt setting sound w stamps me c books said is d.counted each once many bound)
+            each_then (ReadsAt setting sound w stamps me c books said is d.counted each once many (Below bound))
             (PromisesAt setting sound w stamps me c books said is d.counted each once many) d.counted (λ x h. h.promises) all
 
         module _ (v : Stamp) (greatest : greatest_found d.counted ≡ Some v) where
           lower : stamp_below v c.stamp ≡ true
           lower = version_lower setting sound w stamps me c books said is d.counted each once many bound looks all v greatest
+
+          made_version : IsMadeOrFirst w o.ask.group.0 o.ask.stripe.0 v
+          made_version = version_made setting sound w stamps me c books said is d.counted each once many bound looks all v greatest
 
           blocked : AreBlocked setting w o.ask.group.0 o.ask.stripe.0 (λ e. (stamp_below v e ≡ true) × (stamp_below e c.stamp ≡ true))
           blocked other other_is e h =
@@ -329,92 +431,249 @@ module _ (setting : Setting) (sound : IsSound setting) (w : World) (stamps : Sta
 
           descends_on : length (pieces_at v d.counted) < group.m → IsSaid setting (after (Sends (in_phase d (Descends v))))
           descends_on few =
-              said_sent setting w stamps me c known books said is more_known c.stamp c.round (Descends v) own_of own_from
-              reads (λ bad. absurd (let never : ⊥ = cc in never)) (
+              begins c.base c.content (Descends v) not_whole (
                 version_above setting sound w stamps me c books said is d.counted each once many bound looks all v greatest few,
-                lower,
                 of_ask (λ a. AreBlocked setting w a.group.0 a.stripe.0 (IsCovered v c.stamp)) (covered few),
               )
+              (record {
+                most = λ b same. subst (λ (t : Stamp). stamp_below c.stamp t ≡ false) (let e : v ≡ b = cc in e) (stamp_below_asym v c.stamp lower);
+                lower = λ b same reads. subst (λ (t : Stamp). stamp_below t c.stamp ≡ true) (let e : v ≡ b = cc in e) lower;
+              })
 
-          restores_on : group.m ≤ length (pieces_at v d.counted)
-              → IsSaid setting (after (Makes (restoring d v (setting.code.decode group.m (pieces_at v d.counted)))))
-          restores_on enough =
-              let content : setting.code.decode group.m (pieces_at v d.counted) ≡ w.contents o.ask.group.0 o.ask.stripe.0 v
-              = read_decodes setting sound w stamps me c books said is d.counted each once many bound looks all v greatest enough in
-              let made : IsMadeOrFirst w o.ask.group.0 o.ask.stripe.0 v
-              = version_made setting sound w stamps me c books said is d.counted each once many bound looks all v greatest in
-              said_made setting sound w stamps me c known books said is more_known (Some v)
-              (setting.code.decode group.m (pieces_at v d.counted)) (unmade.0, unmade.1)
+          -- the content of the version, and what the operation makes of it
+          abbrev found : List ℕ
+          found = w.contents c.ask.group.0 c.ask.stripe.0 v
+
+          found_formed : IsContent group.m setting.layout.block (w.contents o.ask.group.0 o.ask.stripe.0 v)
+          found_formed = content_formed setting sound w stamps me c books said is d.counted each once many v made_version
+
+          made_formed : IsContent group.m setting.layout.block (made_content setting w c (Some v))
+          made_formed =
+              of_ask (λ a. IsContent group.m setting.layout.block (after_op setting.layout.block a.op (w.contents a.group.0 a.stripe.0 v)))
+              (formed_after group.m setting.layout.block o.ask.op (w.contents o.ask.group.0 o.ask.stripe.0 v) has_its_block has_its_length found_formed)
+
+          makes_on : MakesOn setting w c (Some v)
+          makes_on = record {
+            version = v;
+            base_is = refl;
+            op = not_whole;
+            below = lower;
+            made = of_ask (λ a. IsMadeOrFirst w a.group.0 a.stripe.0 v) made_version;
+            blocked = of_ask (λ a. AreBlocked setting w a.group.0 a.stripe.0
+                (λ e. (stamp_below v e ≡ true) × (stamp_below e c.stamp ≡ true))) blocked;
+          }
+
+          -- it makes its version on that
+          makes_next : (phase : Phase) (content : List ℕ) → SendsVersion setting w c (Some v) phase content
+              → IsSaid setting (after (Makes (record (in_phase d phase) { base = Some v; content = content })))
+          makes_next phase content sends =
+              said_made setting sound w stamps me c known books said is more_known (Some v) phase content (unmade.0, unmade.1)
               (of_ask (λ a. PartsGuard w a.group.0 a.stripe.0 group c.stamp)
               (promises_guard setting sound w stamps me c books said is d.counted each once many promised))
               (promises_floors setting sound w stamps me c books said is d.counted each once many promised)
-              (inr (record {
-                version = v;
-                base_is = refl;
-                op = reads;
-                below = lower;
-                made = of_ask (λ a. IsMadeOrFirst w a.group.0 a.stripe.0 v) made;
-                content_is = of_ask (λ a. setting.code.decode group.m (pieces_at v d.counted) ≡ w.contents a.group.0 a.stripe.0 v) content;
-                formed = subst (λ (l : List ℕ). IsContent group.m setting.layout.block l) (sym content)
-                    (content_formed setting sound w stamps me c books said is d.counted each once many v made);
-                blocked = of_ask (λ a. AreBlocked setting w a.group.0 a.stripe.0
-                    (λ e. (stamp_below v e ≡ true) × (stamp_below e c.stamp ≡ true))) blocked;
-              }))
+              (inr makes_on) made_formed sends
 
-        reads_on : (z : Option Stamp) → greatest_found d.counted ≡ z → IsSaid setting (after (read_back setting.code d z))
-        reads_on None nothing = absurd (something_found setting sound w stamps me c books said is d.counted each once many bound looks all nothing)
-        reads_on (Some v) greatest =
+          restores_on : want_of c.phase ≡ All → group.m ≤ length (pieces_at v d.counted)
+              → IsSaid setting (after (Makes (restoring setting.layout.block d v (setting.code.decode group.m (pieces_at v d.counted)))))
+          restores_on wanted enough =
+              let content : setting.code.decode group.m (pieces_at v d.counted) ≡ w.contents o.ask.group.0 o.ask.stripe.0 v
+              = pieces_decode setting sound w stamps me c books said is d.counted each once many (Below bound) all v made_version wanted enough in
+              makes_next Stores (after_op setting.layout.block c.ask.op (setting.code.decode group.m (pieces_at v d.counted)))
+              (inl (
+                refl,
+                ap (λ (l : List ℕ). after_op setting.layout.block c.ask.op l)
+                    (of_ask (λ a. setting.code.decode group.m (pieces_at v d.counted) ≡ w.contents a.group.0 a.stripe.0 v) content),
+              ))
+
+        reads_on : want_of c.phase ≡ All → (z : Option Stamp) → greatest_found d.counted ≡ z
+            → IsSaid setting (after (read_back setting.layout.block setting.code d z))
+        reads_on wanted None nothing =
+            absurd (something_found setting sound w stamps me c books said is d.counted each once many bound looks all nothing)
+        reads_on wanted (Some v) greatest =
             cond_both (nat_lt (length (pieces_at v d.counted)) group.m) (Sends (in_phase d (Descends v)))
-            (Makes (restoring d v (setting.code.decode group.m (pieces_at v d.counted)))) (λ (z : Next). IsSaid setting (after z))
+            (Makes (restoring setting.layout.block d v (setting.code.decode group.m (pieces_at v d.counted)))) (λ (z : Next). IsSaid setting (after z))
             (λ few. descends_on v greatest (ltb-true (length (pieces_at v d.counted)) group.m few))
-            (λ enough. restores_on v greatest (ltb-false (length (pieces_at v d.counted)) group.m enough))
+            (λ enough. restores_on v greatest wanted (ltb-false (length (pieces_at v d.counted)) group.m enough))
+
+      -- a read writes no stripe
+      reads_whole : (op : Op) → writes op ≡ false → (bytes : List ℕ) → op ≡ WriteStripe bytes → ⊥
+      reads_whole op reads bytes is = false≢true (sym reads ∙ ap writes is)
 
       recovers_on : c.phase ≡ Recovers → lowest_full d.counted ≡ None → (z : Option Refuser) → greatest_refuser d.counted ≡ z
-          → IsSaid setting (after (once_ordered fresh d z (read_back setting.code d (greatest_found d.counted))))
+          → IsSaid setting (after (once_ordered fresh d z (read_back setting.layout.block setting.code d (greatest_found d.counted))))
       recovers_on recovers roomy None none =
-          reads_on c.stamp (inl (recovers, refl)) none roomy (subst (λ (p : Phase). FitsPhase p c.ask.op) recovers says.fits)
-          (subst (λ (p : Phase). MadeInPhase c o p) recovers its.made) (greatest_found d.counted) refl
-      recovers_on recovers roomy (Some r) refused =
-          again Recovers recovers (subst (λ (p : Phase). FitsPhase p c.ask.op) recovers says.fits) tt (λ t. tt) r fresh refl
+          reads_on c.stamp (ap (λ (p : Phase). look_of p c.stamp) recovers) none roomy
+          (reads_whole c.ask.op (subst (λ (p : Phase). FitsPhase p c.ask.op) recovers says.fits))
+          (subst (λ (p : Phase). MadeInPhase c o p) recovers its.made) (ap want_of recovers) (greatest_found d.counted) refl
+      recovers_on recovers roomy (Some r) refused = again Recovers recovers (λ t. tt) (λ bound bad. cc) r fresh refl
 
       lowers_on : (bound : Stamp) → c.phase ≡ Descends bound → lowest_full d.counted ≡ None → (z : Option Refuser)
           → greatest_refuser d.counted ≡ z
-          → IsSaid setting (after (unless_refused z (read_back setting.code d (greatest_found d.counted))))
+          → IsSaid setting (after (unless_refused z (read_back setting.layout.block setting.code d (greatest_found d.counted))))
       lowers_on bound descends roomy None none =
-          reads_on bound (inr descends) none roomy (subst (λ (p : Phase). FitsPhase p c.ask.op) descends says.fits)
-          (subst (λ (p : Phase). MadeInPhase c o p) descends its.made) (greatest_found d.counted) refl
+          reads_on bound (ap (λ (p : Phase). look_of p c.stamp) descends) none roomy (subst (λ (p : Phase). FitsPhase p c.ask.op) descends says.fits)
+          (subst (λ (p : Phase). MadeInPhase c o p) descends its.made) (ap want_of descends) (greatest_found d.counted) refl
       lowers_on bound descends roomy (Some r) refused = said_aborts (Cause.Later r.brick r.stamp)
 
-      -- what an operation that stored its version is answered is the version's content
-      stored_shows : (op : Op) (v : Stamp) → o.ask.op ≡ op → is_stripe_op op ≡ true → o.version ≡ Some v
-          → c.content ≡ w.contents o.ask.group.0 o.ask.stripe.0 v → WillShow w o None (answer_with (read_of setting.layout.block op c.content))
-      stored_shows (ReadBlock j) v is whole has content = absurd (false≢true whole)
-      stored_shows (WriteBlock j bytes) v is whole has content = absurd (false≢true whole)
-      stored_shows ReadStripe v is whole has content = (is, (v, has, content))
-      stored_shows (WriteStripe bytes) v is whole has content = (bytes, is)
+      -- the write of a block modifies the version that all found, or looks for the greatest below its own stamp
+      orders_at_on : (j : ℕ) → c.phase ≡ OrdersAt j → lowest_full d.counted ≡ None → (z : Option Refuser) → greatest_refuser d.counted ≡ z
+          → IsSaid setting (after (once_ordered fresh d z (modified_if setting.code d j (common_version_at j d.counted))))
+      orders_at_on j orders roomy (Some r) refused = again (OrdersAt j) orders (λ t. tt) (λ bound bad. cc) r fresh refl
+      orders_at_on j orders roomy None none = goes (common_version_at j d.counted) refl
+        where
+          writing : (bytes : List ℕ) × (c.ask.op ≡ WriteBlock j bytes)
+          writing = subst (λ (p : Phase). FitsPhase p c.ask.op) orders says.fits
+
+          not_whole : (bytes : List ℕ) → c.ask.op ≡ WriteStripe bytes → ⊥
+          not_whole bytes whole = let bad : WriteBlock j writing.0 ≡ WriteStripe bytes = sym writing.1 ∙ whole in cc
+
+          looks : look_of c.phase c.stamp ≡ Some (Below c.stamp)
+          looks = ap (λ (p : Phase). look_of p c.stamp) orders
+
+          unmade : IsUnmade o
+          unmade = subst (λ (p : Phase). MadeInPhase c o p) orders its.made
+
+          -- nothing lies from its stamp up to its stamp
+          none_covered : AreBlocked setting w c.ask.group.0 c.ask.stripe.0 (IsCovered c.stamp c.stamp)
+          none_covered other other_is e h = absurd (false≢true (sym h.0 ∙ h.1))
+
+          own_above : stamp_below first_stamp c.stamp ≡ true
+          own_above =
+              above_first c.stamp (not_first (w.nodes me.0) me.0 (w.nodes me.0).boot c.stamp
+              (said.stamps_say.are me.0 (w.nodes me.0).boot c.call.seq c.call.phase c.stamp (c.phase, says.begun)))
+
+          modifies_next : (v : Stamp) → has_seat j d.counted ≡ true → common_version d.counted ≡ Some v
+              → IsSaid setting (after (Makes (modifying setting.code d v j)))
+          modifies_next v has common =
+              let greatest : greatest_found d.counted ≡ Some v = common_greatest d.counted v common in
+              let told = common_each d.counted v common in
+              let reads = all c.stamp looks none roomy not_whole unmade in
+              let made : IsMadeOrFirst w o.ask.group.0 o.ask.stripe.0 v = made_version c.stamp looks none roomy not_whole unmade v greatest in
+              let below : j < group.m = block_below j has_its_block (inr (writing.0, its_op ∙ writing.1)) in
+              let old : bytes_at j d.counted ≡ block_of setting.layout.block j (w.contents o.ask.group.0 o.ask.stripe.0 v)
+              = common_block setting sound w stamps me c books said is d.counted each once many (Below c.stamp) reads v j below made told has (ap want_of orders) in
+              let stands : AtQuorum group (λ seat. w.held (brick_at group seat) o.ask.group.0 o.ask.stripe.0 v)
+              = common_stands setting sound w stamps me c books said is d.counted each once many (Below c.stamp) reads v told in
+              let formed : IsContent group.m setting.layout.block (w.contents o.ask.group.0 o.ask.stripe.0 v)
+              = found_formed c.stamp looks none roomy not_whole unmade v greatest in
+              makes_next c.stamp looks none roomy not_whole unmade v greatest (Modifies v j)
+              (setting.code.delta (bytes_at j d.counted) (block_written c.ask.op))
+              (inr (record {
+                version = v;
+                base_is = refl;
+                j = j;
+                bytes = writing.0;
+                phase_is = refl;
+                op_is = writing.1;
+                below = lower c.stamp looks none roomy not_whole unmade v greatest;
+                made = of_ask (λ a. IsMadeOrFirst w a.group.0 a.stripe.0 v) made;
+                stands = λ other other_is.
+                    let same : group ≡ other = same_Some group other (sym group_is ∙ other_is) in
+                    subst (λ (z : Group). AtQuorum z (λ seat. w.held (brick_at z seat) c.ask.group.0 c.ask.stripe.0 v)) same
+                    (of_ask (λ a. AtQuorum group (λ seat. w.held (brick_at group seat) a.group.0 a.stripe.0 v)) stands);
+                formed = λ other other_is.
+                    let same : group ≡ other = same_Some group other (sym group_is ∙ other_is) in
+                    subst (λ (z : Group). IsContent z.m setting.layout.block (w.contents c.ask.group.0 c.ask.stripe.0 v)) same
+                    (of_ask (λ a. IsContent group.m setting.layout.block (w.contents a.group.0 a.stripe.0 v)) formed);
+                delta_is = ap (λ (l : List ℕ). setting.code.delta l (block_written c.ask.op))
+                    (of_ask (λ a. bytes_at j d.counted ≡ block_of setting.layout.block j (w.contents a.group.0 a.stripe.0 v)) old)
+                    ∙ ap (λ (op : Op). setting.code.delta (block_of setting.layout.block j (w.contents c.ask.group.0 c.ask.stripe.0 v)) (block_written op)) writing.1;
+              }))
+
+          goes : (y : Option Stamp) → common_version_at j d.counted ≡ y → IsSaid setting (after (modified_if setting.code d j y))
+          goes None isnt =
+              begins c.base c.content (Descends c.stamp) not_whole (own_above, none_covered)
+              (record {
+                most = λ b same. subst (λ (t : Stamp). stamp_below c.stamp t ≡ false) (let e : c.stamp ≡ b = cc in e) (stamp_below_irrefl c.stamp);
+                lower = λ b same reads. absurd (false≢true (sym reads ∙ ap writes writing.1));
+              })
+          goes (Some v) common_at_j = let found = common_at j d.counted v common_at_j in modifies_next v found.0 found.1
+
+      -- what an operation that stored its version is answered is what it reads of the version's content
+      stored_shows : (op : Op) (v : Stamp) (content : List ℕ) → o.ask.op ≡ op → o.version ≡ Some v
+          → content ≡ w.contents o.ask.group.0 o.ask.stripe.0 v → WillShow setting w o None (answer_with (read_of setting.layout.block op content))
+      stored_shows (ReadBlock j) v content is has same = (
+        v,
+        has,
+        ap (λ (op : Op). read_of setting.layout.block op (w.contents o.ask.group.0 o.ask.stripe.0 v)) is
+            ∙ ap (λ (l : List ℕ). Some (block_of setting.layout.block j l)) (sym same),
+      )
+      stored_shows ReadStripe v content is has same = (
+        v,
+        has,
+        ap (λ (op : Op). read_of setting.layout.block op (w.contents o.ask.group.0 o.ask.stripe.0 v)) is ∙ ap (λ (l : List ℕ). Some l) (sym same),
+      )
+      stored_shows (WriteBlock j bytes) v content is has same = ap writes is
+      stored_shows (WriteStripe bytes) v content is has same = ap writes is
+
+      -- an operation whose version stands is answered
+      answers_on : (answer : Answer) → IsMade c o → AtQuorum group (λ seat. w.held (brick_at group seat) o.ask.group.0 o.ask.stripe.0 c.stamp)
+          → WillShow setting w o None answer → IsSaid setting (after (Ends answer None (Some c.stamp)))
+      answers_on answer made stands shows = (
+        stamps,
+        said_ended setting w stamps me c known books said is more_known answer None (Some c.stamp)
+            (λ v has. has)
+            (λ v has. (said.operations (number_of w me.0 c.call.seq) o its.operation_is).version v has)
+            (λ v has how other other_is.
+            let same : c.stamp ≡ v = same_Some c.stamp v (sym made.0 ∙ has) in
+            let group_same : group ≡ other = same_Some group other (sym its_group ∙ other_is) in
+            subst (λ (z : Group). AtQuorum z (λ seat. w.held (brick_at z seat) o.ask.group.0 o.ask.stripe.0 v)) group_same
+            (subst (λ (t : Stamp). AtQuorum group (λ seat. w.held (brick_at group seat) o.ask.group.0 o.ask.stripe.0 t)) same stands))
+            (λ answered writing. made.1)
+            shows,
+      )
 
       stores_on : c.phase ≡ Stores → lowest_full d.counted ≡ None → (z : Option Refuser) → greatest_refuser d.counted ≡ z
           → IsSaid setting (after (unless_refused z (Ends (answer_with (read_of setting.layout.block c.ask.op c.content)) None (Some c.stamp))))
       stores_on stores roomy None none =
-          let made = subst (λ (p : Phase). MadeInPhase c o p) stores its.made in
-          let stands : AtQuorum group (λ seat. w.held (brick_at group seat) o.ask.group.0 o.ask.stripe.0 c.stamp)
-          = stored_stands setting sound w stamps me c books said is d.counted each once many stores none roomy in (
-            stamps,
-            said_ended setting w stamps me c known books said is more_known (answer_with (read_of setting.layout.block c.ask.op c.content)) None (Some c.stamp)
-                (λ v has. has)
-                (λ v has. (said.operations (number_of w me.0 c.call.seq) o its.operation_is).version v has)
-                (λ v has how other other_is.
-                let same : c.stamp ≡ v = same_Some c.stamp v (sym made.0 ∙ has) in
-                let group_same : group ≡ other = same_Some group other (sym its_group ∙ other_is) in
-                subst (λ (z : Group). AtQuorum z (λ seat. w.held (brick_at z seat) o.ask.group.0 o.ask.stripe.0 v)) group_same
-                (subst (λ (t : Stamp). AtQuorum group (λ seat. w.held (brick_at group seat) o.ask.group.0 o.ask.stripe.0 t)) same stands))
-                (λ answered bytes op. made.1)
-                (stored_shows c.ask.op c.stamp (ap (λ a. a.op) (sym its.ask))
-                (ap (λ (a : Ask). is_stripe_op a.op) its.ask
-                ∙ (books.operations (number_of w me.0 c.call.seq) o its.operation_is).is_stripe_op) made.0
-                ((says.stores stores).1 ∙ ap (λ (a : Ask). w.contents a.group.0 a.stripe.0 c.stamp) its.ask)),
-          )
+          let made : IsMade c o = subst (λ (p : Phase). MadeInPhase c o p) stores its.made in
+          answers_on (answer_with (read_of setting.layout.block c.ask.op c.content)) made
+          (stored_stands setting sound w stamps me c books said is d.counted each once many stores none roomy)
+          (stored_shows c.ask.op c.stamp c.content its_op made.0
+          ((says.stores stores).1 ∙ ap (λ (a : Ask). w.contents a.group.0 a.stripe.0 c.stamp) its.ask))
       stores_on stores roomy (Some r) refused = said_aborts (Cause.Later r.brick r.stamp)
+
+      -- a change that a quorum made is done; where a member was behind, the base is read back
+      modifies_on : (base : Stamp) (j : ℕ) → c.phase ≡ Modifies base j → lowest_full d.counted ≡ None → (z : Option Refuser)
+          → greatest_refuser d.counted ≡ z → IsSaid setting (after (unless_refused z (once_modified d base)))
+      modifies_on base j modifies roomy (Some r) refused = said_aborts (Cause.Later r.brick r.stamp)
+      modifies_on base j modifies roomy None none =
+          let writing : (bytes : List ℕ) × (c.ask.op ≡ WriteBlock j bytes) = subst (λ (p : Phase). FitsPhase p c.ask.op) modifies says.fits in
+          let made : IsMade c o × (c.base ≡ Some base) = subst (λ (p : Phase). MadeInPhase c o p) modifies its.made in
+          cond_both (some_behind d.counted) (Sends (in_phase d (Bases base))) (Ends Done None (Some c.stamp)) (λ (z : Next). IsSaid setting (after z))
+          (λ behind.
+          begins c.base c.content (Bases base) (j, writing.0, writing.1) (refl, refl, says.based base (ap base_in modifies))
+          (level (Bases base) c.ask.op c.stamp (λ bound bad. cc)))
+          (λ level_all.
+          answers_on Done made.0 (modified_stands setting sound w stamps me c books said is d.counted each once many base j modifies none roomy level_all)
+          (ap writes (its_op ∙ writing.1)))
+
+      -- a base that was read back is stored, with what the operation makes of it
+      bases_on : (base : Stamp) → c.phase ≡ Bases base → lowest_full d.counted ≡ None → (z : Option Refuser) → greatest_refuser d.counted ≡ z
+          → IsSaid setting (after (unless_refused z (rebuilt setting.layout.block setting.code d base)))
+      bases_on base reads roomy (Some r) refused = said_aborts (Cause.Later r.brick r.stamp)
+      bases_on base reads roomy None none =
+          let on : MadeOn setting w c base = says.based base (ap base_in reads) in
+          let made : IsMade c o × (c.base ≡ Some base) = subst (λ (p : Phase). MadeInPhase c o p) reads its.made in
+          let enough : group.m ≤ length (pieces_at base d.counted)
+          = base_enough setting sound w stamps me c books said is d.counted each once many base reads none roomy in
+          let content : setting.code.decode group.m (pieces_at base d.counted) ≡ w.contents o.ask.group.0 o.ask.stripe.0 base
+          = base_decodes setting sound w stamps me c books said is d.counted each once many base reads none roomy in
+          cond_both (nat_lt (length (pieces_at base d.counted)) group.m) (Waits (forgetting d))
+          (Sends (restoring setting.layout.block d base (setting.code.decode group.m (pieces_at base d.counted)))) (λ (z : Next). IsSaid setting (after z))
+          (λ few. absurd (let less : length (pieces_at base d.counted) < group.m = ltb-true (length (pieces_at base d.counted)) group.m few in omega (arith, less, enough)))
+          (λ most.
+          begins (Some base) (after_op setting.layout.block c.ask.op (setting.code.decode group.m (pieces_at base d.counted))) Stores tt
+          (record {
+            stamp_is = refl;
+            made = made.0.1;
+            version = made.0.0;
+            is_made = on.made;
+            content_is = ap (λ (l : List ℕ). after_op setting.layout.block c.ask.op l)
+                (of_ask (λ a. setting.code.decode group.m (pieces_at base d.counted) ≡ w.contents a.group.0 a.stripe.0 base) content)
+                ∙ sym on.content;
+          })
+          (level Stores c.ask.op c.stamp (λ bound bad. cc)))
 
       -- a member whose store is full aborts it, and else no reply tells so
       unless_told : (next : Next) → (lowest_full d.counted ≡ None → IsSaid setting (after next)) → (z : Option FullMember) → lowest_full d.counted ≡ z
@@ -433,6 +692,18 @@ module _ (setting : Setting) (sound : IsSound setting) (w : World) (stamps : Sta
           by_phase Orders at =
               subst (λ (z : Next). IsSaid setting (after z)) (sym (decided_orders setting.layout.block setting.code fresh d at))
               (unless_told _ (λ roomy. orders_on at roomy (greatest_refuser d.counted) refl) (lowest_full d.counted) refl)
+          by_phase (LooksAt j) at =
+              subst (λ (z : Next). IsSaid setting (after z)) (sym (decided_looks_at setting.layout.block setting.code fresh j d at))
+              (unless_told _ (λ roomy. looks_at_on j at (fast_version_at j d.counted) refl) (lowest_full d.counted) refl)
+          by_phase (OrdersAt j) at =
+              subst (λ (z : Next). IsSaid setting (after z)) (sym (decided_orders_at setting.layout.block setting.code fresh j d at))
+              (unless_told _ (λ roomy. orders_at_on j at roomy (greatest_refuser d.counted) refl) (lowest_full d.counted) refl)
+          by_phase (Modifies base j) at =
+              subst (λ (z : Next). IsSaid setting (after z)) (sym (decided_modifies setting.layout.block setting.code fresh base j d at))
+              (unless_told _ (λ roomy. modifies_on base j at roomy (greatest_refuser d.counted) refl) (lowest_full d.counted) refl)
+          by_phase (Bases base) at =
+              subst (λ (z : Next). IsSaid setting (after z)) (sym (decided_bases setting.layout.block setting.code fresh base d at))
+              (unless_told _ (λ roomy. bases_on base at roomy (greatest_refuser d.counted) refl) (lowest_full d.counted) refl)
           by_phase Recovers at =
               subst (λ (z : Next). IsSaid setting (after z)) (sym (decided_recovers setting.layout.block setting.code fresh d at))
               (unless_told _ (λ roomy. recovers_on at roomy (greatest_refuser d.counted) refl) (lowest_full d.counted) refl)

@@ -1,57 +1,57 @@
 -- A member handles a request: what its part of the stripe, and its reply, then say.
-use Rattle.std.proofs.Common.{◌≡◌, ℕ, ◌⊎◌, inl, inr, true, false, List, Option, Some, None, refl, sym, ap, ◌∙◌, subst, ⊎_elim, arith}
+use Rattle.std.proofs.Common.{◌≡◌, ℕ, ◌⊎◌, inl, inr, true, false, List, [], Option, Some, None, refl, sym, ap, ◌∙◌, subst, ⊎_elim, arith}
 use Rattle.std.specs.Prelude.{slice_get, nat_eq}
 use Rattle.std.proofs.lemmas.Bool.{cond_both, eqb-true}
 use Rattle.std.proofs.lemmas.Option.{same_Some}
 use Rattle.fab_base.specs.declared.identities.BrickId.{BrickId}
 use Rattle.fab_base.specs.declared.stamps.Stamp.{Stamp}
 use Rattle.fab_base.specs.Stamps.{stamp_below}
-use Rattle.fab_base.proofs.StampOrder.{stamp_below_irrefl, stamp_below_trans, stamp_not_below_trans}
+use Rattle.fab_base.proofs.StampOrder.{stamp_below_irrefl, stamp_not_below_trans}
 use Rattle.messages.specs.declared.calls.Call.{Call}
 use Rattle.messages.specs.declared.packets.Message.TheVariants as Message
 use Rattle.messages.specs.declared.packets.Packet.{Packet}
 use Rattle.messages.specs.declared.requests.Look.{Look}
 use Rattle.messages.specs.declared.requests.Look.TheVariants.{Below, At}
-use Rattle.messages.specs.declared.requests.Want.{Want}
-use Rattle.messages.specs.declared.requests.Want.TheVariants.{All}
+use Rattle.fab_base.specs.Layouts.{Group, group_of, seat_in}
 use Rattle.messages.specs.declared.requests.Request.{Request}
 use Rattle.messages.specs.declared.requests.Version.{Version}
 use Rattle.messages.specs.declared.replies.Reply.{Reply}
-use Rattle.protocol.specs.Settings.{Setting}
-use Rattle.protocol.specs.Views.{view_of}
-use Rattle.protocol.specs.Replicas.{Replica, Reaction, newest_of, top_of, is_held, stamp_max, below}
-use Rattle.protocol.specs.declared.phases.Phase.TheVariants.{Orders, Recovers, Descends, Stores}
+use Rattle.protocol.specs.Settings.{Setting, Code}
+use Rattle.protocol.specs.Replicas.{Replica, Reaction, newest_of, top_of, is_held, stamp_max, looked_up, modified_block}
+use Rattle.protocol.specs.declared.phases.Phase.{Phase}
+use Rattle.protocol.specs.declared.phases.Phase.TheVariants.{Orders, Modifies, Stores}
 use Rattle.protocol.specs.Nodes.{Node, put, with_replica, replica_at, full_at, reply_packets}
 use Rattle.protocol.specs.Worlds.{World, Operation}
-use Rattle.protocol_laws.specs.Laws.{WasSent, AskedAt}
+use Rattle.protocol_laws.specs.Laws.{WasSent, AskedAt, stamp_asked, stamp_stored}
 use Rattle.protocol_laws.proofs.Parts.{part_of}
 use Rattle.protocol_laws.proofs.Served.{parts_each}
 use Rattle.protocol_laws.proofs.FirstViews.{floor_at, part_floor, view_is, view_below}
 use Rattle.protocol_laws.proofs.Books.{Books}
 use Rattle.protocol_laws.proofs.OwnStamps.{made_view}
 use Rattle.protocol_laws.proofs.Blocking.{held_in, was_held}
-use Rattle.protocol_laws.proofs.Said.{Stamping, Said, IsRecovery, IsKnown, IsCalled, VersionSays, WriteSays, RequestSays, OrderedSays, OrderedReadSays, FoundSays, ReplySays, PacketSays}
+use Rattle.protocol_laws.proofs.Said.{Stamping, Said, IsStamped, IsMadeOrFirst, IsKnown, IsCalled, VersionSays, ToldSays, MakerSays, WriteSays, ChangesBlock, ModifySays, OrderSays, OrderReadSays, RequestSays, is_looked, OrderedSays, OrderedReadSays, FoundSays, ReplySays, PacketSays}
 use Rattle.protocol_laws.proofs.Tables.{put_same, get_one}
-use Rattle.protocol_laws.proofs.Logs.{LogAscends, IsWithin, newest_stands, newest_held, newest_below, newest_stands_below}
-use Rattle.protocol_laws.proofs.Reactions.{IsAfter, IsAsked, ReactionSays, SaysIf, with_order, top_promised, after_top, after_held, after_newer, after_ascends, after_asked, after_log, top_is}
+use Rattle.protocol_laws.proofs.Logs.{LogAscends, IsWithin, among, place_held, newest_stands, newest_held, newest_among, newest_stands_among}
+use Rattle.protocol_laws.proofs.Reactions.{IsAfter, StoresBlock, IsTold, ReactionSays, SaysIf, with_order, top_promised, after_top, after_held, after_newer, after_ascends, after_asked, after_log, top_is}
 use Rattle.protocol_laws.proofs.Stampings.{ages_within, stamps_same}
-use Rattle.protocol_laws.proofs.Growth.{Grows, Continues, stays_version, stays_called, stays_found}
+use Rattle.protocol_laws.proofs.Growth.{Grows, Continues, stays_version, stays_told, stays_called, stays_found}
 use Rattle.protocol_laws.proofs.Steps.{KeepsParts, quiet, quiet_grows, said_quiet, stamps_stay_by}
 
 -- a request lowers no part, and leaves what is held
-pub parts_keep : (node : Node) (call : Call) (request : Request) (reaction : Reaction) → IsAfter (replica_at node call) request reaction.replica
+pub parts_keep : (code : Code) (m seat : ℕ) (node : Node) (call : Call) (request : Request) (reaction : Reaction)
+    → IsAfter code m seat (replica_at node call) request reaction.replica
     → KeepsParts node (with_replica node call reaction)
-parts_keep node call request reaction after = record {
+parts_keep code m seat node call request reaction after = record {
   tops = parts_each (λ g e s r. stamp_below (top_of r) (top_of (node.replicas g e s)) ≡ false) node call reaction
-      (after_top (replica_at node call) request reaction.replica after) (λ g e s. stamp_below_irrefl (top_of (node.replicas g e s)));
+      (after_top code m seat (replica_at node call) request reaction.replica after) (λ g e s. stamp_below_irrefl (top_of (node.replicas g e s)));
   held = λ g e s t. parts_each (λ h v r x. is_held t (node.replicas h v r).log ≡ true → is_held t x.log ≡ true) node call reaction
-      (λ held. after_held (replica_at node call) request reaction.replica t after held) (λ h v r held. held) g e s;
+      (λ held. after_held code m seat (replica_at node call) request reaction.replica t after held) (λ h v r held. held) g e s;
   newer = λ g e s t.
       parts_each (λ h v r x. is_held t x.log ≡ true → (is_held t (node.replicas h v r).log ≡ true) ⊎ (stamp_below t (top_of (node.replicas h v r)) ≡ false))
-      node call reaction (λ held. after_newer (replica_at node call) request reaction.replica t after held)
+      node call reaction (λ held. after_newer code m seat (replica_at node call) request reaction.replica t after held)
       (λ h v r held. inl held) g e s;
   ascends = parts_each (λ g e s x. LogAscends (node.replicas g e s).log → LogAscends x.log) node call reaction
-      (after_ascends (replica_at node call) request reaction.replica after) (λ g e s ascends. ascends);
+      (after_ascends code m seat (replica_at node call) request reaction.replica after) (λ g e s ascends. ascends);
 }
 
 -- the changed part
@@ -70,6 +70,7 @@ in_first call =
     record { boot = call.boot; seq = call.seq; phase = call.phase; group = call.group; view = record { 0 = 1 }; stripe = call.stripe }
 
 module _ (setting : Setting) (w : World) (stamps : Stamping) (me from : BrickId) (given : Call) (request : Request) (books : Books setting w)
+    (group : Group) (seat : ℕ) (group_is : group_of setting.layout given.group.0 ≡ Some group) (seat_is : seat_in group.members me.0 ≡ Some seat)
     (said : Said setting w stamps) (sent : WasSent w (record { from = from; to = me; message = Message.Request (in_first given) request })) where
   -- the call
   abbrev call : Call
@@ -82,50 +83,39 @@ module _ (setting : Setting) (w : World) (stamps : Stamping) (me from : BrickId)
   asks : RequestSays setting w stamps from.0 me.0 call request
   asks = said.packets sent.0 (record { from = from; to = me; message = Message.Request call request }) sent.1
 
-  -- what is asked below a bound
-  read_asks : (t : Stamp) (look : Look) (want : Want) → RequestSays setting w stamps from.0 me.0 call (Request.OrderRead t look want)
-      → (bound : Stamp) × (look ≡ Below bound) × (want ≡ All) × IsRecovery stamps from.0 call.boot call.seq call.phase bound t
-      × ((o : Operation) × IsCalled w from.0 call o)
-  read_asks t (Below bound) want says = (bound, refl, says.0, says.1, says.2)
-  read_asks t (At u) want says = absurd says
-
   -- the request, where it is known which
   asks_as : (r : Request) → request ≡ r → RequestSays setting w stamps from.0 me.0 call r
   asks_as r is = subst (λ (z : Request). RequestSays setting w stamps from.0 me.0 call z) is asks
 
-  sent_as : (r : Request) → request ≡ r → WasSent w (record { from = from; to = me; message = Message.Request call r })
-  sent_as r is = subst (λ (z : Request). WasSent w (record { from = from; to = me; message = Message.Request call z })) is sent
+  -- the phase in which a stamp is asked for
+  asked_phase : (r : Request) (t : Stamp) → stamp_asked r ≡ Some t → RequestSays setting w stamps from.0 me.0 call r
+      → IsStamped stamps from.0 call.boot call.seq call.phase t
+  asked_phase (Request.Order z) t is says = let same : z ≡ t = cc in subst (λ (u : Stamp). IsStamped stamps from.0 call.boot call.seq call.phase u) same (Orders, says.begun)
+  asked_phase (Request.OrderRead z look want) t is says =
+      let same : z ≡ t = cc in subst (λ (u : Stamp). IsStamped stamps from.0 call.boot call.seq call.phase u) same (says.phase, says.begun)
+  asked_phase (Request.Write z block) t is says =
+      let same : z ≡ t = cc in subst (λ (u : Stamp). IsStamped stamps from.0 call.boot call.seq call.phase u) same (Stores, says.maker.begun)
+  asked_phase (Request.Modify z base j sent) t is says =
+      let same : z ≡ t = cc in subst (λ (u : Stamp). IsStamped stamps from.0 call.boot call.seq call.phase u) same (Modifies base j, says.maker.begun)
+  asked_phase r t is says = cc
 
-  -- a recovery's stamp is of view 1, and above what it looks for
-  recovery_view : (bound t : Stamp) → IsRecovery stamps from.0 call.boot call.seq call.phase bound t → t.view.0 ≡ 1
-  recovery_view bound t (inl own) = (said.stamps_say.are from.0 call.boot call.seq call.phase t (Recovers, own.1)).view
-  recovery_view bound t (inr lower) = (said.stamps_say.are from.0 call.boot call.seq call.phase t (Descends bound, lower.1)).view
+  asked_stamped : (t : Stamp) → stamp_asked request ≡ Some t → IsStamped stamps from.0 call.boot call.seq call.phase t
+  asked_stamped t is = asked_phase request t is asks
 
-  recovery_below : (bound t d : Stamp) → IsRecovery stamps from.0 call.boot call.seq call.phase bound t → stamp_below d bound ≡ true
-      → stamp_below d t ≡ true
-  recovery_below bound t d (inl own) less = subst (λ (z : Stamp). stamp_below d z ≡ true) own.0 less
-  recovery_below bound t d (inr lower) less = stamp_below_trans d bound t less lower.0
+  -- it is of view 1, and known
+  asked_view : (t : Stamp) → stamp_asked request ≡ Some t → t.view.0 ≡ 1
+  asked_view t is = (said.stamps_say.are from.0 call.boot call.seq call.phase t (asked_stamped t is)).view
 
-  -- and a write's
-  written_view : (t : Stamp) (block : List ℕ) → WriteSays setting w stamps from.0 me.0 call t block → view_of t ≡ 1
-  written_view t block says = view_is t (said.stamps_say.are from.0 call.boot call.seq call.phase t (Stores, says.begun)).view
+  asked_known : (t : Stamp) → stamp_asked request ≡ Some t → IsKnown stamps t
+  asked_known t is = inr (from.0, call.boot, call.seq, call.phase, asked_stamped t is)
 
-  -- a stamp that is asked for is known
-  recovery_known : (bound t : Stamp) → IsRecovery stamps from.0 call.boot call.seq call.phase bound t → IsKnown stamps t
-  recovery_known bound t (inl own) = inr (from.0, call.boot, call.seq, call.phase, (Recovers, own.1))
-  recovery_known bound t (inr lower) = inr (from.0, call.boot, call.seq, call.phase, (Descends bound, lower.1))
+  -- a stamp that is stored under is asked for
+  stored_asked : (r : Request) (t : Stamp) → stamp_stored r ≡ Some t → stamp_asked r ≡ Some t
+  stored_asked (Request.Write z block) t is = is
+  stored_asked (Request.Modify z base j sent) t is = is
+  stored_asked r t is = cc
 
-  asked_known : (t : Stamp) → IsAsked request t → IsKnown stamps t
-  asked_known t (inl (inl is)) =
-      let says : RequestSays setting w stamps from.0 me.0 call (Request.Order t) = asks_as (Request.Order t) is in
-      inr (from.0, call.boot, call.seq, call.phase, (Orders, says.0))
-  asked_known t (inl (inr is)) =
-      let asked = read_asks t is.0 is.1 (asks_as (Request.OrderRead t is.0 is.1) is.2) in recovery_known asked.0 t asked.3
-  asked_known t (inr is) =
-      let says : WriteSays setting w stamps from.0 me.0 call t is.0 = asks_as (Request.Write t is.0) is.1 in
-      inr (from.0, call.boot, call.seq, call.phase, (Stores, says.begun))
-
-  module _ (reaction : Reaction) (more : List Packet) (after : IsAfter before request reaction.replica) where
+  module _ (reaction : Reaction) (more : List Packet) (after : IsAfter setting.code group.m seat before request reaction.replica) where
     -- the member's part after it
     abbrev part : Replica
     part = reaction.replica
@@ -139,7 +129,7 @@ module _ (setting : Setting) (w : World) (stamps : Stamping) (me from : BrickId)
     next = quiet w me (with_replica (w.nodes me.0) call reaction) more
 
     keeps : KeepsParts (w.nodes me.0) (with_replica (w.nodes me.0) call reaction)
-    keeps = parts_keep (w.nodes me.0) call request reaction after
+    keeps = parts_keep setting.code group.m seat (w.nodes me.0) call request reaction after
 
     grows : Grows w next stamps stamps
     grows = quiet_grows w stamps stamps me (with_replica (w.nodes me.0) call reaction) more (stamps_same stamps) said.logged keeps
@@ -148,28 +138,41 @@ module _ (setting : Setting) (w : World) (stamps : Stamping) (me from : BrickId)
         ⊎ IsKnown stamps (top_of ((with_replica (w.nodes me.0) call reaction).replicas g 1 s))
     tops g s = parts_each (λ h e r x. (top_of x ≡ top_of ((w.nodes me.0).replicas h e r)) ⊎ IsKnown stamps (top_of x)) (w.nodes me.0) call reaction
         (⊎_elim (λ (same : top_of part ≡ top_of before). inl same)
-        (λ (asked : IsAsked request (top_of part)).
+        (λ (asked : stamp_asked request ≡ Some (top_of part)).
         inr (asked_known (top_of part) asked))
-        (after_asked before request part after))
+        (after_asked setting.code group.m seat before request part after))
         (λ h e r. inl refl) g 1 s
 
-    -- a version that is written says what it should
-    written_version : (version : Version) → request ≡ Request.Write version.stamp version.block
+    -- a version that is stored says what it should
+    made_by : (phase : Phase) (t : Stamp) → MakerSays setting w stamps from.0 me.0 call phase t → IsMadeOrFirst w call.group.0 call.stripe.0 t
+    made_by phase t says =
+        inr (w.numbers from.0 call.boot call.seq, says.operation, says.called.is, says.called.group, says.called.stripe, says.made, says.version)
+
+    -- each group of the call is the one at hand, and so is each seat
+    at_hand : (P : Group → ℕ → Type 0) → P group seat → (other : Group) (k : ℕ) → group_of setting.layout call.group.0 ≡ Some other
+        → seat_in other.members me.0 ≡ Some k → P other k
+    at_hand P h other k other_is at_k =
+        let same : group ≡ other = same_Some group other (sym group_is ∙ other_is) in
+        let place : seat ≡ k = same_Some seat k (sym seat_is ∙ ap (λ (z : Group). seat_in z.members me.0) same ∙ at_k) in
+        subst (λ (z : Group). P z k) same (subst (λ (i : ℕ). P group i) place h)
+
+    stored_version : (version : Version) → StoresBlock setting.code group.m seat before request version.stamp version.block
         → VersionSays setting w call.group.0 call.stripe.0 me.0 version
-    written_version version is =
-        let says : WriteSays setting w stamps from.0 me.0 call version.stamp version.block
-        = subst (λ (r : Request). RequestSays setting w stamps from.0 me.0 call r) is asks in
+    stored_version version (inl is) =
+        let says : WriteSays setting w stamps from.0 me.0 call version.stamp version.block = asks_as (Request.Write version.stamp version.block) is in
+        record { made = made_by Stores version.stamp says.maker; block = says.is_block }
+    stored_version version (inr (old, j, delta, is, newest, block_is)) =
+        let says : ModifySays setting w stamps from.0 me.0 call version.stamp old.stamp j delta
+        = asks_as (Request.Modify version.stamp old.stamp j delta) is in
+        let stands = newest_stands before.log old newest in
+        let kept : VersionSays setting w call.group.0 call.stripe.0 me.0 old
+        = said.logs call.group.0 call.stripe.0 me.0 stands.0 old stands.1 in
+        let change : ChangesBlock setting w call.group.0 call.stripe.0 version.stamp old.stamp j delta group seat = says.changes group seat group_is seat_is in
+        let block : version.block ≡ setting.code.encode group.m (w.contents call.group.0 call.stripe.0 version.stamp) seat
+        = block_is ∙ ap (λ (z : List ℕ). modified_block setting.code group.m j seat delta z) (kept.block group seat group_is seat_is) ∙ change.makes in
         record {
-          made = inr (
-            w.numbers from.0 call.boot call.seq,
-            says.operation,
-            says.called.is,
-            says.called.group,
-            says.called.stripe,
-            says.made,
-            says.version,
-          );
-          block = says.is_block;
+          made = made_by (Modifies old.stamp j) version.stamp says.maker;
+          block = at_hand (λ z k. version.block ≡ setting.code.encode z.m (w.contents call.group.0 call.stripe.0 version.stamp) k) block;
         }
 
     logs : (g s k : ℕ) (version : Version) → slice_get ((with_replica (w.nodes me.0) call reaction).replicas g 1 s).log k ≡ Some version
@@ -180,9 +183,9 @@ module _ (setting : Setting) (w : World) (stamps : Stamping) (me from : BrickId)
         (w.nodes me.0) call reaction
         (λ is. ⊎_elim
         (λ (old : slice_get before.log k ≡ Some version). inl old)
-        (λ (new : request ≡ Request.Write version.stamp version.block).
-        inr (stays_version setting w next stamps stamps books grows call.group.0 call.stripe.0 me.0 version (written_version version new)))
-        (after_log before request part k version after is))
+        (λ (new : StoresBlock setting.code group.m seat before request version.stamp version.block).
+        inr (stays_version setting w next stamps stamps books grows call.group.0 call.stripe.0 me.0 version (stored_version version new)))
+        (after_log setting.code group.m seat before request part k version after is))
         (λ h e r is. inl is) g 1 s
 
     -- the member's part after the request
@@ -199,24 +202,45 @@ module _ (setting : Setting) (w : World) (stamps : Stamping) (me from : BrickId)
         = subst (λ (g : ℕ). stamp_below (top_of (part_of w g o.ask.stripe.0 me.0)) (floor_at o me.0) ≡ false) called.group floors in
         subst (λ (s : ℕ). stamp_below (top_of (part_of w call.group.0 s me.0)) (floor_at o me.0) ≡ false) called.stripe in_group
 
+    -- a version that is told as it is kept, or without its bytes, says what it should
+    told_says : (version : Version) (kept : Option Version) → IsTold (Some version) kept
+        → ((old : Version) → kept ≡ Some old → (k : ℕ) × (slice_get before.log k ≡ Some old))
+        → ToldSays setting w call.group.0 call.stripe.0 me.0 version
+    told_says version kept told place =
+        let old : Version = told.0 in
+        let at = place old told.1 in
+        let says : VersionSays setting w call.group.0 call.stripe.0 me.0 old = said.logs call.group.0 call.stripe.0 me.0 at.0 old at.1 in
+        record {
+          made = subst (λ (t : Stamp). IsMadeOrFirst w call.group.0 call.stripe.0 t) (sym told.2) says.made;
+          block = ⊎_elim
+              (λ (none : version.block ≡ []). inl none)
+              (λ (whole : version.block ≡ old.block).
+              inr (λ (z : Group) (k : ℕ) (z_is : group_of setting.layout call.group.0 ≡ Some z) (at_k : seat_in z.members me.0 ≡ Some k).
+              whole ∙ says.block z k z_is at_k
+              ∙ ap (λ (t : Stamp). setting.code.encode z.m (w.contents call.group.0 call.stripe.0 t) k) (sym told.2)))
+              told.3;
+        }
+
     found_says : (order : Stamp) (version : Version) → ReactionSays full before request part (Reply.Found order (Some version))
         → FoundSays setting w me.0 from.0 call order version
     found_says order version told =
-        let says : RequestSays setting w stamps from.0 me.0 call (Request.Read told.0)
-        = subst (λ (r : Request). RequestSays setting w stamps from.0 me.0 call r) told.1 asks in
-        let newest : newest_of before.log ≡ Some version = told.2 says.0 in
+        let says : (o : Operation) × IsCalled w from.0 call o = asks_as (Request.Read told.0) told.1 in
+        let old : Version = told.2.0 in
+        let newest : newest_of before.log ≡ Some old = told.2.1 in
+        let stamp : version.stamp ≡ old.stamp = told.2.2 in
         let top : top_of before ≡ stamp_max order version.stamp
-        = top_is before version newest ∙ ap (λ (t : Stamp). stamp_max t version.stamp) (sym told.3) in
-        let stands = newest_stands before.log version newest in
+        = top_is before old newest ∙ ap (λ (t : Stamp). stamp_max t old.stamp) (sym told.3) ∙ ap (λ (t : Stamp). stamp_max order t) (sym stamp) in
+        let stands = newest_stands before.log old newest in
         record {
-          operation = says.1.0;
-          called = says.1.1;
+          operation = says.0;
+          called = says.1;
           top = subst (λ (t : Stamp). stamp_below (top_of before) t ≡ false) top (stamp_below_irrefl (top_of before));
-          floor = subst (λ (t : Stamp). stamp_below t (floor_at says.1.0 me.0) ≡ false) top (floor_below says.1.0 says.1.1);
-          held = held_in w said.logged call.group.0 call.stripe.0 me.0 version.stamp (made_view setting w stamps books said
-              call.group.0 call.stripe.0 version.stamp (said.logs call.group.0 call.stripe.0 me.0 stands.0 version stands.1).made)
-              (newest_held before.log version newest);
-          says = said.logs call.group.0 call.stripe.0 me.0 stands.0 version stands.1;
+          floor = subst (λ (t : Stamp). stamp_below t (floor_at says.0 me.0) ≡ false) top (floor_below says.0 says.1);
+          held = subst (λ (t : Stamp). w.held me.0 call.group.0 call.stripe.0 t ≡ true) (sym stamp)
+              (held_in w said.logged call.group.0 call.stripe.0 me.0 old.stamp (made_view setting w stamps books said
+              call.group.0 call.stripe.0 old.stamp (said.logs call.group.0 call.stripe.0 me.0 stands.0 old stands.1).made)
+              (newest_held before.log old newest));
+          says = told_says version (newest_of before.log) told.2 (λ kept is. newest_stands before.log kept is);
         }
 
     -- a promise is at or above the operation's floor at this member
@@ -228,27 +252,43 @@ module _ (setting : Setting) (w : World) (stamps : Stamping) (me from : BrickId)
 
     ordered_says : ReactionSays full before request part Reply.Ordered → OrderedSays next stamps me.0 from.0 call
     ordered_says told =
-        let says : RequestSays setting w stamps from.0 me.0 call (Request.Order told.0)
-        = subst (λ (r : Request). RequestSays setting w stamps from.0 me.0 call r) told.1 asks in
-        let goes = stays_called setting w next stamps stamps books grows from.0 call says.1.0 says.1.1 in
+        let says : OrderSays w stamps from.0 call told.0 = asks_as (Request.Order told.0) told.1 in
+        let goes = stays_called setting w next stamps stamps books grows from.0 call says.operation says.called in
         let top : top_of (part_of next call.group.0 call.stripe.0 me.0) ≡ told.0 = ap (λ (r : Replica). top_of r) now ∙ told.3 in
         record {
           operation = goes.0;
           called = goes.1;
           stamp = told.0;
-          stamp_is = says.0;
+          stamp_is = says.begun;
           promised = subst (λ (t : Stamp). stamp_below t told.0 ≡ false) (sym top) (stamp_below_irrefl told.0);
-          floor = promise_above told.0 says.1.0 says.1.1 goes.0 goes.2 told.2;
+          floor = promise_above told.0 says.operation says.called goes.0 goes.2 told.2;
         }
 
-    -- what was found when a recovery's stamp was promised
+    -- what is looked for in a log
+    looked_is : (look : Look) (log : List Version) → looked_up look log ≡ newest_of (among (is_looked look) log)
+    looked_is (Below bound) log = refl
+    looked_is (At u) log = refl
+
+    -- what was found is the newest that was looked for
+    found_within : (found kept : Option Version) (d : Stamp) → IsTold found kept → IsWithin kept d → IsWithin found d
+    found_within None kept d told within = subst (λ (z : Option Version). IsWithin z d) told within
+    found_within (Some version) kept d told within =
+        let old : IsWithin (Some told.0) d = subst (λ (z : Option Version). IsWithin z d) told.1 within in
+        subst (λ (t : Stamp). stamp_below t d ≡ false) (sym told.2) old
+
+    found_told : (found : Option Version) (kept : Option Version) (version : Version) → IsTold found kept → found ≡ Some version
+        → IsTold (Some version) kept
+    found_told found kept version told is = subst (λ (z : Option Version). IsTold z kept) is told
+
+    -- what was found when a stamp was promised
     read_says : (found : Option Version) → ReactionSays full before request part (Reply.OrderedRead found)
         → OrderedReadSays setting next stamps me.0 from.0 call found
     read_says found told =
-        let asked = read_asks told.0 told.1.0 told.1.1 (asks_as (Request.OrderRead told.0 told.1.0 told.1.1) told.1.2) in
-        let goes = stays_called setting w next stamps stamps books grows from.0 call asked.4.0 asked.4.1 in
-        let found_is : found ≡ newest_of (below asked.0 before.log) = told.1.5 asked.0 asked.1 asked.2 in
-        let view : told.0.view.0 ≡ 1 = recovery_view asked.0 told.0 asked.3 in
+        let look : Look = told.1.0 in
+        let says : OrderReadSays w stamps from.0 call told.0 look told.1.1 = asks_as (Request.OrderRead told.0 look told.1.1) told.1.2 in
+        let goes = stays_called setting w next stamps stamps books grows from.0 call says.operation says.called in
+        let kept : looked_up look before.log ≡ newest_of (among (is_looked look) before.log) = looked_is look before.log in
+        let view : told.0.view.0 ≡ 1 = (said.stamps_say.are from.0 call.boot call.seq call.phase told.0 (says.phase, says.begun)).view in
         let promise : part_of next call.group.0 call.stripe.0 me.0 ≡ with_order before told.0 = now ∙ told.1.4 in
         let top : top_of (part_of next call.group.0 call.stripe.0 me.0) ≡ told.0
         = ap (λ (r : Replica). top_of r) promise ∙ top_promised before told.0 told.1.3 in
@@ -256,41 +296,37 @@ module _ (setting : Setting) (w : World) (stamps : Stamping) (me from : BrickId)
           operation = goes.0;
           called = goes.1;
           stamp = told.0;
-          bound = asked.0;
-          recovers = asked.3;
+          look = look;
+          phase = says.phase;
+          begun = says.begun;
+          look_is = says.look_is;
+          below = says.below;
           view = view;
           promised = subst (λ (t : Stamp). stamp_below t told.0 ≡ false) (sym top) (stamp_below_irrefl told.0);
-          floor = promise_above told.0 asked.4.0 asked.4.1 goes.0 goes.2 told.1.3;
-          newest = λ d held less.
-              subst (λ (z : Option Version). IsWithin z d) (sym found_is)
-              (newest_below asked.0 d before.log (said.ascends call.group.0 call.stripe.0 me.0)
+          floor = promise_above told.0 says.operation says.called goes.0 goes.2 told.1.3;
+          newest = λ d held looked.
+              found_within found (looked_up look before.log) d told.1.5
+              (subst (λ (z : Option Version). IsWithin z d) (sym kept)
+              (newest_among (is_looked look) d before.log (said.ascends call.group.0 call.stripe.0 me.0)
               (subst (λ (r : Replica). is_held d r.log ≡ true) promise
               (was_held next grows.parts.logged call.group.0 call.stripe.0 me.0 d
-              (view_below d told.0 (omega (arith, view)) (recovery_below asked.0 told.0 d asked.3 less)) held)) less);
+              (view_below d told.0 (omega (arith, view)) (says.below d looked)) held)) looked));
+          held = λ version is.
+              let tells = found_told found (looked_up look before.log) version told.1.5 is in
+              let at = newest_stands_among (is_looked look) before.log tells.0 (sym kept ∙ tells.1) in
+              grows.parts.held call.group.0 call.stripe.0 me.0 version.stamp
+              (subst (λ (t : Stamp). w.held me.0 call.group.0 call.stripe.0 t ≡ true) (sym tells.2)
+              (held_in w said.logged call.group.0 call.stripe.0 me.0 tells.0.stamp (made_view setting w stamps books said
+              call.group.0 call.stripe.0 tells.0.stamp (said.logs call.group.0 call.stripe.0 me.0 at.0 tells.0 at.1).made)
+              (place_held before.log at.0 tells.0 at.1)));
           says = λ version is.
-              let at = newest_stands_below asked.0 before.log version (sym found_is ∙ is) in
-              stays_version setting w next stamps stamps books grows call.group.0 call.stripe.0 me.0 version
-              (said.logs call.group.0 call.stripe.0 me.0 at.0 version at.1);
+              stays_told setting w next stamps stamps books grows call.group.0 call.stripe.0 me.0 version
+              (told_says version (looked_up look before.log) (found_told found (looked_up look before.log) version told.1.5 is)
+              (λ old old_is. newest_stands_among (is_looked look) before.log old (sym kept ∙ old_is)));
         }
 
-    later_asked : (t : Stamp) → IsAsked request t → AskedAt next call from me t
-    later_asked t (inl (inl is)) =
-        inl (inl (grows.sent (record { from = from; to = me; message = Message.Request call (Request.Order t) }) (sent_as (Request.Order t) is)))
-    later_asked t (inl (inr is)) =
-        let asked = read_asks t is.0 is.1 (asks_as (Request.OrderRead t is.0 is.1) is.2) in
-        let whole : request ≡ Request.OrderRead t (Below asked.0) All
-        = is.2 ∙ ap (λ (look : Look). Request.OrderRead t look is.1) asked.1
-        ∙ ap (λ (want : Want). Request.OrderRead t (Below asked.0) want) asked.2 in
-        inr (inl (
-          asked.0,
-          grows.sent (record { from = from; to = me; message = Message.Request call (Request.OrderRead t (Below asked.0) All) })
-              (sent_as (Request.OrderRead t (Below asked.0) All) whole),
-        ))
-    later_asked t (inr is) =
-        inr (inr (
-          is.0,
-          grows.sent (record { from = from; to = me; message = Message.Request call (Request.Write t is.0) }) (sent_as (Request.Write t is.0) is.1),
-        ))
+    later_asked : (t : Stamp) → stamp_asked request ≡ Some t → AskedAt next call from me t
+    later_asked t is = (request, grows.sent (record { from = from; to = me; message = Message.Request call request }) sent, is)
 
     -- a member that tells how many live records it has, its store being full, has as many as it may
     full_live : (live : ℕ) → full ≡ Some live → live ≡ setting.layout.records
@@ -308,12 +344,12 @@ module _ (setting : Setting) (w : World) (stamps : Stamping) (me from : BrickId)
     reply_says (Reply.OrderedRead found) told = read_says found told
     reply_says Reply.Stored told = (
       told.0,
+      request,
+      grows.sent (record { from = from; to = me; message = Message.Request call request }) sent,
       told.1,
-      grows.sent (record { from = from; to = me; message = Message.Request call (Request.Write told.0 told.1) })
-          (subst (λ (r : Request). WasSent w (record { from = from; to = me; message = Message.Request call r })) told.2 sent),
       held_in next grows.parts.logged call.group.0 call.stripe.0 me.0 told.0
-          (written_view told.0 told.1 (asks_as (Request.Write told.0 told.1) told.2))
-          (subst (λ (r : Replica). is_held told.0 r.log ≡ true) (sym now) told.3),
+          (view_is told.0 (asked_view told.0 (stored_asked request told.0 told.1)))
+          (subst (λ (r : Replica). is_held told.0 r.log ≡ true) (sym now) told.2),
     )
     reply_says (Reply.Later x) told = (told.0, later_asked told.0 told.1, told.2)
     reply_says (Reply.Full live) told = full_live live told

@@ -1,36 +1,40 @@
 -- What the messages, the logs, the operations and the marks of a world say: the invariant behind the laws. The stamp of each phase of each
 -- brick's calls is remembered beside the world.
-use Rattle.std.proofs.Common.{◌≡◌, ℕ, ◌*◌, ◌<◌, ◌≤◌, ◌⊎◌, true, false, not, List, [], ◌∷◌, length, Option, Some, None}
+use Rattle.std.proofs.Common.{◌≡◌, ℕ, ◌*◌, ◌<◌, ◌≤◌, ◌⊎◌, Bool, true, false, not, List, [], ◌∷◌, length, Option, Some, None}
 use Rattle.std.specs.Prelude.{slice_get}
 use Rattle.fab_base.specs.declared.identities.BrickId.{BrickId}
 use Rattle.fab_base.specs.declared.stamps.Stamp.{Stamp}
 use Rattle.fab_base.specs.declared.asks.Op.{Op}
-use Rattle.fab_base.specs.declared.asks.Op.TheVariants.{ReadStripe, WriteStripe}
+use Rattle.fab_base.specs.declared.asks.Op.TheVariants.{ReadBlock, WriteBlock, ReadStripe, WriteStripe}
 use Rattle.fab_base.specs.declared.answers.Answer.{Answer}
 use Rattle.fab_base.specs.declared.answers.Answer.TheVariants.{Data, Done, Aborted}
-use Rattle.fab_base.specs.Stamps.{stamp_below, first_stamp}
+use Rattle.fab_base.specs.Stamps.{stamp_below, stamp_same, first_stamp}
 use Rattle.messages.specs.declared.calls.Call.{Call}
 use Rattle.messages.specs.declared.packets.Message.{Message}
 use Rattle.messages.specs.declared.packets.Packet.{Packet}
 use Rattle.messages.specs.declared.requests.Request.{Request}
 use Rattle.messages.specs.declared.requests.Version.{Version}
-use Rattle.messages.specs.declared.requests.Look.TheVariants as Look
-use Rattle.messages.specs.declared.requests.Want.TheVariants as Want
+use Rattle.messages.specs.declared.requests.Look.{Look}
+use Rattle.messages.specs.declared.requests.Look.TheVariants.{Below, At}
+use Rattle.messages.specs.declared.requests.Want.{Want}
+use Rattle.messages.specs.declared.requests.Want.TheVariants.{Seat, All}
 use Rattle.messages.specs.declared.replies.Reply.{Reply}
 use Rattle.reg_model.specs.declared.marks.Mark.TheVariants.{End}
 use Rattle.reg_model.specs.Marks.{life_of}
 use Rattle.reg_model.specs.Walk.{last_of}
+use Rattle.reg_model.specs.Registers.{after_op, read_of}
 use Rattle.fab_base.specs.Layouts.{Group, group_of, seat_in}
 use Rattle.protocol.specs.Settings.{Setting, are_bytes}
-use Rattle.protocol.specs.Replicas.{top_of, stamp_max}
+use Rattle.protocol.specs.Replicas.{top_of, stamp_max, modified_block}
 use Rattle.protocol.specs.declared.phases.Phase.{Phase}
-use Rattle.protocol.specs.declared.phases.Phase.TheVariants.{Looks, Orders, Recovers, Descends, Stores}
+use Rattle.protocol.specs.declared.phases.Phase.TheVariants.{Looks, LooksAt, Orders, OrdersAt, Recovers, Descends, Modifies, Bases, Stores}
 use Rattle.protocol.specs.declared.phases.Counted.{Counted}
-use Rattle.protocol.specs.Coordinators.{Coordinator, answers_phase, has_seat, request_of}
+use Rattle.protocol.specs.Coordinators.{Coordinator, answers_phase, has_seat, request_of, delta_at}
 use Rattle.protocol.specs.Nodes.{Node, given_content}
 use Rattle.protocol.specs.Worlds.{World, Operation, zero_content}
+use Rattle.protocol.specs.Happenings.{writes}
 use Rattle.fab_base.specs.Layouts.{brick_at}
-use Rattle.protocol_laws.specs.Laws.{WasSent, WriteSent, AskedAt, AtQuorum}
+use Rattle.protocol_laws.specs.Laws.{WasSent, RequestSent, AskedAt, AtQuorum, IsModified, stamp_stored}
 use Rattle.protocol_laws.proofs.Parts.{part_of, PartsGuard, PartsBlock}
 use Rattle.protocol_laws.proofs.Books.{IsOperation, IsCall}
 use Rattle.protocol_laws.proofs.Blocking.{HeldIsLogged}
@@ -54,10 +58,24 @@ IsBegun stamps i b k p phase t = stamps i b k p ≡ Some (record { stamp = t; ph
 abbrev pub IsStamped : Stamping → ℕ → ℕ → ℕ → ℕ → Stamp → Type 0
 IsStamped stamps i b k p t = (phase : Phase) × IsBegun stamps i b k p phase t
 
--- phase p of the call is a recovery's: it looks below its own stamp t, or below a bound which is below t
-abbrev pub IsRecovery : Stamping → ℕ → ℕ → ℕ → ℕ → Stamp → Stamp → Type 0
-IsRecovery stamps i b k p bound t =
-    ((bound ≡ t) × IsBegun stamps i b k p Recovers t) ⊎ ((stamp_below bound t ≡ true) × IsBegun stamps i b k p (Descends bound) t)
+-- the version that a phase of stamp t looks for at each member as it orders, if it looks for one
+abbrev pub look_of : Phase → Stamp → Option Look
+look_of (OrdersAt j) t = Some (Below t)
+look_of Recovers t = Some (Below t)
+look_of (Descends bound) t = Some (Below bound)
+look_of (Bases base) t = Some (At base)
+look_of phase t = None
+
+-- and whose block it wants
+abbrev pub want_of : Phase → Want
+want_of (LooksAt j) = Seat j
+want_of (OrdersAt j) = Seat j
+want_of phase = All
+
+-- a stamp is looked for
+abbrev pub is_looked : Look → Stamp → Bool
+is_looked (Below bound) d = stamp_below d bound
+is_looked (At base) d = stamp_same d base
 
 -- a quorum of the stripe's seats holds the version
 abbrev pub Stands : Setting → World → ℕ → ℕ → Stamp → Type 0
@@ -121,31 +139,89 @@ IsBlockOf setting w g s i t block =
     (group : Group) (seat : ℕ) → group_of setting.layout g ≡ Some group → seat_in group.members i ≡ Some seat
     → block ≡ setting.code.encode group.m (w.contents g s t) seat
 
--- a version that brick i keeps, or told
+-- a coordinator is in a phase of its operation
+abbrev pub FitsPhase : Phase → Op → Type 0
+FitsPhase Looks op = op ≡ ReadStripe
+FitsPhase (LooksAt j) op = op ≡ ReadBlock j
+FitsPhase Orders op = (bytes : List ℕ) × (op ≡ WriteStripe bytes)
+FitsPhase (OrdersAt j) op = (bytes : List ℕ) × (op ≡ WriteBlock j bytes)
+FitsPhase Recovers op = writes op ≡ false
+FitsPhase (Descends bound) op = (bytes : List ℕ) → op ≡ WriteStripe bytes → ⊥
+FitsPhase (Modifies base j) op = (bytes : List ℕ) × (op ≡ WriteBlock j bytes)
+FitsPhase (Bases base) op = (j : ℕ) × (bytes : List ℕ) × (op ≡ WriteBlock j bytes)
+FitsPhase Stores op = Unit {0}
+
+-- a phase that looks below a bound looks no higher than at its operation's stamp, and a read's looks lower
+pub record DescendsFrom (phase : Phase) (op : Op) (t : Stamp) : Type 0 where
+  pub most : (bound : Stamp) → phase ≡ Descends bound → stamp_below t bound ≡ false
+  pub lower : (bound : Stamp) → phase ≡ Descends bound → writes op ≡ false → stamp_below bound t ≡ true
+
+-- a version that brick i keeps
 pub record VersionSays (setting : Setting) (w : World) (g s i : ℕ) (version : Version) : Type 0 where
   pub made : IsMadeOrFirst w g s version.stamp
   pub block : IsBlockOf setting w g s i version.stamp version.block
 
--- a write of a version
-pub record WriteSays (setting : Setting) (w : World) (stamps : Stamping) (from to : ℕ) (call : Call) (t : Stamp) (block : List ℕ) : Type 0 where
+-- a version that brick i told: its block, unless that was not wanted
+pub record ToldSays (setting : Setting) (w : World) (g s i : ℕ) (version : Version) : Type 0 where
+  pub made : IsMadeOrFirst w g s version.stamp
+  pub block : (version.block ≡ []) ⊎ IsBlockOf setting w g s i version.stamp version.block
+
+-- a request, of this phase of its call, to store version t, which its operation made
+pub record MakerSays (setting : Setting) (w : World) (stamps : Stamping) (from to : ℕ) (call : Call) (phase : Phase) (t : Stamp) : Type 0 where
   pub operation : Operation
   pub called : IsCalled w from call operation
-  pub begun : IsBegun stamps from call.boot call.seq call.phase Stores t
+  pub begun : IsBegun stamps from call.boot call.seq call.phase phase t
   pub made : operation.made ≡ true
   pub version : operation.version ≡ Some t
   pub member : (group : Group) → group_of setting.layout call.group.0 ≡ Some group → (seat : ℕ) × (seat_in group.members to ≡ Some seat)
   pub guarded : (group : Group) → group_of setting.layout call.group.0 ≡ Some group → PartsGuard w call.group.0 call.stripe.0 group t
+
+-- a write of a version
+pub record WriteSays (setting : Setting) (w : World) (stamps : Stamping) (from to : ℕ) (call : Call) (t : Stamp) (block : List ℕ) : Type 0 where
+  pub maker : MakerSays setting w stamps from to call Stores t
   pub is_block : IsBlockOf setting w call.group.0 call.stripe.0 to t block
+
+-- what the member at a seat is sent of a change makes of its block of the base its block of version t
+pub record ChangesBlock (setting : Setting) (w : World) (g s : ℕ) (t base : Stamp) (j : ℕ) (sent : List ℕ) (group : Group) (seat : ℕ) : Type 0 where
+  pub delta : List ℕ
+  pub sent_is : sent ≡ delta_at group.m j seat delta
+  pub is : IsModified setting w g s t base j delta
+  pub makes : modified_block setting.code group.m j seat sent (setting.code.encode group.m (w.contents g s base) seat)
+      ≡ setting.code.encode group.m (w.contents g s t) seat
+
+-- a request to modify a version's base
+pub record ModifySays (setting : Setting) (w : World) (stamps : Stamping) (from to : ℕ) (call : Call) (t base : Stamp) (j : ℕ) (sent : List ℕ) : Type 0 where
+  pub maker : MakerSays setting w stamps from to call (Modifies base j) t
+  pub base_made : IsMadeOrFirst w call.group.0 call.stripe.0 base
+  pub changes : (group : Group) (seat : ℕ) → group_of setting.layout call.group.0 ≡ Some group → seat_in group.members to ≡ Some seat
+      → ChangesBlock setting w call.group.0 call.stripe.0 t base j sent group seat
+
+-- an order, of a phase of its call, that tells the version looked for
+pub record OrderReadSays (w : World) (stamps : Stamping) (i : ℕ) (call : Call) (t : Stamp) (look : Look) (want : Want) : Type 0 where
+  pub operation : Operation
+  pub called : IsCalled w i call operation
+  pub phase : Phase
+  pub begun : IsBegun stamps i call.boot call.seq call.phase phase t
+  pub look_is : look_of phase t ≡ Some look
+  pub want_is : want_of phase ≡ want
+  pub fits : FitsPhase phase operation.ask.op
+  pub from : DescendsFrom phase operation.ask.op t
+  pub below : (d : Stamp) → is_looked look d ≡ true → stamp_below d t ≡ true
+
+-- an order of stamp t, which only a stripe write sends
+pub record OrderSays (w : World) (stamps : Stamping) (i : ℕ) (call : Call) (t : Stamp) : Type 0 where
+  pub operation : Operation
+  pub called : IsCalled w i call operation
+  pub begun : IsBegun stamps i call.boot call.seq call.phase Orders t
+  pub fits : FitsPhase Orders operation.ask.op
 
 -- what a request of brick i to brick j says
 abbrev pub RequestSays : Setting → World → Stamping → ℕ → ℕ → Call → Request → Type 0
-RequestSays setting w stamps i j call (Request.Read want) = (want ≡ Want.All) × ((o : Operation) × IsCalled w i call o)
-RequestSays setting w stamps i j call (Request.Order t) =
-    IsBegun stamps i call.boot call.seq call.phase Orders t × ((o : Operation) × IsCalled w i call o)
-RequestSays setting w stamps i j call (Request.OrderRead t (Look.Below bound) want) =
-    (want ≡ Want.All) × IsRecovery stamps i call.boot call.seq call.phase bound t × ((o : Operation) × IsCalled w i call o)
-RequestSays setting w stamps i j call (Request.OrderRead t (Look.At u) want) = ⊥
+RequestSays setting w stamps i j call (Request.Read want) = (o : Operation) × IsCalled w i call o
+RequestSays setting w stamps i j call (Request.Order t) = OrderSays w stamps i call t
+RequestSays setting w stamps i j call (Request.OrderRead t look want) = OrderReadSays w stamps i call t look want
 RequestSays setting w stamps i j call (Request.Write t block) = WriteSays setting w stamps i j call t block
+RequestSays setting w stamps i j call (Request.Modify t base d delta) = ModifySays setting w stamps i j call t base d delta
 RequestSays setting w stamps i j call request = Unit {0}
 
 -- an order that brick j answered
@@ -157,18 +233,22 @@ pub record OrderedSays (w : World) (stamps : Stamping) (j i : ℕ) (call : Call)
   pub promised : stamp_below (top_of (part_of w call.group.0 call.stripe.0 j)) stamp ≡ false
   pub floor : stamp_below stamp (floor_at operation j) ≡ false
 
--- what brick j found below a bound, when it promised the stamp of a recovery: each version that it holds below the bound is at most that
+-- what brick j found, when it promised the stamp of a phase that looks for a version: each version looked for that it holds is at most that
 pub record OrderedReadSays (setting : Setting) (w : World) (stamps : Stamping) (j i : ℕ) (call : Call) (found : Option Version) : Type 0 where
   pub operation : Operation
   pub called : IsCalled w i call operation
   pub stamp : Stamp
-  pub bound : Stamp
-  pub recovers : IsRecovery stamps i call.boot call.seq call.phase bound stamp
+  pub look : Look
+  pub phase : Phase
+  pub begun : IsBegun stamps i call.boot call.seq call.phase phase stamp
+  pub look_is : look_of phase stamp ≡ Some look
+  pub below : (d : Stamp) → is_looked look d ≡ true → stamp_below d stamp ≡ true
   pub view : stamp.view.0 ≡ 1
   pub promised : stamp_below (top_of (part_of w call.group.0 call.stripe.0 j)) stamp ≡ false
   pub floor : stamp_below stamp (floor_at operation j) ≡ false
-  pub newest : (d : Stamp) → w.held j call.group.0 call.stripe.0 d ≡ true → stamp_below d bound ≡ true → IsWithin found d
-  pub says : (version : Version) → found ≡ Some version → VersionSays setting w call.group.0 call.stripe.0 j version
+  pub newest : (d : Stamp) → w.held j call.group.0 call.stripe.0 d ≡ true → is_looked look d ≡ true → IsWithin found d
+  pub held : (version : Version) → found ≡ Some version → w.held j call.group.0 call.stripe.0 version.stamp ≡ true
+  pub says : (version : Version) → found ≡ Some version → ToldSays setting w call.group.0 call.stripe.0 j version
 
 -- what brick j found
 pub record FoundSays (setting : Setting) (w : World) (j i : ℕ) (call : Call) (order : Stamp) (version : Version) : Type 0 where
@@ -177,7 +257,7 @@ pub record FoundSays (setting : Setting) (w : World) (j i : ℕ) (call : Call) (
   pub top : stamp_below (top_of (part_of w call.group.0 call.stripe.0 j)) (stamp_max order version.stamp) ≡ false
   pub floor : stamp_below (stamp_max order version.stamp) (floor_at operation j) ≡ false
   pub held : w.held j call.group.0 call.stripe.0 version.stamp ≡ true
-  pub says : VersionSays setting w call.group.0 call.stripe.0 j version
+  pub says : ToldSays setting w call.group.0 call.stripe.0 j version
 
 -- what a reply of brick `from` to brick `to` says
 abbrev pub ReplySays : Setting → World → Stamping → BrickId → BrickId → Call → Reply → Type 0
@@ -185,7 +265,7 @@ ReplySays setting w stamps from to call (Reply.Found order (Some version)) = Fou
 ReplySays setting w stamps from to call Reply.Ordered = OrderedSays w stamps from.0 to.0 call
 ReplySays setting w stamps from to call (Reply.OrderedRead found) = OrderedReadSays setting w stamps from.0 to.0 call found
 ReplySays setting w stamps from to call Reply.Stored =
-    (t : Stamp) × (block : List ℕ) × WriteSent w call to from t block
+    (t : Stamp) × (request : Request) × RequestSent w call to from request × (stamp_stored request ≡ Some t)
     × (w.held from.0 call.group.0 call.stripe.0 t ≡ true)
 ReplySays setting w stamps from to call (Reply.Later x) = (t : Stamp) × AskedAt w call to from t × (stamp_below t x ≡ true)
 ReplySays setting w stamps from to call (Reply.Full live) = live ≡ setting.layout.records
@@ -202,18 +282,18 @@ PacketSays setting w stamps packet = MessageSays setting w stamps packet.from pa
 -- an operation's version
 pub record HasVersion (setting : Setting) (w : World) (o : Operation) (v : Stamp) : Type 0 where
   pub made : IsMadeOrFirst w o.ask.group.0 o.ask.stripe.0 v
-  pub reader : o.made ≡ false → o.ask.op ≡ ReadStripe
+  pub reader : o.made ≡ false → writes o.ask.op ≡ false
   pub guarded : (group : Group) → group_of setting.layout o.ask.group.0 ≡ Some group → PartsGuard w o.ask.group.0 o.ask.stripe.0 group v
   pub floors : (group : Group) → group_of setting.layout o.ask.group.0 ≡ Some group → FloorsAtMost o group v
 
--- the operation made version v by reading its base back
+-- the operation made version v on a base, which it read back or modified
 pub record ReadsBack (setting : Setting) (w : World) (o : Operation) (v : Stamp) : Type 0 where
   pub base : Stamp
   pub base_is : o.base ≡ Some base
-  pub op : o.ask.op ≡ ReadStripe
+  pub op : (bytes : List ℕ) → o.ask.op ≡ WriteStripe bytes → ⊥
   pub below : stamp_below base v ≡ true
   pub made : IsMadeOrFirst w o.ask.group.0 o.ask.stripe.0 base
-  pub content : w.contents o.ask.group.0 o.ask.stripe.0 v ≡ w.contents o.ask.group.0 o.ask.stripe.0 base
+  pub content : w.contents o.ask.group.0 o.ask.stripe.0 v ≡ after_op setting.layout.block o.ask.op (w.contents o.ask.group.0 o.ask.stripe.0 base)
   pub blocked : AreBlocked setting w o.ask.group.0 o.ask.stripe.0 (λ d. (stamp_below base d ≡ true) × (stamp_below d v ≡ true))
 
 -- the operation made version v by writing it whole
@@ -232,20 +312,12 @@ pub record OperationSays (setting : Setting) (w : World) (stamps : Stamping) (n 
       → IsContent group.m setting.layout.block (w.contents o.ask.group.0 o.ask.stripe.0 v)
   pub stands : (v : Stamp) → o.version ≡ Some v → (o.made ≡ false) ⊎ (o.answered ≡ true) → Stands setting w o.ask.group.0 o.ask.stripe.0 v
   pub version : (v : Stamp) → o.version ≡ Some v → HasVersion setting w o v
-  pub answered : o.answered ≡ true → (bytes : List ℕ) → o.ask.op ≡ WriteStripe bytes → o.made ≡ true
-
--- a coordinator is in a phase of its operation
-abbrev pub FitsPhase : Phase → Op → Type 0
-FitsPhase Looks op = op ≡ ReadStripe
-FitsPhase Orders op = (bytes : List ℕ) × (op ≡ WriteStripe bytes)
-FitsPhase Recovers op = op ≡ ReadStripe
-FitsPhase (Descends bound) op = op ≡ ReadStripe
-FitsPhase Stores op = Unit {0}
+  pub answered : o.answered ≡ true → writes o.ask.op ≡ true → o.made ≡ true
 
 -- a reply that counts at a coordinator of brick i
 pub record CountedSays (setting : Setting) (w : World) (i : ℕ) (c : Coordinator) (x : Counted) : Type 0 where
   pub sent : WasSent w (record { from = x.brick; to = record { 0 = i }; message = Message.Reply c.call x.reply })
-  pub answers : answers_phase setting.layout.block c.stamp c.phase x.reply ≡ true
+  pub answers : answers_phase setting.layout.block c.stamp x.seat c.phase x.reply ≡ true
   pub seat : (group : Group) → group_of setting.layout c.ask.group.0 ≡ Some group → seat_in group.members x.brick.0 ≡ Some x.seat
 
 -- each reply that counts
@@ -257,6 +329,22 @@ EachCounted P (x ∷ counted) = P x × EachCounted P counted
 abbrev pub AreOnce : List Counted → Type 0
 AreOnce [] = Unit {0}
 AreOnce (x ∷ counted) = (has_seat x.seat counted ≡ false) × AreOnce counted
+
+-- Where an operation has made its version on a base: a quorum has held the base, and the version's content is what it makes of the base's.
+pub record MadeOn (setting : Setting) (w : World) (c : Coordinator) (base : Stamp) : Type 0 where
+  pub base_is : c.base ≡ Some base
+  pub below : stamp_below base c.stamp ≡ true
+  pub base_made : IsMadeOrFirst w c.ask.group.0 c.ask.stripe.0 base
+  pub stands : Stands setting w c.ask.group.0 c.ask.stripe.0 base
+  pub made : IsMadeOrFirst w c.ask.group.0 c.ask.stripe.0 c.stamp
+  pub content : w.contents c.ask.group.0 c.ask.stripe.0 c.stamp
+      ≡ after_op setting.layout.block c.ask.op (w.contents c.ask.group.0 c.ask.stripe.0 base)
+
+-- the base that a phase modifies, or reads back
+abbrev pub base_in : Phase → Option Stamp
+base_in (Modifies base j) = Some base
+base_in (Bases base) = Some base
+base_in phase = None
 
 -- the open operation of brick i's call k. Its present phase is the last that was begun, and each member was sent its request; where it looks
 -- below a bound, which is above the first stamp, no quorum will ever hold a version from there up to its stamp; and where it stores, it stores
@@ -270,28 +358,28 @@ pub record CallSays (setting : Setting) (w : World) (stamps : Stamping) (i k : �
   pub unbased : c.phase ≡ Orders → c.base ≡ None
   pub given : c.phase ≡ Orders → c.content ≡ given_content c.ask.op
   pub above : (bound : Stamp) → c.phase ≡ Descends bound → stamp_below first_stamp bound ≡ true
-  pub below : (bound : Stamp) → c.phase ≡ Descends bound → stamp_below bound c.stamp ≡ true
+  pub from : DescendsFrom c.phase c.ask.op c.stamp
   pub covered : (bound : Stamp) → c.phase ≡ Descends bound
       → AreBlocked setting w c.ask.group.0 c.ask.stripe.0 (λ d. (stamp_below d bound ≡ false) × (stamp_below d c.stamp ≡ true))
   pub stores : c.phase ≡ Stores
       → IsMadeOrFirst w c.ask.group.0 c.ask.stripe.0 c.stamp × (c.content ≡ w.contents c.ask.group.0 c.ask.stripe.0 c.stamp)
+  pub based : (base : Stamp) → base_in c.phase ≡ Some base → MadeOn setting w c base
   pub counted : EachCounted (CountedSays setting w i c) c.counted
   pub once : AreOnce c.counted
 
--- operation n reads a stripe, and the data that it was answered are its version's
-pub record DataShown (w : World) (n : ℕ) (bytes : List ℕ) : Type 0 where
+-- operation n reads, and the data that it was answered are what it reads of its version
+pub record DataShown (setting : Setting) (w : World) (n : ℕ) (bytes : List ℕ) : Type 0 where
   pub operation : Operation
   pub is : IsOperation w n operation
-  pub reads : operation.ask.op ≡ ReadStripe
   pub version : Stamp
   pub version_is : operation.version ≡ Some version
-  pub bytes_are : bytes ≡ w.contents operation.ask.group.0 operation.ask.stripe.0 version
+  pub bytes_are : read_of setting.layout.block operation.ask.op (w.contents operation.ask.group.0 operation.ask.stripe.0 version) ≡ Some bytes
 
 -- the end of operation n by this answer
-abbrev pub EndShows : World → ℕ → Answer → Type 0
-EndShows w n (Data bytes) = DataShown w n bytes
-EndShows w n Done = (o : Operation) × IsOperation w n o × ((bytes : List ℕ) × (o.ask.op ≡ WriteStripe bytes))
-EndShows w n (Aborted cause) = (o : Operation) × IsOperation w n o
+abbrev pub EndShows : Setting → World → ℕ → Answer → Type 0
+EndShows setting w n (Data bytes) = DataShown setting w n bytes
+EndShows setting w n Done = (o : Operation) × IsOperation w n o × (writes o.ask.op ≡ true)
+EndShows setting w n (Aborted cause) = (o : Operation) × IsOperation w n o
 
 -- where one operation has a version, another of its stripe found that version below it at a quorum, or began no later than the first may end
 abbrev pub IsInOrder : Setting → World → Type 0
@@ -311,7 +399,7 @@ pub record Said (setting : Setting) (w : World) (stamps : Stamping) : Type 0 whe
   pub packets : (k : ℕ) (packet : Packet) → slice_get w.packets k ≡ Some packet → PacketSays setting w stamps packet
   pub operations : (n : ℕ) (o : Operation) → IsOperation w n o → OperationSays setting w stamps n o
   pub calls : (i k : ℕ) (c : Coordinator) → IsCall w i k c → CallSays setting w stamps i k c
-  pub ends : (k p n : ℕ) (answer : Answer) → slice_get w.marks k ≡ Some (End p n answer) → EndShows w n answer
+  pub ends : (k p n : ℕ) (answer : Answer) → slice_get w.marks k ≡ Some (End p n answer) → EndShows setting w n answer
   pub order : IsInOrder setting w
   pub logged : HeldIsLogged w
   pub first : (g s : ℕ) → w.contents g s first_stamp ≡ zero_content setting.layout.block (group_of setting.layout g)

@@ -17,12 +17,12 @@ use Rattle.messages.specs.declared.requests.Version.{Version}
 use Rattle.messages.specs.declared.replies.Reply.{Reply}
 use Rattle.reg_model.specs.declared.marks.Mark.{Mark}
 use Rattle.reg_model.specs.declared.marks.Mark.TheVariants.{End, Crash}
-use Rattle.fab_base.specs.Layouts.{Group}
+use Rattle.fab_base.specs.Layouts.{Group, group_of, seat_in}
 use Rattle.protocol.specs.Settings.{Setting, IsSound}
 use Rattle.protocol.specs.Replicas.{Reaction, first_replica, top_of, handle}
 use Rattle.protocol.specs.declared.phases.Counted.{Counted}
 use Rattle.protocol.specs.Coordinators.{Coordinator}
-use Rattle.protocol.specs.Nodes.{Node, NodeStep, put, with_known, with_replica, replica_at, reacted, full_at, reply_packets, absorbed, ticked, stopped, restarted, new_stamp, fresh_stamp, no_step, began, invoked, requested, known_after, replied_at, replied, received}
+use Rattle.protocol.specs.Nodes.{Node, NodeStep, put, with_known, with_replica, replica_at, reacted, full_at, reply_packets, absorbed, ticked, stopped, restarted, new_stamp, fresh_stamp, no_step, began, invoked, requested, known_after, replied_at, replied, received, group_at, view_at, seat_served}
 use Rattle.protocol.specs.Worlds.{World, Found, Before, After, Event, Invokes, Delivers, Sets, Ticks, Stops, Starts, replies_with, first_world, zero_content, is_brick, is_up, may_start, world_ticked, left_after, packet_during, world_stopped, world_found, world_started, may_begin, world_began, world_stepped, delivered, packet_of, happens, run, with_held}
 use Rattle.protocol_laws.specs.Laws.{WasSent}
 use Rattle.protocol_laws.proofs.BooksKept.{keeps_all}
@@ -38,7 +38,7 @@ use Rattle.protocol_laws.proofs.Stampings.{ages_within}
 use Rattle.protocol_laws.proofs.Reactions.{top_is, handle_after, handle_says}
 use Rattle.protocol_laws.proofs.Steps.{quiet, said_beside, said_added, said_idle}
 use Rattle.protocol_laws.proofs.Requests.{in_first, said_after_request, reply_packets_say}
-use Rattle.protocol_laws.proofs.Served.{request_each}
+use Rattle.protocol_laws.proofs.Served.{request_each, served_seat}
 use Rattle.protocol_laws.proofs.Sends.{ticked_was_sent}
 use Rattle.protocol_laws.proofs.Replies.{said_known, said_after_reply}
 use Rattle.protocol_laws.proofs.Begins.{said_began}
@@ -57,6 +57,53 @@ abbrev in_view : Call → ℕ → Call
 in_view call v =
     record { boot = call.boot; seq = call.seq; phase = call.phase; group = call.group; view = record { 0 = v }; stripe = call.stripe }
 
+-- a brick handles a request at its seat
+module _ (setting : Setting) (w : World) (stamps : Stamping) (me from : BrickId) (call : Call) (request : Request) (books : Books setting w)
+    (said : Said setting w stamps) (sent : WasSent w (record { from = from; to = me; message = Message.Request call request }))
+    (group : Group) (seat : ℕ) (here : group_at setting.layout (w.nodes me.0) call.group.0 ≡ Some group)
+    (at : seat_served setting.layout me (w.nodes me.0) call request group ≡ Some seat)
+    (view : call.view.0 ≡ view_at (w.nodes me.0) call.group.0) where
+  abbrev full : Option ℕ
+  full = full_at setting.layout.records (w.nodes me.0).live
+
+  abbrev reaction : Call → Reaction
+  reaction c = handle setting.code group.m full seat (replica_at (w.nodes me.0) c) request
+
+  abbrev replies : List Packet
+  replies = reply_packets me from (in_first call) (reaction (in_first call)).reply
+
+  group_is : group_of setting.layout call.group.0 ≡ Some group
+  group_is = sym (group_first setting.layout (w.nodes me.0) call.group.0 (books.first me.0)) ∙ here
+
+  seat_is : seat_in group.members me.0 ≡ Some seat
+  seat_is = served_seat setting me (w.nodes me.0) call request group seat at
+
+  abbrev sent_in : ℕ → Type 0
+  sent_in v = WasSent w (record { from = from; to = me; message = Message.Request (in_view call v) request })
+
+  -- the call is of the first view
+  first_is : (P : ℕ → Type 0) → P 1 → P call.view.0
+  first_is P = subst P (sym (view ∙ view_first setting.layout (w.nodes me.0) call.group.0 (books.first me.0)))
+
+  handled_said : Said setting (stepped setting w me (reacted me from (w.nodes me.0) call (reaction call))) stamps
+  handled_said =
+      first_is (λ v. sent_in v → Said setting (stepped setting w me (reacted me from (w.nodes me.0) (in_view call v) (reaction (in_view call v)))) stamps)
+      (λ sent.
+      let after = handle_after setting.code group.m seat full (replica_at (w.nodes me.0) (in_first call)) request in
+      said_after_request setting w stamps me from call request books group seat group_is seat_is said sent (reaction (in_first call)) replies after
+      (reply_packets_say setting w stamps me from call request books group seat group_is seat_is said sent (reaction (in_first call)) replies after
+      (reaction (in_first call)).reply
+      (handle_says setting.code group.m full seat (replica_at (w.nodes me.0) (in_first call)) request)))
+      sent
+
+  kept_said : Said setting (quiet w me (with_replica (w.nodes me.0) call (reaction call)) []) stamps
+  kept_said =
+      first_is (λ v. sent_in v → Said setting (quiet w me (with_replica (w.nodes me.0) (in_view call v) (reaction (in_view call v))) []) stamps)
+      (λ sent.
+      said_after_request setting w stamps me from call request books group seat group_is seat_is said sent (reaction (in_first call)) []
+      (handle_after setting.code group.m seat full (replica_at (w.nodes me.0) (in_first call)) request) (λ k packet at. cc))
+      sent
+
 -- a request is delivered
 request_said : (setting : Setting) (w : World) (stamps : Stamping) (me from : BrickId) (call : Call) (request : Request) → Books setting w
     → Said setting w stamps → WasSent w (record { from = from; to = me; message = Message.Request call request })
@@ -64,24 +111,7 @@ request_said : (setting : Setting) (w : World) (stamps : Stamping) (me from : Br
 request_said setting w stamps me from call request books said sent =
     request_each (λ step. Said setting (stepped setting w me step) stamps) setting me from (w.nodes me.0) call request
     (nothing_said setting w stamps me books said)
-    (λ seat view.
-    subst (λ (v : ℕ). WasSent w (record { from = from; to = me; message = Message.Request (in_view call v) request })
-    → Said setting (stepped setting w me (reacted me from (w.nodes me.0) (in_view call v) (reaction seat (in_view call v)))) stamps)
-    (sym (view ∙ view_first setting.layout (w.nodes me.0) call.group.0 (books.first me.0)))
-    (λ first.
-    let after = handle_after full seat (replica_at (w.nodes me.0) (in_first call)) request in
-    said_after_request setting w stamps me from call request books said first (reaction seat (in_first call)) (sends seat) after
-    (reply_packets_say setting w stamps me from call request books said first (reaction seat (in_first call)) (sends seat) after
-    (reaction seat (in_first call)).reply (handle_says full seat (replica_at (w.nodes me.0) (in_first call)) request))) sent)
-  where
-    full : Option ℕ
-    full = full_at setting.layout.records (w.nodes me.0).live
-
-    reaction : ℕ → Call → Reaction
-    reaction seat c = handle full seat (replica_at (w.nodes me.0) c) request
-
-    sends : ℕ → List Packet
-    sends seat = reply_packets me from (in_first call) (reaction seat (in_first call)).reply
+    (handled_said setting w stamps me from call request books said sent)
 
 -- a request is handled, and its reply is lost
 request_kept : (setting : Setting) (w : World) (stamps : Stamping) (me from : BrickId) (call : Call) (request : Request) → Books setting w
@@ -90,18 +120,7 @@ request_kept : (setting : Setting) (w : World) (stamps : Stamping) (me from : Br
 request_kept setting w stamps me from call request books said sent =
     request_each (λ step. Said setting (quiet w me step.node []) stamps) setting me from (w.nodes me.0) call request
     (nothing_said setting w stamps me books said)
-    (λ seat view.
-    subst (λ (v : ℕ). WasSent w (record { from = from; to = me; message = Message.Request (in_view call v) request })
-    → Said setting (quiet w me (with_replica (w.nodes me.0) (in_view call v) (reaction seat (in_view call v))) []) stamps)
-    (sym (view ∙ view_first setting.layout (w.nodes me.0) call.group.0 (books.first me.0)))
-    (λ first. said_after_request setting w stamps me from call request books said first (reaction seat (in_first call)) []
-    (handle_after full seat (replica_at (w.nodes me.0) (in_first call)) request) (λ k packet at. cc)) sent)
-  where
-    full : Option ℕ
-    full = full_at setting.layout.records (w.nodes me.0).live
-
-    reaction : ℕ → Call → Reaction
-    reaction seat c = handle full seat (replica_at (w.nodes me.0) c) request
+    (kept_said setting w stamps me from call request books said sent)
 
 -- a fresh stamp is its brick's, and above all that it knows
 fresh_says : (setting : Setting) (w : World) (me : BrickId) (view : ViewNo) (now known : ℕ) (t : Stamp) → view.0 ≡ 1 → Books setting w
@@ -251,7 +270,7 @@ invoked_said setting w stamps me ask books said may =
     let fits : BeginFits setting ask = begin_fits setting w me ask may in
     subst (λ (z : Option Group). IsSaid setting (world_began w me ask (began setting me (w.clocks me.0) (w.nodes me.0) ask z)))
     (sym (group_first setting.layout (w.nodes me.0) ask.group.0 (books.first me.0) ∙ fits.group_is))
-    (said_began setting w stamps me ask fits.group books said fits.group_is fits.is_stripe_op)
+    (said_began setting w stamps me ask fits.group books said fits.group_is)
 
 -- every event keeps the invariant
 pub said_happens : (setting : Setting) (w : World) (event : Event) → IsSound setting → Leaves setting w → Books setting w → IsSaid setting w

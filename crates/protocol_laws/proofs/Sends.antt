@@ -9,41 +9,61 @@ use Rattle.fab_base.specs.Stamps.{stamp_below, first_stamp}
 use Rattle.messages.specs.declared.calls.Call.{Call}
 use Rattle.messages.specs.declared.packets.Message.TheVariants as Message
 use Rattle.messages.specs.declared.packets.Packet.{Packet}
+use Rattle.messages.specs.declared.requests.Look.{Look}
+use Rattle.messages.specs.declared.requests.Look.TheVariants.{Below, At}
 use Rattle.messages.specs.declared.requests.Request.{Request}
-use Rattle.protocol.specs.Settings.{Setting}
+use Rattle.fab_base.specs.Layouts.{Group, group_of, seat_in}
+use Rattle.fab_base.proofs.Seats.{seat_of_member}
+use Rattle.fab_base.proofs.StampOrder.{stamp_same_true}
+use Rattle.std.proofs.lemmas.Option.{same_Some}
+use Rattle.protocol.specs.Settings.{Setting, IsSound}
 use Rattle.protocol.specs.declared.phases.Counted.{Counted}
 use Rattle.protocol.specs.declared.phases.Phase.{Phase}
-use Rattle.protocol.specs.declared.phases.Phase.TheVariants.{Looks, Orders, Recovers, Descends, Stores}
+use Rattle.protocol.specs.declared.phases.Phase.TheVariants.{Looks, LooksAt, Orders, OrdersAt, Recovers, Descends, Modifies, Bases, Stores}
 use Rattle.protocol.specs.Coordinators.{Coordinator, next_phase, has_seat, request_of}
 use Rattle.protocol.specs.Nodes.{Node, with_known, with_call, phase_packets, given_content, resent_to, resent, resent_up_to, ticked}
-use Rattle.protocol.specs.Worlds.{World, Operation}
+use Rattle.protocol.specs.Worlds.{World, Operation, number_of}
 use Rattle.protocol_laws.specs.Laws.{WasSent}
 use Rattle.protocol_laws.proofs.Books.{Books, CallBooks, IsOperation, IsCall}
-use Rattle.protocol_laws.proofs.Said.{Begun, Stamping, Said, IsSaid, IsBegun, AreBlocked, IsStampOf, IsCalled, FitsPhase, RequestSays, PacketSays, CallSays}
+use Rattle.protocol_laws.proofs.Said.{Begun, Stamping, Said, IsSaid, IsBegun, AreBlocked, IsStampOf, IsCalled, FitsPhase, RequestSays, PacketSays, CallSays, OrderReadSays, DescendsFrom, base_in, look_of, want_of, is_looked, IsMadeOrFirst, MadeOn, WriteSays}
+use Rattle.protocol_laws.proofs.Logs.{below_above}
 use Rattle.protocol_laws.proofs.Tables.{put_each, put_same, get_grown, sent_to_member}
 use Rattle.protocol_laws.proofs.Stampings.{ComesFrom, StampsGrow, Ages, ages_within, with_stamp, stamp_now, stamps_other, stamp_last, stamps_grow, stamps_say}
-use Rattle.protocol_laws.proofs.Growth.{Grows, stay_blocked}
+use Rattle.protocol_laws.proofs.Parts.{PartsGuard}
+use Rattle.protocol_laws.proofs.Growth.{Grows, stays_guarded, stays_made, stays_made_on, stay_blocked}
 use Rattle.protocol_laws.proofs.Steps.{KeepsStamps, keeps_same, ages_by, phase_asked, quiet, quiet_grows, said_quiet}
 
 -- the versions from a bound up to t
 abbrev pub IsCovered : Stamp → Stamp → Stamp → Type 0
 IsCovered bound t d = (stamp_below d bound ≡ false) × (stamp_below d t ≡ true)
 
--- a phase that asks for promises of t; where it looks below a bound above the first stamp, no quorum holds anything from there up to t
-abbrev pub AsksPromises : Setting → World → ℕ → ℕ → Stamp → Phase → Type 0
-AsksPromises setting w g s t Looks = ⊥
-AsksPromises setting w g s t Orders = Unit {0}
-AsksPromises setting w g s t Recovers = Unit {0}
-AsksPromises setting w g s t (Descends bound) =
-    (stamp_below first_stamp bound ≡ true) × (stamp_below bound t ≡ true) × AreBlocked setting w g s (IsCovered bound t)
-AsksPromises setting w g s t Stores = ⊥
+-- An operation that made its version stores it again under the same stamp.
+pub record StoresAgain (setting : Setting) (w : World) (c : Coordinator) (o : Operation) (t : Stamp) (content : List ℕ) : Type 0 where
+  pub stamp_is : t ≡ c.stamp
+  pub made : o.made ≡ true
+  pub version : o.version ≡ Some t
+  pub is_made : IsMadeOrFirst w c.ask.group.0 c.ask.stripe.0 t
+  pub content_is : content ≡ w.contents c.ask.group.0 c.ask.stripe.0 t
 
-module _ (setting : Setting) (w : World) (stamps : Stamping) (me : BrickId) (c : Coordinator) (known : ℕ) (books : Books setting w)
+-- What a phase of stamp t needs that makes no version: one that looks below a bound above the first stamp, that no quorum holds anything from there up
+-- to t; one that reads its base back, that the version was made on it; and one that stores, that the version was made.
+abbrev pub MayBegin : Setting → World → Coordinator → Operation → Stamp → Option Stamp → List ℕ → Phase → Type 0
+MayBegin setting w c o t base content Orders = (base ≡ None) × (content ≡ given_content c.ask.op)
+MayBegin setting w c o t base content (OrdersAt j) = Unit {0}
+MayBegin setting w c o t base content Recovers = Unit {0}
+MayBegin setting w c o t base content (Descends bound) =
+    (stamp_below first_stamp bound ≡ true) × AreBlocked setting w c.ask.group.0 c.ask.stripe.0 (IsCovered bound t)
+MayBegin setting w c o t base content (Bases u) = (t ≡ c.stamp) × (base ≡ c.base) × MadeOn setting w c u
+MayBegin setting w c o t base content Stores = StoresAgain setting w c o t content
+MayBegin setting w c o t base content phase = ⊥
+
+module _ (setting : Setting) (sound : IsSound setting) (w : World) (stamps : Stamping) (me : BrickId) (c : Coordinator) (known : ℕ) (books : Books setting w)
     (said : Said setting w stamps) (is : IsCall w me.0 c.call.seq c)
-    (more_known : (w.nodes me.0).known ≤ known) (t : Stamp) (round : ℕ) (phase : Phase)
+    (more_known : (w.nodes me.0).known ≤ known) (t : Stamp) (round : ℕ) (base : Option Stamp) (content : List ℕ) (phase : Phase)
     (of : IsStampOf (with_known (w.nodes me.0) (max known t.time)) me.0 (w.nodes me.0).boot t)
     (from : ComesFrom stamps me.0 (w.nodes me.0).boot c.call.seq t) (fits : FitsPhase phase c.ask.op)
-    (unbased : phase ≡ Orders → (c.base ≡ None) × (c.content ≡ given_content c.ask.op)) (asks : AsksPromises setting w c.ask.group.0 c.ask.stripe.0 t phase) where
+    (asks : MayBegin setting w c (books.calls me.0 c.call.seq c is).operation t base content phase)
+    (down : DescendsFrom phase c.ask.op t) where
   abbrev its : CallBooks setting w me.0 c.call.seq c
   its = books.calls me.0 c.call.seq c is
 
@@ -60,7 +80,7 @@ module _ (setting : Setting) (w : World) (stamps : Stamping) (me : BrickId) (c :
   -- the coordinator in its next phase
   abbrev d_in : Phase → Coordinator
   d_in p =
-      record { group = c.group; ask = c.ask; stamp = t; round = round; base = c.base; content = c.content; call = next_phase c.call; phase = p; counted = [] }
+      record { group = c.group; ask = c.ask; stamp = t; round = round; base = base; content = content; call = next_phase c.call; phase = p; counted = [] }
 
   abbrev d : Coordinator
   d = d_in phase
@@ -112,23 +132,108 @@ module _ (setting : Setting) (w : World) (stamps : Stamping) (me : BrickId) (c :
     view = its.call_view;
   }
 
-  request_says : (p : Phase) → AsksPromises setting w c.ask.group.0 c.ask.stripe.0 t p
-      → IsBegun later me.0 c.call.boot c.call.seq (c.call.phase + 1) p t → (j seat : ℕ)
-      → RequestSays setting next later me.0 j (next_phase c.call) (request_of setting.code (d_in p) seat)
+  -- an order that tells a version
+  order_read_says : (p : Phase) (look : Look) → phase ≡ p → look_of p t ≡ Some look → ((e : Stamp) → is_looked look e ≡ true → stamp_below e t ≡ true)
+      → OrderReadSays next later me.0 (next_phase c.call) t look (want_of p)
+  order_read_says p look same looks under = record {
+    operation = o;
+    called = called;
+    phase = p;
+    begun = subst (λ (z : Phase). IsBegun later me.0 c.call.boot c.call.seq (c.call.phase + 1) z t) same begun_call;
+    look_is = looks;
+    want_is = refl;
+    fits = subst (λ (z : Phase). FitsPhase z o.ask.op) same (subst (λ a. FitsPhase phase a.op) its.ask fits);
+    from = subst (λ (z : Phase). DescendsFrom z o.ask.op t) same (subst (λ a. DescendsFrom phase a.op t) its.ask down);
+    below = under;
+  }
+
+  -- a member's seat
+  seat_of : (k : ℕ) (member : BrickId) → slice_get c.group.members k ≡ Some member → seat_in c.group.members member.0 ≡ Some k
+  seat_of k member at = seat_of_member c.group.members k member (sound.distinct c.ask.group.0 c.group its.group_is) at
+
+  -- a group of the call is the operation's
+  group_same : (other : Group) → group_of setting.layout c.call.group.0 ≡ Some other → c.group ≡ other
+  group_same other other_is = same_Some c.group other (sym its.group_is ∙ ap (λ g. group_of setting.layout g.0) (sym its.call_group) ∙ other_is)
+
+  -- what concerns the stripe that is asked concerns the call's
+  of_call : (P : ℕ → ℕ → Type 0) → P c.ask.group.0 c.ask.stripe.0 → P c.call.group.0 c.call.stripe.0
+  of_call P h = subst (λ g. P g.0 c.call.stripe.0) (sym its.call_group) (subst (λ s. P c.ask.group.0 s.0) (sym its.call_stripe) h)
+
+  -- a write of a version that was made
+  write_says : (again : StoresAgain setting w c o t content) (k : ℕ) (member : BrickId) → slice_get c.group.members k ≡ Some member → phase ≡ Stores
+      → WriteSays setting next later me.0 member.0 (next_phase c.call) t (setting.code.encode c.group.m content (0 + k))
+  write_says again k member at same = record {
+    maker = record {
+      operation = o;
+      called = called;
+      begun = subst (λ (z : Phase). IsBegun later me.0 c.call.boot c.call.seq (c.call.phase + 1) z t) same begun_call;
+      made = again.made;
+      version = again.version;
+      member = λ other other_is. (k, subst (λ (z : Group). seat_in z.members member.0 ≡ Some k) (group_same other other_is) (seat_of k member at));
+      guarded = λ other other_is.
+          of_call (λ g s. PartsGuard next g s other t)
+          (stays_guarded setting w next stamps later books grows c.ask.group.0 c.ask.stripe.0 other t
+          (subst (λ a. PartsGuard w a.group.0 a.stripe.0 other t) (sym its.ask)
+          (((said.operations (number_of w me.0 c.call.seq) o its.operation_is).version t again.version).guarded other
+          (ap (λ a. group_of setting.layout a.group.0) (sym its.ask) ∙ ap (λ g. group_of setting.layout g.0) (sym its.call_group) ∙ other_is))));
+    };
+    is_block = λ other j other_is at_j.
+        let place : k ≡ j = same_Some k j (sym (seat_of k member at) ∙ (ap (λ (z : Group). seat_in z.members member.0) (group_same other other_is) ∙ at_j)) in
+        let zero : 0 + k ≡ j = omega arith in
+        let told : content ≡ w.contents c.call.group.0 c.call.stripe.0 t = of_call (λ g s. content ≡ w.contents g s t) again.content_is in
+        ap (λ (z : Group). setting.code.encode z.m content (0 + k)) (group_same other other_is)
+        ∙ ap (λ (z : List ℕ). setting.code.encode other.m z (0 + k)) told
+        ∙ ap (setting.code.encode other.m (w.contents c.call.group.0 c.call.stripe.0 t)) zero;
+  }
+
+  request_says : (p : Phase) → phase ≡ p → MayBegin setting w c o t base content p → (k : ℕ) (member : BrickId)
+      → slice_get c.group.members k ≡ Some member
+      → RequestSays setting next later me.0 member.0 (next_phase c.call) (request_of setting.code (d_in p) (0 + k))
   unfolding request_of
-  request_says Looks bad at j seat = absurd bad
-  request_says Orders ok at j seat = (at, (o, called))
-  request_says Recovers ok at j seat = (refl, inl (refl, at), (o, called))
-  request_says (Descends bound) ok at j seat = (refl, inr (ok.1, at), (o, called))
-  request_says Stores bad at j seat = absurd bad
+  request_says Orders same ok k member at = record {
+    operation = o;
+    called = called;
+    begun = subst (λ (z : Phase). IsBegun later me.0 c.call.boot c.call.seq (c.call.phase + 1) z t) same begun_call;
+    fits = subst (λ (z : Phase). FitsPhase z o.ask.op) same (subst (λ a. FitsPhase phase a.op) its.ask fits);
+  }
+  request_says (OrdersAt e) same ok k member at = order_read_says (OrdersAt e) (Below t) same refl (λ u less. less)
+  request_says Recovers same ok k member at = order_read_says Recovers (Below t) same refl (λ u less. less)
+  request_says (Descends bound) same ok k member at =
+      order_read_says (Descends bound) (Below bound) same refl (λ u less. below_above u bound t less (down.most bound same))
+  request_says (Bases u) same ok k member at =
+      order_read_says (Bases u) (At u) same refl
+      (λ e is_base.
+      subst (λ (z : Stamp). stamp_below z t ≡ true) (sym (stamp_same_true e u is_base))
+      (subst (λ (z : Stamp). stamp_below u z ≡ true) (sym ok.0) ok.2.below))
+  request_says Stores same ok k member at = write_says ok k member at same
+  request_says Looks same bad k member at = absurd bad
+  request_says (LooksAt e) same bad k member at = absurd bad
+  request_says (Modifies u e) same bad k member at = absurd bad
 
   packets : (k : ℕ) (packet : Packet) → slice_get more k ≡ Some packet → PacketSays setting next later packet
   packets k packet at =
       let sent = sent_to_member me d.call (request_of setting.code d) 0 c.group.members k packet at in
-      subst (λ (z : Packet). PacketSays setting next later z) (sym sent.2) (request_says phase asks begun_call sent.0.0 (0 + k))
+      subst (λ (z : Packet). PacketSays setting next later z) (sym sent.2) (request_says phase refl asks k sent.0 sent.1)
 
-  asks_as : (p : Phase) → phase ≡ p → AsksPromises setting w c.ask.group.0 c.ask.stripe.0 t p
-  asks_as p same = subst (λ (z : Phase). AsksPromises setting w c.ask.group.0 c.ask.stripe.0 t z) same asks
+  asks_as : (p : Phase) → phase ≡ p → MayBegin setting w c o t base content p
+  asks_as p same = subst (λ (z : Phase). MayBegin setting w c o t base content z) same asks
+
+  -- what the version of a phase was made on stays so
+  made_on : (p : Phase) (u : Stamp) → phase ≡ p → base_in p ≡ Some u → MadeOn setting next d u
+  made_on (Bases b) u same has =
+      let at : b ≡ u = cc in
+      let ok = asks_as (Bases b) same in
+      let on : MadeOn setting next c b = stays_made_on setting w next stamps later books grows c b ok.2 in
+      subst (λ (z : Stamp). MadeOn setting next d z) at (record {
+        base_is = ok.1 ∙ on.base_is;
+        below = subst (λ (z : Stamp). stamp_below b z ≡ true) (sym ok.0) on.below;
+        base_made = on.base_made;
+        stands = on.stands;
+        made = subst (λ (z : Stamp). IsMadeOrFirst next c.ask.group.0 c.ask.stripe.0 z) (sym ok.0) on.made;
+        content = ap (λ (z : Stamp). w.contents c.ask.group.0 c.ask.stripe.0 z) ok.0 ∙ on.content;
+      })
+  made_on (Modifies b e) u same has = absurd (asks_as (Modifies b e) same)
+  made_on p u same has = cc
 
   d_says : CallSays setting next later me.0 c.call.seq d
   d_says = record {
@@ -138,13 +243,16 @@ module _ (setting : Setting) (w : World) (stamps : Stamping) (me : BrickId) (c :
         (stamp_last stamps me.0 boot c.call.seq (c.call.phase + 1) begun none from p less);
     asked = phase_asked setting next me d w.packets refl;
     fits = fits;
-    unbased = λ orders. (unbased orders).0;
-    given = λ orders. (unbased orders).1;
+    unbased = λ orders. (asks_as Orders orders).0;
+    given = λ orders. (asks_as Orders orders).1;
     above = λ bound descends. (asks_as (Descends bound) descends).0;
-    below = λ bound descends. (asks_as (Descends bound) descends).1;
+    from = down;
     covered = λ bound descends.
-        stay_blocked setting w next stamps later books grows c.ask.group.0 c.ask.stripe.0 (IsCovered bound t) (asks_as (Descends bound) descends).2;
-    stores = λ stores. absurd (asks_as Stores stores);
+        stay_blocked setting w next stamps later books grows c.ask.group.0 c.ask.stripe.0 (IsCovered bound t) (asks_as (Descends bound) descends).1;
+    stores = λ stores.
+        let again : StoresAgain setting w c o t content = asks_as Stores stores in
+        (stays_made setting w next stamps later books grows c.ask.group.0 c.ask.stripe.0 t again.is_made, again.content_is);
+    based = λ u has. made_on phase u refl has;
     counted = tt;
     once = tt;
   }

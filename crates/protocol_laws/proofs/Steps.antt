@@ -54,7 +54,7 @@ pub record Owes (setting : Setting) (w next : World) (stamps later : Stamping) :
   pub calls : (i k : ℕ) (c : Coordinator) → IsCall next i k c
       → StaysOpen w stamps later i k c (next.nodes i).boot ⊎ CallSays setting next later i k c
   pub ends : (k p n : ℕ) (answer : Answer) → slice_get next.marks k ≡ Some (End p n answer)
-      → (slice_get w.marks k ≡ Some (End p n answer)) ⊎ EndShows next n answer
+      → (slice_get w.marks k ≡ Some (End p n answer)) ⊎ EndShows setting next n answer
   pub order : IsInOrder setting next
 
 -- the invariant holds after an event that pays what it owes
@@ -90,7 +90,7 @@ said_after setting w next stamps later books said grows owes = record {
   ends = λ k p n answer is. ⊎_elim
       (λ (old : slice_get w.marks k ≡ Some (End p n answer)).
       stays_end setting w next stamps later books grows said.operations n answer (said.ends k p n answer old))
-      (λ (new : EndShows next n answer). new)
+      (λ (new : EndShows setting next n answer). new)
       (owes.ends k p n answer is);
   order = owes.order;
   first = λ g s. grows.contents g s first_stamp (inl refl) ∙ said.first g s;

@@ -1,13 +1,13 @@
 -- A coordinator whose order was promised by a quorum makes its version, and sends it.
-use Rattle.std.proofs.Common.{◌≡◌, ℕ, ◌+◌, ◌*◌, ◌≤◌, ◌⊎◌, inl, inr, true, false, cond, List, [], ◌∷◌, ◌++◌, length, Option, Some, None, refl, sym, ap, ◌∙◌, subst, ⊎_elim, arith}
-use Rattle.std.specs.Prelude.{slice_get, nat_eq}
-use Rattle.std.proofs.lemmas.Bool.{cond_both, cond-true, true≢false, and_parts, eqb-true}
+use Rattle.std.proofs.Common.{◌≡◌, ◌≢◌, ℕ, ◌+◌, ◌*◌, ◌<◌, ◌≤◌, ◌⊎◌, inl, inr, true, false, cond, List, [], ◌∷◌, ◌++◌, length, Option, Some, None, refl, sym, ap, ◌∙◌, subst, ⊎_elim, arith}
+use Rattle.std.specs.Prelude.{slice_get, nat_eq, nat_lt, not, Bool}
+use Rattle.std.proofs.lemmas.Bool.{cond_both, cond-true, true≢false, and_parts, or_parts, eqb-true, eqb-false, ltb-true, not-false}
 use Rattle.std.proofs.lemmas.Option.{same_Some}
 use Rattle.fab_base.specs.declared.identities.BrickId.{BrickId}
 use Rattle.fab_base.specs.declared.stamps.Stamp.{Stamp}
 use Rattle.fab_base.specs.declared.asks.Ask.{Ask}
 use Rattle.fab_base.specs.declared.asks.Op.{Op}
-use Rattle.fab_base.specs.declared.asks.Op.TheVariants.{ReadStripe, WriteStripe}
+use Rattle.fab_base.specs.declared.asks.Op.TheVariants.{WriteBlock, WriteStripe}
 use Rattle.fab_base.specs.Stamps.{stamp_below, stamp_same}
 use Rattle.fab_base.proofs.StampOrder.{stamp_same_refl, stamp_same_true}
 use Rattle.messages.specs.declared.packets.Packet.{Packet}
@@ -15,20 +15,26 @@ use Rattle.reg_model.specs.Marks.{life_of}
 use Rattle.reg_model.specs.Walk.{last_of}
 use Rattle.fab_base.specs.Layouts.{Group, group_of, seat_in}
 use Rattle.protocol.specs.Settings.{Setting, IsSound, are_bytes}
-use Rattle.protocol.specs.declared.phases.Phase.TheVariants.{Stores}
-use Rattle.protocol.specs.Coordinators.{Coordinator, next_phase, request_of}
+use Rattle.quorum.specs.Quorums.{IsWithinLimits}
+use Rattle.reg_model.specs.Registers.{block_of, with_block, after_op}
+use Rattle.protocol.specs.Replicas.{is_changed, modified_block}
+use Rattle.protocol.specs.declared.phases.Phase.{Phase}
+use Rattle.protocol.specs.declared.phases.Phase.TheVariants.{Orders, Descends, Modifies, Stores}
+use Rattle.protocol.specs.Coordinators.{Coordinator, next_phase, request_of, delta_at}
 use Rattle.protocol.specs.declared.tellings.Told.TheVariants.{Made}
-use Rattle.protocol.specs.Nodes.{Node, put, has_length, given_content, with_call, phase_packets}
+use Rattle.protocol.specs.Nodes.{Node, put, has_block, has_length, with_call, phase_packets}
 use Rattle.protocol.specs.Worlds.{World, Operation, number_of, world_stepped, with_made, with_content, with_held, content_on, content_by}
 use Rattle.protocol_laws.proofs.Parts.{PartsGuard}
 use Rattle.protocol_laws.proofs.Books.{Books, OperationBooks, CallBooks, IsOperation, IsCall}
-use Rattle.protocol_laws.proofs.Said.{Begun, Stamping, Said, IsSaid, StampsSay, IsStampOf, IsBegun, IsStamped, AreBlocked, IsContent, IsMadeOrFirst, FloorsAtMost, WriteSays, PacketSays, HasVersion, WritesWhole, ReadsBack, OperationSays, CallSays}
-use Rattle.fab_base.proofs.Seats.{seat_of_member}
+use Rattle.protocol_laws.proofs.Said.{Begun, Stamping, Said, IsSaid, StampsSay, IsStampOf, IsBegun, IsStamped, AreBlocked, Stands, IsContent, IsMadeOrFirst, FloorsAtMost, FitsPhase, MakerSays, WriteSays, ChangesBlock, ModifySays, MadeOn, RequestSays, base_in, PacketSays, HasVersion, WritesWhole, ReadsBack, OperationSays, CallSays}
+use Rattle.protocol_laws.specs.Laws.{IsModified}
+use Rattle.fab_base.proofs.Seats.{seat_of_member, seat_within}
+use Rattle.protocol_laws.proofs.Blocks.{block_room, block_same, block_other}
 use Rattle.protocol_laws.proofs.Tables.{put_each, put_same, sent_to_member}
 use Rattle.protocol_laws.proofs.Lives.{open_last}
 use Rattle.protocol_laws.proofs.Stampings.{ComesFrom, StampsGrow, Ages, ages_within, stamp_stays, stays_stamped, with_stamp, stamp_now, stamps_other, stamp_last, stamps_grow, stamps_say}
 use Rattle.protocol_laws.proofs.Steps.{KeepsStamps, ages_by, phase_asked}
-use Rattle.protocol_laws.proofs.Growth.{Grows, stays_guarded, stays_made, stay_blocked, stays_operation}
+use Rattle.protocol_laws.proofs.Growth.{Grows, stays_guarded, stays_made, stays_standing, stay_blocked, stays_operation}
 use Rattle.protocol_laws.proofs.Operated.{operated, OperatedKeeps, operated_grows, said_operated}
 use Rattle.protocol_laws.proofs.OwnStamps.{not_made_yet}
 
@@ -43,25 +49,47 @@ open_until setting w i k c books is =
     (λ j mark at. let place = books.places j mark at in omega (arith, place)) o_books.life_is (its.unended o_books.life o_books.life_is) in
     omega arith
 
--- a recovery stores the content of the version that it read back: nothing that a quorum holds lies between that version and its stamp
-pub record Restores (setting : Setting) (w : World) (c : Coordinator) (group : Group) (base : Option Stamp) (content : List ℕ) : Type 0 where
+-- An operation makes its version on another, of which no more is held by a quorum up to its own stamp.
+pub record MakesOn (setting : Setting) (w : World) (c : Coordinator) (base : Option Stamp) : Type 0 where
   pub version : Stamp
   pub base_is : base ≡ Some version
-  pub op : c.ask.op ≡ ReadStripe
+  pub op : (bytes : List ℕ) → c.ask.op ≡ WriteStripe bytes → ⊥
   pub below : stamp_below version c.stamp ≡ true
   pub made : IsMadeOrFirst w c.ask.group.0 c.ask.stripe.0 version
-  pub content_is : content ≡ w.contents c.ask.group.0 c.ask.stripe.0 version
-  pub formed : IsContent group.m setting.layout.block content
   pub blocked : AreBlocked setting w c.ask.group.0 c.ask.stripe.0 (λ d. (stamp_below version d ≡ true) × (stamp_below d c.stamp ≡ true))
 
--- a coordinator writes a stripe whole, as it was given, on no base, or restores a version
-abbrev pub MakesVersion : Setting → World → Coordinator → Group → Option Stamp → List ℕ → Type 0
-MakesVersion setting w c group base content =
-    ((base ≡ None) × ((bytes : List ℕ) × (c.ask.op ≡ WriteStripe bytes)) × (content ≡ given_content c.ask.op)) ⊎ Restores setting w c group base content
+-- a coordinator makes its version of a stripe's bytes, on no base, or on another version
+abbrev pub MakesVersion : Setting → World → Coordinator → Option Stamp → Type 0
+MakesVersion setting w c base = ((base ≡ None) × ((bytes : List ℕ) × (c.ask.op ≡ WriteStripe bytes))) ⊎ MakesOn setting w c base
+
+-- what an operation makes of its base's content
+abbrev pub made_content : Setting → World → Coordinator → Option Stamp → List ℕ
+made_content setting w c base = content_on setting.layout.block (w.contents c.ask.group.0 c.ask.stripe.0) c.ask.op base
+
+-- the write of a block modifies a version that a quorum has held, by what that block of it changes by
+pub record SendsChange (setting : Setting) (w : World) (c : Coordinator) (base : Option Stamp) (phase : Phase) (content : List ℕ) : Type 0 where
+  pub version : Stamp
+  pub base_is : base ≡ Some version
+  pub j : ℕ
+  pub bytes : List ℕ
+  pub phase_is : phase ≡ Modifies version j
+  pub op_is : c.ask.op ≡ WriteBlock j bytes
+  pub below : stamp_below version c.stamp ≡ true
+  pub made : IsMadeOrFirst w c.ask.group.0 c.ask.stripe.0 version
+  pub stands : Stands setting w c.ask.group.0 c.ask.stripe.0 version
+  pub formed : (group : Group) → group_of setting.layout c.ask.group.0 ≡ Some group
+      → IsContent group.m setting.layout.block (w.contents c.ask.group.0 c.ask.stripe.0 version)
+  pub delta_is : content
+      ≡ setting.code.delta (block_of setting.layout.block j (w.contents c.ask.group.0 c.ask.stripe.0 version)) bytes
+
+-- it sends its version whole, or what it changes of its base
+abbrev pub SendsVersion : Setting → World → Coordinator → Option Stamp → Phase → List ℕ → Type 0
+SendsVersion setting w c base phase content =
+    ((phase ≡ Stores) × (content ≡ made_content setting w c base)) ⊎ SendsChange setting w c base phase content
 
 module _ (setting : Setting) (sound : IsSound setting) (w : World) (stamps : Stamping) (me : BrickId) (c : Coordinator) (known : ℕ)
     (books : Books setting w) (said : Said setting w stamps) (is : IsCall w me.0 c.call.seq c)
-    (more_known : (w.nodes me.0).known ≤ known) (base : Option Stamp) (content : List ℕ) where
+    (more_known : (w.nodes me.0).known ≤ known) (base : Option Stamp) (phase : Phase) (content : List ℕ) where
   -- its group, and its members
   abbrev group : Group
   group = c.group
@@ -99,7 +127,7 @@ module _ (setting : Setting) (sound : IsSound setting) (w : World) (stamps : Sta
         floor = o.floor;
       }
 
-  -- the coordinator in its store phase
+  -- the coordinator in the phase that sends it
   abbrev d : Coordinator
   d =
       record {
@@ -110,7 +138,7 @@ module _ (setting : Setting) (sound : IsSound setting) (w : World) (stamps : Sta
         base = base;
         content = content;
         call = next_phase c.call;
-        phase = Stores;
+        phase = phase;
         counted = [];
       }
 
@@ -122,13 +150,13 @@ module _ (setting : Setting) (sound : IsSound setting) (w : World) (stamps : Sta
 
   -- what its version is given as content
   abbrev given : List ℕ
-  given = content_on setting.layout.block (w.contents c.ask.group.0 c.ask.stripe.0) c.ask.op base
+  given = made_content setting w c base
 
   abbrev contents : ℕ → ℕ → Stamp → List ℕ
   contents = content_by setting.layout.block w.contents c.stamp base c.ask
 
   abbrev begun : Begun
-  begun = record { stamp = c.stamp; phase = Stores }
+  begun = record { stamp = c.stamp; phase = phase }
 
   -- the stamps after
   abbrev later : Stamping
@@ -196,7 +224,7 @@ module _ (setting : Setting) (sound : IsSound setting) (w : World) (stamps : Sta
   grow : StampsGrow stamps later
   grow = stamps_grow stamps me.0 boot c.call.seq (c.call.phase + 1) begun none from
 
-  begun_now : IsBegun later me.0 boot c.call.seq (c.call.phase + 1) Stores c.stamp
+  begun_now : IsBegun later me.0 boot c.call.seq (c.call.phase + 1) phase c.stamp
   begun_now = stamp_now stamps me.0 boot c.call.seq (c.call.phase + 1) begun
 
   -- the boot stays
@@ -277,35 +305,37 @@ module _ (setting : Setting) (sound : IsSound setting) (w : World) (stamps : Sta
     made_now = inr (n, made, put_same w.operations n (Some made), refl, refl, refl, refl)
 
     module _ (guarded : PartsGuard w c.ask.group.0 c.ask.stripe.0 group c.stamp) (floors : FloorsAtMost o group c.stamp)
-        (makes : MakesVersion setting w c group base content) where
-      -- it stores just that
-      given_is : MakesVersion setting w c group base content → given ≡ content
-      given_is (inl whole) =
-          ap (λ (op : Op). content_on setting.layout.block (w.contents c.ask.group.0 c.ask.stripe.0) op base) whole.1.1
-          ∙ ap (λ (z : Option Stamp). content_on setting.layout.block (w.contents c.ask.group.0 c.ask.stripe.0) (WriteStripe whole.1.0) z) whole.0
-          ∙ sym (whole.2 ∙ ap given_content whole.1.1)
-      given_is (inr back) =
-          ap (λ (op : Op). content_on setting.layout.block (w.contents c.ask.group.0 c.ask.stripe.0) op base) back.op
-          ∙ ap (λ (z : Option Stamp). content_on setting.layout.block (w.contents c.ask.group.0 c.ask.stripe.0) ReadStripe z) back.base_is
-          ∙ sym back.content_is
-
-      content_now : contents c.ask.group.0 c.ask.stripe.0 c.stamp ≡ content
-      content_now = given_now ∙ given_is makes
-
+        (makes : MakesVersion setting w c base) (formed : IsContent group.m setting.layout.block given)
+        (sends : SendsVersion setting w c base phase content) where
       guarded_by : (other : Group) → group_of setting.layout c.ask.group.0 ≡ Some other → PartsGuard next c.ask.group.0 c.ask.stripe.0 other c.stamp
       guarded_by other other_is =
           stays_guarded setting w next stamps later books grows c.ask.group.0 c.ask.stripe.0 other c.stamp
           (subst (λ (z : Group). PartsGuard w c.ask.group.0 c.ask.stripe.0 z c.stamp) (same_group other other_is) guarded)
 
+      -- the content that an operation makes of its base's
+      given_on : (v : Stamp) → base ≡ Some v → given ≡ after_op setting.layout.block c.ask.op (w.contents c.ask.group.0 c.ask.stripe.0 v)
+      given_on v is = ap (λ (z : Option Stamp). content_on setting.layout.block (w.contents c.ask.group.0 c.ask.stripe.0) c.ask.op z) is
+
+      -- and that is its version's, made of what is its base's then
+      made_on : (v : Stamp) → base ≡ Some v → IsMadeOrFirst w c.ask.group.0 c.ask.stripe.0 v
+          → contents c.ask.group.0 c.ask.stripe.0 c.stamp ≡ after_op setting.layout.block c.ask.op (contents c.ask.group.0 c.ask.stripe.0 v)
+      made_on v is v_made =
+          given_now ∙ given_on v is
+          ∙ ap (λ (z : List ℕ). after_op setting.layout.block c.ask.op z) (sym (kept c.ask.group.0 c.ask.stripe.0 v v_made))
+
       -- how its version was made
-      maker_of : (a : Ask) → c.ask ≡ a → MakesVersion setting w c group base content
+      maker_of : (a : Ask) → c.ask ≡ a → MakesVersion setting w c base
           → WritesWhole next (record made { ask = a }) c.stamp ⊎ ReadsBack setting next (record made { ask = a }) c.stamp
-      maker_of a same (inl whole) = inl (
-        whole.0,
-        ap (λ (z : Ask). z.op) (sym same) ∙ whole.1.1
-            ∙ ap (λ (bytes : List ℕ). WriteStripe bytes)
-            (sym (whole.2 ∙ ap given_content whole.1.1) ∙ sym content_now ∙ ap (λ (z : Ask). contents z.group.0 z.stripe.0 c.stamp) same),
-      )
+      maker_of a same (inl whole) =
+          let bytes_are : contents c.ask.group.0 c.ask.stripe.0 c.stamp ≡ whole.1.0
+          = given_now
+          ∙ ap (λ (z : Option Stamp). content_on setting.layout.block (w.contents c.ask.group.0 c.ask.stripe.0) c.ask.op z) whole.0
+          ∙ ap (λ (op : Op). content_on setting.layout.block (w.contents c.ask.group.0 c.ask.stripe.0) op None) whole.1.1 in
+          inl (
+            whole.0,
+            ap (λ (z : Ask). z.op) (sym same) ∙ whole.1.1
+                ∙ ap (λ (bytes : List ℕ). WriteStripe bytes) (sym bytes_are ∙ ap (λ (z : Ask). contents z.group.0 z.stripe.0 c.stamp) same),
+          )
       maker_of a same (inr back) = inr (subst
           (λ (z : Ask). ReadsBack setting next (record made { ask = z }) c.stamp) same
           (record {
@@ -314,25 +344,10 @@ module _ (setting : Setting) (sound : IsSound setting) (w : World) (stamps : Sta
             op = back.op;
             below = back.below;
             made = stays_made setting w next stamps later books grows c.ask.group.0 c.ask.stripe.0 back.version back.made;
-            content = content_now ∙ back.content_is
-                ∙ sym (kept c.ask.group.0 c.ask.stripe.0 back.version back.made);
+            content = made_on back.version back.base_is back.made;
             blocked = stay_blocked setting w next stamps later books grows c.ask.group.0 c.ask.stripe.0
                 (λ e. (stamp_below back.version e ≡ true) × (stamp_below e c.stamp ≡ true)) back.blocked;
           }))
-
-      -- what it stores is the bytes of m blocks
-      stored_formed : MakesVersion setting w c group base content → IsContent group.m setting.layout.block content
-      stored_formed (inl whole) =
-          let o_books : OperationBooks setting w n o = books.operations n o its.operation_is in
-          let same : o_books.group ≡ group = same_Some o_books.group group (sym o_books.group_is ∙ its_group) in
-          let writes : o.ask.op ≡ WriteStripe whole.1.0 = ap (λ a. a.op) (sym its.ask) ∙ whole.1.1 in
-          let fits : has_length group.m setting.layout.block (WriteStripe whole.1.0) ≡ true
-          = subst (λ (z : Group). has_length z.m setting.layout.block (WriteStripe whole.1.0) ≡ true) same
-          (subst (λ (op : Op). has_length o_books.group.m setting.layout.block op ≡ true) writes o_books.length_fits) in
-          let parts = and_parts (are_bytes whole.1.0) (nat_eq (length whole.1.0) (group.m * setting.layout.block)) fits in
-          subst (λ (l : List ℕ). IsContent group.m setting.layout.block l) (sym (whole.2 ∙ ap given_content whole.1.1))
-          (eqb-true (length whole.1.0) (group.m * setting.layout.block) parts.1, parts.0)
-      stored_formed (inr back) = back.formed
 
       operation_says : OperationSays setting next later n made
       operation_says =
@@ -351,9 +366,9 @@ module _ (setting : Setting) (sound : IsSound setting) (w : World) (stamps : Sta
                 let same : c.stamp ≡ v = cc in
                 subst (λ (t : Stamp). IsContent other.m setting.layout.block (contents o.ask.group.0 o.ask.stripe.0 t)) same
                 (subst (λ (a : Ask). IsContent other.m setting.layout.block (contents a.group.0 a.stripe.0 c.stamp)) its.ask
-                (subst (λ (l : List ℕ). IsContent other.m setting.layout.block l) (sym content_now)
-                (subst (λ (z : Group). IsContent z.m setting.layout.block content)
-                (same_group other (ap (λ a. group_of setting.layout a.group.0) its.ask ∙ other_is)) (stored_formed makes))));
+                (subst (λ (l : List ℕ). IsContent other.m setting.layout.block l) (sym given_now)
+                (subst (λ (z : Group). IsContent z.m setting.layout.block given)
+                (same_group other (ap (λ a. group_of setting.layout a.group.0) its.ask ∙ other_is)) formed)));
             stands = λ v has how. ⊎_elim
                 (λ (isnt : true ≡ false). absurd (true≢false isnt))
                 (λ (answered : o.answered ≡ true). absurd (true≢false (sym answered ∙ its.unanswered)))
@@ -370,69 +385,260 @@ module _ (setting : Setting) (sound : IsSound setting) (w : World) (stamps : Sta
                       subst (λ (z : Group). FloorsAtMost o z c.stamp)
                       (same_group other (ap (λ a. group_of setting.layout a.group.0) its.ask ∙ other_is)) floors;
                 });
-            answered = λ answered bytes op. refl;
+            answered = λ answered writes. refl;
           }
+
+      -- the seat of a member
+      seat_of : (k : ℕ) (member : BrickId) → slice_get group.members k ≡ Some member → seat_in group.members member.0 ≡ Some k
+      seat_of k member at = seat_of_member group.members k member (sound.distinct c.ask.group.0 group group_is) at
+
+      -- the group of the call, and a seat in it
+      call_group_is : (other : Group) → group_of setting.layout c.call.group.0 ≡ Some other → group ≡ other
+      call_group_is other other_is = same_group other (ap (group_of setting.layout) call_group ∙ other_is)
+
+      seat_same : (k j : ℕ) (member : BrickId) (other : Group) → slice_get group.members k ≡ Some member
+          → group_of setting.layout c.call.group.0 ≡ Some other → seat_in other.members member.0 ≡ Some j → k ≡ j
+      seat_same k j member other at other_is at_j =
+          same_Some k j (sym (seat_of k member at) ∙ (ap (λ (z : Group). seat_in z.members member.0) (call_group_is other other_is) ∙ at_j))
+
+      -- what concerns the stripe that is asked concerns the call's
+      of_call : (P : ℕ → ℕ → Type 0) → P c.ask.group.0 c.ask.stripe.0 → P c.call.group.0 c.call.stripe.0
+      of_call P h = subst (λ (g : ℕ). P g c.call.stripe.0) call_group (subst (λ (s : ℕ). P c.ask.group.0 s) call_stripe h)
+
+      -- a request to a member to store the version
+      maker_says : (k : ℕ) (member : BrickId) → slice_get group.members k ≡ Some member
+          → MakerSays setting next later me.0 member.0 d.call phase c.stamp
+      maker_says k member at = record {
+        operation = made;
+        called = record {
+          is = subst (λ (b : ℕ). IsOperation next (w.numbers me.0 b c.call.seq) made) (sym its.call_boot)
+              (put_same w.operations n (Some made));
+          brick = its.brick;
+          boot = its.boot ∙ sym its.call_boot;
+          seq = its.seq;
+          group = ap (λ a. a.group.0) (sym its.ask) ∙ call_group;
+          stripe = ap (λ a. a.stripe.0) (sym its.ask) ∙ call_stripe;
+          view = its.call_view;
+        };
+        begun = subst (λ (b : ℕ). IsBegun later me.0 b c.call.seq (c.call.phase + 1) phase c.stamp) (sym its.call_boot) begun_now;
+        made = refl;
+        version = refl;
+        member = λ other other_is.
+            (k, subst (λ (z : Group). seat_in z.members member.0 ≡ Some k) (call_group_is other other_is) (seat_of k member at));
+        guarded = λ other other_is.
+            of_call (λ g s. PartsGuard next g s other c.stamp) (guarded_by other (ap (group_of setting.layout) call_group ∙ other_is));
+      }
 
       -- a write to a member
-      write_says : (k : ℕ) (member : BrickId) → slice_get group.members k ≡ Some member
+      write_says : (k : ℕ) (member : BrickId) → slice_get group.members k ≡ Some member → phase ≡ Stores → content ≡ given
           → WriteSays setting next later me.0 member.0 d.call c.stamp (setting.code.encode group.m content (0 + k))
-      write_says k member at =
-          let seat : seat_in group.members member.0 ≡ Some k = seat_of_member group.members k member
-          (sound.distinct c.ask.group.0 group group_is) at in
-          record {
-            operation = made;
-            called = record {
-              is = subst (λ (b : ℕ). IsOperation next (w.numbers me.0 b c.call.seq) made) (sym its.call_boot)
-                  (put_same w.operations n (Some made));
-              brick = its.brick;
-              boot = its.boot ∙ sym its.call_boot;
-              seq = its.seq;
-              group = ap (λ a. a.group.0) (sym its.ask) ∙ call_group;
-              stripe = ap (λ a. a.stripe.0) (sym its.ask) ∙ call_stripe;
-              view = its.call_view;
-            };
-            begun = subst (λ (b : ℕ). IsBegun later me.0 b c.call.seq (c.call.phase + 1) Stores c.stamp) (sym its.call_boot) begun_now;
-            made = refl;
-            version = refl;
-            member = λ other other_is.
-                let same : group ≡ other = same_group other (ap (group_of setting.layout) call_group ∙ other_is) in
-                (k, subst (λ (z : Group). seat_in z.members member.0 ≡ Some k) same seat);
-            guarded = λ other other_is.
-                subst (λ (g : ℕ). PartsGuard next g c.call.stripe.0 other c.stamp) call_group
-                (subst (λ (s : ℕ). PartsGuard next c.ask.group.0 s other c.stamp) call_stripe
-                (guarded_by other (ap (group_of setting.layout) call_group ∙ other_is)));
-            is_block = λ other j other_is at_j.
-                let same : group ≡ other = same_group other (ap (group_of setting.layout) call_group ∙ other_is) in
-                let place : k ≡ j = same_Some k j (sym seat ∙ (ap (λ (z : Group). seat_in z.members member.0) same ∙ at_j)) in
-                let zero : 0 + k ≡ j = omega arith in
-                let told : content ≡ contents c.call.group.0 c.call.stripe.0 c.stamp
-                = sym content_now ∙ ap (λ (g : ℕ). contents g c.ask.stripe.0 c.stamp) call_group
-                ∙ ap (λ (s : ℕ). contents c.call.group.0 s c.stamp) call_stripe in
-                ap (λ (z : Group). setting.code.encode z.m content (0 + k)) same
-                ∙ ap (λ (z : List ℕ). setting.code.encode other.m z (0 + k)) told
-                ∙ ap (setting.code.encode other.m (contents c.call.group.0 c.call.stripe.0 c.stamp)) zero;
-          }
+      write_says k member at stores whole = record {
+        maker = subst (λ (p : Phase). MakerSays setting next later me.0 member.0 d.call p c.stamp) stores (maker_says k member at);
+        is_block = λ other j other_is at_j.
+            let place : k ≡ j = seat_same k j member other at other_is at_j in
+            let zero : 0 + k ≡ j = omega arith in
+            let told : content ≡ contents c.call.group.0 c.call.stripe.0 c.stamp
+            = of_call (λ g s. content ≡ contents g s c.stamp) (whole ∙ sym given_now) in
+            ap (λ (z : Group). setting.code.encode z.m content (0 + k)) (call_group_is other other_is)
+            ∙ ap (λ (z : List ℕ). setting.code.encode other.m z (0 + k)) told
+            ∙ ap (setting.code.encode other.m (contents c.call.group.0 c.call.stripe.0 c.stamp)) zero;
+      }
+
+      -- what the write of a block changes at a seat
+      module _ (change : SendsChange setting w c base phase content) where
+        abbrev size : ℕ
+        size = setting.layout.block
+
+        abbrev before : List ℕ
+        before = w.contents c.ask.group.0 c.ask.stripe.0 change.version
+
+        abbrev after : List ℕ
+        after = with_block size change.j change.bytes before
+
+        before_formed : IsContent group.m size before
+        before_formed = change.formed group group_is
+
+        -- the write's block is one of m, and is a block
+        asked_fits : (change.j < group.m) × (length change.bytes ≡ size) × (are_bytes change.bytes ≡ true)
+        asked_fits =
+            let o_books : OperationBooks setting w n o = books.operations n o its.operation_is in
+            let same : o_books.group ≡ group = same_Some o_books.group group (sym o_books.group_is ∙ its_group) in
+            let op : o.ask.op ≡ WriteBlock change.j change.bytes = ap (λ a. a.op) (sym its.ask) ∙ change.op_is in
+            let has : has_block group.m (WriteBlock change.j change.bytes) ≡ true
+            = subst (λ (z : Group). has_block z.m (WriteBlock change.j change.bytes) ≡ true) same
+            (subst (λ (x : Op). has_block o_books.group.m x ≡ true) op o_books.block_fits) in
+            let long : has_length group.m size (WriteBlock change.j change.bytes) ≡ true
+            = subst (λ (z : Group). has_length z.m size (WriteBlock change.j change.bytes) ≡ true) same
+            (subst (λ (x : Op). has_length o_books.group.m size x ≡ true) op o_books.length_fits) in
+            let parts = and_parts (are_bytes change.bytes) (nat_eq (length change.bytes) size) long in
+            (ltb-true change.j group.m has, eqb-true (length change.bytes) size parts.1, parts.0)
+
+        fits : change.j * size + size ≤ length before
+        fits = let room = block_room change.j group.m size asked_fits.0 in omega (arith, room, before_formed.0)
+
+        given_after : given ≡ after
+        given_after = given_on change.version change.base_is ∙ ap (λ (x : Op). after_op size x before) change.op_is
+
+        limits : IsWithinLimits group.m (length group.members)
+        limits = sound.limits c.ask.group.0 group group_is
+
+        -- a seat's block of the base becomes that of the version
+        changes_seat : (seat : ℕ) → seat < length group.members
+            → modified_block setting.code group.m change.j seat (delta_at group.m change.j seat content) (setting.code.encode group.m before seat)
+            ≡ setting.code.encode group.m after seat
+        changes_seat seat within = by (is_changed group.m change.j seat) refl
+          where
+            other_seat : is_changed group.m change.j seat ≡ false → (seat < group.m) × (seat ≢ change.j)
+            other_seat isnt =
+                let parts = or_parts (nat_eq seat change.j) (not (nat_lt seat group.m)) isnt in
+                (ltb-true seat group.m (not-false (nat_lt seat group.m) parts.1), eqb-false seat change.j parts.0)
+
+            by : (b : Bool) → is_changed group.m change.j seat ≡ b
+                → cond b (setting.code.modify group.m change.j seat (cond b content []) (setting.code.encode group.m before seat))
+                (setting.code.encode group.m before seat)
+                ≡ setting.code.encode group.m after seat
+            by true is =
+                ap (λ (z : List ℕ). setting.code.modify group.m change.j seat z (setting.code.encode group.m before seat)) change.delta_is
+                ∙ sound.modifies group.m (length group.members) limits before change.bytes change.j seat before_formed.0 before_formed.1
+                asked_fits.1 asked_fits.2 asked_fits.0 within
+            by false isnt =
+                let other = other_seat isnt in
+                let inside : seat * size + size ≤ length before
+                = (let room = block_room seat group.m size other.0 in omega (arith, room, before_formed.0)) in
+                sound.keeps group.m (length group.members) limits before seat before_formed.0 before_formed.1 other.0
+                ∙ sym (block_other size change.j change.bytes before fits asked_fits.1 seat other.1 inside)
+                ∙ sym (sound.keeps group.m (length group.members) limits after seat
+                (subst (λ (l : List ℕ). length l ≡ group.m * size) given_after formed.0)
+                (subst (λ (l : List ℕ). are_bytes l ≡ true) given_after formed.1) other.0)
+
+        -- by contents as they are then
+        before_now : contents c.ask.group.0 c.ask.stripe.0 change.version ≡ before
+        before_now = kept c.ask.group.0 c.ask.stripe.0 change.version change.made
+
+        after_now : contents c.ask.group.0 c.ask.stripe.0 c.stamp ≡ after
+        after_now = given_now ∙ given_after
+
+        new_block : block_of size change.j after ≡ change.bytes
+        new_block = block_same size change.j change.bytes before fits asked_fits.1
+
+        is_modified : IsModified setting next c.ask.group.0 c.ask.stripe.0 c.stamp change.version change.j content
+        is_modified = record {
+          delta_is = change.delta_is
+              ∙ ap (λ (z : List ℕ). setting.code.delta (block_of size change.j z) change.bytes) (sym before_now)
+              ∙ ap (λ (z : List ℕ). setting.code.delta (block_of size change.j (contents c.ask.group.0 c.ask.stripe.0 change.version)) z)
+              (sym new_block ∙ ap (block_of size change.j) (sym after_now));
+          others = after_now
+              ∙ ap (λ (z : List ℕ). with_block size change.j z before) (sym new_block ∙ ap (block_of size change.j) (sym after_now))
+              ∙ ap (λ (z : List ℕ). with_block size change.j (block_of size change.j (contents c.ask.group.0 c.ask.stripe.0 c.stamp)) z) (sym before_now);
+        }
+
+        changes_block : (seat : ℕ) → seat < length group.members
+            → ChangesBlock setting next c.ask.group.0 c.ask.stripe.0 c.stamp change.version change.j (delta_at group.m change.j seat content) group seat
+        changes_block seat within = record {
+          delta = content;
+          sent_is = refl;
+          is = is_modified;
+          makes = ap (λ (z : List ℕ). modified_block setting.code group.m change.j seat (delta_at group.m change.j seat content)
+              (setting.code.encode group.m z seat)) before_now
+              ∙ changes_seat seat within ∙ ap (λ (z : List ℕ). setting.code.encode group.m z seat) (sym after_now);
+        }
+
+        -- a modification that is sent to a member
+        modify_says : (k : ℕ) (member : BrickId) → slice_get group.members k ≡ Some member
+            → ModifySays setting next later me.0 member.0 d.call c.stamp change.version change.j (delta_at group.m change.j (0 + k) content)
+        modify_says k member at = record {
+          maker = subst (λ (p : Phase). MakerSays setting next later me.0 member.0 d.call p c.stamp) change.phase_is (maker_says k member at);
+          base_made = of_call (λ g s. IsMadeOrFirst next g s change.version)
+              (stays_made setting w next stamps later books grows c.ask.group.0 c.ask.stripe.0 change.version change.made);
+          changes = λ other seat other_is at_seat.
+              let place : k ≡ seat = seat_same k seat member other at other_is at_seat in
+              let zero : seat ≡ 0 + k = omega arith in
+              let within : seat < length group.members = seat_within group member.0 seat (seat_of k member at ∙ ap (λ (i : ℕ). Some i) place) in
+              let sent : delta_at group.m change.j seat content ≡ delta_at group.m change.j (0 + k) content
+              = ap (λ (i : ℕ). delta_at group.m change.j i content) zero in
+              subst (λ (z : Group). ChangesBlock setting next c.call.group.0 c.call.stripe.0 c.stamp change.version change.j
+              (delta_at group.m change.j (0 + k) content) z seat) (call_group_is other other_is)
+              (subst (λ (l : List ℕ). ChangesBlock setting next c.call.group.0 c.call.stripe.0 c.stamp change.version change.j l group seat) sent
+              (of_call (λ g s. ChangesBlock setting next g s c.stamp change.version change.j (delta_at group.m change.j seat content) group seat)
+              (changes_block seat within)));
+        }
+
+        -- what is known of its base then
+        made_on_base : MadeOn setting next d change.version
+        made_on_base = record {
+          base_is = change.base_is;
+          below = change.below;
+          base_made = stays_made setting w next stamps later books grows c.ask.group.0 c.ask.stripe.0 change.version change.made;
+          stands = stays_standing setting w next stamps later books grows c.ask.group.0 c.ask.stripe.0 change.version change.stands;
+          made = subst (λ (a : Ask). IsMadeOrFirst next a.group.0 a.stripe.0 c.stamp) (sym its.ask) made_now;
+          content = made_on change.version change.base_is change.made;
+        }
+
+      -- the coordinator in a phase
+      abbrev d_in : Phase → Coordinator
+      d_in p =
+          record { group = c.group; ask = c.ask; stamp = c.stamp; round = c.round; base = base; content = content; call = next_phase c.call; phase = p; counted = [] }
+
+      request_says : (k : ℕ) (member : BrickId) → slice_get group.members k ≡ Some member → SendsVersion setting w c base phase content
+          → RequestSays setting next later me.0 member.0 d.call (request_of setting.code d (0 + k))
+      unfolding request_of
+      request_says k member at (inl whole) =
+          subst (λ (p : Phase). RequestSays setting next later me.0 member.0 d.call (request_of setting.code (d_in p) (0 + k))) (sym whole.0)
+          (write_says k member at whole.0 whole.1)
+      request_says k member at (inr change) =
+          subst (λ (p : Phase). RequestSays setting next later me.0 member.0 d.call (request_of setting.code (d_in p) (0 + k))) (sym change.phase_is)
+          (modify_says change k member at)
 
       packets : (k : ℕ) (packet : Packet) → slice_get more k ≡ Some packet → PacketSays setting next later packet
-      unfolding request_of
       packets k packet at =
           let sent = sent_to_member me d.call (request_of setting.code d) 0 c.group.members k packet at in
-          subst (λ (z : Packet). PacketSays setting next later z) (sym sent.2) (write_says k sent.0 sent.1)
+          subst (λ (z : Packet). PacketSays setting next later z) (sym sent.2) (request_says k sent.0 sent.1 sends)
+
+      -- a phase that sends a version
+      abbrev IsSending : Phase → Type 0
+      IsSending (Modifies v j) = Unit {0}
+      IsSending Stores = Unit {0}
+      IsSending p = ⊥
+
+      is_sending : SendsVersion setting w c base phase content → IsSending phase
+      is_sending (inl whole) = subst (λ (p : Phase). IsSending p) (sym whole.0) tt
+      is_sending (inr change) = subst (λ (p : Phase). IsSending p) (sym change.phase_is) tt
+
+      other_phase : (p : Phase) → phase ≡ p → IsSending p
+      other_phase p is = subst (λ (q : Phase). IsSending q) is (is_sending sends)
+
+      fits_phase : SendsVersion setting w c base phase content → FitsPhase phase c.ask.op
+      fits_phase (inl whole) = subst (λ (p : Phase). FitsPhase p c.ask.op) (sym whole.0) tt
+      fits_phase (inr change) = subst (λ (p : Phase). FitsPhase p c.ask.op) (sym change.phase_is) (change.bytes, change.op_is)
+
+      stored_content : SendsVersion setting w c base phase content → phase ≡ Stores → content ≡ contents c.ask.group.0 c.ask.stripe.0 c.stamp
+      stored_content (inl whole) stores = whole.1 ∙ sym given_now
+      stored_content (inr change) stores = let bad : Modifies change.version change.j ≡ Stores = sym change.phase_is ∙ stores in cc
+
+      based_on : SendsVersion setting w c base phase content → (v : Stamp) → base_in phase ≡ Some v → MadeOn setting next d v
+      based_on (inl whole) v has = let bad : None ≡ Some v = ap base_in (sym whole.0) ∙ has in cc
+      based_on (inr change) v has =
+          let same : Some change.version ≡ Some v = ap base_in (sym change.phase_is) ∙ has in
+          subst (λ (t : Stamp). MadeOn setting next d t) (same_Some change.version v same) (made_on_base change)
 
       d_says : CallSays setting next later me.0 c.call.seq d
       d_says = record {
-        begun = subst (λ (b : ℕ). IsBegun later me.0 b c.call.seq (c.call.phase + 1) Stores c.stamp) (sym boot_now) begun_now;
+        begun = subst (λ (b : ℕ). IsBegun later me.0 b c.call.seq (c.call.phase + 1) phase c.stamp) (sym boot_now) begun_now;
         last = λ p less.
             subst (λ (b : ℕ). later me.0 b c.call.seq p ≡ None) (sym boot_now)
             (stamp_last stamps me.0 boot c.call.seq (c.call.phase + 1) begun none from p less);
         asked = phase_asked setting next me d w.packets refl;
-        fits = tt;
-        unbased = λ bad. cc;
-        given = λ bad. absurd (let never : ⊥ = cc in never);
-        above = λ bound bad. cc;
-        below = λ bound bad. cc;
-        covered = λ bound bad. absurd (let never : ⊥ = cc in never);
-        stores = λ stores. (subst (λ (a : Ask). IsMadeOrFirst next a.group.0 a.stripe.0 c.stamp) (sym its.ask) made_now, sym content_now);
+        fits = fits_phase sends;
+        unbased = λ orders. absurd (other_phase Orders orders);
+        given = λ orders. absurd (other_phase Orders orders);
+        above = λ bound descends. absurd (other_phase (Descends bound) descends);
+        from = record {
+          most = λ bound descends. absurd (other_phase (Descends bound) descends);
+          lower = λ bound descends reads. absurd (other_phase (Descends bound) descends);
+        };
+        covered = λ bound descends. absurd (other_phase (Descends bound) descends);
+        stores = λ stores. (subst (λ (a : Ask). IsMadeOrFirst next a.group.0 a.stripe.0 c.stamp) (sym its.ask) made_now, stored_content sends stores);
+        based = based_on sends;
         counted = tt;
         once = tt;
       }

@@ -1,5 +1,5 @@
 -- The history of the replies that counted: what it says of each open operation, and what the marks show by it.
-use Rattle.std.proofs.Common.{◌≡◌, ℕ, ◌<◌, ◌≤◌, ◌⊎◌, true, List, [], ◌++◌, None, is_some}
+use Rattle.std.proofs.Common.{◌≡◌, ℕ, ◌<◌, ◌≤◌, ◌⊎◌, true, List, [], ◌++◌, Some, None, is_some}
 use Rattle.fab_base.specs.declared.identities.BrickId.{BrickId}
 use Rattle.fab_base.specs.declared.stamps.Stamp.{Stamp}
 use Rattle.fab_base.specs.declared.answers.Cause.{Cause}
@@ -7,16 +7,13 @@ use Rattle.fab_base.specs.Stamps.{stamp_below}
 use Rattle.messages.specs.declared.calls.Call.{Call}
 use Rattle.messages.specs.declared.packets.Message.TheVariants as Message
 use Rattle.messages.specs.declared.packets.Packet.{Packet}
-use Rattle.messages.specs.declared.requests.Look.TheVariants as Look
-use Rattle.messages.specs.declared.requests.Request.TheVariants as Request
-use Rattle.messages.specs.declared.requests.Want.TheVariants as Want
+use Rattle.messages.specs.declared.requests.Request.{Request}
 use Rattle.messages.specs.declared.replies.Reply.TheVariants as Reply
 use Rattle.reg_model.specs.Marks.{life_of, IsOpen}
 use Rattle.protocol.specs.declared.phases.Counted.{Counted}
-use Rattle.protocol.specs.declared.phases.Phase.TheVariants.{Descends, Stores}
 use Rattle.protocol.specs.Coordinators.{Coordinator, greatest_refuser, lowest_full}
 use Rattle.protocol.specs.Worlds.{World, Operation, number_of, known_in}
-use Rattle.protocol_laws.specs.Laws.{WasSent, WriteSent, OrderSent, AskedAt, Evidence, IsCallOf, CountedWereSent, AbortsShow}
+use Rattle.protocol_laws.specs.Laws.{WasSent, RequestSent, AskedAt, stamp_asked, order_of, Evidence, IsCallOf, CountedWereSent, AbortsShow}
 use Rattle.protocol_laws.proofs.Books.{Replies, IsOperation, IsCall}
 use Rattle.protocol_laws.proofs.Outcomes.{IsRound, first_round}
 use Rattle.protocol_laws.proofs.Said.{EachCounted}
@@ -51,29 +48,26 @@ pub record Tallied (w : World) : Type 0 where
   pub counted : CountedWereSent w
   pub aborts : AbortsShow w
 
--- an order of stamp t that looks below a bound was sent
-abbrev pub DescentSent : World → Call → BrickId → BrickId → Stamp → Stamp → Type 0
-DescentSent w call from to t bound =
-    WasSent w (record { from = from; to = to; message = Message.Request call (Request.OrderRead t (Look.Below bound) Want.All) })
-
--- What the messages of a world show: a later stamp answers what was asked at a lower one; what looks below a bound has it at its stamp, as an
--- order, or below; no phase of a call both orders and writes, or looks further down; a store phase only writes, and a phase that looks further
--- down does only that; and the replies that a coordinator has were sent to it.
+-- What the messages of a world show: a later stamp answers what was asked at a lower one; an operation that orders under a call asks nothing else under
+-- it, and it does so in a round of ordering; and the replies that a coordinator has were sent to it.
 pub record MessagesShow (w : World) : Type 0 where
   pub later : (call : Call) (from to : BrickId) (x : Stamp)
       → WasSent w (record { from = from; to = to; message = Message.Reply call (Reply.Later x) })
       → (t : Stamp) × AskedAt w call to from t × (stamp_below t x ≡ true)
-  pub order_or_write : (call : Call) (from to other : BrickId) (t u : Stamp) (block : List ℕ) → WriteSent w call from to t block
-      → OrderSent w call from other u → ⊥
-  pub bounds : (call : Call) (from to : BrickId) (t bound : Stamp) → DescentSent w call from to t bound → (bound ≡ t) ⊎ (stamp_below bound t ≡ true)
-  pub order_or_descent : (call : Call) (from to other : BrickId) (t u bound : Stamp) → stamp_below bound t ≡ true → DescentSent w call from to t bound
-      → OrderSent w call from other u → ⊥
-  pub stores_asked : (i k : ℕ) (c : Coordinator) (to : BrickId) (t : Stamp) → IsCall w i k c → c.phase ≡ Stores
-      → AskedAt w c.call (record { 0 = i }) to t → (block : List ℕ) × WriteSent w c.call (record { 0 = i }) to t block
-  pub descends_asked : (i k : ℕ) (c : Coordinator) (to : BrickId) (bound t : Stamp) → IsCall w i k c → c.phase ≡ Descends bound
-      → AskedAt w c.call (record { 0 = i }) to t → (stamp_below bound t ≡ true) × DescentSent w c.call (record { 0 = i }) to t bound
+  pub orders_alone : (n : ℕ) (o : Operation) (call : Call) (to other : BrickId) (request : Request) (t u : Stamp) → IsOperation w n o → IsCallOf call o
+      → RequestSent w call o.brick to request → stamp_asked request ≡ Some t → RequestSent w call o.brick other (order_of o.ask.op u)
+      → request ≡ order_of o.ask.op t
+  pub in_round : (i k : ℕ) (c : Coordinator) (to : BrickId) (t : Stamp) → IsCall w i k c
+      → RequestSent w c.call (record { 0 = i }) to (order_of c.ask.op t) → IsRound c.phase
   pub counted : (i k : ℕ) (c : Coordinator) → IsCall w i k c
       → EachCounted (λ x. WasSent w (record { from = x.brick; to = record { 0 = i }; message = Message.Reply c.call x.reply })) c.counted
+
+-- an operation goes on as the same: what it was asked, of which brick and under which call
+pub record GoesOn (o p : Operation) : Type 0 where
+  pub brick : p.brick ≡ o.brick
+  pub boot : p.boot ≡ o.boot
+  pub seq : p.seq ≡ o.seq
+  pub ask : p.ask ≡ o.ask
 
 -- From one world to the next: what was sent stays sent, no brick's time falls within a boot, operations stay who they are, and replies count only in
 -- operations that are open.
@@ -81,5 +75,5 @@ pub record Furthers (w next : World) : Type 0 where
   pub sent : (packet : Packet) → WasSent w packet → WasSent next packet
   pub known : (i b : ℕ) → b ≤ (w.nodes i).boot → known_in w i b ≤ known_in next i b
   pub operations : (n : ℕ) (o : Operation) → IsOperation w n o
-      → (p : Operation) × IsOperation next n p × (p.brick ≡ o.brick) × (p.boot ≡ o.boot) × (p.seq ≡ o.seq)
+      → (p : Operation) × IsOperation next n p × GoesOn o p
   pub replies : (n : ℕ) → ((p : ℕ) → next.replies n p ≡ w.replies n p) ⊎ IsOpen (life_of w.marks n)

@@ -6,6 +6,7 @@ use Rattle.std.proofs.lemmas.List.{append-nil}
 use Rattle.std.proofs.lemmas.Option.{same_Some}
 use Rattle.fab_base.specs.declared.identities.BrickId.{BrickId}
 use Rattle.fab_base.specs.declared.identities.ViewNo.{ViewNo}
+use Rattle.fab_base.specs.declared.asks.Ask.{Ask}
 use Rattle.fab_base.specs.declared.stamps.Stamp.{Stamp}
 use Rattle.fab_base.specs.Stamps.{stamp_below}
 use Rattle.fab_base.specs.declared.answers.Answer.{Answer}
@@ -14,30 +15,31 @@ use Rattle.fab_base.specs.declared.answers.Cause.{Cause}
 use Rattle.messages.specs.declared.calls.Call.{Call}
 use Rattle.messages.specs.declared.packets.Message.TheVariants as Message
 use Rattle.messages.specs.declared.packets.Packet.{Packet}
+use Rattle.messages.specs.declared.requests.Request.{Request}
 use Rattle.messages.specs.declared.replies.Reply.{Reply}
 use Rattle.reg_model.specs.declared.marks.Mark.TheVariants.{End}
 use Rattle.reg_model.specs.Marks.{Life, life_of, IsOpen}
 use Rattle.protocol.specs.Settings.{Setting}
 use Rattle.protocol.specs.declared.phases.Phase.{Phase}
-use Rattle.protocol.specs.declared.phases.Phase.TheVariants.{Looks, Orders, Recovers, Descends, Stores}
+use Rattle.protocol.specs.declared.phases.Phase.TheVariants.{Looks, LooksAt, Orders, OrdersAt, Recovers, Descends, Modifies, Bases, Stores}
 use Rattle.protocol.specs.declared.phases.Counted.{Counted}
 use Rattle.protocol.specs.declared.phases.Refuser.{Refuser}
 use Rattle.protocol.specs.declared.phases.FullMember.{FullMember}
 use Rattle.protocol.specs.Coordinators.{Coordinator, Next, Ignores, Waits, Sends, Makes, Ends, refuser_of, greater_refuser, greatest_refuser, full_member_of, lower_full, lowest_full, with_reply}
 use Rattle.protocol.specs.Nodes.{Node, put, has_later_time, new_stamp, fresh_stamp, with_call, phase_packets, collect_packets, carried_out}
 use Rattle.protocol.specs.Worlds.{World, Operation, number_of, known_in, with_made, with_seen, with_answer, with_counted, with_held, world_stepped}
-use Rattle.protocol_laws.specs.Laws.{WasSent, WriteSent, OrderSent, AskedAt, IsLastRound}
+use Rattle.protocol_laws.specs.Laws.{WasSent, RequestSent, AskedAt, IsCallOf, IsLastRound, order_of}
 use Rattle.protocol_laws.proofs.Books.{Replies, Books, OperationBooks, CallBooks, IsOperation, IsCall, InRound}
 use Rattle.protocol_laws.proofs.BooksKept.{KeepsNumbers, calls_apart, keeps_with_call}
-use Rattle.protocol_laws.proofs.BooksEvents.{keeps_put, brick_of}
-use Rattle.protocol_laws.proofs.Outcomes.{IsRound, first_round, ReordersFits, RecoversFits, SendsFits, NoRoundFits, LastFits, AbortFits, FullFits, AnswerFits, NextFits}
+use Rattle.protocol_laws.proofs.BooksEvents.{keeps_put, brick_of, look_first}
+use Rattle.protocol_laws.proofs.Outcomes.{IsRound, IsLook, first_round, ReordersFits, RecoversFits, RebuildsIn, RebuildsFits, SendsFits, MakesIn, NoRoundFits, LastFits, AbortFits, FullFits, AnswerFits, NextFits}
 use Rattle.protocol_laws.proofs.Said.{EachCounted}
 use Rattle.protocol_laws.proofs.Counting.{each_more, no_full, refuser_counted, full_counted}
 use Rattle.protocol_laws.proofs.Puts.{put_other}
 use Rattle.protocol_laws.proofs.Tables.{put_each, put_same, get_grown, get_one}
 use Rattle.protocol_laws.proofs.Steps.{sent_by}
-use Rattle.protocol_laws.proofs.Tallies.{IsTally, CallTallied, CountedSent, AbortShown, Tallied, MessagesShow, Furthers}
-use Rattle.protocol_laws.proofs.TalliesKept.{call_tallied_on, known_kept, counted_on, descent_on, write_on, asked_on, tallied_on}
+use Rattle.protocol_laws.proofs.Tallies.{IsTally, CallTallied, CountedSent, AbortShown, Tallied, MessagesShow, GoesOn, Furthers}
+use Rattle.protocol_laws.proofs.TalliesKept.{call_tallied_on, known_kept, counted_on, asked_on, tallied_on}
 
 -- where there is no fresh stamp no later time is left
 none_left : (me : BrickId) (view : ViewNo) (now boot known : ℕ) → fresh_stamp me view now boot known ≡ None → has_later_time known ≡ false
@@ -83,10 +85,22 @@ full_after (x ∷ forgotten) counted none =
 -- a phase's number, by the rounds before it
 round_of : (c : Coordinator) (p : Phase) → IsRound p → InRound c p → (c.call.phase + 1 ≡ c.round + first_round p) × (1 ≤ first_round p)
 round_of c Looks is within = absurd is
+round_of c (LooksAt j) is within = absurd is
 round_of c Orders is within = (ap (λ (x : ℕ). x + 1) within, omega arith)
+round_of c (OrdersAt j) is within = (ap (λ (x : ℕ). x + 1) within, omega arith)
 round_of c Recovers is within = (omega (arith, within), omega arith)
 round_of c (Descends bound) is within = absurd is
+round_of c (Modifies base j) is within = absurd is
+round_of c (Bases base) is within = absurd is
 round_of c Stores is within = absurd is
+
+-- a version is made in no round of ordering
+making_unordered : (d : Coordinator) → MakesIn d → IsRound d.phase → ⊥
+making_unordered d makes round = ⊎_elim
+    (λ (stores : d.phase ≡ Stores). subst (λ (x : Phase). IsRound x) stores round)
+    (λ (modifies : (base : Stamp) × (j : ℕ) × (d.phase ≡ Modifies base j) × (d.base ≡ Some base)).
+    subst (λ (x : Phase). IsRound x) modifies.2 round)
+    makes
 
 -- brick me took a reply to the open operation at coordinator c, which counts at this seat
 module _ (setting : Setting) (w : World) (me : BrickId) (now known : ℕ) (c : Coordinator) (from : BrickId) (reply : Reply) (seat : ℕ)
@@ -202,20 +216,26 @@ module _ (setting : Setting) (w : World) (me : BrickId) (now known : ℕ) (c : C
       → IsRound d.phase → (p : ℕ) → first_round d.phase ≤ p → p < d.call.phase → is_some (greatest_refuser (replies n p)) ≡ true
   refused_sends d fits phase round p low high = by fits.how
     where
-      recovers : ((c.phase ≡ Looks) × (d.phase ≡ Recovers)) ⊎ ((bound : Stamp) × (d.phase ≡ Descends bound))
+      recovers : (IsLook c.phase × (d.phase ≡ Recovers)) ⊎ ((bound : Stamp) × (d.phase ≡ Descends bound))
           → is_some (greatest_refuser (replies n p)) ≡ true
-      recovers (inl (was, is)) =
-          let first : (c.call.phase ≡ 1) × (c.round ≡ 1) = subst (λ (x : Phase). InRound c x) was mine.in_round in
+      recovers (inl (look, is)) =
+          let first : (c.call.phase ≡ 1) × (c.round ≡ 1) = look_first c c.phase look mine.in_round in
           let two : first_round d.phase ≡ 2 = ap (λ (x : Phase). first_round x) is in
           absurd (omega (arith, first.0))
       recovers (inr (bound, is)) = absurd (subst (λ (x : Phase). IsRound x) is round)
 
-      by : ReordersFits fresh (with_reply c seat from reply) d ⊎ RecoversFits (with_reply c seat from reply) d
+      rebuilds : RebuildsIn (with_reply c seat from reply) d → is_some (greatest_refuser (replies n p)) ≡ true
+      rebuilds (inl (u, j, was, now, base)) = absurd (subst (λ (x : Phase). IsRound x) now round)
+      rebuilds (inr (u, was, now, base)) = absurd (subst (λ (x : Phase). IsRound x) now round)
+
+      by : ReordersFits fresh (with_reply c seat from reply) d
+          ⊎ (RecoversFits (with_reply c seat from reply) d ⊎ RebuildsFits (with_reply c seat from reply) d)
           → is_some (greatest_refuser (replies n p)) ≡ true
       by (inl again) =
           let same : first_round d.phase ≡ first_round c.phase = ap (λ (x : Phase). first_round x) again.phase in
           refused_again again.was again.refused p (omega arith) (omega arith)
-      by (inr goes) = recovers goes.phase
+      by (inr (inl goes)) = recovers goes.phase
+      by (inr (inr builds)) = rebuilds builds.how
 
   -- the reply was sent to the operation
   own_sent : CountedSent w n c.call.phase one
@@ -301,7 +321,7 @@ module _ (setting : Setting) (w : World) (me : BrickId) (now known : ℕ) (c : C
   furthers : (next : World) (time busy : ℕ) (d : Option Coordinator) (more : List Packet) → next.nodes ≡ put w.nodes i (with_call node time busy k d)
       → node.known ≤ time → next.packets ≡ w.packets ++ more → next.replies ≡ replies → ((j b : ℕ) → next.past j b ≡ w.past j b)
       → ((m : ℕ) (e : Operation) → IsOperation w m e
-      → (p : Operation) × IsOperation next m p × (p.brick ≡ e.brick) × (p.boot ≡ e.boot) × (p.seq ≡ e.seq))
+      → (p : Operation) × IsOperation next m p × GoesOn e p)
       → Furthers w next
   furthers next time busy d more nodes later packets same past operations =
       let kept : (j : ℕ) → KeepsNumbers (w.nodes j) (next.nodes j) = λ j.
@@ -345,19 +365,17 @@ module _ (setting : Setting) (w : World) (me : BrickId) (now known : ℕ) (c : C
             (record { seat = seat; brick = from; reply = reply });
       }
 
-  same_operations : (m : ℕ) (e : Operation) → IsOperation w m e → (p : Operation) × IsOperation w m p × (p.brick ≡ e.brick) × (p.boot ≡ e.boot)
-      × (p.seq ≡ e.seq)
-  same_operations m e at = (e, at, refl, refl, refl)
+  same_operations : (m : ℕ) (e : Operation) → IsOperation w m e → (p : Operation) × IsOperation w m p × GoesOn e p
+  same_operations m e at = (e, at, record { brick = refl; boot = refl; seq = refl; ask = refl })
 
-  -- so do operations of which this one changed, and is of the same call
+  -- so do operations of which this one changed, and goes on as the same
   changed : (f : ℕ → Option Operation) (change : Option Operation → Option Operation)
-      → ((e : Operation) → (p : Operation) × (change (Some e) ≡ Some p) × (p.brick ≡ e.brick) × (p.boot ≡ e.boot) × (p.seq ≡ e.seq))
-      → (m : ℕ) (e : Operation) → f m ≡ Some e
-      → (p : Operation) × (put f n (change (f n)) m ≡ Some p) × (p.brick ≡ e.brick) × (p.boot ≡ e.boot) × (p.seq ≡ e.seq)
+      → ((e : Operation) → (p : Operation) × (change (Some e) ≡ Some p) × GoesOn e p)
+      → (m : ℕ) (e : Operation) → f m ≡ Some e → (p : Operation) × (put f n (change (f n)) m ≡ Some p) × GoesOn e p
   changed f change to m e =
-      put_each (λ a y. f a ≡ Some e → (p : Operation) × (y ≡ Some p) × (p.brick ≡ e.brick) × (p.boot ≡ e.boot) × (p.seq ≡ e.seq)) f n (change (f n))
-      (λ at. (let p = to e in (p.0, ap change at ∙ p.1, p.2, p.3, p.4)))
-      (λ a other at. (e, at, refl, refl, refl)) m
+      put_each (λ a y. f a ≡ Some e → (p : Operation) × (y ≡ Some p) × GoesOn e p) f n (change (f n))
+      (λ at. (let p = to e in (p.0, ap change at ∙ p.1, p.2)))
+      (λ a other at. (e, at, record { brick = refl; boot = refl; seq = refl; ask = refl })) m
 
   -- each reply that counts was sent
   each_sent : EachCounted (λ y. WasSent w (record { from = y.brick; to = me; message = Message.Reply c.call y.reply })) (c.counted ++ (one ∷ []))
@@ -381,10 +399,10 @@ module _ (setting : Setting) (w : World) (me : BrickId) (now known : ℕ) (c : C
         record {
           call = c.call;
           seat = fits.seat;
-          own = (mine.call_boot ∙ sym mine.boot ∙ sym goes.3, sym mine.seq ∙ sym goes.4);
+          own = (mine.call_boot ∙ sym mine.boot ∙ sym goes.2.boot, sym mine.seq ∙ sym goes.2.seq);
           told = subst (λ (b : BrickId).
               WasSent (after_end operations answer stored) (record { from = brick; to = b; message = Message.Reply c.call (Reply.Full live) }))
-              (me_is ∙ sym goes.2)
+              (me_is ∙ sym goes.2.brick)
               (on.sent (record { from = brick; to = me; message = Message.Reply c.call (Reply.Full live) }) told);
           lowest = full_now ∙ fits.told;
           final = replies_later;
@@ -404,15 +422,16 @@ module _ (setting : Setting) (w : World) (me : BrickId) (now known : ℕ) (c : C
       (subst (λ (y : Reply). WasSent w (record { from = found.0.brick; to = me; message = Message.Reply c.call y })) found.2 found.1) in
       let low = shows.later c.call brick me x told in
       let goes = on.operations n o mine.operation_is in
-      let by : me ≡ goes.0.brick = me_is ∙ sym goes.2 in
-      let boot : goes.0.boot ≡ node.boot = goes.3 ∙ mine.boot in (
+      let by : me ≡ goes.0.brick = me_is ∙ sym goes.2.brick in
+      let boot : goes.0.boot ≡ node.boot = goes.2.boot ∙ mine.boot in
+      let own : IsCallOf c.call goes.0 = (mine.call_boot ∙ sym boot, sym mine.seq ∙ sym goes.2.seq) in (
         goes.0,
         goes.1,
         record {
           call = c.call;
           stamp = low.0;
           seat = fits.seat;
-          own = (mine.call_boot ∙ sym boot, sym mine.seq ∙ sym goes.4);
+          own = own;
           asked = subst (λ (b : BrickId). AskedAt (after_end operations answer stored) c.call b brick low.0) by
               (asked_on w (after_end operations answer stored) on c.call me brick low.0 low.1);
           told = subst (λ (b : BrickId). WasSent (after_end operations answer stored)
@@ -420,7 +439,7 @@ module _ (setting : Setting) (w : World) (me : BrickId) (now known : ℕ) (c : C
               (on.sent (record { from = brick; to = me; message = Message.Reply c.call (Reply.Later x) }) told);
           above = low.2;
           greatest = refuser_now ∙ fits.refused;
-          last = λ order. last_by goes.0 by boot low.0 low.1 c.phase refl fits.last order;
+          last = λ order. last_round goes.0 by boot (ordered_round goes.0 goes.1 by own (goes.2.ask ∙ sym mine.ask) low.0 low.1 order) fits.last;
           final = replies_later;
         },
       )
@@ -432,40 +451,39 @@ module _ (setting : Setting) (w : World) (me : BrickId) (now known : ℕ) (c : C
           (put_same w.nodes i (with_call node known (node.busy - 1) k None))
           ∙ ap (λ (t : Bool). if t then known else w.past i node.boot) (eq-eqb node.boot node.boot refl)
 
-      last_round : (e : Operation) → me ≡ e.brick → e.boot ≡ node.boot → IsRound c.phase → NoRoundFits fresh (with_reply c seat from reply)
+      ends_rounds : (e : Operation) → me ≡ e.brick → e.boot ≡ node.boot → IsRound c.phase → NoRoundFits fresh (with_reply c seat from reply)
           → IsLastRound (after_end operations answer stored) n e c.call.phase
-      last_round e by boot round (inl none) =
+      ends_rounds e by boot round (inl none) =
           inr (subst (λ (b : BrickId). has_later_time (known_in (after_end operations answer stored) b.0 e.boot) ≡ false) by
           (subst (λ (b : ℕ). has_later_time (known_in (after_end operations answer stored) i b) ≡ false) (sym boot)
           (ap (λ (y : ℕ). has_later_time y) known_now ∙ none_left me c.call.view now node.boot known none)))
-      last_round e by boot round (inr most) =
+      ends_rounds e by boot round (inr most) =
           let facts = round_of c c.phase round mine.in_round in
           inl (omega (arith, facts.0, facts.1), λ p few less. refused_before round p (omega (arith, facts.0)) less)
 
-      -- an order in a phase that only writes, or only looks further down
-      stored_order : (e : Operation) → me ≡ e.brick → (t : Stamp) → AskedAt w c.call me brick t → c.phase ≡ Stores
-          → OrderSent (after_end operations answer stored) c.call e.brick brick t → ⊥
-      stored_order e by t asked stores order =
-          let write : (block : List ℕ) × WriteSent w c.call me brick t block = shows.stores_asked i k c brick t is stores asked in
-          later.order_or_write c.call me brick brick t t write.0 (write_on w (after_end operations answer stored) on c.call me brick t write.0 write.1)
-          (subst (λ (b : BrickId). OrderSent (after_end operations answer stored) c.call b brick t) (sym by) order)
+      -- the operation, which sent its order under this call, is in a round of ordering
+      ordered_round : (e : Operation) → IsOperation (after_end operations answer stored) n e → me ≡ e.brick → IsCallOf c.call e → e.ask ≡ c.ask
+          → (t : Stamp) → AskedAt w c.call me brick t → RequestSent (after_end operations answer stored) c.call e.brick brick (order_of e.ask.op t)
+          → IsRound c.phase
+      ordered_round e is_e by own ask t asked order =
+          let sent : RequestSent (after_end operations answer stored) c.call e.brick brick asked.0
+          = subst (λ (b : BrickId). RequestSent (after_end operations answer stored) c.call b brick asked.0) by
+          (on.sent (record { from = me; to = brick; message = Message.Request c.call asked.0 }) asked.1) in
+          shows.in_round i k c brick t is
+          (subst (λ (r : Request). RequestSent w c.call me brick r)
+          (later.orders_alone n e c.call brick brick asked.0 t t is_e own sent asked.2 order ∙ ap (λ (a : Ask). order_of a.op t) ask)
+          asked.1)
 
-      descended_order : (e : Operation) → me ≡ e.brick → (t bound : Stamp) → AskedAt w c.call me brick t → c.phase ≡ Descends bound
-          → OrderSent (after_end operations answer stored) c.call e.brick brick t → ⊥
-      descended_order e by t bound asked descends order =
-          let sent = shows.descends_asked i k c brick bound t is descends asked in
-          later.order_or_descent c.call me brick brick t t bound sent.0
-          (descent_on w (after_end operations answer stored) on c.call me brick t bound sent.1)
-          (subst (λ (b : BrickId). OrderSent (after_end operations answer stored) c.call b brick t) (sym by) order)
+      last_by : (e : Operation) → me ≡ e.brick → e.boot ≡ node.boot → (p : Phase) → c.phase ≡ p → IsRound p
+          → LastFits fresh (with_reply c seat from reply) p → IsLastRound (after_end operations answer stored) n e c.call.phase
+      last_by e by boot Orders at round fits = ends_rounds e by boot (subst (λ (x : Phase). IsRound x) (sym at) round) fits
+      last_by e by boot (OrdersAt j) at round fits = ends_rounds e by boot (subst (λ (x : Phase). IsRound x) (sym at) round) fits
+      last_by e by boot Recovers at round fits = ends_rounds e by boot (subst (λ (x : Phase). IsRound x) (sym at) round) fits
+      last_by e by boot p at round fits = absurd round
 
-      last_by : (e : Operation) → me ≡ e.brick → e.boot ≡ node.boot → (t : Stamp) → AskedAt w c.call me brick t → (p : Phase) → c.phase ≡ p
-          → LastFits fresh (with_reply c seat from reply) p → OrderSent (after_end operations answer stored) c.call e.brick brick t
-          → IsLastRound (after_end operations answer stored) n e c.call.phase
-      last_by e by boot t asked Looks at fits order = absurd fits
-      last_by e by boot t asked Orders at fits order = last_round e by boot (subst (λ (x : Phase). IsRound x) (sym at) tt) fits
-      last_by e by boot t asked Recovers at fits order = last_round e by boot (subst (λ (x : Phase). IsRound x) (sym at) tt) fits
-      last_by e by boot t asked (Descends bound) at fits order = absurd (descended_order e by t bound asked at order)
-      last_by e by boot t asked Stores at fits order = absurd (stored_order e by t asked at order)
+      last_round : (e : Operation) → me ≡ e.brick → e.boot ≡ node.boot → IsRound c.phase
+          → LastFits fresh (with_reply c seat from reply) c.phase → IsLastRound (after_end operations answer stored) n e c.call.phase
+      last_round e by boot round fits = last_by e by boot c.phase refl round fits
 
   -- the evidence of an abort, by its cause
   abort_shown : (operations : ℕ → Option Operation) (answer : Answer) (stored : Option Stamp) (cause : Cause) → AnswerFits fresh (with_reply c seat from reply) (Aborted cause)
@@ -479,7 +497,7 @@ module _ (setting : Setting) (w : World) (me : BrickId) (now known : ℕ) (c : C
   tallied_ends : (operations : ℕ → Option Operation) (answer : Answer) (stored : Option Stamp)
       → AnswerFits fresh (with_reply c seat from reply) answer
       → ((m : ℕ) (e : Operation) → IsOperation w m e
-      → (p : Operation) × (operations m ≡ Some p) × (p.brick ≡ e.brick) × (p.boot ≡ e.boot) × (p.seq ≡ e.seq))
+      → (p : Operation) × (operations m ≡ Some p) × GoesOn e p)
       → MessagesShow (after_end operations answer stored) → Tallied (after_end operations answer stored)
   tallied_ends operations answer stored fits goes later =
       let on : Furthers w (after_end operations answer stored) = furthers (after_end operations answer stored) known (node.busy - 1) None
@@ -530,22 +548,30 @@ module _ (setting : Setting) (w : World) (me : BrickId) (now known : ℕ) (c : C
   tallied_counted (Makes d) fits later =
       let on : Furthers w (after (Makes d)) = furthers (after (Makes d)) known node.busy (Some d)
       (phase_packets setting me d) refl grows refl refl
-      (λ j b. refl) (changed w.operations (with_made d.stamp d.base) (λ e. (_, refl, refl, refl, refl))) in
+      (λ j b. refl) (changed w.operations (with_made d.stamp d.base) (λ e. (_, refl, record { brick = refl; boot = refl; seq = refl; ask = refl }))) in
       let phase : d.call.phase ≡ c.call.phase + 1 = ap (λ (x : Call). x.phase) fits.call in
       tallied_on setting w (after (Makes d)) books tallied later on
       (calls_by known node.busy d grows (record {
         now = tally_begins d.call.phase d.counted fits.counted (omega arith);
         later = λ p above. replies_later p (omega arith);
-        refused = λ round p low high. absurd (subst (λ (x : Phase). IsRound x) fits.phase round);
+        refused = λ round p low high. absurd (making_unordered d fits.phase round);
       }))
       unbegun (counted_next (after (Makes d)) on) (λ a p m cause at. inl at)
   tallied_counted (Ends answer None stored) fits later =
       tallied_ends (put w.operations n (with_answer answer (w.operations n))) answer stored fits.1
-      (changed w.operations (with_answer answer) (λ e. (_, refl, refl, refl, refl))) later
+      (changed w.operations (with_answer answer) (λ e. (_, refl, record { brick = refl; boot = refl; seq = refl; ask = refl }))) later
   tallied_counted (Ends answer (Some v) stored) fits later =
       let seen : ℕ → Option Operation = put w.operations n (with_seen v (w.operations n)) in
       tallied_ends (put seen n (with_answer answer (seen n))) answer stored fits.1
       (λ m e at.
-      let first = changed w.operations (with_seen v) (λ x. (_, refl, refl, refl, refl)) m e at in
-      let second = changed seen (with_answer answer) (λ x. (_, refl, refl, refl, refl)) m first.0 first.1 in
-      (second.0, second.1, second.2 ∙ first.2, second.3 ∙ first.3, second.4 ∙ first.4)) later
+      let first = changed w.operations (with_seen v) (λ x. (_, refl, record { brick = refl; boot = refl; seq = refl; ask = refl })) m e at in
+      let second = changed seen (with_answer answer) (λ x. (_, refl, record { brick = refl; boot = refl; seq = refl; ask = refl })) m first.0 first.1 in (
+        second.0,
+        second.1,
+        record {
+          brick = second.2.brick ∙ first.2.brick;
+          boot = second.2.boot ∙ first.2.boot;
+          seq = second.2.seq ∙ first.2.seq;
+          ask = second.2.ask ∙ first.2.ask;
+        },
+      )) later

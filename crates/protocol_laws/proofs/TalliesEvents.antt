@@ -1,19 +1,16 @@
 -- Every event keeps the history of replies.
-use Rattle.std.proofs.Common.{◌≡◌, ◌≢◌, ℕ, ◌+◌, ◌≤◌, ◌⊎◌, inl, inr, ⊎_elim, true, false, ap, Option, Some, None, List, [], ◌∷◌, ◌++◌, length, refl, sym, ◌∙◌, subst, arith, Bool}
+use Rattle.std.proofs.Common.{◌≡◌, ◌≢◌, ℕ, ◌+◌, ◌≤◌, inl, ⊎_elim, true, false, ap, Option, Some, None, List, [], ◌∷◌, ◌++◌, length, refl, sym, ◌∙◌, subst, arith, Bool}
 use Rattle.std.specs.Prelude.{slice_get}
 use Rattle.std.proofs.lemmas.Bool.{cond_both, cases_eq}
 use Rattle.std.proofs.lemmas.Option.{same_Some}
 use Rattle.fab_base.specs.declared.identities.BrickId.{BrickId}
 use Rattle.fab_base.specs.declared.asks.Ask.{Ask}
 use Rattle.fab_base.specs.declared.stamps.Stamp.{Stamp}
-use Rattle.fab_base.specs.Stamps.{stamp_below}
 use Rattle.fab_base.specs.declared.answers.Answer.TheVariants.{Aborted}
 use Rattle.messages.specs.declared.calls.Call.{Call}
 use Rattle.messages.specs.declared.packets.Message.{Message}
 use Rattle.messages.specs.declared.packets.Packet.{Packet}
-use Rattle.messages.specs.declared.requests.Look.TheVariants as Look
 use Rattle.messages.specs.declared.requests.Request.{Request}
-use Rattle.messages.specs.declared.requests.Want.TheVariants as Want
 use Rattle.messages.specs.declared.replies.Reply.{Reply}
 use Rattle.reg_model.specs.declared.marks.Mark.TheVariants.{Begin, End, Crash}
 use Rattle.fab_base.specs.Layouts.{Group}
@@ -33,9 +30,9 @@ use Rattle.protocol_laws.proofs.BooksEnds.{stopped_keeps, stopped_calls, unstopp
 use Rattle.protocol_laws.proofs.BooksBegins.{call_is, other_calls, same_boots, call_number, other_number, other_operations, knows}
 use Rattle.protocol_laws.proofs.BooksEvents.{keeps_put, stepped, known_grows, BeginFits, begin_fits, begin_up, KeepsCalls, found_keeps, books_found, start_fits}
 use Rattle.protocol_laws.proofs.Outcomes.{first_round_above, once_full_fits}
-use Rattle.protocol_laws.proofs.Said.{Stamping, Said, IsSaid, IsRecovery, CountedSays}
+use Rattle.protocol_laws.proofs.Said.{Stamping, Said, IsSaid, CountedSays}
 use Rattle.protocol_laws.proofs.SaidAlways.{said_first, said_run}
-use Rattle.protocol_laws.proofs.OwnStamps.{order_or_write, order_or_descent, stores_asked, descends_asked}
+use Rattle.protocol_laws.proofs.OwnStamps.{orders_alone, in_round}
 use Rattle.protocol_laws.proofs.Counting.{each_then}
 use Rattle.protocol.proofs.CountsAt.{CountsAt, counts_facts}
 use Rattle.protocol_laws.proofs.Tables.{put_each, get_kept, get_grown, get_one}
@@ -54,7 +51,7 @@ tallied_quiet setting w nodes held clocks packets books tallied shows keeps call
     (record {
       sent = sent;
       known = known_kept w (quiet_world w nodes held clocks packets w.replies) (λ i b. refl) (λ i. (keeps i).boot) (λ i. (keeps i).known);
-      operations = λ n o is. (o, is, refl, refl, refl);
+      operations = λ n o is. (o, is, record { brick = refl; boot = refl; seq = refl; ask = refl });
       replies = λ n. inl (λ p. refl);
     })
     (λ i k c is. call_tallied_on w.replies w.replies (number_of w i k) (w.numbers i (nodes i).boot k) c
@@ -89,8 +86,8 @@ tallied_requested setting w me from call request books tallied =
     request_each (λ (step : NodeStep). MessagesShow (stepped setting w w.replies me step) → Tallied (stepped setting w w.replies me step)) setting
     me from (w.nodes me.0) call request
     (tallied_no_step setting w me books tallied)
-    (λ seat view shows.
-    let reaction = handle (full_at setting.layout.records (w.nodes me.0).live) seat (replica_at (w.nodes me.0) call) request in
+    (λ group seat here at view shows.
+    let reaction = handle setting.code group.m (full_at setting.layout.records (w.nodes me.0).live) seat (replica_at (w.nodes me.0) call) request in
     tallied_nothing setting w me (with_replica (w.nodes me.0) call reaction) (reply_packets me from call reaction.reply) books tallied shows
     (keeps_replica (w.nodes me.0) call reaction view) (λ l. refl))
 
@@ -179,15 +176,13 @@ tallied_began setting w brick now ask fits up books tallied shows =
     (record {
       sent = λ packet sent. (sent.0, get_kept w.packets _ sent.0 packet sent.1);
       known = known_kept w next (λ j b. refl)
-          (same_boots setting w brick now ask fits.group books fits.is_stripe_op fits.group_is fits.stripe up fits.length_fits)
-          (knows setting w brick now ask fits.group books fits.is_stripe_op fits.group_is fits.stripe up fits.length_fits);
+          (same_boots setting w brick now ask fits.group books fits.block_fits fits.group_is fits.stripe up fits.length_fits)
+          (knows setting w brick now ask fits.group books fits.block_fits fits.group_is fits.stripe up fits.length_fits);
       operations = λ m o is. (
         o,
-        other_operations setting w brick now ask fits.group books fits.is_stripe_op fits.group_is fits.stripe up fits.length_fits m
+        other_operations setting w brick now ask fits.group books fits.block_fits fits.group_is fits.stripe up fits.length_fits m
             (λ same. omega (arith, (books.operations m o is).begun)) ∙ is,
-        refl,
-        refl,
-        refl,
+        record { brick = refl; boot = refl; seq = refl; ask = refl },
       );
       replies = λ m. inl (λ p. refl);
     })
@@ -196,16 +191,16 @@ tallied_began setting w brick now ask fits up books tallied shows =
     let at : (next.nodes i).calls k ≡ Some e
     = subst (λ (x : ℕ). (next.nodes x).calls k ≡ Some e) mine.0 (subst (λ (y : ℕ). (next.nodes j).calls y ≡ Some e) mine.1 is) in
     let one : c ≡ e = same_Some c e
-    (sym (call_is setting w brick now ask fits.group books fits.is_stripe_op fits.group_is fits.stripe up fits.length_fits) ∙ at) in
-    let number : number_of next i k ≡ n = call_number setting w brick now ask fits.group books fits.is_stripe_op fits.group_is fits.stripe up fits.length_fits in
+    (sym (call_is setting w brick now ask fits.group books fits.block_fits fits.group_is fits.stripe up fits.length_fits) ∙ at) in
+    let number : number_of next i k ≡ n = call_number setting w brick now ask fits.group books fits.block_fits fits.group_is fits.stripe up fits.length_fits in
     subst (λ (x : ℕ). CallTallied w.replies (number_of next x l) e) (sym mine.0) (subst (λ (y : ℕ). CallTallied w.replies (number_of next i y) e)
     (sym mine.1)
     (subst (λ (x : ℕ). CallTallied w.replies x e) (sym number) (subst (λ (z : Coordinator). CallTallied w.replies n z) one new))))
     (λ (other : j ≡ i → l ≡ k → ⊥).
     let old : IsCall w j l e
-    = sym (other_calls setting w brick now ask fits.group books fits.is_stripe_op fits.group_is fits.stripe up fits.length_fits j l other) ∙ is in
+    = sym (other_calls setting w brick now ask fits.group books fits.block_fits fits.group_is fits.stripe up fits.length_fits j l other) ∙ is in
     call_tallied_on w.replies w.replies (number_of w j l) (number_of next j l) e
-    (other_number setting w brick now ask fits.group books fits.is_stripe_op fits.group_is fits.stripe up fits.length_fits j l other)
+    (other_number setting w brick now ask fits.group books fits.block_fits fits.group_is fits.stripe up fits.length_fits j l other)
     (λ p. refl) (tallied.calls j l e old))
     (cases_call i k j l))
     (λ m p above. tallied.unbegun m p (omega arith))
@@ -239,7 +234,7 @@ tallied_stopped setting w brick during books tallied shows =
     (record {
       sent = λ packet sent. sent;
       known = known_kept w next (λ i b. refl) (λ i. (keeps i).boot) (λ i. (keeps i).known);
-      operations = λ n o is. (o, is, refl, refl, refl);
+      operations = λ n o is. (o, is, record { brick = refl; boot = refl; seq = refl; ask = refl });
       replies = λ n. inl (λ p. refl);
     })
     (λ i k c is. ⊎_elim
@@ -268,7 +263,7 @@ tallied_started setting w brick openings down once books tallied shows =
     (record {
       sent = λ packet sent. sent;
       known = started_known setting w brick openings books down once;
-      operations = λ n o is. (o, is, refl, refl, refl);
+      operations = λ n o is. (o, is, record { brick = refl; boot = refl; seq = refl; ask = refl });
       replies = λ n. inl (λ p. refl);
     })
     (λ i k c is. ⊎_elim
@@ -289,11 +284,8 @@ shows_found : (w : World) (brick : BrickId) → ((i k : ℕ) → ((world_found w
     → MessagesShow (world_found w brick After)
 shows_found w brick calls shows = record {
   later = shows.later;
-  order_or_write = shows.order_or_write;
-  bounds = shows.bounds;
-  order_or_descent = shows.order_or_descent;
-  stores_asked = λ i k c to t is. shows.stores_asked i k c to t (sym (calls i k) ∙ is);
-  descends_asked = λ i k c to bound t is. shows.descends_asked i k c to bound t (sym (calls i k) ∙ is);
+  orders_alone = shows.orders_alone;
+  in_round = λ i k c to t is. shows.in_round i k c to t (sym (calls i k) ∙ is);
   counted = λ i k c is. shows.counted i k c (sym (calls i k) ∙ is);
 }
 
@@ -354,28 +346,12 @@ tallied_run setting (event ∷ events) w leaves books shows tallied =
     tallied_run setting events (happens setting w event) (leaves_happens setting w event leaves) (λ more. books (event ∷ more))
     (λ more. shows (event ∷ more)) (tallied_happens setting w event leaves (books []) tallied (shows []) (shows (event ∷ [])))
 
--- what looks below a bound has it at its stamp, or below
-bound_of : (stamps : Stamping) (i b k p : ℕ) (bound t : Stamp) → IsRecovery stamps i b k p bound t → (bound ≡ t) ⊎ (stamp_below bound t ≡ true)
-bound_of stamps i b k p bound t (inl own) = inl own.0
-bound_of stamps i b k p bound t (inr below) = inr below.0
-
 -- what is said of a world is what its messages should show
 messages_show : (setting : Setting) (w : World) (stamps : Stamping) → Books setting w → Said setting w stamps → MessagesShow w
 messages_show setting w stamps books said = record {
   later = λ call from to x sent. said.packets sent.0 (record { from = from; to = to; message = Message.Reply call (Reply.Later x) }) sent.1;
-  order_or_write = order_or_write setting w stamps books said;
-  bounds = λ call from to t bound sent.
-      bound_of stamps from.0 call.boot call.seq call.phase bound t
-      (said.packets sent.0 (record {
-        from = from;
-        to = to;
-        message = Message.Request call
-            (Request.OrderRead t (Look.Below bound) Want.All);
-      }) sent.1).1;
-  order_or_descent = λ call from to other t u bound below sent order. order_or_descent setting w stamps books said call from to other t u bound below sent order;
-  stores_asked = λ i k c to t is stores asked. stores_asked setting w stamps books said (record { 0 = i }) to c t (at_call i k c is) stores asked;
-  descends_asked = λ i k c to bound t is descends asked.
-      descends_asked setting w stamps books said (record { 0 = i }) to c bound t (at_call i k c is) descends asked;
+  orders_alone = orders_alone setting w stamps books said;
+  in_round = λ i k c to t is. in_round setting w stamps books said (record { 0 = i }) to c t (at_call i k c is);
   counted = λ i k c is.
       each_then (CountedSays setting w i c) (λ x. WasSent w
       (record { from = x.brick; to = record { 0 = i }; message = Message.Reply c.call x.reply }))

@@ -4,14 +4,12 @@ use Rattle.std.specs.Prelude.{slice_get, nat_lt, nat_eq, if◌then◌else◌}
 use Rattle.std.proofs.lemmas.Bool.{ltb-false, le-ltb}
 use Rattle.fab_base.specs.declared.identities.BrickId.{BrickId}
 use Rattle.fab_base.specs.declared.stamps.Stamp.{Stamp}
-use Rattle.fab_base.specs.Stamps.{stamp_below}
 use Rattle.fab_base.specs.declared.answers.Answer.TheVariants.{Aborted}
 use Rattle.fab_base.specs.declared.answers.Cause.{Cause}
 use Rattle.messages.specs.declared.calls.Call.{Call}
 use Rattle.messages.specs.declared.packets.Message.TheVariants as Message
-use Rattle.messages.specs.declared.requests.Look.TheVariants as Look
-use Rattle.messages.specs.declared.requests.Request.TheVariants as Request
-use Rattle.messages.specs.declared.requests.Want.TheVariants as Want
+use Rattle.fab_base.specs.declared.asks.Ask.{Ask}
+use Rattle.messages.specs.declared.requests.Request.{Request}
 use Rattle.messages.specs.declared.replies.Reply.TheVariants as Reply
 use Rattle.reg_model.specs.declared.marks.Mark.TheVariants.{End}
 use Rattle.reg_model.specs.Marks.{life_of, IsOpen}
@@ -20,10 +18,10 @@ use Rattle.protocol.specs.declared.phases.Counted.{Counted}
 use Rattle.protocol.specs.Coordinators.{Coordinator, greatest_refuser, lowest_full}
 use Rattle.protocol.specs.Nodes.{has_later_time}
 use Rattle.protocol.specs.Worlds.{World, Operation, number_of, known_in}
-use Rattle.protocol_laws.specs.Laws.{WasSent, WriteSent, OrderSent, AskedAt, IsLastRound, LaterEvidence, FullEvidence, Evidence}
-use Rattle.protocol_laws.proofs.Books.{Replies, Books, IsCall}
+use Rattle.protocol_laws.specs.Laws.{WasSent, RequestSent, AskedAt, order_of, IsLastRound, LaterEvidence, FullEvidence, Evidence}
+use Rattle.protocol_laws.proofs.Books.{Replies, Books, IsOperation, IsCall}
 use Rattle.protocol_laws.proofs.Lives.{ended_not_open}
-use Rattle.protocol_laws.proofs.Tallies.{CallTallied, CountedSent, AbortShown, DescentSent, Tallied, MessagesShow, Furthers}
+use Rattle.protocol_laws.proofs.Tallies.{CallTallied, CountedSent, AbortShown, Tallied, MessagesShow, GoesOn, Furthers}
 
 -- an operation whose replies stay
 pub call_tallied_on : (replies later : Replies) (n m : ℕ) (c : Coordinator) → m ≡ n → ((p : ℕ) → later n p ≡ replies n p)
@@ -60,105 +58,85 @@ module _ (w next : World) (on : Furthers w next) where
         goes.1,
         (
           call,
-          (was.2.1.0 ∙ sym goes.3, was.2.1.1 ∙ sym goes.4),
+          (was.2.1.0 ∙ sym goes.2.boot, was.2.1.1 ∙ sym goes.2.seq),
           was.2.2,
-          subst (λ (b : BrickId). WasSent next (record { from = x.brick; to = b; message = Message.Reply call x.reply })) (sym goes.2)
+          subst (λ (b : BrickId). WasSent next (record { from = x.brick; to = b; message = Message.Reply call x.reply })) (sym goes.2.brick)
               (on.sent (record { from = x.brick; to = was.0.brick; message = Message.Reply call x.reply }) was.2.3),
         ),
       )
 
   -- what an abort for a full store shows stays, where the replies of its operation do
-  full_on : (n : ℕ) (o p : Operation) (brick : BrickId) (live : ℕ) → p.brick ≡ o.brick → p.boot ≡ o.boot → p.seq ≡ o.seq
+  full_on : (n : ℕ) (o p : Operation) (brick : BrickId) (live : ℕ) → GoesOn o p
       → ((q : ℕ) → next.replies n q ≡ w.replies n q) → FullEvidence w n o brick live → FullEvidence next n p brick live
-  full_on n o p brick live brick_is boot seq same was =
+  full_on n o p brick live goes same was =
       let call : Call = was.call in
       record {
         call = call;
         seat = was.seat;
-        own = (was.own.0 ∙ sym boot, was.own.1 ∙ sym seq);
-        told = subst (λ (b : BrickId). WasSent next (record { from = brick; to = b; message = Message.Reply call (Reply.Full live) })) (sym brick_is)
+        own = (was.own.0 ∙ sym goes.boot, was.own.1 ∙ sym goes.seq);
+        told = subst (λ (b : BrickId). WasSent next (record { from = brick; to = b; message = Message.Reply call (Reply.Full live) })) (sym goes.brick)
             (on.sent (record { from = brick; to = o.brick; message = Message.Reply call (Reply.Full live) }) was.told);
         lowest = ap (λ (l : List Counted). lowest_full l) (same call.phase) ∙ was.lowest;
         final = λ q above. same q ∙ was.final q above;
       }
 
-  pub order_on : (call : Call) (from to : BrickId) (t : Stamp) → OrderSent w call from to t → OrderSent next call from to t
-  order_on call from to t (inl order) = inl (on.sent (record { from = from; to = to; message = Message.Request call (Request.Order t) }) order)
-  order_on call from to t (inr read) =
-      inr (on.sent (record { from = from; to = to; message = Message.Request call (Request.OrderRead t (Look.Below t) Want.All) }) read)
-
-  pub descent_on : (call : Call) (from to : BrickId) (t bound : Stamp) → DescentSent w call from to t bound → DescentSent next call from to t bound
-  descent_on call from to t bound sent =
-      on.sent (record { from = from; to = to; message = Message.Request call (Request.OrderRead t (Look.Below bound) Want.All) }) sent
-
-  pub write_on : (call : Call) (from to : BrickId) (t : Stamp) (block : List ℕ) → WriteSent w call from to t block
-      → WriteSent next call from to t block
-  write_on call from to t block sent = on.sent (record { from = from; to = to; message = Message.Request call (Request.Write t block) }) sent
-
   pub asked_on : (call : Call) (from to : BrickId) (t : Stamp) → AskedAt w call from to t → AskedAt next call from to t
-  asked_on call from to t (inl order) = inl (order_on call from to t order)
-  asked_on call from to t (inr (inl descent)) = inr (inl (descent.0, descent_on call from to t descent.0 descent.1))
-  asked_on call from to t (inr (inr write)) = inr (inr (write.0, write_on call from to t write.0 write.1))
+  asked_on call from to t asked = (
+    asked.0,
+    on.sent (record { from = from; to = to; message = Message.Request call asked.0 }) asked.1,
+    asked.2,
+  )
 
-  last_round_on : (n : ℕ) (o p : Operation) (phase : ℕ) → p.brick ≡ o.brick → p.boot ≡ o.boot → o.boot ≤ (w.nodes o.brick.0).boot
+  last_round_on : (n : ℕ) (o p : Operation) (phase : ℕ) → GoesOn o p → o.boot ≤ (w.nodes o.brick.0).boot
       → ((q : ℕ) → next.replies n q ≡ w.replies n q) → IsLastRound w n o phase → IsLastRound next n p phase
-  last_round_on n o p phase brick boot begun same (inl most) =
+  last_round_on n o p phase goes begun same (inl most) =
       inl (most.0, λ e few less. ap (λ (l : List Counted). is_some (greatest_refuser l)) (same e) ∙ most.1 e few less)
-  last_round_on n o p phase brick boot begun same (inr none) =
-      inr (subst (λ (b : BrickId). has_later_time (known_in next b.0 p.boot) ≡ false) (sym brick)
-      (subst (λ (b : ℕ). has_later_time (known_in next o.brick.0 b) ≡ false) (sym boot)
+  last_round_on n o p phase goes begun same (inr none) =
+      inr (subst (λ (b : BrickId). has_later_time (known_in next b.0 p.boot) ≡ false) (sym goes.brick)
+      (subst (λ (b : ℕ). has_later_time (known_in next o.brick.0 b) ≡ false) (sym goes.boot)
       (not_below _ (known_in w o.brick.0 o.boot) (known_in next o.brick.0 o.boot) (on.known o.brick.0 o.boot begun) none)))
 
   -- what an abort for a later stamp shows stays, where the replies of its operation do
-  later_on : MessagesShow next → (n : ℕ) (o p : Operation) (brick : BrickId) (x : Stamp) → p.brick ≡ o.brick → p.boot ≡ o.boot → p.seq ≡ o.seq
+  later_on : MessagesShow next → (n : ℕ) (o p : Operation) (brick : BrickId) (x : Stamp) → IsOperation next n p → GoesOn o p
       → o.boot ≤ (w.nodes o.brick.0).boot → ((q : ℕ) → next.replies n q ≡ w.replies n q) → LaterEvidence w n o brick x
       → LaterEvidence next n p brick x
-  later_on shows n o p brick x brick_is boot seq begun same was =
+  later_on shows n o p brick x is goes begun same was =
       let call : Call = was.call in
       let t : Stamp = was.stamp in
       let asked : AskedAt next call p.brick brick t
-      = subst (λ (b : BrickId). AskedAt next call b brick t) (sym brick_is) (asked_on call o.brick brick t was.asked) in
+      = subst (λ (b : BrickId). AskedAt next call b brick t) (sym goes.brick) (asked_on call o.brick brick t was.asked) in
       record {
         call = call;
         stamp = t;
         seat = was.seat;
-        own = (was.own.0 ∙ sym boot, was.own.1 ∙ sym seq);
+        own = (was.own.0 ∙ sym goes.boot, was.own.1 ∙ sym goes.seq);
         asked = asked;
-        told = subst (λ (b : BrickId). WasSent next (record { from = brick; to = b; message = Message.Reply call (Reply.Later x) })) (sym brick_is)
+        told = subst (λ (b : BrickId). WasSent next (record { from = brick; to = b; message = Message.Reply call (Reply.Later x) })) (sym goes.brick)
             (on.sent (record { from = brick; to = o.brick; message = Message.Reply call (Reply.Later x) }) was.told);
         above = was.above;
         greatest = ap (λ (l : List Counted). greatest_refuser l) (same call.phase) ∙ was.greatest;
-        last = λ sent. last_by sent was.asked;
+        last = λ ordered. last_round_on n o p call.phase goes begun same (was.last (as_order ordered));
         final = λ q above. same q ∙ was.final q above;
       }
     where
-      by_order : OrderSent w was.call o.brick brick was.stamp → IsLastRound next n p was.call.phase
-      by_order order = last_round_on n o p was.call.phase brick_is boot begun same (was.last order)
-
-      by_descent : OrderSent next was.call p.brick brick was.stamp → (bound : Stamp) → DescentSent w was.call o.brick brick was.stamp bound
-          → (bound ≡ was.stamp) ⊎ (stamp_below bound was.stamp ≡ true) → IsLastRound next n p was.call.phase
-      by_descent sent bound descent (inl own) =
-          by_order (inr (subst (λ (b : Stamp). DescentSent w was.call o.brick brick was.stamp b) own descent))
-      by_descent sent bound descent (inr below) =
-          absurd (shows.order_or_descent was.call o.brick brick brick was.stamp was.stamp bound below
-          (descent_on was.call o.brick brick was.stamp bound descent)
-          (subst (λ (b : BrickId). OrderSent next was.call b brick was.stamp) brick_is sent))
-
-      last_by : OrderSent next was.call p.brick brick was.stamp → AskedAt w was.call o.brick brick was.stamp → IsLastRound next n p was.call.phase
-      last_by sent (inl order) = by_order order
-      last_by sent (inr (inl (bound, descent))) =
-          by_descent sent bound descent (shows.bounds was.call o.brick brick was.stamp bound
-          (descent_on was.call o.brick brick was.stamp bound descent))
-      last_by sent (inr (inr (block, write))) =
-          absurd (shows.order_or_write was.call o.brick brick brick was.stamp was.stamp block (write_on was.call o.brick brick was.stamp block write)
-          (subst (λ (b : BrickId). OrderSent next was.call b brick was.stamp) brick_is sent))
+      -- what was asked is the operation's order, where that was sent
+      as_order : RequestSent next was.call p.brick brick (order_of p.ask.op was.stamp) → RequestSent w was.call o.brick brick (order_of o.ask.op was.stamp)
+      as_order ordered =
+          let sent : RequestSent next was.call p.brick brick was.asked.0
+          = subst (λ (b : BrickId). RequestSent next was.call b brick was.asked.0) (sym goes.brick)
+          (on.sent (record { from = o.brick; to = brick; message = Message.Request was.call was.asked.0 }) was.asked.1) in
+          subst (λ (r : Request). RequestSent w was.call o.brick brick r)
+          (shows.orders_alone n p was.call brick brick was.asked.0 was.stamp was.stamp is (was.own.0 ∙ sym goes.boot, was.own.1 ∙ sym goes.seq)
+          sent was.asked.2 ordered
+          ∙ ap (λ (a : Ask). order_of a.op was.stamp) goes.ask)
+          was.asked.1
 
   -- the evidence of an abort stays, where the replies of its operation do
-  evidence_on : MessagesShow next → (n : ℕ) (o p : Operation) (cause : Cause) → p.brick ≡ o.brick → p.boot ≡ o.boot → p.seq ≡ o.seq
+  evidence_on : MessagesShow next → (n : ℕ) (o p : Operation) (cause : Cause) → IsOperation next n p → GoesOn o p
       → o.boot ≤ (w.nodes o.brick.0).boot → ((q : ℕ) → next.replies n q ≡ w.replies n q) → Evidence w n o cause → Evidence next n p cause
-  evidence_on shows n o p (Cause.Later brick x) brick_is boot seq begun same was = later_on shows n o p brick x brick_is boot seq begun same was
-  evidence_on shows n o p (Cause.Full brick live) brick_is boot seq begun same was = full_on n o p brick live brick_is boot seq same was
-  evidence_on shows n o p cause brick_is boot seq begun same was = absurd was
+  evidence_on shows n o p (Cause.Later brick x) is goes begun same was = later_on shows n o p brick x is goes begun same was
+  evidence_on shows n o p (Cause.Full brick live) is goes begun same was = full_on n o p brick live goes same was
+  evidence_on shows n o p cause is goes begun same was = absurd was
 
 -- the history of the next world: what is new in it is shown
 pub tallied_on : (setting : Setting) (w next : World) → Books setting w → Tallied w → MessagesShow next → Furthers w next
@@ -182,7 +160,7 @@ tallied_on setting w next books tallied shows on calls unbegun counted aborts = 
       let goes = on.operations n was.0 was.1 in
       ⊎_elim
       (λ (same : (q : ℕ) → next.replies n q ≡ w.replies n q).
-      (goes.0, goes.1, evidence_on w next on shows n was.0 goes.0 cause goes.2 goes.3 goes.4 (books.operations n was.0 was.1).booted.1 same was.2))
+      (goes.0, goes.1, evidence_on w next on shows n was.0 goes.0 cause goes.1 goes.2 (books.operations n was.0 was.1).booted.1 same was.2))
       (λ (open' : IsOpen (life_of w.marks n)). absurd (ended_not_open w.marks k p n (Aborted cause) books.well_formed old open'))
       (on.replies n))
       (λ (new : AbortShown next n cause). new)

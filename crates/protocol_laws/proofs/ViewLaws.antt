@@ -5,14 +5,14 @@ use Rattle.std.proofs.lemmas.Bool.{and_parts, and_from, cases_Bool, cases_eq, fa
 use Rattle.std.proofs.lemmas.Option.{same_Some}
 use Rattle.fab_base.specs.declared.identities.BrickId.{BrickId}
 use Rattle.fab_base.specs.declared.stamps.Stamp.{Stamp}
-use Rattle.fab_base.specs.declared.asks.Op.TheVariants.{ReadStripe, WriteStripe}
+use Rattle.fab_base.specs.declared.asks.Op.TheVariants.{WriteStripe}
 use Rattle.fab_base.specs.Stamps.{stamp_below, first_stamp}
 use Rattle.fab_base.proofs.StampOrder.{stamp_below_asym, stamp_not_below_trans}
 use Rattle.fab_base.specs.Layouts.{Layout, Group, group_of, seat_in, brick_at}
 use Rattle.fab_base.proofs.Seats.{seat_within, brick_at_seat}
 use Rattle.messages.specs.declared.calls.Call.{Call}
 use Rattle.messages.specs.declared.packets.Message.TheVariants as Message
-use Rattle.messages.specs.declared.requests.Request.TheVariants as Request
+use Rattle.messages.specs.declared.requests.Request.{Request}
 use Rattle.messages.specs.declared.requests.Version.{Version}
 use Rattle.messages.specs.declared.replies.Reply.{Reply}
 use Rattle.quorum.specs.Quorums.{IsWithinLimits, quorum_of}
@@ -20,10 +20,12 @@ use Rattle.quorum.proofs.Counts.{count_empty, count_monotone}
 use Rattle.protocol.specs.Settings.{Setting, IsSound}
 use Rattle.protocol.specs.Views.{Views, layout_views, view_of, floor_of, members_of, group_in, group_kept}
 use Rattle.protocol.specs.Replicas.{top_of, is_held, stamp_max}
+use Rattle.protocol.specs.declared.phases.Phase.{Phase}
+use Rattle.protocol.specs.declared.phases.Phase.TheVariants.{Modifies, Stores}
 use Rattle.protocol.specs.Coordinators.{told_in}
 use Rattle.protocol.specs.Nodes.{view_at}
 use Rattle.protocol.specs.Worlds.{World, Event, first_world, run}
-use Rattle.protocol_laws.specs.Laws.{part_in, top_in, Follows, EveryRunFollowsTheLayout, IsGuarded, IsBlocked, WriteSent, OneContent, BasesAreNewest, WritesAreGuarded, NeverFalls, AddsNothingBelow, NoEventLowers, IsLost, NeverSurfaces}
+use Rattle.protocol_laws.specs.Laws.{part_in, top_in, Follows, EveryRunFollowsTheLayout, IsGuarded, IsBlocked, RequestSent, OneContent, BasesAreNewest, WritesAreGuarded, NeverFalls, AddsNothingBelow, NoEventLowers, IsLost, NeverSurfaces}
 use Rattle.protocol_laws.proofs.Parts.{part_of, PartsGuard, PartsBlock}
 use Rattle.protocol_laws.proofs.FirstViews.{AreInFirst, own_members, view_first, view_below, top_first, others_empty}
 use Rattle.protocol_laws.proofs.Books.{Books}
@@ -31,7 +33,7 @@ use Rattle.protocol_laws.proofs.BooksEvents.{books_run, books}
 use Rattle.protocol_laws.proofs.Logs.{below_above, held_stands}
 use Rattle.protocol_laws.proofs.Reactions.{max_left, max_right, max_most}
 use Rattle.protocol_laws.proofs.Blocking.{PartsStay, was_held, passes_by, passes, blocked_by, blocked_stays, blocked_never_stands, count_split}
-use Rattle.protocol_laws.proofs.Said.{Stamping, Said, IsSaid, IsMadeOrFirst, VersionSays, WriteSays, ReplySays, WritesWhole, ReadsBack}
+use Rattle.protocol_laws.proofs.Said.{Stamping, Said, IsSaid, IsMadeOrFirst, IsBlockOf, ToldSays, MakerSays, WriteSays, ModifySays, RequestSays, ReplySays, WritesWhole, ReadsBack}
 use Rattle.protocol_laws.proofs.Stampings.{known_first, known_view}
 use Rattle.protocol_laws.proofs.OwnStamps.{made_view, made_first}
 use Rattle.protocol_laws.proofs.Decisions.{quorum_enough}
@@ -101,37 +103,56 @@ module _ (setting : Setting) (views : Views) (w : World) (stamps : Stamping) (bo
   first : AreInFirst setting.layout w
   first = in_first setting w stamps books said
 
-  -- what a write that was sent says
-  write_says : (call : Call) (from to : BrickId) (t : Stamp) (block : List ℕ) → WriteSent w call from to t block
-      → WriteSays setting w stamps from.0 to.0 call t block
-  write_says call from to t block sent =
-      said.packets sent.0 (record { from = from; to = to; message = Message.Request call (Request.Write t block) }) sent.1
+  -- what a request that was sent says
+  sent_says : (call : Call) (from to : BrickId) (request : Request) → RequestSent w call from to request
+      → RequestSays setting w stamps from.0 to.0 call request
+  sent_says call from to request sent = said.packets sent.0 (record { from = from; to = to; message = Message.Request call request }) sent.1
 
   -- the version that a reply tells has its content, and its call is of view 1
   found_says : (from to : BrickId) (call : Call) (reply : Reply) (version : Version) → ReplySays setting w stamps from to call reply
-      → told_in reply ≡ Some version → VersionSays setting w call.group.0 call.stripe.0 from.0 version × (call.view.0 ≡ 1)
+      → told_in reply ≡ Some version → ToldSays setting w call.group.0 call.stripe.0 from.0 version × (call.view.0 ≡ 1)
   found_says from to call (Reply.Found order (Some found)) version says told =
       let same : found ≡ version = same_Some found version told in
-      (subst (λ (z : Version). VersionSays setting w call.group.0 call.stripe.0 from.0 z) same says.says, says.called.view)
+      (subst (λ (z : Version). ToldSays setting w call.group.0 call.stripe.0 from.0 z) same says.says, says.called.view)
   found_says from to call (Reply.OrderedRead found) version says told = (says.says version told, says.called.view)
   found_says from to call reply version says told = cc
+
+  -- a member is sent a request to store a version at its seat
+  stored_at : (call : Call) (from to : BrickId) (phase : Phase) (t : Stamp) (group : Group) → MakerSays setting w stamps from.0 to.0 call phase t
+      → group_in setting.layout views call.group.0 call.view.0 ≡ Some group
+      → (group_of setting.layout call.group.0 ≡ Some group) × ((k : ℕ) × (seat_in group.members to.0 ≡ Some k))
+  stored_at call from to phase t group says found =
+      let group_is : group_of setting.layout call.group.0 ≡ Some group
+      = group_first setting w first views follows call.group.0 call.view.0 group says.called.view found in
+      (group_is, says.member group group_is)
 
   pub one_content : OneContent setting views w
   one_content = record {
     sent = λ call from to t block group found sent.
-        let says : WriteSays setting w stamps from.0 to.0 call t block = write_says call from to t block sent in
-        let group_is : group_of setting.layout call.group.0 ≡ Some group
-        = group_first setting w first views follows call.group.0 call.view.0 group says.called.view found in
-        let seat : (k : ℕ) × (seat_in group.members to.0 ≡ Some k) = says.member group group_is in (
-          seat.0,
-          seat_within group to.0 seat.0 seat.1,
-          brick_at_seat group to.0 seat.0 seat.1,
-          says.is_block group seat.0 group_is seat.1,
+        let says : WriteSays setting w stamps from.0 to.0 call t block = sent_says call from to (Request.Write t block) sent in
+        let at = stored_at call from to Stores t group says.maker found in (
+          at.1.0,
+          seat_within group to.0 at.1.0 at.1.1,
+          brick_at_seat group to.0 at.1.0 at.1.1,
+          says.is_block group at.1.0 at.0 at.1.1,
+        );
+    changed = λ call from to t base j delta group found sent.
+        let says : ModifySays setting w stamps from.0 to.0 call t base j delta = sent_says call from to (Request.Modify t base j delta) sent in
+        let at = stored_at call from to (Modifies base j) t group says.maker found in
+        let change = says.changes group at.1.0 at.0 at.1.1 in (
+          at.1.0,
+          seat_within group to.0 at.1.0 at.1.1,
+          brick_at_seat group to.0 at.1.0 at.1.1,
+          (change.delta, change.sent_is, change.is),
         );
     found = λ call from to seat reply version group found at sent told.
         let says = found_says from to call reply version
         (said.packets sent.0 (record { from = from; to = to; message = Message.Reply call reply }) sent.1) told in
-        says.0.block group seat (group_first setting w first views follows call.group.0 call.view.0 group says.1 found) at;
+        ⊎_elim
+        (λ (none : version.block ≡ []). inl none)
+        (λ (whole : IsBlockOf setting w call.group.0 call.stripe.0 from.0 version.stamp version.block).
+        inr (whole group seat (group_first setting w first views follows call.group.0 call.view.0 group says.1 found) at))
+        says.0.block;
     kept = λ g e s i seat k version group found seat_is at. ⊎_elim
         (λ (one : e ≡ 1).
         (said.logs g s i k version (ap (λ (x : ℕ). slice_get (part_in w g x s i).log k) (sym one) ∙ at)).block group seat
@@ -146,9 +167,10 @@ module _ (setting : Setting) (views : Views) (w : World) (stamps : Stamping) (bo
       none_there : (k : ℕ) (version : Version) → slice_get [] k ≡ Some version → ⊥
       none_there k version is = let never : ⊥ = cc in never
 
-  pub writes_guarded : WritesAreGuarded setting views w
-  writes_guarded call from to t block group found sent =
-      let says : WriteSays setting w stamps from.0 to.0 call t block = write_says call from to t block sent in
+  -- a stamp under which a member is asked to store is guarded
+  stored_guarded : (call : Call) (from to : BrickId) (phase : Phase) (t : Stamp) (group : Group) → MakerSays setting w stamps from.0 to.0 call phase t
+      → group_in setting.layout views call.group.0 (view_of t) ≡ Some group → IsGuarded w call.group.0 call.stripe.0 group t
+  stored_guarded call from to phase t group says found =
       let view : view_of t ≡ 1 = made_view setting w stamps books said call.group.0 call.stripe.0 t (inr (
         w.numbers from.0 call.boot call.seq,
         says.operation,
@@ -161,6 +183,17 @@ module _ (setting : Setting) (views : Views) (w : World) (stamps : Stamping) (bo
       guards setting w first call.group.0 call.stripe.0 group t
       (says.guarded group (group_first setting w first views follows call.group.0 (view_of t) group view found))
 
+  pub writes_guarded : WritesAreGuarded setting views w
+  writes_guarded call from to (Request.Write z block) t group found sent stores =
+      let says : WriteSays setting w stamps from.0 to.0 call z block = sent_says call from to (Request.Write z block) sent in
+      stored_guarded call from to Stores t group
+      (subst (λ (u : Stamp). MakerSays setting w stamps from.0 to.0 call Stores u) (same_Some z t stores) says.maker) found
+  writes_guarded call from to (Request.Modify z base j delta) t group found sent stores =
+      let says : ModifySays setting w stamps from.0 to.0 call z base j delta = sent_says call from to (Request.Modify z base j delta) sent in
+      stored_guarded call from to (Modifies base j) t group
+      (subst (λ (u : Stamp). MakerSays setting w stamps from.0 to.0 call (Modifies base j) u) (same_Some z t stores) says.maker) found
+  writes_guarded call from to request t group found sent stores = cc
+
   -- an operation's base is the one that it read back
   pub bases_newest : BasesAreNewest setting views w
   bases_newest n o t b is made version base = ⊎_elim
@@ -171,7 +204,7 @@ module _ (setting : Setting) (views : Views) (w : World) (stamps : Stamping) (bo
       × (stamp_below z t ≡ true)
       × ((d : Stamp) (group : Group) → group_in setting.layout views o.ask.group.0 (view_of d) ≡ Some group
       → stamp_below z d ≡ true → stamp_below d t ≡ true → IsBlocked w o.ask.group.0 o.ask.stripe.0 group d)) same (
-        (λ bytes writes. let never : ReadStripe ≡ WriteStripe bytes = sym back.op ∙ writes in cc),
+        back.op,
         back.below,
         (λ d group found above less.
             let view : view_of d ≡ 1 = view_below d t (made_most t (inr (n, o, is, refl, refl, made, version))) less in

@@ -7,7 +7,7 @@ use Rattle.std.proofs.lemmas.List.Elements.{All-weaker, All-contains, All-contai
 use Rattle.std.proofs.lemmas.List.Sorted.{sorted_far}
 use Rattle.fab_base.specs.declared.stamps.Stamp.{Stamp}
 use Rattle.fab_base.specs.declared.asks.Op.{Op}
-use Rattle.fab_base.specs.declared.asks.Op.TheVariants.{ReadStripe}
+use Rattle.fab_base.specs.declared.asks.Op.TheVariants.{ReadBlock, WriteBlock, ReadStripe, WriteStripe}
 use Rattle.fab_base.specs.declared.answers.Answer.{Answer}
 use Rattle.fab_base.specs.declared.answers.Answer.TheVariants.{Data, Done, Aborted}
 use Rattle.fab_base.specs.Stamps.{stamp_below, stamp_same, first_stamp}
@@ -38,14 +38,28 @@ use Rattle.protocol_laws.proofs.Said.{WritesWhole}
 use Rattle.protocol_laws.proofs.Sorting.{InOrder, ascending_order, ascending_apart, IsSortedBy-from_order}
 use Rattle.protocol_laws.proofs.StripeLives.{life_filtered, none_filtered, others_filtered, numbers_from_one}
 
--- what an answered read of the stripe was answered is its content
-reads_data : (content : List ℕ) (ending : Ending) → ((p : ℕ) (bytes : List ℕ) → ending ≡ Answered p (Data bytes) → bytes ≡ content)
-    → IsRead (Some content) (data_of ending)
-reads_data content (Answered p (Data bytes)) h = h p bytes refl
-reads_data content (Answered p Done) h = tt
-reads_data content (Answered p (Aborted cause)) h = tt
-reads_data content (Interrupted p) h = tt
-reads_data content (Unended past) h = tt
+-- what an answered operation was answered is what was to be read
+reads_data : (wanted : Option (List ℕ)) (ending : Ending)
+    → ((p : ℕ) (bytes : List ℕ) → ending ≡ Answered p (Data bytes) → wanted ≡ Some bytes) → IsRead wanted (data_of ending)
+reads_data None ending h = tt
+reads_data (Some content) (Answered p (Data bytes)) h = sym (same_Some content bytes (h p bytes refl))
+reads_data (Some content) (Answered p Done) h = tt
+reads_data (Some content) (Answered p (Aborted cause)) h = tt
+reads_data (Some content) (Interrupted p) h = tt
+reads_data (Some content) (Unended past) h = tt
+
+-- an operation that does not write only reads, and leaves the registers
+only_reads : (op : Op) → writes op ≡ false → OnlyReads op
+only_reads (ReadBlock j) reads = tt
+only_reads ReadStripe reads = tt
+only_reads (WriteBlock j bytes) reads = absurd (let never : true ≡ false = reads in cc)
+only_reads (WriteStripe bytes) reads = absurd (let never : true ≡ false = reads in cc)
+
+reads_leave : (block : ℕ) (op : Op) (registers : List ℕ) → writes op ≡ false → after_op block op registers ≡ registers
+reads_leave block (ReadBlock j) registers reads = refl
+reads_leave block ReadStripe registers reads = refl
+reads_leave block (WriteBlock j bytes) registers reads = absurd (let never : true ≡ false = reads in cc)
+reads_leave block (WriteStripe bytes) registers reads = absurd (let never : true ≡ false = reads in cc)
 
 -- an ending in the stripe's marks that is an answer is that answer in all marks
 answer_before : (e later : Ending) (p : ℕ) (answer : Answer) → EndingStays e later → later ≡ Answered p answer → e ≡ Answered p answer
@@ -169,38 +183,37 @@ module _ (setting : Setting) (w : World) (g s : ℕ) (books : Books setting w) (
       told_pairs w.operations AreApart entries
       (ascending_apart (entries_to w.operations g s w.begun) (entries_apart w.operations g s w.begun))
 
-  -- what a read of the stripe was answered is its version's content
+  -- what an operation of the stripe was answered is what it reads of its version's content
   reads_right : (n : ℕ) (o : Operation) (t : Stamp) (l : StripeLife n o) → IsOperation w n o → is_of g s o ≡ true → o.version ≡ Some t
-      → IsRead (Some (w.contents g s t)) (data_of l.life.ending)
+      → IsRead (read_of setting.layout.block o.ask.op (w.contents g s t)) (data_of l.life.ending)
   reads_right n o t l is of version =
       let at : (o.ask.group.0 ≡ g) × (o.ask.stripe.0 ≡ s) = stripe_of setting w g s books facts o of in
       let same : w.contents o.ask.group.0 o.ask.stripe.0 t ≡ w.contents g s t
       = ap (λ (x : ℕ). w.contents x o.ask.stripe.0 t) at.0 ∙ ap (λ (y : ℕ). w.contents g y t) at.1 in
-      reads_data (w.contents g s t) l.life.ending
+      reads_data (read_of setting.layout.block o.ask.op (w.contents g s t)) l.life.ending
       (λ p bytes ending.
-      facts.answered_data n o t l.full p bytes is version l.full_is (answer_before l.full.ending l.life.ending p (Data bytes) l.stays.ending ending)
-      ∙ same)
+      ap (λ (z : List ℕ). read_of setting.layout.block o.ask.op z) (sym same)
+      ∙ facts.answered_data n o t l.full p bytes is version l.full_is (answer_before l.full.ending l.life.ending p (Data bytes) l.stays.ending ending))
 
   -- what an operation's life asks
   life_op : (n : ℕ) (o : Operation) (l : StripeLife n o) → l.life.ask.op ≡ o.ask.op
   life_op n o l = ap (λ a. a.op) (l.stays.ask ∙ l.ask)
 
   -- an operation makes or reads its version's content
-  made_turn : (n : ℕ) (o : Operation) (t : Stamp) (l : StripeLife n o) → IsOperation w n o → is_of g s o ≡ true → o.version ≡ Some t
-      → WritesWhole w o t ⊎ BaseSays setting w o t → HasTurn setting.layout.block (w.contents g s t) false (Some l.life)
-  made_turn n o t l is of version (inl whole) =
-      subst (λ (x : Op). IsRead (read_of setting.layout.block x (w.contents g s t)) (data_of l.life.ending)) (sym (life_op n o l ∙ whole.1)) tt
-  made_turn n o t l is of version (inr says) =
-      subst (λ (x : Op). IsRead (read_of setting.layout.block x (w.contents g s t)) (data_of l.life.ending)) (sym (life_op n o l ∙ says.op))
+  turn_right : (n : ℕ) (o : Operation) (t : Stamp) (l : StripeLife n o) → IsOperation w n o → is_of g s o ≡ true → o.version ≡ Some t
+      → IsRead (read_of setting.layout.block l.life.ask.op (w.contents g s t)) (data_of l.life.ending)
+  turn_right n o t l is of version =
+      subst (λ (x : Op). IsRead (read_of setting.layout.block x (w.contents g s t)) (data_of l.life.ending)) (sym (life_op n o l))
       (reads_right n o t l is of version)
 
   turn_of : (n : ℕ) (o : Operation) (t : Stamp) (l : StripeLife n o) (made : Bool) → IsOperation w n o → is_of g s o ≡ true → o.version ≡ Some t
       → o.made ≡ made
       → HasTurn setting.layout.block (w.contents g s t) (not made) (Some l.life)
-  turn_of n o t l true is of version made = made_turn n o t l is of version (facts.maker n o t is made version).how
-  turn_of n o t l false is of version made =
-      subst (λ (x : Op). OnlyReads x × IsRead (read_of setting.layout.block x (w.contents g s t)) (data_of l.life.ending))
-      (sym (life_op n o l ∙ (facts.reader n o t is made version).op)) (tt, reads_right n o t l is of version)
+  turn_of n o t l true is of version made = turn_right n o t l is of version
+  turn_of n o t l false is of version made = (
+    only_reads l.life.ask.op (ap (λ (x : Op). writes x) (life_op n o l) ∙ (facts.reader n o t is made version).op),
+    turn_right n o t l is of version,
+  )
 
   walk_turns : All (λ (e : Entry). HasTurn setting.layout.block (w.contents g s e.stamp) e.reader (life_of marks e.operation)) walk
   walk_turns = All-weaker IsOurs (λ (e : Entry). HasTurn setting.layout.block (w.contents g s e.stamp) e.reader (life_of marks e.operation))
@@ -277,15 +290,14 @@ module _ (setting : Setting) (w : World) (g s : ℕ) (books : Books setting w) (
           on
 
       -- no other operation made the version
-      unmade : mine.operation.answered ≡ false → mine.operation.ask.op ≡ ReadStripe → IsMade walk r.stamp → ⊥
-      unmade unanswered op (k, e, lt, is, made) =
+      unmade : mine.operation.answered ≡ false → writes mine.operation.ask.op ≡ false → IsMade walk r.stamp → ⊥
+      unmade unanswered reads (k, e, lt, is, made) =
           let e_has : Contains entries e = All-contains (Contains entries) walk e walk_entries (k, lt, is) in
           let one : e.operation ≡ r.operation = one_maker setting w g s books facts e r e_has has made.0 maker made.1 in
           let told : is_told (w.operations e.operation) ≡ true
           = All-contains (λ (x : Entry). is_told (w.operations x.operation) ≡ true) walk e (told_told w.operations entries) (k, lt, is) in
           let same : is_told (Some mine.operation) ≡ true
           = sym (ap (λ (o : Option Operation). is_told o) (ap w.operations one ∙ mine.is)) ∙ told in
-          let reads : writes mine.operation.ask.op ≡ false = ap (λ (x : Op). writes x) op in
           both_ways (mine.operation.answered || writes mine.operation.ask.op) (or_from _ _ unanswered reads) same
 
       by : WritesWhole w mine.operation r.stamp ⊎ BaseSays setting w mine.operation r.stamp → Follows setting.layout.block marks
@@ -295,14 +307,18 @@ module _ (setting : Setting) (w : World) (g s : ℕ) (books : Books setting w) (
           (sym (ap (λ (x : Op). after_op setting.layout.block x (w.contents g s u)) (life_op r.operation mine.operation its ∙ whole.1)
           ∙ content_of r.stamp))
       by (inr says) =
-          let same : w.contents g s r.stamp ≡ w.contents g s u
-          = sym (content_of r.stamp) ∙ says.content ∙ content_of says.base ∙ ap (λ (t : Stamp). w.contents g s t) (base_is_u says) in
+          let op : Op = mine.operation.ask.op in
+          let changes : w.contents g s r.stamp ≡ after_op setting.layout.block op (w.contents g s u)
+          = sym (content_of r.stamp) ∙ says.content
+          ∙ ap (λ (z : List ℕ). after_op setting.layout.block op z) (content_of says.base ∙ ap (λ (t : Stamp). w.contents g s t) (base_is_u says)) in
           ⊎_elim
-          (λ (answered : mine.operation.answered ≡ true).
-          made_from (or_left mine.operation.answered _ answered)
-          (same ∙ sym (ap (λ (x : Op). after_op setting.layout.block x (w.contents g s u)) (life_op r.operation mine.operation its ∙ says.op))))
-          (λ (unanswered : mine.operation.answered ≡ false). inr (unmade unanswered says.op, same))
-          (cases_Bool mine.operation.answered)
+          (λ (told : is_told (Some mine.operation) ≡ true).
+          made_from told
+          (changes ∙ sym (ap (λ (x : Op). after_op setting.layout.block x (w.contents g s u)) (life_op r.operation mine.operation its))))
+          (λ (untold : is_told (Some mine.operation) ≡ false).
+          let parts = or_parts mine.operation.answered (writes op) untold in
+          inr (unmade parts.0 parts.1, changes ∙ reads_leave setting.layout.block op (w.contents g s u) parts.1))
+          (cases_Bool (is_told (Some mine.operation)))
 
   -- each effective version came so from the one before it
   follows : (u v : Stamp) → IsEffective (IsAnsweredVersion setting w g s books facts) base v → IsMadeOn base u v → stamp_below first_stamp v ≡ true

@@ -1,15 +1,22 @@
 -- Each answer has the word of its operation.
-use Rattle.std.proofs.Common.{◌≡◌, ℕ, ◌*◌, List, length, Option, Some, inl, inr, sym, ap, ◌∙◌, subst}
+use Rattle.std.proofs.Common.{◌≡◌, ℕ, ◌*◌, true, List, length, Option, Some, inl, inr, sym, ap, ◌∙◌, subst, arith}
+use Rattle.std.proofs.lemmas.Bool.{false≢true, ltb-true}
+use Rattle.std.proofs.lemmas.Option.{same_Some}
 use Rattle.std.proofs.lemmas.List.{length-replicate}
 use Rattle.fab_base.specs.declared.stamps.Stamp.{Stamp}
 use Rattle.fab_base.specs.declared.asks.Op.{Op}
+use Rattle.fab_base.specs.declared.asks.Op.TheVariants.{ReadBlock, WriteBlock, ReadStripe, WriteStripe}
 use Rattle.fab_base.specs.declared.answers.Answer.{Answer}
 use Rattle.fab_base.specs.declared.answers.Answer.TheVariants.{Data, Done, Aborted}
 use Rattle.fab_base.specs.Layouts.{Group, group_of}
 use Rattle.protocol.specs.Settings.{Setting}
+use Rattle.reg_model.specs.Registers.{block_of, read_of}
+use Rattle.protocol.specs.Nodes.{has_block}
 use Rattle.protocol.specs.Worlds.{World, Operation, zero_content}
+use Rattle.protocol.specs.Happenings.{writes}
 use Rattle.protocol_laws.specs.Marked.{WordFits, WordsFit}
 use Rattle.protocol_laws.proofs.Books.{Books, OperationBooks, IsOperation}
+use Rattle.protocol_laws.proofs.Blocks.{block_room, block_long}
 use Rattle.protocol_laws.proofs.Said.{Stamping, Said, IsMadeOrFirst, EndShows}
 
 module _ (setting : Setting) (w : World) (stamps : Stamping) (books : Books setting w) (said : Said setting w stamps) where
@@ -27,24 +34,38 @@ module _ (setting : Setting) (w : World) (stamps : Stamping) (books : Books sett
       ap (λ (l : List ℕ). length l) (sym content)
       ∙ ((said.operations made.0 p made.2).content t made.5 made.6 group (ap (group_of setting.layout) made.3 ∙ is)).0
 
+  -- what a read gives of m blocks is its word
+  read_word : (op : Op) (m : ℕ) (bytes content : List ℕ) → has_block m op ≡ true → read_of setting.layout.block op content ≡ Some bytes
+      → length content ≡ m * setting.layout.block → WordFits m setting.layout.block op (Data bytes)
+  read_word (ReadBlock j) m bytes content has is long =
+      ap (λ (l : List ℕ). length l) (sym (same_Some (block_of setting.layout.block j content) bytes is))
+      ∙ block_long setting.layout.block j content (let room = block_room j m setting.layout.block (ltb-true j m has) in omega (arith, room, long))
+  read_word ReadStripe m bytes content has is long = ap (λ (l : List ℕ). length l) (sym (same_Some content bytes is)) ∙ long
+  read_word (WriteBlock j given) m bytes content has is long = cc
+  read_word (WriteStripe given) m bytes content has is long = cc
+
+  write_word : (op : Op) (m : ℕ) → writes op ≡ true → WordFits m setting.layout.block op Done
+  write_word (WriteBlock j given) m is = tt
+  write_word (WriteStripe given) m is = tt
+  write_word (ReadBlock j) m is = absurd (false≢true is)
+  write_word ReadStripe m is = absurd (false≢true is)
+
   -- what the end of an operation shows is its word
-  end_fits : (n : ℕ) (answer : Answer) → EndShows w n answer
+  end_fits : (n : ℕ) (answer : Answer) → EndShows setting w n answer
       → (o : Operation) × IsOperation w n o
       × ((group : Group) → group_of setting.layout o.ask.group.0 ≡ Some group → WordFits group.m setting.layout.block o.ask.op answer)
   end_fits n (Data bytes) shown = (
     shown.operation,
     shown.is,
     λ group is.
-        subst (λ (op : Op). WordFits group.m setting.layout.block op (Data bytes)) (sym shown.reads)
-        (ap (λ (l : List ℕ). length l) shown.bytes_are
-        ∙ content_long shown.operation.ask.group.0 shown.operation.ask.stripe.0 shown.version group is
+        let its : OperationBooks setting w n shown.operation = books.operations n shown.operation shown.is in
+        let same : its.group ≡ group = same_Some its.group group (sym its.group_is ∙ is) in
+        read_word shown.operation.ask.op group.m bytes (w.contents shown.operation.ask.group.0 shown.operation.ask.stripe.0 shown.version)
+        (ap (λ (z : Group). has_block z.m shown.operation.ask.op) (sym same) ∙ its.block_fits) shown.bytes_are
+        (content_long shown.operation.ask.group.0 shown.operation.ask.stripe.0 shown.version group is
         ((said.operations n shown.operation shown.is).version shown.version shown.version_is).made),
   )
-  end_fits n Done shown = (
-    shown.0,
-    shown.1,
-    λ group is. subst (λ (op : Op). WordFits group.m setting.layout.block op Done) (sym shown.2.1) tt,
-  )
+  end_fits n Done shown = (shown.0, shown.1, λ group is. write_word shown.0.ask.op group.m shown.2)
   end_fits n (Aborted cause) shown = (shown.0, shown.1, λ group is. tt)
 
   -- the words of a world's marks fit

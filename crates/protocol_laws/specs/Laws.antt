@@ -1,9 +1,10 @@
 -- The laws of the disk, as they hold in every world that a run reaches. Quorums are counted by seat.
-use Rattle.std.specs.Prelude.{◌≡◌, ℕ, ◌+◌, ◌<◌, ◌≤◌, Bool, true, false, not, nat_eq, ◌&&◌, List, [], ◌++◌, length, map, ◌⊎◌, Some, is_some, slice_get}
+use Rattle.std.specs.Prelude.{◌≡◌, ℕ, ◌+◌, ◌<◌, ◌≤◌, Bool, true, false, not, nat_eq, ◌&&◌, List, [], ◌++◌, length, map, ◌⊎◌, Option, Some, None, is_some, slice_get}
 use Rattle.std.specs.List.{IsDistinct}
 use Rattle.fab_base.specs.declared.identities.BrickId.{BrickId}
 use Rattle.fab_base.specs.declared.stamps.Stamp.{Stamp}
-use Rattle.fab_base.specs.declared.asks.Op.TheVariants.{WriteStripe}
+use Rattle.fab_base.specs.declared.asks.Op.{Op}
+use Rattle.fab_base.specs.declared.asks.Op.TheVariants.{ReadBlock, WriteBlock, ReadStripe, WriteStripe}
 use Rattle.fab_base.specs.declared.answers.Answer.TheVariants.{Aborted}
 use Rattle.fab_base.specs.declared.answers.Cause.{Cause}
 use Rattle.fab_base.specs.Stamps.{stamp_below, first_stamp}
@@ -11,14 +12,14 @@ use Rattle.messages.specs.declared.calls.Call.{Call}
 use Rattle.messages.specs.declared.packets.Message.{Message}
 use Rattle.messages.specs.declared.packets.Packet.{Packet}
 use Rattle.messages.specs.declared.requests.Version.{Version}
-use Rattle.messages.specs.declared.requests.Request.TheVariants as Request
+use Rattle.messages.specs.declared.requests.Request.{Request}
 use Rattle.messages.specs.declared.requests.Look.TheVariants as Look
 use Rattle.messages.specs.declared.requests.Want.TheVariants as Want
 use Rattle.messages.specs.declared.replies.Reply.{Reply}
 use Rattle.quorum.specs.Quorums.{count}
 use Rattle.reg_model.specs.declared.marks.Mark.TheVariants.{End}
 use Rattle.reg_model.specs.Marks.{life_of, stripe_marks, IsWellFormed}
-use Rattle.reg_model.specs.Registers.{zero_registers}
+use Rattle.reg_model.specs.Registers.{zero_registers, block_of, with_block}
 use Rattle.reg_model.specs.Strict.{IsStrict}
 use Rattle.reg_model.specs.Walk.{last_of}
 use Rattle.fab_base.specs.Layouts.{Layout, Group, group_of, seat_in, brick_at}
@@ -27,7 +28,8 @@ use Rattle.protocol.specs.Settings.{Setting, IsSound}
 use Rattle.protocol.specs.Views.{Views, layout_views, view_of, floor_of, group_in}
 use Rattle.protocol.specs.Replicas.{Replica, is_held}
 use Rattle.protocol.specs.declared.phases.Counted.{Counted}
-use Rattle.protocol.specs.Coordinators.{most_rounds, greatest_refuser, lowest_full, told_in}
+use Rattle.protocol.specs.declared.phases.Phase.TheVariants.{Bases}
+use Rattle.protocol.specs.Coordinators.{Coordinator, most_rounds, greatest_refuser, lowest_full, told_in, counts_at, with_reply, pieces_at, delta_at}
 use Rattle.protocol.specs.Nodes.{view_at, top_at, has_later_time}
 use Rattle.protocol.specs.Worlds.{World, Event, Operation, content_on, first_world, known_in, happens, run}
 use Rattle.protocol.specs.Happenings.{is_of, effect_in, happenings_of}
@@ -72,21 +74,46 @@ abbrev pub EveryRunFollowsTheLayout : Type 0
 EveryRunFollowsTheLayout =
     (setting : Setting) (events : List Event) → IsSound setting → RunFollows setting (layout_views setting.layout) events
 
--- a write of version t of this stripe was sent, under a call, to a brick, with this block
-abbrev pub WriteSent : World → Call → BrickId → BrickId → Stamp → List ℕ → Type 0
-WriteSent w call from to t block = WasSent w (record { from = from; to = to; message = Message.Request call (Request.Write t block) })
+-- a request was sent, under a call, to a brick
+abbrev pub RequestSent : World → Call → BrickId → BrickId → Request → Type 0
+RequestSent w call from to request = WasSent w (record { from = from; to = to; message = Message.Request call request })
+
+-- the stamp under which a request has its member store
+abbrev pub stamp_stored : Request → Option Stamp
+stamp_stored (Request.Write t block) = Some t
+stamp_stored (Request.Modify t base j delta) = Some t
+stamp_stored request = None
+
+-- the stamp at which a request asks its member: to promise it, or to store under it
+abbrev pub stamp_asked : Request → Option Stamp
+stamp_asked (Request.Order t) = Some t
+stamp_asked (Request.OrderRead t look want) = Some t
+stamp_asked (Request.Write t block) = Some t
+stamp_asked (Request.Modify t base j delta) = Some t
+stamp_asked request = None
+
+-- what a version modifies of its base: data block j, by this, and no other data block
+pub record IsModified (setting : Setting) (w : World) (g s : ℕ) (t base : Stamp) (j : ℕ) (delta : List ℕ) : Type 0 where
+  pub delta_is : delta ≡ setting.code.delta (block_of setting.layout.block j (w.contents g s base)) (block_of setting.layout.block j (w.contents g s t))
+  pub others : w.contents g s t ≡ with_block setting.layout.block j (block_of setting.layout.block j (w.contents g s t)) (w.contents g s base)
 
 -- One stamp has one content: each block of version t that was sent, or was found, or is kept is its seat's
--- block of the content of t, the seat being one of the view of the message, or of the part.
+-- block of the content of t, the seat being one of the view of the message, or of the part; but one that was found and not wanted is empty. What a
+-- member is sent to modify a base by is what data block j changes by from the base's content to that of t, where that changes its seat's block, and
+-- else nothing; all other data blocks are the base's.
 pub record OneContent (setting : Setting) (views : Views) (w : World) : Type 0 where
   pub sent : (call : Call) (from to : BrickId) (t : Stamp) (block : List ℕ) (group : Group)
-      → group_in setting.layout views call.group.0 call.view.0 ≡ Some group → WriteSent w call from to t block
+      → group_in setting.layout views call.group.0 call.view.0 ≡ Some group → RequestSent w call from to (Request.Write t block)
       → (seat : ℕ) × (seat < length group.members) × (brick_at group seat ≡ to.0)
       × (block ≡ setting.code.encode group.m (w.contents call.group.0 call.stripe.0 t) seat)
+  pub changed : (call : Call) (from to : BrickId) (t base : Stamp) (j : ℕ) (sent : List ℕ) (group : Group)
+      → group_in setting.layout views call.group.0 call.view.0 ≡ Some group → RequestSent w call from to (Request.Modify t base j sent)
+      → (seat : ℕ) × (seat < length group.members) × (brick_at group seat ≡ to.0)
+      × ((delta : List ℕ) × (sent ≡ delta_at group.m j seat delta) × IsModified setting w call.group.0 call.stripe.0 t base j delta)
   pub found : (call : Call) (from to : BrickId) (seat : ℕ) (reply : Reply) (version : Version) (group : Group)
       → group_in setting.layout views call.group.0 call.view.0 ≡ Some group → seat_in group.members from.0 ≡ Some seat
       → WasSent w (record { from = from; to = to; message = Message.Reply call reply }) → told_in reply ≡ Some version
-      → version.block ≡ setting.code.encode group.m (w.contents call.group.0 call.stripe.0 version.stamp) seat
+      → (version.block ≡ []) ⊎ (version.block ≡ setting.code.encode group.m (w.contents call.group.0 call.stripe.0 version.stamp) seat)
   pub kept : (g e s i seat k : ℕ) (version : Version) (group : Group) → group_in setting.layout views g e ≡ Some group
       → seat_in group.members i ≡ Some seat → slice_get (part_in w g e s i).log k ≡ Some version
       → version.block ≡ setting.code.encode group.m (w.contents g s version.stamp) seat
@@ -135,11 +162,11 @@ abbrev pub FirstIsZero : Setting → World → Type 0
 FirstIsZero setting w =
     (g s : ℕ) (group : Group) → group_of setting.layout g ≡ Some group → w.contents g s first_stamp ≡ zero_registers group.m setting.layout.block
 
--- Before a write of version t was sent, a quorum of the view of t took nothing below t, and has so ever since.
+-- Before a request to store version t was sent, a quorum of the view of t took nothing below t, and has so ever since.
 abbrev pub WritesAreGuarded : Setting → Views → World → Type 0
 WritesAreGuarded setting views w =
-    (call : Call) (from to : BrickId) (t : Stamp) (block : List ℕ) (group : Group)
-    → group_in setting.layout views call.group.0 (view_of t) ≡ Some group → WriteSent w call from to t block
+    (call : Call) (from to : BrickId) (request : Request) (t : Stamp) (group : Group)
+    → group_in setting.layout views call.group.0 (view_of t) ≡ Some group → RequestSent w call from to request → stamp_stored request ≡ Some t
     → IsGuarded w call.group.0 call.stripe.0 group t
 
 -- no step lowers the stamp below which a brick takes nothing
@@ -156,7 +183,7 @@ AddsNothingBelow old new =
 abbrev pub StoredIsHeld : World → Type 0
 StoredIsHeld w =
     (call : Call) (from to : BrickId) → WasSent w (record { from = from; to = to; message = Message.Reply call Reply.Stored })
-    → (t : Stamp) × (block : List ℕ) × WriteSent w call to from t block
+    → (t : Stamp) × (request : Request) × RequestSent w call to from request × (stamp_stored request ≡ Some t)
     × (w.held from.0 call.group.0 call.stripe.0 t ≡ true)
 
 -- Versions follow real time: where one operation of a stripe ended before another began, its version is below
@@ -168,18 +195,17 @@ FollowsRealTime w g s =
     → last_of (life_of w.marks a) < later.begin
     → (stamp_below u v ≡ true) ⊎ ((u ≡ v) × (later.made ≡ false))
 
--- an order of stamp t was sent, a write's or a recovery's
-abbrev pub OrderSent : World → Call → BrickId → BrickId → Stamp → Type 0
-OrderSent w call from to t =
-    WasSent w (record { from = from; to = to; message = Message.Request call (Request.Order t) })
-    ⊎ WasSent w (record { from = from; to = to; message = Message.Request call (Request.OrderRead t (Look.Below t) Want.All) })
+-- how an operation orders its stamp: the write of a stripe by the order alone, that of a block by one that tells the newest version below, with the
+-- block at its seat, and the recovery of a read by one that tells that version with all blocks
+abbrev pub order_of : Op → Stamp → Request
+order_of (ReadBlock j) t = Request.OrderRead t (Look.Below t) Want.All
+order_of (WriteBlock j bytes) t = Request.OrderRead t (Look.Below t) (Want.Seat j)
+order_of ReadStripe t = Request.OrderRead t (Look.Below t) Want.All
+order_of (WriteStripe bytes) t = Request.Order t
 
--- an order or a write of stamp t was sent, or an order that looks below another version
+-- a brick was asked at stamp t
 abbrev pub AskedAt : World → Call → BrickId → BrickId → Stamp → Type 0
-AskedAt w call from to t =
-    OrderSent w call from to t
-    ⊎ (((bound : Stamp) × WasSent w (record { from = from; to = to; message = Message.Request call (Request.OrderRead t (Look.Below bound) Want.All) }))
-    ⊎ ((block : List ℕ) × WriteSent w call from to t block))
+AskedAt w call from to t = (request : Request) × RequestSent w call from to request × (stamp_asked request ≡ Some t)
 
 -- a message's call is the operation's
 abbrev pub IsCallOf : Call → Operation → Type 0
@@ -209,7 +235,7 @@ pub record LaterEvidence (w : World) (n : ℕ) (o : Operation) (brick : BrickId)
   pub told : WasSent w (record { from = brick; to = o.brick; message = Message.Reply call (Reply.Later x) })
   pub above : stamp_below stamp x ≡ true
   pub greatest : greatest_refuser (w.replies n call.phase) ≡ Some (record { seat = seat; brick = brick; stamp = x })
-  pub last : OrderSent w call o.brick brick stamp → IsLastRound w n o call.phase
+  pub last : RequestSent w call o.brick brick (order_of o.ask.op stamp) → IsLastRound w n o call.phase
   pub final : IsLastPhase w n call.phase
 
 -- What the abort of operation n for a full store shows: in the last phase of this very operation the brick had
@@ -273,6 +299,17 @@ FullIsFull setting w =
     (call : Call) (from to : BrickId) (live : ℕ) → WasSent w (record { from = from; to = to; message = Message.Reply call (Reply.Full live) })
     → live ≡ setting.layout.records
 
+-- A write of a block that reads its base back finds it: once a quorum of replies counts in that phase, at least m of them tell blocks of the base. So
+-- it never waits for more.
+abbrev pub BasesAreFound : Setting → World → Type 0
+BasesAreFound setting w =
+    (i k seat : ℕ) (c : Coordinator) (base : Stamp) (from : BrickId) (reply : Reply) → (w.nodes i).calls k ≡ Some c → c.phase ≡ Bases base
+    → WasSent w (record { from = from; to = record { 0 = i }; message = Message.Reply c.call reply })
+    → counts_at setting.layout.block c from.0 c.call reply ≡ Some seat
+    → quorum_of c.group ≤ length (with_reply c seat from reply).counted
+    → (is_some (greatest_refuser (with_reply c seat from reply).counted) ≡ false) → (is_some (lowest_full (with_reply c seat from reply).counted) ≡ false)
+    → c.group.m ≤ length (pieces_at base (with_reply c seat from reply).counted)
+
 -- The laws of a world, for an assignment of members to views.
 pub record Laws (setting : Setting) (views : Views) (w : World) : Type 0 where
   pub one_content : OneContent setting views w
@@ -281,6 +318,7 @@ pub record Laws (setting : Setting) (views : Views) (w : World) : Type 0 where
   pub guarded : WritesAreGuarded setting views w
   pub stored : StoredIsHeld w
   pub bases : BasesAreNewest setting views w
+  pub bases_found : BasesAreFound setting w
   pub neighbours : (g s : ℕ) → NeighboursFollow w g s
   pub lowest : (g s : ℕ) → LowestFollows w g s
   pub real_time : (g s : ℕ) → FollowsRealTime w g s

@@ -25,13 +25,16 @@ pub fn every_run_follows_the_layout()
 ///   that was answered is among them.
 /// - Versions follow real time (Frølund et al., "A Decentralized Algorithm for Erasure-Coded Virtual Disks", DSN 2004).
 /// - One stamp has one content: every block that was sent to be written under a stamp, that was found under it, or that a member
-///   keeps under it, is its seat's block of that content.
-/// - Before a version was sent to be written, a quorum of its view took nothing below its stamp, and has so ever since.
+///   keeps under it, is its seat's block of that content. What is sent to modify a base is what one data block changes by from the
+///   base's content to the version's, and every other data block is the base's.
+/// - Before a version was sent to be stored, a quorum of its view took nothing below its stamp, and has so ever since.
 /// - A member says that it stored a version only where it was asked to, and has held it.
-/// - A version's content is what its maker makes of its base's: a stripe write's bytes, or what a recovery read back. The content
-///   of the first version is zero.
-/// - A version that is made on a base, as a recovery's is, is above it; and no quorum of its view has held a version between the
-///   two, or ever will (Frølund et al., DSN 2004).
+/// - A version's content is what its maker makes of its base's: a stripe write's bytes, what a recovery read back, or that with the
+///   one block that is written. The content of the first version is zero.
+/// - A version that is made on a base, as a recovery's or a block write's is, is above it; and no quorum of its view has held a
+///   version between the two, or ever will (Frølund et al., DSN 2004).
+/// - A block write that reads its base back finds it: once the replies of a quorum count, and none refuses, at least m of them tell
+///   blocks of the base.
 /// - Of two neighbours among the versions that take effect, the upper was written whole, or was made on the lower. The lowest is the
 ///   first version, or was written whole, or was made on the first one.
 /// - Each reply that counted in a phase of an operation was sent to its coordinator, as a reply to that phase.
@@ -39,13 +42,13 @@ pub fn every_run_follows_the_layout()
 /// - For a later stamp only where, in its last phase, a member had told its coordinator of a later stamp than the one that it was
 ///   asked at, and no reply that counted in that phase told a greater one, or an equal one from a lower seat. A round of ordering,
 ///   of which an operation has four at most, aborts only where no other may follow: the three rounds before it had each counted a
-///   later stamp, or its coordinator knows no later time.
+///   later stamp, or its coordinator knows no later time. What asks to modify or to store is no such round, and is not tried again.
 /// - For a full store only where, in its last phase, that member had told its coordinator so, the one of the lowest seat of those
 ///   whose replies counted.
 /// - What a refusal tells was true of its member when it was sent: it had come to just that stamp, or it kept so many live records.
 ///   A member says that its store is full only with as many live records as a brick may keep.
-/// - Each answer has the word of its operation: a read is answered the data of its m blocks, a write that it is done; either may be
-///   aborted.
+/// - Each answer has the word of its operation: a read is answered the data of its block, or of its m blocks, a write that it is
+///   done; any may be aborted.
 /// - Marks are well formed: positions and numbers rise, and only an operation that is open ends. They have no gaps: positions are
 ///   0, 1, 2 and so on, and operations are numbered 1, 2, 3 and so on.
 pub fn every_run_keeps_the_laws()

@@ -1,0 +1,50 @@
+-- A write of a block that reads its base back finds it.
+use Rattle.std.proofs.Common.{◌≡◌, ℕ, ◌++◌, ◌∷◌, [], false, Option, Some, None, is_some, refl, sym, ◌∙◌, subst}
+use Rattle.std.proofs.lemmas.Option.{same_Some}
+use Rattle.fab_base.specs.Layouts.{Group, seat_in}
+use Rattle.protocol.specs.Settings.{Setting, IsSound}
+use Rattle.protocol.specs.declared.phases.Counted.{Counted}
+use Rattle.protocol.specs.Coordinators.{greatest_refuser, lowest_full}
+use Rattle.protocol.specs.Worlds.{World}
+use Rattle.protocol.proofs.CountsAt.{CountsAt, counts_facts}
+use Rattle.protocol_laws.specs.Laws.{BasesAreFound}
+use Rattle.protocol_laws.proofs.Books.{Books, CallBooks, IsCall}
+use Rattle.protocol_laws.proofs.Said.{Stamping, Said, CallSays, CountedSays}
+use Rattle.protocol_laws.proofs.Counting.{each_more, once_more}
+use Rattle.protocol_laws.proofs.Recoveries.{base_enough}
+
+-- what is not there
+is_none : {A : Type 0} (o : Option A) → is_some o ≡ false → o ≡ None
+is_none None isnt = refl
+is_none (Some x) isnt = cc
+
+pub bases_found : (setting : Setting) → IsSound setting → (w : World) (stamps : Stamping) → Books setting w → Said setting w stamps
+    → BasesAreFound setting w
+bases_found setting sound w stamps books said i k seat c base from reply is reads sent counts many unrefused roomy =
+    base_enough setting sound w stamps (record { 0 = i }) c books said call (c.counted ++ (one ∷ []))
+    (each_more (CountedSays setting w i c) c.counted one says.counted new_says) (once_more c.counted one says.once facts.first)
+    many base reads (is_none (greatest_refuser (c.counted ++ (one ∷ []))) unrefused) (is_none (lowest_full (c.counted ++ (one ∷ []))) roomy)
+  where
+    one : Counted
+    one = record { seat = seat; brick = from; reply = reply }
+
+    its : CallBooks setting w i k c
+    its = books.calls i k c is
+
+    call : IsCall w i c.call.seq c
+    call = subst (λ (l : ℕ). IsCall w i l c) (sym its.call_seq) is
+
+    says : CallSays setting w stamps i c.call.seq c
+    says = said.calls i c.call.seq c call
+
+    facts : CountsAt setting.layout.block c from.0 c.call reply seat
+    facts = counts_facts setting.layout.block c from.0 c.call reply seat counts
+
+    new_says : CountedSays setting w i c one
+    new_says = record {
+      sent = sent;
+      answers = facts.answers;
+      seat = λ group group_is.
+          subst (λ (z : Group). seat_in z.members from.0 ≡ Some seat)
+          (same_Some c.group group (sym its.group_is ∙ group_is)) facts.seat_is;
+    }
