@@ -1,4 +1,5 @@
-//! The calls of the code: the block of a seat, all parity blocks at once, and the content that m blocks give back.
+//! The calls of the code: the block of a seat, all parity blocks at once, the content that m blocks give back, and how a block
+//! changes with a data block.
 
 ghost use Rattle.std.specs.Prelude.{◌≡◌, ℕ, ◌-◌, ◌*◌, ◌<◌, ◌≤◌, List, length, IfOk};
 ghost use Rattle.protocol.specs.Settings.{Piece};
@@ -60,4 +61,31 @@ pub fn decode(alloc: Global, m: u8, size: u16, seats: &[u8], blocks: &[u8]) -> R
     let mut content = vec![in alloc; 0; m as usize * size as usize]?;
     code.decode_all_into(seats, blocks, size as usize, &mut content);
     Ok(Bytes::from_vec(content))
+}
+
+/// What a block of `size` bytes changes by, from its old and its new bytes.
+///
+/// `NoMemory` comes where these bytes have no room.
+pub fn delta(alloc: Global, size: u16, old: &[u8], new: &[u8]) -> Result<Bytes, NoMem>
+    requires old_long { length old.now ≡ size }
+    requires new_long { length new.now ≡ size }
+    ensures { IfOk result (λ delta. delta ≡ (block_code size).delta old.now new.now) }
+{
+    let mut delta = vec![in alloc; 0; size as usize]?;
+    for (t, byte) in delta.iter_mut().enumerate() {
+        *byte = old[t] ^ new[t];
+    }
+    Ok(Bytes::from_vec(delta))
+}
+
+/// Changes `block`, the one that the member at this seat keeps of a stripe of `m` data blocks, as data block `j` changes by
+/// `delta`.
+pub fn modify(m: u8, j: u8, seat: u8, delta: &[u8], block: &mut [u8])
+    requires few_data { m ≤ 16 }
+    requires changed { j < m }
+    requires seat { seat < 32 }
+    requires long { length delta.now ≡ length block.old }
+    ensures { block.new ≡ (block_code (length block.old)).modify m j seat delta.now block.old }
+{
+    Code { m, n: MAX_BLOCKS }.modify_into(j, seat, delta, block);
 }
