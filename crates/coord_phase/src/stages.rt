@@ -312,6 +312,16 @@ impl Operation {
         Ok(Next::Send(messages))
     }
 
+    /// Ends the operation with the version that it made, which the members that replied hold.
+    pub fn end_made(&mut self, answer: Answer) -> Next
+        ensures next { result ≡ Next.End answer }
+        ensures state { self.new ≡ record { block = self.old.block; state = self.old.state; note = None; made = Some self.old.state.stamp } }
+    {
+        self.note = None;
+        self.made = Some(self.stage.stamp);
+        Next::End(answer)
+    }
+
     /// Ends the operation with the version that it stored, unless a member told a later stamp. Where memory runs out nothing has
     /// changed.
     pub fn end_store(&mut self, alloc: Global) -> Result<Next, NoMem>
@@ -328,9 +338,7 @@ impl Operation {
             return Ok(self.abort(refuser));
         }
         let answer = self.answer(alloc)?;
-        self.note = None;
-        self.made = Some(self.stage.stamp);
-        Ok(Next::End(answer))
+        Ok(self.end_made(answer))
     }
 
     /// Ends a read with this version, which it read at once, and its content.
