@@ -57,7 +57,7 @@ replaces m size j content bytes long bytes_long within = record {
 -- ---- a seat's block once a data block changed
 
 -- it is as long as a block
-length-modified_block : (m size j seat : ℕ) (delta block : List ℕ) → length (modified_block m size j seat delta block) ≡ size
+pub length-modified_block : (m size j seat : ℕ) (delta block : List ℕ) → length (modified_block m size j seat delta block) ≡ size
 unfolding modified_block
 length-modified_block m size j seat delta block =
     length-map-range_with_len (λ t. bit_xor (get_or block t 0) (field_mul (weight_of m (λ i. i) j seat) (get_or delta t 0))) 0 size

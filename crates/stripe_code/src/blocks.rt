@@ -78,14 +78,27 @@ pub fn delta(alloc: Global, size: u16, old: &[u8], new: &[u8]) -> Result<Bytes, 
     Ok(Bytes::from_vec(delta))
 }
 
-/// Changes `block`, the one that the member at this seat keeps of a stripe of `m` data blocks, as data block `j` changes by
-/// `delta`.
-pub fn modify(m: u8, j: u8, seat: u8, delta: &[u8], block: &mut [u8])
+/// The block that the member at this seat keeps once data block `j` of its stripe, of `m` data blocks of `size` bytes, changed by
+/// `delta`. It kept `block` before, which is cut to `size` bytes, or filled with zeros, where it has another length.
+///
+/// `NoMemory` comes where the block has no room.
+pub fn modify(
+    alloc: Global,
+    m: u8,
+    size: u16,
+    j: u8,
+    seat: u8,
+    delta: &[u8],
+    block: &[u8],
+) -> Result<Bytes, NoMem>
     requires few_data { m ≤ 16 }
     requires changed { j < m }
     requires seat { seat < 32 }
-    requires long { length delta.now ≡ length block.old }
-    ensures { block.new ≡ (block_code (length block.old)).modify m j seat delta.now block.old }
+    requires long { length delta.now ≡ size }
+    ensures { IfOk result (λ changed. changed ≡ (block_code size).modify m j seat delta.now block.now) }
 {
-    Code { m, n: MAX_BLOCKS }.modify_into(j, seat, delta, block);
+    let mut changed = Vec::from_slice(alloc, block)?;
+    changed.resize(size as usize, 0)?;
+    Code { m, n: MAX_BLOCKS }.modify_into(j, seat, delta, &mut changed);
+    Ok(Bytes::from_vec(changed))
 }
