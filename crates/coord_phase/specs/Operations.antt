@@ -73,9 +73,9 @@ abbrev pub call_in : CallId → ℕ → Ask → ViewNo → Call
 call_in call number ask view =
     record { boot = call.boot; seq = call.seq; phase = number; group = ask.group; view = view; stripe = ask.stripe }
 
--- an operation in its first round, in the phase of this number of its call, asked of the members of a view: it has found no base
-abbrev pub asked_op : Layout → View → CallId → ℕ → Ask → Stamp → Phase → Operation
-asked_op layout view call number ask stamp phase =
+-- an operation in its first round, in this phase of its call, asked of the members of a view: it has found no base
+abbrev pub asked_op : Layout → View → Call → Ask → Stamp → Phase → Operation
+asked_op layout view call ask stamp phase =
     record {
       block = layout.block;
       state = record {
@@ -85,7 +85,7 @@ asked_op layout view call number ask stamp phase =
         round = 1;
         base = None;
         content = given_content ask.op;
-        call = call_in call number ask view.number;
+        call = call;
         phase = phase;
         counted = [];
       };
@@ -95,7 +95,7 @@ asked_op layout view call number ask stamp phase =
 
 -- a new operation, asked of the members of a view
 abbrev pub first_op : Layout → View → CallId → Ask → Stamp → Operation
-first_op layout view call ask stamp = asked_op layout view call 1 ask stamp (first_phase ask.op)
+first_op layout view call ask stamp = asked_op layout view (call_in call 1 ask view.number) ask stamp (first_phase ask.op)
 
 -- the coordinator as it begins a stage, in which no reply counts yet
 abbrev pub at_stage : Coordinator → Stage → Coordinator

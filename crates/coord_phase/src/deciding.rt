@@ -4,7 +4,7 @@ ghost use Rattle.std.specs.Prelude.{◌≡◌, Bool};
 ghost use Rattle.protocol.specs.declared.phases.Phase.{Phase};
 ghost use Rattle.protocol.specs.Nodes.{first_phase};
 
-use crate::operations::Operation;
+use crate::operations::{Operation, call_in};
 use fab_base::{Ask, BrickId, CallId, NoMem, Op, Stamp, View};
 use layout::Layout;
 use messages::{Message, Next};
@@ -87,8 +87,9 @@ impl Operation {
         ensures send { IfOk result (λ begun. IsSend begun.1) }
         ensures sent { IfOk result (λ begun. SendsPhase begun.0 begun.1) }
     {
+        let call = call_in(call, 1, &ask, view.number);
         let phase = first_phase(&ask.op);
-        let op = Operation::asked(alloc, layout, view, call, 1, ask, stamp, phase);
+        let op = Operation::asked(alloc, layout, view, call, ask, stamp, phase);
         let messages = op.messages(alloc)?;
         Ok((op, Next::Send(messages)))
     }

@@ -2,10 +2,10 @@
 
 ghost use Rattle.std.specs.Prelude.{◌≡◌, IfOk, length};
 ghost use Rattle.quorum.specs.Quorums.{IsWithinLimits};
-ghost use Rattle.coord_phase.specs.Operations.{group_in_view};
+ghost use Rattle.coord_phase.specs.Operations.{group_in_view, call_in};
 
 use crate::replies::Replies;
-use fab_base::{Ask, Bytes, CallId, GroupId, Members, NoMem, Note, Op, Stamp, View};
+use fab_base::{Ask, Bytes, CallId, GroupId, Members, NoMem, Note, Op, Stamp, View, ViewNo};
 use layout::{Group, Layout};
 use messages::Call;
 use protocol::{Counted, Phase};
@@ -76,13 +76,27 @@ fn group_of_members(members: Members, m: u8, stripes: u32) -> Group
 }
 
 /// The group of this number, kept by the members of a view, which are within the limits of a quorum of its data blocks.
-pub fn group_in_view(layout: &Layout, view: &View, group: GroupId) -> Group
+pub(crate) fn group_in_view(layout: &Layout, view: &View, group: GroupId) -> Group
     requires { IsWithinLimits (group_in_view layout.now view.now.members group.0).m (length view.now.members) }
     ensures { result ≡ group_in_view layout.now view.now.members group.0 }
 {
     match layout.group(group) {
         Some(group) => group_of_members(view.members.copy(), group.m(), group.stripes()),
         None => unreachable!(),
+    }
+}
+
+/// The phase of this number of a call, in a view.
+pub fn call_in(call: CallId, number: u32, ask: &Ask, view: ViewNo) -> Call
+    ensures { result ≡ call_in call number ask.now view }
+{
+    Call {
+        boot: call.boot,
+        seq: call.seq,
+        phase: number,
+        group: ask.group,
+        view,
+        stripe: ask.stripe,
     }
 }
 
@@ -115,15 +129,14 @@ impl Operation {
     ghost use Rattle.protocol.specs.Nodes.{has_block, has_length, given_content};
     ghost use Rattle.coord_phase.specs.Operations.{StoresBlocks, asked_op, is_storing, telling};
 
-    /// An operation in its first round, in the phase of this number of its call, asked of the members of a view, whose number and that of
-    /// the group's data blocks are within the limits of a quorum. The data block that it asks for is one of them, what it is given to
-    /// write is one block, or m blocks, and so it is where the phase makes ready to store that.
+    /// An operation in its first round, in this phase of its call, asked of the members of a view, whose number and that of the group's
+    /// data blocks are within the limits of a quorum. The data block that it asks for is one of them. What it is given to write is one
+    /// block, or m blocks; and where the phase makes ready to store that, it is given that.
     pub fn asked(
         alloc: Global,
         layout: &Layout,
         view: &View,
-        call: CallId,
-        number: u32,
+        call: Call,
         ask: Ask,
         stamp: Stamp,
         phase: Phase,
@@ -132,18 +145,10 @@ impl Operation {
         requires fits { has_block (group_in_view layout.now view.now.members ask.group.0).m ask.op ≡ true }
         requires length { has_length (group_in_view layout.now view.now.members ask.group.0).m layout.now.block ask.op ≡ true }
         requires content { StoresBlocks layout.now.block (group_in_view layout.now view.now.members ask.group.0).m ask.op (given_content ask.op) phase }
-        ensures { result ≡ asked_op layout.now view.now call number ask stamp phase }
+        ensures { result ≡ asked_op layout.now view.now call ask stamp phase }
     {
         let group = group_in_view(layout, view, ask.group);
         let replies = Replies::new(alloc, group.policy());
-        let call = Call {
-            boot: call.boot,
-            seq: call.seq,
-            phase: number,
-            group: ask.group,
-            view: view.number,
-            stripe: ask.stripe,
-        };
         Operation {
             block: layout.block(),
             group,

@@ -341,9 +341,9 @@ impl Operation {
         Ok(self.end_made(answer))
     }
 
-    /// Ends a read with this version, which it read at once, and its content.
-    pub fn end_look(&mut self, version: Stamp, content: Bytes) -> Next
-        ensures next { decision self.new result ≡ Ends (Answer.Data content) (Some version) None }
+    /// Ends a read with what it reads of this version, at once.
+    pub fn end_look(&mut self, version: Stamp, bytes: Bytes) -> Next
+        ensures next { decision self.new result ≡ Ends (Answer.Data bytes) (Some version) None }
         ensures sent { SendsPhase self.new result }
         ensures state { self.new ≡ telling self.old self.old.state (seen_note self.old.state.call (Some version)) }
     {
@@ -355,6 +355,6 @@ impl Operation {
             },
             stamp: version,
         });
-        Next::End(Answer::Data(content))
+        Next::End(Answer::Data(bytes))
     }
 }

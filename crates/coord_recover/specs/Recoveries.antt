@@ -11,7 +11,7 @@ use Rattle.protocol.specs.declared.phases.Phase.{Phase}
 use Rattle.protocol.specs.declared.phases.Phase.TheVariants.{Recovers, Descends, Stores}
 use Rattle.fab_base.specs.Layouts.{Layout}
 use Rattle.protocol.specs.Coordinators.{in_phase, restoring}
-use Rattle.coord_phase.specs.Operations.{Operation, asked_op, telling, is_among}
+use Rattle.coord_phase.specs.Operations.{Operation, asked_op, call_in, telling, is_among}
 
 -- the phases of a recovery: it looks for a version, and stores it
 abbrev pub is_of_recovery : Phase → Bool
@@ -26,4 +26,4 @@ entered op (Store base content) = telling op (restoring op.block op.state base c
 
 -- a new recovery, asked of the members of a view, that begins so in the phase of this number
 abbrev pub begun_op : Layout → View → CallId → ℕ → Ask → Stamp → Turn → Operation
-begun_op layout view call number ask stamp = entered (asked_op layout view call (number - 1) ask stamp Recovers)
+begun_op layout view call number ask stamp = entered (asked_op layout view (call_in call (number - 1) ask view.number) ask stamp Recovers)

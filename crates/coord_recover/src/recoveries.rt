@@ -9,7 +9,7 @@ ghost use Rattle.coord_phase.specs.Operations.{StaysAsked};
 ghost use Rattle.coord_phase.specs.Decisions.{SendsPhase, NeverRecovers, HasBlocks, decision, note_told};
 ghost use Rattle.coord_recover.specs.Recoveries.{is_of_recovery, entered};
 
-use coord_phase::{Decide, Operation};
+use coord_phase::{Decide, Operation, call_in};
 use fab_base::{Ask, BrickId, CallId, NoMem, Note, Stamp, View};
 use layout::Layout;
 use messages::{Message, Messages, Next, Turn};
@@ -149,7 +149,7 @@ impl Recovery {
     ghost use Rattle.std.specs.Prelude.{◌≡◌, ◌≤◌, true, IfOk, OnErr, length, option_copied};
     ghost use Rattle.quorum.specs.Quorums.{IsWithinLimits};
     ghost use Rattle.protocol.specs.Nodes.{has_block, has_length};
-    ghost use Rattle.coord_phase.specs.Operations.{group_in_view, counts};
+    ghost use Rattle.coord_phase.specs.Operations.{group_in_view, counts, with_state, without_last};
     ghost use Rattle.coord_phase.specs.Decisions.{Answers, SendsPhase, NeverRecovers, IsSend, HasBlocks};
     ghost use Rattle.coord_recover.specs.Recoveries.{begun_op, entered};
 
@@ -181,8 +181,8 @@ impl Recovery {
         ensures sent { IfOk result (λ begun. SendsPhase begun.0 begun.1) }
     {
         // The recovery begins in the next phase of this one.
-        let before = Phase::Recovers;
-        let op = Operation::asked(alloc, layout, &view, call, phase - 1, ask, stamp, before);
+        let call = call_in(call, phase - 1, &ask, view.number);
+        let op = Operation::asked(alloc, layout, &view, call, ask, stamp, Phase::Recovers);
         Recovery::enter(alloc, op, turn)
     }
 
@@ -244,6 +244,13 @@ impl Recovery {
         ensures { result.now ≡ self.now }
     {
         &self.op
+    }
+
+    /// Takes the last reply that counted back.
+    pub fn take_back(&mut self)
+        ensures { self.new ≡ with_state self.old (without_last self.old.state) }
+    {
+        self.op.take_back();
     }
 
     /// The phase again, to each member without a counted reply.
