@@ -4,3 +4,5 @@ pub mod PhaseReplies
 pub mod TallyOf
 pub mod Requests
 pub mod Foremost
+pub mod FastReads
+pub mod Contents

@@ -40,6 +40,7 @@ pub fewer_replies : (block : ℕ) (c : Coordinator) (n : ℕ) → IsInPhase bloc
     → IsInPhase block (record c { counted = take n c.counted })
 fewer_replies block c n is =
     record {
+      fits = is.fits;
       long = is.long;
       content = is.content;
       seats = all-take _ n c.counted is.seats;
@@ -78,6 +79,7 @@ one_more_reply block c from call reply seat is counts =
     let facts = counts_facts block c from.0 call reply seat counts in
     let x : Counted = record { seat = seat; brick = from; reply = reply } in
     record {
+      fits = is.fits;
       long = is.long;
       content = is.content;
       seats = all-more _ c.counted x is.seats (lt-ltb seat (length c.group.members) (seat_within c.group from.0 seat facts.seat_is));

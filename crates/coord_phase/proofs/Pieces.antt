@@ -1,25 +1,26 @@
 -- The blocks that replies tell.
-use Rattle.std.proofs.Common.{◌≡◌, ℕ, zero, suc, ◌+◌, ◌*◌, ◌<◌, ◌≤◌, Bool, true, false, not, nat_lt, List, [], ◌∷◌, ◌++◌, length, take, map, get_or, Some, None, ap, refl, sym, ◌∙◌, subst, arith, length-append}
-use Rattle.std.specs.Prelude.{nat_eq, filter}
+use Rattle.std.proofs.Common.{◌≡◌, ℕ, zero, suc, ◌+◌, ◌*◌, ◌<◌, ◌≤◌, Bool, true, false, not, cond, nat_lt, List, [], ◌∷◌, ◌++◌, length, take, map, get_or, Some, ap, refl, sym, ◌∙◌, subst, arith, length-append}
+use Rattle.std.specs.Prelude.{nat_eq, filter, ◌||◌}
 use Rattle.std.specs.List.{list_all, concat, range_with_len, AllByRecursion}
 use Rattle.std.proofs.Math.Nat.{suc-mul, mul-le-mul_right}
 use Rattle.std.proofs.Math.Seq.{take-append-add}
 use Rattle.std.proofs.lemmas.List.{length-take-le}
-use Rattle.std.proofs.lemmas.Bool.{and_parts, and_from, or_parts, or_from, not-true, ltb-true, lt-ltb, eqb-true, eqb-false, false≢true, cond_both}
+use Rattle.std.proofs.lemmas.Bool.{and_parts, and_from, or_parts, or_from, not-true, ltb-true, lt-ltb, eqb-true, eq-eqb, eqb-false, false≢true, cond_both}
 use Rattle.std.proofs.lemmas.List.FromFn.{length-map-range_with_len, length-range_with_len}
 use Rattle.fab_base.specs.declared.identities.BrickId.{BrickId}
 use Rattle.fab_base.specs.declared.stamps.Stamp.{Stamp}
-use Rattle.fab_base.specs.Stamps.{stamp_below}
+use Rattle.fab_base.specs.Stamps.{stamp_below, stamp_same}
+use Rattle.messages.specs.declared.requests.Version.{Version}
 use Rattle.messages.specs.declared.replies.Reply.{Reply}
 use Rattle.messages.specs.declared.replies.Reply.TheVariants as replies
 use Rattle.rs_code.specs.Codewords.{AreSeats}
 use Rattle.protocol.specs.Settings.{Piece}
 use Rattle.protocol.specs.declared.phases.Counted.{Counted}
 use Rattle.protocol.specs.declared.phases.Phase.{Phase}
-use Rattle.protocol.specs.declared.phases.Phase.TheVariants.{Looks, Orders, Recovers, Descends, Stores}
-use Rattle.protocol.specs.Coordinators.{Coordinator, has_seat, answers_phase, finds, found_bytes, pieces_of, pieces_at}
+use Rattle.protocol.specs.declared.phases.Phase.TheVariants.{Looks, LooksAt, OrdersAt, Recovers, Descends, Bases}
+use Rattle.protocol.specs.Coordinators.{Coordinator, has_seat, answers_phase, told_length, finds, all_find, found_bytes, bytes_at, pieces_of, pieces_at}
 use Rattle.stripe_code.specs.Codes.{AreFirst, decoded, decoded_block}
-use Rattle.coord_phase.specs.Operations.{are_apart, IsInPhase}
+use Rattle.coord_phase.specs.Operations.{are_apart, wants_all, IsInPhase}
 use Rattle.coord_phase.proofs.PhaseReplies.{all-take, apart-take}
 
 -- there is one for each reply
@@ -67,48 +68,70 @@ take-blocks_of size (suc n) (piece ∷ pieces) long =
     ∙ take-append-add piece.bytes (blocks_of pieces) (n * size)
     ∙ ap (λ rest. piece.bytes ++ rest) (take-blocks_of size n pieces long.1)
 
--- a block that a counted reply tells has the length of a block
-found_long : (block : ℕ) (t v : Stamp) (phase : Phase) (seat : ℕ) (brick : BrickId) (reply : Reply)
-    → answers_phase block t phase reply ≡ true → finds v (record { seat = seat; brick = brick; reply = reply }) ≡ true
-    → length (found_bytes reply) ≡ block
-found_long block t v Looks seat brick (replies.Found order (Some version)) answers found = eqb-true (length version.block) block answers
-found_long block t v Orders seat brick (replies.Found order (Some version)) answers found = absurd (false≢true answers)
-found_long block t v Recovers seat brick (replies.Found order (Some version)) answers found = absurd (false≢true answers)
-found_long block t v (Descends bound) seat brick (replies.Found order (Some version)) answers found = absurd (false≢true answers)
-found_long block t v Stores seat brick (replies.Found order (Some version)) answers found = absurd (false≢true answers)
-found_long block t v Looks seat brick (replies.OrderedRead (Some version)) answers found = absurd (false≢true answers)
-found_long block t v Orders seat brick (replies.OrderedRead (Some version)) answers found = absurd (false≢true answers)
-found_long block t v Recovers seat brick (replies.OrderedRead (Some version)) answers found =
+-- how many bytes of a version's block a seat tells in a phase
+abbrev told_in_phase : ℕ → ℕ → Phase → ℕ
+told_in_phase block seat (LooksAt j) = told_length block j seat
+told_in_phase block seat (OrdersAt j) = told_length block j seat
+told_in_phase block seat phase = block
+
+-- a block that a counted reply tells has so many bytes
+newest_long : (block : ℕ) (t : Stamp) (seat : ℕ) (phase : Phase) (order : Stamp) (version : Version)
+    → answers_phase block t seat phase (replies.Found order (Some version)) ≡ true → length version.block ≡ told_in_phase block seat phase
+newest_long block t seat Looks order version answers = eqb-true (length version.block) block answers
+newest_long block t seat (LooksAt j) order version answers = eqb-true (length version.block) (told_length block j seat) answers
+newest_long block t seat phase order version answers = absurd (false≢true answers)
+
+read_long : (block : ℕ) (t : Stamp) (seat : ℕ) (phase : Phase) (version : Version)
+    → answers_phase block t seat phase (replies.OrderedRead (Some version)) ≡ true → length version.block ≡ told_in_phase block seat phase
+read_long block t seat (OrdersAt j) version answers =
+    let length_is = nat_eq (length version.block) (told_length block j seat) in
+    eqb-true (length version.block) (told_length block j seat) (and_parts length_is (stamp_below version.stamp t) answers).0
+read_long block t seat Recovers version answers =
     eqb-true (length version.block) block (and_parts (nat_eq (length version.block) block) (stamp_below version.stamp t) answers).0
-found_long block t v (Descends bound) seat brick (replies.OrderedRead (Some version)) answers found =
+read_long block t seat (Descends bound) version answers =
     eqb-true (length version.block) block (and_parts (nat_eq (length version.block) block) (stamp_below version.stamp bound) answers).0
-found_long block t v Stores seat brick (replies.OrderedRead (Some version)) answers found = absurd (false≢true answers)
-found_long block t v phase seat brick (replies.Found order None) answers found = absurd (false≢true found)
-found_long block t v phase seat brick (replies.OrderedRead None) answers found = absurd (false≢true found)
-found_long block t v phase seat brick replies.Ordered answers found = absurd (false≢true found)
-found_long block t v phase seat brick replies.Stored answers found = absurd (false≢true found)
-found_long block t v phase seat brick (replies.Behind newest) answers found = absurd (false≢true found)
-found_long block t v phase seat brick (replies.Later stamp) answers found = absurd (false≢true found)
-found_long block t v phase seat brick (replies.Full live) answers found = absurd (false≢true found)
-found_long block t v phase seat brick (replies.Moved view lineage) answers found = absurd (false≢true found)
-found_long block t v phase seat brick (replies.Old old) answers found = absurd (false≢true found)
-found_long block t v phase seat brick replies.Retired answers found = absurd (false≢true found)
-found_long block t v phase seat brick (replies.Promise accepted) answers found = absurd (false≢true found)
-found_long block t v phase seat brick replies.Accepted answers found = absurd (false≢true found)
-found_long block t v phase seat brick (replies.Outbid ballot) answers found = absurd (false≢true found)
-found_long block t v phase seat brick replies.NotSynced answers found = absurd (false≢true found)
+read_long block t seat (Bases base) version answers =
+    eqb-true (length version.block) block (and_parts (nat_eq (length version.block) block) (stamp_same version.stamp base) answers).0
+read_long block t seat phase version answers = absurd (false≢true answers)
+
+found_long : (block : ℕ) (t v : Stamp) (phase : Phase) (seat : ℕ) (brick : BrickId) (reply : Reply)
+    → answers_phase block t seat phase reply ≡ true → finds v (record { seat = seat; brick = brick; reply = reply }) ≡ true
+    → length (found_bytes reply) ≡ told_in_phase block seat phase
+found_long block t v phase seat brick (replies.Found order (Some version)) answers found = newest_long block t seat phase order version answers
+found_long block t v phase seat brick (replies.OrderedRead (Some version)) answers found = read_long block t seat phase version answers
+found_long block t v phase seat brick reply answers found = absurd (false≢true found)
+
+-- where each member is to tell its block, that is the length of a block
+whole_block : (block seat : ℕ) (phase : Phase) → wants_all phase ≡ true → told_in_phase block seat phase ≡ block
+whole_block block seat (LooksAt j) whole = absurd (false≢true whole)
+whole_block block seat (OrdersAt j) whole = absurd (false≢true whole)
+whole_block block seat phase whole = refl
 
 -- so have all blocks of a version
-found_are_long : (block : ℕ) (t v : Stamp) (phase : Phase) (counted : List Counted)
-    → list_all (λ c. answers_phase block t phase c.reply) counted ≡ true → AreLong block (pieces_at v counted)
-found_are_long block t v phase [] all = tt
-found_are_long block t v phase (c ∷ counted) all =
-    let parts = and_parts (answers_phase block t phase c.reply) (list_all (λ c. answers_phase block t phase c.reply) counted) all in
-    let rest = found_are_long block t v phase counted parts.1 in
+found_are_long : (block : ℕ) (t v : Stamp) (phase : Phase) (counted : List Counted) → wants_all phase ≡ true
+    → list_all (λ c. answers_phase block t c.seat phase c.reply) counted ≡ true → AreLong block (pieces_at v counted)
+found_are_long block t v phase [] whole all = tt
+found_are_long block t v phase (c ∷ counted) whole all =
+    let parts = and_parts (answers_phase block t c.seat phase c.reply) (list_all (λ c. answers_phase block t c.seat phase c.reply) counted) all in
+    let rest = found_are_long block t v phase counted whole parts.1 in
     cond_both (finds v c) (c ∷ filter (finds v) counted) (filter (finds v) counted)
     (λ (z : List Counted). AreLong block (pieces_of z))
-    (λ found. (found_long block t v phase c.seat c.brick c.reply parts.0 found, rest))
+    (λ found. (found_long block t v phase c.seat c.brick c.reply parts.0 found ∙ whole_block block c.seat phase whole, rest))
     (λ other. rest)
+
+-- the block that the seat of a data block tells has the length of a block, where that is ordered to be written, and all find one version
+pub told_at_seat : (block : ℕ) (t v : Stamp) (j : ℕ) (counted : List Counted)
+    → list_all (λ c. answers_phase block t c.seat (OrdersAt j) c.reply) counted ≡ true → has_seat j counted ≡ true → all_find v counted ≡ true
+    → length (bytes_at j counted) ≡ block
+told_at_seat block t v j [] all has found = absurd (false≢true has)
+told_at_seat block t v j (c ∷ counted) all has found =
+    let answer = and_parts (answers_phase block t c.seat (OrdersAt j) c.reply)
+    (list_all (λ c. answers_phase block t c.seat (OrdersAt j) c.reply) counted) all in
+    let finding = and_parts (finds v c) (all_find v counted) found in
+    cond_both (nat_eq c.seat j) (found_bytes c.reply) (bytes_at j counted) (λ (z : List ℕ). length z ≡ block)
+    (λ same. found_long block t v (OrdersAt j) c.seat c.brick c.reply answer.0 finding.0
+    ∙ ap (λ (b : Bool). cond b block 0) (eq-eqb j c.seat (sym (eqb-true c.seat j same))))
+    (λ other. told_at_seat block t v j counted answer.1 (sym (ap (λ (b : Bool). b || has_seat j counted) other) ∙ has) finding.1)
 
 long-take : (size n : ℕ) (pieces : List Piece) → AreLong size pieces → AreLong size (take n pieces)
 long-take size zero pieces long = tt
@@ -209,14 +232,14 @@ pub record GiveBack (m block : ℕ) (pieces : List Piece) (seats blocks : List �
   pub first : AreFirst m block pieces (take m seats) (take (m * block) blocks)
 
 -- so do those of a version that m counted replies tell
-pub give_back : (block : ℕ) (c : Coordinator) (v : Stamp) (m : ℕ) (seats blocks : List ℕ) → IsInPhase block c
+pub give_back : (block : ℕ) (c : Coordinator) (v : Stamp) (m : ℕ) (seats blocks : List ℕ) → IsInPhase block c → wants_all c.phase ≡ true
     → length c.group.members ≤ 32
     → m ≤ length (pieces_at v c.counted) → seats ≡ seats_of (pieces_at v c.counted) → blocks ≡ blocks_of (pieces_at v c.counted)
     → GiveBack m block (pieces_at v c.counted) seats blocks
-give_back block c v m seats blocks is few enough seats_are blocks_are =
+give_back block c v m seats blocks is whole few enough seats_are blocks_are =
     let found : List Counted = filter (finds v) c.counted in
     let pieces : List Piece = pieces_at v c.counted in
-    let long = found_are_long block c.stamp v c.phase c.counted is.answers in
+    let long = found_are_long block c.stamp v c.phase c.counted whole is.answers in
     let below = below_limit (length c.group.members) (take m found) few (all-take _ m found (all-filter _ (finds v) c.counted is.seats)) in
     let apart = apart-take m found (apart-filter (finds v) c.counted is.apart) in
     let count : length (take m found) ≡ m = length-take_first m found (omega (arith, enough, length-pieces_of found)) in

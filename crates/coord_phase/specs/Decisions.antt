@@ -1,8 +1,9 @@
 -- How what a coordinator answers its brick, what it holds then and what it tells stand for what the machine decides.
-use Rattle.std.specs.Prelude.{◌≡◌, ℕ, ◌<◌, ◌-◌, ◌*◌, ◌^◌, Bool, true, false, if◌then◌else◌, length, Option, Some, None}
+use Rattle.std.specs.Prelude.{◌≡◌, ℕ, ◌<◌, ◌-◌, ◌*◌, ◌^◌, Bool, true, false, if◌then◌else◌, List, length, Option, Some, None}
 use Rattle.fab_base.specs.declared.identities.BrickId.{BrickId}
 use Rattle.fab_base.specs.declared.identities.CallId.{CallId}
 use Rattle.fab_base.specs.declared.stamps.Stamp.{Stamp}
+use Rattle.fab_base.specs.declared.asks.Op.{Op}
 use Rattle.fab_base.specs.declared.notes.Note.{Note}
 use Rattle.messages.specs.declared.calls.Call.{Call}
 use Rattle.messages.specs.declared.packets.Message.{Message}
@@ -11,19 +12,16 @@ use Rattle.messages.specs.declared.turns.Next.TheVariants.{Send, Wait, End, Reco
 use Rattle.messages.specs.declared.turns.Turn.{Turn}
 use Rattle.protocol.specs.Coordinators as machine
 use Rattle.protocol.specs.declared.phases.Phase.{Phase}
-use Rattle.protocol.specs.declared.phases.Phase.TheVariants.{Looks, Orders, Recovers, Descends, Stores}
-use Rattle.protocol.specs.Coordinators.{Coordinator, in_phase, restoring}
+use Rattle.protocol.specs.declared.phases.Phase.TheVariants.{Recovers, Descends, Modifies}
+use Rattle.protocol.specs.Coordinators.{Coordinator, in_phase, restoring, block_written}
 use Rattle.stripe_code.specs.Codes.{block_code}
 use Rattle.coord_phase.specs.Operations.{Operation, StaysAsked, counts}
 use Rattle.coord_phase.specs.Messages.{phase_messages}
 
--- a phase begins: with the store of its version an operation makes it
-abbrev pub begins_in : Phase → Coordinator → machine.Next
-begins_in Looks c = machine.Sends c
-begins_in Orders c = machine.Sends c
-begins_in Recovers c = machine.Sends c
-begins_in (Descends bound) c = machine.Sends c
-begins_in Stores c = machine.Makes c
+-- a phase begins: an operation that tells of its version then makes it
+abbrev pub begins_in : Option Note → Coordinator → machine.Next
+begins_in None c = machine.Sends c
+begins_in (Some note) c = machine.Makes c
 
 -- the version that a note tells as read at once
 abbrev pub seen_in : Option Note → Option Stamp
@@ -31,15 +29,15 @@ seen_in None = None
 seen_in (Some (Note.Made call stamp base content)) = None
 seen_in (Some (Note.Seen call stamp)) = Some stamp
 
--- the machine's word for what an operation answers to a reply that counts, and holds then: where its stripe is to be recovered, the recovery is
--- the call's next phase
+-- The machine's word for what an operation answers to a reply that counts, and holds then. Where its stripe is to be recovered, the recovery is
+-- the call's next phase; one that begins with the store makes no version, since that was told as the operation began to modify.
 abbrev pub decision : Operation → Next → machine.Next
 decision after Wait = machine.Waits after.state
-decision after (Send messages) = begins_in after.state.phase after.state
+decision after (Send messages) = begins_in after.note after.state
 decision after (End answer) = machine.Ends answer (seen_in after.note) after.made
 decision after (Recover Turn.Order) = machine.Sends (in_phase after.state Recovers)
 decision after (Recover (Turn.Down bound)) = machine.Sends (in_phase after.state (Descends bound))
-decision after (Recover (Turn.Store base content)) = machine.Makes (restoring after.state base content)
+decision after (Recover (Turn.Store base content)) = machine.Sends (restoring after.block after.state base content)
 
 -- what is sent are the messages of the phase that the operation is in then
 abbrev pub SendsPhase : Operation → Next → Type 0
@@ -93,9 +91,14 @@ IsWait (Recover turn) = ⊥
 abbrev pub call_id : Call → CallId
 call_id call = record { boot = call.boot; seq = call.seq }
 
+-- the bytes that are told of a new version: those of the block that is written, where members are sent what that changes, and else its content
+abbrev pub bytes_told : Op → List ℕ → Phase → List ℕ
+bytes_told op content (Modifies base j) = block_written op
+bytes_told op content phase = content
+
 -- what an operation tells as it makes its version
 abbrev pub note_of : Coordinator → Note
-note_of c = Note.Made (call_id c.call) c.stamp c.base c.content
+note_of c = Note.Made (call_id c.call) c.stamp c.base (bytes_told c.ask.op c.content c.phase)
 
 -- what is told of a version that was read at once, if one was
 abbrev pub seen_note : Call → Option Stamp → Option Note

@@ -5,20 +5,22 @@ use Rattle.fab_base.specs.declared.identities.BrickId.{BrickId}
 use Rattle.fab_base.specs.declared.identities.CallId.{CallId}
 use Rattle.fab_base.specs.declared.identities.ViewNo.{ViewNo}
 use Rattle.fab_base.specs.declared.stamps.Stamp.{Stamp}
+use Rattle.fab_base.specs.Stamps.{first_stamp}
 use Rattle.fab_base.specs.declared.asks.Ask.{Ask}
 use Rattle.fab_base.specs.declared.asks.Op.{Op}
+use Rattle.fab_base.specs.declared.member_lists.View.{View}
 use Rattle.fab_base.specs.declared.notes.Note.{Note}
 use Rattle.messages.specs.declared.calls.Call.{Call}
 use Rattle.messages.specs.declared.packets.Message.{Message}
 use Rattle.coord_phase.specs.declared.operations.Stage.{Stage}
-use Rattle.coord_phase.specs.declared.operations.ReadBack.{ReadBack}
+use Rattle.coord_phase.specs.declared.operations.OnBase.{OnBase}
 use Rattle.fab_base.specs.Layouts.{Layout, Group}
 use Rattle.protocol.specs.Views.{group_kept}
 use Rattle.protocol.specs.declared.phases.Phase.{Phase}
-use Rattle.protocol.specs.declared.phases.Phase.TheVariants.{Looks, Orders, Recovers, Descends, Stores}
+use Rattle.protocol.specs.declared.phases.Phase.TheVariants.{Looks, LooksAt, Orders, OrdersAt, Recovers, Descends, Modifies, Bases, Stores}
 use Rattle.protocol.specs.declared.phases.Counted.{Counted}
-use Rattle.protocol.specs.Coordinators.{Coordinator, answers_phase, counts_at, has_seat, with_reply}
-use Rattle.protocol.specs.Nodes.{has_length, given_content}
+use Rattle.protocol.specs.Coordinators.{Coordinator, answers_phase, block_written, counts_at, has_seat, with_reply}
+use Rattle.protocol.specs.Nodes.{has_block, has_length, first_phase, given_content}
 
 -- an operation: the bytes of a block, how far the machine's coordinator is, and by the last reply that it heard the version that it told, and the one
 -- that it had stored, which may be collected
@@ -55,63 +57,107 @@ group_or_none (Some group) = group
 abbrev pub group_in_view : Layout → List BrickId → ℕ → Group
 group_in_view layout members g = group_or_none (group_kept layout members g)
 
--- the version that was read back, if one was
-abbrev pub base_in : Option ReadBack → Option Stamp
+-- the version that the operation makes its own on, if it found one
+abbrev pub base_in : Option OnBase → Option Stamp
 base_in None = None
-base_in (Some read) = Some read.base
+base_in (Some on) = Some on.base
 
--- what an operation stores: what it read back, where it did, and else what it was given
-abbrev pub content_in : Op → Option ReadBack → List ℕ
+-- what an operation stores, or what its data block changes by while it modifies: what it made of its base, where it found one, and else what it was
+-- given
+abbrev pub content_in : Op → Option OnBase → List ℕ
 content_in op None = given_content op
-content_in op (Some read) = read.content
+content_in op (Some on) = on.content
 
 -- a call's phase of this number, in a view
 abbrev pub call_in : CallId → ℕ → Ask → ViewNo → Call
 call_in call number ask view =
     record { boot = call.boot; seq = call.seq; phase = number; group = ask.group; view = view; stripe = ask.stripe }
 
+-- an operation in its first round, in this phase of its call, asked of the members of a view: it has found no base
+abbrev pub asked_op : Layout → View → Call → Ask → Stamp → Phase → Operation
+asked_op layout view call ask stamp phase =
+    record {
+      block = layout.block;
+      state = record {
+        group = group_in_view layout view.members ask.group.0;
+        ask = ask;
+        stamp = stamp;
+        round = 1;
+        base = None;
+        content = given_content ask.op;
+        call = call;
+        phase = phase;
+        counted = [];
+      };
+      note = None;
+      made = None;
+    }
+
+-- a new operation, asked of the members of a view
+abbrev pub first_op : Layout → View → CallId → Ask → Stamp → Operation
+first_op layout view call ask stamp = asked_op layout view (call_in call 1 ask view.number) ask stamp (first_phase ask.op)
+
 -- the coordinator as it begins a stage, in which no reply counts yet
 abbrev pub at_stage : Coordinator → Stage → Coordinator
 at_stage c stage =
     record c { stamp = stage.stamp; round = stage.round; call = stage.call; phase = stage.phase; counted = [] }
 
--- the phases are the same, whatever their bounds
+-- the coordinator, where it makes its version on this one, of this content
+abbrev pub on_base : Coordinator → Stamp → List ℕ → Coordinator
+on_base c base content = record c { base = Some base; content = content }
+
+-- the phases are the same, whatever their bounds and data blocks
 abbrev pub same_phase : Phase → Phase → Bool
 same_phase Looks Looks = true
+same_phase (LooksAt j) (LooksAt other) = true
 same_phase Orders Orders = true
+same_phase (OrdersAt j) (OrdersAt other) = true
 same_phase Recovers Recovers = true
 same_phase (Descends bound) (Descends other) = true
+same_phase (Modifies base j) (Modifies other k) = true
+same_phase (Bases base) (Bases other) = true
 same_phase Stores Stores = true
 same_phase phase other = false
 
--- the phase is one of these, whatever its bound
+-- the phase is one of these, whatever its bound and data block
 abbrev pub is_among : List Phase → Phase → Bool
 is_among phases phase = list_any (same_phase phase) phases
 
 -- the phase asks for an order, and may be asked again in another round
 abbrev pub is_ordering : Phase → Bool
-is_ordering = is_among (Orders ∷ Recovers ∷ [])
+is_ordering = is_among (Orders ∷ OrdersAt 0 ∷ Recovers ∷ [])
+
+-- the phase has members keep the operation's version: it may end the operation with a version that may be collected
+abbrev pub is_storing : Phase → Bool
+is_storing = is_among (Modifies first_stamp 0 ∷ Stores ∷ [])
+
+-- no member tells a version without the bytes of its block
+abbrev pub wants_all : Phase → Bool
+wants_all (LooksAt j) = false
+wants_all (OrdersAt j) = false
+wants_all phase = true
 
 -- no two of the replies are of one seat
 abbrev pub are_apart : List Counted → Bool
 are_apart [] = true
 are_apart (c ∷ counted) = not (has_seat c.seat counted) && are_apart counted
 
--- what an operation stores is m blocks, in the phases that store it, or make it ready to be stored
-abbrev pub StoresBlocks : ℕ → ℕ → List ℕ → Phase → Type 0
-StoresBlocks block m content Looks = Unit {0}
-StoresBlocks block m content Orders = length content ≡ m * block
-StoresBlocks block m content Recovers = Unit {0}
-StoresBlocks block m content (Descends bound) = Unit {0}
-StoresBlocks block m content Stores = length content ≡ m * block
+-- What an operation stores is m blocks, in the phases that store it, or make it ready to be stored; and what it is to write of a data block is a
+-- block, where it orders that.
+abbrev pub StoresBlocks : ℕ → ℕ → Op → List ℕ → Phase → Type 0
+StoresBlocks block m op content Orders = length content ≡ m * block
+StoresBlocks block m op content (OrdersAt j) = length (block_written op) ≡ block
+StoresBlocks block m op content Stores = length content ≡ m * block
+StoresBlocks block m op content phase = Unit {0}
 
--- What is true of an operation in each phase: what it is given to write has its length; what it stores is m blocks; and each reply that counts is of a
--- seat of the group, answers the phase, and is its seat's only one.
+-- What is true of an operation in each phase: the data block that it asks for is one of m, and what it is given to write has its length; what it
+-- stores is m blocks; and each reply that counts is of a seat of the group, answers the phase, and is its seat's only one.
 pub record IsInPhase (block : ℕ) (c : Coordinator) : Type 0 where
+  pub fits : has_block c.group.m c.ask.op ≡ true
   pub long : has_length c.group.m block c.ask.op ≡ true
-  pub content : StoresBlocks block c.group.m c.content c.phase
+  pub content : StoresBlocks block c.group.m c.ask.op c.content c.phase
   pub seats : list_all (λ reply. nat_lt reply.seat (length c.group.members)) c.counted ≡ true
-  pub answers : list_all (λ reply. answers_phase block c.stamp c.phase reply.reply) c.counted ≡ true
+  pub answers : list_all (λ reply. answers_phase block c.stamp reply.seat c.phase reply.reply) c.counted ≡ true
   pub apart : are_apart c.counted ≡ true
 
 -- the seat at which a message counts, if it does: only a reply may

@@ -2,7 +2,7 @@
 
 ghost use Rattle.std.specs.Prelude.{◌≡◌, ◌≤◌, ◌<◌, length, IfSome};
 ghost use Rattle.fab_base.specs.Layouts.{seat_in};
-ghost use Rattle.protocol.specs.Coordinators.{call_same, may_be_found, answers_phase};
+ghost use Rattle.protocol.specs.Coordinators.{call_same, may_be_found, may_be_base, told_length, answers_phase};
 
 use crate::operations::Operation;
 use fab_base::{BrickId, NoMem, Stamp};
@@ -17,33 +17,65 @@ fn is_same_call(left: Call, right: Call) -> bool
     left == right
 }
 
-/// Whether a version that was found has the length of a block, and is below the phase's bound.
-fn may_be_found(block: u16, bound: Stamp, found: &Option<Version>) -> bool
-    ensures { result ≡ may_be_found block bound found.now }
+/// Whether a version that was found has this many bytes, and is below the phase's bound.
+fn may_be_found(length: u16, bound: Stamp, found: &Option<Version>) -> bool
+    ensures { result ≡ may_be_found length bound found.now }
 {
     match found {
         None => true,
-        Some(version) => { version.block.len() == block as usize && version.stamp.is_below(bound) }
+        Some(version) => { version.block.len() == length as usize && version.stamp.is_below(bound) }
     }
 }
 
-/// Whether a reply answers the request of a phase of an operation of this stamp; a block that was found has this many bytes.
-fn answers(block: u16, stamp: Stamp, phase: Phase, reply: &Reply) -> bool
-    ensures { result ≡ answers_phase block stamp phase reply.now }
+/// Whether a version that was found has the length of a block, and is the phase's base.
+fn may_be_base(block: u16, base: Stamp, found: &Option<Version>) -> bool
+    ensures { result ≡ may_be_base block base found.now }
+{
+    match found {
+        None => true,
+        Some(version) => version.block.len() == block as usize && version.stamp.is_same(base),
+    }
+}
+
+/// How many bytes a seat tells of a version, where those of data block `j` are wanted alone.
+fn told_length(block: u16, j: u8, seat: u8) -> u16
+    ensures { result ≡ told_length block j seat }
+{
+    if j == seat { block } else { 0 }
+}
+
+/// Whether a seat's reply answers the request of a phase of an operation of this stamp; a block has this many bytes.
+fn answers(block: u16, stamp: Stamp, seat: u8, phase: Phase, reply: &Reply) -> bool
+    ensures { result ≡ answers_phase block stamp seat phase reply.now }
 {
     match (phase, reply) {
         (Phase::Looks, Reply::Found { newest, .. }) => match newest {
             None => true,
             Some(version) => version.block.len() == block as usize,
         },
+        (Phase::LooksAt(j), Reply::Found { newest, .. }) => match newest {
+            None => true,
+            Some(version) => version.block.len() == told_length(block, j, seat) as usize,
+        },
+        (Phase::OrdersAt(j), Reply::OrderedRead { found }) => {
+            may_be_found(told_length(block, j, seat), stamp, found)
+        }
         (Phase::Recovers, Reply::OrderedRead { found }) => may_be_found(block, stamp, found),
         (Phase::Descends(bound), Reply::OrderedRead { found }) => {
             may_be_found(block, bound, found)
         }
+        (Phase::Bases(base), Reply::OrderedRead { found }) => may_be_base(block, base, found),
         (Phase::Orders, Reply::Ordered)
+        | (Phase::Modifies { .. }, Reply::Stored | Reply::Behind { .. })
         | (Phase::Stores, Reply::Stored)
         | (
-            Phase::Orders | Phase::Recovers | Phase::Descends(_) | Phase::Stores,
+            Phase::Orders
+            | Phase::OrdersAt(_)
+            | Phase::Recovers
+            | Phase::Descends(_)
+            | Phase::Modifies { .. }
+            | Phase::Bases(_)
+            | Phase::Stores,
             Reply::Later { .. } | Reply::Full { .. },
         ) => true,
         _ => false,
@@ -71,14 +103,13 @@ impl Operation {
         ensures seat { result ≡ counts_at self.now.block self.now.state from.0 call reply.now }
         ensures few { IfSome result (λ _. self.now.state.call.phase < 2 ^ 32 - 1) }
     {
-        let is_to_this_phase = is_same_call(call, self.stage.call)
-            && answers(self.block, self.stage.stamp, self.stage.phase, reply)
-            && self.stage.call.phase < u32::MAX;
-        if !is_to_this_phase {
+        if !is_same_call(call, self.stage.call) || self.stage.call.phase == u32::MAX {
             return None;
         }
         let seat = self.group.seat_of(from)?;
-        if self.has_reply(seat) {
+        if !answers(self.block, self.stage.stamp, seat, self.stage.phase, reply)
+            || self.has_reply(seat)
+        {
             return None;
         }
         Some(seat)

@@ -14,5 +14,5 @@ mod stages;
 mod versions;
 
 pub use deciding::Decide;
-pub use operations::{Operation, Stage, group_in_view};
+pub use operations::{Operation, Stage, call_in};
 pub use stages::MOST_ROUNDS;

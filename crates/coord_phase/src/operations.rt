@@ -2,10 +2,10 @@
 
 ghost use Rattle.std.specs.Prelude.{◌≡◌, IfOk, length};
 ghost use Rattle.quorum.specs.Quorums.{IsWithinLimits};
-ghost use Rattle.coord_phase.specs.Operations.{group_in_view};
+ghost use Rattle.coord_phase.specs.Operations.{group_in_view, call_in};
 
 use crate::replies::Replies;
-use fab_base::{Ask, Bytes, GroupId, Members, NoMem, Note, Op, Stamp, View};
+use fab_base::{Ask, Bytes, CallId, GroupId, Members, NoMem, Note, Op, Stamp, View, ViewNo};
 use layout::{Group, Layout};
 use messages::Call;
 use protocol::{Counted, Phase};
@@ -25,22 +25,22 @@ pub struct Stage {
     pub phase: Phase,
 }
 
-/// The version that an operation read back, and its content.
+/// The version that an operation makes its own on, and the content that it stores, or what its data block changes by while it modifies.
 #[derive(Drop)]
-pub(crate) struct ReadBack {
+pub(crate) struct OnBase {
     pub(crate) base: Stamp,
     pub(crate) content: Bytes,
 }
 
-/// An open operation: the bytes of a block, the group with the members that are asked, what is asked, how far the operation is, what it
-/// read back, where it did, the replies that count in its phase, and what it told and stored.
+/// An open operation: the bytes of a block, the group with the members that are asked, what is asked, how far the operation is, the
+/// base that it found, where it did, the replies that count in its phase, and what it told and stored.
 #[derive(Drop)]
 pub struct Operation {
     pub(crate) block: u16,
     pub(crate) group: Group,
     pub(crate) ask: Ask,
     pub(crate) stage: Stage,
-    pub(crate) read_back: Option<ReadBack>,
+    pub(crate) on_base: Option<OnBase>,
     pub(crate) replies: Replies,
     pub(crate) note: Option<Note>,
     pub(crate) made: Option<Stamp>,
@@ -54,13 +54,13 @@ impl Model for Operation {
 
     ghost view = { λ op. record {
       block = op.block;
-      state = record { group = op.group; ask = op.ask; stamp = op.stage.stamp; round = op.stage.round; base = base_in op.read_back; content = content_in op.ask.op op.read_back; call = op.stage.call; phase = op.stage.phase; counted = op.replies.list.items };
+      state = record { group = op.group; ask = op.ask; stamp = op.stage.stamp; round = op.stage.round; base = base_in op.on_base; content = content_in op.ask.op op.on_base; call = op.stage.call; phase = op.stage.phase; counted = op.replies.list.items };
       note = op.note;
       made = op.made;
     } };
 
     ghost invariant = { λ op. IsInPhase op.block
-        (record { group = op.group; ask = op.ask; stamp = op.stage.stamp; round = op.stage.round; base = base_in op.read_back; content = content_in op.ask.op op.read_back; call = op.stage.call; phase = op.stage.phase; counted = op.replies.list.items })
+        (record { group = op.group; ask = op.ask; stamp = op.stage.stamp; round = op.stage.round; base = base_in op.on_base; content = content_in op.ask.op op.on_base; call = op.stage.call; phase = op.stage.phase; counted = op.replies.list.items })
         × IsTallyFor op.group op.replies.tally };
 }
 
@@ -76,13 +76,27 @@ fn group_of_members(members: Members, m: u8, stripes: u32) -> Group
 }
 
 /// The group of this number, kept by the members of a view, which are within the limits of a quorum of its data blocks.
-pub fn group_in_view(layout: &Layout, view: &View, group: GroupId) -> Group
+pub(crate) fn group_in_view(layout: &Layout, view: &View, group: GroupId) -> Group
     requires { IsWithinLimits (group_in_view layout.now view.now.members group.0).m (length view.now.members) }
     ensures { result ≡ group_in_view layout.now view.now.members group.0 }
 {
     match layout.group(group) {
         Some(group) => group_of_members(view.members.copy(), group.m(), group.stripes()),
         None => unreachable!(),
+    }
+}
+
+/// The phase of this number of a call, in a view.
+pub fn call_in(call: CallId, number: u32, ask: &Ask, view: ViewNo) -> Call
+    ensures { result ≡ call_in call number ask.now view }
+{
+    Call {
+        boot: call.boot,
+        seq: call.seq,
+        phase: number,
+        group: ask.group,
+        view,
+        stripe: ask.stripe,
     }
 }
 
@@ -96,44 +110,56 @@ fn copy_note(alloc: Global, note: &Option<Note>) -> Result<Option<Note>, NoMem>
     }
 }
 
-/// A copy of what an operation read back, if it did.
-fn copy_read_back(alloc: Global, read_back: &Option<ReadBack>) -> Result<Option<ReadBack>, NoMem>
-    ensures { IfOk result (λ made. made ≡ read_back.now) }
+/// A copy of the base that an operation found, if it did.
+fn copy_on_base(alloc: Global, on_base: &Option<OnBase>) -> Result<Option<OnBase>, NoMem>
+    ensures { IfOk result (λ made. made ≡ on_base.now) }
 {
-    match read_back {
+    match on_base {
         None => Ok(None),
-        Some(read) => Ok(Some(ReadBack {
-            base: read.base,
-            content: read.content.copy(alloc)?,
+        Some(on) => Ok(Some(OnBase {
+            base: on.base,
+            content: on.content.copy(alloc)?,
         })),
     }
 }
 
 impl Operation {
-    ghost use Rattle.std.specs.Prelude.{◌≡◌, [], true, None, Some, IfOk, length, option_copied};
-    ghost use Rattle.protocol.specs.Coordinators.{forgetting};
-    ghost use Rattle.protocol.specs.Nodes.{has_length, given_content};
-    ghost use Rattle.coord_phase.specs.Operations.{StoresBlocks, telling};
+    ghost use Rattle.std.specs.Prelude.{◌≡◌, true, Some, IfOk, length, option_copied};
+    ghost use Rattle.protocol.specs.Coordinators.{block_written, forgetting};
+    ghost use Rattle.protocol.specs.Nodes.{has_block, has_length, given_content};
+    ghost use Rattle.coord_phase.specs.Operations.{StoresBlocks, asked_op, is_storing, telling};
 
-    /// An operation as it begins a stage, in blocks of this many bytes: it asks the members of the group, and has read nothing back.
-    /// What it is given to write is one block, or m blocks, and where the stage stores, or makes ready to store, that is m blocks.
-    pub fn new(alloc: Global, block: u16, group: Group, ask: Ask, stage: Stage) -> Operation
-        requires length { has_length group.m block ask.op ≡ true }
-        requires content { StoresBlocks block group.m (given_content ask.op) stage.phase }
-        ensures { result ≡ record {
-          block = block;
-          state = record { group = group; ask = ask; stamp = stage.stamp; round = stage.round; base = None; content = given_content ask.op; call = stage.call; phase = stage.phase; counted = [] };
-          note = None;
-          made = None;
-        } }
+    /// An operation in its first round, in this phase of its call, asked of the members of a view, whose number and that of the group's
+    /// data blocks are within the limits of a quorum. The data block that it asks for is one of them. What it is given to write is one
+    /// block, or m blocks; and where the phase makes ready to store that, it is given that.
+    pub fn asked(
+        alloc: Global,
+        layout: &Layout,
+        view: &View,
+        call: Call,
+        ask: Ask,
+        stamp: Stamp,
+        phase: Phase,
+    ) -> Operation
+        requires limits { IsWithinLimits (group_in_view layout.now view.now.members ask.group.0).m (length view.now.members) }
+        requires fits { has_block (group_in_view layout.now view.now.members ask.group.0).m ask.op ≡ true }
+        requires length { has_length (group_in_view layout.now view.now.members ask.group.0).m layout.now.block ask.op ≡ true }
+        requires content { StoresBlocks layout.now.block (group_in_view layout.now view.now.members ask.group.0).m ask.op (given_content ask.op) phase }
+        ensures { result ≡ asked_op layout.now view.now call ask stamp phase }
     {
+        let group = group_in_view(layout, view, ask.group);
         let replies = Replies::new(alloc, group.policy());
         Operation {
-            block,
+            block: layout.block(),
             group,
             ask,
-            stage,
-            read_back: None,
+            stage: Stage {
+                stamp,
+                round: 1,
+                call,
+                phase,
+            },
+            on_base: None,
             replies,
             note: None,
             made: None,
@@ -149,7 +175,7 @@ impl Operation {
             group: self.group.copy(),
             ask: self.ask.copy(alloc)?,
             stage: self.stage,
-            read_back: copy_read_back(alloc, &self.read_back)?,
+            on_base: copy_on_base(alloc, &self.on_base)?,
             replies: self.replies.copy(alloc)?,
             note: copy_note(alloc, &self.note)?,
             made: self.made,
@@ -165,7 +191,7 @@ impl Operation {
             group: self.group.copy(),
             ask: self.ask.copy(alloc)?,
             stage: self.stage,
-            read_back: copy_read_back(alloc, &self.read_back)?,
+            on_base: copy_on_base(alloc, &self.on_base)?,
             replies: Replies::new(alloc, self.group.policy()),
             note: None,
             made: None,
@@ -200,25 +226,44 @@ impl Operation {
         self.stage
     }
 
-    /// The version that it read back, if it did.
+    /// Whether the phase has members keep the operation's version: only then may a reply end it with a version that may be collected.
+    pub fn is_storing(&self) -> bool
+        ensures { result ≡ is_storing self.now.state.phase }
+    {
+        matches!(self.stage.phase, Phase::Modifies { .. } | Phase::Stores)
+    }
+
+    /// The version that it makes its own on, if it found one.
     pub(crate) fn base(&self) -> Option<Stamp>
         ensures { result ≡ self.now.state.base }
     {
-        match &self.read_back {
-            Some(read) => Some(read.base),
+        match &self.on_base {
+            Some(on) => Some(on.base),
             None => None,
         }
     }
 
-    /// What the operation stores: what it read back, where it did, and else what it was given.
+    /// What the operation stores, or what its data block changes by while it modifies: what it made of its base, where it found one, and
+    /// else what it was given.
     pub fn stored(&self) -> &[u8]
         ensures value { result.now ≡ self.now.state.content }
-        ensures long { StoresBlocks self.now.block self.now.state.group.m self.now.state.content self.now.state.phase }
+        ensures long { StoresBlocks self.now.block self.now.state.group.m self.now.state.ask.op self.now.state.content self.now.state.phase }
     {
-        match (&self.read_back, &self.ask.op) {
-            (Some(read), _) => read.content.as_slice(),
+        match (&self.on_base, &self.ask.op) {
+            (Some(on), _) => on.content.as_slice(),
             (None, Op::WriteStripe(bytes)) => bytes.as_slice(),
             (None, Op::ReadBlock(_) | Op::WriteBlock(_, _) | Op::ReadStripe) => &[],
+        }
+    }
+
+    /// The bytes that a write of a data block writes.
+    pub(crate) fn block_written(&self) -> &[u8]
+        ensures value { result.now ≡ block_written self.now.state.ask.op }
+        ensures long { StoresBlocks self.now.block self.now.state.group.m self.now.state.ask.op self.now.state.content self.now.state.phase }
+    {
+        match &self.ask.op {
+            Op::WriteBlock(_, bytes) => bytes.as_slice(),
+            Op::ReadBlock(_) | Op::ReadStripe | Op::WriteStripe(_) => &[],
         }
     }
 

@@ -4,7 +4,7 @@
 ghost use Rattle.std.specs.Prelude.{◌≡◌, Bool, Option, length, nat_lt};
 ghost use Rattle.protocol.specs.declared.phases.Counted.{Counted};
 ghost use Rattle.fab_base.specs.Stamps.{stamp_below};
-ghost use Rattle.protocol.specs.Coordinators.{refuser_of, full_member_of};
+ghost use Rattle.protocol.specs.Coordinators.{refuser_of, full_member_of, is_behind};
 ghost use Rattle.coord_phase.specs.Foremost.{foremost, foremost_of, told_version, yields_refuser, yields_full};
 
 use crate::operations::Operation;
@@ -117,9 +117,16 @@ impl Report for FullMember {
     }
 }
 
+/// Whether a member's newest version is another than the one that was to be modified.
+fn is_behind(reply: &Reply) -> bool
+    ensures { result ≡ is_behind reply.now }
+{
+    matches!(reply, Reply::Behind { .. })
+}
+
 impl Operation {
     ghost use Rattle.std.specs.Prelude.{◌≡◌};
-    ghost use Rattle.protocol.specs.Coordinators.{greatest_refuser, lowest_full, greatest_found};
+    ghost use Rattle.protocol.specs.Coordinators.{greatest_refuser, lowest_full, greatest_found, some_behind};
 
     /// The member that told the greatest later stamp, if one did; of equals, the one of the lowest seat.
     #[tactic(auto, using(crate::proofs::Foremost::greatest_refuser_is))]
@@ -143,5 +150,17 @@ impl Operation {
         ensures { result ≡ greatest_found self.now.state.counted }
     {
         foremost(self.counted())
+    }
+
+    /// Whether a member's newest version is another than the one that was to be modified.
+    pub fn some_behind(&self) -> bool
+        ensures { result ≡ some_behind self.now.state.counted }
+    {
+        for reply in self.counted() {
+            if is_behind(&reply.reply) {
+                return true;
+            }
+        }
+        false
     }
 }

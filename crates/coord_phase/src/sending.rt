@@ -10,7 +10,7 @@ impl Operation {
     ghost use Rattle.std.specs.Prelude.{◌≡◌, ◌<◌, IfOk, length};
     ghost use Rattle.stripe_code.specs.Codes.{block_code};
     ghost use Rattle.protocol.specs.declared.phases.Phase.TheVariants.{Stores};
-    ghost use Rattle.protocol.specs.Coordinators.{request_of};
+    ghost use Rattle.protocol.specs.Coordinators.{delta_at, request_of};
     ghost use Rattle.coord_phase.specs.Messages.{phase_messages, HasParity};
 
     /// All parity blocks of what the phase stores, made in one pass; none where it stores nothing.
@@ -22,9 +22,14 @@ impl Operation {
                 let policy = self.group.policy();
                 stripe_code::parity(alloc, policy.m(), policy.n(), self.block, self.stored())
             }
-            Phase::Looks | Phase::Orders | Phase::Recovers | Phase::Descends(_) => {
-                Ok(Bytes::empty(alloc))
-            }
+            Phase::Looks
+            | Phase::LooksAt(_)
+            | Phase::Orders
+            | Phase::OrdersAt(_)
+            | Phase::Recovers
+            | Phase::Descends(_)
+            | Phase::Modifies { .. }
+            | Phase::Bases(_) => Ok(Bytes::empty(alloc)),
         }
     }
 
@@ -44,6 +49,16 @@ impl Operation {
         Bytes::from_slice(alloc, &parity[at..at + size])
     }
 
+    /// What the member at a seat is told that a data block changes by: nothing, where its own block stays as it is.
+    fn delta_at(&self, alloc: Global, data_block: u8, seat: u8) -> Result<Bytes, NoMem>
+        ensures { IfOk result (λ delta. delta ≡ delta_at self.now.state.group.m data_block seat self.now.state.content) }
+    {
+        if seat == data_block || seat >= self.group.m() {
+            return Bytes::from_slice(alloc, self.stored());
+        }
+        Ok(Bytes::empty(alloc))
+    }
+
     /// What the phase asks of the member at a seat. What it stores has these parity blocks.
     #[tactic(auto, unfolding(protocol::specs::Coordinators::request_of))]
     fn request(&self, alloc: Global, seat: u8, parity: &[u8]) -> Result<Request, NoMem>
@@ -54,7 +69,15 @@ impl Operation {
         let stamp = self.stage.stamp;
         match self.stage.phase {
             Phase::Looks => Ok(Request::Read { want: Want::All }),
+            Phase::LooksAt(j) => Ok(Request::Read {
+                want: Want::Seat(j),
+            }),
             Phase::Orders => Ok(Request::Order { stamp }),
+            Phase::OrdersAt(j) => Ok(Request::OrderRead {
+                stamp,
+                look: Look::Below(stamp),
+                want: Want::Seat(j),
+            }),
             Phase::Recovers => Ok(Request::OrderRead {
                 stamp,
                 look: Look::Below(stamp),
@@ -63,6 +86,17 @@ impl Operation {
             Phase::Descends(bound) => Ok(Request::OrderRead {
                 stamp,
                 look: Look::Below(bound),
+                want: Want::All,
+            }),
+            Phase::Modifies { base, data_block } => Ok(Request::Modify {
+                stamp,
+                base,
+                data_block,
+                delta: self.delta_at(alloc, data_block, seat)?,
+            }),
+            Phase::Bases(base) => Ok(Request::OrderRead {
+                stamp,
+                look: Look::At(base),
                 want: Want::All,
             }),
             Phase::Stores => Ok(Request::Write {

@@ -1,9 +1,10 @@
 //! How one phase follows another.
 
-ghost use Rattle.std.specs.Prelude.{◌≡◌, length};
-ghost use Rattle.reg_model.specs.Registers.{block_of};
+ghost use Rattle.std.specs.Prelude.{◌≡◌, ◌*◌, IfOk, true, length};
+ghost use Rattle.reg_model.specs.Registers.{block_of, after_op};
+ghost use Rattle.protocol.specs.Nodes.{has_block, has_length};
 
-use crate::operations::{Operation, ReadBack, Stage};
+use crate::operations::{OnBase, Operation, Stage};
 use crate::replies::Replies;
 use fab_base::{Answer, Bytes, CallId, Cause, NoMem, Note, Op, Stamp};
 use messages::{Messages, Next, Turn};
@@ -24,14 +25,36 @@ fn data_block(block: u16, j: u8, content: &[u8]) -> &[u8]
     data
 }
 
+/// What an operation makes of a content of m blocks.
+fn content_after(alloc: Global, op: &Op, block: u16, m: u8, content: Bytes) -> Result<Bytes, NoMem>
+    requires fits { has_block m op.now ≡ true }
+    requires length { has_length m block op.now ≡ true }
+    requires long { length content ≡ m * block }
+    ensures value { IfOk result (λ made. made ≡ after_op block op.now content) }
+    ensures long { IfOk result (λ made. length made ≡ m * block) }
+{
+    match op {
+        Op::ReadBlock(_) | Op::ReadStripe => Ok(content),
+        Op::WriteBlock(j, bytes) => {
+            let mut blocks = Vec::from_slice(alloc, content.as_slice())?;
+            let size = block as usize;
+            let start = *j as usize * size;
+            blocks[start..start + size].copy_from_slice(bytes.as_slice());
+            Ok(Bytes::from_vec(blocks))
+        }
+        Op::WriteStripe(bytes) => bytes.copy(alloc),
+    }
+}
+
 impl Operation {
-    ghost use Rattle.std.specs.Prelude.{◌≡◌, ◌-◌, ◌*◌, ◌<◌, ◌^◌, true, None, Some, IfOk, OnOk, OnErr, length};
-    ghost use Rattle.protocol.specs.Coordinators.{Ends, Makes, next_phase, in_phase, restoring, reordering, ordered_again, answer_with, greatest_refuser, aborted_by, aborted_full, unless_refused};
+    ghost use Rattle.std.specs.Prelude.{◌≡◌, ◌-◌, ◌*◌, ◌<◌, ◌^◌, true, None, Some, IsSome, IfOk, OnOk, OnErr, length};
+    ghost use Rattle.protocol.specs.Coordinators.{Ends, bytes_at, block_written, next_phase, in_phase, restoring, modifying, ordered_again, answer_with, common_version_at, greatest_refuser, aborted_by, aborted_full, unless_refused};
+    ghost use Rattle.stripe_code.specs.Codes.{block_code};
     ghost use Rattle.reg_model.specs.Registers.{read_of};
-    ghost use Rattle.protocol.specs.declared.phases.Phase.TheVariants.{Orders, Stores};
-    ghost use Rattle.coord_phase.specs.Operations.{telling, at_stage, is_ordering, StoresBlocks, StaysAsked};
+    ghost use Rattle.protocol.specs.declared.phases.Phase.TheVariants.{Orders, OrdersAt, Stores};
+    ghost use Rattle.coord_phase.specs.Operations.{telling, at_stage, on_base, is_ordering, StoresBlocks, StaysAsked};
     ghost use Rattle.coord_phase.specs.Messages.{phase_messages};
-    ghost use Rattle.coord_phase.specs.Decisions.{decision, SendsPhase, NeverRecovers, note_of, seen_note};
+    ghost use Rattle.coord_phase.specs.Decisions.{decision, SendsPhase, NeverRecovers, bytes_told, note_of, seen_note};
 
     /// The stage with the next phase of the operation's call, which asks this.
     pub fn next_stage(&self, phase: Phase) -> Stage
@@ -61,9 +84,9 @@ impl Operation {
         Next::Wait
     }
 
-    /// What the operation tells as it makes its version, with this copy of its content.
-    fn note_of(&self, content: Bytes) -> Note
-        requires { content ≡ self.now.state.content }
+    /// What the operation tells as it makes its version, with this copy of the bytes that it tells.
+    fn note_of(&self, told: Bytes) -> Note
+        requires { told ≡ bytes_told self.now.state.ask.op self.now.state.content self.now.state.phase }
         ensures { result ≡ note_of self.now.state }
     {
         Note::Made {
@@ -73,7 +96,7 @@ impl Operation {
             },
             stamp: self.stage.stamp,
             base: self.base(),
-            content,
+            content: told,
         }
     }
 
@@ -100,7 +123,7 @@ impl Operation {
 
     /// Begins a stage, and gives its messages. Where memory runs out nothing has changed.
     pub fn begin(&mut self, alloc: Global, stage: Stage) -> Result<Messages, NoMem>
-        requires content { StoresBlocks self.old.block self.old.state.group.m self.old.state.content stage.phase }
+        requires content { StoresBlocks self.old.block self.old.state.group.m self.old.state.ask.op self.old.state.content stage.phase }
         ensures state { OnOk result (self.new ≡ telling self.old (at_stage self.old.state stage) None) }
         ensures messages { IfOk result (λ messages. messages.items ≡ phase_messages self.new) }
         ensures err { OnErr result (self.new ≡ self.old) }
@@ -121,6 +144,32 @@ impl Operation {
         }
     }
 
+    /// Begins a phase, the call's next, in which the operation makes its version on this base, of this content. Where memory runs out
+    /// nothing has changed.
+    fn begin_on(
+        &mut self,
+        alloc: Global,
+        base: Stamp,
+        content: Bytes,
+        phase: Phase,
+    ) -> Result<Messages, NoMem>
+        requires phase { self.old.state.call.phase < 2 ^ 32 - 1 }
+        requires before { StoresBlocks self.old.block self.old.state.group.m self.old.state.ask.op content self.old.state.phase }
+        requires content { StoresBlocks self.old.block self.old.state.group.m self.old.state.ask.op content phase }
+        ensures state { OnOk result (self.new ≡ telling self.old (on_base (in_phase self.old.state phase) base content) None) }
+        ensures messages { IfOk result (λ messages. messages.items ≡ phase_messages self.new) }
+        ensures err { OnErr result (self.new ≡ self.old) }
+    {
+        let before = mem::replace(&mut self.on_base, Some(OnBase { base, content }));
+        match self.begin(alloc, self.next_stage(phase)) {
+            Ok(messages) => Ok(messages),
+            Err(fault) => {
+                self.on_base = before;
+                Err(fault)
+            }
+        }
+    }
+
     /// Begins to store what the operation stores, in the call's next phase: it makes its version, and tells it. Where memory runs out
     /// nothing has changed.
     pub fn make(&mut self, alloc: Global) -> Result<Messages, NoMem>
@@ -130,31 +179,76 @@ impl Operation {
         ensures messages { IfOk result (λ messages. messages.items ≡ phase_messages self.new) }
         ensures err { OnErr result (self.new ≡ self.old) }
     {
-        let content = Bytes::from_slice(alloc, self.stored())?;
+        let told = Bytes::from_slice(alloc, self.stored())?;
         let messages = self.begin(alloc, self.next_stage(Phase::Stores))?;
-        self.note = Some(self.note_of(content));
+        self.note = Some(self.note_of(told));
         Ok(messages)
     }
 
-    /// Begins to store a version that it read back, in the call's next phase: it makes its version of it, and tells it. Where memory
-    /// runs out nothing has changed.
-    pub fn restore(&mut self, alloc: Global, base: Stamp, content: Bytes) -> Result<Messages, NoMem>
+    /// What a data block changes by, from the bytes that its seat tells to those that the operation writes. All replies tell one version.
+    fn delta_to(&self, alloc: Global, data_block: u8) -> Result<Bytes, NoMem>
+        requires orders { self.now.state.phase ≡ OrdersAt data_block }
+        requires base { IsSome (common_version_at data_block self.now.state.counted) }
+        ensures { IfOk result (λ delta. delta ≡ (block_code self.now.block).delta (bytes_at data_block self.now.state.counted)
+            (block_written self.now.state.ask.op)) }
+    {
+        let size = self.block;
+        stripe_code::delta(alloc, size, self.bytes_at(data_block), self.block_written())
+    }
+
+    /// Begins to modify this version in a data block, in the call's next phase: it makes its version, and tells it. All replies tell that
+    /// version, also that of the block's seat. Where memory runs out nothing has changed.
+    pub fn modify(&mut self, alloc: Global, base: Stamp, data_block: u8) -> Result<Messages, NoMem>
         requires phase { self.old.state.call.phase < 2 ^ 32 - 1 }
-        requires content { length content ≡ self.old.state.group.m * self.old.block }
-        ensures state { OnOk result (self.new ≡ telling self.old (restoring self.old.state base content)
-            (Some (note_of (restoring self.old.state base content)))) }
+        requires orders { self.old.state.phase ≡ OrdersAt data_block }
+        requires base { common_version_at data_block self.old.state.counted ≡ Some base }
+        ensures state { OnOk result (self.new ≡ telling self.old (modifying (block_code self.old.block) self.old.state base data_block)
+            (Some (note_of (modifying (block_code self.old.block) self.old.state base data_block)))) }
         ensures messages { IfOk result (λ messages. messages.items ≡ phase_messages self.new) }
         ensures err { OnErr result (self.new ≡ self.old) }
     {
-        let told = content.copy(alloc)?;
-        let before = mem::replace(&mut self.read_back, Some(ReadBack { base, content }));
-        let messages = match self.begin(alloc, self.next_stage(Phase::Stores)) {
-            Ok(messages) => messages,
-            Err(fault) => {
-                self.read_back = before;
-                return Err(fault);
-            }
-        };
+        let told = Bytes::from_slice(alloc, self.block_written())?;
+        let delta = self.delta_to(alloc, data_block)?;
+        let messages = self.begin_on(alloc, base, delta, Phase::Modifies { base, data_block })?;
+        self.note = Some(self.note_of(told));
+        Ok(messages)
+    }
+
+    /// What the operation makes of a content of m blocks.
+    fn content_on(&self, alloc: Global, content: Bytes) -> Result<Bytes, NoMem>
+        requires { length content ≡ self.now.state.group.m * self.now.block }
+        ensures value { IfOk result (λ made. made ≡ after_op self.now.block self.now.state.ask.op content) }
+        ensures long { IfOk result (λ made. length made ≡ self.now.state.group.m * self.now.block) }
+        ensures ready { IfOk result (λ made. StoresBlocks self.now.block self.now.state.group.m self.now.state.ask.op made self.now.state.phase) }
+    {
+        content_after(alloc, &self.ask.op, self.block, self.group.m(), content)
+    }
+
+    /// Begins to store what the operation makes of this version, whose content it read back, in the call's next phase, with nothing to
+    /// tell. Where memory runs out nothing has changed.
+    pub fn restore(&mut self, alloc: Global, base: Stamp, content: Bytes) -> Result<Messages, NoMem>
+        requires phase { self.old.state.call.phase < 2 ^ 32 - 1 }
+        requires content { length content ≡ self.old.state.group.m * self.old.block }
+        ensures state { OnOk result (self.new ≡ telling self.old (restoring self.old.block self.old.state base content) None) }
+        ensures messages { IfOk result (λ messages. messages.items ≡ phase_messages self.new) }
+        ensures err { OnErr result (self.new ≡ self.old) }
+    {
+        let stored = self.content_on(alloc, content)?;
+        self.begin_on(alloc, base, stored, Phase::Stores)
+    }
+
+    /// The same, where that makes the operation's version: it tells it.
+    pub fn make_on(&mut self, alloc: Global, base: Stamp, content: Bytes) -> Result<Messages, NoMem>
+        requires phase { self.old.state.call.phase < 2 ^ 32 - 1 }
+        requires content { length content ≡ self.old.state.group.m * self.old.block }
+        ensures state { OnOk result (self.new ≡ telling self.old (restoring self.old.block self.old.state base content)
+            (Some (note_of (restoring self.old.block self.old.state base content)))) }
+        ensures messages { IfOk result (λ messages. messages.items ≡ phase_messages self.new) }
+        ensures err { OnErr result (self.new ≡ self.old) }
+    {
+        let stored = self.content_on(alloc, content)?;
+        let told = stored.copy(alloc)?;
+        let messages = self.begin_on(alloc, base, stored, Phase::Stores)?;
         self.note = Some(self.note_of(told));
         Ok(messages)
     }
@@ -218,6 +312,16 @@ impl Operation {
         Ok(Next::Send(messages))
     }
 
+    /// Ends the operation with the version that it made, which the members that replied hold.
+    pub fn end_made(&mut self, answer: Answer) -> Next
+        ensures next { result ≡ Next.End answer }
+        ensures state { self.new ≡ record { block = self.old.block; state = self.old.state; note = None; made = Some self.old.state.stamp } }
+    {
+        self.note = None;
+        self.made = Some(self.stage.stamp);
+        Next::End(answer)
+    }
+
     /// Ends the operation with the version that it stored, unless a member told a later stamp. Where memory runs out nothing has
     /// changed.
     pub fn end_store(&mut self, alloc: Global) -> Result<Next, NoMem>
@@ -234,14 +338,12 @@ impl Operation {
             return Ok(self.abort(refuser));
         }
         let answer = self.answer(alloc)?;
-        self.note = None;
-        self.made = Some(self.stage.stamp);
-        Ok(Next::End(answer))
+        Ok(self.end_made(answer))
     }
 
-    /// Ends a read with this version, which it read at once, and its content.
-    pub fn end_look(&mut self, version: Stamp, content: Bytes) -> Next
-        ensures next { decision self.new result ≡ Ends (Answer.Data content) (Some version) None }
+    /// Ends a read with what it reads of this version, at once.
+    pub fn end_look(&mut self, version: Stamp, bytes: Bytes) -> Next
+        ensures next { decision self.new result ≡ Ends (Answer.Data bytes) (Some version) None }
         ensures sent { SendsPhase self.new result }
         ensures state { self.new ≡ telling self.old self.old.state (seen_note self.old.state.call (Some version)) }
     {
@@ -253,6 +355,6 @@ impl Operation {
             },
             stamp: version,
         });
-        Next::End(Answer::Data(content))
+        Next::End(Answer::Data(bytes))
     }
 }

@@ -9,10 +9,10 @@ ghost use Rattle.coord_phase.specs.Operations.{StaysAsked};
 ghost use Rattle.coord_phase.specs.Decisions.{SendsPhase, NeverRecovers, HasBlocks, decision, note_told};
 ghost use Rattle.coord_recover.specs.Recoveries.{is_of_recovery, entered};
 
-use coord_phase::{Decide, Operation, Stage, group_in_view};
+use coord_phase::{Decide, Operation, call_in};
 use fab_base::{Ask, BrickId, CallId, NoMem, Note, Stamp, View};
-use layout::{Group, Layout};
-use messages::{Call, Message, Messages, Next, Turn};
+use layout::Layout;
+use messages::{Message, Messages, Next, Turn};
 use protocol::Phase;
 use std::alloc::Global;
 use std::marker::Model;
@@ -36,7 +36,8 @@ impl Model for Recovery {
     ghost invariant = { λ recovery. is_of_recovery recovery.op.state.phase ≡ true };
 }
 
-/// Begins the recovery of the operation's stripe in the next phase of its call, and gives the phase's messages.
+/// Begins the recovery of the operation's stripe in the next phase of its call, and gives the phase's messages. One that begins with the
+/// store tells nothing: the operation told its version as it began to modify.
 fn take_turn(op: &mut Operation, alloc: Global, turn: Turn) -> Result<Messages, NoMem>
     requires phase { op.old.state.call.phase < 2 ^ 32 - 1 }
     requires content { HasBlocks op.old.block op.old.state.group.m turn }
@@ -51,17 +52,17 @@ fn take_turn(op: &mut Operation, alloc: Global, turn: Turn) -> Result<Messages, 
     }
 }
 
-/// Reads back the greatest version that the replies tell, and begins to store it, where they tell m blocks of it; else looks for
-/// the greatest version below it. Where they tell none, forgets them, and waits for more. After want of memory nothing has changed.
+/// Reads back the greatest version that the replies tell, and begins to store what the operation makes of it, where they tell m blocks of
+/// it; else looks for the greatest version below it. Where they tell none, forgets them, and waits for more. After want of memory nothing has changed.
 fn read_back(op: &mut Operation, alloc: Global) -> Result<Next, NoMem>
     requires few { op.old.state.call.phase < 2 ^ 32 - 1 }
     requires phase { is_of_recovery op.old.state.phase ≡ true }
-    ensures next { IfOk result (λ next. decision op.new next ≡ read_back (block_code op.old.block) op.old.state (greatest_found op.old.state.counted)) }
+    ensures next { IfOk result (λ next. decision op.new next ≡ read_back op.old.block (block_code op.old.block) op.old.state (greatest_found op.old.state.counted)) }
     ensures sent { IfOk result (λ next. SendsPhase op.new next) }
     ensures never { IfOk result NeverRecovers }
     ensures own { OnOk result (is_of_recovery op.new.state.phase ≡ true) }
     ensures told { OnOk result (op.new.note ≡ note_told op.old.state.call
-        (read_back (block_code op.old.block) op.old.state (greatest_found op.old.state.counted))) }
+        (read_back op.old.block (block_code op.old.block) op.old.state (greatest_found op.old.state.counted))) }
     ensures stays { OnOk result (StaysAsked op.old op.new) }
     ensures err { OnErr result (op.new ≡ op.old) }
 {
@@ -75,7 +76,7 @@ fn read_back(op: &mut Operation, alloc: Global) -> Result<Next, NoMem>
         return Ok(Next::Send(messages));
     }
     let content = op.content_of(alloc, version)?;
-    let messages = op.restore(alloc, version, content)?;
+    let messages = op.make_on(alloc, version, content)?;
     Ok(Next::Send(messages))
 }
 
@@ -84,12 +85,12 @@ fn end_order(op: &mut Operation, alloc: Global, fresh: Option<Stamp>) -> Result<
     requires few { op.old.state.call.phase < 2 ^ 32 - 1 }
     requires phase { op.old.state.phase ≡ Recovers }
     ensures next { IfOk result (λ next. decision op.new next ≡ once_ordered fresh op.old.state (greatest_refuser op.old.state.counted)
-        (read_back (block_code op.old.block) op.old.state (greatest_found op.old.state.counted))) }
+        (read_back op.old.block (block_code op.old.block) op.old.state (greatest_found op.old.state.counted))) }
     ensures sent { IfOk result (λ next. SendsPhase op.new next) }
     ensures never { IfOk result NeverRecovers }
     ensures own { OnOk result (is_of_recovery op.new.state.phase ≡ true) }
     ensures told { OnOk result (op.new.note ≡ note_told op.old.state.call (once_ordered fresh op.old.state (greatest_refuser op.old.state.counted)
-        (read_back (block_code op.old.block) op.old.state (greatest_found op.old.state.counted)))) }
+        (read_back op.old.block (block_code op.old.block) op.old.state (greatest_found op.old.state.counted)))) }
     ensures stays { OnOk result (StaysAsked op.old op.new) }
     ensures err { OnErr result (op.new ≡ op.old) }
 {
@@ -104,12 +105,12 @@ fn end_descent(op: &mut Operation, alloc: Global) -> Result<Next, NoMem>
     requires few { op.old.state.call.phase < 2 ^ 32 - 1 }
     requires phase { is_of_recovery op.old.state.phase ≡ true }
     ensures next { IfOk result (λ next. decision op.new next ≡ unless_refused (greatest_refuser op.old.state.counted)
-        (read_back (block_code op.old.block) op.old.state (greatest_found op.old.state.counted))) }
+        (read_back op.old.block (block_code op.old.block) op.old.state (greatest_found op.old.state.counted))) }
     ensures sent { IfOk result (λ next. SendsPhase op.new next) }
     ensures never { IfOk result NeverRecovers }
     ensures own { OnOk result (is_of_recovery op.new.state.phase ≡ true) }
     ensures told { OnOk result (op.new.note ≡ note_told op.old.state.call (unless_refused (greatest_refuser op.old.state.counted)
-        (read_back (block_code op.old.block) op.old.state (greatest_found op.old.state.counted)))) }
+        (read_back op.old.block (block_code op.old.block) op.old.state (greatest_found op.old.state.counted)))) }
     ensures stays { OnOk result (StaysAsked op.old op.new) }
     ensures err { OnErr result (op.new ≡ op.old) }
 {
@@ -134,24 +135,28 @@ impl Decide for Recovery {
             Phase::Recovers => end_order(op, alloc, fresh),
             Phase::Descends(_) => end_descent(op, alloc),
             Phase::Stores => op.end_store(alloc),
-            Phase::Looks | Phase::Orders => unreachable!(),
+            Phase::Looks
+            | Phase::LooksAt(_)
+            | Phase::Orders
+            | Phase::OrdersAt(_)
+            | Phase::Modifies { .. }
+            | Phase::Bases(_) => unreachable!(),
         }
     }
 }
 
 impl Recovery {
-    ghost use Rattle.std.specs.Prelude.{◌≡◌, ◌↔◌, ◌≤◌, IsTrue, true, [], None, IfOk, OnErr, length, option_copied};
-    ghost use Rattle.protocol.specs.declared.phases.Phase.TheVariants.{Stores};
+    ghost use Rattle.std.specs.Prelude.{◌≡◌, ◌≤◌, true, IfOk, OnErr, length, option_copied};
     ghost use Rattle.quorum.specs.Quorums.{IsWithinLimits};
-    ghost use Rattle.protocol.specs.Nodes.{has_length};
-    ghost use Rattle.coord_phase.specs.Operations.{group_in_view, counts};
+    ghost use Rattle.protocol.specs.Nodes.{has_block, has_length};
+    ghost use Rattle.coord_phase.specs.Operations.{group_in_view, counts, with_state, without_last};
     ghost use Rattle.coord_phase.specs.Decisions.{Answers, SendsPhase, NeverRecovers, IsSend, HasBlocks};
     ghost use Rattle.coord_recover.specs.Recoveries.{begun_op, entered};
 
     /// Begins the recovery of the stripe of an operation, with its stamp, in this phase of its call, the first of which is 1: with the
-    /// order, with the look for the greatest version below a bound, or with the store of a version that was read back, which it then
-    /// makes. It is asked of the members of the view, whose number and that of the group's data blocks are within the limits of a
-    /// quorum; what it stores is m blocks.
+    /// order, with the look for the greatest version below a bound, or with the store of what the operation makes of its base, which was
+    /// read back. It is asked of the members of the view, whose number and that of the group's data blocks are within the limits of a
+    /// quorum. The data block that is asked for is one of them, what is to be written has its length, and what was read back is m blocks.
     ///
     /// # Errors
     ///
@@ -168,6 +173,7 @@ impl Recovery {
     ) -> Result<(Recovery, Next), NoMem>
         requires limits { IsWithinLimits (group_in_view layout.now view.members ask.group.0).m (length view.members) }
         requires phase { 1 ≤ phase }
+        requires fits { has_block (group_in_view layout.now view.members ask.group.0).m ask.op ≡ true }
         requires length { has_length (group_in_view layout.now view.members ask.group.0).m layout.now.block ask.op ≡ true }
         requires content { HasBlocks layout.now.block (group_in_view layout.now view.members ask.group.0).m turn }
         ensures op { IfOk result (λ begun. begun.0 ≡ begun_op layout.now view call phase ask stamp turn) }
@@ -175,25 +181,12 @@ impl Recovery {
         ensures sent { IfOk result (λ begun. SendsPhase begun.0 begun.1) }
     {
         // The recovery begins in the next phase of this one.
-        let stage = Stage {
-            stamp,
-            round: 1,
-            call: Call {
-                boot: call.boot,
-                seq: call.seq,
-                phase: phase - 1,
-                group: ask.group,
-                view: view.number,
-                stripe: ask.stripe,
-            },
-            phase: Phase::Recovers,
-        };
-        let group = group_in_view(layout, &view, ask.group);
-        let op = Operation::new(alloc, layout.block(), group, ask, stage);
+        let call = call_in(call, phase - 1, &ask, view.number);
+        let op = Operation::asked(alloc, layout, &view, call, ask, stamp, Phase::Recovers);
         Recovery::enter(alloc, op, turn)
     }
 
-    /// Begins the recovery of the stripe of an operation that asks for it, in the next phase of its call; what it stores is m blocks.
+    /// Begins the recovery of the stripe of an operation that asks for it, in the next phase of its call; what was read back is m blocks.
     ///
     /// # Errors
     ///
@@ -246,6 +239,20 @@ impl Recovery {
         self.op.on_reply::<Recovery>(self.alloc, from, reply, fresh)
     }
 
+    /// The operation, as the coordinators of all kinds share it.
+    pub fn operation(&self) -> &Operation
+        ensures { result.now ≡ self.now }
+    {
+        &self.op
+    }
+
+    /// Takes the last reply that counted back.
+    pub fn take_back(&mut self)
+        ensures { self.new ≡ with_state self.old (without_last self.old.state) }
+    {
+        self.op.take_back();
+    }
+
     /// The phase again, to each member without a counted reply.
     ///
     /// # Errors
@@ -265,25 +272,11 @@ impl Recovery {
         self.op.stage().call.phase
     }
 
-    /// Whether the recovery stores its version. Only then may a reply end it with a version that may be collected.
-    pub fn is_storing(&self) -> bool
-        ensures { IsTrue result ↔ (self.now.state.phase ≡ Stores) }
-    {
-        matches!(self.op.stage().phase, Phase::Stores)
-    }
-
     /// What the last step told of the recovery's version, if anything.
     pub fn note(&self) -> Option<&Note>
         ensures { option_copied result ≡ self.now.note }
     {
         self.op.note()
-    }
-
-    /// The version that a recovery which ended has stored, which may be collected.
-    pub fn made(&self) -> Option<Stamp>
-        ensures { result ≡ self.now.made }
-    {
-        self.op.made()
     }
 
     /// What was asked.
@@ -299,26 +292,5 @@ impl Recovery {
     {
         let op = self.op.copy(alloc)?;
         Ok(Recovery { op, alloc })
-    }
-
-    /// The recovery's stamp.
-    pub fn stamp(&self) -> Stamp
-        ensures { result ≡ self.now.state.stamp }
-    {
-        self.op.stage().stamp
-    }
-
-    /// The call of the present phase.
-    pub fn call(&self) -> Call
-        ensures { result ≡ self.now.state.call }
-    {
-        self.op.stage().call
-    }
-
-    /// The group, with the members that are asked.
-    pub fn group(&self) -> &Group
-        ensures { result.now ≡ self.now.state.group }
-    {
-        self.op.group()
     }
 }

@@ -1,19 +1,18 @@
 //! Operations on whole stripes.
 
-ghost use Rattle.std.specs.Prelude.{◌≡◌, ◌-◌, ◌<◌, ◌≤◌, ◌^◌, true, IfSome, IfOk, OnOk, OnErr, length};
+ghost use Rattle.std.specs.Prelude.{◌≡◌, ◌-◌, ◌<◌, ◌≤◌, ◌^◌, true, IfOk, OnOk, OnErr, length};
 ghost use Rattle.protocol.specs.declared.phases.Phase.TheVariants.{Looks, Orders, Stores};
-ghost use Rattle.protocol.specs.Coordinators.{tells, all_tell, fast_version, in_phase, greatest_refuser, once_ordered, answered_fast, Makes};
-ghost use Rattle.protocol.specs.Nodes.{first_phase};
+ghost use Rattle.protocol.specs.Coordinators.{fast_version, in_phase, greatest_refuser, once_ordered, answered_fast, Makes};
 ghost use Rattle.stripe_code.specs.Codes.{block_code};
 ghost use Rattle.coord_phase.specs.Operations.{StaysAsked};
 ghost use Rattle.coord_phase.specs.Decisions.{SendsPhase, NeverRecovers, decision, note_told};
 ghost use Rattle.coord_stripe.specs.StripeOps.{is_of_stripe};
 
-use coord_phase::{Decide, Operation, Stage, group_in_view};
-use fab_base::{Ask, BrickId, CallId, NoMem, Note, Op, Stamp, View};
-use layout::{Group, Layout};
-use messages::{Call, Message, Next, Reply, Turn};
-use protocol::{Counted, Phase};
+use coord_phase::{Decide, Operation};
+use fab_base::{Ask, BrickId, CallId, NoMem, Note, Stamp, View};
+use layout::Layout;
+use messages::{Message, Next, Turn};
+use protocol::Phase;
 use std::alloc::Global;
 use std::marker::Model;
 
@@ -37,58 +36,6 @@ impl Model for StripeOp {
     ghost invariant = { λ stripe. is_of_stripe stripe.op.state.phase ≡ true };
 }
 
-/// The first phase of an operation: a read looks, a write orders.
-fn first_phase(op: &Op) -> Phase
-    ensures { result ≡ first_phase op.now }
-{
-    match op {
-        Op::ReadBlock(_) | Op::ReadStripe => Phase::Looks,
-        Op::WriteBlock(_, _) | Op::WriteStripe(_) => Phase::Orders,
-    }
-}
-
-/// Whether a reply tells this version as its member's newest, and no order above it.
-fn is_told(version: Stamp, reply: &Reply) -> bool
-    ensures { result ≡ tells version reply.now }
-{
-    match reply {
-        Reply::Found {
-            order,
-            newest: Some(newest),
-        } => newest.stamp.is_same(version) && !version.is_below(*order),
-        _ => false,
-    }
-}
-
-/// Whether all replies tell this version.
-fn is_told_by_all(version: Stamp, counted: &[Counted]) -> bool
-    ensures { result ≡ all_tell version counted.now }
-{
-    for reply in counted {
-        if !is_told(version, &reply.reply) {
-            return false;
-        }
-    }
-    true
-}
-
-/// The version that a read may answer at once: the one that all replies tell, with no order above it.
-fn version_told_by_all(op: &Operation) -> Option<Stamp>
-    ensures value { result ≡ fast_version op.now.state.counted }
-    ensures all { IfSome result (λ version. all_tell version op.now.state.counted ≡ true) }
-{
-    match op.agreed() {
-        None => None,
-        Some(version) => {
-            if is_told_by_all(version, op.counted()) {
-                Some(version)
-            } else {
-                None
-            }
-        }
-    }
-}
-
 /// Answers a read whose version all replies tell, and has the stripe of another read recovered.
 fn end_look(op: &mut Operation, alloc: Global) -> Result<Next, NoMem>
     requires phase { op.old.state.phase ≡ Looks }
@@ -102,7 +49,7 @@ fn end_look(op: &mut Operation, alloc: Global) -> Result<Next, NoMem>
     ensures state { OnOk result (op.new.state ≡ op.old.state) }
     ensures err { OnErr result (op.new ≡ op.old) }
 {
-    let Some(version) = version_told_by_all(op) else {
+    let Some(version) = op.fast_version() else {
         return Ok(op.recover(Turn::Order));
     };
     let content = op.content_of(alloc, version)?;
@@ -144,18 +91,23 @@ impl Decide for StripeOp {
             Phase::Looks => end_look(op, alloc),
             Phase::Orders => end_order(op, alloc, fresh),
             Phase::Stores => op.end_store(alloc),
-            Phase::Recovers | Phase::Descends(_) => unreachable!(),
+            Phase::LooksAt(_)
+            | Phase::OrdersAt(_)
+            | Phase::Recovers
+            | Phase::Descends(_)
+            | Phase::Modifies { .. }
+            | Phase::Bases(_) => unreachable!(),
         }
     }
 }
 
 impl StripeOp {
-    ghost use Rattle.std.specs.Prelude.{◌≡◌, ◌↔◌, IsTrue, true, IfOk, OnErr, OnOk, length, option_copied};
+    ghost use Rattle.std.specs.Prelude.{◌≡◌, true, IfOk, OnErr, OnOk, length, option_copied};
     ghost use Rattle.quorum.specs.Quorums.{IsWithinLimits};
-    ghost use Rattle.protocol.specs.Nodes.{is_stripe_op, has_length};
-    ghost use Rattle.coord_phase.specs.Operations.{group_in_view, counts, with_state, without_last};
+    ghost use Rattle.protocol.specs.Nodes.{is_stripe_op, has_block, has_length};
+    ghost use Rattle.coord_phase.specs.Operations.{group_in_view, first_op, counts, with_state, without_last};
     ghost use Rattle.coord_phase.specs.Decisions.{Answers, AsksRecovery, SendsPhase, IsSend};
-    ghost use Rattle.coord_stripe.specs.StripeOps.{first_op, is_of_stripe};
+    ghost use Rattle.coord_stripe.specs.StripeOps.{is_of_stripe};
 
     /// Begins an operation on a whole stripe, with its stamp: a read looks, and a write orders. It is asked of the members of the view,
     /// whose number and that of the group's data blocks are within the limits of a quorum; what it writes is m blocks.
@@ -178,23 +130,8 @@ impl StripeOp {
         ensures send { IfOk result (λ begun. IsSend begun.1) }
         ensures sent { IfOk result (λ begun. SendsPhase begun.0 begun.1) }
     {
-        let stage = Stage {
-            stamp,
-            round: 1,
-            call: Call {
-                boot: call.boot,
-                seq: call.seq,
-                phase: 1,
-                group: ask.group,
-                view: view.number,
-                stripe: ask.stripe,
-            },
-            phase: first_phase(&ask.op),
-        };
-        let group = group_in_view(layout, &view, ask.group);
-        let op = Operation::new(alloc, layout.block(), group, ask, stage);
-        let messages = op.messages(alloc)?;
-        Ok((StripeOp { alloc, op }, Next::Send(messages)))
+        let (op, next) = Operation::start(alloc, layout, &view, call, ask, stamp)?;
+        Ok((StripeOp { alloc, op }, next))
     }
 
     /// Whether a message counts: it is a reply to this very phase of the operation, answers it, and is its member's first.
@@ -217,7 +154,6 @@ impl StripeOp {
         fresh: Option<Stamp>,
     ) -> Result<Next, NoMem>
         ensures answers { IfOk result (λ next. Answers fresh self.old from reply.now next self.new) }
-        ensures kind { OnOk result (is_of_stripe self.new.state.phase ≡ true) }
         ensures recovery { IfOk result (λ next. AsksRecovery true self.old.block next self.old.state (without_last self.new.state)) }
         ensures err { OnErr result (self.new ≡ self.old) }
     {
@@ -258,32 +194,11 @@ impl StripeOp {
         self.op.stage().call.phase
     }
 
-    /// Whether the operation stores its version. Only then may a reply end it with a version that may be collected.
-    pub fn is_storing(&self) -> bool
-        ensures { IsTrue result ↔ (self.now.state.phase ≡ Stores) }
-    {
-        matches!(self.op.stage().phase, Phase::Stores)
-    }
-
     /// What the last reply let the operation tell of its version, if anything.
     pub fn note(&self) -> Option<&Note>
         ensures { option_copied result ≡ self.now.note }
     {
         self.op.note()
-    }
-
-    /// The version that an operation which ended has stored, which may be collected.
-    pub fn made(&self) -> Option<Stamp>
-        ensures { result ≡ self.now.made }
-    {
-        self.op.made()
-    }
-
-    /// What is asked.
-    pub fn ask(&self) -> &Ask
-        ensures { result.now ≡ self.now.state.ask }
-    {
-        self.op.ask()
     }
 
     /// What was asked.
@@ -299,26 +214,5 @@ impl StripeOp {
     {
         let op = self.op.copy(alloc)?;
         Ok(StripeOp { alloc, op })
-    }
-
-    /// The operation's stamp.
-    pub fn stamp(&self) -> Stamp
-        ensures { result ≡ self.now.state.stamp }
-    {
-        self.op.stage().stamp
-    }
-
-    /// The call of the present phase.
-    pub fn call(&self) -> Call
-        ensures { result ≡ self.now.state.call }
-    {
-        self.op.stage().call
-    }
-
-    /// The group, with the members that are asked.
-    pub fn group(&self) -> &Group
-        ensures { result.now ≡ self.now.state.group }
-    {
-        self.op.group()
     }
 }

@@ -1,7 +1,5 @@
 -- What a member decides, by the greater of its order stamp and the newest version's.
 use Rattle.std.proofs.Common.{◌≡◌, Bool, true, false, not, ◌&&◌, ◌||◌, cond, Option, Some, None, List, [], ◌∷◌, refl, sym, ap, ◌∙◌}
-use Rattle.std.specs.Option.{ForSome}
-use Rattle.std.specs.Bool.{IsTrue}
 use Rattle.std.proofs.Common.{ℕ}
 use Rattle.fab_base.specs.declared.stamps.Stamp.{Stamp}
 use Rattle.fab_base.specs.Stamps.{stamp_below, stamp_same, first_stamp}
@@ -9,8 +7,11 @@ use Rattle.fab_base.proofs.StampOrder.{stamp_below_asym, stamp_not_below_trans, 
 use Rattle.messages.specs.declared.requests.Version.{Version}
 use Rattle.messages.specs.declared.replies.Reply.{Reply}
 use Rattle.version_log.specs.Versions.{Version as Kept, newest}
-use Rattle.protocol.specs.Replicas.{Replica, Reaction, newest_of, is_held, top_of, stamp_max, stays, promised, unless_full}
+use Rattle.messages.specs.declared.replies.Reply.TheVariants.{Stored, Later}
+use Rattle.protocol.specs.Settings.{Code}
+use Rattle.protocol.specs.Replicas.{Replica, Reaction, newest_of, is_held, top_of, stamp_max, stays, promised, stored, written, modified, modified_on, unless_full}
 use Rattle.replica.specs.Parts.{part_of}
+use Rattle.replica.specs.Plans.{settled_reply, IsAboveNewest}
 use Rattle.replica.proofs.Logs.{newest_seen}
 
 differ : {A : Type 0} → false ≡ true → A
@@ -69,8 +70,7 @@ newest_other t (w ∷ x ∷ log) v held at = newest_other t (x ∷ log) v (by (s
     by false h = h
 
 -- a version that is not held, and not below the top, is above the newest
-pub above_newest : (part : Replica) (t : Stamp) → is_held t part.log ≡ false → stamp_below t (top_of part) ≡ false
-    → ForSome (newest_of part.log) (λ top. IsTrue (stamp_below top.stamp t))
+pub above_newest : (part : Replica) (t : Stamp) → is_held t part.log ≡ false → stamp_below t (top_of part) ≡ false → IsAboveNewest part t
 above_newest part t held h v at = by (stamp_below v.stamp t) refl
   where
     by : (b : Bool) → stamp_below v.stamp t ≡ b → stamp_below v.stamp t ≡ true
@@ -78,6 +78,33 @@ above_newest part t held h v at = by (stamp_below v.stamp t) refl
     by false is =
         let same : v.stamp ≡ t = stamp_neither_below v.stamp t is (not_below_newest part t v at h) in
         differ (sym (newest_other t part.log v held at) ∙ ap (λ (u : Stamp). stamp_same u t) same ∙ stamp_same_refl t)
+
+-- ---- a request to store a version
+
+-- one that is settled is answered at once
+abbrev pub unless_settled : Replica → Option Reply → Reaction → Reaction
+unless_settled part None reaction = reaction
+unless_settled part (Some reply) reaction = stays part reply
+
+settled_first : (held late : Bool) (part : Replica) (reaction : Reaction)
+    → cond held (stays part Stored) (cond late (stays part (Later (top_of part))) reaction)
+    ≡ unless_settled part (cond held (Some Stored) (cond late (Some (Later (top_of part))) None)) reaction
+settled_first true late part reaction = refl
+settled_first false true part reaction = refl
+settled_first false false part reaction = refl
+
+-- and another is stored, where there is room
+pub written_is : (full : Option ℕ) (part : Replica) (t : Stamp) (block : List ℕ)
+    → written full part t block ≡ unless_settled part (settled_reply part t) (unless_full full part (stored part t block))
+written_is full part t block =
+    settled_first (is_held t part.log) (stamp_below t (top_of part)) part (unless_full full part (stored part t block))
+
+-- or as its base says
+pub modified_is : (code : Code) (m : ℕ) (full : Option ℕ) (seat : ℕ) (part : Replica) (t base : Stamp) (j : ℕ) (delta : List ℕ)
+    → modified code m full seat part t base j delta
+    ≡ unless_settled part (settled_reply part t) (modified_on code m full seat part t base j delta (newest_of part.log))
+modified_is code m full seat part t base j delta =
+    settled_first (is_held t part.log) (stamp_below t (top_of part)) part (modified_on code m full seat part t base j delta (newest_of part.log))
 
 -- what is not below another stamp, and not the same, is above it
 pub above_order : (order t : Stamp) → stamp_below t order ≡ false → stamp_same order t ≡ false → stamp_below order t ≡ true

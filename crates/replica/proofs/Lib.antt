@@ -1,7 +1,10 @@
 pub mod Logs
 pub mod Deciding
+pub mod Modifying
 pub mod Places
 pub mod Reacting
 pub mod Answering
 pub mod Runs
+pub mod Sharing
 pub mod Stepping
+pub mod Decided

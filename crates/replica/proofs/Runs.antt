@@ -1,6 +1,6 @@
 -- How many calls of the disk a message makes, from the change of the store that it makes.
-use Rattle.std.proofs.Common.{◌≡◌, ℕ, ◌+◌, Bool, true, false, cond, Option, Some, List, [], ◌∷◌, ◌++◌, length, Result, Ok, Err, refl, sym, ap, subst, ◌∙◌, arith, eq-eqb}
-use Rattle.std.specs.Prelude.{IsOk, nat_lt}
+use Rattle.std.proofs.Common.{◌≡◌, ℕ, ◌+◌, Bool, true, false, cond, Option, Some, None, List, [], ◌∷◌, ◌++◌, length, Result, Ok, Err, refl, sym, ap, subst, ◌∙◌, arith, eq-eqb}
+use Rattle.std.specs.Prelude.{IsOk, is_none, nat_lt}
 use Rattle.std.specs.Option.{option_map}
 use Rattle.fab_disk.specs.Disk.{StopsEarly}
 use Rattle.brick_store.specs.Images.{StandsFor}
@@ -22,14 +22,15 @@ use Rattle.brick_state.specs.States.{StateOf, live}
 use Rattle.brick_store.specs.declared.faults.StoreFault.{StoreFault}
 use Rattle.brick_store.specs.declared.faults.StoreFault.TheVariants as faults
 use Rattle.brick_store.specs.Bricks.{Brick}
-use Rattle.brick_store.specs.Calls.{calls_of}
+use Rattle.brick_store.specs.Calls.{calls_of, version_calls}
+use Rattle.brick_store.specs.Sizes.{version_size}
 use Rattle.brick_store.specs.Changes.{Changes}
 use Rattle.protocol.specs.Replicas.{Replica, Reaction}
 use Rattle.protocol.specs.Nodes.{Node, put, with_replica, replica_at}
 use Rattle.replica.specs.declared.faults.ReplicaFault.{ReplicaFault}
 use Rattle.replica.specs.declared.faults.ReplicaFault.TheVariants.{Disk, Halted, NoMemory}
 use Rattle.replica.specs.Handling.{Runs, OpensAsNext, answered, seen_as}
-use Rattle.replica.specs.Calls.{part_calls, RunsAs, StopsAs}
+use Rattle.replica.specs.Calls.{stored_calls, part_calls, RunsAs, StopsAs}
 
 differ : {A : Type 0} → false ≡ true → A
 differ h = absurd cc
@@ -69,12 +70,16 @@ module _ {D : Type 0} (tells : Type 0) (moment : D → ℕ) (plan : D → Plan) 
 
 -- ---- how many calls a change takes
 
-module _ {D : Type 0} (store : Brick D) (part : Replica) where
-  pub calls_kept : part_calls store.shape store.listed part part ≡ 0
-  calls_kept =
-      let longer : nat_lt (length part.log) (length part.log) ≡ false = grind (arith, nat_tests) in
-      ap (λ (b : Bool). cond b (calls_of store 35 5) (cond (stamp_same part.order part.order) 0 (calls_of store 30 4))) longer
-      ∙ ap (λ (b : Bool). cond b 0 (calls_of store 30 4)) (stamp_same_refl part.order)
+module _ {D : Type 0} (store : Brick D) (shares : Bool) (part : Replica) where
+  -- a part whose log is as long as before
+  pub same_long : (after : Replica) → length after.log ≡ length part.log → part_calls store.shape store.listed shares part after ≡ cond
+      (stamp_same part.order after.order) 0 (calls_of store 30 4)
+  same_long after long =
+      let longer : nat_lt (length part.log) (length after.log) ≡ false = grind (arith, nat_tests, long) in
+      ap (λ (b : Bool). cond b (stored_calls store.shape store.listed shares) (cond (stamp_same part.order after.order) 0 (calls_of store 30 4))) longer
+
+  pub calls_kept : part_calls store.shape store.listed shares part part ≡ 0
+  calls_kept = same_long part refl ∙ ap (λ (b : Bool). cond b 0 (calls_of store 30 4)) (stamp_same_refl part.order)
 
   other_stamp : (t : Stamp) → stamp_below part.order t ≡ true → stamp_same part.order t ≡ false
   other_stamp t later = by (stamp_same part.order t) refl
@@ -84,17 +89,22 @@ module _ {D : Type 0} (store : Brick D) (part : Replica) where
       by true is = differ (sym (stamp_below_irrefl part.order) ∙ ap (stamp_below part.order) (stamp_same_true part.order t is) ∙ later)
 
   pub calls_ordered : (t : Stamp) → stamp_below part.order t ≡ true
-      → part_calls store.shape store.listed part (record { order = t; log = part.log }) ≡ calls_of store 30 4
+      → part_calls store.shape store.listed shares part (record { order = t; log = part.log }) ≡ calls_of store 30 4
   calls_ordered t later =
-      let longer : nat_lt (length part.log) (length part.log) ≡ false = grind (arith, nat_tests) in
-      ap (λ (b : Bool). cond b (calls_of store 35 5) (cond (stamp_same part.order t) 0 (calls_of store 30 4))) longer
-      ∙ ap (λ (b : Bool). cond b 0 (calls_of store 30 4)) (other_stamp t later)
+      same_long (record { order = t; log = part.log }) refl ∙ ap (λ (b : Bool). cond b 0 (calls_of store 30 4)) (other_stamp t later)
 
-  pub calls_stored : (v : Version) → part_calls store.shape store.listed part (record { order = part.order; log = part.log ++ (v ∷ []) }) ≡ calls_of store 35 5
+  pub calls_stored : (v : Version) → part_calls store.shape store.listed shares part (record { order = part.order; log = part.log ++ (v ∷ []) }) ≡
+      stored_calls store.shape store.listed shares
   calls_stored v =
       let sum : length (part.log ++ (v ∷ [])) ≡ length part.log + 1 = length-append part.log (v ∷ []) in
       let longer : nat_lt (length part.log) (length (part.log ++ (v ∷ []))) ≡ true = grind (arith, nat_tests, sum) in
-      ap (λ (b : Bool). cond b (calls_of store 35 5) (cond (stamp_same part.order part.order) 0 (calls_of store 30 4))) longer
+      ap (λ (b : Bool). cond b (stored_calls store.shape store.listed shares) (cond (stamp_same part.order part.order) 0 (calls_of store 30 4))) longer
+
+-- what a version takes is told by its block
+pub version_stored : {D : Type 0} (store : Brick D) (block : Option (List ℕ))
+    → stored_calls store.shape store.listed (is_none block) ≡ calls_of store (version_size block) (version_calls block)
+version_stored store None = refl
+version_stored store (Some bytes) = refl
 
 -- the part of a call's stripe, once it was changed
 pub replica_after : (node : Node) (call : Call) (reaction : Reaction) → replica_at (with_replica node call reaction) call ≡ reaction.replica

@@ -19,23 +19,42 @@ use Rattle.protocol.specs.Replicas.{Replica, Reaction, handle}
 use Rattle.protocol.specs.Views.{Learnt, first_learnt}
 use Rattle.protocol.specs.Nodes.{Node, NodeStep, put, group_at, with_part, seat_served, requested_in, requested_at, reacted, with_replica, full_at, replica_at, no_step, reply_packets}
 use Rattle.replica.specs.Parts.{learnt_or, part_in, IsPartsOf, IsFirstView}
-use Rattle.replica.specs.Reactions.{part_at, answer_packets, IsReacted, IsStep}
-use Rattle.replica.specs.Calls.{part_calls, message_calls}
+use Rattle.stripe_code.specs.Codes.{block_code, coding}
+use Rattle.replica.specs.Reactions.{part_at, served_seat, answer_packets, IsReacted, IsStep}
+use Rattle.replica.specs.Calls.{shares_block, part_calls, message_calls}
 use Rattle.replica.proofs.Runs.{calls_kept, replica_after}
 
 -- ---- the step of the machine
 
 module _ (layout : Layout) (me from : BrickId) (node : Node) (call : Call) (request : Request) where
-  -- a request that is not void is handled by the member at its seat
-  served_is : (group : Option Group) (seat : ℕ) → seat_served layout me node call request group ≡ Some seat
-      → requested_in layout me from node call request group ≡ reacted me from node call
-      (handle (full_at layout.records node.live) seat (replica_at node call) request)
-  served_is group seat h = ap (requested_at layout.records me from node call request) h
+  -- a request that is not void is handled by the member at its seat, where the group's stripes have so many data blocks
+  abbrev handled : ℕ × ℕ → NodeStep
+  handled place =
+      reacted me from node call (handle (block_code layout.block) place.0 (full_at layout.records node.live) place.1 (replica_at node call) request)
+
+  served_is : (group : Option Group) (place : ℕ × ℕ) → served_seat layout me node call request group ≡ Some place
+      → requested_in (coding layout) me from node call request group ≡ handled place
+  served_is None place h = absurd cc
+  served_is (Some group) place h = by (seat_served layout me node call request group) h
+    where
+      same : {a b : ℕ × ℕ} → Some a ≡ Some b → a ≡ b
+      same e = cc
+
+      by : (found : Option ℕ) → option_map {U = ℕ × ℕ} (λ seat. (group.m, seat)) found ≡ Some place
+          → requested_at (coding layout) group.m me from node call request found ≡ handled place
+      by None h' = absurd cc
+      by (Some seat) h' = ap handled (same h')
 
   -- a void one is ignored
-  void_is : (group : Option Group) → seat_served layout me node call request group ≡ None
-      → requested_in layout me from node call request group ≡ no_step node
-  void_is group h = ap (requested_at layout.records me from node call request) h
+  void_is : (group : Option Group) → served_seat layout me node call request group ≡ None
+      → requested_in (coding layout) me from node call request group ≡ no_step node
+  void_is None h = refl
+  void_is (Some group) h = by (seat_served layout me node call request group) h
+    where
+      by : (found : Option ℕ) → option_map {U = ℕ × ℕ} (λ seat. (group.m, seat)) found ≡ None
+          → requested_at (coding layout) group.m me from node call request found ≡ no_step node
+      by None h' = refl
+      by (Some seat) h' = absurd cc
 
 -- ---- a brick that keeps what the store keeps
 
@@ -84,11 +103,13 @@ module _ (layout : Layout) (before after : StateOf Version) (node : Node) (parts
       accepted_among groups g = is_some (accepted_of (slice_index_or groups g no_group))
 
   -- its reaction is that over what is kept
-  same_reaction : (records seat : ℕ) (call : Call) (request : Request)
-      → handle (full_at records node.live) seat (replica_at node call) request ≡ handle (full_at records (live before)) seat (part_at layout.block before call) request
-  same_reaction records seat call request =
-      ap (λ (n : ℕ). handle (cond (eqb n records) (Some n) None) seat (replica_at node call) request) parts.live
-      ∙ ap (λ (r : Replica). handle (full_at records (live before)) seat r request) (parts.replicas call.group.0 call.view.0 call.stripe.0)
+  same_reaction : (m records seat : ℕ) (call : Call) (request : Request)
+      → handle (block_code layout.block) m (full_at records node.live) seat (replica_at node call) request
+      ≡ handle (block_code layout.block) m (full_at records (live before)) seat (part_at layout.block before call) request
+  same_reaction m records seat call request =
+      ap (λ (n : ℕ). handle (block_code layout.block) m (cond (eqb n records) (Some n) None) seat (replica_at node call) request) parts.live
+      ∙ ap (λ (r : Replica). handle (block_code layout.block) m (full_at records (live before)) seat r request)
+      (parts.replicas call.group.0 call.view.0 call.stripe.0)
 
 -- the packets of a reply are those of an answer
 reply_is : (me from : BrickId) (call : Call) (reply : Option Reply) → reply_packets me from call reply ≡ answer_packets me from
@@ -97,33 +118,33 @@ reply_is me from call None = refl
 reply_is me from call (Some reply) = refl
 
 module _ (layout : Layout) (me from : BrickId) (call : Call) (request : Request) (before : StateOf Version) where
-  -- each brick that keeps what the store keeps serves the request at this seat, or at none
-  abbrev Serves : Option ℕ → Type 0
-  Serves seat = (node : Node) → IsPartsOf layout before node → seat ≡ seat_served layout me node call request (group_at layout node call.group.0)
+  -- each brick that keeps what the store keeps serves the request at this seat, of stripes of so many data blocks, or at none
+  abbrev pub Serves : Option (ℕ × ℕ) → Type 0
+  Serves place = (node : Node) → IsPartsOf layout before node → place ≡ served_seat layout me node call request (group_at layout node call.group.0)
 
   -- the reaction of the member at a seat
-  abbrev reaction_at : ℕ → Reaction
-  reaction_at seat = handle (full_at layout.records (live before)) seat (part_at layout.block before call) request
+  abbrev pub reaction_at : ℕ → ℕ → Reaction
+  reaction_at m seat = handle (block_code layout.block) m (full_at layout.records (live before)) seat (part_at layout.block before call) request
 
-  served_step : (seat : ℕ) → Serves (Some seat) → (node : Node) → IsPartsOf layout before node
-      → requested_in layout me from node call request (group_at layout node call.group.0) ≡ reacted me from node call (reaction_at seat)
-  served_step seat served node parts =
-      served_is layout me from node call request (group_at layout node call.group.0) seat (sym (served node parts))
-      ∙ ap (reacted me from node call) (same_reaction layout before before node parts layout.records seat call request)
+  served_step : (m seat : ℕ) → Serves (Some (m, seat)) → (node : Node) → IsPartsOf layout before node
+      → requested_in (coding layout) me from node call request (group_at layout node call.group.0) ≡ reacted me from node call (reaction_at m seat)
+  served_step m seat served node parts =
+      served_is layout me from node call request (group_at layout node call.group.0) (m, seat) (sym (served node parts))
+      ∙ ap (reacted me from node call) (same_reaction layout before before node parts m layout.records seat call request)
 
   void_step : Serves None → (node : Node) → IsPartsOf layout before node
-      → requested_in layout me from node call request (group_at layout node call.group.0) ≡ no_step node
+      → requested_in (coding layout) me from node call request (group_at layout node call.group.0) ≡ no_step node
   void_step void node parts = void_is layout me from node call request (group_at layout node call.group.0) (sym (void node parts))
 
   -- the member's reaction
-  pub step_served : IsFirstView before → call.view.0 ≡ 1 → (seat : ℕ) → Serves (Some seat) → (reply : Option Reply) (after : StateOf Version)
-      → IsReacted layout.block call before (reaction_at seat) reply after
+  pub step_served : IsFirstView before → call.view.0 ≡ 1 → (m seat : ℕ) → Serves (Some (m, seat)) → (reply : Option Reply) (after : StateOf Version)
+      → IsReacted layout.block call before (reaction_at m seat) reply after
       → IsStep layout me from (Message.Request call request) before (option_map (λ r. Message.Reply call r) reply) after
-  step_served first in_first seat served reply after reacted_so = record {
-    packets = λ node parts. ap (λ (step : NodeStep). step.packets) (served_step seat served node parts)
+  step_served first in_first m seat served reply after reacted_so = record {
+    packets = λ node parts. ap (λ (step : NodeStep). step.packets) (served_step m seat served node parts)
         ∙ ap (reply_packets me from call) reacted_so.told ∙ reply_is me from call reply;
-    parts = λ node parts. subst (λ (step : NodeStep). IsPartsOf layout after step.node) (sym (served_step seat served node parts))
-        (parts_after layout before after node parts call (reaction_at seat) reply reacted_so);
+    parts = λ node parts. subst (λ (step : NodeStep). IsPartsOf layout after step.node) (sym (served_step m seat served node parts))
+        (parts_after layout before after node parts call (reaction_at m seat) reply reacted_so);
     groups = reacted_so.groups;
     views = λ g v s other. reacted_so.others (g, v, s)
         (λ same. other (ap (λ (p : Place). p.1) same ∙ in_first ∙ sym (learnt_first g)));
@@ -147,15 +168,16 @@ module _ (layout : Layout) (me from : BrickId) (call : Call) (request : Request)
   -- how many calls that makes
   module _ {D : Type 0} (store : Brick D) (node : Node) (parts : IsPartsOf layout before node) where
     abbrev changed_by : NodeStep → ℕ
-    changed_by step = part_calls store.shape store.listed (replica_at node call) (replica_at step.node call)
+    changed_by step = part_calls store.shape store.listed (shares_block request) (replica_at node call) (replica_at step.node call)
 
-    pub calls_served : (seat : ℕ) → Serves (Some seat)
+    pub calls_served : (m seat : ℕ) → Serves (Some (m, seat))
         → message_calls layout me from store.shape store.listed node (Message.Request call request)
-        ≡ part_calls store.shape store.listed (part_at layout.block before call) (reaction_at seat).replica
-    calls_served seat served =
-        ap changed_by (served_step seat served node parts)
-        ∙ ap (part_calls store.shape store.listed (replica_at node call)) (replica_after node call (reaction_at seat))
-        ∙ ap (λ (r : Replica). part_calls store.shape store.listed r (reaction_at seat).replica) (parts.replicas call.group.0 call.view.0 call.stripe.0)
+        ≡ part_calls store.shape store.listed (shares_block request) (part_at layout.block before call) (reaction_at m seat).replica
+    calls_served m seat served =
+        ap changed_by (served_step m seat served node parts)
+        ∙ ap (part_calls store.shape store.listed (shares_block request) (replica_at node call)) (replica_after node call (reaction_at m seat))
+        ∙ ap (λ (r : Replica). part_calls store.shape store.listed (shares_block request) r (reaction_at m seat).replica)
+        (parts.replicas call.group.0 call.view.0 call.stripe.0)
 
     pub calls_void : Serves None → message_calls layout me from store.shape store.listed node (Message.Request call request) ≡ 0
-    calls_void void = ap changed_by (void_step void node parts) ∙ calls_kept store (replica_at node call)
+    calls_void void = ap changed_by (void_step void node parts) ∙ calls_kept store (shares_block request) (replica_at node call)

@@ -1,5 +1,5 @@
 -- How many calls of the disk's `write_at` and `sync` a message makes of a member's store.
-use Rattle.std.specs.Prelude.{ℕ, nat_lt, if◌then◌else◌, Option, List, length, Result, Err, IsOk, ◌≡◌}
+use Rattle.std.specs.Prelude.{ℕ, Bool, false, nat_eq, nat_lt, if◌then◌else◌, Option, List, length, Result, Err, IsOk, ◌≡◌}
 use Rattle.fab_base.specs.declared.identities.BrickId.{BrickId}
 use Rattle.fab_base.specs.Stamps.{stamp_same}
 use Rattle.fab_base.specs.Layouts.{Layout}
@@ -11,7 +11,9 @@ use Rattle.version_log.specs.Versions.{Version}
 use Rattle.brick_state.specs.States.{StateOf}
 use Rattle.brick_store.specs.Images.{StandsFor}
 use Rattle.messages.specs.declared.packets.Message.{Message}
-use Rattle.messages.specs.declared.packets.Message.TheVariants.{Request}
+use Rattle.messages.specs.declared.packets.Message.TheVariants as message
+use Rattle.messages.specs.declared.requests.Request.{Request}
+use Rattle.messages.specs.declared.requests.Request.TheVariants.{Modify}
 use Rattle.brick_store.specs.Bricks.{Brick}
 use Rattle.brick_store.specs.Calls.{calls_with}
 use Rattle.protocol.specs.Replicas.{Replica}
@@ -21,18 +23,28 @@ use Rattle.replica.specs.declared.faults.ReplicaFault.TheVariants.{Disk}
 use Rattle.replica.specs.Handling.{OpensAsNext}
 use Rattle.replica.specs.Reactions.{member_step}
 
--- So many calls keep what changed of a part, over a list of frames of so many bytes: none, a record of an order stamp, or a record of a version
--- and its block. The bodies of the two records have 30 and 35 bytes.
-abbrev pub part_calls : Shape → ℕ → Replica → Replica → ℕ
-part_calls shape listed before after =
-    if nat_lt (length before.log) (length after.log) then calls_with shape listed 35 5
+-- A version that a request stores shares the block of the newest one where the request is a Modify that tells no change.
+abbrev pub shares_block : Request → Bool
+shares_block (Modify t base j delta) = nat_eq (length delta) 0
+shares_block request = false
+
+-- So many calls keep a version, over a list of frames of so many bytes: a record that says that it shares the newest one's block, or a record and a
+-- block. The bodies of the two records have 30 and 35 bytes.
+abbrev pub stored_calls : Shape → ℕ → Bool → ℕ
+stored_calls shape listed shares = if shares then calls_with shape listed 30 4 else calls_with shape listed 35 5
+
+-- So many calls keep what changed of a part: none, a version, or a record of an order stamp, whose body has 30 bytes.
+abbrev pub part_calls : Shape → ℕ → Bool → Replica → Replica → ℕ
+part_calls shape listed shares before after =
+    if nat_lt (length before.log) (length after.log) then stored_calls shape listed shares
     else if stamp_same before.order after.order then 0
     else calls_with shape listed 30 4
 
 -- so many calls keep what a message makes a brick of the machine change
 abbrev pub message_calls : Layout → BrickId → BrickId → Shape → ℕ → Node → Message → ℕ
-message_calls layout me from shape listed node (Request call request) =
-    part_calls shape listed (replica_at node call) (replica_at (member_step layout me from node (Request call request)).node call)
+message_calls layout me from shape listed node (message.Request call request) =
+    part_calls shape listed (shares_block request) (replica_at node call)
+    (replica_at (member_step layout me from node (message.Request call request)).node call)
 message_calls layout me from shape listed node message = 0
 
 -- the message makes just this run of calls: it is cut short where it answers Disk

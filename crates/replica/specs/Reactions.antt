@@ -8,10 +8,13 @@ use Rattle.messages.specs.declared.replies.Reply.{Reply}
 use Rattle.version_log.specs.Versions.{Version}
 use Rattle.brick_state.specs.States.{Place, StateOf, stripe_at, group_at, live}
 use Rattle.brick_store.specs.Blocks.{learnt_of}
-use Rattle.fab_base.specs.Layouts.{Layout}
+use Rattle.std.specs.Option.{option_map}
+use Rattle.messages.specs.declared.requests.Request.{Request}
+use Rattle.fab_base.specs.Layouts.{Layout, Group}
+use Rattle.stripe_code.specs.Codes.{coding}
 use Rattle.protocol.specs.Replicas.{Replica, Reaction}
 use Rattle.protocol.specs.Nodes as machine
-use Rattle.protocol.specs.Nodes.{Node, NodeStep, with_part, requested_in, no_step}
+use Rattle.protocol.specs.Nodes.{Node, NodeStep, with_part, seat_served, requested_in, no_step}
 use Rattle.replica.specs.Parts.{part_in, IsPartsOf}
 
 -- what is kept of stripes in views other than the learnt one is as it was
@@ -35,10 +38,15 @@ pub record IsReacted (block : ℕ) (call : Call) (before : StateOf Version) (rea
   pub parts : (g e s : ℕ) → part_in block after g e s ≡ with_part (part_in block before) call reaction.replica g e s
   pub others : (p : Place) → p ≢ place_of call → stripe_at after p ≡ stripe_at before p
 
+-- the number of data blocks of a group's stripes, and the seat at which a brick of the machine serves a request of one, if it does
+abbrev pub served_seat : Layout → BrickId → Node → Call → Request → Option Group → Option (ℕ × ℕ)
+served_seat layout me node call request None = None
+served_seat layout me node call request (Some group) = option_map (λ seat. (group.m, seat)) (seat_served layout me node call request group)
+
 -- what a brick of the machine does with a message as a member of a group: it handles a request, and ignores all else
 abbrev pub member_step : Layout → BrickId → BrickId → Node → Message → NodeStep
 member_step layout me from node (Message.Request call request) =
-    requested_in layout me from node call request (machine.group_at layout node call.group.0)
+    requested_in (coding layout) me from node call request (machine.group_at layout node call.group.0)
 member_step layout me from node message = no_step node
 
 -- the answer goes back to the sender

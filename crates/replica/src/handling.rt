@@ -1,22 +1,23 @@
 //! Messages to a brick's part of a stripe.
 
-ghost use Rattle.std.specs.Prelude.{◌≡◌, ◌≢◌, ◌<◌, ◌≤◌, true, Err, IsSome, IsTrue, length};
+ghost use Rattle.std.specs.Prelude.{◌≡◌, ◌≢◌, ◌<◌, ◌≤◌, true, Err, IsSome, IfSome, IsTrue, length, option_map};
 ghost use Rattle.brick_store.specs.declared.faults.StoreFault.TheVariants as faults;
 ghost use Rattle.brick_state.specs.States.{live};
 ghost use Rattle.frame_store.specs.Layouts.{shape_of};
 ghost use Rattle.fab_base.specs.Layouts.{seat_in};
-ghost use Rattle.protocol.specs.Nodes.{Node, view_at, group_at, is_served, fits_block, full_at, seat_served};
+ghost use Rattle.protocol.specs.Nodes.{Node, view_at, group_at, is_served, fits_block, full_at};
 ghost use Rattle.messages.specs.declared.packets.Message.TheVariants as message;
 ghost use Rattle.messages.specs.declared.replies.Reply as told;
 ghost use Rattle.replica.specs.Parts.{IsPartsOf, IsFirstView};
-ghost use Rattle.replica.specs.Plans.{planned, IsChange};
-ghost use Rattle.replica.specs.Reactions.{part_at, IsReacted, IsStep};
+ghost use Rattle.replica.specs.Plans.{planned, is_shared, IsChange};
+ghost use Rattle.replica.specs.Reactions.{part_at, served_seat, IsReacted, IsStep};
 ghost use Rattle.replica.specs.Handling.{Handles, Runs, answered, me_of, seen_as};
 ghost use Rattle.replica.specs.Calls.{part_calls, message_calls, RunsAs, StopsAs};
 
 use crate::faults::ReplicaFault;
 use crate::members::decide;
 use crate::plans::Plan;
+use crate::seats::Member;
 use brick_store::{BrickStore, StoreFault};
 use fab_base::{BrickId, ViewNo};
 use fab_disk::Disk;
@@ -64,19 +65,19 @@ fn carry_out<D: Disk>(
     requires first { call.view.0 ≡ 1 }
     requires view { IsFirstView store.old.state }
     requires runs { Runs D.tells D.may_leave store.old }
-    requires change { IsChange store.old.shape.block (part_at store.old.shape.block store.old.state call) plan }
+    requires change { IsChange store.old.shape.block (is_shared plan) (part_at store.old.shape.block store.old.state call) plan }
     ensures handles { Handles D.tells D.seen D.may_leave D.moment D.left_since D.faults D.sound
         (IsReacted store.old.shape.block call store.old.state
         (planned (full_at store.old.shape.records (live store.old.state))
         (part_at store.old.shape.block store.old.state call) plan)) store.old store.new result }
     ensures cut { StopsAs D.tells D.seen D.certain D.moment
-        (part_calls store.old.shape store.old.listed (part_at store.old.shape.block store.old.state call)
+        (part_calls store.old.shape store.old.listed (is_shared plan) (part_at store.old.shape.block store.old.state call)
         (planned (full_at store.old.shape.records (live store.old.state)) (part_at store.old.shape.block store.old.state call) plan).replica)
         (IsReacted store.old.shape.block call store.old.state
         (planned (full_at store.old.shape.records (live store.old.state)) (part_at store.old.shape.block store.old.state call) plan))
         store.old store.new result }
     ensures run { RunsAs D.tells D.moment D.plan D.unlisted
-        (part_calls store.old.shape store.old.listed (part_at store.old.shape.block store.old.state call)
+        (part_calls store.old.shape store.old.listed (is_shared plan) (part_at store.old.shape.block store.old.state call)
         (planned (full_at store.old.shape.records (live store.old.state)) (part_at store.old.shape.block store.old.state call) plan).replica)
         store.old store.new result }
 {
@@ -88,7 +89,7 @@ fn carry_out<D: Disk>(
             answered(reply, store.set_order(group, view, stripe, stamp))
         }
         Plan::Store(stamp, block) => {
-            let answer = store.add_version(group, view, stripe, stamp, Some(block));
+            let answer = store.add_version(group, view, stripe, stamp, block);
             answered(Reply::Stored, answer)
         }
     }
@@ -102,40 +103,37 @@ fn is_served(group: &Group, accepted: bool, call: Call) -> bool
     call.stripe.0 < group.stripes() && call.view.0 == FIRST_VIEW.0 && !accepted
 }
 
-// Whether what a request stores has the length of a block.
-fn fits_block(block: u16, request: &Request) -> bool
-    ensures { result ≡ fits_block block request.now }
-{
-    match request {
-        Request::Write {
-            stamp: _,
-            block: bytes,
-        } => bytes.len() == block as usize,
-        _ => true,
-    }
-}
-
-// The seat of the brick, where the request is not void.
-fn seat_served<D: Disk>(
+// The member that the brick is, where the request is not void.
+fn member_served<D: Disk>(
     store: &BrickStore<D>,
     layout: &Layout,
     call: Call,
     request: &Request,
-) -> Option<u8>
+) -> Option<Member>
     requires { IsFirstView store.now.state }
-    ensures seat { (node : Node) → IsPartsOf layout.now store.now.state node
-        → result ≡ seat_served layout.now (me_of store.now) node call request.now (group_at layout.now node call.group.0) }
+    ensures seat { (node : Node) → IsPartsOf layout.now store.now.state node → option_map (λ member. (member.m, member.seat)) result
+        ≡ served_seat layout.now (me_of store.now) node call request.now (group_at layout.now node call.group.0) }
+    ensures block { IfSome result (λ member. member.block ≡ layout.now.block) }
     ensures group { IsSome result → call.group.0 < 64 }
     ensures first { IsSome result → call.view.0 ≡ 1 }
-    ensures fits { IsSome result → IsTrue (fits_block layout.now.block request.now) }
+    ensures fits { IfSome result (λ member. IsTrue (fits_block member.block member.m member.seat request.now)) }
 {
-    // Both calls only tell limits: a layout has at most 64 groups, and a group at most 32 seats.
-    let _ = layout.group_count();
+    // Both calls only tell limits: a layout has at most 64 groups and some byte in a block, and a group at most 32 seats.
+    let _ = layout.records();
     let group = layout.group(call.group)?;
     let _ = group.policy();
     let accepted = store.accepted(call.group).is_some();
-    if is_served(group, accepted, call) && fits_block(layout.block(), request) {
-        group.seat_of(store.me())
+    if !is_served(group, accepted, call) {
+        return None;
+    }
+    let seat = group.seat_of(store.me())?;
+    let member = Member {
+        m: group.m(),
+        seat,
+        block: layout.block(),
+    };
+    if member.fits(request) {
+        Some(member)
     } else {
         None
     }
@@ -159,8 +157,8 @@ fn answer(
 /// is no request, or is a request of a stripe that the brick does not serve, has none.
 ///
 /// The answer is made only once what it promises is kept. A message that changes nothing makes no call of the disk; one that changes the
-/// order stamp makes four of `write_at` and `sync`, one that stores a version five, and either seven more where the list of frames is
-/// rewritten first, for want of room.
+/// order stamp makes four of `write_at` and `sync`, one that stores a version with its block five, one that stores a version with the block of
+/// the newest one four, and each seven more where the list of frames is rewritten first, for want of room.
 ///
 /// # Errors
 /// [`ReplicaFault::Halted`]: an earlier call of the store answered Disk. [`ReplicaFault::Disk`]: the disk failed, and the store is
@@ -192,10 +190,10 @@ pub fn handle<D: Disk>(
     let Message::Request(call, request) = message else {
         return Ok(None);
     };
-    let Some(seat) = seat_served(store, layout, *call, request) else {
+    let Some(member) = member_served(store, layout, *call, request) else {
         return Ok(None);
     };
     let part = store.state(call.group, call.view, call.stripe);
-    let plan = decide(alloc, seat, layout.block(), &part, request)?;
+    let plan = decide(alloc, member, &part, request)?;
     answer(*call, carry_out(store, *call, plan))
 }

@@ -8,6 +8,7 @@ pub mod faults;
 pub mod handling;
 mod members;
 mod plans;
+mod seats;
 
 pub use faults::ReplicaFault;
 pub use handling::handle;

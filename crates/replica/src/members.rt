@@ -1,15 +1,19 @@
 //! What a member decides on each request (Frølund 2004, the storage replica). Nothing is changed here.
 
-ghost use Rattle.std.specs.Prelude.{◌≡◌, ℕ, false, Option, IfOk, IsTrue, length, map, option_map, if◌then◌else◌};
+ghost use Rattle.std.specs.Prelude.{◌≡◌, ◌<◌, ℕ, Bool, false, nat_eq, Option, Some, IfOk, IfNone, IsTrue, length, map, option_map, unwrap_or, if◌then◌else◌};
 ghost use Rattle.fab_base.specs.Stamps.{stamp_below};
 ghost use Rattle.messages.specs.declared.replies.Reply.TheVariants.{Found, Later};
 ghost use Rattle.version_log.specs.Versions.{version, IsRising};
-ghost use Rattle.protocol.specs.Replicas.{is_held, is_wanted, told_version, top_of, newest_of, looked_up, handle, ordered, order_read, written, stays, promised, unless_full};
+ghost use Rattle.messages.specs.declared.requests.Version.{Version};
+ghost use Rattle.protocol.specs.Replicas.{is_held, is_wanted, is_changed, told_version, top_of, newest_of, looked_up, handle, ordered, order_read, written, modified, modified_block, stays, promised, unless_full};
 ghost use Rattle.protocol.specs.Nodes.{fits_block};
+ghost use Rattle.stripe_code.specs.Codes.{block_code};
 ghost use Rattle.replica.specs.Parts.{as_version, part_seen};
-ghost use Rattle.replica.specs.Plans.{planned, IsChange};
+ghost use Rattle.replica.specs.Plans.{settled_reply, planned, IsAboveNewest, IsStorable, IsChange};
+ghost use Rattle.replica.specs.Calls.{shares_block};
 
 use crate::plans::Plan;
+use crate::seats::Member;
 use brick_store::State;
 use fab_base::{Bytes, NoMem, Stamp};
 use messages::{Look, Reply, Request, Version, Want};
@@ -90,7 +94,7 @@ fn promise(part: &State<'_>, stamp: Stamp, reply: Reply) -> Plan
     requires { stamp_below stamp part.now.order ≡ false }
     ensures plan { (full : Option ℕ) → planned full (part_seen part.now) result ≡ unless_full full (part_seen part.now)
         (promised (part_seen part.now) stamp reply) }
-    ensures change { (size : ℕ) → IsChange size (part_seen part.now) result }
+    ensures change { (size : ℕ) (shares : Bool) → IsChange size shares (part_seen part.now) result }
 {
     if part.order().is_same(stamp) {
         Plan::Tell(reply)
@@ -103,7 +107,7 @@ fn promise(part: &State<'_>, stamp: Stamp, reply: Reply) -> Plan
 fn read(alloc: Global, part: &State<'_>, wanted: bool) -> Result<Plan, NoMem>
     ensures plan { IfOk result (λ plan. (full : Option ℕ) → planned full (part_seen part.now) plan ≡ stays (part_seen part.now)
         (Found part.now.order (told_version wanted (newest_of (part_seen part.now).log)))) }
-    ensures change { IfOk result (λ plan. (size : ℕ) → IsChange size (part_seen part.now) plan) }
+    ensures change { IfOk result (λ plan. (size : ℕ) (shares : Bool) → IsChange size shares (part_seen part.now) plan) }
 {
     let newest = told(alloc, wanted, part.newest())?;
     Ok(Plan::Tell(Reply::Found {
@@ -115,7 +119,7 @@ fn read(alloc: Global, part: &State<'_>, wanted: bool) -> Result<Plan, NoMem>
 // Promise to take nothing below the stamp, unless something later was promised or stored.
 fn order(part: &State<'_>, stamp: Stamp) -> Plan
     ensures plan { (full : Option ℕ) → planned full (part_seen part.now) result ≡ ordered full (part_seen part.now) stamp }
-    ensures change { (size : ℕ) → IsChange size (part_seen part.now) result }
+    ensures change { (size : ℕ) (shares : Bool) → IsChange size shares (part_seen part.now) result }
 {
     let top = top(part);
     if stamp.is_below(top) {
@@ -135,7 +139,7 @@ fn order_read(
     requires { IsRising part.now.log }
     ensures plan { IfOk result (λ plan. (full : Option ℕ) → planned full (part_seen part.now) plan ≡ order_read full
         (part_seen part.now) stamp look wanted) }
-    ensures change { IfOk result (λ plan. (size : ℕ) → IsChange size (part_seen part.now) plan) }
+    ensures change { IfOk result (λ plan. (size : ℕ) (shares : Bool) → IsChange size shares (part_seen part.now) plan) }
 {
     let top = top(part);
     if stamp.is_below(top) {
@@ -145,48 +149,122 @@ fn order_read(
     Ok(promise(part, stamp, Reply::OrderedRead { found }))
 }
 
+// The reply to a request to store a version that is held already, or that is below what was promised or stored.
+fn settled_reply(part: &State<'_>, stamp: Stamp) -> Option<Reply>
+    ensures value { result ≡ settled_reply (part_seen part.now) stamp }
+    ensures above { IfNone result (IsAboveNewest (part_seen part.now) stamp) }
+{
+    if is_held(part, stamp) {
+        return Some(Reply::Stored);
+    }
+    let top = top(part);
+    if stamp.is_below(top) {
+        return Some(Reply::Later { stamp: top });
+    }
+    None
+}
+
 // Store a version, unless something later was promised or stored. One that is held is stored already.
 fn write(alloc: Global, part: &State<'_>, stamp: Stamp, block: &Bytes) -> Result<Plan, NoMem>
     ensures plan { IfOk result (λ plan. (full : Option ℕ) → planned full (part_seen part.now) plan ≡ written full
         (part_seen part.now) stamp block.now) }
-    ensures change { IfOk result (λ plan. IsChange (length block.now) (part_seen part.now) plan) }
+    ensures change { IfOk result (λ plan. IsChange (length block.now) false (part_seen part.now) plan) }
 {
-    if is_held(part, stamp) {
-        return Ok(Plan::Tell(Reply::Stored));
+    if let Some(reply) = settled_reply(part, stamp) {
+        return Ok(Plan::Tell(reply));
     }
-    let top = top(part);
-    if stamp.is_below(top) {
-        return Ok(Plan::Tell(Reply::Later { stamp: top }));
-    }
-    Ok(Plan::Store(stamp, block.copy(alloc)?))
+    Ok(Plan::Store(stamp, Some(block.copy(alloc)?)))
 }
 
-/// What the member at this seat is to do with a request of blocks of this size.
+// The block of a version whose base has this one, once a data block changed. None where it is that of the base.
+fn changed_block(
+    alloc: Global,
+    member: Member,
+    data_block: u8,
+    delta: &Bytes,
+    block: &Bytes,
+) -> Result<Option<Bytes>, NoMem>
+    requires data_block { data_block < member.m }
+    requires delta { length delta.now ≡ (if is_changed member.m data_block member.seat then member.block else 0) }
+    ensures block { IfOk result (λ made. unwrap_or made block.now ≡ modified_block (block_code member.block) member.m data_block
+        member.seat delta.now block.now) }
+    ensures storable { IfOk result (λ made. (base : Version) → IsStorable member.block (nat_eq (length delta.now) 0) (Some base) made) }
+{
+    if !member.is_changed(data_block) {
+        return Ok(None);
+    }
+    let changed = stripe_code::modify(
+        alloc,
+        member.m,
+        member.block,
+        data_block,
+        member.seat,
+        delta.as_slice(),
+        block.as_slice(),
+    )?;
+    Ok(Some(changed))
+}
+
+// Store a version that differs from its base by what a data block changed by, where the base is the newest version, unless something later was
+// promised or stored. One that is held is stored already.
+fn modify(
+    alloc: Global,
+    member: Member,
+    part: &State<'_>,
+    stamp: Stamp,
+    base: Stamp,
+    data_block: u8,
+    delta: &Bytes,
+) -> Result<Plan, NoMem>
+    requires data_block { data_block < member.m }
+    requires delta { length delta.now ≡ (if is_changed member.m data_block member.seat then member.block else 0) }
+    ensures plan { IfOk result (λ plan. (full : Option ℕ) → planned full (part_seen part.now) plan ≡ modified (block_code member.block)
+        member.m full member.seat (part_seen part.now) stamp base data_block delta.now) }
+    ensures change { IfOk result (λ plan. IsChange member.block (nat_eq (length delta.now) 0) (part_seen part.now) plan) }
+{
+    if let Some(reply) = settled_reply(part, stamp) {
+        return Ok(Plan::Tell(reply));
+    }
+    let Some((newest, block)) = part.newest() else {
+        return Ok(Plan::Tell(Reply::Behind { newest: None }));
+    };
+    if !newest.is_same(base) {
+        return Ok(Plan::Tell(Reply::Behind {
+            newest: Some(newest),
+        }));
+    }
+    let block = changed_block(alloc, member, data_block, delta, block)?;
+    Ok(Plan::Store(stamp, block))
+}
+
+/// What a member is to do with a request.
 #[tactic(auto, unfolding(protocol::specs::Replicas::handle))]
 pub(crate) fn decide(
     alloc: Global,
-    seat: u8,
-    block: u16,
+    member: Member,
     part: &State<'_>,
     request: &Request,
 ) -> Result<Plan, NoMem>
     requires rising { IsRising part.now.log }
-    requires fits { IsTrue (fits_block block request.now) }
-    ensures plan { IfOk result (λ plan. (full : Option ℕ) → planned full (part_seen part.now) plan ≡ handle full seat
-        (part_seen part.now) request.now) }
-    ensures change { IfOk result (λ plan. IsChange block (part_seen part.now) plan) }
+    requires fits { IsTrue (fits_block member.block member.m member.seat request.now) }
+    ensures plan { IfOk result (λ plan. (full : Option ℕ) → planned full (part_seen part.now) plan ≡ handle (block_code member.block)
+        member.m full member.seat (part_seen part.now) request.now) }
+    ensures change { IfOk result (λ plan. IsChange member.block (shares_block request.now) (part_seen part.now) plan) }
 {
-    // Only the clauses speak of a block's length.
-    let _ = block;
     match request {
-        Request::Read { want } => read(alloc, part, is_wanted(*want, seat)),
+        Request::Read { want } => read(alloc, part, is_wanted(*want, member.seat)),
         Request::Order { stamp } => Ok(order(part, *stamp)),
         Request::OrderRead { stamp, look, want } => {
-            order_read(alloc, part, *stamp, *look, is_wanted(*want, seat))
+            order_read(alloc, part, *stamp, *look, is_wanted(*want, member.seat))
         }
         Request::Write { stamp, block } => write(alloc, part, *stamp, block),
-        Request::Modify { .. }
-        | Request::Collect { .. }
+        Request::Modify {
+            stamp,
+            base,
+            data_block,
+            delta,
+        } => modify(alloc, member, part, *stamp, *base, *data_block, delta),
+        Request::Collect { .. }
         | Request::OldRead { .. }
         | Request::Prepare { .. }
         | Request::Accept { .. } => Ok(Plan::Ignore),

@@ -12,6 +12,6 @@ pub(crate) enum Plan {
     Tell(Reply),
     /// The member promises to take nothing below a stamp, and replies so.
     Promise(Stamp, Reply),
-    /// The member stores a version.
-    Store(Stamp, Bytes),
+    /// The member stores a version: with this block, or with that of its newest one.
+    Store(Stamp, Option<Bytes>),
 }

@@ -1,2 +1,4 @@
+pub mod Changes
+pub mod Contents
 pub mod Pieces
 pub mod Soundness

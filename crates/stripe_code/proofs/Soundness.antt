@@ -1,31 +1,28 @@
--- The code is sound: any m pieces of a content give it back, and zeros have zero blocks.
-use Rattle.std.proofs.Common.{◌≡◌, ◌≢◌, ℕ, zero, suc, ◌*◌, ◌<◌, ◌≤◌, true, inl, inr, List, [], ◌∷◌, ◌++◌, length, get_or, take, replicate, Some, refl, sym, ap, subst, ◌∙◌, arith}
-use Rattle.std.specs.Prelude.{nat_eq, nat_lt, slice_get}
+-- The code is sound: any m pieces of a content give it back, data blocks are kept as they are, a changed content has the changed blocks, and zeros have
+-- zero blocks.
+use Rattle.std.proofs.Common.{◌≡◌, ◌≢◌, ℕ, zero, suc, ◌*◌, ◌<◌, ◌≤◌, inl, inr, List, [], ◌∷◌, length, get_or, take, replicate, Some, refl, sym, ap, subst, ◌∙◌, arith}
+use Rattle.std.specs.Prelude.{nat_eq, slice_get}
 use Rattle.std.specs.List.{concat, AllByRecursion, IsDistinct}
-use Rattle.std.proofs.lemmas.Bool.{cases_lt, and_parts, eqb-false, ltb-true}
+use Rattle.std.proofs.lemmas.Bool.{cases_lt, eqb-false}
 use Rattle.std.proofs.lemmas.List.{get_or-map, get_or-take, get_or_past, get_or-replicate, length-map, length-take-le, length-replicate, take_all, ext_get_or}
 use Rattle.std.proofs.lemmas.Map.Keys.{apart_from_distinct}
 use Rattle.std.proofs.lemmas.Option.{slice_get-get_or}
 use Rattle.rs_code.specs.Codewords.{AreSeats}
 use Rattle.rs_code.specs.Stripes.{block_of, coded_block, data_block, IsCodedBlock, HasBlocks}
-use Rattle.rs_code.proofs.StripeLaws.{HoldsBytes, length-coded_block, coded_block-IsCodedBlock, coded_block-HoldsBytes, coded_block_zeros, data_block-IsDecoded, length-block_of, get_or-block_of}
+use Rattle.rs_code.proofs.StripeLaws.{HoldsBytes, length-coded_block, coded_block-IsCodedBlock, coded_block-HoldsBytes, coded_block-data, coded_block_zeros, data_block-IsDecoded, length-block_of, get_or-block_of}
 use Rattle.reg_model.specs.Registers.{zero_registers}
 use Rattle.quorum.specs.Quorums.{IsWithinLimits}
 use Rattle.fab_base.specs.Layouts.{Layout}
-use Rattle.protocol.specs.Settings.{Piece, AnyBlocksDecode, IsSound, are_bytes}
+use Rattle.protocol.specs.Settings.{Piece, AnyBlocksDecode, KeepsDataBlocks, IsSound}
 use Rattle.layout.specs.Limits.{IsLayout}
 use Rattle.stripe_code.specs.Codes.{block_code, coding}
+use Rattle.stripe_code.proofs.Contents.{bytes_hold, append_holds}
+use Rattle.stripe_code.proofs.Changes.{length-block_delta, modifies_blocks}
 use Rattle.stripe_code.proofs.Pieces.{seats_of, blocks_of, AreLong, byte_of-blocks, length-blocks, decoded_is, joined}
 
 -- a piece, for places past the end
 nowhere : Piece
 nowhere = record { seat = 0; bytes = [] }
-
--- the list of bytes holds bytes
-pub bytes_hold : (xs : List ℕ) → are_bytes xs ≡ true → HoldsBytes xs
-bytes_hold [] bytes n = omega arith
-bytes_hold (x ∷ xs) bytes zero = ltb-true x 256 (and_parts (nat_lt x 256) (are_bytes xs) bytes).0
-bytes_hold (x ∷ xs) bytes (suc n) = bytes_hold xs (and_parts (nat_lt x 256) (are_bytes xs) bytes).1 n
 
 -- ---- the first m of the pieces
 
@@ -98,11 +95,6 @@ blocks_long m size content (piece ∷ pieces) are = (
 )
 
 -- and are bytes
-append_holds : (xs ys : List ℕ) → HoldsBytes xs → HoldsBytes ys → HoldsBytes (xs ++ ys)
-append_holds [] ys hx hy n = hy n
-append_holds (x ∷ xs) ys hx hy zero = hx 0
-append_holds (x ∷ xs) ys hx hy (suc n) = append_holds xs ys (λ k. hx (suc k)) hy n
-
 blocks_hold : (m size : ℕ) (content : List ℕ) (pieces : List Piece) → AreBlocks m size content pieces → HoldsBytes (concat (blocks_of pieces))
 blocks_hold m size content [] are n = omega arith
 blocks_hold m size content (piece ∷ pieces) are n =
@@ -159,6 +151,11 @@ any_blocks_decode m n size limits content pieces long bytes are enough =
     d.decoded ∙ ap (λ stripe. block_of size stripe j) (sym (d.only content has)))
     ∙ take_all (m * size) content (omega (arith, long))
 
+-- a data block's seat keeps it as it is
+keeps_data_blocks : (m n size : ℕ) → IsWithinLimits m n → KeepsDataBlocks (block_code size) size m
+keeps_data_blocks m n size limits content seat long bytes within =
+    coded_block-data m size content seat (omega (arith, limits.few_blocks)) (bytes_hold content bytes) long within
+
 -- zeros are zero past their end too
 abbrev zeros : ℕ → List ℕ
 zeros n = replicate n 0
@@ -177,8 +174,12 @@ zero_block m size seat = coded_block_zeros m size (zero_registers m size) seat (
 -- a disk of any layout is sound
 pub coding_is_sound : (layout : Layout) → IsLayout layout → IsSound (coding layout)
 coding_is_sound layout is = record {
+  positive = is.some_byte;
   limits = λ g group here. (is.each g group here).limits;
   distinct = λ g group here. (is.each g group here).distinct;
   decodes = λ m n limits. any_blocks_decode m n layout.block limits;
+  keeps = λ m n limits. keeps_data_blocks m n layout.block limits;
+  modifies = λ m n limits. modifies_blocks m n layout.block limits;
+  deltas = λ old new old_long new_long. length-block_delta layout.block old new;
   zero_blocks = λ m n seat limits. zero_block m layout.block seat;
 }

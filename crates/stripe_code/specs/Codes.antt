@@ -1,4 +1,5 @@
--- The disk's code, as the machine is told it: block k of a stripe's content, and the content that blocks at m seats give back.
+-- The disk's code, as the machine is told it: block k of a stripe's content, the content that blocks at m seats give back, and how a block changes with
+-- a data block.
 use Rattle.std.specs.Prelude.{◌≡◌, ℕ, ◌-◌, ◌*◌, ◌<◌, ◌≤◌, List, [], length, map, take, slice_index, slice_index_or, bit_xor}
 use Rattle.std.specs.List.{concat, range_with_len, AllByRecursion}
 use Rattle.gf_field.specs.Field.{field_mul}

@@ -1,4 +1,5 @@
-//! The calls of the code: the block of a seat, all parity blocks at once, and the content that m blocks give back.
+//! The calls of the code: the block of a seat, all parity blocks at once, the content that m blocks give back, and how a block
+//! changes with a data block.
 
 ghost use Rattle.std.specs.Prelude.{◌≡◌, ℕ, ◌-◌, ◌*◌, ◌<◌, ◌≤◌, List, length, IfOk};
 ghost use Rattle.protocol.specs.Settings.{Piece};
@@ -60,4 +61,44 @@ pub fn decode(alloc: Global, m: u8, size: u16, seats: &[u8], blocks: &[u8]) -> R
     let mut content = vec![in alloc; 0; m as usize * size as usize]?;
     code.decode_all_into(seats, blocks, size as usize, &mut content);
     Ok(Bytes::from_vec(content))
+}
+
+/// What a block of `size` bytes changes by, from its old and its new bytes.
+///
+/// `NoMemory` comes where these bytes have no room.
+pub fn delta(alloc: Global, size: u16, old: &[u8], new: &[u8]) -> Result<Bytes, NoMem>
+    requires old_long { length old.now ≡ size }
+    requires new_long { length new.now ≡ size }
+    ensures { IfOk result (λ delta. delta ≡ (block_code size).delta old.now new.now) }
+{
+    let mut delta = vec![in alloc; 0; size as usize]?;
+    for (t, byte) in delta.iter_mut().enumerate() {
+        *byte = old[t] ^ new[t];
+    }
+    Ok(Bytes::from_vec(delta))
+}
+
+/// The block that the member at this seat keeps once data block `j` of its stripe, of `m` data blocks of `size` bytes, changed by
+/// `delta`. It kept `block` before, which is cut to `size` bytes, or filled with zeros, where it has another length.
+///
+/// `NoMemory` comes where the block has no room.
+pub fn modify(
+    alloc: Global,
+    m: u8,
+    size: u16,
+    j: u8,
+    seat: u8,
+    delta: &[u8],
+    block: &[u8],
+) -> Result<Bytes, NoMem>
+    requires few_data { m ≤ 16 }
+    requires changed { j < m }
+    requires seat { seat < 32 }
+    requires long { length delta.now ≡ size }
+    ensures { IfOk result (λ changed. changed ≡ (block_code size).modify m j seat delta.now block.now) }
+{
+    let mut changed = Vec::from_slice(alloc, block)?;
+    changed.resize(size as usize, 0)?;
+    Code { m, n: MAX_BLOCKS }.modify_into(j, seat, delta, &mut changed);
+    Ok(Bytes::from_vec(changed))
 }

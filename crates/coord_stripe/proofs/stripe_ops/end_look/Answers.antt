@@ -3,11 +3,11 @@ use Rattle.std.proofs.Common.{◌≡◌, ℕ, true, List, Some, None, ap, ◌∙
 use Rattle.fab_base.specs.declared.answers.Answer.TheVariants.{Data}
 use Rattle.protocol.specs.Coordinators.{Ends, all_tell, fast_version, answered_fast, pieces_of}
 use Rattle.stripe_code.specs.Codes.{block_code, decoded}
-use Rattle.coord_stripe.proofs.FastReads.{all_pieces, enough_pieces}
+use Rattle.coord_phase.proofs.FastReads.{all_pieces, enough_pieces}
 use Rattle.coord_stripe.proofs.stripe_ops.end_look.Goals as goal
 
-pub content_of-requires : goal.content_of-requires
-content_of-requires c =
+pub content_of-requires-clause-enough : goal.content_of-requires-clause-enough
+content_of-requires-clause-enough c =
     enough_pieces _ _ _ c.requires.enough c.in-Some.ensures.all
 
 pub returns-clause-next : goal.returns-clause-next

@@ -1,36 +1,55 @@
 -- What is planned is kept by one change of the store.
-use Rattle.std.proofs.Common.{◌≡◌, ℕ, true, Option, Some, None, Result, Ok, refl, sym, ap, subst, ◌∙◌}
+use Rattle.std.proofs.Common.{◌≡◌, ℕ, true, false, Option, Some, None, List, map, Result, Ok, refl, sym, ap, subst, ◌∙◌}
+use Rattle.fab_base.specs.declared.stamps.Stamp.{Stamp}
+use Rattle.messages.specs.declared.requests.Version.{Version}
+use Rattle.version_log.specs.Versions.{Version as Kept}
+use Rattle.brick_store.specs.Sizes.{version_size}
 use Rattle.std.specs.Option.{option_map}
 use Rattle.fab_base.specs.Stamps.{stamp_below}
 use Rattle.messages.specs.declared.replies.Reply.{Reply}
 use Rattle.messages.specs.declared.replies.Reply.TheVariants.{Stored}
 use Rattle.version_log.specs.Versions.{version}
 use Rattle.brick_state.specs.States.{stripe_at, ordered, added, live}
-use Rattle.brick_store.specs.Blocks.{log_at, adds_stamp}
+use Rattle.brick_store.specs.Blocks.{log_at, block_added, adds_stamp}
 use Rattle.brick_store.specs.Bricks.{Brick}
-use Rattle.brick_store.specs.Calls.{calls_of}
+use Rattle.brick_store.specs.Calls.{calls_of, version_calls}
 use Rattle.protocol.specs.Nodes.{full_at}
-use Rattle.protocol.specs.Replicas.{Reaction, promised, stored, unless_full}
+use Rattle.protocol.specs.Replicas.{Replica, Reaction, newest_of, promised, stored, unless_full}
 use Rattle.replica.specs.declared.faults.ReplicaFault.{ReplicaFault}
 use Rattle.replica.specs.declared.plans.Plan.{Plan}
 use Rattle.replica.specs.declared.plans.Plan.TheVariants.{Promise, Store}
 use Rattle.replica.specs.Parts.{as_version}
-use Rattle.replica.specs.Plans.{planned, IsChange}
+use Rattle.replica.specs.Plans.{block_stored, planned, is_shared, IsChange}
 use Rattle.replica.specs.Reactions.{place_of, part_at, IsReacted}
 use Rattle.replica.specs.Handling.{Handles}
-use Rattle.replica.specs.Calls.{part_calls, RunsAs, StopsAs}
+use Rattle.replica.specs.Calls.{stored_calls, part_calls, RunsAs, StopsAs}
 use Rattle.replica.proofs.Answering.{handles_change}
 use Rattle.replica.proofs.Logs.{newest_seen}
 use Rattle.replica.proofs.Reacting.{promise_grows, order_made, store_made, none_made, order_moves, store_moves, unless_room, unless_none}
-use Rattle.replica.proofs.Runs.{runs_told, change_runs, change_cut, calls_kept, calls_ordered, calls_stored}
+use Rattle.replica.proofs.Runs.{runs_told, change_runs, change_cut, calls_kept, calls_ordered, calls_stored, version_stored}
+use Rattle.replica.proofs.Sharing.{has_block, own_long, stored_added}
 use Rattle.replica.proofs.handling.carry_out.Goals as goal
+
+-- what the plan is, is a change
+changed_as : (size : ℕ) (part : Replica) {plan is : Plan} → plan ≡ is → IsChange size (is_shared plan) part plan → IsChange size (is_shared is) part is
+changed_as size part same change = subst (λ (p : Plan). IsChange size (is_shared p) part p) same change
 
 pub add_version-answer-requires-clause-above : goal.add_version-answer-requires-clause-above
 add_version-answer-requires-clause-above g c =
     let old = c.args.store.now in
     let log = log_at old.shape.block old.state (place_of c.args.call) in
-    let change = subst (λ (p : Plan). IsChange old.shape.block (part_at old.shape.block old.state c.args.call) p) c.in-Store.is c.requires.change in
-    record { above = λ v at. change.0 (as_version v) (newest_seen log ∙ ap (option_map as_version) at); content = λ none. refl }
+    let change = changed_as old.shape.block (part_at old.shape.block old.state c.args.call) c.in-Store.is c.requires.change in
+    record {
+      above = λ v at. change.0 (as_version v) (newest_seen log ∙ ap (option_map as_version) at);
+      content = has_block old.shape.block log c.in-Store.block change.1;
+    }
+
+pub add_version-answer-requires-clause-block : goal.add_version-answer-requires-clause-block
+add_version-answer-requires-clause-block g c =
+    let old = c.args.store.now in
+    let part = part_at old.shape.block old.state c.args.call in
+    let change = changed_as old.shape.block part c.in-Store.is c.requires.change in
+    own_long old.shape.block (newest_of part.log) c.in-Store.block change.1
 
 pub returns-in-Promise-clause-handles : goal.returns-in-Promise-clause-handles
 returns-in-Promise-clause-handles g c =
@@ -47,7 +66,7 @@ returns-in-Promise-clause-handles g c =
     let full = full_at old.shape.records (live st) in
     let Follows = λ (p : Plan). IsReacted block call st (planned full part p) in
     let sorted = c.requires.runs.ordered.sorted in
-    let later : stamp_below (stripe_at st (place_of call)).order t ≡ true = subst (λ (p : Plan). IsChange block part p) c.in-Promise.is c.requires.change in
+    let later : stamp_below (stripe_at st (place_of call)).order t ≡ true = changed_as block part c.in-Promise.is c.requires.change in
     subst (λ (p : Plan). Handles d.tells d.seen d.may_leave d.moment d.left_since d.faults d.sound (Follows p) old new c.answered.result)
     (sym c.in-Promise.is)
     (subst (λ (r : Result (Option Reply) ReplicaFault). Handles d.tells d.seen d.may_leave d.moment d.left_since d.faults d.sound
@@ -59,6 +78,15 @@ returns-in-Promise-clause-handles g c =
     (λ adds. none_made block call st sorted old.shape.records (promised part t reply) (promise_grows block call st sorted t reply ∙ adds))
     (order_moves block call st sorted t later) c.set_order.result c.set_order.ensures.change))
 
+-- the reaction that is planned, with the block that the store adds
+module _ (full : Option ℕ) (part : Replica) (t : Stamp) (log : List Kept) (log_is : part.log ≡ map as_version log) where
+  store_planned : (plan : Plan) (block : Option (List ℕ)) → plan ≡ Store t block
+      → planned full part plan ≡ unless_full full part (stored part t (block_added block log))
+  store_planned plan block is =
+      ap (planned full part) is
+      ∙ ap (λ (vs : List Version). unless_full full part (stored part t (block_stored vs block))) log_is
+      ∙ ap (λ (bytes : List ℕ). unless_full full part (stored part t bytes)) (stored_added log block)
+
 pub returns-in-Store-clause-handles : goal.returns-in-Store-clause-handles
 returns-in-Store-clause-handles g c =
     let d = g.D.Disk in
@@ -68,18 +96,20 @@ returns-in-Store-clause-handles g c =
     let block = old.shape.block in
     let call = c.args.call in
     let t = c.in-Store.stamp in
-    let bytes = c.in-Store.block in
+    let log = log_at block st (place_of call) in
+    let bytes = block_added c.in-Store.block log in
     let part = part_at block st call in
     let full = full_at old.shape.records (live st) in
-    let Follows = λ (p : Plan). IsReacted block call st (planned full part p) in
+    let Follows = λ (r : Reaction). IsReacted block call st r in
+    let reaction = unless_full full part (stored part t bytes) in
     let sorted = c.requires.runs.ordered.sorted in
-    subst (λ (p : Plan). Handles d.tells d.seen d.may_leave d.moment d.left_since d.faults d.sound (Follows p) old new c.answered-in-Store.result)
-    (sym c.in-Store.is)
+    subst (λ (r : Reaction). Handles d.tells d.seen d.may_leave d.moment d.left_since d.faults d.sound (Follows r) old new c.answered-in-Store.result)
+    (sym (store_planned full part t log refl c.args.plan c.in-Store.block c.in-Store.is))
     (subst (λ (r : Result (Option Reply) ReplicaFault). Handles d.tells d.seen d.may_leave d.moment d.left_since d.faults d.sound
-    (Follows (Store t bytes)) old new r) (sym c.answered-in-Store.ensures)
-    (handles_change d.tells d.seen d.certain d.may_leave d.moment d.left_since d.faults d.sound g.met.D.Disk.only_now (Follows (Store t bytes)) call.group.0 call.view.0 call.stripe.0 old new
+    (Follows reaction) old new r) (sym c.answered-in-Store.ensures)
+    (handles_change d.tells d.seen d.certain d.may_leave d.moment d.left_since d.faults d.sound g.met.D.Disk.only_now (Follows reaction) call.group.0 call.view.0 call.stripe.0 old new
     (added (place_of call) (version t bytes) st)
-    true (calls_of old 35 5) Stored c.requires.runs
+    true (calls_of old (version_size c.in-Store.block) (version_calls c.in-Store.block)) Stored c.requires.runs
     (store_made block call st sorted old.shape.records t bytes)
     (none_made block call st sorted old.shape.records (stored part t bytes))
     (store_moves block call st sorted t bytes) c.add_version-answer.result c.add_version-answer.ensures.change))
@@ -98,8 +128,8 @@ returns-in-Ignore-clause-run g c =
     let old = c.args.store.now in
     let part = part_at old.shape.block old.state c.args.call in
     let full = full_at old.shape.records (live old.state) in
-    let none : part_calls old.shape old.listed part (planned full part c.args.plan).replica ≡ 0 =
-    ap (λ (p : Plan). part_calls old.shape old.listed part (planned full part p).replica) c.in-Ignore.is ∙ calls_kept old part in
+    let none : part_calls old.shape old.listed (is_shared c.args.plan) part (planned full part c.args.plan).replica ≡ 0 =
+    ap (λ (p : Plan). part_calls old.shape old.listed (is_shared p) part (planned full part p).replica) c.in-Ignore.is ∙ calls_kept old false part in
     subst (λ (n : ℕ). RunsAs d.tells d.moment d.plan d.unlisted n old old (told silent)) (sym none)
     (runs_told d.tells d.moment d.plan d.unlisted old silent)
 
@@ -109,8 +139,8 @@ returns-in-Tell-clause-run g c =
     let old = c.args.store.now in
     let part = part_at old.shape.block old.state c.args.call in
     let full = full_at old.shape.records (live old.state) in
-    let none : part_calls old.shape old.listed part (planned full part c.args.plan).replica ≡ 0 =
-    ap (λ (p : Plan). part_calls old.shape old.listed part (planned full part p).replica) c.in-Tell.is ∙ calls_kept old part in
+    let none : part_calls old.shape old.listed (is_shared c.args.plan) part (planned full part c.args.plan).replica ≡ 0 =
+    ap (λ (p : Plan). part_calls old.shape old.listed (is_shared p) part (planned full part p).replica) c.in-Tell.is ∙ calls_kept old false part in
     subst (λ (n : ℕ). RunsAs d.tells d.moment d.plan d.unlisted n old old (told (Some c.in-Tell.reply))) (sym none)
     (runs_told d.tells d.moment d.plan d.unlisted old (Some c.in-Tell.reply))
 
@@ -128,10 +158,10 @@ returns-in-Promise-clause-run g c =
     let part = part_at block st call in
     let full = full_at records (live st) in
     let sorted = c.requires.runs.ordered.sorted in
-    let calls = λ (r : Reaction). part_calls old.shape old.listed part r.replica in
+    let calls = λ (r : Reaction). part_calls old.shape old.listed (is_shared c.args.plan) part r.replica in
     let reaction = promised part t reply in
     let is : planned full part c.args.plan ≡ unless_full full part reaction = ap (planned full part) c.in-Promise.is in
-    let later : stamp_below part.order t ≡ true = subst (λ (p : Plan). IsChange block part p) c.in-Promise.is c.requires.change in
+    let later : stamp_below part.order t ≡ true = changed_as block part c.in-Promise.is c.requires.change in
     let grows = promise_grows block call st sorted t reply in
     subst (λ (r : Result (Option Reply) ReplicaFault). RunsAs d.tells d.moment d.plan d.unlisted (calls (planned full part c.args.plan)) old new r)
     (sym c.answered.ensures)
@@ -139,8 +169,8 @@ returns-in-Promise-clause-run g c =
     (ordered (place_of call) t st) (adds_stamp t (stripe_at st (place_of call)).order) (calls_of old 30 4)
     (calls (planned full part c.args.plan)) reply c.set_order.result c.set_order.ensures.change c.set_order.ensures.run
     (λ room. ap calls is ∙ ap calls (sym (unless_room block call st sorted records part reaction (λ more. room (sym grows ∙ more))))
-    ∙ calls_ordered old part t later)
-    (λ adds most. ap calls is ∙ ap calls (sym (unless_none block call st sorted records part reaction (grows ∙ adds) most)) ∙ calls_kept old part))
+    ∙ calls_ordered old (is_shared c.args.plan) part t later)
+    (λ adds most. ap calls is ∙ ap calls (sym (unless_none block call st sorted records part reaction (grows ∙ adds) most)) ∙ calls_kept old (is_shared c.args.plan) part))
 
 pub returns-in-Store-clause-run : goal.returns-in-Store-clause-run
 returns-in-Store-clause-run g c =
@@ -152,20 +182,23 @@ returns-in-Store-clause-run g c =
     let call = c.args.call in
     let records = old.shape.records in
     let t = c.in-Store.stamp in
-    let bytes = c.in-Store.block in
+    let own = c.in-Store.block in
+    let log = log_at block st (place_of call) in
+    let bytes = block_added own log in
     let part = part_at block st call in
     let full = full_at records (live st) in
     let sorted = c.requires.runs.ordered.sorted in
-    let calls = λ (r : Reaction). part_calls old.shape old.listed part r.replica in
-    let reaction = stored part t bytes in
-    let is : planned full part c.args.plan ≡ unless_full full part reaction = ap (planned full part) c.in-Store.is in
+    let shared = is_shared c.args.plan in
+    let calls = λ (r : Reaction). part_calls old.shape old.listed shared part r.replica in
+    let is = store_planned full part t log refl c.args.plan own c.in-Store.is in
     subst (λ (r : Result (Option Reply) ReplicaFault). RunsAs d.tells d.moment d.plan d.unlisted (calls (planned full part c.args.plan)) old new r)
     (sym c.answered-in-Store.ensures)
     (change_runs d.tells d.seen d.certain d.may_leave d.moment d.left_since d.faults d.sound d.plan d.unlisted old new c.requires.runs
-    (added (place_of call) (version t bytes) st) true (calls_of old 35 5)
+    (added (place_of call) (version t bytes) st) true (calls_of old (version_size own) (version_calls own))
     (calls (planned full part c.args.plan)) Stored c.add_version-answer.result c.add_version-answer.ensures.change c.add_version-answer.ensures.run
-    (λ room. ap calls is ∙ ap calls (sym (unless_room block call st sorted records part reaction room)) ∙ calls_stored old part _)
-    (λ adds most. ap calls is ∙ ap calls (sym (unless_none block call st sorted records part reaction adds most)) ∙ calls_kept old part))
+    (λ room. ap calls is ∙ ap calls (sym (unless_room block call st sorted records part (stored part t bytes) room)) ∙ calls_stored old shared part _
+    ∙ ap (λ (p : Plan). stored_calls old.shape old.listed (is_shared p)) c.in-Store.is ∙ version_stored old own)
+    (λ adds most. ap calls is ∙ ap calls (sym (unless_none block call st sorted records part (stored part t bytes) adds most)) ∙ calls_kept old shared part))
 
 pub returns-in-Promise-clause-cut : goal.returns-in-Promise-clause-cut
 returns-in-Promise-clause-cut g c =
@@ -181,20 +214,22 @@ returns-in-Promise-clause-cut g c =
     let part = part_at block st call in
     let full = full_at records (live st) in
     let sorted = c.requires.runs.ordered.sorted in
-    let calls = λ (r : Reaction). part_calls old.shape old.listed part r.replica in
+    let calls = λ (p : Plan). part_calls old.shape old.listed (is_shared p) part (planned full part p).replica in
     let Follows = λ (p : Plan). IsReacted block call st (planned full part p) in
     let reaction = promised part t reply in
-    let later : stamp_below part.order t ≡ true = subst (λ (p : Plan). IsChange block part p) c.in-Promise.is c.requires.change in
+    let later : stamp_below part.order t ≡ true = changed_as block part c.in-Promise.is c.requires.change in
     let grows = promise_grows block call st sorted t reply in
-    subst (λ (p : Plan). StopsAs d.tells d.seen d.certain d.moment (calls (planned full part p)) (Follows p) old new c.answered.result)
+    subst (λ (p : Plan). StopsAs d.tells d.seen d.certain d.moment (calls p) (Follows p) old new c.answered.result)
     (sym c.in-Promise.is)
-    (subst (λ (r : Result (Option Reply) ReplicaFault). StopsAs d.tells d.seen d.certain d.moment (calls (planned full part (Promise t reply)))
+    (subst (λ (r : Result (Option Reply) ReplicaFault). StopsAs d.tells d.seen d.certain d.moment (calls (Promise t reply))
     (Follows (Promise t reply)) old new r) (sym c.answered.ensures)
     (change_cut d.tells d.seen d.certain d.may_leave d.moment d.left_since d.faults d.sound d.plan d.unlisted old new c.requires.runs
     (Follows (Promise t reply)) (ordered (place_of call) t st) (adds_stamp t (stripe_at st (place_of call)).order) (calls_of old 30 4)
-    (calls (planned full part (Promise t reply))) reply c.set_order.result c.set_order.ensures.change
+    (calls (Promise t reply)) reply c.set_order.result c.set_order.ensures.change
     (order_made block call st sorted records t reply later)
-    (λ room. ap calls (sym (unless_room block call st sorted records part reaction (λ more. room (sym grows ∙ more)))) ∙ calls_ordered old part t later)))
+    (λ room.
+    ap (λ (r : Reaction). part_calls old.shape old.listed false part r.replica)
+    (sym (unless_room block call st sorted records part reaction (λ more. room (sym grows ∙ more)))) ∙ calls_ordered old false part t later)))
 
 pub returns-in-Store-clause-cut : goal.returns-in-Store-clause-cut
 returns-in-Store-clause-cut g c =
@@ -206,17 +241,22 @@ returns-in-Store-clause-cut g c =
     let call = c.args.call in
     let records = old.shape.records in
     let t = c.in-Store.stamp in
-    let bytes = c.in-Store.block in
+    let own = c.in-Store.block in
+    let log = log_at block st (place_of call) in
+    let bytes = block_added own log in
     let part = part_at block st call in
     let full = full_at records (live st) in
     let sorted = c.requires.runs.ordered.sorted in
-    let calls = λ (r : Reaction). part_calls old.shape old.listed part r.replica in
-    let Follows = λ (p : Plan). IsReacted block call st (planned full part p) in
-    subst (λ (p : Plan). StopsAs d.tells d.seen d.certain d.moment (calls (planned full part p)) (Follows p) old new c.answered-in-Store.result)
-    (sym c.in-Store.is)
-    (subst (λ (r : Result (Option Reply) ReplicaFault). StopsAs d.tells d.seen d.certain d.moment (calls (planned full part (Store t bytes)))
-    (Follows (Store t bytes)) old new r) (sym c.answered-in-Store.ensures)
+    let shared = is_shared c.args.plan in
+    let calls = λ (r : Reaction). part_calls old.shape old.listed shared part r.replica in
+    let Follows = λ (r : Reaction). IsReacted block call st r in
+    let reaction = unless_full full part (stored part t bytes) in
+    subst (λ (r : Reaction). StopsAs d.tells d.seen d.certain d.moment (calls r) (Follows r) old new c.answered-in-Store.result)
+    (sym (store_planned full part t log refl c.args.plan own c.in-Store.is))
+    (subst (λ (r : Result (Option Reply) ReplicaFault). StopsAs d.tells d.seen d.certain d.moment (calls reaction) (Follows reaction) old new r)
+    (sym c.answered-in-Store.ensures)
     (change_cut d.tells d.seen d.certain d.may_leave d.moment d.left_since d.faults d.sound d.plan d.unlisted old new c.requires.runs
-    (Follows (Store t bytes)) (added (place_of call) (version t bytes) st) true (calls_of old 35 5) (calls (planned full part (Store t bytes))) Stored
+    (Follows reaction) (added (place_of call) (version t bytes) st) true (calls_of old (version_size own) (version_calls own)) (calls reaction) Stored
     c.add_version-answer.result c.add_version-answer.ensures.change (store_made block call st sorted records t bytes)
-    (λ room. ap calls (sym (unless_room block call st sorted records part (stored part t bytes) room)) ∙ calls_stored old part _)))
+    (λ room. ap calls (sym (unless_room block call st sorted records part (stored part t bytes) room)) ∙ calls_stored old shared part _
+    ∙ ap (λ (p : Plan). stored_calls old.shape old.listed (is_shared p)) c.in-Store.is ∙ version_stored old own)))

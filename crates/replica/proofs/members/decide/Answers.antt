@@ -1,5 +1,6 @@
--- An order has no block.
+-- An order stores nothing.
+use Rattle.replica.specs.Calls.{shares_block}
 use Rattle.replica.proofs.members.decide.Goals as goal
 
 pub returns-in-Order-clause-change : goal.returns-in-Order-clause-change
-returns-in-Order-clause-change c = c.order.ensures.change c.args.block
+returns-in-Order-clause-change c = c.order.ensures.change c.args.member.block (shares_block c.args.request.now)

@@ -13,7 +13,7 @@ returns-then-is_same-clause-plan c = λ full.
     promised_again full (part_seen c.args.part.now) c.args.stamp c.args.reply same
 
 pub returns-else-is_same-clause-change : goal.returns-else-is_same-clause-change
-returns-else-is_same-clause-change c = λ size.
+returns-else-is_same-clause-change c = λ size shares.
     let other : stamp_same c.args.part.now.order c.args.stamp ≡ false = ap (λ (o : Stamp). stamp_same o c.args.stamp) (sym c.order.ensures)
     ∙ sym c.is_same.ensures ∙ c.if-is_same.false in
     above_order c.args.part.now.order c.args.stamp c.requires other

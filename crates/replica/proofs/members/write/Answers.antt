@@ -1,15 +1,25 @@
--- A version that is stored is above the newest one.
-use Rattle.std.proofs.Common.{◌≡◌, false, sym, ap, ◌∙◌}
-use Rattle.fab_base.specs.Stamps.{stamp_below}
-use Rattle.std.specs.Prelude.{length}
-use Rattle.protocol.specs.Replicas.{top_of}
+-- A version that is settled is answered at once, and another is stored.
+use Rattle.std.proofs.Common.{List, Option, length, sym, ap, ◌∙◌}
+use Rattle.std.proofs.Common.{ℕ}
+use Rattle.messages.specs.declared.replies.Reply.{Reply}
+use Rattle.protocol.specs.Replicas.{stored, unless_full}
 use Rattle.replica.specs.Parts.{part_seen}
-use Rattle.replica.proofs.Deciding.{above_newest}
+use Rattle.replica.proofs.Deciding.{unless_settled, written_is}
 use Rattle.replica.proofs.members.write.Goals as goal
 
-pub returns-clause-change : goal.returns-clause-change
-returns-clause-change c =
+pub returns-in-Some-clause-plan : goal.returns-in-Some-clause-plan
+returns-in-Some-clause-plan c full =
     let part = part_seen c.args.part.now in
-    let not_below : stamp_below c.args.stamp (top_of part) ≡ false = ap (stamp_below c.args.stamp) (sym c.top-top.ensures) ∙ sym c.is_below.ensures
-    ∙ c.if-is_below.false in
-    (above_newest part c.args.stamp (sym c.is_held.ensures ∙ c.if-is_held.false) not_below, ap length c.in_ok-copy.ensures)
+    let reaction = unless_full full part (stored part c.args.stamp c.args.block.now) in
+    ap (λ (told : Option Reply). unless_settled part told reaction) c.in-Some.ensures.value ∙ sym (written_is full part c.args.stamp c.args.block.now)
+
+pub returns-clause-plan : goal.returns-clause-plan
+returns-clause-plan c full =
+    let part = part_seen c.args.part.now in
+    let reaction = unless_full full part (stored part c.args.stamp c.args.block.now) in
+    ap (λ (bytes : List ℕ). unless_full full part (stored part c.args.stamp bytes)) c.in_ok-copy.ensures
+    ∙ ap (λ (told : Option Reply). unless_settled part told reaction) c.in_default.ensures.value
+    ∙ sym (written_is full part c.args.stamp c.args.block.now)
+
+pub returns-clause-change : goal.returns-clause-change
+returns-clause-change c = (c.in_default.ensures.above, ap length c.in_ok-copy.ensures)

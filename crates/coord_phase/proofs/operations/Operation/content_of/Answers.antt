@@ -1,9 +1,9 @@
 -- The first m blocks that are found give back the content.
-use Rattle.std.proofs.Common.{◌≡◌, ◌≤◌, length, ap, ◌∙◌, sym, subst, arith}
+use Rattle.std.proofs.Common.{◌≡◌, ◌≤◌, true, length, ap, ◌∙◌, sym, subst, arith}
 use Rattle.std.proofs.lemmas.Result.{IfOk-weaker}
 use Rattle.protocol.specs.Coordinators.{pieces_at}
 use Rattle.stripe_code.specs.Codes.{decoded}
-use Rattle.coord_phase.specs.Operations.{Operation}
+use Rattle.coord_phase.specs.Operations.{Operation, wants_all}
 use Rattle.coord_phase.proofs.Pieces.{give_back, length-decoded, seats_of, blocks_of}
 use Rattle.coord_phase.proofs.operations.Operation.content_of.Goals as goal
 
@@ -14,9 +14,10 @@ decode-requires-clause-seats c =
     let m_is : c.m-m.result ≡ inside.group.m = c.m-m.ensures.value ∙ c.policy.ensures.m in
     let few : length inside.group.members ≤ 32 = omega (arith, c.policy.ensures.limits.few_seats) in
     let needed : inside.group.m ≤ length (pieces_at v inside.replies.list.items) = subst
-    (λ (op : Operation). op.state.group.m ≤ length (pieces_at v op.state.counted)) (sym c.self.view_is) c.requires in
+    (λ (op : Operation). op.state.group.m ≤ length (pieces_at v op.state.counted)) (sym c.self.view_is) c.requires.enough in
+    let whole : wants_all inside.stage.phase ≡ true = subst (λ (op : Operation). wants_all op.state.phase ≡ true) (sym c.self.view_is) c.requires.whole in
     let enough : c.m-m.result ≤ length (pieces_at v inside.replies.list.items) = omega (arith, needed, m_is) in
-    (give_back _ _ v _ _ _ c.self.invariant.0 few enough
+    (give_back _ _ v _ _ _ c.self.invariant.0 whole few enough
     (c.deref.ensures.value ∙ c.in_ok-seats.ensures ∙ ap (λ counted. seats_of (pieces_at v counted)) c.as_slice.ensures)
     (c.deref-2.ensures.value ∙ c.in_ok-blocks.ensures ∙ ap (λ counted. blocks_of (pieces_at v counted)) c.as_slice-2.ensures)).at_seats
 
@@ -27,9 +28,10 @@ decode-requires-clause-long c =
     let m_is : c.m-m.result ≡ inside.group.m = c.m-m.ensures.value ∙ c.policy.ensures.m in
     let few : length inside.group.members ≤ 32 = omega (arith, c.policy.ensures.limits.few_seats) in
     let needed : inside.group.m ≤ length (pieces_at v inside.replies.list.items) = subst
-    (λ (op : Operation). op.state.group.m ≤ length (pieces_at v op.state.counted)) (sym c.self.view_is) c.requires in
+    (λ (op : Operation). op.state.group.m ≤ length (pieces_at v op.state.counted)) (sym c.self.view_is) c.requires.enough in
+    let whole : wants_all inside.stage.phase ≡ true = subst (λ (op : Operation). wants_all op.state.phase ≡ true) (sym c.self.view_is) c.requires.whole in
     let enough : c.m-m.result ≤ length (pieces_at v inside.replies.list.items) = omega (arith, needed, m_is) in
-    (give_back _ _ v _ _ _ c.self.invariant.0 few enough
+    (give_back _ _ v _ _ _ c.self.invariant.0 whole few enough
     (c.deref.ensures.value ∙ c.in_ok-seats.ensures ∙ ap (λ counted. seats_of (pieces_at v counted)) c.as_slice.ensures)
     (c.deref-2.ensures.value ∙ c.in_ok-blocks.ensures ∙ ap (λ counted. blocks_of (pieces_at v counted)) c.as_slice-2.ensures)).long
 
@@ -43,9 +45,10 @@ returns-clause-value c =
     let m_is : c.m-m.result ≡ inside.group.m = c.m-m.ensures.value ∙ c.policy.ensures.m in
     let few : length inside.group.members ≤ 32 = omega (arith, c.policy.ensures.limits.few_seats) in
     let needed : inside.group.m ≤ length (pieces_at v inside.replies.list.items) = subst
-    (λ (op : Operation). op.state.group.m ≤ length (pieces_at v op.state.counted)) (sym c.self.view_is) c.requires in
+    (λ (op : Operation). op.state.group.m ≤ length (pieces_at v op.state.counted)) (sym c.self.view_is) c.requires.enough in
+    let whole : wants_all inside.stage.phase ≡ true = subst (λ (op : Operation). wants_all op.state.phase ≡ true) (sym c.self.view_is) c.requires.whole in
     let enough : c.m-m.result ≤ length (pieces_at v inside.replies.list.items) = omega (arith, needed, m_is) in
-    let back = give_back _ _ v _ _ _ c.self.invariant.0 few enough
+    let back = give_back _ _ v _ _ _ c.self.invariant.0 whole few enough
     (c.deref.ensures.value ∙ c.in_ok-seats.ensures ∙ ap (λ counted. seats_of (pieces_at v counted)) c.as_slice.ensures)
     (c.deref-2.ensures.value ∙ c.in_ok-blocks.ensures ∙ ap (λ counted. blocks_of (pieces_at v counted)) c.as_slice-2.ensures) in
     IfOk-weaker c.decode.result _ _

@@ -1,0 +1,8 @@
+-- A recovery asks for no other.
+use Rattle.std.proofs.lemmas.Result.{IfOk-weaker}
+use Rattle.node.proofs.Answered.{never_asks}
+use Rattle.node.proofs.operations.Operation.hear.Goals as goal
+
+pub returns-in-Recovery-clause-recovery : goal.returns-in-Recovery-clause-recovery
+returns-in-Recovery-clause-recovery c =
+    IfOk-weaker c.on_reply-in-Recovery.result _ _ (λ next never. never_asks _ next _ _ never) c.on_reply-in-Recovery.ensures.never

@@ -1,0 +1,97 @@
+-- What is planned shares the newest version's block where its request says so.
+use Rattle.std.proofs.Common.{◌≡◌, ℕ, Bool, true, false, cond, ltb, Option, Some, None, List, [], length, map, refl, sym, ap, subst, ◌∙◌}
+use Rattle.std.specs.Prelude.{is_none, is_some, IsSome}
+use Rattle.std.specs.Option.{ForSome, option_map, unwrap_or}
+use Rattle.version_log.specs.Versions.{Version as Kept, newest, block_of}
+use Rattle.brick_store.specs.Blocks.{block_added}
+use Rattle.replica.specs.Parts.{as_version}
+use Rattle.replica.proofs.Logs.{newest_seen}
+use Rattle.messages.specs.declared.requests.Version.{Version}
+use Rattle.brick_store.specs.Bricks.{Brick}
+use Rattle.fab_base.specs.declared.stamps.Stamp.{Stamp}
+use Rattle.messages.specs.declared.replies.Reply.{Reply}
+use Rattle.messages.specs.declared.replies.Reply.TheVariants.{Full}
+use Rattle.protocol.specs.Replicas.{Replica, Reaction, newest_of, promised, stays, unless_full}
+use Rattle.replica.specs.declared.plans.Plan.{Plan}
+use Rattle.replica.specs.declared.plans.Plan.TheVariants.{Ignore, Tell, Promise, Store}
+use Rattle.replica.specs.Plans.{block_stored, planned, is_shared, IsStorable, IsChange}
+use Rattle.replica.specs.Calls.{part_calls}
+use Rattle.replica.proofs.Runs.{calls_kept, same_long}
+
+-- a version without a block of its own is one that shares
+shares_is : (size : ℕ) (shares : Bool) (newest : Option Version) (block : Option (List ℕ)) → IsStorable size shares newest block → is_none block ≡ shares
+shares_is size true newest None storable = refl
+shares_is size true newest (Some bytes) storable = let none = storable.0 in absurd cc
+shares_is size false newest None storable = absurd storable
+shares_is size false newest (Some bytes) storable = refl
+
+-- ---- what a store asks of a version, and what it adds
+
+-- a version is not stored without a block where there is none to share
+pub has_block : (size : ℕ) (log : List Kept) (block : Option (List ℕ)) → IsStorable size (is_none block) (newest_of (map as_version log)) block → log ≡ []
+    → IsSome block
+has_block size log (Some bytes) storable none = refl
+has_block size log None storable none =
+    let nothing : is_some (newest_of (map as_version log)) ≡ false = ap (λ (vs : List Kept). is_some (newest_of (map as_version vs))) none in
+    let some = storable.1 in absurd cc
+
+-- a block of its own has the size of one
+pub own_long : (size : ℕ) (newest : Option Version) (block : Option (List ℕ)) → IsStorable size (is_none block) newest block
+    → ForSome block (λ bytes. length bytes ≡ size)
+own_long size newest None storable bytes at = absurd cc
+own_long size newest (Some own) storable bytes at = by at
+  where
+    by : Some own ≡ Some bytes → length bytes ≡ size
+    by h = subst (λ (xs : List ℕ). length xs ≡ size) (same h) storable
+      where
+        same : {a b : List ℕ} → Some a ≡ Some b → a ≡ b
+        same e = cc
+
+-- the block that is stored is the one that the store adds
+pub stored_added : (log : List Kept) (block : Option (List ℕ)) → block_stored (map as_version log) block ≡ block_added block log
+stored_added log (Some bytes) = refl
+stored_added log None = ap (λ (found : Option Version). unwrap_or (option_map (λ (v : Version). v.block) found) []) (newest_seen log)
+    ∙ same (newest log)
+  where
+    same : (found : Option Kept) → unwrap_or (option_map (λ (v : Version). v.block) (option_map as_version found)) []
+        ≡ unwrap_or (option_map block_of found) []
+    same None = refl
+    same (Some v) = refl
+
+-- ---- what a request says
+
+module _ (size : ℕ) (shares : Bool) (part : Replica) where
+  -- a change by its request is one by itself
+  pub change_planned : (plan : Plan) → IsChange size shares part plan → IsChange size (is_shared plan) part plan
+  change_planned Ignore change = tt
+  change_planned (Tell reply) change = tt
+  change_planned (Promise t reply) change = change
+  change_planned (Store t block) change = (
+    change.0,
+    subst (λ (b : Bool). IsStorable size b (newest_of part.log) block) (sym (shares_is size shares (newest_of part.log) block change.1)) change.1,
+  )
+
+  module _ {D : Type 0} (store : Brick D) (full : Option ℕ) where
+    abbrev calls : Bool → Reaction → ℕ
+    calls b reaction = part_calls store.shape store.listed b part reaction.replica
+
+    -- a promise leaves the log as it is
+    promise_long : (t : Stamp) (reply : Reply) → length (unless_full full part (promised part t reply)).replica.log ≡ length part.log
+    promise_long t reply = by full
+      where
+        room : (live : ℕ) (b : Bool) → length (cond b (stays part (Full live)) (promised part t reply)).replica.log ≡ length part.log
+        room live true = refl
+        room live false = refl
+
+        by : (f : Option ℕ) → length (unless_full f part (promised part t reply)).replica.log ≡ length part.log
+        by None = refl
+        by (Some live) = room live (ltb 0 (promised part t reply).adds)
+
+    -- so it takes as many calls
+    pub calls_planned : (plan : Plan) → IsChange size shares part plan → calls (is_shared plan) (planned full part plan) ≡ calls shares (planned full part plan)
+    calls_planned Ignore change = calls_kept store false part ∙ sym (calls_kept store shares part)
+    calls_planned (Tell reply) change = calls_kept store false part ∙ sym (calls_kept store shares part)
+    calls_planned (Promise t reply) change =
+        let after = (planned full part (Promise t reply)).replica in
+        same_long store false part after (promise_long t reply) ∙ sym (same_long store shares part after (promise_long t reply))
+    calls_planned (Store t block) change = ap (λ (b : Bool). calls b (planned full part (Store t block))) (shares_is size shares (newest_of part.log) block change.1)
