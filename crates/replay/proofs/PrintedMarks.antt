@@ -10,7 +10,7 @@ use Rattle.protocol.specs.Settings.{Setting}
 use Rattle.protocol.specs.declared.tellings.Answered.{Answered}
 use Rattle.protocol.specs.declared.tellings.Told.{Told}
 use Rattle.protocol.specs.declared.tellings.Told.TheVariants as told
-use Rattle.protocol.specs.Nodes.{NodeStep, put, is_stripe_op, refusal_of, invoked, received}
+use Rattle.protocol.specs.Nodes.{NodeStep, put, refusal_of, invoked, received}
 use Rattle.protocol.specs.Worlds.{World, Event, Found, Invokes, Delivers, Sets, Ticks, Stops, Starts, Before, After, number_of, is_brick, is_up, may_start, world_began, world_told, world_tells, world_answered, world_answers, world_stepped, world_ticked, world_stopped, world_found, world_started, replies_with, delivered, packet_of, happens, run}
 use Rattle.world.specs.Runs.{Step, all_events}
 use Rattle.world.proofs.RunLemmas.{run-append}
@@ -109,13 +109,11 @@ delivered_printed setting w (Some packet) =
     (stepped_printed setting w counted packet.to step refl)
 
 -- an operation begins exactly where no refusal is printed
-invoked_printed : (w next : World) (up stripe : Bool) (refusal : Option Refusal) → IsPrinted w next Marks
-    → IsPrinted w (if up && (stripe && not (is_some refusal)) then next else w) (refused_or_begun (if up then refusal else Some Down))
-invoked_printed w next false stripe refusal printed = printed_refused w Down
-invoked_printed w next true false None printed = printed_none w w refl
-invoked_printed w next true false (Some refusal) printed = printed_refused w refusal
-invoked_printed w next true true None printed = printed
-invoked_printed w next true true (Some refusal) printed = printed_refused w refusal
+invoked_printed : (w next : World) (up : Bool) (refusal : Option Refusal) → IsPrinted w next Marks
+    → IsPrinted w (if up && not (is_some refusal) then next else w) (refused_or_begun (if up then refusal else Some Down))
+invoked_printed w next false refusal printed = printed_refused w Down
+invoked_printed w next true None printed = printed
+invoked_printed w next true (Some refusal) printed = printed_refused w refusal
 
 started_printed : (w : World) (brick : BrickId) (openings : ℕ) (found : Found) → IsPrinted w (world_started (world_found w brick found) brick openings) Marks
 started_printed w brick openings Before = printed_none w (world_started w brick openings) refl
@@ -126,7 +124,7 @@ event_printed : (setting : Setting) (w : World) (event : Event) → IsPrinted w 
 unfolding happens
 event_printed setting w (Invokes brick ask) =
     let step : NodeStep = invoked setting brick (w.clocks brick.0) (w.nodes brick.0) ask in
-    invoked_printed w (world_began w brick ask step) (is_up setting.layout w brick) (is_stripe_op ask.op)
+    invoked_printed w (world_began w brick ask step) (is_up setting.layout w brick)
     (refusal_of setting.layout (w.nodes brick.0) ask) (printed_more w (world_began w brick ask step)
     (mark.Begin (length w.marks) (w.begun + 1) brick ask ∷ []) refl)
 event_printed setting w (Delivers number) = delivered_printed setting w (packet_of w.packets number)

@@ -11,7 +11,7 @@ use Rattle.messages.specs.declared.packets.Packet.{Packet}
 use Rattle.fab_base.specs.Layouts.{Layout, Group, group_of}
 use Rattle.protocol.specs.Settings.{Setting}
 use Rattle.protocol.specs.Views.{kept_by}
-use Rattle.protocol.specs.Nodes.{Node, group_at, put, is_stripe_op, has_block, has_length, is_spent, most_open, refusal_in, refusal_of, began, invoked, received}
+use Rattle.protocol.specs.Nodes.{Node, group_at, put, has_block, has_length, is_spent, most_open, refusal_in, refusal_of, began, invoked, received}
 use Rattle.protocol.specs.Worlds.{World, Invokes, Delivers, Sets, Ticks, Stops, Starts, Found, is_up, may_start, world_began, world_stepped, world_ticked, world_stopped, world_found, world_started, replies_with, delivered, packet_of, happens}
 use Rattle.world.specs.Runs.{ask_of, refusal_at}
 
@@ -49,10 +49,9 @@ pub refusal_down : (setting : Setting) (w : World) (brick : BrickId) (ask : Ask)
     → refusal_at setting w brick ask ≡ Some Refusal.Down
 refusal_down setting w brick ask down = ap (λ b. cond b (refusal_of setting.layout (w.nodes brick.0) ask) (Some Refusal.Down)) down
 
-may_not : (b c : Bool) (r : Option Refusal) (reason : Refusal) → r ≡ Some reason → b && (c && not (is_some r)) ≡ false
-may_not true true r reason is = ap (λ x. not (is_some x)) is
-may_not true false r reason is = refl
-may_not false c r reason is = refl
+may_not : (b : Bool) (r : Option Refusal) (reason : Refusal) → r ≡ Some reason → b && not (is_some r) ≡ false
+may_not true r reason is = ap (λ x. not (is_some x)) is
+may_not false r reason is = refl
 
 -- an operation that is refused changes nothing
 pub happens_refused : (setting : Setting) (w : World) (brick : BrickId) (ask : Ask) (reason : Refusal)
@@ -61,30 +60,29 @@ pub happens_refused : (setting : Setting) (w : World) (brick : BrickId) (ask : A
 unfolding happens
 happens_refused setting w brick ask reason is =
     ap (λ b. cond b (world_began w brick ask (invoked setting brick (w.clocks brick.0) (w.nodes brick.0) ask)) w)
-    (may_not (is_up setting.layout w brick) (is_stripe_op ask.op) (refusal_of setting.layout (w.nodes brick.0) ask) reason is)
+    (may_not (is_up setting.layout w brick) (refusal_of setting.layout (w.nodes brick.0) ask) reason is)
 
 -- nothing begins at a brick that is not up
 pub happens_down : (setting : Setting) (w : World) (brick : BrickId) (ask : Ask) → is_up setting.layout w brick ≡ false
     → happens setting w (Invokes brick ask) ≡ w
 unfolding happens
 happens_down setting w brick ask down =
-    ap (λ b. cond (b && (is_stripe_op ask.op && not (is_some (refusal_of setting.layout (w.nodes brick.0) ask))))
+    ap (λ b. cond (b && not (is_some (refusal_of setting.layout (w.nodes brick.0) ask)))
     (world_began w brick ask (invoked setting brick (w.clocks brick.0) (w.nodes brick.0) ask)) w)
     down
 
-may : (b c : Bool) (r : Option Refusal) → b ≡ true → c ≡ true → r ≡ None → b && (c && not (is_some r)) ≡ true
-may true true r here stripe none = ap (λ x. not (is_some x)) none
-may true false r here stripe none = let never : false ≡ true = stripe in cc
-may false c r here stripe none = let never : false ≡ true = here in cc
+may : (b : Bool) (r : Option Refusal) → b ≡ true → r ≡ None → b && not (is_some r) ≡ true
+may true r here none = ap (λ x. not (is_some x)) none
+may false r here none = let never : false ≡ true = here in cc
 
 -- an operation that is not refused begins
-pub happens_begun : (setting : Setting) (w : World) (brick : BrickId) (ask : Ask) → is_up setting.layout w brick ≡ true → is_stripe_op ask.op ≡ true
+pub happens_begun : (setting : Setting) (w : World) (brick : BrickId) (ask : Ask) → is_up setting.layout w brick ≡ true
     → refusal_of setting.layout (w.nodes brick.0) ask ≡ None
     → happens setting w (Invokes brick ask) ≡ world_began w brick ask (invoked setting brick (w.clocks brick.0) (w.nodes brick.0) ask)
 unfolding happens
-happens_begun setting w brick ask up stripe none =
+happens_begun setting w brick ask up none =
     ap (λ b. cond b (world_began w brick ask (invoked setting brick (w.clocks brick.0) (w.nodes brick.0) ask)) w)
-    (may (is_up setting.layout w brick) (is_stripe_op ask.op) (refusal_of setting.layout (w.nodes brick.0) ask) up stripe none)
+    (may (is_up setting.layout w brick) (refusal_of setting.layout (w.nodes brick.0) ask) up none)
 
 -- a group has as many data blocks and stripes in each view, so a refusal is the same in each
 refused_alike : (layout : Layout) (node : Node) (ask : Ask) (members : List BrickId) (found : Option Group)

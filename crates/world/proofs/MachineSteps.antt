@@ -7,7 +7,7 @@ use Rattle.messages.specs.declared.packets.Message.{Message}
 use Rattle.messages.specs.declared.packets.Packet.{Packet}
 use Rattle.messages.specs.declared.requests.Request.{Request}
 use Rattle.messages.specs.declared.replies.Reply.{Reply}
-use Rattle.fab_base.specs.Layouts.{Layout, Group}
+use Rattle.fab_base.specs.Layouts.{Group}
 use Rattle.protocol.specs.Settings.{Setting}
 use Rattle.protocol.specs.Coordinators.{Coordinator, Next, Ignores, Waits, Sends, Makes, Ends, on_reply}
 use Rattle.protocol.specs.Nodes.{Node, NodeStep, group_at, known_after, fresh_stamp, seat_served, requested_at, requested_in, requested, seen_told, carried_out, replied_at, replied, received, absorbed}
@@ -25,20 +25,21 @@ pub record OpensNone (node : Node) (step : NodeStep) : Type 0 where
   pub answers : AreAnswered node step.answers
 
 -- a request
-requested_at_opens_none : (records : ℕ) (me from : BrickId) (node : Node) (call : Call) (request : Request) (seat : Option ℕ)
-    → OpensNone node (requested_at records me from node call request seat)
-requested_at_opens_none records me from node call request None = record { boot = refl; seq = refl; told = tt; answers = tt }
-requested_at_opens_none records me from node call request (Some seat) = record { boot = refl; seq = refl; told = tt; answers = tt }
+requested_at_opens_none : (setting : Setting) (m : ℕ) (me from : BrickId) (node : Node) (call : Call) (request : Request) (seat : Option ℕ)
+    → OpensNone node (requested_at setting m me from node call request seat)
+requested_at_opens_none setting m me from node call request None = record { boot = refl; seq = refl; told = tt; answers = tt }
+requested_at_opens_none setting m me from node call request (Some seat) = record { boot = refl; seq = refl; told = tt; answers = tt }
 
-requested_in_opens_none : (layout : Layout) (me from : BrickId) (node : Node) (call : Call) (request : Request) (group : Option Group)
-    → OpensNone node (requested_in layout me from node call request group)
-requested_in_opens_none layout me from node call request group =
-    requested_at_opens_none layout.records me from node call request (seat_served layout me node call request group)
+requested_in_opens_none : (setting : Setting) (me from : BrickId) (node : Node) (call : Call) (request : Request) (group : Option Group)
+    → OpensNone node (requested_in setting me from node call request group)
+requested_in_opens_none setting me from node call request None = record { boot = refl; seq = refl; told = tt; answers = tt }
+requested_in_opens_none setting me from node call request (Some group) =
+    requested_at_opens_none setting group.m me from node call request (seat_served setting.layout me node call request group)
 
 requested_opens_none : (setting : Setting) (me from : BrickId) (node : Node) (call : Call) (request : Request)
     → OpensNone node (requested setting me from node call request)
 unfolding requested
-requested_opens_none setting me from node call request = requested_in_opens_none setting.layout me from node call request
+requested_opens_none setting me from node call request = requested_in_opens_none setting me from node call request
     (group_at setting.layout node call.group.0)
 
 -- a reply

@@ -9,7 +9,7 @@ use Rattle.messages.specs.declared.packets.Packet.{Packet}
 use Rattle.stripe_code.specs.Codes.{coding}
 use Rattle.node.specs.Running.{Running, state_of}
 use Rattle.fab_base.specs.Layouts.{Layout}
-use Rattle.protocol.specs.Nodes.{Node, NodeStep, put, is_stripe_op, refusal_of, invoked, received, ticked, stopped}
+use Rattle.protocol.specs.Nodes.{Node, NodeStep, put, refusal_of, invoked, received, ticked, stopped}
 use Rattle.protocol.specs.Worlds.{World, Invokes, Delivers, Sets, Ticks, Stops, is_brick, is_up, packet_of, replies_with, world_began, world_stopped, happens}
 use Rattle.world.specs.Runs.{ask_of, brick_of}
 use Rattle.world.specs.Shown.{Shows, ShowsPower, ShowsBricks, Tells}
@@ -58,14 +58,13 @@ down_shown layout state w b brick disk shows at off within =
 
 -- an operation that began
 pub shows_begun : (layout : Layout) (state : Simulation) (w : World) (brick : BrickId) (ask : Ask) → is_up layout w brick ≡ true
-    → is_stripe_op ask.op ≡ true
     → refusal_of layout (w.nodes brick.0) ask ≡ None
     → ShowsBricks layout state.bricks.items (put w.nodes brick.0
     (invoked (coding layout) brick (w.clocks brick.0) (w.nodes brick.0) ask).node) w.after w.up w.clocks
     → Tells state.history (world_began w brick ask (invoked (coding layout) brick (w.clocks brick.0) (w.nodes brick.0) ask))
     → Shows layout state (happens (coding layout) w (Invokes brick ask))
-shows_begun layout state w brick ask up stripe none bricks history =
-    subst (λ (v : World). Shows layout state v) (sym (happens_begun (coding layout) w brick ask up stripe none))
+shows_begun layout state w brick ask up none bricks history =
+    subst (λ (v : World). Shows layout state v) (sym (happens_begun (coding layout) w brick ask up none))
     (record { bricks = bricks; history = history })
 
 -- an event that changes nothing

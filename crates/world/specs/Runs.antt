@@ -1,5 +1,5 @@
 -- A run: the steps of a schedule, one after another, over the disk of a layout.
-use Rattle.std.specs.Prelude.{ℕ, if◌then◌else◌, List, [], ◌∷◌, ◌++◌, Option, Some, None}
+use Rattle.std.specs.Prelude.{ℕ, nat_lt, if◌then◌else◌, List, [], ◌∷◌, ◌++◌, Option, Some, None}
 use Rattle.fab_base.specs.declared.identities.BrickId.{BrickId}
 use Rattle.fab_base.specs.declared.asks.Ask.{Ask}
 use Rattle.fab_base.specs.declared.asks.Op.{Op}
@@ -8,7 +8,7 @@ use Rattle.fab_base.specs.declared.answers.Refusal.{Refusal}
 use Rattle.fab_base.specs.declared.answers.Refusal.TheVariants.{Down}
 use Rattle.fab_disk.specs.declared.mem_disk.MemDisk.{MemDisk}
 use Rattle.lines.specs.declared.forms.Access.{Access}
-use Rattle.lines.specs.declared.forms.Access.TheVariants.{ReadStripe, WriteStripe}
+use Rattle.lines.specs.declared.forms.Access.TheVariants.{ReadBlock, WriteBlock, ReadStripe, WriteStripe}
 use Rattle.lines.specs.declared.forms.Line.{Line}
 use Rattle.lines.specs.declared.forms.Line.TheVariants.{Nothing, Invoke, Deliver, SetClock, Tick, Crash, Start}
 use Rattle.fab_base.specs.Layouts.{Layout}
@@ -36,8 +36,14 @@ brick_of b = record { 0 = b }
 abbrev pub ask_of : ℕ → ℕ → Op → Ask
 ask_of g s op = record { group = record { 0 = g }; stripe = record { 0 = s }; op = op }
 
+-- a data block, as a brick is asked for it: every number past 255 is as far past a group's last block as that is
+abbrev pub block_no : ℕ → ℕ
+block_no j = if nat_lt j 256 then j else 255
+
 -- what an operation is to do, as a brick is asked
 abbrev pub op_of : Access → Op
+op_of (ReadBlock j) = op.ReadBlock (block_no j)
+op_of (WriteBlock j bytes) = op.WriteBlock (block_no j) bytes
 op_of ReadStripe = op.ReadStripe
 op_of (WriteStripe bytes) = op.WriteStripe bytes
 

@@ -3,7 +3,7 @@
 ghost use Rattle.std.specs.Prelude.{◌≡◌, ◌≢◌, ◌+◌, ◌^◌, ◌<◌, ◌≤◌, true, false, List, Some, Err, IfOk, IfSome, OnErr, vec_len, length, map};
 ghost use Rattle.std.specs.Option.{SomeIff};
 ghost use Rattle.protocol.specs.Nodes as machine;
-ghost use Rattle.protocol.specs.Nodes.{first_node, is_stripe_op, refusal_of, invoked, ticked, stopped};
+ghost use Rattle.protocol.specs.Nodes.{first_node, refusal_of, invoked, ticked, stopped};
 ghost use Rattle.protocol.specs.Nodes.{put as changed};
 ghost use Rattle.protocol.specs.Worlds.{World, Event, first_world};
 ghost use Rattle.stripe_code.specs.Codes.{coding};
@@ -257,8 +257,7 @@ pub fn next_of(bricks: &[Brick], number: BrickId) -> Option<u64>
 
 /// A brick that is up is asked for an operation. After a refusal of any kind no brick has changed.
 pub fn ask_brick(bricks: &mut Vec<Brick>, number: BrickId, ask: &Ask) -> Result<Begun, NodeFault>
-    requires brick { (layout : _) × IsUp layout bricks.old.items number }
-    requires stripes { is_stripe_op ask.now.op ≡ true }
+    requires { (layout : _) × IsUp layout bricks.old.items number }
     ensures refused { (layout : _) (w : World) → ShowsBricks layout bricks.old.items w.nodes w.after w.up w.clocks
         → RefusesAs result (refusal_of layout (w.nodes number.0) ask.now) }
     ensures begun { IfOk result (λ begun. (layout : _) (w : World) → ShowsBricks layout bricks.old.items w.nodes w.after w.up w.clocks

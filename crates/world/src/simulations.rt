@@ -1,9 +1,9 @@
 //! What a world keeps: its bricks and their clocks, and what happened.
 
-ghost use Rattle.std.specs.Prelude.{◌≡◌, true, Some, IfNone, IfSome, IfOk};
+ghost use Rattle.std.specs.Prelude.{◌≡◌, Some, IfNone, IfSome, IfOk};
 ghost use Rattle.protocol.specs.Nodes as machine;
-ghost use Rattle.protocol.specs.Nodes.{is_stripe_op, refusal_of};
-ghost use Rattle.world.specs.Runs.{ask_of, op_of};
+ghost use Rattle.protocol.specs.Nodes.{refusal_of};
+ghost use Rattle.world.specs.Runs.{ask_of, block_no, op_of};
 
 use crate::bricks::{
     Brick, ask_brick, find_up, fresh_bricks, hand_over, next_of, start_brick, stop_brick,
@@ -51,12 +51,22 @@ fn place_of(layout: &Layout, group: u64, stripe: u64) -> Option<(GroupId, Stripe
     Some((group, StripeNo(stripe as u32)))
 }
 
+/// The data block of a number, as a brick is asked for it.
+fn block_no(number: u64) -> u8
+    ensures { result ≡ block_no number }
+{
+    if number < 256 { number as u8 } else { u8::MAX }
+}
+
 /// What an operation is to do, as a brick is asked.
 fn op_of(alloc: Global, access: &Access) -> Result<Op, NoMem>
     ensures value { IfOk result (λ op. op ≡ op_of access.now) }
-    ensures stripe { IfOk result (λ op. is_stripe_op op ≡ true) }
 {
     match access {
+        Access::ReadBlock(block) => Ok(Op::ReadBlock(block_no(*block))),
+        Access::WriteBlock(block, bytes) => {
+            Ok(Op::WriteBlock(block_no(*block), bytes.copy(alloc)?))
+        }
         Access::ReadStripe => Ok(Op::ReadStripe),
         Access::WriteStripe(bytes) => Ok(Op::WriteStripe(bytes.copy(alloc)?)),
     }
@@ -65,7 +75,6 @@ fn op_of(alloc: Global, access: &Access) -> Result<Op, NoMem>
 impl Simulation {
     ghost use Rattle.std.specs.Prelude.{◌≡◌, true, List, None, map, vec_len, IfOk, OnOk, OnErr};
     ghost use Rattle.fab_disk.specs.MemDisk.{content_of};
-    ghost use Rattle.protocol.specs.Nodes.{is_stripe_op};
     ghost use Rattle.protocol.specs.Worlds.{World, Event, first_world, happens, is_brick, is_up};
     ghost use Rattle.protocol.specs.Worlds.Event.{Invokes, Sets, Ticks, Stops};
     ghost use Rattle.lines.specs.declared.forms.Line.TheVariants.{Deliver, Start};
@@ -142,8 +151,7 @@ impl Simulation {
 
     /// A brick begins an operation, or refuses it.
     fn begin(&mut self, layout: &Layout, brick: BrickId, ask: Ask) -> Result<Outcome, NoMem>
-        requires brick { IsUp layout.now self.old.bricks.items brick }
-        requires stripes { is_stripe_op ask.op ≡ true }
+        requires { IsUp layout.now self.old.bricks.items brick }
         ensures shows { OnOk result ((w : World) → Shows layout.now self.old w
             → Shows layout.now self.new (happens (coding layout.now) w (Invokes brick ask))) }
         ensures outcome { IfOk result (λ outcome. (w : World) → Shows layout.now self.old w

@@ -10,25 +10,25 @@ use Rattle.world.proofs.bricks.ask_brick.Goals as goal
 
 pub unreachable-requires : goal.unreachable-requires
 unreachable-requires c =
-    on_at c.requires.brick.0 c.args.bricks.now.items c.args.number c.index_mut-brick.result.now _ c.index_mut-brick.ensures.value c.in-Down.is c.requires.brick.1
+    on_at c.requires.0 c.args.bricks.now.items c.args.number c.index_mut-brick.result.now _ c.index_mut-brick.ensures.value c.in-Down.is c.requires.1
 
 pub returns-clause-refused : goal.returns-clause-refused
 returns-clause-refused c layout =
     asked_refused layout c.args.bricks.now.items c.args.number.0 c.index_mut-brick.result.now c.in-Up.node c.args.ask.now c.invoke.result
-    c.requires.brick.1.within c.index_mut-brick.ensures.value c.in-Up.is c.invoke.ensures.refused
+    c.requires.1.within c.index_mut-brick.ensures.value c.in-Up.is c.invoke.ensures.refused
 
 pub returns-clause-begun : goal.returns-clause-begun
 returns-clause-begun c =
     asked_begun c.args.bricks.now.items c.args.number.0 c.index_mut-brick.result.now c.in-Up.node c.invoke.new.self c.args.ask.now c.invoke.result
-    c.requires.brick.1.within c.index_mut-brick.ensures.value c.in-Up.is c.invoke.ensures.same c.invoke.ensures.brick c.invoke.ensures.begun
+    c.requires.1.within c.index_mut-brick.ensures.value c.in-Up.is c.invoke.ensures.same c.invoke.ensures.brick c.invoke.ensures.begun
 
 pub returns-clause-err : goal.returns-clause-err
 returns-clause-err c =
     let on =
-    on_at c.requires.brick.0 c.args.bricks.now.items c.args.number c.index_mut-brick.result.now _ c.index_mut-brick.ensures.value c.in-Up.is c.requires.brick.1
+    on_at c.requires.0 c.args.bricks.now.items c.args.number c.index_mut-brick.result.now _ c.index_mut-brick.ensures.value c.in-Up.is c.requires.1
     in
     asked_same c.args.bricks.now.items c.args.number.0 c.index_mut-brick.result.now c.in-Up.node c.invoke.new.self c.invoke.result
-    c.requires.brick.1.within c.index_mut-brick.ensures.value c.in-Up.is c.invoke.ensures.same
+    c.requires.1.within c.index_mut-brick.ensures.value c.in-Up.is c.invoke.ensures.same
     (ap (λ (x : Store MemDisk). x.halted) c.invoke.ensures.brick ∙ on.0)
     (subst (λ (x : Store MemDisk). IsSound x.disk) (sym c.invoke.ensures.brick) on.1)
     (λ image left. subst (λ (x : Store MemDisk). may_be_left x.disk image) c.invoke.ensures.brick left) c.invoke.ensures.err
@@ -41,7 +41,7 @@ returns-clause-disks c =
 pub returns-clause-not_halted : goal.returns-clause-not_halted
 returns-clause-not_halted c = λ halted.
     let on =
-    on_at c.requires.brick.0 c.args.bricks.now.items c.args.number c.index_mut-brick.result.now _ c.index_mut-brick.ensures.value c.in-Up.is c.requires.brick.1
+    on_at c.requires.0 c.args.bricks.now.items c.args.number c.index_mut-brick.result.now _ c.index_mut-brick.ensures.value c.in-Up.is c.requires.1
     in
     let never : true ≡ false = sym (c.invoke.ensures.only_halted halted) ∙ on.0 in
     cc

@@ -17,11 +17,11 @@ pub next_of-next-requires : goal.next_of-next-requires
 next_of-next-requires c = (
   c.args.layout.now,
   subst (λ (bricks : List Brick). IsUp c.args.layout.now bricks c.args.brick)
-      (sym c.deref.ensures.value) c.requires.brick,
+      (sym c.deref.ensures.value) c.requires,
 )
 
-pub ask_brick-requires-clause-brick : goal.ask_brick-requires-clause-brick
-ask_brick-requires-clause-brick c = (c.args.layout.now, c.requires.brick)
+pub ask_brick-requires : goal.ask_brick-requires
+ask_brick-requires c = (c.args.layout.now, c.requires)
 
 pub returns-in_err-expect_call-clause-err : goal.returns-in_err-expect_call-clause-err
 returns-in_err-expect_call-clause-err c =
@@ -48,7 +48,7 @@ returns-in-Ok-clause-shows c w shows =
     (subst (λ (bricks : List Brick). ShowsBricks c.args.layout.now bricks w.nodes w.after w.up w.clocks) (sym c.deref.ensures.value) shows.bricks)
     in
     let is = next_is (w.nodes c.args.brick.0).seq c.next_of-next.result gives left in
-    shows_begun c.args.layout.now _ w c.args.brick c.args.ask (c.requires.brick.up w shows.bricks) c.requires.stripes none begun.2
+    shows_begun c.args.layout.now _ w c.args.brick c.args.ask (c.requires.up w shows.bricks) none begun.2
     (c.begin.ensures w step
     (c.expect_call.ensures.same w (next_above (w.nodes c.args.brick.0).seq c.next_of-next.result gives) shows.history)
     begun.0 (invoked_boot (coding c.args.layout.now) c.args.brick (w.clocks c.args.brick.0) (w.nodes c.args.brick.0) c.args.ask) next

@@ -37,8 +37,8 @@ returns-in-None-place_of-clause-outcome c w shows =
     sym (ap refused_or_begun (refusal_here (coding c.args.layout.now) w (brick_of c.args.brick) (ask_of c.args.group c.args.stripe (op_of c.args.access.now)) up
     ∙ c.in-None-place_of.ensures.none (w.nodes c.args.brick) (op_of c.args.access.now)))
 
-pub begin-requires-clause-brick : goal.begin-requires-clause-brick
-begin-requires-clause-brick c =
+pub begin-requires : goal.begin-requires
+begin-requires c =
     let found =
     up_at c.args.layout.now _ _ c.args.brick (brick_of c.args.brick) c.in-Some.brick c.deref.ensures.value refl c.in-Some.ensures
     in
